@@ -1,0 +1,3 @@
+pub mod FirstLemmas
+pub mod QueryLemmas
+pub mod SaidLemmas

@@ -1,0 +1,77 @@
+-- What one line of a capture says.
+use Rattle.std.specs.Prelude.{ℕ, ◌+◌, ◌==◌, ◌&&◌, nat_le, if◌then◌else◌, List, [], ◌∷◌, Option, Some, None, Result, Ok, Err}
+use Rattle.gn_parse.specs.Bytes.{bytes_said}
+use Rattle.gn_parse.specs.Numbers.{number_of}
+use Rattle.gn_header.specs.declared.fault.Cause.{Cause}
+use Rattle.gn_header.specs.declared.fault.Cause.TheVariants as cause
+use Rattle.gn_capture.specs.declared.line.Line.{Line}
+use Rattle.gn_capture.specs.declared.line.Line.TheVariants.{Join, Greeted, Piece, Route, Take, Close, Originate, Stats}
+use Rattle.gn_capture.specs.declared.word.Word.{Word}
+use Rattle.gn_capture.specs.declared.word.Word.TheVariants as word
+use Rattle.gn_header.specs.Faults.{◌>>=◌}
+use Rattle.gn_capture.specs.Outcomes.{said}
+use Rattle.gn_capture.specs.Requests.{ping_of, query_of}
+use Rattle.gn_capture.specs.Words.{word_of}
+
+-- a line that takes no fields
+abbrev pub alone_of : {X : Type 0} → X → List (List ℕ) → Result X Cause
+alone_of line [] = Ok line
+alone_of line (field ∷ more) = Err cause.Fields
+
+-- a line that makes a link, where so many were made before: at most 256 are
+abbrev pub link_of : {X : Type 0} → X → ℕ → List (List ℕ) → Result X Cause
+link_of line links [] = if links == 256 then Err cause.Link else Ok line
+link_of line links (field ∷ more) = Err cause.Fields
+
+-- the number of a line that takes one
+abbrev pub number_alone : List (List ℕ) → Result ℕ Cause
+number_alone (field ∷ []) = said (number_of field)
+number_alone _ = Err cause.Fields
+
+-- a piece of a link, which has to be made before
+abbrev pub data_of : {A : Type 0} → ℕ → List (List ℕ) → Result (Line A) Cause
+data_of links (link ∷ hex ∷ []) = do
+  i ← said (number_of link)
+  bytes ← said (bytes_said hex)
+  if nat_le 1 i && nat_le i links then Ok (Piece i bytes) else Err cause.Link
+data_of links _ = Err cause.Fields
+
+-- what the fields behind a word say
+abbrev pub fields_say : {A : Type 0} → ℕ → List (List ℕ) → Word → Result (Line A) Cause
+fields_say links fields word.Join = link_of Join links fields
+fields_say links fields word.Open = link_of Greeted links fields
+fields_say links fields word.Data = data_of links fields
+fields_say links fields word.Route = do
+  ticket ← number_alone fields
+  Ok (Route ticket)
+fields_say links fields word.Take = do
+  connection ← number_alone fields
+  Ok (Take connection)
+fields_say links fields word.Close = do
+  connection ← number_alone fields
+  Ok (Close connection)
+fields_say links fields word.Ping = do
+  ping ← ping_of fields
+  Ok (Originate ping)
+fields_say links fields word.Query = do
+  query ← query_of fields
+  Ok (Originate query)
+fields_say links fields word.Stats = alone_of Stats fields
+
+-- a word that lines begin with; another is the cause
+abbrev pub known : Option Word → Result Word Cause
+known None = Err cause.Word
+known (Some x) = Ok x
+
+-- what the fields of a line say, where so many links were made before; or the first cause that they say nothing
+abbrev pub line_of : {A : Type 0} → ℕ → List (List ℕ) → Result (Line A) Cause
+line_of links [] = Err cause.Word
+line_of links (first ∷ fields) = do
+  begun ← known (word_of first)
+  fields_say links fields begun
+
+-- how many links there are after a line
+abbrev pub links_after : {A : Type 0} → ℕ → Line A → ℕ
+links_after links Join = links + 1
+links_after links Greeted = links + 1
+links_after links line = links

@@ -1,0 +1,6 @@
+pub mod CaptureLines
+pub mod Captures
+pub mod FirstFaults
+pub mod Outcomes
+pub mod Requests
+pub mod Words

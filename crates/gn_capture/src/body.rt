@@ -1,0 +1,44 @@
+//! The lines of a capture, one after another.
+
+ghost use Rattle.std.specs.Prelude.{◌≡◌, ◌<◌, ◌^◌, ◌-◌, map};
+ghost use Rattle.gn_header.specs.Said.{line_seen};
+ghost use Rattle.gn_capture.specs.CaptureLines.{links_after};
+ghost use Rattle.gn_capture.specs.Captures.{lines_from};
+ghost use Rattle.gn_header.specs.Faults.{IsRead};
+
+use crate::line::Line;
+use crate::read_line::read_numbered;
+use gn_header::{CaptureRefusal, SaidLine};
+use std::alloc::Allocator;
+
+/// How many links there are after a line.
+fn links_after<A: Allocator>(links: u64, line: &Line<A>) -> u64
+    requires { links < 2 ^ 64 - 1 }
+    ensures { result ≡ links_after links line.now }
+{
+    match line {
+        Line::Join | Line::Greeted => links + 1,
+        _ => links,
+    }
+}
+
+/// What these lines say, each with its number.
+pub(crate) fn read_lines<A: Allocator + Copy>(
+    alloc: A,
+    lines: &[SaidLine],
+) -> Result<Vec<(u64, Line<A>), A>, CaptureRefusal>
+    ensures { IsRead (λ v. v.items) result (lines_from 0 (map line_seen lines.now)) }
+{
+    let mut said = Vec::new(alloc);
+    let mut links = 0;
+    for (number, text) in lines {
+        match read_numbered(alloc, links, *number, text) {
+            Ok(line) => {
+                links = links_after(links, &line);
+                said.push((*number, line))?;
+            }
+            Err(refusal) => return Err(refusal),
+        }
+    }
+    Ok(said)
+}

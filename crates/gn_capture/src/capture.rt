@@ -1,0 +1,40 @@
+//! A capture, read whole.
+
+ghost use Rattle.std.specs.Prelude.{IfErr};
+ghost use Rattle.gn_header.specs.Faults.{IsRead};
+ghost use Rattle.gn_capture.specs.Captures.{capture_of, capture_seen};
+ghost use Rattle.gn_capture.specs.FirstFaults.{TellsFirst};
+
+use crate::body::read_lines;
+use crate::line::Line;
+use gn_header::{CaptureRefusal, read_header, said_lines};
+use gn_rules::Config;
+use std::alloc::{Allocator, Global};
+
+/// What a capture says: how the router is set up, and what happens to it.
+#[derive(Debug, Drop)]
+pub struct Capture<A: Allocator = Global> {
+    pub config: Config,
+    /// Each line behind the first three with its number, without those that are skipped. Numbers count from 1, skipped
+    /// lines too.
+    pub lines: Vec<(u64, Line<A>), A>,
+}
+
+/// What a capture says; else its first line that has a fault, with that line's first cause. An `Err` is that, or want of
+/// memory.
+pub fn read_capture<A: Allocator + Copy>(
+    alloc: A,
+    text: &[u8],
+) -> Result<Capture<A>, CaptureRefusal>
+    ensures read { IsRead capture_seen result (capture_of text.now) }
+    ensures first { IfErr result (λ refusal. TellsFirst A text.now refusal) }
+{
+    let said = said_lines(alloc, text)?;
+    match read_header(alloc, b"gnutella-capture 1", &said.lines, said.behind) {
+        Ok((config, lines)) => match read_lines(alloc, lines) {
+            Ok(lines) => Ok(Capture { config, lines }),
+            Err(refusal) => Err(refusal),
+        },
+        Err(refusal) => Err(refusal),
+    }
+}

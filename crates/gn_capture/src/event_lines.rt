@@ -1,0 +1,74 @@
+//! The lines that make links, give them bytes, and name a ticket or a connection.
+
+ghost use Rattle.std.specs.Prelude.{◌≡◌, map};
+ghost use Rattle.gn_capture.specs.Outcomes.{IsLineRead};
+ghost use Rattle.gn_capture.specs.CaptureLines.{alone_of, data_of, link_of, number_alone};
+
+use crate::line::Line;
+use crate::refusal::LineRefusal;
+use bytes::Bytes;
+use gn_header::Cause;
+use gn_parse::{hex_bytes, number};
+use std::alloc::Allocator;
+
+/// The most links of a capture.
+const LINKS: u64 = 256;
+
+/// A line that takes no fields.
+pub(crate) fn alone<T: Drop>(line: T, fields: &[&[u8]]) -> Result<T, Cause>
+    ensures { result ≡ alone_of line (map (λ x. x.now) fields.now) }
+{
+    match fields {
+        [] => Ok(line),
+        _ => Err(Cause::Fields),
+    }
+}
+
+/// A line that makes a link, where so many are made before it.
+pub(crate) fn link_line<T: Drop>(line: T, links: u64, fields: &[&[u8]]) -> Result<T, Cause>
+    ensures { result ≡ link_of line links (map (λ x. x.now) fields.now) }
+{
+    match fields {
+        [] if links == LINKS => Err(Cause::Link),
+        [] => Ok(line),
+        _ => Err(Cause::Fields),
+    }
+}
+
+/// The number of a line that takes one.
+pub(crate) fn number_alone(fields: &[&[u8]]) -> Result<u32, Cause>
+    ensures { result ≡ number_alone (map (λ x. x.now) fields.now) }
+{
+    match fields {
+        [field] => number(field).ok_or(Cause::Field),
+        _ => Err(Cause::Fields),
+    }
+}
+
+/// The piece of a `data` line, where so many links are made before it.
+pub(crate) fn data_line<A: Allocator + Copy>(
+    alloc: A,
+    links: u64,
+    fields: &[&[u8]],
+) -> Result<Line<A>, LineRefusal>
+    ensures { IsLineRead result (data_of links (map (λ x. x.now) fields.now)) }
+{
+    match fields {
+        [link, hex] => {
+            let Some(link) = number(link) else {
+                return Err(LineRefusal::Fault(Cause::Field));
+            };
+            let Some(bytes) = hex_bytes(alloc, hex)? else {
+                return Err(LineRefusal::Fault(Cause::Field));
+            };
+            if link < 1 || u64::from(link) > links {
+                return Err(LineRefusal::Fault(Cause::Link));
+            }
+            Ok(Line::Piece {
+                link,
+                bytes: Bytes::from_vec(bytes)?,
+            })
+        }
+        _ => Err(LineRefusal::Fault(Cause::Fields)),
+    }
+}

@@ -1,0 +1,70 @@
+//! One line of a capture.
+
+ghost use Rattle.std.specs.Prelude.{◌≡◌, map};
+ghost use Rattle.gn_parse.specs.Lines.{fields_of};
+ghost use Rattle.gn_capture.specs.CaptureLines.{fields_say, line_of};
+ghost use Rattle.gn_header.specs.Faults.{IsRead};
+ghost use Rattle.gn_capture.specs.Outcomes.{IsLineRead, numbered};
+
+use crate::event_lines::{alone, data_line, link_line, number_alone};
+use crate::line::Line;
+use crate::query_line::{ping_line, query_line};
+use crate::refusal::LineRefusal;
+use crate::word::{Word, word_in};
+use gn_header::{CaptureRefusal, Cause};
+use gn_parse::fields;
+use std::alloc::Allocator;
+
+/// What the fields behind a word say, where so many links are made before them.
+fn read_fields<A: Allocator + Copy>(
+    alloc: A,
+    links: u64,
+    fields: &[&[u8]],
+    word: Word,
+) -> Result<Line<A>, LineRefusal>
+    ensures { IsLineRead result (fields_say links (map (λ x. x.now) fields.now) word) }
+{
+    Ok(match word {
+        Word::Join => link_line(Line::Join, links, fields)?,
+        Word::Open => link_line(Line::Greeted, links, fields)?,
+        Word::Data => data_line(alloc, links, fields)?,
+        Word::Route => Line::Route(number_alone(fields)?),
+        Word::Take => Line::Take(number_alone(fields)?),
+        Word::Close => Line::Close(number_alone(fields)?),
+        Word::Ping => Line::Originate(ping_line(alloc, fields)?),
+        Word::Query => Line::Originate(query_line(alloc, fields)?),
+        Word::Stats => alone(Line::Stats, fields)?,
+    })
+}
+
+/// What the fields of a line say.
+fn read_line<A: Allocator + Copy>(
+    alloc: A,
+    links: u64,
+    fields: &[&[u8]],
+) -> Result<Line<A>, LineRefusal>
+    ensures { IsLineRead result (line_of links (map (λ x. x.now) fields.now)) }
+{
+    match fields {
+        [first, fields @ ..] => match word_in(first) {
+            Some(word) => read_fields(alloc, links, fields, word),
+            None => Err(LineRefusal::Fault(Cause::Word)),
+        },
+        [] => Err(LineRefusal::Fault(Cause::Word)),
+    }
+}
+
+/// What line `number` says.
+pub(crate) fn read_numbered<A: Allocator + Copy>(
+    alloc: A,
+    links: u64,
+    number: u64,
+    text: &[u8],
+) -> Result<Line<A>, CaptureRefusal>
+    ensures { IsRead (λ line. line) result (numbered number (line_of links (fields_of text.now))) }
+{
+    match read_line(alloc, links, &fields(alloc, text)?) {
+        Ok(line) => Ok(line),
+        Err(refusal) => Err(refusal.at(number)),
+    }
+}

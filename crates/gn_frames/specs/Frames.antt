@@ -1,0 +1,80 @@
+-- The descriptors that a string of bytes spells, and what stands behind them.
+use Rattle.std.specs.Prelude.{◌≡◌, ◌<◌, ◌≤◌, ◌+◌, ◌⊎◌, ◌↔◌, ℕ, zero, suc, List, [], ◌∷◌, ◌++◌, length, take, drop, Option, Some, None, All}
+use Rattle.std.specs.List.{flat_map}
+use Rattle.gn_wire.specs.declared.header.FrameFault.{FrameFault}
+use Rattle.gn_wire.specs.Lengths.{fault_of, IsDescriptor}
+use Rattle.gn_wire.specs.Packet.{Packet}
+use Rattle.gn_wire.specs.Spelling.{bytes_of, header_at}
+use Rattle.gn_frames.specs.declared.front.Front.{Front}
+use Rattle.gn_frames.specs.declared.front.Front.TheVariants.{Open, Faulty, Whole}
+use Rattle.gn_frames.specs.Front.{front_of, packet_of}
+
+-- the descriptors of a string, the bytes behind them, and the fault that ends it, where one does
+pub record Frames : Type 0 where
+  pub descriptors : List Packet
+  pub rest : List ℕ
+  pub fault : Option FrameFault
+
+-- the payload length that the first 23 bytes name
+abbrev pub named_length : List ℕ → ℕ
+named_length r = (header_at (take 23 r)).length
+
+-- the fault of that length, for the kind that they name
+abbrev pub named_fault : List ℕ → Option FrameFault
+named_fault r = fault_of (header_at (take 23 r)).kind (named_length r)
+
+-- open: shorter than a header, or with a lawful header and fewer payload bytes than it names
+abbrev pub IsOpen : List ℕ → Type 0
+IsOpen r = (length r < 23) ⊎ ((23 ≤ length r) × (named_fault r ≡ None) × (length r < 23 + named_length r))
+
+-- faulty: the first 23 bytes name an unlawful length
+abbrev pub IsFaulty : List ℕ → FrameFault → Type 0
+IsFaulty r fault = (23 ≤ length r) × (named_fault r ≡ Some fault)
+
+-- a rest is open, and there is no fault, or it is faulty
+abbrev pub IsRest : List ℕ → Option FrameFault → Type 0
+IsRest r None = IsOpen r
+IsRest r (Some fault) = IsFaulty r fault
+
+-- a reading of a string: it is the spellings of descriptors, one behind the other, and a rest
+pub record IsFrames (s : List ℕ) (f : Frames) : Type 0 where
+  pub spelled : s ≡ flat_map bytes_of f.descriptors ++ f.rest
+  pub lawful : All IsDescriptor f.descriptors
+  pub ended : IsRest f.rest f.fault
+
+-- no descriptor, and all bytes are the rest
+abbrev pub no_frames : List ℕ → Option FrameFault → Frames
+no_frames s fault = record { descriptors = []; rest = s; fault = fault }
+
+-- the same with these descriptors before it
+abbrev pub behind : List Packet → Frames → Frames
+behind ds f = record { descriptors = ds ++ f.descriptors; rest = f.rest; fault = f.fault }
+
+-- the frames of a string by its front, where those of what stands behind a descriptor are known
+abbrev pub frames_by : (List ℕ → Frames) → List ℕ → Front → Frames
+frames_by later s Open = no_frames s None
+frames_by later s (Faulty fault) = no_frames s (Some fault)
+frames_by later s (Whole h) = behind (packet_of h (take h.length (drop 23 s)) ∷ []) (later (drop (23 + h.length) s))
+
+-- the frames of a string of at most n bytes
+abbrev pub frames_within : ℕ → List ℕ → Frames
+frames_within zero s = no_frames s None
+frames_within (suc n) s = frames_by (frames_within n) s (front_of s)
+
+-- the frames of a string, as a function
+unfoldable pub frames_of : List ℕ → Frames
+frames_of s = frames_within (length s) s
+
+-- a string of bytes has just one reading, and the function gives it
+abbrev pub FramesAreOne : Type 0
+FramesAreOne = (s : List ℕ) → All (λ b. b < 256) s → (f : Frames) → IsFrames s f ↔ (f ≡ frames_of s)
+
+-- a string that goes on has its descriptors and then those of its rest with what is new; a fault stays
+pub record IsCut (s more : List ℕ) : Type 0 where
+  pub frames : frames_of (s ++ more) ≡ behind (frames_of s).descriptors (frames_of ((frames_of s).rest ++ more))
+  pub fault : (fault : FrameFault) → (frames_of s).fault ≡ Some fault
+      → frames_of (s ++ more) ≡ record { descriptors = (frames_of s).descriptors; rest = (frames_of s).rest ++ more; fault = Some fault }
+
+-- strings may be cut anywhere
+abbrev pub FramesAreCut : Type 0
+FramesAreCut = (s more : List ℕ) → IsCut s more

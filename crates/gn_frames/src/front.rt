@@ -1,0 +1,56 @@
+//! What stands at the front of a slice of bytes.
+
+ghost use Rattle.std.specs.Prelude.{◌≡◌, ◌<◌, ◌≤◌, None, length, IfOk};
+ghost use Rattle.gn_wire.specs.Kinds.{IsStored};
+ghost use Rattle.gn_wire.specs.Lengths.{fault_of};
+ghost use Rattle.gn_frames.specs.Front.{front_of, packet_of};
+
+use bytes::Bytes;
+use gn_wire::{Descriptor, FrameFault, Header, read_header};
+use std::alloc::{AllocError, Allocator};
+
+/// The bytes of a header.
+pub const HEADER_BYTES: usize = 23;
+
+/// What a slice of bytes begins with.
+#[derive(Clone, Copy, Debug, PartialEq, Eq)]
+pub enum Front {
+    /// Too few bytes for a descriptor.
+    Open,
+    /// A header whose length isn't lawful.
+    Faulty(FrameFault),
+    /// A whole descriptor, with this header.
+    Whole(Header),
+}
+
+/// What the bytes begin with.
+pub fn front_of(bytes: &[u8]) -> Front
+    ensures { result ≡ front_of bytes.now }
+{
+    let Some(start) = bytes.first_chunk::<23>() else {
+        return Front::Open;
+    };
+    match read_header(start) {
+        Err(fault) => Front::Faulty(fault),
+        Ok(header) if bytes.len() - HEADER_BYTES < header.length as usize => Front::Open,
+        Ok(header) => Front::Whole(header),
+    }
+}
+
+/// The descriptor of a lawful header, with a copy of its payload. An `Err` is want of memory.
+pub fn copied<A: Allocator + Copy>(
+    alloc: A,
+    header: Header,
+    payload: &[u8],
+) -> Result<Descriptor<A>, AllocError>
+    requires lawful { fault_of header.kind header.length ≡ None }
+    requires stored { IsStored header.kind }
+    requires whole { length payload.now ≡ header.length }
+    ensures { IfOk result (λ d. d ≡ packet_of header payload.now) }
+{
+    let payload = Bytes::copy_from_slice(alloc, payload)?;
+    match Descriptor::new(header.id, header.kind, header.ttl, header.hops, payload) {
+        Ok(descriptor) => Ok(descriptor),
+        Err(_) => unreachable!(),
+    }
+}

@@ -1,0 +1,2 @@
+pub mod SaidLemmas
+pub mod SettingsLemmas

@@ -1,0 +1,4 @@
+pub mod Faults
+pub mod Header
+pub mod Said
+pub mod Settings

@@ -1,0 +1,11 @@
+pub mod DescriptorsAgain
+pub mod LinesAgain
+pub mod NumbersAgain
+pub mod PacketLemmas
+pub mod RoundTripLemmas
+pub mod SettingsAgain
+pub mod Spaced
+pub mod SpelledLemmas
+pub mod StepsAgain
+pub mod StepsLemmas
+pub mod TextLemmas

@@ -1,0 +1,11 @@
+-- Bytes of which a front was written.
+use Rattle.std.specs.Prelude.{◌≡◌, ℕ, List, ◌++◌, Option}
+use Rattle.std.specs.Io.KnownBytes.{Appends}
+
+-- known bytes grew by all of these but the rest
+abbrev pub Owes : Option (List ℕ) → Option (List ℕ) → List ℕ → List ℕ → Type 0
+Owes old new rest all = (written : List ℕ) × Appends old new written × (written ++ rest ≡ all)
+
+-- known bytes grew by a front of these
+abbrev pub AppendsPart : Option (List ℕ) → Option (List ℕ) → List ℕ → Type 0
+AppendsPart old new all = (rest : List ℕ) × Owes old new rest all

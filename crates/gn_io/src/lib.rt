@@ -1,0 +1,20 @@
+//! Streams of bytes: where input comes from, where output goes, and what each tells of both.
+#![tactic(auto)]
+
+mod fault;
+mod input;
+mod reader_source;
+mod sink;
+mod source;
+#[cfg(test)]
+mod tests;
+mod write;
+mod writer_sink;
+
+pub use fault::IoFault;
+pub use input::{InputFault, read_input};
+pub use reader_source::ReaderSource;
+pub use sink::Sink;
+pub use source::Source;
+pub use write::write_all;
+pub use writer_sink::WriterSink;

@@ -1,0 +1,51 @@
+//! A reader of std as a source.
+
+ghost use Rattle.std.specs.Prelude.{◌≡◌};
+
+use crate::fault::IoFault;
+use crate::source::Source;
+use std::io::Read;
+
+/// A source over a reader of std: a slice, a `Cursor`, a standard stream. The bytes of the last are not known.
+#[derive(Drop)]
+pub struct ReaderSource<R: Read> {
+    reader: R,
+    failures: u64,
+    given: u64,
+}
+
+impl<R: Read> ReaderSource<R> {
+    /// A source of what the reader still has, with no count yet.
+    pub fn new(reader: R) -> Self
+        ensures reader { result.reader ≡ reader }
+        ensures failures { result.failures ≡ 0 }
+        ensures given { result.given ≡ 0 }
+    {
+        ReaderSource {
+            reader,
+            failures: 0,
+            given: 0,
+        }
+    }
+}
+
+impl<R: Read> Source for ReaderSource<R> {
+    ghost rest = { λ s. R.remaining s.reader };
+
+    ghost failures = { λ s. s.failures };
+
+    ghost given = { λ s. s.given };
+
+    fn read(&mut self, room: &mut [u8]) -> Result<usize, IoFault> {
+        match self.reader.read(room) {
+            Ok(n) => {
+                self.given = self.given.saturating_add(n as u64);
+                Ok(n)
+            }
+            Err(_) => {
+                self.failures = self.failures.saturating_add(1);
+                Err(IoFault)
+            }
+        }
+    }
+}

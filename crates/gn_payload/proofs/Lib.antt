@@ -1,0 +1,11 @@
+pub mod EntryLemmas
+pub mod HitGrammar
+pub mod HitSpelled
+pub mod Numbers
+pub mod Readers
+pub mod ResultGrammar
+pub mod ResultLemmas
+pub mod SoundLemmas
+pub mod Spelled
+pub mod TextGrammar
+pub mod TextLemmas

@@ -1,0 +1,8 @@
+pub mod Fields
+pub mod Grammar
+pub mod Places
+pub mod Reading
+pub mod Refusals
+pub mod Sound
+pub mod Spelling
+pub mod Views

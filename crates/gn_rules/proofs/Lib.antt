@@ -1,0 +1,5 @@
+pub mod OutputLemmas
+pub mod PastLemmas
+pub mod RunLemmas
+pub mod SendLemmas
+pub mod StepLemmas

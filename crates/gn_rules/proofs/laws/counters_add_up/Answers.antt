@@ -1,0 +1,5 @@
+use Rattle.gn_rules.proofs.OutputLemmas.{counters_add_up}
+use Rattle.gn_rules.proofs.laws.counters_add_up.Goals as goal
+
+pub returns : goal.returns
+returns g c = counters_add_up _

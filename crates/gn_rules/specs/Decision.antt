@@ -1,0 +1,73 @@
+-- What becomes of a descriptor that is routed, by its kind.
+use Rattle.std.specs.Prelude.{ℕ, ◌==◌, not, if◌then◌else◌, List, Option, Some, None}
+use Rattle.gn_wire.specs.declared.key.Key.{Key}
+use Rattle.gn_wire.specs.declared.kind.Kind.{Kind}
+use Rattle.gn_wire.specs.declared.kind.Kind.TheVariants.{Ping, Pong, Push, Query, QueryHit, Unknown}
+use Rattle.gn_wire.specs.Forward.{is_expired}
+use Rattle.gn_wire.specs.Keys.{is_same_id, key_of}
+use Rattle.gn_payload.specs.declared.checked.Verdict.{Verdict}
+use Rattle.gn_payload.specs.declared.checked.Verdict.TheVariants.{Sound, UnknownKind, Malformed}
+use Rattle.gn_payload.specs.Places.{push_servent}
+use Rattle.gn_payload.specs.Sound.{verdict_of}
+use Rattle.gn_rules.specs.declared.config.Config.{Config}
+use Rattle.gn_rules.specs.declared.receipt.Step.{Step}
+use Rattle.gn_rules.specs.declared.reply.Decision.{Decision}
+use Rattle.gn_rules.specs.declared.reply.Decision.TheVariants.{Drop, Local, Flood, Forward}
+use Rattle.gn_rules.specs.declared.reply.DropReason.TheVariants as reason
+use Rattle.gn_rules.specs.Flight.{Admission}
+use Rattle.gn_rules.specs.Live.{live}
+use Rattle.gn_rules.specs.Servents.{servent_route}
+use Rattle.gn_rules.specs.Sights.{source, is_remembered}
+
+-- the checks of a route to the connection r: it is live, it isn't where the descriptor came from, and the descriptor isn't
+-- expired
+abbrev pub checks : {A : Type 0} → List (Step A) → Admission → ℕ → Decision
+checks past a r =
+    if not (live past r) then Drop reason.RouteGone
+    else if r == a.origin then Drop reason.BackToSender
+    else if is_expired a.packet then Drop reason.Expired
+    else Forward r
+
+-- a Ping or Query: a duplicate where its key is remembered, else it goes on
+abbrev pub decide_request : {A : Type 0} → Config → List (Step A) → Admission → Decision
+decide_request s past a = if is_remembered s past (key_of a.packet) then Drop reason.Duplicate else Flood
+
+-- a Pong or Query Hit goes the way that its request came; 0 is the local servent's own request
+abbrev pub decide_reply : {A : Type 0} → List (Step A) → Admission → Option ℕ → Decision
+decide_reply past a None = Drop reason.NoRoute
+decide_reply past a (Some r) = if r == 0 then Local else checks past a r
+
+-- a Push to another servent goes the way that the servent's last Query Hit came
+abbrev pub decide_push_to : {A : Type 0} → List (Step A) → Admission → Option ℕ → Decision
+decide_push_to past a None = Drop reason.NoRoute
+decide_push_to past a (Some r) = checks past a r
+
+-- a Push: a duplicate where its key is remembered, else for the local servent or for the one that it names
+abbrev pub decide_push : {A : Type 0} → Config → List (Step A) → Admission → Decision
+decide_push s past a =
+    if is_remembered s past (key_of a.packet) then Drop reason.Duplicate
+    else if is_same_id (push_servent a.packet.payload) s.own.servent then Local
+    else decide_push_to past a (servent_route s past (push_servent a.packet.payload))
+
+-- the key of the request that a reply answers: of the same ID
+abbrev pub request_key : Kind → Admission → Key
+request_key kind a = record { kind = kind; id = a.packet.id }
+
+-- a sound descriptor, by its kind
+abbrev pub decide_sound : {A : Type 0} → Config → List (Step A) → Admission → Kind → Decision
+decide_sound s past a Ping = decide_request s past a
+decide_sound s past a Query = decide_request s past a
+decide_sound s past a Pong = decide_reply past a (source s past (request_key Ping a))
+decide_sound s past a QueryHit = decide_reply past a (source s past (request_key Query a))
+decide_sound s past a Push = decide_push s past a
+decide_sound s past a (Unknown code) = Drop reason.UnknownKind
+
+-- by what checking its payload says
+abbrev pub decide_checked : {A : Type 0} → Config → List (Step A) → Admission → Verdict → Decision
+decide_checked s past a UnknownKind = Drop reason.UnknownKind
+decide_checked s past a Malformed = Drop reason.Malformed
+decide_checked s past a Sound = decide_sound s past a a.packet.kind
+
+-- what becomes of a descriptor that is routed
+abbrev pub decide : {A : Type 0} → Config → List (Step A) → Admission → Decision
+decide s past a = decide_checked s past a (verdict_of a.packet)

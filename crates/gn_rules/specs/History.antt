@@ -1,0 +1,62 @@
+-- What one step of a history tells.
+--
+-- A history is the list of a router's steps. Contracts tell it in order. The definitions of the rules are given the
+-- steps before an event with the newest first: there the newest step is the head, and "the steps before it" the tail.
+use Rattle.std.specs.Prelude.{ℕ, Bool, true, false, ◌==◌, List, [], Option, Some, None}
+use Rattle.gn_rules.specs.declared.event.Event.{Event}
+use Rattle.gn_rules.specs.declared.event.Event.TheVariants.{Close, Route, Take}
+use Rattle.gn_rules.specs.declared.reply.DropReason.{DropReason}
+use Rattle.gn_rules.specs.declared.reply.Reply.{Reply}
+use Rattle.gn_rules.specs.declared.reply.Reply.TheVariants.{Connected, Admitted, Routed, Dropped, Sent}
+use Rattle.gn_rules.specs.declared.sends.Sending.{Sending}
+
+-- the connection that a reply made
+abbrev pub connected_of : {A : Type 0} → Reply A → Option ℕ
+connected_of (Connected c) = Some c
+connected_of reply = None
+
+-- the ticket that a reply gave
+abbrev pub admitted_of : {A : Type 0} → Reply A → Option ℕ
+admitted_of (Admitted t) = Some t
+admitted_of reply = None
+
+-- why a reply dropped a descriptor
+abbrev pub dropped_of : {A : Type 0} → Reply A → Option DropReason
+dropped_of (Dropped reason) = Some reason
+dropped_of reply = None
+
+-- whether a reply says that a descriptor was routed
+abbrev pub is_routed_reply : {A : Type 0} → Reply A → Bool
+is_routed_reply (Routed sends local) = true
+is_routed_reply reply = false
+
+-- whether a reply says that the local servent's descriptor was sent
+abbrev pub is_sent_reply : {A : Type 0} → Reply A → Bool
+is_sent_reply (Sent sends) = true
+is_sent_reply reply = false
+
+-- the packets that a reply sends
+abbrev pub sends_of : {A : Type 0} → Reply A → List (Sending A)
+sends_of (Routed sends local) = sends
+sends_of (Sent sends) = sends
+sends_of reply = []
+
+-- whether an event closes c
+abbrev pub is_close : {A : Type 0} → ℕ → Event A → Bool
+is_close c (Close d) = c == d
+is_close c event = false
+
+-- whether an event takes from c
+abbrev pub is_take : {A : Type 0} → ℕ → Event A → Bool
+is_take c (Take d) = c == d
+is_take c event = false
+
+-- the ticket that an event routes
+abbrev pub ticket_of : {A : Type 0} → Event A → Option ℕ
+ticket_of (Route t) = Some t
+ticket_of event = None
+
+-- whether a number is the one that is told
+abbrev pub is_at : ℕ → Option ℕ → Bool
+is_at n None = false
+is_at n (Some m) = n == m

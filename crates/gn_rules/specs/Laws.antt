@@ -1,0 +1,37 @@
+-- Laws of the definitions, in the words of the rules.
+use Rattle.std.specs.Prelude.{◌≡◌, ℕ, true, List, [], ◌∷◌, length, drop, sum, map, Result}
+use Rattle.std.specs.List.{AllByRecursion}
+use Rattle.gn_rules.specs.declared.config.Config.{Config}
+use Rattle.gn_rules.specs.declared.event.Event.{Event}
+use Rattle.gn_rules.specs.declared.receipt.Receipt.{Receipt}
+use Rattle.gn_rules.specs.declared.receipt.Step.{Step}
+use Rattle.gn_rules.specs.declared.refusal.Refusal.{Refusal}
+use Rattle.gn_rules.specs.declared.statistics.Counter.TheVariants as counter
+use Rattle.gn_rules.specs.Legal.{IsLegal}
+use Rattle.gn_rules.specs.Output.{out, queued, takes}
+use Rattle.gn_rules.specs.Runs.{Ran, had_memory}
+use Rattle.gn_rules.specs.Statistics.{stats_of, told}
+
+-- in a legal history the output of c is all that was queued to it, without as many first packets as there are takes from c
+abbrev pub OutputIsUntaken : Type 0 → Type 0
+OutputIsUntaken A =
+    (s : Config) (past : List (Step A)) (c : ℕ) → IsLegal s past → out past c ≡ drop (takes past c) (queued past c)
+
+-- two runs of equal configurations, histories and events, neither of which met want of memory, have equal results and
+-- equal histories
+abbrev pub RunsAgree : Type 0 → Type 0
+RunsAgree A =
+    (s : Config) (past : List (Step A)) (events : List (Event A)) (xs ys : List (Result (Receipt A) Refusal))
+    (first second : List (Step A))
+    → Ran s past events xs first → Ran s past events ys second
+    → AllByRecursion (λ x. had_memory x ≡ true) xs → AllByRecursion (λ y. had_memory y ≡ true) ys
+    → (xs ≡ ys) × (first ≡ second)
+
+-- the counters add up to the number of steps
+abbrev pub CountersAddUp : Type 0 → Type 0
+CountersAddUp A =
+    (past : List (Step A))
+    → sum (map (λ k. told k (stats_of past))
+    (counter.Connected ∷ counter.TooMany ∷ counter.Closed ∷ counter.Admitted ∷ counter.Busy ∷ counter.Routed ∷ counter.UnknownKind
+    ∷ counter.Malformed ∷ counter.Duplicate ∷ counter.NoRoute ∷ counter.RouteGone ∷ counter.BackToSender ∷ counter.Expired
+    ∷ counter.Taken ∷ counter.Sent ∷ [])) ≡ length past

@@ -1,0 +1,15 @@
+pub mod Answer
+pub mod Decision
+pub mod Flight
+pub mod History
+pub mod Laws
+pub mod Legal
+pub mod Limits
+pub mod Live
+pub mod Output
+pub mod Runs
+pub mod Sending
+pub mod Servents
+pub mod Settings
+pub mod Sights
+pub mod Statistics

@@ -1,0 +1,45 @@
+-- The servents whose Query Hits were routed, and the way to them.
+use Rattle.std.specs.Prelude.{ℕ, Bool, true, false, ◌&&◌, if◌then◌else◌, List, [], ◌∷◌, take, Option, Some, None}
+use Rattle.std.specs.Option.{option_and_then}
+use Rattle.std.specs.Map.{lookup, remove_entry}
+use Rattle.gn_wire.specs.declared.kind.Guid.{Guid}
+use Rattle.gn_wire.specs.declared.kind.Kind.{Kind}
+use Rattle.gn_wire.specs.declared.kind.Kind.TheVariants.{QueryHit}
+use Rattle.gn_wire.specs.Keys.{is_same_id}
+use Rattle.gn_payload.specs.Places.{hit_servent}
+use Rattle.gn_rules.specs.declared.config.Config.{Config}
+use Rattle.gn_rules.specs.declared.event.Event.{Event}
+use Rattle.gn_rules.specs.declared.event.Event.TheVariants.{Route}
+use Rattle.gn_rules.specs.declared.reply.Reply.{Reply}
+use Rattle.gn_rules.specs.declared.receipt.Step.{Step}
+use Rattle.gn_rules.specs.Flight.{Admission, admission}
+use Rattle.gn_rules.specs.History.{is_routed_reply}
+
+-- whether a kind is Query Hit
+abbrev pub is_query_hit : Kind → Bool
+is_query_hit QueryHit = true
+is_query_hit kind = false
+
+-- the servent that a routed Query Hit tells, and the connection that admitted it
+abbrev pub route_hit : {A : Type 0} → Reply A → Admission → Option (Guid × ℕ)
+route_hit reply a =
+    if is_query_hit a.packet.kind && is_routed_reply reply then Some (hit_servent a.packet.payload, a.origin) else None
+
+-- the servent and the connection that a step tells: those of a Query Hit that it routed
+abbrev pub hit_of : {A : Type 0} → List (Step A) → Event A → Reply A → Option (Guid × ℕ)
+hit_of earlier (Route t) reply = option_and_then (route_hit reply) (admission earlier t)
+hit_of earlier event reply = None
+
+-- the known servents after one more hit: its servent comes first, and stands there alone
+abbrev pub learned : Option (Guid × ℕ) → List (Guid × ℕ) → List (Guid × ℕ)
+learned None known = known
+learned (Some hit) known = hit ∷ remove_entry (is_same_id hit.0) known
+
+-- the servents of the Query Hits that were routed, each once with its newest hit, the newest first
+abbrev pub servents : {A : Type 0} → List (Step A) → List (Guid × ℕ)
+servents [] = []
+servents (step ∷ earlier) = learned (hit_of earlier step.event step.reply) (servents earlier)
+
+-- the way to a servent: the connection of its last hit, where fewer other servents follow than are remembered
+abbrev pub servent_route : {A : Type 0} → Config → List (Step A) → Guid → Option ℕ
+servent_route s past x = lookup (is_same_id x) (take s.servents (servents past))

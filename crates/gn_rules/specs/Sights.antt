@@ -1,0 +1,54 @@
+-- The descriptors that a router remembers, and where they came from.
+use Rattle.std.specs.Prelude.{ℕ, Bool, true, false, if◌then◌else◌, List, [], ◌∷◌, ◌++◌, take, is_some, Option, Some, None}
+use Rattle.std.specs.Option.{option_to_list, option_and_then}
+use Rattle.std.specs.Map.{lookup}
+use Rattle.gn_wire.specs.declared.key.Key.{Key}
+use Rattle.gn_wire.specs.declared.kind.Kind.{Kind}
+use Rattle.gn_wire.specs.declared.kind.Kind.TheVariants.{Ping, Push, Query}
+use Rattle.gn_wire.specs.Keys.{is_same_key, key_of}
+use Rattle.gn_rules.specs.declared.config.Config.{Config}
+use Rattle.gn_rules.specs.declared.event.Event.{Event}
+use Rattle.gn_rules.specs.declared.event.Event.TheVariants.{Route, Originate}
+use Rattle.gn_rules.specs.declared.reply.DropReason.{DropReason}
+use Rattle.gn_rules.specs.declared.reply.DropReason.TheVariants.{Malformed, Duplicate}
+use Rattle.gn_rules.specs.declared.reply.Reply.{Reply}
+use Rattle.gn_rules.specs.declared.receipt.Step.{Step}
+use Rattle.gn_rules.specs.Flight.{Admission, admission}
+use Rattle.gn_rules.specs.History.{dropped_of, is_routed_reply, is_sent_reply}
+
+-- a Push is kept unless it was dropped as malformed or as a duplicate
+abbrev pub keeps_push : Option DropReason → Bool
+keeps_push (Some Malformed) = false
+keeps_push (Some Duplicate) = false
+keeps_push dropped = true
+
+-- whether a route with this reply is kept: of a Ping or Query where it was routed, of a Push unless it was malformed or a
+-- duplicate, of replies never
+abbrev pub keeps : {A : Type 0} → Kind → Reply A → Bool
+keeps Ping reply = is_routed_reply reply
+keeps Query reply = is_routed_reply reply
+keeps Push reply = keeps_push (dropped_of reply)
+keeps kind reply = false
+
+-- the key and the source that a route with this reply keeps: the source is the connection that admitted it
+abbrev pub route_sight : {A : Type 0} → Reply A → Admission → Option (Key × ℕ)
+route_sight reply a = if keeps a.packet.kind reply then Some (key_of a.packet, a.origin) else None
+
+-- the kept sight that a step makes: of a route, or of the local servent's own descriptor that was sent, whose source is 0
+abbrev pub sight_of : {A : Type 0} → List (Step A) → Event A → Reply A → Option (Key × ℕ)
+sight_of earlier (Route t) reply = option_and_then (route_sight reply) (admission earlier t)
+sight_of earlier (Originate d) reply = if is_sent_reply reply then Some (key_of d, 0) else None
+sight_of earlier event reply = None
+
+-- the kept sights, the newest first
+abbrev pub sights : {A : Type 0} → List (Step A) → List (Key × ℕ)
+sights [] = []
+sights (step ∷ earlier) = option_to_list (sight_of earlier step.event step.reply) ++ sights earlier
+
+-- the source of a key: that of its last kept sight, where fewer kept sights follow than are remembered
+abbrev pub source : {A : Type 0} → Config → List (Step A) → Key → Option ℕ
+source s past key = lookup (is_same_key key) (take s.seen (sights past))
+
+-- a key is remembered where it has a source
+abbrev pub is_remembered : {A : Type 0} → Config → List (Step A) → Key → Bool
+is_remembered s past key = is_some (source s past key)

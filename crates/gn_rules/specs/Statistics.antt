@@ -1,0 +1,93 @@
+-- How many steps of a history had each reply.
+use Rattle.std.specs.Prelude.{◌+◌, ℕ, List, [], ◌∷◌}
+use Rattle.gn_rules.specs.declared.receipt.Step.{Step}
+use Rattle.gn_rules.specs.declared.reply.DropReason.{DropReason}
+use Rattle.gn_rules.specs.declared.reply.DropReason.TheVariants as reason
+use Rattle.gn_rules.specs.declared.reply.Reply.{Reply}
+use Rattle.gn_rules.specs.declared.reply.Reply.TheVariants as reply
+use Rattle.gn_rules.specs.declared.statistics.Counter.{Counter}
+use Rattle.gn_rules.specs.declared.statistics.Counter.TheVariants as counter
+use Rattle.gn_rules.specs.declared.statistics.Stats.{Stats}
+
+-- the counter of a reason to drop
+abbrev pub drop_counter : DropReason → Counter
+drop_counter reason.UnknownKind = counter.UnknownKind
+drop_counter reason.Malformed = counter.Malformed
+drop_counter reason.Duplicate = counter.Duplicate
+drop_counter reason.NoRoute = counter.NoRoute
+drop_counter reason.RouteGone = counter.RouteGone
+drop_counter reason.BackToSender = counter.BackToSender
+drop_counter reason.Expired = counter.Expired
+
+-- the counter of a reply
+abbrev pub counter_of : {A : Type 0} → Reply A → Counter
+counter_of (reply.Connected c) = counter.Connected
+counter_of reply.TooMany = counter.TooMany
+counter_of (reply.Closed count) = counter.Closed
+counter_of (reply.Admitted t) = counter.Admitted
+counter_of reply.Busy = counter.Busy
+counter_of (reply.Routed sends local) = counter.Routed
+counter_of (reply.Dropped why) = drop_counter why
+counter_of (reply.Taken packet) = counter.Taken
+counter_of (reply.Sent sends) = counter.Sent
+
+-- the number that statistics tell of a counter
+abbrev pub told : Counter → Stats → ℕ
+told counter.Connected n = n.connected
+told counter.TooMany n = n.toomany
+told counter.Closed n = n.closed
+told counter.Admitted n = n.admitted
+told counter.Busy n = n.busy
+told counter.Routed n = n.routed
+told counter.UnknownKind n = n.unknownkind
+told counter.Malformed n = n.malformed
+told counter.Duplicate n = n.duplicate
+told counter.NoRoute n = n.noroute
+told counter.RouteGone n = n.routegone
+told counter.BackToSender n = n.backtosender
+told counter.Expired n = n.expired
+told counter.Taken n = n.taken
+told counter.Sent n = n.sent
+
+-- statistics with one more of a counter
+abbrev pub raised : Counter → Stats → Stats
+raised counter.Connected n = record n { connected = n.connected + 1 }
+raised counter.TooMany n = record n { toomany = n.toomany + 1 }
+raised counter.Closed n = record n { closed = n.closed + 1 }
+raised counter.Admitted n = record n { admitted = n.admitted + 1 }
+raised counter.Busy n = record n { busy = n.busy + 1 }
+raised counter.Routed n = record n { routed = n.routed + 1 }
+raised counter.UnknownKind n = record n { unknownkind = n.unknownkind + 1 }
+raised counter.Malformed n = record n { malformed = n.malformed + 1 }
+raised counter.Duplicate n = record n { duplicate = n.duplicate + 1 }
+raised counter.NoRoute n = record n { noroute = n.noroute + 1 }
+raised counter.RouteGone n = record n { routegone = n.routegone + 1 }
+raised counter.BackToSender n = record n { backtosender = n.backtosender + 1 }
+raised counter.Expired n = record n { expired = n.expired + 1 }
+raised counter.Taken n = record n { taken = n.taken + 1 }
+raised counter.Sent n = record n { sent = n.sent + 1 }
+
+-- the statistics of no steps
+abbrev pub no_stats : Stats
+no_stats = record {
+  connected = 0;
+  toomany = 0;
+  closed = 0;
+  admitted = 0;
+  busy = 0;
+  routed = 0;
+  unknownkind = 0;
+  malformed = 0;
+  duplicate = 0;
+  noroute = 0;
+  routegone = 0;
+  backtosender = 0;
+  expired = 0;
+  taken = 0;
+  sent = 0;
+}
+
+-- the statistics of a history: each step counts once, under its reply
+abbrev pub stats_of : {A : Type 0} → List (Step A) → Stats
+stats_of [] = no_stats
+stats_of (step ∷ earlier) = raised (counter_of step.reply) (stats_of earlier)

@@ -1,0 +1,28 @@
+//! The rules of a Gnutella v0.4 router: its events and replies, what each event is answered, and what every router promises.
+#![tactic(auto)]
+
+mod config;
+mod event;
+mod laws;
+mod packets;
+mod receipt;
+mod refusal;
+mod reply;
+mod router_core;
+mod runs;
+mod sends;
+mod statistics;
+#[cfg(test)]
+mod tests;
+
+pub use config::{BadConfig, Config, Field, Own};
+pub use event::{ConnId, Event, Ticket};
+pub use laws::{counters_add_up, output_is_untaken, runs_agree};
+pub use packets::{forward_of, own_pong};
+pub use receipt::{Receipt, Step};
+pub use refusal::Refusal;
+pub use reply::{Decision, DropReason, Reply};
+pub use router_core::RouterCore;
+pub use runs::run_events;
+pub use sends::{Sending, Sends};
+pub use statistics::{Counter, Stats};

@@ -1,0 +1,56 @@
+//! The packets that a router makes of a descriptor that it routes.
+
+ghost use Rattle.std.specs.Prelude.{◌≡◌, true, false, IfOk, MatchOption};
+ghost use Rattle.gn_wire.specs.Forward as wire;
+ghost use Rattle.gn_rules.specs.Sending as sending;
+
+use crate::config::Own;
+use bytes::Bytes;
+use gn_payload::{Pong, write_pong};
+use gn_wire::{Descriptor, Kind};
+use std::alloc::{AllocError, Allocator};
+
+/// The router's own Pong to a Ping: its ID, TTL one more than its Hops, Hops 0, and the own servent's place and files
+/// (Gnutella v0.4, "Pong"). An `Err` is want of memory.
+pub fn own_pong<A: Allocator + Copy>(
+    alloc: A,
+    own: &Own,
+    ping: &Descriptor<A>,
+) -> Result<Descriptor<A>, AllocError>
+    ensures { IfOk result (λ d. d ≡ sending.own_pong own.now ping.now) }
+{
+    let pong = Pong {
+        port: own.port,
+        ip: own.ip,
+        files: own.files,
+        kbytes: own.kbytes,
+    };
+    let mut payload = Vec::new(alloc);
+    write_pong(&pong, &mut payload)?;
+    let ttl = ping.hops().saturating_add(1);
+    match Descriptor::new(
+        ping.id(),
+        Kind::Pong,
+        ttl,
+        0,
+        Bytes::copy_from_slice(alloc, &payload)?,
+    ) {
+        Ok(pong) => Ok(pong),
+        Err(_) => unreachable!(),
+    }
+}
+
+/// The descriptor as it is forwarded, or `None` where it is expired. An `Err` is want of memory.
+pub fn forward_of<A: Allocator>(packet: &Descriptor<A>) -> Result<Option<Descriptor<A>>, AllocError>
+    ensures { IfOk result (λ forward. MatchOption forward (wire.is_expired packet.now ≡ true)
+        (λ d. (wire.is_expired packet.now ≡ false) × (d ≡ wire.forward_of packet.now))) }
+{
+    let Some(header) = packet.forwarded() else {
+        return Ok(None);
+    };
+    let payload = packet.payload().clone()?;
+    match Descriptor::new(header.id, header.kind, header.ttl, header.hops, payload) {
+        Ok(forward) => Ok(Some(forward)),
+        Err(_) => unreachable!(),
+    }
+}

@@ -1,0 +1,144 @@
+//! What a router answers.
+
+ghost use Rattle.std.specs.Prelude.{◌≡◌, IfOk};
+
+use crate::event::{ConnId, Ticket};
+use crate::sends::{Sending, Sends};
+use gn_wire::Descriptor;
+use std::alloc::{AllocError, Allocator, Global};
+
+/// Why a descriptor isn't sent on.
+#[derive(Clone, Copy, Debug, PartialEq, Eq)]
+pub enum DropReason {
+    /// Version 0.4 doesn't name its payload descriptor.
+    UnknownKind,
+    /// Its payload can't be read.
+    Malformed,
+    /// A Ping, Query or Push whose key is remembered.
+    Duplicate,
+    /// A reply whose request isn't remembered, or a Push to a servent that isn't known.
+    NoRoute,
+    /// Its way back leads to a connection that has closed.
+    RouteGone,
+    /// Its way back leads to the connection that delivered it.
+    BackToSender,
+    /// It came with TTL 0 or 1, or with Hops 255.
+    Expired,
+}
+
+/// What becomes of a routed descriptor, before any packet is made.
+#[derive(Clone, Copy, Debug, PartialEq, Eq)]
+pub enum Decision {
+    /// It is dropped.
+    Drop(DropReason),
+    /// It is for the local servent alone.
+    Local,
+    /// It is for the local servent and, unless it is expired, for each other live connection.
+    Flood,
+    /// It is passed on to one connection.
+    Forward(ConnId),
+}
+
+/// What a router answers to an event.
+#[derive(Debug, Drop)]
+pub enum Reply<A: Allocator = Global> {
+    /// The new connection's number.
+    Connected(ConnId),
+    /// As many connections are live as may be.
+    TooMany,
+    /// How many packets were discarded.
+    Closed(u32),
+    /// The descriptor's ticket.
+    Admitted(Ticket),
+    /// As many descriptors are in flight as may be; this one is gone.
+    Busy,
+    /// What was sent on, and whether the local servent gets it too.
+    Routed { sends: Sends<A>, local: bool },
+    /// The descriptor is gone.
+    Dropped(DropReason),
+    /// The packet that was taken.
+    Taken(Descriptor<A>),
+    /// The packets of the local servent's own descriptor.
+    Sent(Sends<A>),
+}
+
+impl<A: Allocator> Reply<A> {
+    ghost use Rattle.gn_rules.specs.History.{admitted_of, connected_of, is_routed_reply, is_sent_reply, dropped_of, sends_of};
+
+    /// The connection that it made.
+    pub fn connected(&self) -> Option<ConnId>
+        ensures { result ≡ connected_of self.now }
+    {
+        match self {
+            Reply::Connected(c) => Some(*c),
+            _ => None,
+        }
+    }
+
+    /// The ticket that it gave.
+    pub fn admitted(&self) -> Option<Ticket>
+        ensures { result ≡ admitted_of self.now }
+    {
+        match self {
+            Reply::Admitted(t) => Some(*t),
+            _ => None,
+        }
+    }
+
+    /// Why it dropped a descriptor, where it did.
+    pub fn dropped(&self) -> Option<DropReason>
+        ensures { result ≡ dropped_of self.now }
+    {
+        match self {
+            Reply::Dropped(reason) => Some(*reason),
+            _ => None,
+        }
+    }
+
+    /// Whether it says that a descriptor was routed.
+    pub fn is_routed(&self) -> bool
+        ensures { result ≡ is_routed_reply self.now }
+    {
+        matches!(self, Reply::Routed { .. })
+    }
+
+    /// Whether it says that the local servent's descriptor was sent.
+    pub fn is_sent(&self) -> bool
+        ensures { result ≡ is_sent_reply self.now }
+    {
+        matches!(self, Reply::Sent(_))
+    }
+
+    /// The packets that it sends.
+    pub fn sends(&self) -> &[Sending<A>]
+        ensures { result.now ≡ sends_of self.now }
+    {
+        match self {
+            Reply::Routed { sends, .. } => sends.as_slice(),
+            Reply::Sent(sends) => sends.as_slice(),
+            _ => &[],
+        }
+    }
+}
+
+impl<A: Allocator + Copy> Reply<A> {
+    /// An equal reply. An `Err` is want of memory.
+    pub fn copy(&self, alloc: A) -> Result<Self, AllocError>
+        ensures { IfOk result (λ r. r ≡ self.now) }
+    {
+        Ok(match self {
+            Reply::Connected(c) => Reply::Connected(*c),
+            Reply::TooMany => Reply::TooMany,
+            Reply::Closed(count) => Reply::Closed(*count),
+            Reply::Admitted(t) => Reply::Admitted(*t),
+            Reply::Busy => Reply::Busy,
+            Reply::Routed { sends, local } => Reply::Routed {
+                sends: sends.copy(alloc)?,
+                local: *local,
+            },
+            Reply::Dropped(reason) => Reply::Dropped(*reason),
+            Reply::Taken(packet) => Reply::Taken(packet.copy()?),
+            Reply::Sent(sends) => Reply::Sent(sends.copy(alloc)?),
+        })
+    }
+}

@@ -1,0 +1,91 @@
+//! What every router promises.
+
+ghost use Rattle.std.specs.Prelude.{◌≡◌, ◌∷◌, ◌++◌, [], List, length, reverse, IfOk, OnErr};
+ghost use Rattle.gn_rules.specs.Answer.{Finds, answer, checked_answer, reply_of};
+ghost use Rattle.gn_rules.specs.Flight.{flying};
+ghost use Rattle.gn_rules.specs.Legal.{IsLegal};
+ghost use Rattle.gn_rules.specs.Live.{live};
+ghost use Rattle.gn_rules.specs.Output.{waiting};
+ghost use Rattle.gn_rules.specs.Statistics.{stats_of};
+ghost use Rattle.gn_rules.specs.declared.config.Config.{Config};
+ghost use Rattle.gn_rules.specs.declared.event.Event.TheVariants.{Route};
+ghost use Rattle.gn_rules.specs.declared.receipt.Step.{Step};
+
+use crate::config::Config;
+use crate::event::{ConnId, Event, Ticket};
+use crate::receipt::{Receipt, Step};
+use crate::refusal::Refusal;
+use crate::statistics::Stats;
+use gn_payload::Checked;
+use std::alloc::{AllocError, Allocator};
+
+/// A router: its history grows by one step a call, and each reply is the one that the rules give after the steps before it.
+pub trait RouterCore<A: Allocator + Copy> {
+    /// Its configuration.
+    ghost settings: { Self → Config };
+
+    /// Its history, in order.
+    ghost steps: { Self → List (Step A) };
+
+    /// A router with no steps. An `Err` is want of memory.
+    fn make(alloc: A, config: &Config) -> Result<Self, AllocError>
+        ensures settings { IfOk result (λ router. settings router ≡ config.now) }
+        ensures empty { IfOk result (λ router. steps router ≡ []) };
+
+    /// Answers an event. A refusal is no step and changes nothing; want of memory is the last, and comes only where the
+    /// rules give a reply.
+    fn apply(&mut self, actor: u32, event: &Event<A>) -> Result<Receipt<A>, Refusal>
+        ensures answer { Finds (reply_of result) (answer (settings self.old) (reverse (steps self.old)) event.now) }
+        ensures step { IfOk result (λ receipt. steps self.new
+            ≡ steps self.old ++ record { actor = actor; event = event.now; reply = receipt.reply } ∷ []) }
+        ensures index { IfOk result (λ receipt. receipt.index ≡ length (steps self.old)) }
+        ensures event { IfOk result (λ receipt. receipt.event ≡ event.now) }
+        ensures err { OnErr result (steps self.new ≡ steps self.old) }
+        ensures settings { settings self.new ≡ settings self.old };
+
+    /// As `apply` of a Route, with the descriptor's payload checked beforehand. Where the descriptor isn't the one that was
+    /// admitted under the ticket, it is refused as strange.
+    fn route(
+        &mut self,
+        actor: u32,
+        ticket: Ticket,
+        checked: &Checked<A>,
+    ) -> Result<Receipt<A>, Refusal>
+        ensures answer { Finds (reply_of result) (checked_answer (settings self.old) (reverse (steps self.old)) ticket checked.now) }
+        ensures step { IfOk result (λ receipt. steps self.new
+            ≡ steps self.old ++ record { actor = actor; event = Route ticket; reply = receipt.reply } ∷ []) }
+        ensures index { IfOk result (λ receipt. receipt.index ≡ length (steps self.old)) }
+        ensures event { IfOk result (λ receipt. receipt.event ≡ Route ticket) }
+        ensures err { OnErr result (steps self.new ≡ steps self.old) }
+        ensures settings { settings self.new ≡ settings self.old };
+
+    /// The configuration that it was made with.
+    fn config(&self) -> &Config
+        ensures { result.now ≡ settings self.now };
+
+    /// The steps, in order.
+    fn history(&self) -> &[Step<A>]
+        ensures value { result.now ≡ steps self.now }
+        ensures legal { IsLegal (settings self.now) (reverse (steps self.now)) };
+
+    /// The steps, in order, for keeps.
+    fn into_history(self) -> Vec<Step<A>, A>
+        ensures value { result.items ≡ steps self }
+        ensures legal { IsLegal (settings self) (reverse (steps self)) };
+
+    /// How many steps had each reply.
+    fn stats(&self) -> Stats
+        ensures { result ≡ stats_of (reverse (steps self.now)) };
+
+    /// How many tickets are in flight.
+    fn flights(&self) -> u32
+        ensures { result ≡ length (flying (reverse (steps self.now))) };
+
+    /// Whether the connection is live.
+    fn is_live(&self, c: ConnId) -> bool
+        ensures { result ≡ live (reverse (steps self.now)) c };
+
+    /// How many packets wait for the connection: none where it isn't live.
+    fn waiting(&self, c: ConnId) -> u32
+        ensures { result ≡ waiting (reverse (steps self.now)) c };
+}

@@ -1,0 +1,77 @@
+//! The packets that one reply sends.
+
+ghost use Rattle.std.specs.Prelude.{◌≡◌, IfOk};
+
+use crate::event::ConnId;
+use gn_wire::Descriptor;
+use std::alloc::{AllocError, Allocator, Global};
+use std::marker::Model;
+
+/// One packet to one connection. Where it isn't queued the connection's output was full, and the packet is gone.
+#[derive(Debug, Drop)]
+pub struct Sending<A: Allocator = Global> {
+    pub to: ConnId,
+    pub packet: Descriptor<A>,
+    pub queued: bool,
+}
+
+/// The packets that a reply sends, in order.
+#[derive(Debug, Drop)]
+pub struct Sends<A: Allocator = Global> {
+    items: Vec<Sending<A>, A>,
+}
+
+impl<A: Allocator> Model for Sends<A> {
+    ghost use Rattle.std.specs.Prelude.{List};
+    ghost use Rattle.gn_rules.specs.declared.sends.Sending.{Sending};
+
+    ghost Value = { List (Sending A) };
+
+    ghost view = { λ s. s.items.items };
+}
+
+impl<A: Allocator> Sends<A> {
+    /// The packets, in order.
+    pub fn as_slice(&self) -> &[Sending<A>]
+        ensures { result.now ≡ self.now }
+    {
+        self.items.as_slice()
+    }
+}
+
+impl<A: Allocator + Copy> Sends<A> {
+    ghost use Rattle.std.specs.Prelude.{[], ◌∷◌, ◌++◌, OnOk, OnErr};
+
+    /// No packets. Takes no memory.
+    pub fn new(alloc: A) -> Self
+        ensures { result ≡ [] }
+    {
+        Sends {
+            items: Vec::new(alloc),
+        }
+    }
+
+    /// Adds a packet at the end. An `Err` is want of memory, and changes nothing.
+    pub fn push(&mut self, sending: Sending<A>) -> Result<(), AllocError>
+        ensures ok { OnOk result (self.new ≡ self.old ++ sending ∷ []) }
+        ensures err { OnErr result (self.new ≡ self.old) }
+    {
+        self.items.push(sending)?;
+        Ok(())
+    }
+
+    /// Equal packets. An `Err` is want of memory.
+    pub fn copy(&self, alloc: A) -> Result<Self, AllocError>
+        ensures { IfOk result (λ s. s ≡ self.now) }
+    {
+        let mut items = Vec::new(alloc);
+        for sending in &self.items {
+            items.push(Sending {
+                to: sending.to,
+                packet: sending.packet.copy()?,
+                queued: sending.queued,
+            })?;
+        }
+        Ok(Sends { items })
+    }
+}

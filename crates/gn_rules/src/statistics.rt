@@ -1,0 +1,172 @@
+//! How many steps had each reply.
+
+ghost use Rattle.std.specs.Prelude.{◌≡◌, ◌<◌, ◌+◌, ◌^◌};
+ghost use Rattle.gn_rules.specs.Statistics.{counter_of, drop_counter, no_stats, raised, told};
+
+use crate::reply::{DropReason, Reply};
+use std::alloc::Allocator;
+
+/// What is counted: a reply, or a reason to drop.
+#[derive(Clone, Copy, Debug, PartialEq, Eq)]
+pub enum Counter {
+    Connected,
+    TooMany,
+    Closed,
+    Admitted,
+    Busy,
+    Routed,
+    UnknownKind,
+    Malformed,
+    Duplicate,
+    NoRoute,
+    RouteGone,
+    BackToSender,
+    Expired,
+    Taken,
+    Sent,
+}
+
+/// The number of steps with each reply or reason to drop.
+#[derive(Clone, Copy, Debug, PartialEq, Eq)]
+pub struct Stats {
+    pub connected: u32,
+    pub toomany: u32,
+    pub closed: u32,
+    pub admitted: u32,
+    pub busy: u32,
+    pub routed: u32,
+    pub unknownkind: u32,
+    pub malformed: u32,
+    pub duplicate: u32,
+    pub noroute: u32,
+    pub routegone: u32,
+    pub backtosender: u32,
+    pub expired: u32,
+    pub taken: u32,
+    pub sent: u32,
+}
+
+impl Counter {
+    /// All counters, in the order in which they are printed.
+    pub const ALL: [Counter; 15] = [
+        Counter::Connected,
+        Counter::TooMany,
+        Counter::Closed,
+        Counter::Admitted,
+        Counter::Busy,
+        Counter::Routed,
+        Counter::UnknownKind,
+        Counter::Malformed,
+        Counter::Duplicate,
+        Counter::NoRoute,
+        Counter::RouteGone,
+        Counter::BackToSender,
+        Counter::Expired,
+        Counter::Taken,
+        Counter::Sent,
+    ];
+
+    /// The counter of a reply.
+    pub fn of<A: Allocator>(reply: &Reply<A>) -> Counter
+        ensures { result ≡ counter_of reply.now }
+    {
+        match reply {
+            Reply::Connected(_) => Counter::Connected,
+            Reply::TooMany => Counter::TooMany,
+            Reply::Closed(_) => Counter::Closed,
+            Reply::Admitted(_) => Counter::Admitted,
+            Reply::Busy => Counter::Busy,
+            Reply::Routed { .. } => Counter::Routed,
+            Reply::Dropped(reason) => Counter::of_drop(*reason),
+            Reply::Taken(_) => Counter::Taken,
+            Reply::Sent(_) => Counter::Sent,
+        }
+    }
+
+    /// The counter of a reason to drop.
+    pub fn of_drop(reason: DropReason) -> Counter
+        ensures { result ≡ drop_counter reason }
+    {
+        match reason {
+            DropReason::UnknownKind => Counter::UnknownKind,
+            DropReason::Malformed => Counter::Malformed,
+            DropReason::Duplicate => Counter::Duplicate,
+            DropReason::NoRoute => Counter::NoRoute,
+            DropReason::RouteGone => Counter::RouteGone,
+            DropReason::BackToSender => Counter::BackToSender,
+            DropReason::Expired => Counter::Expired,
+        }
+    }
+}
+
+impl Stats {
+    /// Nothing counted.
+    pub fn new() -> Stats
+        ensures { result ≡ no_stats }
+    {
+        Stats {
+            connected: 0,
+            toomany: 0,
+            closed: 0,
+            admitted: 0,
+            busy: 0,
+            routed: 0,
+            unknownkind: 0,
+            malformed: 0,
+            duplicate: 0,
+            noroute: 0,
+            routegone: 0,
+            backtosender: 0,
+            expired: 0,
+            taken: 0,
+            sent: 0,
+        }
+    }
+
+    /// The number of a counter.
+    pub fn get(&self, counter: Counter) -> u32
+        ensures { result ≡ told counter self.now }
+    {
+        match counter {
+            Counter::Connected => self.connected,
+            Counter::TooMany => self.toomany,
+            Counter::Closed => self.closed,
+            Counter::Admitted => self.admitted,
+            Counter::Busy => self.busy,
+            Counter::Routed => self.routed,
+            Counter::UnknownKind => self.unknownkind,
+            Counter::Malformed => self.malformed,
+            Counter::Duplicate => self.duplicate,
+            Counter::NoRoute => self.noroute,
+            Counter::RouteGone => self.routegone,
+            Counter::BackToSender => self.backtosender,
+            Counter::Expired => self.expired,
+            Counter::Taken => self.taken,
+            Counter::Sent => self.sent,
+        }
+    }
+
+    /// Counts one more.
+    pub fn raise(&mut self, counter: Counter)
+        requires { told counter self.old + 1 < 2 ^ 32 }
+        ensures { self.new ≡ raised counter self.old }
+    {
+        match counter {
+            Counter::Connected => self.connected += 1,
+            Counter::TooMany => self.toomany += 1,
+            Counter::Closed => self.closed += 1,
+            Counter::Admitted => self.admitted += 1,
+            Counter::Busy => self.busy += 1,
+            Counter::Routed => self.routed += 1,
+            Counter::UnknownKind => self.unknownkind += 1,
+            Counter::Malformed => self.malformed += 1,
+            Counter::Duplicate => self.duplicate += 1,
+            Counter::NoRoute => self.noroute += 1,
+            Counter::RouteGone => self.routegone += 1,
+            Counter::BackToSender => self.backtosender += 1,
+            Counter::Expired => self.expired += 1,
+            Counter::Taken => self.taken += 1,
+            Counter::Sent => self.sent += 1,
+        }
+    }
+}

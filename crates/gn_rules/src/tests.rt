@@ -1,0 +1,89 @@
+//! Limits of a configuration, copies, and the packets that a router makes.
+
+use crate::*;
+use bytes::Bytes;
+use gn_wire::{Descriptor, Guid, Kind};
+use std::alloc::Global;
+use std::test::Fail;
+
+const OWN: Own = Own {
+    servent: Guid([0xee; 16]),
+    ip: [127, 0, 0, 1],
+    port: 6346,
+    files: 5,
+    kbytes: 40,
+};
+
+fn ping(alloc: Global, ttl: u8, hops: u8) -> Result<Descriptor, Fail> {
+    let payload = Bytes::copy_from_slice(alloc, &[])?;
+    Ok(Descriptor::new(Guid([0xa1; 16]), Kind::Ping, ttl, hops, payload).map_err(|_| "a Ping")?)
+}
+
+#[test]
+fn the_first_bad_number_is_named(rt: HostRuntime) {
+    let rows = [
+        ([4, 8, 4, 8, 8, 100], None),
+        ([64, 65_536, 65_536, 4_096, 4_096, 1_000_000], None),
+        ([0, 0, 4, 8, 8, 100], Some(Field::Neighbours)),
+        ([65, 8, 4, 8, 8, 100], Some(Field::Neighbours)),
+        ([4, 65_537, 4, 8, 8, 100], Some(Field::Seen)),
+        ([4, 8, 0, 0, 8, 100], Some(Field::Servents)),
+        ([4, 8, 4, 4_097, 8, 100], Some(Field::Stage)),
+        ([4, 8, 4, 8, 4_097, 0], Some(Field::Out)),
+        ([4, 8, 4, 8, 8, 1_000_001], Some(Field::Steps)),
+    ];
+    for ([neighbours, seen, servents, stage, out, steps], bad) in rows {
+        let made = Config::new(neighbours, seen, servents, stage, out, steps, OWN);
+        assert_eq!(rt; made.err(), bad.map(BadConfig));
+    }
+}
+
+#[test]
+fn a_ping_is_answered_and_forwarded(rt: HostRuntime) -> Result<(), Fail> {
+    let pong = own_pong(rt.alloc(), &OWN, &ping(rt.alloc(), 9, 255)?)?;
+    assert_eq!(rt;
+        (pong.kind(), pong.ttl(), pong.hops()),
+        (Kind::Pong, 255, 0)
+    );
+    let payload = [0xca, 0x18, 0x7f, 0, 0, 1, 5, 0, 0, 0, 0x28, 0, 0, 0];
+    assert_eq!(rt; pong.payload().as_slice(), payload.as_slice());
+    let forward = forward_of(&ping(rt.alloc(), 7, 0)?)?.ok_or("not expired")?;
+    assert_eq!(rt;
+        (forward.kind(), forward.ttl(), forward.hops()),
+        (Kind::Ping, 6, 1)
+    );
+    assert!(rt; forward_of(&ping(rt.alloc(), 1, 0)?)?.is_none());
+    Ok(())
+}
+
+#[test]
+fn steps_are_copied_and_counted(rt: HostRuntime) -> Result<(), Fail> {
+    let mut sends = Sends::new(rt.alloc());
+    sends.push(Sending {
+        to: 2,
+        packet: ping(rt.alloc(), 6, 1)?,
+        queued: true,
+    })?;
+    let reply = Reply::Routed { sends, local: true };
+    assert!(rt; reply.is_routed() && !reply.is_sent() && reply.connected().is_none());
+    assert!(rt; reply.admitted().is_none() && reply.dropped().is_none());
+    let event = Event::Admit(1, ping(rt.alloc(), 7, 0)?);
+    assert!(rt;
+        event.ticket().is_none() && !event.closes(1) && !event.takes(1) && !event.routes(0)
+    );
+    let (step, receipt) = Step::with_receipt(rt.alloc(), 3, 0, &event, reply)?;
+    assert_eq!(rt;
+        (step.actor, receipt.index, receipt.reply.sends().len()),
+        (0, 3, 1)
+    );
+    let mut stats = Stats::new();
+    let counter = Counter::of(&step.reply);
+    assert_eq!(rt; counter, Counter::Routed);
+    if stats.get(counter) == 0 {
+        stats.raise(counter);
+    }
+    for k in Counter::ALL {
+        assert_eq!(rt; stats.get(k), u32::from(k == counter));
+    }
+    Ok(())
+}

@@ -1,0 +1,2 @@
+pub mod GreetingLemmas
+pub mod ShakingLemmas

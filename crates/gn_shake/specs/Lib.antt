@@ -1,0 +1,3 @@
+pub mod Greeting
+pub mod Shaking
+pub mod Texts

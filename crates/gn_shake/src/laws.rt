@@ -1,0 +1,14 @@
+//! Laws of the greeting that no one call shows.
+
+ghost use Rattle.gn_shake.specs.Greeting.{GreetingIsTold};
+ghost use Rattle.gn_shake.specs.Shaking.{PiecesAreOneStream};
+
+/// The law that the state of a stream is accepted where the greeting begins it, refused where the two differ, open otherwise.
+pub fn greeting_is_told()
+    ensures { GreetingIsTold }
+{}
+
+/// The law that pieces fed one by one are answered as their bytes in one stream.
+pub fn pieces_are_one_stream()
+    ensures { PiecesAreOneStream }
+{}

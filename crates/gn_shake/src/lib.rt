@@ -1,0 +1,13 @@
+//! The greeting that goes before the descriptors of a link, awaited from pieces of any sizes.
+#![tactic(auto)]
+
+mod laws;
+mod shake;
+mod texts;
+
+pub use laws::{greeting_is_told, pieces_are_one_stream};
+pub use shake::{Shake, ShakeState, Shaken};
+pub use texts::{consent, request};
+
+#[cfg(test)]
+mod tests;

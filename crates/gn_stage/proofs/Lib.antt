@@ -1,0 +1,6 @@
+pub mod Interleavings
+pub mod Owners
+pub mod Passes
+pub mod Settling
+pub mod Sides
+pub mod Steps

@@ -1,0 +1,23 @@
+//! The queue between two stages of the router: jobs that were admitted wait there for a worker.
+#![tactic(auto)]
+
+mod desk;
+mod home;
+mod intake;
+mod job;
+mod outlet;
+mod rule;
+mod settle;
+mod site;
+mod stage;
+#[cfg(test)]
+mod tests;
+
+pub use desk::Desk;
+pub use home::{IntakeHome, OutletHome};
+pub use intake::Intake;
+pub use job::Job;
+pub use outlet::Outlet;
+pub use settle::{Settled, StageFault, Unsettled};
+pub use site::Site;
+pub use stage::Stage;

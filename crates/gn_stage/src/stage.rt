@@ -1,0 +1,97 @@
+//! How a stage is made.
+
+ghost use Rattle.std.specs.Prelude.{◌≡◌, ◌<◌, ◌≤◌, IfOk};
+ghost use Rattle.gn_stage.specs.Ends.{AreNew};
+
+use crate::desk::Desk;
+use crate::intake::Intake;
+use crate::job::Job;
+use crate::outlet::Outlet;
+use crate::rule::{Law, View};
+use crate::site::Site;
+use crossbeam_channel::{
+    Pass, Receiver, RuledReceiver, RuledSender, Sender, bounded, bounded_with,
+};
+use std::alloc::{AllocError, Allocator, Global};
+use std::marker::Model;
+
+// Both ends of a channel that counts.
+#[derive(Drop)]
+pub(crate) struct Tokens<A: Allocator> {
+    pub(crate) to: Sender<(), A>,
+    pub(crate) from: Receiver<(), A>,
+}
+
+/// A stage that was opened and has no ends yet.
+#[derive(Drop)]
+pub struct Stage<A: Allocator = Global> {
+    sender: RuledSender<Job<A>, View, Law, A>,
+    receiver: RuledReceiver<Job<A>, View, Law, A>,
+    pass: Pass<Job<A>, View>,
+    room: Tokens<A>,
+    ready: Tokens<A>,
+    capacity: usize,
+}
+
+impl<A: Allocator> Model for Stage<A> {
+    ghost use Rattle.std.specs.Prelude.{◌≡◌, []};
+    ghost use Rattle.crossbeam_channel.specs.Ends.{receives_on, sends_on};
+    ghost use Rattle.gn_stage.specs.Opened.{Opened, IsLineOf, IsPassOf, knows};
+    ghost use Rattle.gn_stage.specs.Rule.{new_desk};
+    ghost use Rattle.gn_stage.specs.Jobs.{Queued};
+
+    ghost Value = { Opened Queued };
+
+    ghost view = { λ s. record { table = s.pass.table_id; key = s.pass.me.0.of; capacity = s.capacity } };
+
+    ghost invariant = { λ s. IsLineOf (record { table = s.pass.table_id; key = s.pass.me.0.of; capacity = s.capacity }) (sends_on s.sender) × (receives_on s.receiver ≡ sends_on s.sender) × (s.pass.me.1 ≡ []) × (knows s.pass ≡ new_desk) };
+}
+
+impl<A: Allocator + Copy> Tokens<A> {
+    fn new(alloc: A, most: usize) -> Result<Self, AllocError> {
+        let (to, from) = bounded(alloc, most)?;
+        Ok(Tokens { to, from })
+    }
+}
+
+impl<A: Allocator + Copy> Stage<A> {
+    /// A stage whose queue has room for so many jobs, 1 to 4,096. An `Err` is want of memory.
+    pub fn new(alloc: A, capacity: usize) -> Result<Self, AllocError>
+        requires { (0 < capacity) × (capacity ≤ 4096) }
+        ensures { IfOk result (λ s. s.capacity ≡ capacity) }
+    {
+        let (sender, receiver, pass) = bounded_with::<Job<A>, View, Law, A>(alloc, capacity)?;
+        Ok(Stage {
+            sender,
+            receiver,
+            pass,
+            room: Tokens::new(alloc, capacity)?,
+            ready: Tokens::new(alloc, capacity)?,
+            capacity,
+        })
+    }
+
+    /// The ends of the stage, as many as asked, maybe none. An `Err` is want of memory.
+    pub fn ends<S: Site>(
+        self,
+        alloc: A,
+        intakes: u32,
+        outlets: u32,
+    ) -> Result<(Vec<Intake<S, A>, A>, Vec<Outlet<S, A>, A>, Desk<S, A>), AllocError>
+        requires { self ≡ S.stage }
+        ensures { IfOk result (λ r. AreNew intakes r.0.items × AreNew outlets r.1.items × (r.2 ≡ record { intakes = intakes; outlets = outlets; capacity = self.capacity })) }
+    {
+        let Stage {
+            sender,
+            receiver,
+            pass,
+            room,
+            ready,
+            capacity,
+        } = self;
+        let mut desk = Desk::new(sender, receiver, pass, capacity);
+        let ins = desk.make_intakes(alloc, intakes, &room, &ready)?;
+        let outs = desk.make_outlets(alloc, outlets, &room, &ready)?;
+        Ok((ins, outs, desk))
+    }
+}

@@ -1,0 +1,23 @@
+-- What is in flight.
+use Rattle.std.specs.Prelude.{ℕ, refl}
+use Rattle.std.specs.Coded.{Coded, code_by, coded×, coded_ℕ}
+use Rattle.std.specs.FinMap.{FinMap}
+use Rattle.std.specs.FinMap as map
+use Rattle.std.specs.Ordering.{nat_cmp}
+
+-- the descriptors in flight, by ticket; and how many there may be
+pub record Flying (Flight : Type 0) : Type 0 where
+  pub flights : FinMap nat_cmp Flight
+  pub most : ℕ
+
+module _ {Flight : Type 0} where
+  -- with one more, under a ticket of its own
+  abbrev pub flown : ℕ → Flight → Flying Flight → Flying Flight
+  flown ticket flight f = record f { flights = map.insert f.flights ticket flight }
+
+  -- without the one of a ticket
+  abbrev pub landed : ℕ → Flying Flight → Flying Flight
+  landed ticket f = record f { flights = map.remove f.flights ticket }
+
+  abbrev pub flying_code : Coded Flight → Coded (Flying Flight)
+  flying_code c = code_by (FinMap nat_cmp Flight × ℕ) (coded× (map.code coded_ℕ c) coded_ℕ) (λ f. (f.flights, f.most)) (λ p. record { flights = p.0; most = p.1 }) (λ _. refl)

@@ -1,0 +1,4 @@
+pub mod Flying
+pub mod Lines
+pub mod Remembered
+pub mod Servents

@@ -1,0 +1,98 @@
+//! The descriptors in flight, by ticket.
+
+ghost use Rattle.std.specs.Prelude.{◌≡◌, ◌<◌, ◌≤◌, None, OnErr, OnOk};
+ghost use Rattle.std.specs.FinMap as map;
+ghost use Rattle.std.specs.Option.{option_copied};
+ghost use Rattle.gn_tables.specs.Flying.{flown, landed};
+
+use gn_wire::Descriptor;
+use indexmap::IndexMap;
+use std::alloc::{AllocError, Allocator, Global};
+use std::hash::{BuildHasherDefault, FoldHasher};
+use std::marker::Model;
+
+/// A descriptor in flight, and the connection that it came from.
+#[derive(Drop)]
+pub struct Flight<A: Allocator = Global> {
+    pub from: u32,
+    pub descriptor: Descriptor<A>,
+}
+
+/// The descriptors in flight, by ticket. Tickets are hashed with a fixed seed. It grows as descriptors are added.
+#[derive(Drop)]
+pub struct Flights<A: Allocator + Copy = Global> {
+    most: u32,
+    flights: IndexMap<u32, Flight<A>, BuildHasherDefault<FoldHasher>, A>,
+}
+
+impl<A: Allocator + Copy> Model for Flights<A> {
+    ghost use Rattle.std.specs.Prelude.{◌≤◌, length};
+    ghost use Rattle.std.specs.FinMap as map;
+    ghost use Rattle.gn_tables.specs.Flying.{Flying};
+    ghost use Rattle.gn_tables.specs.declared.flights.Flight.{Flight};
+
+    ghost Value = { Flying (Flight A) };
+
+    ghost use Rattle.std.specs.Coded.{codes};
+    ghost use Rattle.gn_tables.specs.Flying.{flying_code};
+    ghost use Rattle.gn_tables.specs.contracts.flights.Flight as flight;
+
+    ghost coded = { flying_code (Prim.hlevel codes) };
+
+    ghost view = { λ f. record { flights = map.from_entries f.flights.entries; most = f.most } };
+
+    ghost invariant = { λ f. (length f.flights.entries ≤ f.most) × (f.most ≤ 4096) };
+}
+
+impl<A: Allocator + Copy> Flights<A> {
+    /// Nothing in flight, and at most `most` descriptors at once: 1 to 4,096. It takes no memory yet.
+    pub fn new(alloc: A, most: u32) -> Self
+        requires positive { 0 < most }
+        requires limit { most ≤ 4096 }
+        ensures { result ≡ record { flights = map.empty; most = most } }
+    {
+        Flights {
+            most,
+            flights: IndexMap::new(alloc),
+        }
+    }
+
+    /// How many are in flight.
+    pub fn len(&self) -> u32
+        ensures value { result ≡ map.len self.now.flights }
+        ensures few { result ≤ self.now.most }
+    {
+        self.flights.len() as u32
+    }
+
+    /// The flight of the ticket.
+    pub fn get(&self, ticket: u32) -> Option<&Flight<A>>
+        ensures { option_copied result ≡ map.get self.now.flights ticket }
+    {
+        self.flights.get(&ticket)
+    }
+
+    /// Adds a descriptor under a new ticket. An `Err` is want of memory: the descriptor is dropped, and nothing changes.
+    pub fn add(
+        &mut self,
+        ticket: u32,
+        from: u32,
+        descriptor: Descriptor<A>,
+    ) -> Result<(), AllocError>
+        requires few { map.len self.old.flights < self.old.most }
+        requires fresh { map.get self.old.flights ticket ≡ None }
+        ensures ok { OnOk result (self.new ≡ flown ticket (record { from = from; descriptor = descriptor }) self.old) }
+        ensures err { OnErr result (self.new ≡ self.old) }
+    {
+        self.flights.insert(ticket, Flight { from, descriptor })?;
+        Ok(())
+    }
+
+    /// Takes the flight of the ticket out.
+    pub fn finish(&mut self, ticket: u32) -> Option<Flight<A>>
+        ensures value { result ≡ map.get self.old.flights ticket }
+        ensures rest { self.new ≡ landed ticket self.old }
+    {
+        self.flights.swap_remove(&ticket)
+    }
+}

@@ -1,0 +1,15 @@
+//! The router's four tables: what it has seen, which way servents lie, what waits for its neighbours, what is in flight.
+#![tactic(auto)]
+
+mod flights;
+mod neighbours;
+mod seen;
+mod servents;
+
+pub use flights::{Flight, Flights};
+pub use neighbours::Neighbours;
+pub use seen::SeenTable;
+pub use servents::ServentTable;
+
+#[cfg(test)]
+mod tests;

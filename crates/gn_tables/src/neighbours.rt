@@ -1,0 +1,128 @@
+//! The live connections, rising, each with the packets that wait for it.
+
+ghost use Rattle.std.specs.Prelude.{◌≡◌, ◌<◌, ◌≤◌, [], length, true, false, slice_get, IfErr, IfOk, OnErr, OnOk};
+ghost use Rattle.std.specs.List.{All};
+ghost use Rattle.std.specs.Map.{keys_of};
+ghost use Rattle.std.specs.Option.{option_map};
+ghost use Rattle.gn_tables.specs.Lines.{AreLines, first_of, has_room, joined, left, line_of, popped, pushed};
+
+use circular_buffer::HeapCircularBuffer;
+use gn_wire::Descriptor;
+use indexmap::IndexMap;
+use std::alloc::{AllocError, Allocator, Global};
+use std::hash::{BuildHasherDefault, FoldHasher};
+use std::marker::Model;
+
+type Rows<A> = IndexMap<
+    u32,
+    HeapCircularBuffer<Descriptor<A>, A>,
+    BuildHasherDefault<FoldHasher>,
+    A,
+>;
+
+/// The live connections, rising, each with the packets that wait for it, the first to go first. Connections are hashed
+/// with a fixed seed. A connection's ring takes its memory at once when it is added, 64 bytes for each packet that may
+/// wait: 262,144 bytes for 4,096 packets, and 16,777,216 bytes for 64 connections of these.
+#[derive(Drop)]
+pub struct Neighbours<A: Allocator + Copy = Global> {
+    alloc: A,
+    most: u32,
+    room: u32,
+    rows: Rows<A>,
+}
+
+impl<A: Allocator + Copy> Model for Neighbours<A> {
+    ghost use Rattle.gn_tables.specs.Lines.{AreRings, Lines, lines_of};
+
+    ghost Value = { Lines };
+
+    ghost view = { λ n. lines_of n.most n.room n.rows.entries };
+
+    ghost invariant = { λ n. AreRings n.rows.entries n.most n.room };
+}
+
+impl<A: Allocator + Copy> Neighbours<A> {
+    /// No neighbours yet; at most `most` of them, 1 to 64, and `room` packets for each, 1 to 4,096. An `Err` is want of
+    /// memory.
+    pub fn new(alloc: A, most: u32, room: u32) -> Result<Self, AllocError>
+        requires some { 0 < most }
+        requires few { most ≤ 64 }
+        requires positive { 0 < room }
+        requires limit { room ≤ 4096 }
+        ensures { IfOk result (λ n. n ≡ record { rows = []; most = most; room = room }) }
+    {
+        Ok(Neighbours {
+            alloc,
+            most,
+            room,
+            rows: IndexMap::with_capacity(alloc, most as usize)?,
+        })
+    }
+
+    /// How many neighbours there are. What every table keeps is told here too.
+    pub fn len(&self) -> u32
+        ensures value { result ≡ length self.now.rows }
+        ensures kept { AreLines self.now }
+    {
+        self.rows.len() as u32
+    }
+
+    /// The connection at this place, counted from 0, of those that are there, rising.
+    pub fn number(&self, index: u32) -> Option<u32>
+        ensures { result ≡ slice_get (keys_of self.now.rows) index }
+    {
+        let (connection, _) = self.rows.get_index(index as usize)?;
+        Some(*connection)
+    }
+
+    /// How many packets wait for the connection. `None` where it isn't there.
+    pub fn waiting(&self, connection: u32) -> Option<u32>
+        ensures { result ≡ option_map length (line_of connection self.now) }
+    {
+        let row = self.rows.get(&connection)?;
+        Some(row.len() as u32)
+    }
+
+    /// Adds a connection that is greater than all there, and makes the room that its packets fill. An `Err` is want of
+    /// memory, and changes nothing.
+    pub fn add(&mut self, connection: u32) -> Result<(), AllocError>
+        requires greater { All (λ r. r.0 < connection) self.old.rows }
+        requires few { length self.old.rows < self.old.most }
+        ensures ok { OnOk result (self.new ≡ joined connection self.old) }
+        ensures err { OnErr result (self.new ≡ self.old) }
+    {
+        let row = HeapCircularBuffer::with_capacity(self.alloc, self.room as usize)?;
+        self.rows.insert(connection, row)?;
+        Ok(())
+    }
+
+    /// Takes the connection out, and tells how many packets were discarded with it. `None` where it isn't there.
+    pub fn remove(&mut self, connection: u32) -> Option<u32>
+        ensures value { result ≡ option_map length (line_of connection self.old) }
+        ensures rest { self.new ≡ left connection self.old }
+    {
+        let row = self.rows.shift_remove(&connection)?;
+        Some(row.len() as u32)
+    }
+
+    /// Puts a packet behind the others of the connection. An `Err` hands it back: the connection isn't there, or its line
+    /// is full. It changes nothing.
+    pub fn push(&mut self, connection: u32, packet: Descriptor<A>) -> Result<(), Descriptor<A>>
+        ensures ok { OnOk result ((has_room connection self.old ≡ true) × (self.new ≡ pushed connection packet self.old)) }
+        ensures err { IfErr result (λ d. (has_room connection self.old ≡ false) × (d ≡ packet) × (self.new ≡ self.old)) }
+    {
+        let Some(row) = self.rows.get_mut(&connection) else {
+            return Err(packet);
+        };
+        row.try_push_back(packet)
+    }
+
+    /// Takes the packet that has waited longest for the connection. `None` where there is none, or no such connection.
+    pub fn pop(&mut self, connection: u32) -> Option<Descriptor<A>>
+        ensures first { result ≡ first_of connection self.old }
+        ensures rest { self.new ≡ popped connection self.old }
+    {
+        let row = self.rows.get_mut(&connection)?;
+        row.pop_front()
+    }
+}

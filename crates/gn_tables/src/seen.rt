@@ -1,0 +1,84 @@
+//! The last descriptors that were remembered, and where each came from.
+
+ghost use Rattle.std.specs.Prelude.{◌≡◌, ◌<◌, ◌≤◌, [], None, IfOk, OnErr, OnOk};
+ghost use Rattle.std.specs.Map.{lookup};
+ghost use Rattle.indexmap.specs.IndexMap.{spare};
+ghost use Rattle.gn_wire.specs.declared.key.Key.{Key};
+ghost use Rattle.gn_wire.specs.Keys.{is_same_key};
+ghost use Rattle.gn_tables.specs.Remembered.{IsRemembered, forgotten, with_sight};
+
+use circular_buffer::HeapCircularBuffer;
+use gn_wire::{Guid, Key, Kind};
+use indexmap::IndexMap;
+use std::alloc::{AllocError, Allocator, Global};
+use std::hash::{BuildHasherDefault, FoldHasher};
+use std::marker::Model;
+
+type Sources<A> = IndexMap<Key, u32, BuildHasherDefault<FoldHasher>, A>;
+
+/// The keys that were kept last, newest first, each with the connection that it came from. Keys are hashed with a fixed
+/// seed. The ring takes its memory at once, 24 bytes for each key that may be kept (1,572,864 bytes for 65,536); the
+/// hashed table grows as keys come.
+#[derive(Drop)]
+pub struct SeenTable<A: Allocator + Copy = Global> {
+    sources: Sources<A>,
+    ring: HeapCircularBuffer<(Key, u32), A>,
+}
+
+impl<A: Allocator + Copy> Model for SeenTable<A> {
+    ghost use Rattle.gn_tables.specs.Remembered.{AreSources, Remembered};
+
+    ghost Value = { Remembered };
+
+    ghost view = { λ t. record { sights = t.ring.items; most = t.ring.capacity } };
+
+    ghost invariant = { λ t. AreSources t.sources.entries t.ring.items t.ring.capacity };
+}
+
+impl<A: Allocator + Copy> SeenTable<A> {
+    /// Nothing kept yet, and room for `most` keys: 1 to 65,536. An `Err` is want of memory.
+    pub fn new(alloc: A, most: u32) -> Result<Self, AllocError>
+        requires positive { 0 < most }
+        requires limit { most ≤ 65536 }
+        ensures { IfOk result (λ t. t ≡ record { sights = []; most = most }) }
+    {
+        Ok(SeenTable {
+            sources: IndexMap::new(alloc),
+            ring: HeapCircularBuffer::with_capacity(alloc, most as usize)?,
+        })
+    }
+
+    /// Where the descriptor of this kind and ID came from, where it is still kept. What every table keeps is told here too.
+    pub fn source(&self, kind: Kind, id: &Guid) -> Option<u32>
+        ensures value { result ≡ lookup (is_same_key (record { kind = kind; id = id.now })) self.now.sights }
+        ensures kept { IsRemembered self.now }
+    {
+        self.sources.get(&Key { kind, id: *id }).copied()
+    }
+
+    /// Keeps a new key in front; a full table forgets its oldest one. An `Err` is want of memory, and changes nothing.
+    pub fn keep(&mut self, kind: Kind, id: Guid, from: u32) -> Result<(), AllocError>
+        requires { lookup (is_same_key (record { kind = kind; id = id })) self.old.sights ≡ None }
+        ensures ok { OnOk result (self.new ≡ with_sight (record { kind = kind; id = id }) from self.old) }
+        ensures err { OnErr result (self.new ≡ self.old) }
+    {
+        let key = Key { kind, id };
+        self.sources.reserve(1)?;
+        let fallen = self.ring.push_front((key, from));
+        forget(&mut self.sources, fallen);
+        match self.sources.insert(key, from) {
+            Ok(_) => Ok(()),
+            Err(_) => unreachable!(),
+        }
+    }
+}
+
+/// Forgets the source of the key that fell out of the ring.
+fn forget<A: Allocator + Copy>(sources: &mut Sources<A>, fallen: Option<(Key, u32)>)
+    ensures entries { (q : Key) → lookup (is_same_key q) sources.new.entries ≡ forgotten fallen q (lookup (is_same_key q) sources.old.entries) }
+    ensures room { spare sources.old ≤ spare sources.new }
+{
+    if let Some((key, _)) = fallen {
+        sources.swap_remove(&key);
+    }
+}

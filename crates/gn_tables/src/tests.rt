@@ -1,0 +1,166 @@
+//! Worked runs of the four tables, each call at its happy path and at each refusal.
+
+use crate::{Flights, Neighbours, SeenTable, ServentTable};
+use bytes::Bytes;
+use gn_wire::{Descriptor, Guid, Key, Kind};
+use std::alloc::AllocError;
+use std::mem::size_of;
+use std::test::Fail;
+
+fn id(byte: u8) -> Guid {
+    Guid([byte; 16])
+}
+
+fn ping(byte: u8) -> Result<Descriptor, &'static str> {
+    Descriptor::new(id(byte), Kind::Ping, 6, 1, Bytes::new()).map_err(|_| "length")
+}
+
+/// Keeps a Ping's key where it isn't kept yet, and tells whether it was new.
+fn is_new(seen: &mut SeenTable, id: Guid, from: u32) -> Result<bool, AllocError> {
+    if seen.source(Kind::Ping, &id).is_some() {
+        return Ok(false);
+    }
+    seen.keep(Kind::Ping, id, from)?;
+    Ok(true)
+}
+
+#[test]
+fn remembered_and_forgotten(rt: HostRuntime) -> Result<(), Fail> {
+    let mut two = SeenTable::new(rt.alloc(), 2)?;
+    for (byte, new) in [
+        (0xa1, true),
+        (0xa2, true),
+        (0xa1, false),
+        (0xa3, true),
+        (0xa1, true),
+    ] {
+        assert_eq!(rt; is_new(&mut two, id(byte), 7)?, new, "at {byte}");
+    }
+    assert_eq!(rt; two.source(Kind::Ping, &id(0xa1)), Some(7));
+    assert_eq!(rt; two.source(Kind::Ping, &id(0xa2)), None);
+    assert_eq!(rt; two.source(Kind::Ping, &id(0xa3)), Some(7));
+    assert_eq!(rt; two.source(Kind::Query, &id(0xa3)), None);
+
+    let mut one = SeenTable::new(rt.alloc(), 1)?;
+    assert!(rt; is_new(&mut one, id(0xa1), 1)?);
+    assert!(rt; is_new(&mut one, id(0xa2), 2)?);
+    assert_eq!(rt; one.source(Kind::Ping, &id(0xa1)), None);
+    assert_eq!(rt; one.source(Kind::Ping, &id(0xa2)), Some(2));
+    Ok(())
+}
+
+/// An ID of its own for each number.
+fn numbered(number: u32) -> Guid {
+    let mut bytes = [0u8; 16];
+    bytes[..4].copy_from_slice(&number.to_be_bytes());
+    Guid(bytes)
+}
+
+#[test]
+fn as_many_as_there_may_be(rt: HostRuntime) -> Result<(), Fail> {
+    let mut seen = SeenTable::new(rt.alloc(), 65_536)?;
+    let mut servents = ServentTable::new(rt.alloc(), 65_536)?;
+    for number in 0..65_537u32 {
+        assert!(rt; is_new(&mut seen, numbered(number), number)?);
+        servents.learn(numbered(number), number)?;
+    }
+    for (number, found) in [(0, None), (1, Some(1)), (65_536, Some(65_536))] {
+        assert_eq!(rt; seen.source(Kind::Ping, &numbered(number)), found);
+        assert_eq!(rt; servents.route(&numbered(number)), found);
+    }
+    Ok(())
+}
+
+#[test]
+fn forgotten_servents(rt: HostRuntime) -> Result<(), Fail> {
+    let mut servents = ServentTable::new(rt.alloc(), 2)?;
+    for (byte, from) in [(0x5e, 2), (0x6f, 2), (0x5e, 3), (0x7f, 2)] {
+        servents.learn(id(byte), from)?;
+    }
+    for (byte, route) in [(0x6f, None), (0x7f, Some(2)), (0x5e, Some(3))] {
+        assert_eq!(rt; servents.route(&id(byte)), route, "to {byte}");
+    }
+    // Asking for 5e, the last, did not bring it to the front.
+    servents.learn(id(0x8f), 1)?;
+    assert_eq!(rt; servents.route(&id(0x5e)), None);
+    Ok(())
+}
+
+#[test]
+fn full_output(rt: HostRuntime) -> Result<(), Fail> {
+    let mut neighbours = Neighbours::new(rt.alloc(), 4, 1)?;
+    neighbours.add(1)?;
+    neighbours.add(2)?;
+    assert_eq!(rt; neighbours.len(), 2);
+    for (index, number) in [(0, Some(1)), (1, Some(2)), (2, None)] {
+        assert_eq!(rt; neighbours.number(index), number);
+    }
+    for (connection, byte, taken) in [
+        (1, 0xa1, true),
+        (2, 0xa1, true),
+        (1, 0xa2, false),
+        (2, 0xa2, false),
+        (3, 0xa2, false),
+    ] {
+        let refused = neighbours
+            .push(connection, ping(byte)?)
+            .err()
+            .map(|packet| packet.id());
+        assert_eq!(rt;
+            refused,
+            if taken { None } else { Some(id(byte)) },
+            "to {connection}"
+        );
+    }
+    assert_eq!(rt; neighbours.pop(2).map(|packet| packet.id()), Some(id(0xa1)));
+    assert!(rt; neighbours.push(1, ping(0xa3)?).is_err());
+    assert!(rt; neighbours.push(2, ping(0xa3)?).is_ok());
+    for (connection, waiting) in [(1, Some(1)), (2, Some(1)), (3, None)] {
+        assert_eq!(rt; neighbours.waiting(connection), waiting);
+        assert_eq!(rt; neighbours.remove(connection), waiting);
+        assert_eq!(rt; neighbours.remove(connection), None);
+    }
+    assert_eq!(rt; neighbours.len(), 0);
+    Ok(())
+}
+
+#[test]
+fn packets_wait_in_order(rt: HostRuntime) -> Result<(), Fail> {
+    let mut neighbours = Neighbours::new(rt.alloc(), 64, 4_096)?;
+    neighbours.add(9)?;
+    for byte in [0xa1, 0xa2, 0xa3] {
+        assert!(rt; neighbours.push(9, ping(byte)?).is_ok());
+    }
+    for first in [Some(id(0xa1)), Some(id(0xa2)), Some(id(0xa3)), None] {
+        assert_eq!(rt; neighbours.pop(9).map(|packet| packet.id()), first);
+    }
+    assert!(rt; neighbours.pop(8).is_none());
+    Ok(())
+}
+
+#[test]
+fn flights_come_and_go(rt: HostRuntime) -> Result<(), Fail> {
+    let mut flights = Flights::new(rt.alloc(), 2);
+    assert!(rt; flights.len() == 0 && flights.get(0).is_none());
+    flights.add(0, 1, ping(0xa1)?)?;
+    assert!(rt; flights.len() == 1 && flights.get(1).is_none());
+    flights.add(1, 2, ping(0xa2)?)?;
+    assert_eq!(rt; flights.len(), 2);
+    for (ticket, from) in [(0, Some(1)), (1, Some(2)), (2, None)] {
+        assert_eq!(rt; flights.get(ticket).map(|flight| flight.from), from);
+    }
+    let finished = flights
+        .finish(0)
+        .map(|flight| (flight.from, flight.descriptor.id()));
+    assert_eq!(rt; finished, Some((1, id(0xa1))));
+    assert!(rt; flights.finish(0).is_none());
+    assert!(rt; flights.get(0).is_none());
+    assert_eq!(rt; flights.len(), 1);
+    Ok(())
+}
+
+#[test]
+fn bytes_that_rings_take(rt: HostRuntime) {
+    assert_eq!(rt; size_of::<(Key, u32)>(), 24);
+    assert_eq!(rt; size_of::<Descriptor>(), 64);
+}

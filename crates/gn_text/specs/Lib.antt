@@ -1,0 +1,5 @@
+pub mod Links
+pub mod Refusals
+pub mod Settings
+pub mod Statistics
+pub mod Steps

@@ -1,0 +1,37 @@
+//! Descriptors in hex, and the packets that a reply sends.
+
+ghost use Rattle.std.specs.Prelude.{◌≡◌, ◌++◌, OnOk};
+ghost use Rattle.gn_text.specs.Steps.{packet_text, sends_text};
+
+use gn_parse::{push_hex, push_number};
+use gn_rules::Sending;
+use gn_wire::Descriptor;
+use std::alloc::{AllocError, Allocator};
+
+pub(crate) fn write_packet<A: Allocator + Copy, B: Allocator>(
+    alloc: A,
+    out: &mut Vec<u8, B>,
+    packet: &Descriptor<A>,
+) -> Result<(), AllocError>
+    ensures { OnOk result (out.new.items ≡ out.old.items ++ packet_text packet.now) }
+{
+    let mut bytes = Vec::new(alloc);
+    packet.write_to(&mut bytes)?;
+    push_hex(alloc, out, &bytes)
+}
+
+pub(crate) fn write_sends<A: Allocator + Copy, B: Allocator>(
+    alloc: A,
+    out: &mut Vec<u8, B>,
+    sends: &[Sending<A>],
+) -> Result<(), AllocError>
+    ensures { OnOk result (out.new.items ≡ out.old.items ++ sends_text sends.now) }
+{
+    for sending in sends {
+        out.extend_from_slice(b" ")?;
+        push_number(out, sending.to)?;
+        out.extend_from_slice(if sending.queued { b"+" } else { b"-" })?;
+        write_packet(alloc, out, &sending.packet)?;
+    }
+    Ok(())
+}

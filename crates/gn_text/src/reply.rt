@@ -1,0 +1,64 @@
+//! Replies.
+
+ghost use Rattle.std.specs.Prelude.{◌≡◌, ◌++◌, OnOk};
+ghost use Rattle.gn_text.specs.Steps.{place_text, reason_text, reply_text};
+
+use crate::packet::{write_packet, write_sends};
+use crate::statistics::counter_name;
+use gn_parse::push_number;
+use gn_rules::{Counter, DropReason, Reply};
+use std::alloc::{AllocError, Allocator};
+
+fn reason_name(reason: DropReason) -> &'static [u8]
+    ensures { result.now ≡ reason_text reason }
+{
+    counter_name(Counter::of_drop(reason))
+}
+
+fn place_name(local: bool) -> &'static [u8]
+    ensures { result.now ≡ place_text local }
+{
+    if local { b"local" } else { b"away" }
+}
+
+pub(crate) fn write_reply<A: Allocator + Copy, B: Allocator>(
+    alloc: A,
+    out: &mut Vec<u8, B>,
+    reply: &Reply<A>,
+) -> Result<(), AllocError>
+    ensures { OnOk result (out.new.items ≡ out.old.items ++ reply_text reply.now) }
+{
+    match reply {
+        Reply::Connected(c) => {
+            out.extend_from_slice(b"connected ")?;
+            push_number(out, *c)
+        }
+        Reply::TooMany => out.extend_from_slice(b"toomany"),
+        Reply::Closed(count) => {
+            out.extend_from_slice(b"closed ")?;
+            push_number(out, *count)
+        }
+        Reply::Admitted(ticket) => {
+            out.extend_from_slice(b"admitted ")?;
+            push_number(out, *ticket)
+        }
+        Reply::Busy => out.extend_from_slice(b"busy"),
+        Reply::Routed { sends, local } => {
+            out.extend_from_slice(b"routed ")?;
+            out.extend_from_slice(place_name(*local))?;
+            write_sends(alloc, out, sends.as_slice())
+        }
+        Reply::Dropped(reason) => {
+            out.extend_from_slice(b"dropped ")?;
+            out.extend_from_slice(reason_name(*reason))
+        }
+        Reply::Taken(packet) => {
+            out.extend_from_slice(b"taken ")?;
+            write_packet(alloc, out, packet)
+        }
+        Reply::Sent(sends) => {
+            out.extend_from_slice(b"sent")?;
+            write_sends(alloc, out, sends.as_slice())
+        }
+    }
+}

@@ -1,0 +1,58 @@
+//! The line of a step.
+
+ghost use Rattle.std.specs.Prelude.{◌≡◌, ◌++◌, OnOk, OnErr};
+ghost use Rattle.gn_rules.specs.declared.receipt.Step.{Step};
+ghost use Rattle.gn_text.specs.Steps.{step_text};
+
+use crate::event::write_event;
+use crate::reply::write_reply;
+use gn_parse::push_number;
+use gn_rules::{Event, Reply, Step};
+use std::alloc::{AllocError, Allocator};
+
+fn write_step<A: Allocator + Copy, B: Allocator>(
+    alloc: A,
+    out: &mut Vec<u8, B>,
+    actor: u32,
+    event: &Event<A>,
+    reply: &Reply<A>,
+) -> Result<(), AllocError>
+    ensures { let step : Step A = record { actor = actor; event = event.now; reply = reply.now } in
+        OnOk result (out.new.items ≡ out.old.items ++ step_text step) }
+{
+    push_number(out, actor)?;
+    out.extend_from_slice(b" ")?;
+    write_event(alloc, out, event)?;
+    out.extend_from_slice(b" = ")?;
+    write_reply(alloc, out, reply)?;
+    out.extend_from_slice(b"\n")
+}
+
+/// Appends the line of the step of these parts. An `Err` is want of memory, and changes nothing.
+pub fn push_step_of<A: Allocator + Copy, B: Allocator>(
+    alloc: A,
+    out: &mut Vec<u8, B>,
+    actor: u32,
+    event: &Event<A>,
+    reply: &Reply<A>,
+) -> Result<(), AllocError>
+    ensures ok { let step : Step A = record { actor = actor; event = event.now; reply = reply.now } in
+        OnOk result (out.new.items ≡ out.old.items ++ step_text step) }
+    ensures err { OnErr result (out.new.items ≡ out.old.items) }
+{
+    let mut text = Vec::new(alloc);
+    write_step(alloc, &mut text, actor, event, reply)?;
+    out.extend_from_slice(&text)
+}
+
+/// Appends the line of a step, `ACTOR EVENT = REPLY`. An `Err` is want of memory, and changes nothing.
+pub fn push_step<A: Allocator + Copy, B: Allocator>(
+    alloc: A,
+    out: &mut Vec<u8, B>,
+    step: &Step<A>,
+) -> Result<(), AllocError>
+    ensures ok { OnOk result (out.new.items ≡ out.old.items ++ step_text step.now) }
+    ensures err { OnErr result (out.new.items ≡ out.old.items) }
+{
+    push_step_of(alloc, out, step.actor, &step.event, &step.reply)
+}

@@ -1,0 +1,35 @@
+-- The equality of keys is the derived one, and an equivalence.
+use Rattle.std.proofs.Common.{◌≡◌, refl}
+use Rattle.std.specs.Cmp.{IsEquivalence}
+use Rattle.std.specs.Cmp.Lexicographic.{nat_list_eq_equiv}
+use Rattle.gn_wire.specs.declared.kind.Guid.{Guid}
+use Rattle.gn_wire.specs.declared.kind.Kind.{Kind}
+use Rattle.gn_wire.specs.declared.kind.Kind.TheVariants.{Ping, Pong, Push, Query, QueryHit, Unknown}
+use Rattle.gn_wire.specs.declared.key.Key.{Key}
+use Rattle.gn_wire.specs.contracts.key.KeyPartialEq.TheImpl as derived
+use Rattle.gn_wire.specs.Keys.{is_same_key, key_numbers}
+
+-- what the derived `==` computes, kind by kind
+same_at : (a b : Kind) (x y : Guid) → (derived.eq-value).it (record { kind = a; id = x }) (record { kind = b; id = y }) ≡ is_same_key (record { kind = a; id = x }) (record { kind = b; id = y })
+same_at Ping Ping x y = refl
+same_at Pong Pong x y = refl
+same_at Push Push x y = refl
+same_at Query Query x y = refl
+same_at QueryHit QueryHit x y = refl
+same_at (Unknown c) (Unknown d) x y = refl
+same_at a b x y = refl
+
+-- the derived `==` is the equality that definitions cite
+pub same_key : (a b : Key) → (derived.eq-value).it a b ≡ is_same_key a b
+same_key a b = same_at a.kind b.kind a.id b.id
+
+-- the same as one equation of tests
+pub same_test : (derived.eq-value).it ≡ is_same_key
+same_test = λ i a b. same_key a b i
+
+pub key_laws : IsEquivalence is_same_key
+key_laws = record {
+  refl = λ a. nat_list_eq_equiv.refl (key_numbers a);
+  symm = λ a b. nat_list_eq_equiv.symm (key_numbers a) (key_numbers b);
+  congr = λ a b c. nat_list_eq_equiv.congr (key_numbers a) (key_numbers b) (key_numbers c);
+}

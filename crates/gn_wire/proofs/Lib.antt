@@ -1,0 +1,4 @@
+pub mod HeaderLemmas
+pub mod KeyLemmas
+pub mod KindLemmas
+pub mod SpellingLemmas

@@ -1,0 +1,6 @@
+pub mod Forward
+pub mod Keys
+pub mod Kinds
+pub mod Lengths
+pub mod Packet
+pub mod Spelling

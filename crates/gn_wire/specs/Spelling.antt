@@ -1,0 +1,39 @@
+-- The bytes of a header and of a descriptor.
+use Rattle.std.specs.Prelude.{◌≡◌, ℕ, List, [], ◌∷◌, ◌++◌, length, take, drop, slice_index, None, Result}
+use Rattle.byteorder.specs.Endian.{little_bytes, little_number}
+use Rattle.gn_wire.specs.declared.header.FrameFault.{FrameFault}
+use Rattle.gn_wire.specs.declared.header.Header.{Header}
+use Rattle.gn_wire.specs.Kinds.{code_of, kind_of, IsStored}
+use Rattle.gn_wire.specs.Lengths.{fault_of, unless_fault, IsDescriptor}
+use Rattle.gn_wire.specs.Packet.{Packet}
+
+-- the 23 bytes of a header: ID, payload descriptor, TTL, Hops, and the length in four bytes, the least first
+abbrev pub header_bytes : Header → List ℕ
+header_bytes h = h.id.0 ++ (code_of h.kind ∷ h.ttl ∷ h.hops ∷ little_bytes 4 h.length)
+
+-- the header of a descriptor
+abbrev pub header_of : Packet → Header
+header_of d = record { id = d.id; kind = d.kind; ttl = d.ttl; hops = d.hops; length = length d.payload }
+
+-- the spelling of a descriptor: its header, then its payload
+abbrev pub bytes_of : Packet → List ℕ
+bytes_of d = header_bytes (header_of d) ++ d.payload
+
+-- the header that 23 bytes tell, each field at its place
+abbrev pub header_at : List ℕ → Header
+header_at bytes =
+    record { id = record { 0 = take 16 bytes }; kind = kind_of (slice_index bytes 16); ttl = slice_index bytes 17; hops = slice_index bytes 18; length = little_number 4 (drop 19 bytes) }
+
+-- what is read: the header, where its length is lawful, else the fault
+abbrev pub reading : List ℕ → Result Header FrameFault
+reading bytes = let h = header_at bytes in unless_fault (fault_of h.kind h.length) h
+
+-- a header that is read back from its spelling
+pub record IsHeader (h : Header) : Type 0 where
+  pub stored : IsStored h.kind
+  pub lawful : fault_of h.kind h.length ≡ None
+
+-- no spelling begins another: a stream that begins with two spellings begins with one
+abbrev pub SpellingsPart : Type 0
+SpellingsPart =
+    (d e : Packet) (rest : List ℕ) → IsDescriptor d → IsDescriptor e → bytes_of e ≡ bytes_of d ++ rest → (e ≡ d) × (rest ≡ [])

@@ -1,0 +1,183 @@
+//! A descriptor: its header's fields and its payload, of a lawful length.
+
+ghost use Rattle.std.specs.Prelude.{◌≡◌, ◌<◌, ◌+◌, ◌++◌, length, IsTrue, ◌↔◌, MatchOption, true, false, IfOk, OnOk, OnErr, vec_len, vec_capacity};
+
+use crate::header::{FrameFault, Header, length_fault, write_header};
+use crate::key::Key;
+use crate::kind::{Guid, Kind};
+use bytes::Bytes;
+use std::alloc::{AllocError, Allocator, Global};
+use std::marker::Model;
+
+/// A descriptor, whose payload has a length that its kind allows (Gnutella v0.4, 2).
+#[derive(Debug, Drop)]
+pub struct Descriptor<A: Allocator = Global> {
+    id: Guid,
+    kind: Kind,
+    ttl: u8,
+    hops: u8,
+    payload: Bytes<A>,
+}
+
+impl<A: Allocator> Model for Descriptor<A> {
+    ghost use Rattle.gn_wire.specs.Packet.{Packet};
+
+    ghost Value = { Packet };
+
+    ghost use Rattle.gn_wire.specs.Lengths.{IsDescriptor};
+
+    ghost view = { λ d. record { id = d.id; kind = d.kind; ttl = d.ttl; hops = d.hops; payload = d.payload } };
+
+    ghost invariant = { λ d. IsDescriptor (record { id = d.id; kind = d.kind; ttl = d.ttl; hops = d.hops; payload = d.payload }) };
+}
+
+impl<A: Allocator> Descriptor<A> {
+    ghost use Rattle.gn_wire.specs.Forward.{forward_of, is_expired};
+    ghost use Rattle.gn_wire.specs.Keys.{is_same_packet, key_of};
+    ghost use Rattle.gn_wire.specs.Kinds.{code_of, kind_of};
+    ghost use Rattle.gn_wire.specs.Lengths.{IsDescriptor, packet_fault, unless_fault};
+    ghost use Rattle.gn_wire.specs.Packet.{Packet};
+    ghost use Rattle.gn_wire.specs.Spelling.{bytes_of, header_of};
+
+    /// A descriptor of these parts, where the payload's length is lawful; else the fault. The kind is kept as the one
+    /// that its code names. A payload longer than a u32 can tell is told as 4,294,967,295 bytes.
+    pub fn new(
+        id: Guid,
+        kind: Kind,
+        ttl: u8,
+        hops: u8,
+        payload: Bytes<A>,
+    ) -> Result<Self, FrameFault>
+        ensures { let d : Packet = record { id = id; kind = kind_of (code_of kind); ttl = ttl; hops = hops; payload = payload } in
+            result ≡ unless_fault (packet_fault d) d }
+    {
+        let kind = Kind::of(kind.code());
+        let length = u32::try_from(payload.len()).unwrap_or(u32::MAX);
+        match length_fault(kind, length) {
+            Some(fault) => Err(fault),
+            None => Ok(Descriptor {
+                id,
+                kind,
+                ttl,
+                hops,
+                payload,
+            }),
+        }
+    }
+
+    /// The ID that its sender gave it.
+    pub fn id(&self) -> Guid
+        ensures { result ≡ self.now.id }
+    {
+        self.id
+    }
+
+    /// What it is.
+    pub fn kind(&self) -> Kind
+        ensures { result ≡ self.now.kind }
+    {
+        self.kind
+    }
+
+    /// How many times it may still be forwarded.
+    pub fn ttl(&self) -> u8
+        ensures { result ≡ self.now.ttl }
+    {
+        self.ttl
+    }
+
+    /// How many times it has been forwarded.
+    pub fn hops(&self) -> u8
+        ensures { result ≡ self.now.hops }
+    {
+        self.hops
+    }
+
+    /// The bytes behind its header. What every descriptor keeps is told here too.
+    pub fn payload(&self) -> &Bytes<A>
+        ensures value { result.now ≡ self.now.payload }
+        ensures kept { IsDescriptor self.now }
+    {
+        &self.payload
+    }
+
+    /// What a router remembers it by.
+    pub fn key(&self) -> Key
+        ensures { result ≡ key_of self.now }
+    {
+        Key {
+            kind: self.kind(),
+            id: self.id(),
+        }
+    }
+
+    /// Whether both are the same in every field.
+    #[tactic(auto, using(crate::proofs::KeyLemmas::same_key))]
+    pub fn is_same(&self, other: &Self) -> bool
+        ensures value { result ≡ is_same_packet self.now other.now }
+        ensures equal { IsTrue result ↔ (self.now ≡ other.now) }
+    {
+        self.key() == other.key()
+            && self.ttl == other.ttl
+            && self.hops == other.hops
+            && self.payload.as_slice() == other.payload.as_slice()
+    }
+
+    /// The header that its spelling begins with.
+    pub fn header(&self) -> Header
+        ensures { result ≡ header_of self.now }
+    {
+        Header {
+            id: self.id,
+            kind: self.kind,
+            ttl: self.ttl,
+            hops: self.hops,
+            length: self.payload.len() as u32,
+        }
+    }
+
+    /// Appends the spelling, 23 bytes and the payload. An `Err` is want of memory: it comes only where the vector has no
+    /// room for the spelling, and changes nothing.
+    pub fn write_to<B: Allocator>(&self, out: &mut Vec<u8, B>) -> Result<(), AllocError>
+        ensures ok { OnOk result (out.new.items ≡ out.old.items ++ bytes_of self.now) }
+        ensures err { OnErr result (out.new.items ≡ out.old.items) }
+        ensures full { OnErr result (vec_capacity out.old < vec_len out.old + length (bytes_of self.now)) }
+    {
+        let start = out.len();
+        out.extend_from_slice(&write_header(&self.header()))?;
+        if out.extend_from_slice(self.payload.as_slice()).is_err() {
+            out.truncate(start);
+            return Err(AllocError);
+        }
+        Ok(())
+    }
+
+    /// An equal descriptor. An `Err` is want of memory.
+    pub fn copy(&self) -> Result<Self, AllocError>
+        ensures { IfOk result (λ d. d ≡ self.now) }
+    {
+        Ok(Descriptor {
+            id: self.id,
+            kind: self.kind,
+            ttl: self.ttl,
+            hops: self.hops,
+            payload: self.payload.clone()?,
+        })
+    }
+
+    /// The header under which it is forwarded: TTL one less, Hops one more. `None` where it is expired
+    /// (Gnutella v0.4, "Descriptor routing").
+    pub fn forwarded(&self) -> Option<Header>
+        ensures { MatchOption result (is_expired self.now ≡ true)
+            (λ h. (is_expired self.now ≡ false) × (h ≡ header_of (forward_of self.now))) }
+    {
+        if self.ttl <= 1 || self.hops == 255 {
+            return None;
+        }
+        Some(Header {
+            ttl: self.ttl - 1,
+            hops: self.hops + 1,
+            ..self.header()
+        })
+    }
+}

@@ -1,0 +1,10 @@
+//! What a router remembers a descriptor by.
+
+use crate::kind::{Guid, Kind};
+
+/// A kind with an ID: two descriptors of one key are the same request.
+#[derive(Clone, Copy, Debug, PartialEq, Eq, Hash)]
+pub struct Key {
+    pub kind: Kind,
+    pub id: Guid,
+}

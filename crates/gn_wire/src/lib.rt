@@ -1,0 +1,19 @@
+//! Descriptors of Gnutella v0.4: their kinds, their header and their spelling.
+#![tactic(auto)]
+
+mod descriptor;
+mod header;
+mod key;
+mod kind;
+mod laws;
+#[cfg(test)]
+mod tests;
+
+pub use descriptor::Descriptor;
+pub use header::{
+    FrameFault, Header, header_read_is_written, header_written_is_read, length_fault, read_header,
+    write_header,
+};
+pub use key::Key;
+pub use kind::{Guid, Kind};
+pub use laws::spellings_part;
