@@ -2,6 +2,7 @@ pub mod EntryLemmas
 pub mod HitGrammar
 pub mod HitSpelled
 pub mod Numbers
+pub mod PongLemmas
 pub mod Readers
 pub mod ResultGrammar
 pub mod ResultLemmas

@@ -3,6 +3,7 @@ use Rattle.std.specs.Prelude.{◌≡◌, ℕ, zero, suc, ◌==◌, nat_lt, if◌
 use Rattle.gn_payload.specs.Fields.{QueryFields, ResultFields, HitFields}
 use Rattle.gn_payload.specs.Places.{number_at, bytes_at, hit_servent, hit_middle}
 
+-- the next step of a reading, where there is a value
 infixl 10 ◌>>=◌
 abbrev pub ◌>>=◌ : {A B : Type 0} → Option A → (A → Option B) → Option B
 o >>= f = option_and_then f o

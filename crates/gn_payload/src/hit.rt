@@ -60,7 +60,7 @@ impl<'a> QueryHit<'a> {
         self.ip
     }
 
-    /// The servent's speed, in kilobits a second.
+    /// The servent's speed.
     pub fn speed(&self) -> u32
         ensures { result ≡ self.now.speed }
     {

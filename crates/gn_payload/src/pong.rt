@@ -6,7 +6,7 @@ ghost use Rattle.gn_payload.specs.Grammar.{IsPong};
 ghost use Rattle.gn_payload.specs.Spelling.{pong_bytes};
 
 use crate::parts::first_bytes;
-use crate::put::{put, put_u16, put_u32};
+use crate::put::{little_u16, little_u32, put};
 use byteorder::{ByteOrder, LittleEndian};
 use std::alloc::{AllocError, Allocator};
 
@@ -38,6 +38,21 @@ pub fn read_pong(bytes: &[u8]) -> Option<Pong>
     })
 }
 
+/// The 14 bytes of a Pong. It takes no memory.
+pub fn spell_pong(pong: &Pong) -> [u8; 14]
+    ensures bytes { result ≡ pong_bytes pong.now.port pong.now.ip pong.now.files pong.now.kbytes }
+    ensures read { IsPong (pong_bytes pong.now.port pong.now.ip pong.now.files pong.now.kbytes) pong.now }
+{
+    let port = little_u16(pong.port);
+    let ip = pong.ip;
+    let files = little_u32(pong.files);
+    let kbytes = little_u32(pong.kbytes);
+    [
+        port[0], port[1], ip[0], ip[1], ip[2], ip[3], files[0], files[1], files[2], files[3],
+        kbytes[0], kbytes[1], kbytes[2], kbytes[3],
+    ]
+}
+
 /// Appends the 14 bytes of a Pong. An `Err` is want of memory: it comes only where the vector has no room for them, and
 /// changes nothing.
 pub fn write_pong<B: Allocator>(pong: &Pong, out: &mut Vec<u8, B>) -> Result<(), AllocError>
@@ -47,9 +62,6 @@ pub fn write_pong<B: Allocator>(pong: &Pong, out: &mut Vec<u8, B>) -> Result<(),
     ensures full { OnErr result (vec_capacity out.old < vec_len out.old + 14) }
 {
     out.reserve(14)?;
-    put_u16(out, pong.port);
-    put(out, &pong.ip);
-    put_u32(out, pong.files);
-    put_u32(out, pong.kbytes);
+    put(out, &spell_pong(pong));
     Ok(())
 }

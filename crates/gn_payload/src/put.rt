@@ -7,6 +7,24 @@ ghost use Rattle.gn_payload.specs.Spelling.{ended};
 use byteorder::{ByteOrder, LittleEndian};
 use std::alloc::Allocator;
 
+/// A number in two bytes, the least first.
+pub fn little_u16(n: u16) -> [u8; 2]
+    ensures { result ≡ little_bytes 2 n }
+{
+    let mut bytes = [0u8; 2];
+    LittleEndian::write_u16(&mut bytes, n);
+    bytes
+}
+
+/// A number in four bytes, the least first.
+pub fn little_u32(n: u32) -> [u8; 4]
+    ensures { result ≡ little_bytes 4 n }
+{
+    let mut bytes = [0u8; 4];
+    LittleEndian::write_u32(&mut bytes, n);
+    bytes
+}
+
 /// Appends bytes.
 pub fn put<B: Allocator>(out: &mut Vec<u8, B>, bytes: &[u8])
     requires { vec_len out.old + length bytes.now ≤ vec_capacity out.old }
@@ -27,9 +45,7 @@ pub fn put_u16<B: Allocator>(out: &mut Vec<u8, B>, n: u16)
     ensures len { vec_len out.new ≡ vec_len out.old + 2 }
     ensures capacity { vec_capacity out.old ≤ vec_capacity out.new }
 {
-    let mut bytes = [0u8; 2];
-    LittleEndian::write_u16(&mut bytes, n);
-    put(out, &bytes);
+    put(out, &little_u16(n));
 }
 
 /// Appends a number in four bytes, the least first.
@@ -39,9 +55,7 @@ pub fn put_u32<B: Allocator>(out: &mut Vec<u8, B>, n: u32)
     ensures len { vec_len out.new ≡ vec_len out.old + 4 }
     ensures capacity { vec_capacity out.old ≤ vec_capacity out.new }
 {
-    let mut bytes = [0u8; 4];
-    LittleEndian::write_u32(&mut bytes, n);
-    put(out, &bytes);
+    put(out, &little_u32(n));
 }
 
 /// Appends a text and the zero byte that ends it.

@@ -18,7 +18,7 @@ use std::alloc::Allocator;
 /// What is looked for, and how fast a servent must be to answer (Gnutella v0.4, "Query").
 #[derive(Clone, Copy, Debug, PartialEq, Eq)]
 pub struct Query<'a> {
-    /// The least speed, in kilobits a second.
+    /// The least speed of a servent that is to answer.
     pub speed: u16,
     /// The search text, none of whose bytes is zero.
     pub text: &'a [u8],

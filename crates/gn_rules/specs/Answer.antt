@@ -30,23 +30,23 @@ connect_answer s past =
     if length (live_connections past) == s.neighbours then Ok TooMany
     else Ok (Connected (1 + length (connections past)))
 
--- Close of c: how many packets are discarded
+-- Close of c: refused where c isn't live, else how many packets are discarded
 abbrev pub close_answer : {A : Type 0} → List (Step A) → ℕ → Result (Reply A) Refusal
 close_answer past c = if not (live past c) then Err NotLive else Ok (Closed (length (out past c)))
 
--- Admit from c: busy at the threshold, else the next ticket
+-- Admit from c: refused where c isn't live, busy at the threshold, else the next ticket
 abbrev pub admit_answer : {A : Type 0} → Config → List (Step A) → ℕ → Result (Reply A) Refusal
 admit_answer s past c =
     if not (live past c) then Err NotLive
     else if is_at_threshold s past then Ok Busy
     else Ok (Admitted (length (tickets past)))
 
--- the first packet of an output
+-- the first packet of an output; refused where nothing waits
 abbrev pub first_taken : {A : Type 0} → List Packet → Result (Reply A) Refusal
 first_taken [] = Err NothingWaiting
 first_taken (packet ∷ packets) = Ok (Taken packet)
 
--- Take from c: the first packet of its output
+-- Take from c: refused where c isn't live, else the first packet of its output
 abbrev pub take_answer : {A : Type 0} → List (Step A) → ℕ → Result (Reply A) Refusal
 take_answer past c = if not (live past c) then Err NotLive else first_taken (out past c)
 
@@ -60,7 +60,8 @@ is_request kind = false
 abbrev pub may_originate : Packet → Bool
 may_originate d = is_request d.kind && not (d.ttl == 0) && (d.hops == 0) && is_sound d
 
--- Originate of d: unchanged to each live connection, rising
+-- Originate of d: refused where the local servent may not send it or its key is remembered, else unchanged to each live
+-- connection, rising
 abbrev pub originate_answer : {A : Type 0} → Config → List (Step A) → Packet → Result (Reply A) Refusal
 originate_answer s past d =
     if not (may_originate d) then Err BadOrigin
@@ -78,7 +79,7 @@ decision_reply s past a (Forward r) = Routed (send s past (forward_of a.packet) 
 abbrev pub route_reply : {A : Type 0} → Config → List (Step A) → Admission → Reply A
 route_reply s past a = decision_reply s past a (decide s past a)
 
--- Route of what is in flight under the ticket
+-- Route of what is in flight under the ticket; refused where nothing is
 abbrev pub flight_answer : {A : Type 0} → Config → List (Step A) → Option Admission → Result (Reply A) Refusal
 flight_answer s past None = Err NoTicket
 flight_answer s past (Some a) = Ok (route_reply s past a)
@@ -96,7 +97,7 @@ event_answer s past (Route t) = route_answer s past t
 event_answer s past (Take c) = take_answer past c
 event_answer s past (Originate d) = originate_answer s past d
 
--- an answer, where the history has room for a step
+-- a full history refuses every event; else this answer
 abbrev pub with_room : {A : Type 0} → Config → List (Step A) → Result (Reply A) Refusal → Result (Reply A) Refusal
 with_room s past rules = if length past == s.steps then Err HistoryFull else rules
 
@@ -104,7 +105,8 @@ with_room s past rules = if length past == s.steps then Err HistoryFull else rul
 abbrev pub answer : {A : Type 0} → Config → List (Step A) → Event A → Result (Reply A) Refusal
 answer s past event = with_room s past (event_answer s past event)
 
--- Route of what is in flight, with a descriptor that was checked beforehand
+-- Route of what is in flight, with a descriptor that was checked beforehand; refused where nothing is, then where the
+-- descriptor isn't the admitted one
 abbrev pub checked_flight_answer : {A : Type 0} → Config → List (Step A) → Packet → Option Admission → Result (Reply A) Refusal
 checked_flight_answer s past d None = Err NoTicket
 checked_flight_answer s past d (Some a) = if is_same_packet d a.packet then Ok (route_reply s past a) else Err Strange

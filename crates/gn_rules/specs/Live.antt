@@ -14,6 +14,6 @@ abbrev pub connections : {A : Type 0} → List (Step A) → List ℕ
 connections [] = []
 connections (step ∷ earlier) = connections earlier ++ option_to_list (connected_of step.reply)
 
--- those that are live, rising
+-- those that are live, in the order in which they were made; their numbers rise, since each is one more than the last
 abbrev pub live_connections : {A : Type 0} → List (Step A) → List ℕ
 live_connections past = filter (live past) (connections past)

@@ -21,11 +21,12 @@ has_room s past c = nat_lt (length (out past c)) s.out
 abbrev pub send : {A : Type 0} → Config → List (Step A) → Packet → ℕ → Sending A
 send s past p c = record { to = c; packet = p; queued = has_room s past c }
 
--- a fan-out: a send of the packet to each live connection but c, rising
+-- a fan-out: a send of the packet to each live connection but c, in the order in which they were made, which is rising
 abbrev pub fanout : {A : Type 0} → Config → List (Step A) → ℕ → Packet → List (Sending A)
 fanout s past c p = map (send s past p) (filter (λ d. not (d == c)) (live_connections past))
 
--- the router's own Pong to a Ping: its ID, as many hops to live as the Ping came, and the router's own servent
+-- the router's own Pong to a Ping: its ID, a TTL one more than its Hops and at most 255, Hops 0, and the router's own
+-- servent
 abbrev pub own_pong : Own → Packet → Packet
 own_pong own ping =
     record { id = ping.id; kind = Pong; ttl = min 255 (ping.hops + 1); hops = 0; payload = pong_bytes own.port own.ip own.files own.kbytes }

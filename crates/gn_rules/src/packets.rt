@@ -10,7 +10,7 @@ use gn_payload::{Pong, write_pong};
 use gn_wire::{Descriptor, Kind};
 use std::alloc::{AllocError, Allocator};
 
-/// The router's own Pong to a Ping: its ID, TTL one more than its Hops, Hops 0, and the own servent's place and files
+/// The router's own Pong to a Ping: its ID, TTL one more than its Hops and at most 255, Hops 0, and the own servent's place and files
 /// (Gnutella v0.4, "Pong"). An `Err` is want of memory.
 pub fn own_pong<A: Allocator + Copy>(
     alloc: A,

@@ -33,7 +33,8 @@ pub enum Decision {
     Drop(DropReason),
     /// It is for the local servent alone.
     Local,
-    /// It is for the local servent and, unless it is expired, for each other live connection.
+    /// It is for the local servent and, unless it is expired, for each other live connection; a Ping is answered with the
+    /// own Pong too.
     Flood,
     /// It is passed on to one connection.
     Forward(ConnId),

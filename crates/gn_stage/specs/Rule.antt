@@ -9,6 +9,7 @@ pub record Owned (J : Type 0) : Type 0 where
   pub owner : ℕ
   pub job : J
 
+-- a job with its owner
 abbrev pub owned : {J : Type 0} → ℕ → J → Owned J
 owned p x = record { owner = p; job = x }
 

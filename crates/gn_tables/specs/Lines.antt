@@ -56,6 +56,7 @@ pub record AreLines (l : Lines) : Type 0 where
 abbrev pub row_of : ℕ × Buffer Packet → ℕ × List Packet
 row_of e = (e.0, e.1.items)
 
+-- the rows that the entries of a table show
 abbrev pub rows_of : List (ℕ × Buffer Packet) → List (ℕ × List Packet)
 rows_of entries = map row_of entries
 

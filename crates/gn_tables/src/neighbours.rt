@@ -3,7 +3,7 @@
 ghost use Rattle.std.specs.Prelude.{◌≡◌, ◌<◌, ◌≤◌, [], length, true, false, slice_get, IfErr, IfOk, OnErr, OnOk};
 ghost use Rattle.std.specs.List.{All};
 ghost use Rattle.std.specs.Map.{keys_of};
-ghost use Rattle.std.specs.Option.{option_map};
+ghost use Rattle.std.specs.Option.{option_copied, option_map};
 ghost use Rattle.gn_tables.specs.Lines.{AreLines, first_of, has_room, joined, left, line_of, popped, pushed};
 
 use circular_buffer::HeapCircularBuffer;
@@ -81,6 +81,16 @@ impl<A: Allocator + Copy> Neighbours<A> {
     {
         let row = self.rows.get(&connection)?;
         Some(row.len() as u32)
+    }
+
+    /// The packet that has waited longest for the connection. `None` where there is none, or no such connection.
+    pub fn first(&self, connection: u32) -> Option<&Descriptor<A>>
+        ensures { option_copied result ≡ first_of connection self.now }
+    {
+        match self.rows.get(&connection) {
+            Some(row) => row.front(),
+            None => None,
+        }
     }
 
     /// Adds a connection that is greater than all there, and makes the room that its packets fill. An `Err` is want of

@@ -3,7 +3,8 @@
 use crate::{Flights, Neighbours, SeenTable, ServentTable};
 use bytes::Bytes;
 use gn_wire::{Descriptor, Guid, Key, Kind};
-use std::alloc::AllocError;
+use linked_list_allocator::LocalHeap;
+use std::alloc::{AllocError, Allocator};
 use std::mem::size_of;
 use std::test::Fail;
 
@@ -11,12 +12,16 @@ fn id(byte: u8) -> Guid {
     Guid([byte; 16])
 }
 
-fn ping(byte: u8) -> Result<Descriptor, &'static str> {
+fn ping<A: Allocator>(byte: u8) -> Result<Descriptor<A>, &'static str> {
     Descriptor::new(id(byte), Kind::Ping, 6, 1, Bytes::new()).map_err(|_| "length")
 }
 
 /// Keeps a Ping's key where it isn't kept yet, and tells whether it was new.
-fn is_new(seen: &mut SeenTable, id: Guid, from: u32) -> Result<bool, AllocError> {
+fn is_new<A: Allocator + Copy>(
+    seen: &mut SeenTable<A>,
+    id: Guid,
+    from: u32,
+) -> Result<bool, AllocError> {
     if seen.source(Kind::Ping, &id).is_some() {
         return Ok(false);
     }
@@ -112,6 +117,11 @@ fn full_output(rt: HostRuntime) -> Result<(), Fail> {
             "to {connection}"
         );
     }
+    assert_eq!(rt;
+        neighbours.first(2).map(|packet| packet.id()),
+        Some(id(0xa1))
+    );
+    assert_eq!(rt; neighbours.first(3).map(|packet| packet.id()), None);
     assert_eq!(rt; neighbours.pop(2).map(|packet| packet.id()), Some(id(0xa1)));
     assert!(rt; neighbours.push(1, ping(0xa3)?).is_err());
     assert!(rt; neighbours.push(2, ping(0xa3)?).is_ok());
@@ -156,6 +166,71 @@ fn flights_come_and_go(rt: HostRuntime) -> Result<(), Fail> {
     assert!(rt; flights.finish(0).is_none());
     assert!(rt; flights.get(0).is_none());
     assert_eq!(rt; flights.len(), 1);
+    Ok(())
+}
+
+/// All that the heap has left: it refuses everything until this is dropped.
+fn rest_of(heap: &LocalHeap) -> Result<Vec<u8, &LocalHeap>, AllocError> {
+    Vec::with_capacity(heap, heap.free())
+}
+
+#[test]
+fn no_memory_for_a_key(rt: HostRuntime) -> Result<(), Fail> {
+    let heap = LocalHeap::new(rt.alloc(), 1_024)?;
+    assert!(rt; SeenTable::new(&heap, 64).is_err());
+    let mut seen = SeenTable::new(&heap, 1)?;
+    let rest = rest_of(&heap)?;
+    assert!(rt; is_new(&mut seen, id(0xa1), 7).is_err());
+    assert_eq!(rt; seen.source(Kind::Ping, &id(0xa1)), None);
+    drop(rest);
+    assert!(rt; is_new(&mut seen, id(0xa1), 7)?);
+    assert_eq!(rt; seen.source(Kind::Ping, &id(0xa1)), Some(7));
+    Ok(())
+}
+
+#[test]
+fn no_memory_for_a_servent(rt: HostRuntime) -> Result<(), Fail> {
+    let heap = LocalHeap::new(rt.alloc(), 1_024)?;
+    let rest = rest_of(&heap)?;
+    assert!(rt; ServentTable::new(&heap, 1).is_err());
+    drop(rest);
+    let mut servents = ServentTable::new(&heap, 1)?;
+    let rest = rest_of(&heap)?;
+    assert!(rt; servents.learn(id(0x5e), 2).is_err());
+    assert_eq!(rt; servents.route(&id(0x5e)), None);
+    drop(rest);
+    servents.learn(id(0x5e), 2)?;
+    assert_eq!(rt; servents.route(&id(0x5e)), Some(2));
+    Ok(())
+}
+
+#[test]
+fn no_memory_for_a_neighbour(rt: HostRuntime) -> Result<(), Fail> {
+    let heap = LocalHeap::new(rt.alloc(), 1_024)?;
+    assert!(rt; Neighbours::new(&heap, 64, 1).is_err());
+    let mut neighbours = Neighbours::new(&heap, 1, 1)?;
+    let rest = rest_of(&heap)?;
+    assert!(rt; neighbours.add(1).is_err());
+    assert_eq!(rt; (neighbours.len(), neighbours.waiting(1)), (0, None));
+    drop(rest);
+    neighbours.add(1)?;
+    assert_eq!(rt; (neighbours.len(), neighbours.waiting(1)), (1, Some(0)));
+    Ok(())
+}
+
+#[test]
+fn no_memory_for_a_flight(rt: HostRuntime) -> Result<(), Fail> {
+    let heap = LocalHeap::new(rt.alloc(), 1_024)?;
+    let mut flights = Flights::new(&heap, 1);
+    assert!(rt; flights.len() == 0 && flights.get(0).is_none());
+    let rest = rest_of(&heap)?;
+    let Err(_) = flights.add(0, 1, ping(0xa1)?) else {
+        return Err("a flight without memory".into());
+    };
+    assert!(rt; flights.len() == 0 && flights.get(0).is_none());
+    drop(rest);
+    flights.add(0, 1, ping(0xa1)?)?;
+    assert!(rt; flights.len() == 1 && flights.get(0).is_some());
     Ok(())
 }
 

@@ -1,4 +1,5 @@
 pub mod HeaderLemmas
 pub mod KeyLemmas
 pub mod KindLemmas
+pub mod ReturnLemmas
 pub mod SpellingLemmas

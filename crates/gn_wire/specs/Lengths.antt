@@ -24,7 +24,7 @@ fault_of Query n = long_fault n
 fault_of QueryHit n = long_fault n
 fault_of (Unknown code) n = long_fault n
 
--- the value, where there is no fault
+-- the value where there is no fault, else the fault
 abbrev pub unless_fault : {T : Type 0} → Option FrameFault → T → Result T FrameFault
 unless_fault None x = Ok x
 unless_fault (Some fault) x = Err fault
@@ -33,7 +33,8 @@ unless_fault (Some fault) x = Err fault
 abbrev pub packet_fault : Packet → Option FrameFault
 packet_fault d = fault_of d.kind (min (length d.payload) 4294967295)
 
--- what every descriptor keeps: a lawful length, the kind that its code names, and fields that fit their bytes
+-- what every descriptor keeps: a lawful length, the kind that its code names, an ID of 16 bytes, and TTL and Hops that
+-- fit a byte
 pub record IsDescriptor (d : Packet) : Type 0 where
   pub lawful : fault_of d.kind (length d.payload) ≡ None
   pub stored : IsStored d.kind

@@ -1,5 +1,5 @@
 -- The bytes of a header and of a descriptor.
-use Rattle.std.specs.Prelude.{◌≡◌, ℕ, List, [], ◌∷◌, ◌++◌, length, take, drop, slice_index, None, Result}
+use Rattle.std.specs.Prelude.{◌≡◌, ◌<◌, ◌^◌, ℕ, List, [], ◌∷◌, ◌++◌, length, take, drop, slice_index, None, Result, Ok}
 use Rattle.byteorder.specs.Endian.{little_bytes, little_number}
 use Rattle.gn_wire.specs.declared.header.FrameFault.{FrameFault}
 use Rattle.gn_wire.specs.declared.header.Header.{Header}
@@ -28,10 +28,18 @@ header_at bytes =
 abbrev pub reading : List ℕ → Result Header FrameFault
 reading bytes = let h = header_at bytes in unless_fault (fault_of h.kind h.length) h
 
--- a header that is read back from its spelling
+-- a header: an ID of 16 bytes, a kind as descriptors store it, and a lawful length that four bytes hold
 pub record IsHeader (h : Header) : Type 0 where
+  pub id_size : length h.id.0 ≡ 16
   pub stored : IsStored h.kind
+  pub length_fits : h.length < 2 ^ 32
   pub lawful : fault_of h.kind h.length ≡ None
+
+-- what is written is read: the bytes of a header are read as that header; and where bytes are read as a header, they are
+-- its bytes
+pub record HeadersReturn : Type 0 where
+  pub written : (h : Header) → IsHeader h → reading (header_bytes h) ≡ Ok h
+  pub read : (bytes : List ℕ) (h : Header) → ((k : ℕ) → slice_index bytes k < 256) → length bytes ≡ 23 → reading bytes ≡ Ok h → header_bytes h ≡ bytes
 
 -- no spelling begins another: a stream that begins with two spellings begins with one
 abbrev pub SpellingsPart : Type 0

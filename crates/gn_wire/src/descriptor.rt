@@ -9,7 +9,7 @@ use bytes::Bytes;
 use std::alloc::{AllocError, Allocator, Global};
 use std::marker::Model;
 
-/// A descriptor, whose payload has a length that its kind allows (Gnutella v0.4, 2).
+/// A descriptor, whose payload has a length that its kind allows (Gnutella v0.4, "Descriptor header").
 #[derive(Debug, Drop)]
 pub struct Descriptor<A: Allocator = Global> {
     id: Guid,

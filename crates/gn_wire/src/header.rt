@@ -2,7 +2,7 @@
 
 ghost use Rattle.std.specs.Prelude.{◌≡◌, Ok};
 ghost use Rattle.gn_wire.specs.Lengths.{fault_of};
-ghost use Rattle.gn_wire.specs.Spelling.{IsHeader, header_at, header_bytes, reading};
+ghost use Rattle.gn_wire.specs.Spelling.{header_at, header_bytes, reading};
 
 use crate::kind::{Guid, Kind};
 use byteorder::{ByteOrder, LittleEndian};
@@ -82,19 +82,4 @@ pub fn read_header(bytes: &[u8; 23]) -> Result<Header, FrameFault>
         None => Ok(header),
         Some(fault) => Err(fault),
     }
-}
-
-/// The law that a header which is written is read back.
-pub fn header_written_is_read(header: Header) -> Result<Header, FrameFault>
-    requires { IsHeader header }
-    ensures { result ≡ Ok header }
-{
-    read_header(&write_header(&header))
-}
-
-/// The law that what is read is spelled so.
-pub fn header_read_is_written(bytes: &[u8; 23]) -> [u8; 23]
-    ensures { result ≡ bytes.now }
-{
-    write_header(&header_in(bytes))
 }

@@ -1,6 +1,11 @@
-//! Laws of spellings that no one call shows.
+//! Laws of spellings and headers that no one call shows.
 
-ghost use Rattle.gn_wire.specs.Spelling.{SpellingsPart};
+ghost use Rattle.gn_wire.specs.Spelling.{HeadersReturn, SpellingsPart};
+
+/// The law that a header is read back from its bytes, and that the bytes which a header was read of are its own.
+pub fn headers_return()
+    ensures { HeadersReturn }
+{}
 
 /// The law that no spelling begins another, so that a stream of descriptors is cut in one way.
 pub fn spellings_part()

@@ -10,10 +10,7 @@ mod laws;
 mod tests;
 
 pub use descriptor::Descriptor;
-pub use header::{
-    FrameFault, Header, header_read_is_written, header_written_is_read, length_fault, read_header,
-    write_header,
-};
+pub use header::{FrameFault, Header, length_fault, read_header, write_header};
 pub use key::Key;
 pub use kind::{Guid, Kind};
-pub use laws::spellings_part;
+pub use laws::{headers_return, spellings_part};

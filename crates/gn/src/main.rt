@@ -1,0 +1,29 @@
+//! The program `gn`: its command line, with the standard streams.
+#![tactic(auto)]
+
+use gn_io::{ReaderSource, WriterSink};
+use gn_program::{command, refuse_words};
+use std::env::Env;
+use std::process::ExitCode;
+use std::{env, io};
+
+fn words_of<R: Env + AllocGlobal>(rt: &R) -> io::Result<Vec<String>> {
+    Ok(env::args(rt)?.collect(rt.alloc())?)
+}
+
+fn main(rt: HostRuntime) -> ExitCode {
+    let mut reader = ReaderSource::new(rt.stdin());
+    let mut writer = WriterSink::new(rt.stdout());
+    let mut faults = WriterSink::new(rt.stderr());
+    let status = match words_of(&rt) {
+        Ok(words) => command(
+            rt.alloc(),
+            words.as_slice(),
+            &mut reader,
+            &mut writer,
+            &mut faults,
+        ),
+        Err(error) => refuse_words(&error, &mut faults),
+    };
+    ExitCode::from(status)
+}

@@ -1,0 +1,2 @@
+pub mod JudgeLemmas
+pub mod VerdictLemmas

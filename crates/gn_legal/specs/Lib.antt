@@ -1,0 +1,3 @@
+pub mod Legality
+pub mod Made
+pub mod Same

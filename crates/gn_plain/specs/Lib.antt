@@ -1,0 +1,5 @@
+pub mod Flights
+pub mod Kept
+pub mod Onward
+pub mod Place
+pub mod Views

@@ -1,0 +1,137 @@
+//! A router that keeps its history and searches it for every answer.
+
+ghost use Rattle.std.specs.Prelude.{◌≡◌, ◌≤◌, ◌++◌, ◌∷◌, [], Ok, length, reverse, IfOk, OnErr};
+ghost use Rattle.gn_rules.specs.declared.config.Config.{Config};
+ghost use Rattle.gn_plain.specs.Kept.{IsKept};
+
+use crate::counting::stats_in;
+use crate::events::{answer, checked_answer};
+use crate::flying::{follow, push_reserved};
+use crate::live;
+use crate::output::out_count;
+use gn_payload::Checked;
+use gn_rules::{Config, ConnId, Event, Receipt, Refusal, Reply, RouterCore, Stats, Step, Ticket};
+use std::alloc::{AllocError, Allocator, Global};
+use std::marker::Model;
+
+/// A router that keeps its history and the tickets in flight, and searches its history for every answer.
+#[derive(Drop)]
+pub struct PlainRouter<A: Allocator + Copy = Global> {
+    alloc: A,
+    config: Config,
+    history: Vec<Step<A>, A>,
+    flying: Vec<Ticket, A>,
+}
+
+impl<A: Allocator + Copy> Model for PlainRouter<A> {
+    ghost use Rattle.gn_plain.specs.Kept.{IsKept, Kept};
+
+    ghost Value = { Kept A };
+
+    ghost view = { λ r. record { settings = r.config; steps = r.history.items } };
+
+    ghost invariant = { λ r. IsKept r.config r.history.items r.flying.items };
+}
+
+impl<A: Allocator + Copy> PlainRouter<A> {
+    ghost use Rattle.gn_rules.specs.Answer as rules;
+
+    /// Adds the step of an event and the rules' reply, and gives its receipt. An `Err` is want of memory, and changes
+    /// nothing.
+    #[tactic(auto, using(gn_rules::proofs::PastLemmas::past_length, gn_rules::proofs::PastLemmas::past_push, crate::proofs::FlightLemmas::flying_more,))]
+    fn add(
+        &mut self,
+        actor: u32,
+        event: &Event<A>,
+        reply: Reply<A>,
+    ) -> Result<Receipt<A>, AllocError>
+        requires { rules.answer self.old.settings (reverse self.old.steps) event.now ≡ Ok reply }
+        ensures step { IfOk result (λ receipt. self.new.steps ≡ self.old.steps ++ record { actor = actor; event = event.now; reply = reply } ∷ []) }
+        ensures receipt { IfOk result (λ receipt. receipt ≡ record { index = length self.old.steps; event = event.now; reply = reply }) }
+        ensures err { OnErr result (self.new.steps ≡ self.old.steps) }
+        ensures settings { self.new.settings ≡ self.old.settings }
+    {
+        let (step, receipt) = Step::with_receipt(
+            self.alloc,
+            self.history.len() as u32,
+            actor,
+            event,
+            reply,
+        )?;
+        self.history.reserve(1)?;
+        self.flying.reserve(1)?;
+        follow(&mut self.flying, event, &receipt.reply);
+        push_reserved(&mut self.history, step);
+        Ok(receipt)
+    }
+}
+
+impl<A: Allocator + Copy> RouterCore<A> for PlainRouter<A> {
+    ghost settings = { λ r. r.settings };
+
+    ghost steps = { λ r. r.steps };
+
+    fn make(alloc: A, config: &Config) -> Result<Self, AllocError> {
+        Ok(PlainRouter {
+            alloc,
+            config: *config,
+            history: Vec::new(alloc),
+            flying: Vec::new(alloc),
+        })
+    }
+
+    fn apply(&mut self, actor: u32, event: &Event<A>) -> Result<Receipt<A>, Refusal> {
+        let reply = answer(
+            self.alloc,
+            &self.config,
+            &self.history,
+            self.flying.len(),
+            event,
+        )?;
+        Ok(self.add(actor, event, reply)?)
+    }
+
+    #[tactic(auto, using(crate::proofs::AnswerLemmas::checked_is_answer))]
+    fn route(
+        &mut self,
+        actor: u32,
+        ticket: Ticket,
+        checked: &Checked<A>,
+    ) -> Result<Receipt<A>, Refusal> {
+        let reply = checked_answer(self.alloc, &self.config, &self.history, ticket, checked)?;
+        Ok(self.add(actor, &Event::Route(ticket), reply)?)
+    }
+
+    fn config(&self) -> &Config {
+        &self.config
+    }
+
+    fn history(&self) -> &[Step<A>] {
+        &self.history
+    }
+
+    fn into_history(self) -> Vec<Step<A>, A> {
+        self.history
+    }
+
+    fn stats(&self) -> Stats {
+        stats_in(&self.history)
+    }
+
+    #[tactic(auto, using(gn_rules::proofs::PastLemmas::past_length, crate::proofs::FlightLemmas::flying_within))]
+    fn flights(&self) -> u32 {
+        self.flying.len() as u32
+    }
+
+    fn is_live(&self, c: ConnId) -> bool {
+        live::is_live(&self.history, c)
+    }
+
+    fn waiting(&self, c: ConnId) -> u32 {
+        if live::is_live(&self.history, c) {
+            out_count(&self.config, &self.history, c) as u32
+        } else {
+            0
+        }
+    }
+}

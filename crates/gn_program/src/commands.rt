@@ -1,0 +1,143 @@
+//! A command line, done.
+
+ghost use Rattle.std.specs.Prelude.{◌≡◌, ◌≢◌, ◌⊎◌, Some, None, map};
+ghost use Rattle.std.specs.IoError.{error_kind};
+ghost use Rattle.std.specs.declared.io.ErrorKind.TheVariants.{OutOfMemory as NoneLeft};
+ghost use Rattle.clap.specs.Kinds.{IsAmong};
+ghost use Rattle.clap.specs.Words.{fault_of, kind_of};
+ghost use Rattle.clap.specs.declared.error.kind.ErrorKind.{ErrorKind as Kind};
+ghost use Rattle.clap.specs.declared.error.kind.ErrorKind.TheVariants.{OutOfMemory};
+ghost use Rattle.gn_program.specs.Commands.{Does, IsTurnedAway, IsUnread, Streams};
+ghost use Rattle.gn_program.specs.Words.{gn_app, request_of};
+ghost use Rattle.gn_program.specs.declared.request.Request.{Request as Asked};
+
+use crate::fault::Fault;
+use crate::request::Request;
+use crate::tell::{tell, tell_line};
+use crate::words::read_words;
+use clap::Error;
+use clap::error::ErrorKind;
+use gn_audit::audit;
+use gn_io::{Sink, Source};
+use gn_legal::Legality;
+use gn_replay::replay;
+use gn_router::TableRouter;
+use std::alloc::Global;
+use std::convert::AsStr;
+use std::io;
+
+/// Done, or legal.
+const DONE: u8 = 0;
+
+/// A fault, or a wrong history.
+const FAULT: u8 = 1;
+
+/// The words can't be read.
+const USAGE: u8 = 2;
+
+/// Tells a fault, on a line of its own. That it can't be told changes no status.
+fn fault_told<F: Sink>(faults: &mut F, fault: Fault) -> u8
+    ensures { result ≡ 1 }
+{
+    let _ = tell_line(faults, fault);
+    FAULT
+}
+
+/// Does what is asked for, and gives the status.
+fn obey<S: Source, W: Sink, F: Sink>(
+    alloc: Global,
+    request: Request,
+    reader: &mut S,
+    writer: &mut W,
+    faults: &mut F,
+) -> u8
+    ensures { Does request (record {
+      rest = S.rest reader.old;
+      told = W.told writer.old;
+      told_new = W.told writer.new;
+      failures = S.failures reader.old;
+      failures_new = S.failures reader.new;
+      given = S.given reader.old;
+      given_new = S.given reader.new;
+      unwritten = W.failures writer.old;
+      unwritten_new = W.failures writer.new;
+      stalls = W.stalls writer.old;
+      stalls_new = W.stalls writer.new;
+    }) result }
+{
+    match request {
+        Request::Replay => match replay::<Global, TableRouter, S, W>(alloc, reader, writer) {
+            Ok(_) => DONE,
+            Err(fault) => fault_told(faults, Fault::from(fault)),
+        },
+        Request::Audit => match audit::<Global, TableRouter, S, W>(alloc, reader, writer) {
+            Ok(Legality::Legal) => DONE,
+            Ok(Legality::WrongAt(_)) => FAULT,
+            Err(fault) => fault_told(faults, Fault::from(fault)),
+        },
+    }
+}
+
+/// Answers words that ask for no work: help and the version are written, all else is told with the faults.
+fn turn_away<W: Sink, F: Sink>(error: Error, writer: &mut W, faults: &mut F) -> u8
+    ensures { IsTurnedAway (kind_of error) writer.old writer.new result }
+{
+    if error.kind() == ErrorKind::OutOfMemory {
+        return fault_told(faults, Fault::NoMemory);
+    }
+    if error.use_stderr() {
+        let _ = tell(faults, error);
+        return USAGE;
+    }
+    match tell(writer, error) {
+        Ok(()) => DONE,
+        Err(_) => fault_told(faults, Fault::Output),
+    }
+}
+
+/// Does what the words ask for, of which the first is the program's name, and gives the status to end with: 0 where it is
+/// done or the history is legal, 1 at a fault or a wrong history, 2 where the words can't be read. What is asked for is read
+/// from `reader` and written to `writer`, help and the version are written to it too; a fault is told as a line on `faults`,
+/// where a failed write changes nothing.
+pub fn command<T: AsStr, S: Source, W: Sink, F: Sink>(
+    alloc: Global,
+    words: &[T],
+    reader: &mut S,
+    writer: &mut W,
+    faults: &mut F,
+) -> u8
+    ensures asked { (request : Asked) → request_of (map T.text words.now) ≡ Some request
+        → IsUnread writer.old writer.new result ⊎ Does request (record {
+          rest = S.rest reader.old;
+          told = W.told writer.old;
+          told_new = W.told writer.new;
+          failures = S.failures reader.old;
+          failures_new = S.failures reader.new;
+          given = S.given reader.old;
+          given_new = S.given reader.new;
+          unwritten = W.failures writer.old;
+          unwritten_new = W.failures writer.new;
+          stalls = W.stalls writer.old;
+          stalls_new = W.stalls writer.new;
+        }) result }
+    ensures neither { request_of (map T.text words.now) ≡ None → (kind : Kind)
+        × ((kind ≡ OutOfMemory) ⊎ IsAmong kind (fault_of gn_app (map T.text words.now)))
+        × IsTurnedAway kind writer.old writer.new result }
+{
+    match read_words(alloc, words) {
+        Ok(request) => obey(alloc, request, reader, writer, faults),
+        Err(error) => turn_away(error, writer, faults),
+    }
+}
+
+/// Answers words that couldn't be had, and gives the status: one of them isn't text, or memory was wanting.
+pub fn refuse_words<F: Sink>(error: &io::Error, faults: &mut F) -> u8
+    ensures memory { error_kind error.now ≡ NoneLeft → result ≡ 1 }
+    ensures text { error_kind error.now ≢ NoneLeft → result ≡ 2 }
+{
+    if error.kind() == io::ErrorKind::OutOfMemory {
+        return fault_told(faults, Fault::NoMemory);
+    }
+    let _ = tell(faults, "error: an argument isn't text\n");
+    USAGE
+}

@@ -1,0 +1,56 @@
+//! The texts of help.
+
+pub(crate) const ABOUT: &str =
+    "Tineflax, a packet router for Gnutella v0.4 whose answers are proved to follow its rules.";
+
+pub(crate) const EXAMPLES: &str = "\
+Examples:
+  gn replay < examples/first_ping.capture
+  gn audit < examples/first_ping.history
+
+Exit status: 0 where it is done, or the history is legal; 1 where input or output is at fault,
+or the history is wrong; 2 where the command line can't be read.";
+
+pub(crate) const REPLAY: &str = "Reads a capture, and prints what the router answers";
+
+pub(crate) const REPLAY_TEXTS: &str = "\
+Standard input is a capture: what links deliver to a router, and what its servent does. Behind
+its three first lines stand `join`, `open`, `data LINK HEX`, `route TICKET`, `take CONNECTION`,
+`close CONNECTION`, `ping ID TTL`, `query ID TTL SPEED HEX` and `stats`, each on a line.
+Standard output is a line for each answer. A capture with a fault prints none, and its first
+fault is told on standard error.
+
+Example: two neighbours join, the first sends a Ping, and the Ping is routed.
+
+  gnutella-capture 1
+  config 4 8 4 8 8 100
+  own eeeeeeeeeeeeeeeeeeeeeeeeeeeeeeee 127.0.0.1 6346 5 40
+  join
+  join
+  data 1 a1a1a1a1a1a1a1a1a1a1a1a1a1a1a1a100070000000000
+  route 0
+
+prints, after the two joins and the Ping's admission,
+
+  0 route 0 = routed local 1+.. 2+a1a1a1a1a1a1a1a1a1a1a1a1a1a1a1a100060100000000
+
+where the first packet is the router's own Pong.";
+
+pub(crate) const AUDIT: &str = "Reads a history, and tells whether each answer in it is right";
+
+pub(crate) const AUDIT_TEXTS: &str = "\
+Standard input is a history: a router's configuration, and each event with its answer.
+Standard output is `legal` and the number of steps, or `wrong` and the index, counted from 0, of
+the first step whose answer isn't the one that the rules give.
+
+Example:
+
+  gnutella-history 1
+  config 4 8 4 8 8 100
+  own eeeeeeeeeeeeeeeeeeeeeeeeeeeeeeee 127.0.0.1 6346 5 40
+  0 connect = connected 1
+  end
+
+prints
+
+  legal 1";

@@ -1,0 +1,15 @@
+//! The command line of `gn` as a function of its words, its input and its outputs.
+#![tactic(auto)]
+
+mod commands;
+mod fault;
+mod help;
+mod request;
+mod tell;
+#[cfg(test)]
+mod tests;
+mod words;
+
+pub use commands::{command, refuse_words};
+pub use request::Request;
+pub use words::plain_words_are_read;

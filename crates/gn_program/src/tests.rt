@@ -1,0 +1,118 @@
+//! Command lines that ask for no work, and streams that fail.
+
+use super::*;
+use gn_io::{ReaderSource, WriterSink};
+use std::io::{self, ErrorKind, Read, Write};
+
+/// Words, the status, and how the output and the told faults begin.
+const ANSWERS: [(&[&str], u8, &str, &str); 9] = [
+    (&["gn", "--version"], 0, "gn 0.1.0\n", ""),
+    (&["gn", "--help"], 0, "Tineflax, a packet router", ""),
+    (&["gn", "replay", "--help"], 0, "Reads a capture,", ""),
+    (&["gn", "audit", "-h"], 0, "Reads a history,", ""),
+    (&["gn"], 2, "", "error: 'gn' requires a subcommand"),
+    (&["gn", "serve"], 2, "", "error: unrecognized subcommand"),
+    (&["gn", "replay", "x"], 2, "", "error: unexpected argument"),
+    (&["gn", "replay"], 1, "", "fault: line 1: header\n"),
+    (&["gn", "audit", "--"], 1, "", "fault: line 1: header\n"),
+];
+
+/// A capture of nothing but its first lines, and one join.
+const JOINED: &str = "gnutella-capture 1\nconfig 4 8 4 8 8 100\n\
+    own eeeeeeeeeeeeeeeeeeeeeeeeeeeeeeee 127.0.0.1 6346 5 40\njoin\n";
+
+/// Whether a text begins so, and is empty where nothing is wanted.
+fn begins(text: &[u8], wanted: &str) -> bool {
+    text.starts_with(wanted.as_bytes()) && text.is_empty() == wanted.is_empty()
+}
+
+#[test]
+fn words(rt: HostRuntime) {
+    for (words, status, printed, told) in ANSWERS {
+        let mut reader = ReaderSource::new(b"".as_slice());
+        let mut writer = WriterSink::new(Vec::new(rt.alloc()));
+        let mut faults = WriterSink::new(Vec::new(rt.alloc()));
+        let found = command(rt.alloc(), words, &mut reader, &mut writer, &mut faults);
+        assert_eq!(rt; found, status, "{words:?}");
+        assert!(rt; begins(&writer.into_inner(), printed), "{words:?}");
+        assert!(rt; begins(&faults.into_inner(), told), "{words:?}");
+    }
+}
+
+/// A stream that fails at once.
+#[derive(Drop)]
+struct Broken;
+
+impl Read for Broken {
+    fn read(&mut self, _room: &mut [u8]) -> io::Result<usize> {
+        Err(io::Error::from(ErrorKind::ConnectionReset))
+    }
+}
+
+impl Write for Broken {
+    fn write(&mut self, _piece: &[u8]) -> io::Result<usize> {
+        Err(io::Error::from(ErrorKind::BrokenPipe))
+    }
+
+    fn flush(&mut self) -> io::Result<()> {
+        Ok(())
+    }
+}
+
+#[test]
+fn input_fails(rt: HostRuntime) {
+    let mut reader = ReaderSource::new(Broken);
+    let mut writer = WriterSink::new(Vec::new(rt.alloc()));
+    let mut faults = WriterSink::new(Vec::new(rt.alloc()));
+    let words = ["gn", "audit"];
+    let status = command(rt.alloc(), &words, &mut reader, &mut writer, &mut faults);
+    assert_eq!(rt; status, 1);
+    assert!(rt; writer.into_inner().is_empty());
+    assert_eq!(rt;
+        faults.into_inner().as_slice(),
+        b"fault: input failed\n".as_slice()
+    );
+}
+
+#[test]
+fn output_fails(rt: HostRuntime) {
+    for words in [["gn", "replay"], ["gn", "--help"]] {
+        let mut reader = ReaderSource::new(JOINED.as_bytes());
+        let mut writer = WriterSink::new(Broken);
+        let mut faults = WriterSink::new(Vec::new(rt.alloc()));
+        let status = command(rt.alloc(), &words, &mut reader, &mut writer, &mut faults);
+        assert_eq!(rt; status, 1);
+        assert_eq!(rt;
+            faults.into_inner().as_slice(),
+            b"fault: output failed\n".as_slice()
+        );
+    }
+}
+
+#[test]
+fn faults_cant_be_told(rt: HostRuntime) {
+    for (words, status) in [(["gn", "audit"], 1), (["gn", "load"], 2)] {
+        let mut reader = ReaderSource::new(JOINED.as_bytes());
+        let mut writer = WriterSink::new(Vec::new(rt.alloc()));
+        let mut faults = WriterSink::new(Broken);
+        let found = command(rt.alloc(), &words, &mut reader, &mut writer, &mut faults);
+        assert_eq!(rt; found, status);
+        assert!(rt; writer.into_inner().is_empty());
+    }
+}
+
+#[test]
+fn words_that_arent_had(rt: HostRuntime) {
+    for (kind, status, told) in [
+        (ErrorKind::OutOfMemory, 1, b"fault: no memory\n".as_slice()),
+        (
+            ErrorKind::InvalidData,
+            2,
+            b"error: an argument isn't text\n",
+        ),
+    ] {
+        let mut faults = WriterSink::new(Vec::new(rt.alloc()));
+        assert_eq!(rt; refuse_words(&io::Error::from(kind), &mut faults), status);
+        assert_eq!(rt; faults.into_inner().as_slice(), told);
+    }
+}

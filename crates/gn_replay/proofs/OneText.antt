@@ -1,0 +1,57 @@
+-- An input has one replay text.
+use Rattle.std.proofs.Common.{◌≡◌, ◌≤◌, ◌∙◌, ℕ, Result, Ok, Err, refl, sym, ap, subst}
+use Rattle.std.proofs.Math.Bridge.{le_prop}
+use Rattle.gn_rules.specs.declared.config.Config.{Config}
+use Rattle.gn_rules.specs.declared.config.Own.{Own}
+use Rattle.gn_rules.specs.Limits.{IsWithin}
+use Rattle.gn_header.specs.declared.fault.CaptureFault.{CaptureFault}
+use Rattle.gn_header.specs.Settings.{Numbers, settings_of}
+use Rattle.gn_capture.specs.Captures.{Said, capture_of}
+use Rattle.gn_replay.specs.Events.{Played}
+use Rattle.gn_replay.specs.ReplayText.{IsReplayOf, ReplayTextIsOne, capture_plays}
+
+-- a number is within its limit in one way
+within_is_one : {n most : ℕ} (a b : IsWithin n most) → a ≡ b
+within_is_one {n} {most} a b =
+    ap (λ (least : 1 ≤ n). record { least = least; greatest = a.greatest }) (le_prop a.least b.least)
+    ∙ ap (λ (greatest : n ≤ most). record { least = b.least; greatest = greatest }) (le_prop a.greatest b.greatest)
+
+-- a configuration is the one that these settings make
+abbrev IsMade : Config → Numbers × Own → Type 0
+IsMade s told =
+    (a : IsWithin told.0.neighbours 64) (b : IsWithin told.0.seen 65536) (c : IsWithin told.0.servents 65536) (d : IsWithin told.0.stage 4096) (e : IsWithin told.0.out 4096)
+    (f : IsWithin told.0.steps 1000000)
+    → s ≡ record {
+      neighbours = told.0.neighbours;
+      seen = told.0.seen;
+      servents = told.0.servents;
+      stage = told.0.stage;
+      out = told.0.out;
+      steps = told.0.steps;
+      own = told.1;
+      neighbours_in_limit = a;
+      seen_in_limit = b;
+      servents_in_limit = c;
+      stage_in_limit = d;
+      out_in_limit = e;
+      steps_in_limit = f;
+    }
+
+made : (s : Config) → IsMade s (settings_of s)
+made s a b c d e f =
+    rw (within_is_one a s.neighbours_in_limit, within_is_one b s.seen_in_limit, within_is_one c s.servents_in_limit, within_is_one d s.stage_in_limit, within_is_one e s.out_in_limit, within_is_one f s.steps_in_limit) refl
+
+-- settings tell the configuration
+config_is : (s t : Config) → settings_of s ≡ settings_of t → s ≡ t
+config_is s t same =
+    subst (λ (told : Numbers × Own). IsMade s told) same (made s) t.neighbours_in_limit t.seen_in_limit t.servents_in_limit t.stage_in_limit t.out_in_limit t.steps_in_limit
+
+-- what is done with what was read is told by it
+played_is : {A : Type 0} (read : Result (Said A) CaptureFault) (one other : Played A) → IsReplayOf A read one → IsReplayOf A read other → one ≡ other
+played_is (Err fault) one other h k = h ∙ sym k
+played_is (Ok said) one other h k =
+    h.2 ∙ ap (λ (s : Config). capture_plays s said.lines) (config_is h.0 k.0 (h.1 ∙ sym k.1)) ∙ sym k.2
+
+pub text_is_one : (A : Type 0) → ReplayTextIsOne A
+text_is_one A input one other h k =
+    h.2 ∙ ap (λ (p : Played A). p.text) (played_is (capture_of {A = A} input) h.0 k.0 h.1 k.1) ∙ sym k.2

@@ -1,0 +1,96 @@
+-- A capture that was read, and played.
+use Rattle.std.proofs.Common.{◌≡◌, ◌≤◌, ◌<◌, ◌==◌, ◌∙◌, ℕ, true, false, List, [], ◌∷◌, length, reverse, if◌then◌else◌, Option, Some, None, IfSome, IsOk, IfErr, Result, Ok, Err, refl, sym, ap, subst, arith, inr}
+use Rattle.std.proofs.lemmas.List.{length-reverse}
+use Rattle.std.proofs.lemmas.Bool.Decides.{nat_tests}
+use Rattle.std.specs.Result.{IsErrAnd}
+use Rattle.gn_header.specs.declared.fault.CaptureFault.{CaptureFault}
+use Rattle.gn_io.specs.Parts.{AppendsPart}
+use Rattle.gn_fault.specs.declared.fault.ReplayFault.{ReplayFault}
+use Rattle.gn_fault.specs.declared.fault.ReplayFault.TheVariants as fault
+use Rattle.gn_fault.specs.Faults.{IsReplayFault}
+use Rattle.gn_rules.specs.declared.config.Config.{Config}
+use Rattle.gn_rules.specs.declared.receipt.Step.{Step}
+use Rattle.gn_rules.specs.declared.refusal.Refusal.{Refusal}
+use Rattle.gn_rules.specs.declared.refusal.Refusal.TheVariants.{HistoryFull}
+use Rattle.gn_rules.specs.declared.reply.Reply.{Reply}
+use Rattle.gn_rules.specs.Answer.{event_answer, with_room}
+use Rattle.gn_rules.specs.Legal.{IsLegal}
+use Rattle.gn_capture.specs.declared.capture.Capture.{Capture}
+use Rattle.gn_capture.specs.Captures.{Said, capture_of, capture_seen}
+use Rattle.gn_replay.specs.declared.replays.Exit.{Exit}
+use Rattle.gn_replay.specs.ReplayText.{IsReplay, IsReplayOf, capture_plays}
+use Rattle.gn_replay.specs.Replays.{AppendsReplay, AppendsReplayPart, HasStopped, IsCounted}
+use Rattle.gn_replay.specs.declared.fault.PlayFault.{PlayFault}
+use Rattle.gn_replay.specs.declared.fault.PlayFault.TheVariants as play
+use Rattle.gn_replay.specs.Runs.{HasRun, of_playing}
+
+-- a step is made only where there is room for it
+room : {A : Type 0} (s : Config) (past : List (Step A)) (rules : Result (Reply A) Refusal) (reply : Reply A) → with_room s past rules ≡ Ok reply → (length past == s.steps) ≡ false
+room s past rules reply is =
+    elim (length past == s.steps) as (λ b. (if b then Err HistoryFull else rules) ≡ Ok reply → b ≡ false) [
+      | true ↦ λ h. cc
+      | false ↦ λ h. refl
+    ] is
+
+-- a legal history has no more steps than it may have
+legal_within : {A : Type 0} (s : Config) (past : List (Step A)) → IsLegal s past → length past ≤ s.steps
+legal_within s [] legal = omega arith
+legal_within s (step ∷ past) legal =
+    let differs : (length past == s.steps) ≡ false = room s past (event_answer s past step.event) step.reply legal.0 in
+    let before : length past ≤ s.steps = legal_within s past legal.1 in
+    grind (arith, nat_tests, differs, before)
+
+-- so many steps fit a number
+pub few_steps : {A : Type 0} (s : Config) (steps : List (Step A)) → IsLegal s (reverse steps) → length steps < 4294967296
+few_steps s steps legal = omega (arith, length-reverse steps, legal_within s (reverse steps) legal, s.steps_in_limit.greatest)
+
+-- what replay does with a capture that was read
+pub is_replay : {A : Type 0} (text : List ℕ) (capture : Capture A) → capture_of text ≡ Ok (capture_seen capture)
+    → IsReplay A text (capture_plays capture.config capture.lines.items)
+is_replay {A} text capture read =
+    subst (λ (said : Result (Said A) CaptureFault). IsReplayOf A said (capture_plays capture.config capture.lines.items)) (sym read) (capture.config, refl, refl)
+
+-- a capture that was read is lawful
+pub is_lawful : {A : Type 0} (text : List ℕ) (capture : Capture A) → capture_of text ≡ Ok (capture_seen capture) → IsOk (capture_of {A = A} text)
+is_lawful {A} text capture read = subst (λ (said : Result (Said A) CaptureFault). IsOk said) (sym read) refl
+
+-- what was done with a capture that was read
+module _ {A : Type 0} (text : List ℕ) (capture : Capture A) where
+  -- its replay text was written
+  pub replayed : (past : List (Step A)) (count : ℕ) (old new : Option (List ℕ)) → capture_of text ≡ Ok (capture_seen capture)
+      → HasRun (capture_plays capture.config capture.lines.items) past count old new → AppendsReplay A text old new
+  replayed past count old new read run =
+      let played = capture_plays capture.config capture.lines.items in
+      (played.text, (played, is_replay text capture read, refl), run.text)
+
+  -- its steps and refusals were counted
+  pub counted : (exit : Exit) (steps : List (Step A)) (count : ℕ) (old new : Option (List ℕ)) → capture_of text ≡ Ok (capture_seen capture)
+      → HasRun (capture_plays capture.config capture.lines.items) (reverse steps) count old new → exit.steps ≡ length steps → exit.refusals ≡ count → IsCounted A text exit
+  counted exit steps count old new read run all refused =
+      (capture_plays capture.config capture.lines.items, is_replay text capture read, all ∙ sym (length-reverse steps) ∙ ap length run.past, refused ∙ run.refusals)
+
+-- where playing it stopped, a front of its replay text was written
+stopped_so : {A : Type 0} (f : PlayFault) (text : List ℕ) (old new : Option (List ℕ)) → AppendsReplayPart A text old new → HasStopped A (of_playing f) (Some text) old new
+stopped_so play.Write text old new part = part
+stopped_so play.NoMemory text old new part = inr part
+
+pub stopped : {A T : Type 0} (r : Result T ReplayFault) (f : PlayFault) (text : List ℕ) (capture : Capture A) (old new : Option (List ℕ)) → IsErrAnd r (λ e. e ≡ of_playing f)
+    → capture_of text ≡ Ok (capture_seen capture) → AppendsPart old new (capture_plays capture.config capture.lines.items).text
+    → IfErr r (λ e. HasStopped A e (Some text) old new)
+stopped (Ok x) f text capture old new is read part = tt
+stopped {A} (Err e) f text capture old new is read part =
+    let played = capture_plays capture.config capture.lines.items in
+    let all : AppendsReplayPart A text old new = (played.text, (played, is_replay text capture read, refl), part) in
+    subst (λ (e : ReplayFault). HasStopped A e (Some text) old new) (sym is) (stopped_so f text old new all)
+
+-- what was done with a text was done with the input that it is
+pub fault_of_input : {X : Type 0} (f : ReplayFault) (said : List ℕ → Result X CaptureFault) (text : List ℕ) (rest : Option (List ℕ))
+    (failures failures_new given given_new unwritten unwritten_new stalls stalls_new : ℕ)
+    → IfSome rest (λ bytes. text ≡ bytes) → IsReplayFault f said (Some text) 0 0 0 0 unwritten unwritten_new stalls stalls_new
+    → IsReplayFault f said rest failures failures_new given given_new unwritten unwritten_new stalls stalls_new
+fault_of_input fault.Read said text rest failures failures_new given given_new unwritten unwritten_new stalls stalls_new is h = absurd (grind (arith, h))
+fault_of_input fault.TooLarge said text rest failures failures_new given given_new unwritten unwritten_new stalls stalls_new is h = absurd (grind (arith, h.given))
+fault_of_input (fault.Capture c) said text None failures failures_new given given_new unwritten unwritten_new stalls stalls_new is h = tt
+fault_of_input (fault.Capture c) said text (Some bytes) failures failures_new given given_new unwritten unwritten_new stalls stalls_new is h = sym (ap said is) ∙ h
+fault_of_input fault.Write said text rest failures failures_new given given_new unwritten unwritten_new stalls stalls_new is h = h
+fault_of_input fault.NoMemory said text rest failures failures_new given given_new unwritten unwritten_new stalls stalls_new is h = tt

@@ -1,0 +1,9 @@
+use Rattle.gn_replay.specs.declared.link.Link.TheVariants.{Greeting}
+use Rattle.gn_replay.specs.Pieces.{awaits}
+use Rattle.gn_replay.proofs.LineLemmas.{awaiting, played_link}
+use Rattle.gn_replay.proofs.playing.Play.add_greeted.Goals as goal
+
+pub returns : goal.returns
+returns g c = λ states are.
+    played_link c.args.self.now c.args.self.now c.add_link.new.self (Greeting c.accepting.result) (awaits c.args.self.now.past) states
+    (awaiting c.args.self.now c.accepting.result c.accepting.ensures) c.in_ok-add_link.ensures are

@@ -1,0 +1,6 @@
+use Rattle.std.proofs.Common.{drop}
+use Rattle.gn_replay.proofs.AdmitLemmas.{IsAdmitting}
+use Rattle.gn_replay.proofs.playing.Play.admit_all.Given as goal
+
+abbrev pub invariant-loop-descriptor : goal.invariant-loop-descriptor
+invariant-loop-descriptor g l = IsAdmitting l.fn.self l.self l.c (drop l.descriptor-index l.descriptors) l.descriptors

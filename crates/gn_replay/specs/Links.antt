@@ -1,0 +1,30 @@
+-- The links of a replay, by the bytes that they were given.
+use Rattle.std.specs.Prelude.{◌≡◌, ℕ, List, [], ◌∷◌, Some, None}
+use Rattle.gn_frames.specs.Frames.{frames_of}
+use Rattle.gn_shake.specs.declared.shake.ShakeState.TheVariants.{More}
+use Rattle.gn_shake.specs.Greeting.{greeting_state}
+use Rattle.gn_shake.specs.Shaking.{shake_of}
+use Rattle.gn_shake.specs.Texts.{request_text}
+use Rattle.gn_replay.specs.declared.link.Link.{Link}
+use Rattle.gn_replay.specs.declared.link.Link.TheVariants as link
+
+-- a link: ended; awaiting its greeting, with all its bytes so far; or joined to a connection, with all its bytes so far
+-- behind the greeting
+pub data LinkState : Type 0 where
+  ended : LinkState
+  greeting : List ℕ → LinkState
+  joined : ℕ → List ℕ → LinkState
+
+-- what a link keeps is what its bytes so far leave of it
+abbrev pub IsLink : {A : Type 0} → Link A → LinkState → Type 0
+IsLink link.Ended ended = Unit {0}
+IsLink (link.Greeting shake) (greeting bytes) = (shake ≡ shake_of request_text bytes) × (greeting_state request_text bytes ≡ More)
+IsLink (link.Joined c rest) (joined d bytes) =
+    (c ≡ d) × ((frames_of bytes).fault ≡ None) × (rest ≡ Some (frames_of bytes).rest)
+IsLink kept state = ⊥
+
+-- the links, one by one
+abbrev pub AreLinks : {A : Type 0} → List (Link A) → List LinkState → Type 0
+AreLinks [] [] = Unit {0}
+AreLinks (kept ∷ more) (state ∷ states) = IsLink kept state × AreLinks more states
+AreLinks kept states = ⊥

@@ -1,0 +1,53 @@
+-- A replay as it stands.
+use Rattle.std.specs.Prelude.{◌≡◌, ◌==◌, ℕ, Bool, if◌then◌else◌, List, ◌++◌, Result}
+use Rattle.gn_io.specs.Counts.{count_more}
+use Rattle.gn_rules.specs.declared.config.Config.{Config}
+use Rattle.gn_rules.specs.declared.event.Event.{Event}
+use Rattle.gn_rules.specs.declared.receipt.Step.{Step}
+use Rattle.gn_rules.specs.declared.refusal.Refusal.{Refusal}
+use Rattle.gn_rules.specs.declared.reply.Reply.{Reply}
+use Rattle.gn_replay.specs.declared.link.Link.{Link}
+use Rattle.gn_replay.specs.Events.{Played, answer_text, refusals_in}
+use Rattle.gn_replay.specs.Links.{IsLink, AreLinks}
+use Rattle.gn_replay.specs.Pieces.{Admits, Linked}
+use Rattle.gn_replay.specs.ReplayText.{After}
+
+-- the router's configuration and steps, the newest first; what is kept of each link; what is printed and not written yet;
+-- and the count of refusals
+pub record Playing (A : Type 0) : Type 0 where
+  pub settings : Config
+  pub past : List (Step A)
+  pub links : List (Link A)
+  pub out : List ℕ
+  pub refusals : ℕ
+
+-- a count of refusals after n more; it stays at the last value of a count
+abbrev pub refused_more : ℕ → ℕ → ℕ
+refused_more n count = if n == 0 then count else count_more n count
+
+-- the replay after an event's answer was printed, and counted where it is a refusal
+abbrev pub shows : {A : Type 0} → Playing A → Event A → Result (Reply A) Refusal → Playing A
+shows v event answer = record v { out = v.out ++ answer_text event answer; refusals = refused_more (refusals_in answer) v.refusals }
+
+-- the replay after something was played; the links are told apart
+abbrev pub led : {A : Type 0} → Playing A → Played A → Playing A
+led v p = record v { past = p.past; out = v.out ++ p.text; refusals = refused_more p.refusals v.refusals }
+
+-- descriptors were admitted, and the connection was found closed or not
+pub record HasAdmitted {A : Type 0} (closed : Bool) (before after : Playing A) (came : Admits A) : Type 0 where
+  pub played : after ≡ led before came.played
+  pub told : closed ≡ came.closed
+
+-- the replay with these links
+abbrev pub with_links : {A : Type 0} → Playing A → List (Link A) → Playing A
+with_links v links = record v { links = links }
+
+-- something was played, and what is kept of the link is what its bytes so far leave of it
+pub record HasLinked {A : Type 0} (link : Link A) (before after : Playing A) (linked : Linked A) : Type 0 where
+  pub played : after ≡ led before linked.played
+  pub state : IsLink link linked.state
+
+-- a line was played, and what is kept of each link is what its bytes so far leave of it
+pub record HasPlayed {A : Type 0} (before after : Playing A) (done : After A) : Type 0 where
+  pub played : after ≡ with_links (led before done.played) after.links
+  pub links : AreLinks after.links done.links

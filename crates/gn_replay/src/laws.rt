@@ -1,0 +1,10 @@
+//! A law of replay texts that no one call shows.
+
+ghost use Rattle.gn_replay.specs.ReplayText.{ReplayTextIsOne};
+
+use std::alloc::Allocator;
+
+/// The law that an input has no two replay texts.
+pub fn replay_text_is_one<A: Allocator>()
+    ensures { ReplayTextIsOne A }
+{}

@@ -1,0 +1,71 @@
+//! A capture, replayed from its text.
+
+ghost use Rattle.std.specs.Prelude.{◌≡◌, Some, length, IfOk, IfErr, IfSome, IsOk, OnOk};
+ghost use Rattle.gn_fault.specs.Faults.{IsReplayFault};
+ghost use Rattle.gn_capture.specs.Captures.{capture_of};
+ghost use Rattle.gn_replay.specs.Replays.{AppendsReplay, HasStopped, IsCounted};
+
+use crate::run::{Replayed, play};
+use gn_capture::read_capture;
+use gn_fault::ReplayFault;
+use gn_io::{Sink, Source, read_input};
+use gn_rules::RouterCore;
+use std::alloc::Allocator;
+
+/// What a replay came to, counted.
+#[derive(Clone, Copy, Debug, PartialEq, Eq)]
+pub struct Exit {
+    /// How many steps the router made.
+    pub steps: u32,
+    /// How many events it refused, up to the last u64.
+    pub refusals: u64,
+}
+
+/// The counts of what was played.
+#[tactic(auto, using(crate::proofs::ReplayLemmas::few_steps))]
+fn exit_of<A: Allocator + Copy, C: RouterCore<A>>(replayed: &Replayed<C>) -> Exit
+    ensures steps { result.steps ≡ length (C.steps replayed.now.core) }
+    ensures refusals { result.refusals ≡ replayed.now.refusals }
+{
+    Exit {
+        steps: replayed.core.history().len() as u32,
+        refusals: replayed.refusals,
+    }
+}
+
+/// Replays a capture that is read whole.
+fn replay_text<A: Allocator + Copy, C: RouterCore<A> + Drop, W: Sink>(
+    alloc: A,
+    text: &[u8],
+    sink: &mut W,
+) -> Result<Exit, ReplayFault>
+    ensures lawful { OnOk result (IsOk (capture_of {A = A} text.now)) }
+    ensures written { OnOk result (AppendsReplay A text.now (W.told sink.old) (W.told sink.new)) }
+    ensures counted { IfOk result (λ exit. IsCounted A text.now exit) }
+    ensures stopped { IfErr result (λ fault. HasStopped A fault (Some text.now) (W.told sink.old) (W.told sink.new)) }
+    ensures fault { IfErr result (λ fault. IsReplayFault fault (capture_of {A = A}) (Some text.now) 0 0 0 0
+        (W.failures sink.old) (W.failures sink.new) (W.stalls sink.old) (W.stalls sink.new)) }
+{
+    let capture = read_capture(alloc, text)?;
+    let replayed = play::<A, C, W>(alloc, &capture, sink)?;
+    Ok(exit_of::<A, C>(&replayed))
+}
+
+/// Reads a capture whole, plays its lines on a new router, and writes what each prints before the next is played. After an
+/// `Err` a front of that text was written, and nothing where the capture wasn't read or has a fault.
+pub fn replay<A: Allocator + Copy, C: RouterCore<A> + Drop, S: Source, W: Sink>(
+    alloc: A,
+    source: &mut S,
+    sink: &mut W,
+) -> Result<Exit, ReplayFault>
+    ensures lawful { OnOk result (IfSome (S.rest source.old) (λ text. IsOk (capture_of {A = A} text))) }
+    ensures written { OnOk result (IfSome (S.rest source.old) (λ text. AppendsReplay A text (W.told sink.old) (W.told sink.new))) }
+    ensures counted { IfOk result (λ exit. IfSome (S.rest source.old) (λ text. IsCounted A text exit)) }
+    ensures stopped { IfErr result (λ fault. HasStopped A fault (S.rest source.old) (W.told sink.old) (W.told sink.new)) }
+    ensures fault { IfErr result (λ fault. IsReplayFault fault (capture_of {A = A}) (S.rest source.old)
+        (S.failures source.old) (S.failures source.new) (S.given source.old) (S.given source.new)
+        (W.failures sink.old) (W.failures sink.new) (W.stalls sink.old) (W.stalls sink.new)) }
+{
+    let text = read_input(alloc, source)?;
+    replay_text::<A, C, W>(alloc, &text, sink)
+}

@@ -1,0 +1,92 @@
+//! The lines of a capture, played on a router one after the other.
+
+ghost use Rattle.std.specs.Prelude.{◌≡◌, [], List, reverse, IfOk, IfErr, OnOk, OnErr};
+ghost use Rattle.gn_io.specs.Parts.{AppendsPart};
+ghost use Rattle.gn_replay.specs.Links.{AreLinks, LinkState};
+ghost use Rattle.gn_replay.specs.ReplayText.{capture_plays, plays};
+ghost use Rattle.gn_replay.specs.Runs.{HasRun, HasWritten, IsNew, IsPlayFault};
+
+use crate::fault::PlayFault;
+use crate::playing::Play;
+use gn_capture::{Capture, Line};
+use gn_io::{Sink, write_all};
+use gn_rules::RouterCore;
+use std::alloc::Allocator;
+
+/// What playing a capture came to.
+#[derive(Drop)]
+pub struct Replayed<C> {
+    /// The router, after all events.
+    pub core: C,
+    /// How many events it refused, up to the last u64.
+    pub refusals: u64,
+}
+
+impl<A: Allocator + Copy, C: RouterCore<A>> Play<A, C> {
+    fn clear_out(&mut self)
+        ensures { self.new ≡ record self.old { out = [] } }
+    {
+        self.out.clear();
+    }
+
+    /// Plays one line, and writes its text.
+    fn write_line<W: Sink>(&mut self, line: &Line<A>, sink: &mut W) -> Result<(), PlayFault>
+        ensures ok { OnOk result ((states : List LinkState) → AreLinks self.old.links states
+            → HasWritten self.old self.new (W.told sink.old) (W.told sink.new) (plays self.old.settings self.old.past states line.now)) }
+        ensures err { OnErr result ((states : List LinkState) → AreLinks self.old.links states
+            → AppendsPart (W.told sink.old) (W.told sink.new) (plays self.old.settings self.old.past states line.now).played.text) }
+        ensures cause { IfErr result (λ fault. IsPlayFault fault (W.failures sink.old) (W.failures sink.new) (W.stalls sink.old) (W.stalls sink.new)) }
+        ensures failures { OnOk result (W.failures sink.new ≡ W.failures sink.old) }
+        ensures stalls { OnOk result (W.stalls sink.new ≡ W.stalls sink.old) }
+    {
+        self.clear_out();
+        self.play_line(line)?;
+        write_all(sink, &self.out)?;
+        Ok(())
+    }
+
+    /// Plays lines in order, and writes the text of each before the next is played.
+    fn write_lines<W: Sink>(
+        &mut self,
+        lines: &[(u64, Line<A>)],
+        sink: &mut W,
+    ) -> Result<(), PlayFault>
+        requires { IsNew self.old }
+        ensures ok { OnOk result (HasRun (capture_plays self.old.settings lines.now) self.new.past self.new.refusals (W.told sink.old) (W.told sink.new)) }
+        ensures err { OnErr result (AppendsPart (W.told sink.old) (W.told sink.new) (capture_plays self.old.settings lines.now).text) }
+        ensures settings { OnOk result (self.new.settings ≡ self.old.settings) }
+        ensures cause { IfErr result (λ fault. IsPlayFault fault (W.failures sink.old) (W.failures sink.new) (W.stalls sink.old) (W.stalls sink.new)) }
+    {
+        for (_, line) in lines {
+            self.write_line(line, sink)?;
+        }
+        Ok(())
+    }
+}
+
+/// Makes a router as the capture's first lines say, plays its lines on it, and writes what they print. An `Err` is a write
+/// that failed or took nothing, or want of memory: a front of that text was written.
+pub fn play<A: Allocator + Copy, C: RouterCore<A> + Drop, W: Sink>(
+    alloc: A,
+    capture: &Capture<A>,
+    sink: &mut W,
+) -> Result<Replayed<C>, PlayFault>
+    ensures settings { IfOk result (λ replayed. C.settings replayed.core ≡ capture.now.config) }
+    ensures played { IfOk result (λ replayed. HasRun (capture_plays capture.now.config capture.now.lines.items)
+        (reverse (C.steps replayed.core)) replayed.refusals (W.told sink.old) (W.told sink.new)) }
+    ensures err { OnErr result (AppendsPart (W.told sink.old) (W.told sink.new) (capture_plays capture.now.config capture.now.lines.items).text) }
+    ensures cause { IfErr result (λ fault. IsPlayFault fault (W.failures sink.old) (W.failures sink.new) (W.stalls sink.old) (W.stalls sink.new)) }
+{
+    let mut play = Play {
+        alloc,
+        core: C::make(alloc, &capture.config)?,
+        links: Vec::new(alloc),
+        out: Vec::new(alloc),
+        refusals: 0,
+    };
+    play.write_lines(&capture.lines, sink)?;
+    Ok(Replayed {
+        core: play.core,
+        refusals: play.refusals,
+    })
+}

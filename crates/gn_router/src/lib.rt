@@ -1,0 +1,16 @@
+//! The router by tables: it answers as the rules say without ever reading its history.
+#![tactic(auto)]
+
+mod decide;
+mod find;
+mod follow;
+mod packets;
+mod readers;
+mod router_core;
+mod table_router;
+mod tables;
+
+pub use table_router::TableRouter;
+
+#[cfg(test)]
+mod tests;

@@ -1,0 +1,100 @@
+//! The table router keeps what every router promises.
+
+ghost use Rattle.std.specs.Prelude.{◌≡◌, ◌<◌, ◌∷◌, ◌++◌, [], Ok, length, vec_capacity, vec_len, IfOk, OnErr};
+ghost use Rattle.gn_rules.specs.Answer.{answer};
+ghost use Rattle.gn_router.specs.Tabled.{past_of};
+
+use crate::table_router::TableRouter;
+use gn_payload::Checked;
+use gn_rules::{Config, ConnId, Event, Receipt, Refusal, Reply, RouterCore, Stats, Step, Ticket};
+use std::alloc::{AllocError, Allocator};
+
+impl<A: Allocator + Copy> TableRouter<A> {
+    /// Makes the step of an event whose reply was found. An `Err` is want of memory, and changes nothing.
+    fn enter(
+        &mut self,
+        actor: u32,
+        event: &Event<A>,
+        reply: Reply<A>,
+    ) -> Result<Receipt<A>, AllocError>
+        requires { answer self.old.settings (past_of self.old) event.now ≡ Ok reply }
+        ensures reply { IfOk result (λ receipt. receipt.reply ≡ reply) }
+        ensures step { IfOk result (λ receipt. self.new.steps
+            ≡ self.old.steps ++ record { actor = actor; event = event.now; reply = reply } ∷ []) }
+        ensures index { IfOk result (λ receipt. receipt.index ≡ length self.old.steps) }
+        ensures event { IfOk result (λ receipt. receipt.event ≡ event.now) }
+        ensures err { OnErr result (self.new.steps ≡ self.old.steps) }
+        ensures settings { self.new.settings ≡ self.old.settings }
+    {
+        let index = self.history.len() as u32;
+        let (step, receipt) = Step::with_receipt(self.alloc, index, actor, event, reply)?;
+        self.history.reserve(1)?;
+        self.tables.follow(self.alloc, event, &receipt.reply)?;
+        push_reserved(&mut self.history, step);
+        Ok(receipt)
+    }
+}
+
+/// Puts an item at the end, where there is room.
+fn push_reserved<T: Drop, A: Allocator>(items: &mut Vec<T, A>, item: T)
+    requires { vec_len items.old < vec_capacity items.old }
+    ensures { items.new.items ≡ items.old.items ++ item ∷ [] }
+{
+    match items.push(item) {
+        Ok(()) => {}
+        Err(_) => unreachable!(),
+    }
+}
+
+impl<A: Allocator + Copy> RouterCore<A> for TableRouter<A> {
+    ghost settings = { λ r. r.settings };
+
+    ghost steps = { λ r. r.steps };
+
+    fn make(alloc: A, config: &Config) -> Result<Self, AllocError> {
+        TableRouter::with_tables(alloc, config)
+    }
+
+    fn apply(&mut self, actor: u32, event: &Event<A>) -> Result<Receipt<A>, Refusal> {
+        let reply = self.find(event)?;
+        Ok(self.enter(actor, event, reply)?)
+    }
+
+    fn route(
+        &mut self,
+        actor: u32,
+        ticket: Ticket,
+        checked: &Checked<A>,
+    ) -> Result<Receipt<A>, Refusal> {
+        let reply = self.find_checked(ticket, checked)?;
+        Ok(self.enter(actor, &Event::Route(ticket), reply)?)
+    }
+
+    fn config(&self) -> &Config {
+        &self.config
+    }
+
+    fn history(&self) -> &[Step<A>] {
+        self.history.as_slice()
+    }
+
+    fn into_history(self) -> Vec<Step<A>, A> {
+        self.history
+    }
+
+    fn stats(&self) -> Stats {
+        self.tables.stats
+    }
+
+    fn flights(&self) -> u32 {
+        self.flying()
+    }
+
+    fn is_live(&self, c: ConnId) -> bool {
+        self.has(c)
+    }
+
+    fn waiting(&self, c: ConnId) -> u32 {
+        self.line(c).unwrap_or(0)
+    }
+}

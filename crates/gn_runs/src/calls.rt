@@ -1,0 +1,52 @@
+//! What only calls can ask of a router.
+
+use bytes::Bytes;
+use gn_payload::Checked;
+use gn_plain::PlainRouter;
+use gn_router::TableRouter;
+use gn_rules::{Config, Event, Own, Refusal, RouterCore};
+use gn_wire::{Descriptor, Guid, Kind};
+use std::alloc::Global;
+use std::process::Abort;
+use std::test::Fail;
+
+const OWN: Own = Own {
+    servent: Guid([0xee; 16]),
+    ip: [127, 0, 0, 1],
+    port: 6346,
+    files: 5,
+    kbytes: 40,
+};
+
+fn ping(id: u8) -> Result<Descriptor, Fail> {
+    let ping = Descriptor::new(Guid([id; 16]), Kind::Ping, 7, 0, Bytes::new());
+    Ok(ping.map_err(|_| "a Ping")?)
+}
+
+fn pong(alloc: Global) -> Result<Descriptor, Fail> {
+    let payload = Bytes::copy_from_slice(alloc, &[1; 14])?;
+    let pong = Descriptor::new(Guid([0xd1; 16]), Kind::Pong, 5, 0, payload);
+    Ok(pong.map_err(|_| "a Pong")?)
+}
+
+/// A ticket is routed with another descriptor than was admitted, and a Pong is originated.
+fn refuses<C: RouterCore<Global> + Drop, R: Abort + AllocGlobal>(rt: &R) -> Result<(), Fail> {
+    let alloc = rt.alloc();
+    let config = Config::new(4, 8, 4, 8, 8, 100, OWN).map_err(|_| "a configuration")?;
+    let mut core = C::make(alloc, &config)?;
+    core.apply(0, &Event::Connect).map_err(|_| "a connection")?;
+    core.apply(0, &Event::Admit(1, ping(0xa1)?))
+        .map_err(|_| "an admission")?;
+    let strange = core.route(0, 0, &Checked::new(ping(0xa2)?));
+    assert!(rt; matches!(strange, Err(Refusal::Strange)));
+    let pong = core.apply(0, &Event::Originate(pong(alloc)?));
+    assert!(rt; matches!(pong, Err(Refusal::BadOrigin)));
+    assert!(rt; core.history().len() == 2);
+    Ok(())
+}
+
+#[test]
+fn refusals_by_call(rt: HostRuntime) -> Result<(), Fail> {
+    refuses::<TableRouter, _>(&rt)?;
+    refuses::<PlainRouter, _>(&rt)
+}

@@ -1,0 +1,155 @@
+//! Captures with a fault and audits, through the command line.
+
+use crate::compare::same;
+use crate::spelling::spelled;
+use gn_io::{ReaderSource, WriterSink};
+use gn_program::command;
+use std::alloc::Global;
+use std::io::{self, Read};
+use std::process::Abort;
+use std::test::Fail;
+
+/// A short text that is read, the status, what is printed, and the line of its fault.
+type Case = (&'static str, u8, &'static str, &'static str);
+
+const FAULTY: [Case; 6] = [
+    (
+        "gnutella-capture 9; config 4 8 4 8 8 100; own <ee> 127.0.0.1 6346 5 40; join",
+        1,
+        "",
+        "fault: line 1: header",
+    ),
+    (
+        "gnutella-capture 1; config 0 8 4 8 8 100; own <ee> 127.0.0.1 6346 5 40; join",
+        1,
+        "",
+        "fault: line 2: config",
+    ),
+    (
+        "gnutella-capture 1; config 4 8 4 8 8 100; own <ee> 127.0.0.1 6346 5 40; join; data 3 00",
+        1,
+        "",
+        "fault: line 5: link",
+    ),
+    (
+        "gnutella-capture 1; config 4 8 4 8 8 100; own <ee> 127.0.0.1 6346 5 40; join; data 1 0",
+        1,
+        "",
+        "fault: line 5: field",
+    ),
+    (
+        "gnutella-capture 1; config 4 8 4 8 8 100; own <ee> 127.0.0.1 6346 5 40; join; join 1",
+        1,
+        "",
+        "fault: line 5: fields",
+    ),
+    (
+        "gnutella-capture 1; config 4 8 4 8 8 100; own <ee> 127.0.0.1 6346 5 40; join; jump",
+        1,
+        "",
+        "fault: line 5: word",
+    ),
+];
+
+/// A history of one Ping, right, and spoiled: a wrong ticket, no second connection, an admission told twice, no last line.
+const AUDITED: [Case; 5] = [
+    (
+        "gnutella-history 1; config 4 8 4 8 8 100; own <ee> 127.0.0.1 6346 5 40; \
+        0 connect = connected 1; 0 connect = connected 2; 0 admit 1 <PING a1 07 00> = admitted 0; \
+        0 route 0 = routed local 1+<OWN a1 01> 2+<PING a1 06 01>; end",
+        0,
+        "legal 4",
+        "",
+    ),
+    (
+        "gnutella-history 1; config 4 8 4 8 8 100; own <ee> 127.0.0.1 6346 5 40; \
+        0 connect = connected 1; 0 connect = connected 2; 0 admit 1 <PING a1 07 00> = admitted 1; \
+        0 route 0 = routed local 1+<OWN a1 01> 2+<PING a1 06 01>; end",
+        1,
+        "wrong 2",
+        "",
+    ),
+    (
+        "gnutella-history 1; config 4 8 4 8 8 100; own <ee> 127.0.0.1 6346 5 40; \
+        0 connect = connected 1; 0 admit 1 <PING a1 07 00> = admitted 0; \
+        0 route 0 = routed local 1+<OWN a1 01> 2+<PING a1 06 01>; end",
+        1,
+        "wrong 2",
+        "",
+    ),
+    (
+        "gnutella-history 1; config 4 8 4 8 8 100; own <ee> 127.0.0.1 6346 5 40; \
+        0 connect = connected 1; 0 connect = connected 2; 0 admit 1 <PING a1 07 00> = admitted 0; \
+        0 admit 1 <PING a1 07 00> = admitted 0; \
+        0 route 0 = routed local 1+<OWN a1 01> 2+<PING a1 06 01>; end",
+        1,
+        "wrong 3",
+        "",
+    ),
+    (
+        "gnutella-history 1; config 4 8 4 8 8 100; own <ee> 127.0.0.1 6346 5 40; \
+        0 connect = connected 1; 0 connect = connected 2; 0 admit 1 <PING a1 07 00> = admitted 0; \
+        0 route 0 = routed local 1+<OWN a1 01> 2+<PING a1 06 01>",
+        1,
+        "",
+        "fault: line 8: end",
+    ),
+];
+
+/// Gives each text to a command, and compares its answers.
+fn all_answer<R: Abort + AllocGlobal>(rt: &R, word: &str, cases: &[Case]) -> Result<(), Fail> {
+    let alloc = rt.alloc();
+    for (short, status, printed, fault) in cases {
+        let text = spelled(alloc, short)?;
+        let mut reader = ReaderSource::new(text.as_bytes());
+        let mut writer = WriterSink::new(Vec::new(alloc));
+        let mut faults = WriterSink::new(Vec::new(alloc));
+        let words = ["gn", word];
+        let found = command(alloc, &words, &mut reader, &mut writer, &mut faults);
+        assert!(rt; found == *status, "{short}: status {found}");
+        same(
+            rt,
+            short,
+            &writer.into_inner(),
+            spelled(alloc, printed)?.as_bytes(),
+        );
+        same(
+            rt,
+            short,
+            &faults.into_inner(),
+            spelled(alloc, fault)?.as_bytes(),
+        );
+    }
+    Ok(())
+}
+
+#[test]
+fn capture_faults(rt: HostRuntime) -> Result<(), Fail> {
+    all_answer(&rt, "replay", &FAULTY)
+}
+
+#[test]
+fn audits(rt: HostRuntime) -> Result<(), Fail> {
+    all_answer(&rt, "audit", &AUDITED)
+}
+
+#[test]
+fn too_large_an_input(rt: HostRuntime) {
+    let alloc = rt.alloc();
+    let mut reader = ReaderSource::new(io::repeat(b'#').take(67_108_865));
+    let mut writer = WriterSink::new(Vec::new(alloc));
+    let mut faults = WriterSink::new(Vec::new(alloc));
+    let status = command(
+        alloc,
+        &["gn", "replay"],
+        &mut reader,
+        &mut writer,
+        &mut faults,
+    );
+    assert_eq!(rt; status, 1);
+    assert!(rt; writer.into_inner().is_empty());
+    assert_eq!(rt;
+        faults.into_inner().as_slice(),
+        b"fault: input too large\n".as_slice()
+    );
+}

@@ -1,0 +1,25 @@
+//! The worked runs: captures, what they print, and what is told of their histories. Tests alone.
+#![tactic(auto)]
+
+#[cfg(test)]
+mod answer_runs;
+#[cfg(test)]
+mod calls;
+#[cfg(test)]
+mod commands;
+#[cfg(test)]
+mod compare;
+#[cfg(test)]
+mod cuts;
+#[cfg(test)]
+mod event_lists;
+#[cfg(test)]
+mod link_runs;
+#[cfg(test)]
+mod played;
+#[cfg(test)]
+mod request_runs;
+#[cfg(test)]
+mod run;
+#[cfg(test)]
+mod spelling;

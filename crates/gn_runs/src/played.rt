@@ -1,0 +1,76 @@
+//! Each run, replayed on each router: its text byte for byte, and its history written, read back and audited.
+
+use crate::answer_runs::ANSWER_RUNS;
+use crate::compare::same;
+use crate::link_runs::LINK_RUNS;
+use crate::request_runs::REQUEST_RUNS;
+use crate::run::{Run, capture_text};
+use crate::spelling::spelled;
+use gn_audit::audit;
+use gn_capture::read_capture;
+use gn_history::{read_history, write_history};
+use gn_io::{ReaderSource, WriterSink};
+use gn_legal::{Legality, legal};
+use gn_plain::PlainRouter;
+use gn_replay::{Replayed, play};
+use gn_router::TableRouter;
+use gn_rules::RouterCore;
+use std::alloc::Global;
+use std::process::Abort;
+use std::test::Fail;
+
+/// Compares what a router's history is read back as, and what is told of it.
+fn history_is_kept<C: RouterCore<Global> + Drop, R: Abort + AllocGlobal>(
+    rt: &R,
+    name: &'static str,
+    core: &C,
+) -> Result<(), Fail> {
+    let alloc = rt.alloc();
+    let mut written = Vec::new(alloc);
+    write_history(alloc, core.config(), core.history(), &mut written)?;
+    let (config, steps) = read_history(alloc, &written).map_err(|_| name)?;
+    let mut again = Vec::new(alloc);
+    write_history(alloc, &config, &steps, &mut again)?;
+    same(rt, name, &again, &written);
+    assert!(rt; legal(&config, &steps) == Legality::Legal, "{name}");
+    let mut source = ReaderSource::new(written.as_slice());
+    let mut sink = WriterSink::new(Vec::new(alloc));
+    let told = audit::<Global, C, _, _>(alloc, &mut source, &mut sink);
+    assert!(rt; told == Ok(Legality::Legal), "{name}");
+    let line = format!(in alloc; "legal {}\n", steps.len())?;
+    same(rt, name, &sink.into_inner(), line.as_bytes());
+    Ok(())
+}
+
+fn plays<C: RouterCore<Global> + Drop, R: Abort + AllocGlobal>(
+    rt: &R,
+    run: &Run,
+) -> Result<(), Fail> {
+    let alloc = rt.alloc();
+    let text = capture_text(alloc, run.numbers, run.capture)?;
+    let capture = read_capture(alloc, text.as_bytes()).map_err(|_| run.name)?;
+    let mut sink = WriterSink::new(Vec::new(alloc));
+    let replayed: Replayed<C> = play(alloc, &capture, &mut sink).map_err(|_| run.name)?;
+    let printed = spelled(alloc, run.printed)?;
+    same(rt, run.name, &sink.into_inner(), printed.as_bytes());
+    history_is_kept::<C, R>(rt, run.name, &replayed.core)
+}
+
+fn all_play<C: RouterCore<Global> + Drop, R: Abort + AllocGlobal>(rt: &R) -> Result<(), Fail> {
+    for runs in [REQUEST_RUNS.as_slice(), &LINK_RUNS, &ANSWER_RUNS] {
+        for run in runs {
+            plays::<C, R>(rt, run)?;
+        }
+    }
+    Ok(())
+}
+
+#[test]
+fn on_the_table_router(rt: HostRuntime) -> Result<(), Fail> {
+    all_play::<TableRouter, _>(&rt)
+}
+
+#[test]
+fn on_the_plain_router(rt: HostRuntime) -> Result<(), Fail> {
+    all_play::<PlainRouter, _>(&rt)
+}

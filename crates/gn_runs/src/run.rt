@@ -1,0 +1,30 @@
+//! What a run is.
+
+use crate::spelling::spelled;
+use std::alloc::{AllocError, Global};
+
+/// The numbers of the configuration that most runs have.
+pub(crate) const USUAL: &str = "4 8 4 8 8 100";
+
+/// A capture, and what is printed of it. The texts are short ones, as told in `spelling`.
+#[derive(Clone, Copy)]
+pub(crate) struct Run {
+    pub name: &'static str,
+    /// The numbers of its configuration.
+    pub numbers: &'static str,
+    /// The lines behind the first three.
+    pub capture: &'static str,
+    /// What is printed.
+    pub printed: &'static str,
+}
+
+/// The text of a capture of these numbers and lines.
+pub(crate) fn capture_text(
+    alloc: Global,
+    numbers: &str,
+    lines: &str,
+) -> Result<String, AllocError> {
+    let own = spelled(alloc, "own <ee> 127.0.0.1 6346 5 40")?;
+    let lines = spelled(alloc, lines)?;
+    format!(in alloc; "gnutella-capture 1\nconfig {numbers}\n{own}{lines}")
+}
