@@ -13,14 +13,14 @@ build:
 test:
 	rt ci
 
-# What a call of each table takes, jobs a second through the stage queue, and what replays and audits take. Times go to
-# standard error.
+# What a call of each table takes, jobs a second through the stage queue, and what replays and audits take, each load three
+# times in a process of its own. Times go to standard error.
 bench:
 	cd crates/gn_bench_tables && rt run -- 1000000
 	cd crates/gn_bench_stage && rt run -- 1000000
-	cd crates/gn_bench_replay && rt run -- table 300
-	for load in 'table 1000' 'table 3000' 'table 10000' 'table 100000' 'comments 100000' 'piece 1000000' 'plain 300' \
-		'plain 1000'; do crates/gn_bench_replay/out/gn_bench_replay $$load || exit 1; done
+	cd crates/gn_bench_replay && rt run -- table 1
+	for run in 1 2 3; do for load in 'table 300' 'table 1000' 'table 3000' 'table 10000' 'table 100000' 'comments 100000' \
+		'piece 1000000' 'plain 300' 'plain 1000'; do crates/gn_bench_replay/out/gn_bench_replay $$load || exit 1; done; done
 
 clean:
 	rm -rf crates/*/out

@@ -17,7 +17,7 @@ abbrev pub verdict_text : Legality → ℕ → List ℕ
 verdict_text Legal steps = codes "legal " ++ decimal steps ++ codes "\n"
 verdict_text (WrongAt i) steps = codes "wrong " ++ decimal i ++ codes "\n"
 
--- a text says a history of which this is true, and this is the line that tells it
+-- the text says a configuration and steps, the verdict is true of them, and this is its line
 pub record IsAudited (A : Type 0) (text : List ℕ) (legality : Legality) (line : List ℕ) : Type 0 where
   pub settings : Config
   pub steps : List (Step A)
@@ -33,7 +33,8 @@ AppendsVerdict A text legality old new = (line : List ℕ) × IsAudited A text l
 abbrev pub AppendsVerdictPart : (A : Type 0) → List ℕ → Option (List ℕ) → Option (List ℕ) → Type 0
 AppendsVerdictPart A text old new = (legality : Legality) × (line : List ℕ) × IsAudited A text legality line × AppendsPart old new line
 
--- what was written where an audit stopped: a front of the line where a write failed, and nothing before
+-- what was written where an audit stopped: a front of the line at Write, where a write failed or took nothing; at any other
+-- fault nothing
 abbrev pub HasStopped : (A : Type 0) → ReplayFault → Option (List ℕ) → Option (List ℕ) → Option (List ℕ) → Type 0
 HasStopped A Write rest old new = IfSome rest (λ text. AppendsVerdictPart A text old new)
 HasStopped A fault rest old new = Keeps old new

@@ -1,8 +1,9 @@
 //! A history audited from stream to stream.
 
-ghost use Rattle.std.specs.Prelude.{IfOk, IfErr, IfSome, IsOk, OnOk};
+ghost use Rattle.std.specs.Prelude.{◌≤◌, length, IfOk, IfErr, IfSome, IsOk, OnOk};
 ghost use Rattle.gn_fault.specs.Faults.{IsReplayFault};
 ghost use Rattle.gn_history.specs.Text.{history_of};
+ghost use Rattle.gn_io.specs.Input.{input_limit};
 ghost use Rattle.gn_audit.specs.Audits.{AppendsVerdict, HasStopped};
 
 use crate::verdict::judge_text;
@@ -20,6 +21,7 @@ pub fn audit<A: Allocator + Copy, C: RouterCore<A> + Drop, S: Source, W: Sink>(
     source: &mut S,
     sink: &mut W,
 ) -> Result<Legality, ReplayFault>
+    ensures short { OnOk result (IfSome (S.rest source.old) (λ text. length text ≤ input_limit)) }
     ensures lawful { OnOk result (IfSome (S.rest source.old) (λ text. IsOk (history_of {A = A} text))) }
     ensures told { IfOk result (λ legality. IfSome (S.rest source.old) (λ text.
         AppendsVerdict A text legality (W.told sink.old) (W.told sink.new))) }

@@ -31,7 +31,7 @@ fn push_descriptor<A: Allocator>(text: &mut String<A>, number: u32) -> Result<()
 }
 
 /// So many descriptors from eight links.
-pub fn of_descriptors<A: Allocator>(alloc: A, count: u32) -> Result<String<A>, AllocError> {
+pub(crate) fn of_descriptors<A: Allocator>(alloc: A, count: u32) -> Result<String<A>, AllocError> {
     let mut text = String::new(alloc);
     text.push_str(HEADER)?;
     for _ in 0..LINKS {
@@ -44,7 +44,7 @@ pub fn of_descriptors<A: Allocator>(alloc: A, count: u32) -> Result<String<A>, A
 }
 
 /// So many lines of comment, and nothing else behind the header.
-pub fn of_comments<A: Allocator>(alloc: A, count: u32) -> Result<String<A>, AllocError> {
+pub(crate) fn of_comments<A: Allocator>(alloc: A, count: u32) -> Result<String<A>, AllocError> {
     let mut text = String::new(alloc);
     text.push_str(HEADER)?;
     for number in 0..count {
@@ -54,7 +54,7 @@ pub fn of_comments<A: Allocator>(alloc: A, count: u32) -> Result<String<A>, Allo
 }
 
 /// One piece of so many bytes, which are Pings.
-pub fn of_one_piece<A: Allocator>(alloc: A, bytes: u32) -> Result<String<A>, AllocError> {
+pub(crate) fn of_one_piece<A: Allocator>(alloc: A, bytes: u32) -> Result<String<A>, AllocError> {
     let mut text = String::new(alloc);
     text.push_str(HEADER)?;
     text.push_str("join\ndata 1 ")?;

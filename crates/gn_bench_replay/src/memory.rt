@@ -9,7 +9,7 @@ fn kilobytes_of(line: &str) -> Option<u64> {
 }
 
 /// The most kilobytes that the program had at once, where the system tells.
-pub fn most_kilobytes<R: Runtime>(rt: &R) -> Option<u64> {
+pub(crate) fn most_kilobytes<R: Runtime>(rt: &R) -> Option<u64> {
     let status = fs::read_to_string(rt, "/proc/self/status").ok()?;
     for line in status.as_str().lines() {
         if line.starts_with("VmHWM:") {

@@ -75,7 +75,7 @@ fn time_audit<R: Runtime<A: Copy>, C: RouterCore<R::A> + Drop>(
 }
 
 /// Replays the capture on a router of this kind, writes the history that it ends with, and audits that.
-pub fn time_run<R: Runtime<A: Copy>, C: RouterCore<R::A> + Drop>(
+pub(crate) fn time_run<R: Runtime<A: Copy>, C: RouterCore<R::A> + Drop>(
     rt: &R,
     text: &str,
 ) -> io::Result<Run> {

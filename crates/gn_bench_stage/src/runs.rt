@@ -136,7 +136,7 @@ fn send_on<R: Threads + Wait + Sync>(rt: &R, alloc: Global, each: u32) -> Result
 }
 
 /// Twice so many jobs through a stage of capacity 1,024.
-pub fn through_stage<R: Threads + Wait + Sync + Clock>(
+pub(crate) fn through_stage<R: Threads + Wait + Sync + Clock>(
     rt: &R,
     alloc: Global,
     each: u32,
@@ -148,7 +148,7 @@ pub fn through_stage<R: Threads + Wait + Sync + Clock>(
 }
 
 /// Twice so many jobs through a channel of capacity 1,024.
-pub fn through_channel<R: Threads + Wait + Sync + Clock>(
+pub(crate) fn through_channel<R: Threads + Wait + Sync + Clock>(
     rt: &R,
     alloc: Global,
     each: u32,

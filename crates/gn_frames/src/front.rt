@@ -10,7 +10,7 @@ use gn_wire::{Descriptor, FrameFault, Header, read_header};
 use std::alloc::{AllocError, Allocator};
 
 /// The bytes of a header.
-pub const HEADER_BYTES: usize = 23;
+pub(crate) const HEADER_BYTES: usize = 23;
 
 /// What a slice of bytes begins with.
 #[derive(Clone, Copy, Debug, PartialEq, Eq)]
@@ -24,7 +24,7 @@ pub enum Front {
 }
 
 /// What the bytes begin with.
-pub fn front_of(bytes: &[u8]) -> Front
+pub(crate) fn front_of(bytes: &[u8]) -> Front
     ensures { result ≡ front_of bytes.now }
 {
     let Some(start) = bytes.first_chunk::<23>() else {
@@ -38,7 +38,7 @@ pub fn front_of(bytes: &[u8]) -> Front
 }
 
 /// The descriptor of a lawful header, with a copy of its payload. An `Err` is want of memory.
-pub fn copied<A: Allocator + Copy>(
+pub(crate) fn copied<A: Allocator + Copy>(
     alloc: A,
     header: Header,
     payload: &[u8],

@@ -85,7 +85,7 @@ fn take_frames<'a, A: Allocator + Copy>(
 
 /// The frames of what is held with the piece behind it; what no descriptor has is held from then on. An `Err` is want of
 /// memory: what was held stays in front.
-pub fn take_piece<A: Allocator + Copy>(
+pub(crate) fn take_piece<A: Allocator + Copy>(
     alloc: A,
     held: &mut Vec<u8, A>,
     piece: &[u8],

@@ -28,13 +28,13 @@ abbrev pub rest_seen : {A : Type 0} → Option (Bor (List (Sending A))) → Opti
 rest_seen None = None
 rest_seen (Some sends) = Some sends.now
 
--- what is left of these sends without the first, where that is x
+-- what is left of these sends without the first, where that is x; nothing, where it isn't
 abbrev pub without_first : {A : Type 0} → Sending A → Option (List (Sending A)) → Option (List (Sending A))
 without_first x None = None
 without_first x (Some []) = None
 without_first x (Some (y ∷ ys)) = if is_same_sending x y then Some ys else None
 
--- what is left of these sends without the first ones, where those are xs
+-- what is left of these sends without the first ones, where those are xs; nothing, where they aren't
 abbrev pub without : {A : Type 0} → List (Sending A) → Option (List (Sending A)) → Option (List (Sending A))
 without [] rest = rest
 without (x ∷ xs) rest = without xs (without_first x rest)
@@ -43,13 +43,13 @@ without (x ∷ xs) rest = without xs (without_first x rest)
 abbrev pub to_live : {A : Type 0} → Config → List (Step A) → ℕ → Packet → List ℕ → List (Sending A)
 to_live s past from p cs = map (send s past p) (filter (λ d. not (d == from)) (filter (live past) cs))
 
--- no send is left
+-- all that was looked for was found, and no send is left
 abbrev pub is_end : {A : Type 0} → Option (List (Sending A)) → Bool
 is_end None = false
 is_end (Some []) = true
 is_end (Some (y ∷ ys)) = false
 
--- a reply that says how many packets were discarded
+-- how many packets a reply says were discarded
 abbrev pub closed_of : {A : Type 0} → Reply A → Option ℕ
 closed_of (Closed count) = Some count
 closed_of reply = None
@@ -64,7 +64,7 @@ abbrev pub sent_of : {A : Type 0} → Reply A → Option (List (Sending A))
 sent_of (Sent sends) = Some sends
 sent_of reply = None
 
--- the sends of a reply to a Route, where it tells this about the local servent
+-- the sends of a reply to a Route, where it tells this about the local servent; nothing of another reply
 abbrev pub routed_of : {A : Type 0} → Bool → Reply A → Option (List (Sending A))
 routed_of here (Routed sends local) = if is_same_mark here local then Some sends else None
 routed_of here reply = None
@@ -90,12 +90,12 @@ is_same_reason BackToSender BackToSender = true
 is_same_reason Expired Expired = true
 is_same_reason a b = false
 
--- the reason is told
+-- a reason is told, and it is this one
 abbrev pub is_reason : DropReason → Option DropReason → Bool
 is_reason a None = false
 is_reason a (Some b) = is_same_reason a b
 
--- the packet is told
+-- a packet is told, and it is this one
 abbrev pub is_packet : Packet → Option Packet → Bool
 is_packet p None = false
 is_packet p (Some q) = is_same_packet p q
@@ -112,7 +112,7 @@ is_same_reply (Dropped reason) reply = is_reason reason (dropped_of reply)
 is_same_reply (Taken packet) reply = is_packet packet (taken_of reply)
 is_same_reply (Sent sends) reply = is_end (without sends (sent_of reply))
 
--- a reply is the answer
+-- a reply is the rules' answer; where they refuse, none is
 abbrev pub is_answer : {A : Type 0} → Result (Reply A) Refusal → Reply A → Bool
 is_answer (Ok rules) reply = is_same_reply rules reply
 is_answer (Err refusal) reply = false

@@ -13,9 +13,9 @@ use crate::same;
 use gn_payload::verdict_on;
 use gn_plain::{
     connection_count, decide, first_out, flight_count, flight_in, is_live, is_remembered,
-    live_count, may_originate, out_count, ticket_count,
+    live_count, out_count, ticket_count,
 };
-use gn_rules::{Config, ConnId, Decision, Event, Reply, Sending, Step, Ticket};
+use gn_rules::{Config, ConnId, Decision, Event, Reply, Sending, Step, Ticket, may_originate};
 use gn_wire::{Descriptor, Kind};
 use std::alloc::Allocator;
 
@@ -219,7 +219,11 @@ fn answers_event<A: Allocator>(
 
 /// Whether a step's reply is the rules' answer after this history.
 #[tactic(auto, using(gn_rules::proofs::PastLemmas::past_length))]
-pub fn is_answered<A: Allocator>(config: &Config, history: &[Step<A>], step: &Step<A>) -> bool
+pub(crate) fn is_answered<A: Allocator>(
+    config: &Config,
+    history: &[Step<A>],
+    step: &Step<A>,
+) -> bool
     requires legal { IsLegal config.now (reverse history.now) }
     requires within { length history.now ≤ config.now.steps }
     ensures { result ≡ is_answer (rules.answer config.now (reverse history.now) step.now.event) step.now.reply }

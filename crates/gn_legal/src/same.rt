@@ -16,14 +16,14 @@ use gn_wire::Descriptor;
 use std::alloc::Allocator;
 
 /// Whether a reply says that too many connections are live.
-pub fn is_too_many<A: Allocator>(reply: &Reply<A>) -> bool
+pub(crate) fn is_too_many<A: Allocator>(reply: &Reply<A>) -> bool
     ensures { result ≡ same.is_too_many reply.now }
 {
     matches!(reply, Reply::TooMany)
 }
 
 /// Whether a reply made the connection.
-pub fn is_connected<A: Allocator>(reply: &Reply<A>, c: ConnId) -> bool
+pub(crate) fn is_connected<A: Allocator>(reply: &Reply<A>, c: ConnId) -> bool
     ensures { result ≡ is_at c (connected_of reply.now) }
 {
     match reply {
@@ -33,7 +33,7 @@ pub fn is_connected<A: Allocator>(reply: &Reply<A>, c: ConnId) -> bool
 }
 
 /// Whether a reply discarded so many packets.
-pub fn is_closed<A: Allocator>(reply: &Reply<A>, discarded: u32) -> bool
+pub(crate) fn is_closed<A: Allocator>(reply: &Reply<A>, discarded: u32) -> bool
     ensures { result ≡ is_at discarded (same.closed_of reply.now) }
 {
     match reply {
@@ -43,14 +43,14 @@ pub fn is_closed<A: Allocator>(reply: &Reply<A>, discarded: u32) -> bool
 }
 
 /// Whether a reply says that the threshold is reached.
-pub fn is_busy<A: Allocator>(reply: &Reply<A>) -> bool
+pub(crate) fn is_busy<A: Allocator>(reply: &Reply<A>) -> bool
     ensures { result ≡ same.is_busy reply.now }
 {
     matches!(reply, Reply::Busy)
 }
 
 /// Whether a reply gave the ticket.
-pub fn is_admitted<A: Allocator>(reply: &Reply<A>, t: Ticket) -> bool
+pub(crate) fn is_admitted<A: Allocator>(reply: &Reply<A>, t: Ticket) -> bool
     ensures { result ≡ is_at t (admitted_of reply.now) }
 {
     match reply {
@@ -60,7 +60,7 @@ pub fn is_admitted<A: Allocator>(reply: &Reply<A>, t: Ticket) -> bool
 }
 
 /// Whether a reply took the packet.
-pub fn is_taken<A: Allocator>(reply: &Reply<A>, packet: &Descriptor<A>) -> bool
+pub(crate) fn is_taken<A: Allocator>(reply: &Reply<A>, packet: &Descriptor<A>) -> bool
     ensures { result ≡ same.is_packet packet.now (same.taken_of reply.now) }
 {
     match reply {
@@ -70,7 +70,7 @@ pub fn is_taken<A: Allocator>(reply: &Reply<A>, packet: &Descriptor<A>) -> bool
 }
 
 /// Whether a reply dropped a descriptor for the reason.
-pub fn is_dropped<A: Allocator>(reply: &Reply<A>, reason: DropReason) -> bool
+pub(crate) fn is_dropped<A: Allocator>(reply: &Reply<A>, reason: DropReason) -> bool
     ensures { result ≡ same.is_reason reason (dropped_of reply.now) }
 {
     match reply {
@@ -96,7 +96,7 @@ fn is_same_reason(reason: DropReason, other: DropReason) -> bool
 }
 
 /// The sends of a reply to an Originate.
-pub fn sent<A: Allocator>(reply: &Reply<A>) -> Option<&[Sending<A>]>
+pub(crate) fn sent<A: Allocator>(reply: &Reply<A>) -> Option<&[Sending<A>]>
     ensures { rest_seen result ≡ same.sent_of reply.now }
 {
     match reply {
@@ -106,7 +106,7 @@ pub fn sent<A: Allocator>(reply: &Reply<A>) -> Option<&[Sending<A>]>
 }
 
 /// The sends of a reply to a Route, where it tells this about the local servent.
-pub fn routed<A: Allocator>(reply: &Reply<A>, here: bool) -> Option<&[Sending<A>]>
+pub(crate) fn routed<A: Allocator>(reply: &Reply<A>, here: bool) -> Option<&[Sending<A>]>
     ensures { rest_seen result ≡ same.routed_of here reply.now }
 {
     match reply {
@@ -116,14 +116,14 @@ pub fn routed<A: Allocator>(reply: &Reply<A>, here: bool) -> Option<&[Sending<A>
 }
 
 /// Whether two marks are the same.
-pub fn is_same_mark(a: bool, b: bool) -> bool
+pub(crate) fn is_same_mark(a: bool, b: bool) -> bool
     ensures { result ≡ same.is_same_mark a b }
 {
     if a { b } else { !b }
 }
 
 /// What is left of the sends without the first, where that is the send of the packet.
-pub fn without_send<'a, A: Allocator>(
+pub(crate) fn without_send<'a, A: Allocator>(
     config: &Config,
     history: &[Step<A>],
     made: &Made<'_, A>,
@@ -161,7 +161,7 @@ fn without_step<'a, A: Allocator>(
 }
 
 /// What is left of the sends without the first ones, where those are the packet's to each live connection but one, rising.
-pub fn without_fanout<'a, A: Allocator>(
+pub(crate) fn without_fanout<'a, A: Allocator>(
     config: &Config,
     history: &[Step<A>],
     made: &Made<'_, A>,
@@ -179,7 +179,7 @@ pub fn without_fanout<'a, A: Allocator>(
 }
 
 /// Whether no send is left.
-pub fn is_end<A: Allocator>(rest: Option<&[Sending<A>]>) -> bool
+pub(crate) fn is_end<A: Allocator>(rest: Option<&[Sending<A>]>) -> bool
     ensures { result ≡ same.is_end (rest_seen rest.entry) }
 {
     match rest {

@@ -126,10 +126,12 @@ pub fn read_hit(bytes: &[u8]) -> Option<QueryHit<'_>>
     hit_in(bytes)
 }
 
-/// The servent that a Query Hit's payload is from.
+/// The servent that a Query Hit's payload is from: its last 16 bytes. Fewer bytes are no Query Hit, and give zeros.
 pub fn servent_of_hit(bytes: &[u8]) -> Guid
-    requires { 16 ≤ length bytes.now }
-    ensures { result ≡ hit_servent bytes.now }
+    ensures { 16 ≤ length bytes.now → result ≡ hit_servent bytes.now }
 {
-    Guid(first_bytes(&bytes[bytes.len() - 16..]))
+    match bytes.last_chunk() {
+        Some(servent) => Guid(*servent),
+        None => Guid([0; 16]),
+    }
 }

@@ -6,7 +6,7 @@ ghost use Rattle.gn_payload.specs.Reading.{text_reading};
 ghost use Rattle.gn_payload.specs.Refusals as refusals;
 
 /// The first `N` bytes.
-pub fn first_bytes<const N: usize>(bytes: &[u8]) -> [u8; N]
+pub(crate) fn first_bytes<const N: usize>(bytes: &[u8]) -> [u8; N]
     requires { N ≤ length bytes.now }
     ensures { result ≡ take N bytes.now }
 {
@@ -24,7 +24,7 @@ fn first_zero(bytes: &[u8]) -> Option<usize>
 
 /// The text before the first zero byte, and what follows that byte. `None` where no byte is zero.
 #[tactic(auto, using(crate::proofs::TextLemmas::text_by_place))]
-pub fn split_text(bytes: &[u8]) -> Option<(&[u8], &[u8])>
+pub(crate) fn split_text(bytes: &[u8]) -> Option<(&[u8], &[u8])>
     ensures { option_map (λ x. (x.0.now, x.1.now)) result ≡ text_reading bytes.now }
 {
     let zero = first_zero(bytes)?;
@@ -32,7 +32,7 @@ pub fn split_text(bytes: &[u8]) -> Option<(&[u8], &[u8])>
 }
 
 /// Whether a zero byte stands in the text.
-pub fn has_zero(text: &[u8]) -> bool
+pub(crate) fn has_zero(text: &[u8]) -> bool
     ensures { result ≡ refusals.has_zero text.now }
 {
     text.iter().any(|b| *b == 0)

@@ -39,12 +39,14 @@ pub fn read_push(bytes: &[u8]) -> Option<Push>
     })
 }
 
-/// The servent that a Push's payload is for.
+/// The servent that a Push's payload is for: its first 16 bytes. Fewer bytes are no Push, and give zeros.
 pub fn servent_of_push(bytes: &[u8]) -> Guid
-    requires { 16 ≤ length bytes.now }
-    ensures { result ≡ push_servent bytes.now }
+    ensures { 16 ≤ length bytes.now → result ≡ push_servent bytes.now }
 {
-    Guid(first_bytes(bytes))
+    match bytes.first_chunk() {
+        Some(servent) => Guid(*servent),
+        None => Guid([0; 16]),
+    }
 }
 
 /// Appends the 26 bytes of a Push. An `Err` is want of memory: it comes only where the vector has no room for them, and

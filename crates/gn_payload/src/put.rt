@@ -8,7 +8,7 @@ use byteorder::{ByteOrder, LittleEndian};
 use std::alloc::Allocator;
 
 /// A number in two bytes, the least first.
-pub fn little_u16(n: u16) -> [u8; 2]
+pub(crate) fn little_u16(n: u16) -> [u8; 2]
     ensures { result ≡ little_bytes 2 n }
 {
     let mut bytes = [0u8; 2];
@@ -17,7 +17,7 @@ pub fn little_u16(n: u16) -> [u8; 2]
 }
 
 /// A number in four bytes, the least first.
-pub fn little_u32(n: u32) -> [u8; 4]
+pub(crate) fn little_u32(n: u32) -> [u8; 4]
     ensures { result ≡ little_bytes 4 n }
 {
     let mut bytes = [0u8; 4];
@@ -26,7 +26,7 @@ pub fn little_u32(n: u32) -> [u8; 4]
 }
 
 /// Appends bytes.
-pub fn put<B: Allocator>(out: &mut Vec<u8, B>, bytes: &[u8])
+pub(crate) fn put<B: Allocator>(out: &mut Vec<u8, B>, bytes: &[u8])
     requires { vec_len out.old + length bytes.now ≤ vec_capacity out.old }
     ensures items { out.new.items ≡ out.old.items ++ bytes.now }
     ensures len { vec_len out.new ≡ vec_len out.old + length bytes.now }
@@ -39,7 +39,7 @@ pub fn put<B: Allocator>(out: &mut Vec<u8, B>, bytes: &[u8])
 }
 
 /// Appends a number in two bytes, the least first.
-pub fn put_u16<B: Allocator>(out: &mut Vec<u8, B>, n: u16)
+pub(crate) fn put_u16<B: Allocator>(out: &mut Vec<u8, B>, n: u16)
     requires { vec_len out.old + 2 ≤ vec_capacity out.old }
     ensures items { out.new.items ≡ out.old.items ++ little_bytes 2 n }
     ensures len { vec_len out.new ≡ vec_len out.old + 2 }
@@ -49,7 +49,7 @@ pub fn put_u16<B: Allocator>(out: &mut Vec<u8, B>, n: u16)
 }
 
 /// Appends a number in four bytes, the least first.
-pub fn put_u32<B: Allocator>(out: &mut Vec<u8, B>, n: u32)
+pub(crate) fn put_u32<B: Allocator>(out: &mut Vec<u8, B>, n: u32)
     requires { vec_len out.old + 4 ≤ vec_capacity out.old }
     ensures items { out.new.items ≡ out.old.items ++ little_bytes 4 n }
     ensures len { vec_len out.new ≡ vec_len out.old + 4 }
@@ -59,7 +59,7 @@ pub fn put_u32<B: Allocator>(out: &mut Vec<u8, B>, n: u32)
 }
 
 /// Appends a text and the zero byte that ends it.
-pub fn put_ended<B: Allocator>(out: &mut Vec<u8, B>, text: &[u8])
+pub(crate) fn put_ended<B: Allocator>(out: &mut Vec<u8, B>, text: &[u8])
     requires { vec_len out.old + length text.now + 1 ≤ vec_capacity out.old }
     ensures items { out.new.items ≡ out.old.items ++ ended text.now }
     ensures len { vec_len out.new ≡ vec_len out.old + length text.now + 1 }

@@ -55,7 +55,7 @@ fn add_fanout<A: Allocator + Copy>(
 }
 
 /// A send to each live connection but one, rising.
-pub fn fanout_of<A: Allocator + Copy>(
+pub(crate) fn fanout_of<A: Allocator + Copy>(
     alloc: A,
     config: &Config,
     history: &[Step<A>],
@@ -144,7 +144,7 @@ fn onward_of<A: Allocator + Copy>(
 }
 
 /// The reply that a decision makes.
-pub fn reply_to<A: Allocator + Copy>(
+pub(crate) fn reply_to<A: Allocator + Copy>(
     alloc: A,
     config: &Config,
     history: &[Step<A>],

@@ -14,13 +14,13 @@ use crate::live::{connection_count, is_live, live_count};
 use crate::output::{first_out, out_count};
 use crate::sights::is_remembered;
 use gn_payload::{Checked, Verdict, verdict_on};
-use gn_rules::{Config, ConnId, Event, Refusal, Reply, Step, Ticket};
-use gn_wire::{Descriptor, Kind};
+use gn_rules::{Config, ConnId, Event, Refusal, Reply, Step, Ticket, may_originate};
+use gn_wire::Descriptor;
 use std::alloc::{AllocError, Allocator};
 
 /// The reply to a Connect.
 #[tactic(auto, using(gn_rules::proofs::PastLemmas::past_length))]
-pub fn connect_reply<A: Allocator>(config: &Config, history: &[Step<A>]) -> Reply<A>
+pub(crate) fn connect_reply<A: Allocator>(config: &Config, history: &[Step<A>]) -> Reply<A>
     requires { length history.now ≤ config.now.steps }
     ensures { rules.connect_answer config.now (reverse history.now) ≡ Ok result }
 {
@@ -31,7 +31,7 @@ pub fn connect_reply<A: Allocator>(config: &Config, history: &[Step<A>]) -> Repl
 }
 
 /// The answer to a Close.
-pub fn close_answer<A: Allocator>(
+pub(crate) fn close_answer<A: Allocator>(
     config: &Config,
     history: &[Step<A>],
     c: ConnId,
@@ -47,7 +47,7 @@ pub fn close_answer<A: Allocator>(
 
 /// The answer to an Admit, where so many tickets are in flight.
 #[tactic(auto, using(gn_rules::proofs::PastLemmas::past_length))]
-pub fn admit_answer<A: Allocator>(
+pub(crate) fn admit_answer<A: Allocator>(
     config: &Config,
     history: &[Step<A>],
     flights: usize,
@@ -82,17 +82,6 @@ fn take_answer<A: Allocator>(
         None => Err(Refusal::NothingWaiting),
         Some(packet) => Ok(Reply::Taken(packet.copy()?)),
     }
-}
-
-/// Whether the local servent may send the descriptor.
-pub fn may_originate<A: Allocator>(packet: &Descriptor<A>) -> bool
-    ensures { result ≡ rules.may_originate packet.now }
-{
-    let is_request = match packet.kind() {
-        Kind::Ping | Kind::Query => true,
-        _ => false,
-    };
-    is_request && packet.ttl() != 0 && packet.hops() == 0 && verdict_on(packet) == Verdict::Sound
 }
 
 /// The answer to an Originate.
@@ -181,7 +170,7 @@ fn checked_flight_answer<A: Allocator + Copy>(
 
 /// The answer to a Route with a descriptor that was checked beforehand.
 #[tactic(auto, using(gn_rules::proofs::PastLemmas::past_length))]
-pub fn checked_answer<A: Allocator + Copy>(
+pub(crate) fn checked_answer<A: Allocator + Copy>(
     alloc: A,
     config: &Config,
     history: &[Step<A>],
@@ -222,7 +211,7 @@ fn event_answer<A: Allocator + Copy>(
 
 /// The answer to an event, where so many tickets are in flight.
 #[tactic(auto, using(gn_rules::proofs::PastLemmas::past_length))]
-pub fn answer<A: Allocator + Copy>(
+pub(crate) fn answer<A: Allocator + Copy>(
     alloc: A,
     config: &Config,
     history: &[Step<A>],

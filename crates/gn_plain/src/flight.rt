@@ -10,7 +10,7 @@ use std::alloc::Allocator;
 
 /// What was admitted under the ticket, and by which connection.
 #[tactic(auto, using(gn_rules::proofs::PastLemmas::past_more))]
-pub fn admission_in<A: Allocator>(
+pub(crate) fn admission_in<A: Allocator>(
     history: &[Step<A>],
     t: Ticket,
 ) -> Option<(ConnId, &Descriptor<A>)>
@@ -32,7 +32,7 @@ pub fn admission_in<A: Allocator>(
 
 /// Whether the ticket was routed.
 #[tactic(auto, using(gn_rules::proofs::PastLemmas::past_more))]
-pub fn is_routed_in<A: Allocator>(history: &[Step<A>], t: Ticket) -> bool
+pub(crate) fn is_routed_in<A: Allocator>(history: &[Step<A>], t: Ticket) -> bool
     ensures { result ≡ is_routed (reverse history.now) t }
 {
     let mut routed = false;

@@ -14,7 +14,6 @@ mod servents;
 mod sights;
 
 pub use decisions::decide;
-pub use events::may_originate;
 pub use flight::{flight_count, flight_in, ticket_count};
 pub use live::{connection_count, is_live, live_count};
 pub use output::{first_out, has_room, out_count};

@@ -38,11 +38,10 @@ fn out_after<A: Allocator>(step: &Step<A>, c: ConnId, before: usize) -> usize
     }
 }
 
-/// How many packets are queued to the connection and not taken.
+/// How many packets are queued to the connection and not taken, in a legal history.
 pub fn out_count<A: Allocator>(config: &Config, history: &[Step<A>], c: ConnId) -> usize
-    requires { IsLegal config.now (reverse history.now) }
-    ensures value { result ≡ length (out (reverse history.now) c) }
-    ensures bound { result ≤ config.now.out }
+    ensures value { IsLegal config.now (reverse history.now) → result ≡ length (out (reverse history.now) c) }
+    ensures bound { IsLegal config.now (reverse history.now) → result ≤ config.now.out }
 {
     let mut count = 0usize;
     for step in history {
@@ -51,10 +50,9 @@ pub fn out_count<A: Allocator>(config: &Config, history: &[Step<A>], c: ConnId) 
     count
 }
 
-/// Whether the connection's output has room for one more packet.
+/// Whether the connection's output has room for one more packet, in a legal history.
 pub fn has_room<A: Allocator>(config: &Config, history: &[Step<A>], c: ConnId) -> bool
-    requires { IsLegal config.now (reverse history.now) }
-    ensures { result ≡ rules.has_room config.now (reverse history.now) c }
+    ensures { IsLegal config.now (reverse history.now) → result ≡ rules.has_room config.now (reverse history.now) c }
 {
     out_count(config, history, c) < config.out as usize
 }
@@ -112,15 +110,14 @@ fn packet_after<A: Allocator>(
     None
 }
 
-/// The first packet that waits for the connection, where there is one.
+/// The first packet that waits for the connection in a legal history, where there is one.
 #[tactic(auto, using(crate::proofs::OutputLemmas::first_seen))]
 pub fn first_out<'a, A: Allocator>(
     config: &Config,
     history: &'a [Step<A>],
     c: ConnId,
 ) -> Option<&'a Descriptor<A>>
-    requires { IsLegal config.now (reverse history.now) }
-    ensures { taken_seen {A = A} result ≡ first_taken (out (reverse history.now) c) }
+    ensures { IsLegal config.now (reverse history.now) → taken_seen {A = A} result ≡ first_taken (out (reverse history.now) c) }
 {
     packet_after(history, c, take_count(history, c))
 }

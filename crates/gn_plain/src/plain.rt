@@ -24,7 +24,8 @@ pub struct PlainRouter<A: Allocator + Copy = Global> {
 }
 
 impl<A: Allocator + Copy> Model for PlainRouter<A> {
-    ghost use Rattle.gn_plain.specs.Kept.{IsKept, Kept};
+    ghost use Rattle.gn_plain.specs.Kept.{IsKept};
+    ghost use Rattle.gn_rules.specs.Kept.{Kept};
 
     ghost Value = { Kept A };
 

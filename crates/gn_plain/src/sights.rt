@@ -7,23 +7,9 @@ ghost use Rattle.gn_rules.specs.Sights as rules;
 ghost use Rattle.gn_plain.specs.Place.{place};
 
 use crate::flight::admission_in;
-use gn_rules::{Config, ConnId, DropReason, Event, Reply, Step};
-use gn_wire::{Key, Kind};
+use gn_rules::{Config, ConnId, Event, Step};
+use gn_wire::Key;
 use std::alloc::Allocator;
-
-/// Whether a route of this kind with this reply is kept.
-fn keeps<A: Allocator>(kind: Kind, reply: &Reply<A>) -> bool
-    ensures { result ≡ rules.keeps kind reply.now }
-{
-    match kind {
-        Kind::Ping | Kind::Query => reply.is_routed(),
-        Kind::Push => !matches!(
-            reply.dropped(),
-            Some(DropReason::Malformed | DropReason::Duplicate)
-        ),
-        _ => false,
-    }
-}
 
 /// The key and the source that a step keeps after this history.
 fn sight_in<A: Allocator>(history: &[Step<A>], step: &Step<A>) -> Option<(Key, ConnId)>
@@ -32,7 +18,7 @@ fn sight_in<A: Allocator>(history: &[Step<A>], step: &Step<A>) -> Option<(Key, C
     match &step.event {
         Event::Route(t) => {
             let (origin, packet) = admission_in(history, *t)?;
-            if keeps(packet.kind(), &step.reply) {
+            if step.reply.keeps(packet.kind()) {
                 Some((packet.key(), origin))
             } else {
                 None
@@ -66,7 +52,11 @@ fn last_sight<A: Allocator>(history: &[Step<A>], key: &Key) -> (Option<ConnId>, 
 
 /// The source of the key, where it is remembered.
 #[tactic(auto, using(crate::proofs::PlaceLemmas::found_among, crate::proofs::PlaceLemmas::missed_among))]
-pub fn source_of<A: Allocator>(config: &Config, history: &[Step<A>], key: &Key) -> Option<ConnId>
+pub(crate) fn source_of<A: Allocator>(
+    config: &Config,
+    history: &[Step<A>],
+    key: &Key,
+) -> Option<ConnId>
     ensures { result ≡ rules.source config.now (reverse history.now) key.now }
 {
     let (source, later) = last_sight(history, key);

@@ -6,7 +6,8 @@ use Rattle.clap.specs.Kinds.{Kinds}
 use Rattle.gn_program.specs.declared.request.Request.{Request}
 use Rattle.gn_program.specs.declared.request.Request.TheVariants.{Replay, Audit}
 
--- the command `gn`: it has a version, and one of its subcommands has to be named; none of them takes arguments
+-- the command `gn`: it has a version, and one of its subcommands has to be named; `help` is none of them, and none takes
+-- arguments
 abbrev pub gn_app : App
 gn_app =
     let gn = new_app (codes "gn") in
@@ -23,7 +24,7 @@ abbrev pub request_named : Text → Option Request
 request_named name =
     if bytes_eq name (name_of Replay) then Some Replay else (if bytes_eq name (name_of Audit) then Some Audit else None)
 
--- what the words ask for, by what is wrong with them and by the subcommand that they name
+-- what the words ask for, by what is wrong with them and by the subcommand that they name; nothing, where something is wrong
 abbrev pub request_by : Kinds → Option (Text × List Row) → Option Request
 request_by [] (Some (name, rows)) = request_named name
 request_by [] None = None

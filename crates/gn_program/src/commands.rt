@@ -7,7 +7,7 @@ ghost use Rattle.clap.specs.Kinds.{IsAmong};
 ghost use Rattle.clap.specs.Words.{fault_of, kind_of};
 ghost use Rattle.clap.specs.declared.error.kind.ErrorKind.{ErrorKind as Kind};
 ghost use Rattle.clap.specs.declared.error.kind.ErrorKind.TheVariants.{OutOfMemory};
-ghost use Rattle.gn_program.specs.Commands.{Does, IsTurnedAway, IsUnread, Streams};
+ghost use Rattle.gn_program.specs.Commands.{Does, IsTurnedAway, IsUnread, Streams, audit_status, replay_status};
 ghost use Rattle.gn_program.specs.Words.{gn_app, request_of};
 ghost use Rattle.gn_program.specs.declared.request.Request.{Request as Asked};
 
@@ -18,9 +18,10 @@ use crate::words::read_words;
 use clap::Error;
 use clap::error::ErrorKind;
 use gn_audit::audit;
+use gn_fault::ReplayFault;
 use gn_io::{Sink, Source};
 use gn_legal::Legality;
-use gn_replay::replay;
+use gn_replay::{Exit, replay};
 use gn_router::TableRouter;
 use std::alloc::Global;
 use std::convert::AsStr;
@@ -41,6 +42,27 @@ fn fault_told<F: Sink>(faults: &mut F, fault: Fault) -> u8
 {
     let _ = tell_line(faults, fault);
     FAULT
+}
+
+/// The status after a replay, whose fault is told.
+fn tell_of_replay<F: Sink>(faults: &mut F, answer: Result<Exit, ReplayFault>) -> u8
+    ensures { result ≡ replay_status answer }
+{
+    match answer {
+        Ok(_) => DONE,
+        Err(fault) => fault_told(faults, Fault::from(fault)),
+    }
+}
+
+/// The status after an audit, whose fault is told.
+fn tell_of_audit<F: Sink>(faults: &mut F, answer: Result<Legality, ReplayFault>) -> u8
+    ensures { result ≡ audit_status answer }
+{
+    match answer {
+        Ok(Legality::Legal) => DONE,
+        Ok(Legality::WrongAt(_)) => FAULT,
+        Err(fault) => fault_told(faults, Fault::from(fault)),
+    }
 }
 
 /// Does what is asked for, and gives the status.
@@ -66,15 +88,14 @@ fn obey<S: Source, W: Sink, F: Sink>(
     }) result }
 {
     match request {
-        Request::Replay => match replay::<Global, TableRouter, S, W>(alloc, reader, writer) {
-            Ok(_) => DONE,
-            Err(fault) => fault_told(faults, Fault::from(fault)),
-        },
-        Request::Audit => match audit::<Global, TableRouter, S, W>(alloc, reader, writer) {
-            Ok(Legality::Legal) => DONE,
-            Ok(Legality::WrongAt(_)) => FAULT,
-            Err(fault) => fault_told(faults, Fault::from(fault)),
-        },
+        Request::Replay => {
+            let answer = replay::<Global, TableRouter, S, W>(alloc, reader, writer);
+            tell_of_replay(faults, answer)
+        }
+        Request::Audit => {
+            let answer = audit::<Global, TableRouter, S, W>(alloc, reader, writer);
+            tell_of_audit(faults, answer)
+        }
     }
 }
 

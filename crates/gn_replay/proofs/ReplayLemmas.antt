@@ -4,6 +4,7 @@ use Rattle.std.proofs.lemmas.List.{length-reverse}
 use Rattle.std.proofs.lemmas.Bool.Decides.{nat_tests}
 use Rattle.std.specs.Result.{IsErrAnd}
 use Rattle.gn_header.specs.declared.fault.CaptureFault.{CaptureFault}
+use Rattle.gn_io.specs.Input.{input_limit}
 use Rattle.gn_io.specs.Parts.{AppendsPart}
 use Rattle.gn_fault.specs.declared.fault.ReplayFault.{ReplayFault}
 use Rattle.gn_fault.specs.declared.fault.ReplayFault.TheVariants as fault
@@ -91,6 +92,7 @@ pub fault_of_input : {X : Type 0} (f : ReplayFault) (said : List ℕ → Result 
 fault_of_input fault.Read said text rest failures failures_new given given_new unwritten unwritten_new stalls stalls_new is h = absurd (grind (arith, h))
 fault_of_input fault.TooLarge said text rest failures failures_new given given_new unwritten unwritten_new stalls stalls_new is h = absurd (grind (arith, h.given))
 fault_of_input (fault.Capture c) said text None failures failures_new given given_new unwritten unwritten_new stalls stalls_new is h = tt
-fault_of_input (fault.Capture c) said text (Some bytes) failures failures_new given given_new unwritten unwritten_new stalls stalls_new is h = sym (ap said is) ∙ h
+fault_of_input (fault.Capture c) said text (Some bytes) failures failures_new given given_new unwritten unwritten_new stalls stalls_new is h =
+    subst (λ (z : List ℕ). (length z ≤ input_limit) × (said z ≡ Err c)) is h
 fault_of_input fault.Write said text rest failures failures_new given given_new unwritten unwritten_new stalls stalls_new is h = h
 fault_of_input fault.NoMemory said text rest failures failures_new given given_new unwritten unwritten_new stalls stalls_new is h = tt

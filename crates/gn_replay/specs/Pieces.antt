@@ -58,7 +58,7 @@ abbrev pub delivers : {A : Type 0} → Config → List (Step A) → ℕ → ℕ 
 delivers s past i c bytes piece =
     delivers_these s past i c (bytes ++ piece) (completed bytes piece) (frames_of (bytes ++ piece)).fault
 
--- a link that is joined where the Connect made a connection, else ended
+-- a link that is joined where the Connect made a connection, with no bytes yet; else ended
 abbrev pub joined_to : Option ℕ → LinkState
 joined_to None = ended
 joined_to (Some c) = joined c []

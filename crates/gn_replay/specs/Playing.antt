@@ -29,7 +29,8 @@ refused_more n count = if n == 0 then count else count_more n count
 abbrev pub shows : {A : Type 0} → Playing A → Event A → Result (Reply A) Refusal → Playing A
 shows v event answer = record v { out = v.out ++ answer_text event answer; refusals = refused_more (refusals_in answer) v.refusals }
 
--- the replay after something was played; the links are told apart
+-- the replay after something was played: its steps stand then, its text is behind what was printed, its refusals are counted;
+-- the links are as they were
 abbrev pub led : {A : Type 0} → Playing A → Played A → Playing A
 led v p = record v { past = p.past; out = v.out ++ p.text; refusals = refused_more p.refusals v.refusals }
 

@@ -17,14 +17,14 @@ AppendsReplay A input old new = (text : List ℕ) × IsReplayText A input text �
 abbrev pub AppendsReplayPart : (A : Type 0) → List ℕ → Option (List ℕ) → Option (List ℕ) → Type 0
 AppendsReplayPart A input old new = (text : List ℕ) × IsReplayText A input text × AppendsPart old new text
 
--- the steps of what replay does with the input, and the events that it refuses, are counted
+-- the steps of what replay does with the input are counted, and the events that it refuses, up to the last u64
 abbrev pub IsCounted : (A : Type 0) → List ℕ → Exit → Type 0
 IsCounted A input exit =
     (played : Played A) × IsReplay A input played × (exit.steps ≡ length played.past)
     × (exit.refusals ≡ refused_more played.refusals 0)
 
--- what was written where a replay stopped: nothing before the capture was read, and then a front of its text. Memory may
--- be wanting before and after
+-- what was written where a replay stopped: at Write a front of the replay text, at NoMemory that or nothing, at any other
+-- fault nothing
 abbrev pub HasStopped : (A : Type 0) → ReplayFault → Option (List ℕ) → Option (List ℕ) → Option (List ℕ) → Type 0
 HasStopped A Write rest old new = IfSome rest (λ input. AppendsReplayPart A input old new)
 HasStopped A NoMemory rest old new = IfSome rest (λ input. Keeps old new ⊎ AppendsReplayPart A input old new)

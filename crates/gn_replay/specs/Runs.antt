@@ -32,7 +32,7 @@ pub record HasWritten {A : Type 0} (before after : Playing A) (old new : Option 
   pub links : AreLinks after.links done.links
   pub text : Appends old new done.played.text
 
--- when playing stops: Write where a write failed or took nothing, as the sink counts them
+-- when playing stops: Write where a write failed or took nothing, as the sink counts them; memory may be wanting at any time
 abbrev pub IsPlayFault : PlayFault → ℕ → ℕ → ℕ → ℕ → Type 0
 IsPlayFault Write failures_old failures_new stalls_old stalls_new = Rises failures_old failures_new ⊎ Rises stalls_old stalls_new
 IsPlayFault NoMemory failures_old failures_new stalls_old stalls_new = Unit {0}

@@ -1,7 +1,8 @@
 //! A capture, replayed from its text.
 
-ghost use Rattle.std.specs.Prelude.{◌≡◌, Some, length, IfOk, IfErr, IfSome, IsOk, OnOk};
+ghost use Rattle.std.specs.Prelude.{◌≡◌, ◌≤◌, Some, length, IfOk, IfErr, IfSome, IsOk, OnOk};
 ghost use Rattle.gn_fault.specs.Faults.{IsReplayFault};
+ghost use Rattle.gn_io.specs.Input.{input_limit};
 ghost use Rattle.gn_capture.specs.Captures.{capture_of};
 ghost use Rattle.gn_replay.specs.Replays.{AppendsReplay, HasStopped, IsCounted};
 
@@ -39,6 +40,7 @@ fn replay_text<A: Allocator + Copy, C: RouterCore<A> + Drop, W: Sink>(
     text: &[u8],
     sink: &mut W,
 ) -> Result<Exit, ReplayFault>
+    requires { length text.now ≤ input_limit }
     ensures lawful { OnOk result (IsOk (capture_of {A = A} text.now)) }
     ensures written { OnOk result (AppendsReplay A text.now (W.told sink.old) (W.told sink.new)) }
     ensures counted { IfOk result (λ exit. IsCounted A text.now exit) }
@@ -58,6 +60,7 @@ pub fn replay<A: Allocator + Copy, C: RouterCore<A> + Drop, S: Source, W: Sink>(
     source: &mut S,
     sink: &mut W,
 ) -> Result<Exit, ReplayFault>
+    ensures short { OnOk result (IfSome (S.rest source.old) (λ text. length text ≤ input_limit)) }
     ensures lawful { OnOk result (IfSome (S.rest source.old) (λ text. IsOk (capture_of {A = A} text))) }
     ensures written { OnOk result (IfSome (S.rest source.old) (λ text. AppendsReplay A text (W.told sink.old) (W.told sink.new))) }
     ensures counted { IfOk result (λ exit. IfSome (S.rest source.old) (λ text. IsCounted A text exit)) }

@@ -8,9 +8,9 @@ ghost use Rattle.gn_router.specs.Tabled.{carried, past_of};
 
 use crate::table_router::TableRouter;
 use gn_payload::{Checked, Verdict, verdict_on};
-use gn_rules::{ConnId, Decision, Event, Refusal, Reply, Sends, Ticket};
+use gn_rules::{ConnId, Decision, Event, Refusal, Reply, Sends, Ticket, may_originate};
 use gn_tables::Flight;
-use gn_wire::{Descriptor, Kind};
+use gn_wire::Descriptor;
 use std::alloc::{AllocError, Allocator};
 
 impl<A: Allocator + Copy> TableRouter<A> {
@@ -142,14 +142,4 @@ impl<A: Allocator + Copy> TableRouter<A> {
         }
         Ok(Reply::Sent(self.fan_out(Sends::new(self.alloc), 0, packet)?))
     }
-}
-
-/// Whether the local servent may send a descriptor: a sound Ping or Query with some TTL and no Hops.
-fn may_originate<A: Allocator>(packet: &Descriptor<A>) -> bool
-    ensures { result ≡ rules.may_originate packet.now }
-{
-    matches!(packet.kind(), Kind::Ping | Kind::Query)
-        && packet.ttl() != 0
-        && packet.hops() == 0
-        && matches!(verdict_on(packet), Verdict::Sound)
 }

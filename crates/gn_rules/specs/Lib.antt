@@ -2,6 +2,7 @@ pub mod Answer
 pub mod Decision
 pub mod Flight
 pub mod History
+pub mod Kept
 pub mod Laws
 pub mod Legal
 pub mod Limits

@@ -18,7 +18,7 @@ mod tests;
 pub use config::{BadConfig, Config, Field, Own};
 pub use event::{ConnId, Event, Ticket};
 pub use laws::{counters_add_up, output_is_untaken, runs_agree};
-pub use packets::{forward_of, own_pong};
+pub use packets::{forward_of, may_originate, own_pong};
 pub use receipt::{Receipt, Step};
 pub use refusal::Refusal;
 pub use reply::{Decision, DropReason, Reply};

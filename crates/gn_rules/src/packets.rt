@@ -2,11 +2,12 @@
 
 ghost use Rattle.std.specs.Prelude.{◌≡◌, true, false, IfOk, MatchOption};
 ghost use Rattle.gn_wire.specs.Forward as wire;
+ghost use Rattle.gn_rules.specs.Answer as answer;
 ghost use Rattle.gn_rules.specs.Sending as sending;
 
 use crate::config::Own;
 use bytes::Bytes;
-use gn_payload::{Pong, write_pong};
+use gn_payload::{Pong, Verdict, verdict_on, write_pong};
 use gn_wire::{Descriptor, Kind};
 use std::alloc::{AllocError, Allocator};
 
@@ -53,4 +54,14 @@ pub fn forward_of<A: Allocator>(packet: &Descriptor<A>) -> Result<Option<Descrip
         Ok(forward) => Ok(Some(forward)),
         Err(_) => unreachable!(),
     }
+}
+
+/// Whether the local servent may send a descriptor: a sound Ping or Query with some TTL and no Hops.
+pub fn may_originate<A: Allocator>(packet: &Descriptor<A>) -> bool
+    ensures { result ≡ answer.may_originate packet.now }
+{
+    matches!(packet.kind(), Kind::Ping | Kind::Query)
+        && packet.ttl() != 0
+        && packet.hops() == 0
+        && matches!(verdict_on(packet), Verdict::Sound)
 }

@@ -4,7 +4,7 @@ ghost use Rattle.std.specs.Prelude.{◌≡◌, IfOk};
 
 use crate::event::{ConnId, Ticket};
 use crate::sends::{Sending, Sends};
-use gn_wire::Descriptor;
+use gn_wire::{Descriptor, Kind};
 use std::alloc::{AllocError, Allocator, Global};
 
 /// Why a descriptor isn't sent on.
@@ -65,6 +65,7 @@ pub enum Reply<A: Allocator = Global> {
 
 impl<A: Allocator> Reply<A> {
     ghost use Rattle.gn_rules.specs.History.{admitted_of, connected_of, is_routed_reply, is_sent_reply, dropped_of, sends_of};
+    ghost use Rattle.gn_rules.specs.Sights.{keeps};
 
     /// The connection that it made.
     pub fn connected(&self) -> Option<ConnId>
@@ -108,6 +109,21 @@ impl<A: Allocator> Reply<A> {
         ensures { result ≡ is_sent_reply self.now }
     {
         matches!(self, Reply::Sent(_))
+    }
+
+    /// Whether the route that it answers is kept, of a descriptor of this kind: of a request where it was routed, of a Push
+    /// unless it was malformed or a duplicate.
+    pub fn keeps(&self, kind: Kind) -> bool
+        ensures { result ≡ keeps kind self.now }
+    {
+        match kind {
+            Kind::Ping | Kind::Query => self.is_routed(),
+            Kind::Push => !matches!(
+                self.dropped(),
+                Some(DropReason::Malformed | DropReason::Duplicate)
+            ),
+            _ => false,
+        }
     }
 
     /// The packets that it sends.

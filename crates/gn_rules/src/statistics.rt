@@ -146,27 +146,33 @@ impl Stats {
         }
     }
 
-    /// Counts one more.
+    /// Counts one more, at most up to the last u32, which no history reaches.
     pub fn raise(&mut self, counter: Counter)
-        requires { told counter self.old + 1 < 2 ^ 32 }
-        ensures { self.new ≡ raised counter self.old }
+        ensures { told counter self.old + 1 < 2 ^ 32 → self.new ≡ raised counter self.old }
     {
         match counter {
-            Counter::Connected => self.connected += 1,
-            Counter::TooMany => self.toomany += 1,
-            Counter::Closed => self.closed += 1,
-            Counter::Admitted => self.admitted += 1,
-            Counter::Busy => self.busy += 1,
-            Counter::Routed => self.routed += 1,
-            Counter::UnknownKind => self.unknownkind += 1,
-            Counter::Malformed => self.malformed += 1,
-            Counter::Duplicate => self.duplicate += 1,
-            Counter::NoRoute => self.noroute += 1,
-            Counter::RouteGone => self.routegone += 1,
-            Counter::BackToSender => self.backtosender += 1,
-            Counter::Expired => self.expired += 1,
-            Counter::Taken => self.taken += 1,
-            Counter::Sent => self.sent += 1,
+            Counter::Connected => self.connected = one_more(self.connected),
+            Counter::TooMany => self.toomany = one_more(self.toomany),
+            Counter::Closed => self.closed = one_more(self.closed),
+            Counter::Admitted => self.admitted = one_more(self.admitted),
+            Counter::Busy => self.busy = one_more(self.busy),
+            Counter::Routed => self.routed = one_more(self.routed),
+            Counter::UnknownKind => self.unknownkind = one_more(self.unknownkind),
+            Counter::Malformed => self.malformed = one_more(self.malformed),
+            Counter::Duplicate => self.duplicate = one_more(self.duplicate),
+            Counter::NoRoute => self.noroute = one_more(self.noroute),
+            Counter::RouteGone => self.routegone = one_more(self.routegone),
+            Counter::BackToSender => self.backtosender = one_more(self.backtosender),
+            Counter::Expired => self.expired = one_more(self.expired),
+            Counter::Taken => self.taken = one_more(self.taken),
+            Counter::Sent => self.sent = one_more(self.sent),
         }
     }
+}
+
+/// One more, at most the last u32.
+fn one_more(count: u32) -> u32
+    ensures { count + 1 < 2 ^ 32 → result ≡ count + 1 }
+{
+    count.saturating_add(1)
 }

@@ -1,4 +1,4 @@
-//! Captures with a fault and audits, through the command line.
+//! A capture, captures with a fault, and audits, through the command line.
 
 use crate::compare::same;
 use crate::spelling::spelled;
@@ -11,6 +11,16 @@ use std::test::Fail;
 
 /// A short text that is read, the status, what is printed, and the line of its fault.
 type Case = (&'static str, u8, &'static str, &'static str);
+
+/// One Ping, which is answered and passed on.
+const REPLAYED: [Case; 1] = [(
+    "gnutella-capture 1; config 4 8 4 8 8 100; own <ee> 127.0.0.1 6346 5 40; join; join; \
+    data 1 <PING a1 07 00>; route 0",
+    0,
+    "0 connect = connected 1; 0 connect = connected 2; 0 admit 1 <PING a1 07 00> = admitted 0; \
+    0 route 0 = routed local 1+<OWN a1 01> 2+<PING a1 06 01>",
+    "",
+)];
 
 const FAULTY: [Case; 6] = [
     (
@@ -121,6 +131,11 @@ fn all_answer<R: Abort + AllocGlobal>(rt: &R, word: &str, cases: &[Case]) -> Res
         );
     }
     Ok(())
+}
+
+#[test]
+fn first_ping(rt: HostRuntime) -> Result<(), Fail> {
+    all_answer(&rt, "replay", &REPLAYED)
 }
 
 #[test]

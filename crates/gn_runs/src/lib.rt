@@ -23,3 +23,5 @@ mod request_runs;
 mod run;
 #[cfg(test)]
 mod spelling;
+#[cfg(test)]
+mod want_of_memory;

@@ -2,7 +2,7 @@
 
 use crate::run::{Run, USUAL};
 
-pub(crate) const LINK_RUNS: [Run; 6] = [
+pub(crate) const LINK_RUNS: [Run; 7] = [
     Run {
         name: "query_hit_push",
         numbers: USUAL,
@@ -97,5 +97,15 @@ pub(crate) const LINK_RUNS: [Run; 6] = [
             0 take 2 = taken <PING a1 06 01>; \
             0 admit 1 <PING a3 07 00> = admitted 2; \
             0 route 2 = routed local 1-<OWN a3 01> 2+<PING a3 06 01>",
+    },
+    Run {
+        name: "closed_by_a_line",
+        numbers: USUAL,
+        capture: "join; close 1; \
+            data 1 <PING a1 07 00><PING a2 07 00>; data 1 00",
+        printed: "0 connect = connected 1; \
+            0 close 1 = closed 0; \
+            refused NotLive; \
+            ended 1",
     },
 ];

@@ -1,5 +1,5 @@
 -- The descriptors that a router remembers.
-use Rattle.std.specs.Prelude.{◌≡◌, ◌<◌, ◌≤◌, ℕ, List, ◌∷◌, length, take, Option, cond, None}
+use Rattle.std.specs.Prelude.{◌≡◌, ◌<◌, ◌≤◌, ℕ, List, ◌∷◌, length, take, Option, cond, None, if◌then◌else◌, is_some}
 use Rattle.std.specs.List.{IsDistinct}
 use Rattle.std.specs.Map.{lookup, keys_of}
 use Rattle.std.specs.Option.{option_map_or}
@@ -14,6 +14,10 @@ pub record Remembered : Type 0 where
 -- the table with one more sight in front; where it was full, the last one is forgotten
 abbrev pub with_sight : Key → ℕ → Remembered → Remembered
 with_sight key from t = record t { sights = take t.most ((key, from) ∷ t.sights) }
+
+-- the table after a key was met: a new one is put in front, and one that stands there stays where it is
+abbrev pub met : Key → ℕ → Remembered → Remembered
+met key from t = if is_some (lookup (is_same_key key) t.sights) then t else with_sight key from t
 
 -- what every table keeps: it isn't too long, and no key stands in it twice
 pub record IsRemembered (t : Remembered) : Type 0 where

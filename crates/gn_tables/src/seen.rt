@@ -1,11 +1,11 @@
 //! The last descriptors that were remembered, and where each came from.
 
-ghost use Rattle.std.specs.Prelude.{◌≡◌, ◌<◌, ◌≤◌, [], None, IfOk, OnErr, OnOk};
+ghost use Rattle.std.specs.Prelude.{◌≡◌, ◌<◌, ◌≤◌, [], None, IfOk, OnErr, OnOk, is_some, not};
 ghost use Rattle.std.specs.Map.{lookup};
 ghost use Rattle.indexmap.specs.IndexMap.{spare};
 ghost use Rattle.gn_wire.specs.declared.key.Key.{Key};
 ghost use Rattle.gn_wire.specs.Keys.{is_same_key};
-ghost use Rattle.gn_tables.specs.Remembered.{IsRemembered, forgotten, with_sight};
+ghost use Rattle.gn_tables.specs.Remembered.{IsRemembered, forgotten, met, with_sight};
 
 use circular_buffer::HeapCircularBuffer;
 use gn_wire::{Guid, Key, Kind};
@@ -70,6 +70,20 @@ impl<A: Allocator + Copy> SeenTable<A> {
             Ok(_) => Ok(()),
             Err(_) => unreachable!(),
         }
+    }
+
+    /// Keeps a key where it is new, and tells whether it was. A duplicate keeps its place and its source. An `Err` is want
+    /// of memory, and changes nothing.
+    pub fn keep_new(&mut self, kind: Kind, id: Guid, from: u32) -> Result<bool, AllocError>
+        ensures ok { OnOk result (self.new ≡ met (record { kind = kind; id = id }) from self.old) }
+        ensures new { IfOk result (λ new. new ≡ not (is_some (lookup (is_same_key (record { kind = kind; id = id })) self.old.sights))) }
+        ensures err { OnErr result (self.new ≡ self.old) }
+    {
+        if self.source(kind, &id).is_some() {
+            return Ok(false);
+        }
+        self.keep(kind, id, from)?;
+        Ok(true)
     }
 }
 

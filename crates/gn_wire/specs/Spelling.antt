@@ -35,7 +35,7 @@ pub record IsHeader (h : Header) : Type 0 where
   pub length_fits : h.length < 2 ^ 32
   pub lawful : fault_of h.kind h.length ≡ None
 
--- what is written is read: the bytes of a header are read as that header; and where bytes are read as a header, they are
+-- what is written is read: the bytes of a header are read as that header; and where 23 bytes are read as a header, they are
 -- its bytes
 pub record HeadersReturn : Type 0 where
   pub written : (h : Header) → IsHeader h → reading (header_bytes h) ≡ Ok h
