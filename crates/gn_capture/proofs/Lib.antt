@@ -1,3 +1,4 @@
+pub mod ConfigLemmas
 pub mod FirstLemmas
 pub mod QueryLemmas
 pub mod SaidLemmas

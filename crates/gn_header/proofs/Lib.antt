@@ -1,2 +1,4 @@
+pub mod ConfigLemmas
+pub mod HeaderLemmas
 pub mod SaidLemmas
 pub mod SettingsLemmas

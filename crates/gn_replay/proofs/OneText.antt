@@ -1,14 +1,16 @@
--- An input has one replay text.
-use Rattle.std.proofs.Common.{◌≡◌, ◌≤◌, ◌∙◌, ℕ, Result, Ok, Err, refl, sym, ap, subst}
+-- An input has exactly one replay text.
+use Rattle.std.proofs.Common.{◌≡◌, ◌≤◌, ◌∙◌, ℕ, List, [], Result, Ok, Err, refl, sym, ap, subst}
 use Rattle.std.proofs.Math.Bridge.{le_prop}
+use Rattle.std.specs.Prelude.{IfOk}
 use Rattle.gn_rules.specs.declared.config.Config.{Config}
 use Rattle.gn_rules.specs.declared.config.Own.{Own}
 use Rattle.gn_rules.specs.Limits.{IsWithin}
 use Rattle.gn_header.specs.declared.fault.CaptureFault.{CaptureFault}
 use Rattle.gn_header.specs.Settings.{Numbers, settings_of}
 use Rattle.gn_capture.specs.Captures.{Said, capture_of}
-use Rattle.gn_replay.specs.Events.{Played}
-use Rattle.gn_replay.specs.ReplayText.{IsReplayOf, ReplayTextIsOne, capture_plays}
+use Rattle.gn_capture.proofs.ConfigLemmas.{HasConfig, capture_configured}
+use Rattle.gn_replay.specs.Events.{Played, nothing}
+use Rattle.gn_replay.specs.ReplayText.{IsReplayOf, IsReplayText, ReplayTextIsOne, capture_plays}
 
 -- a number is within its limit in one way
 within_is_one : {n most : ℕ} (a b : IsWithin n most) → a ≡ b
@@ -52,6 +54,20 @@ played_is (Err fault) one other h k = h ∙ sym k
 played_is (Ok said) one other h k =
     h.2 ∙ ap (λ (s : Config). capture_plays s said.lines) (config_is h.0 k.0 (h.1 ∙ sym k.1)) ∙ sym k.2
 
-pub text_is_one : (A : Type 0) → ReplayTextIsOne A
-text_is_one A input one other h k =
+-- no two texts are the replay text of an input
+no_two : (A : Type 0) (input one other : List ℕ) → IsReplayText A input one → IsReplayText A input other → one ≡ other
+no_two A input one other h k =
     h.2 ∙ ap (λ (p : Played A). p.text) (played_is (capture_of {A = A} input) h.0 k.0 h.1 k.1) ∙ sym k.2
+
+-- something is done with what was read, where its settings are those of a configuration
+is_played : {A : Type 0} (read : Result (Said A) CaptureFault) → IfOk read (λ (said : Said A). HasConfig said)
+    → (played : Played A) × IsReplayOf A read played
+is_played (Err fault) h = (nothing [], refl)
+is_played (Ok said) h = (capture_plays h.0 said.lines, (h.0, h.1, refl))
+
+there_is : (A : Type 0) (input : List ℕ) → (text : List ℕ) × IsReplayText A input text
+there_is A input =
+    let done = is_played (capture_of {A = A} input) (capture_configured A input) in (done.0.text, (done.0, done.1, refl))
+
+pub text_is_one : (A : Type 0) → ReplayTextIsOne A
+text_is_one A = record { there_is = there_is A; no_two = no_two A }

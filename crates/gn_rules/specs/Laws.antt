@@ -1,21 +1,29 @@
 -- Laws of the definitions, in the words of the rules.
-use Rattle.std.specs.Prelude.{◌≡◌, ℕ, true, List, [], ◌∷◌, length, drop, sum, map, Result}
+use Rattle.std.specs.Prelude.{◌≡◌, ℕ, true, List, [], ◌∷◌, length, drop, filter, sum, map, Result}
 use Rattle.std.specs.List.{AllByRecursion}
+use Rattle.std.specs.List.Sorted.{IsStrictlyIncreasing}
 use Rattle.gn_rules.specs.declared.config.Config.{Config}
 use Rattle.gn_rules.specs.declared.event.Event.{Event}
 use Rattle.gn_rules.specs.declared.receipt.Receipt.{Receipt}
 use Rattle.gn_rules.specs.declared.receipt.Step.{Step}
 use Rattle.gn_rules.specs.declared.refusal.Refusal.{Refusal}
+use Rattle.gn_rules.specs.declared.statistics.Counter.{Counter}
 use Rattle.gn_rules.specs.declared.statistics.Counter.TheVariants as counter
 use Rattle.gn_rules.specs.Legal.{IsLegal}
+use Rattle.gn_rules.specs.Live.{live_connections}
 use Rattle.gn_rules.specs.Output.{out, queued, takes}
 use Rattle.gn_rules.specs.Runs.{Ran, had_memory}
-use Rattle.gn_rules.specs.Statistics.{stats_of, told}
+use Rattle.gn_rules.specs.Statistics.{counter_of, is_same_counter, stats_of, told}
 
 -- in a legal history the output of c is all that was queued to it, without as many first packets as there are takes from c
 abbrev pub OutputIsUntaken : Type 0 → Type 0
 OutputIsUntaken A =
     (s : Config) (past : List (Step A)) (c : ℕ) → IsLegal s past → out past c ≡ drop (takes past c) (queued past c)
+
+-- in a legal history the numbers of the live connections rise: each is below the next
+abbrev pub LiveConnectionsRise : Type 0 → Type 0
+LiveConnectionsRise A =
+    (s : Config) (past : List (Step A)) → IsLegal s past → IsStrictlyIncreasing (live_connections past)
 
 -- two runs of equal configurations, histories and events, neither of which met want of memory, have equal results and
 -- equal histories
@@ -35,3 +43,9 @@ CountersAddUp A =
     (counter.Connected ∷ counter.TooMany ∷ counter.Closed ∷ counter.Admitted ∷ counter.Busy ∷ counter.Routed ∷ counter.UnknownKind
     ∷ counter.Malformed ∷ counter.Duplicate ∷ counter.NoRoute ∷ counter.RouteGone ∷ counter.BackToSender ∷ counter.Expired
     ∷ counter.Taken ∷ counter.Sent ∷ [])) ≡ length past
+
+-- each counter is the number of the steps whose replies count under it
+abbrev pub CountersCount : Type 0 → Type 0
+CountersCount A =
+    (past : List (Step A)) (k : Counter)
+    → told k (stats_of past) ≡ length (filter (λ step. is_same_counter (counter_of step.reply) k) past)

@@ -10,6 +10,7 @@ pub mod Live
 pub mod Output
 pub mod Runs
 pub mod Sending
+pub mod ServentLaw
 pub mod Servents
 pub mod Settings
 pub mod Sights

@@ -1,5 +1,5 @@
 -- How many steps of a history had each reply.
-use Rattle.std.specs.Prelude.{◌+◌, ℕ, List, [], ◌∷◌}
+use Rattle.std.specs.Prelude.{◌+◌, ℕ, Bool, ◌==◌, List, [], ◌∷◌}
 use Rattle.gn_rules.specs.declared.receipt.Step.{Step}
 use Rattle.gn_rules.specs.declared.reply.DropReason.{DropReason}
 use Rattle.gn_rules.specs.declared.reply.DropReason.TheVariants as reason
@@ -30,6 +30,28 @@ counter_of (reply.Routed sends local) = counter.Routed
 counter_of (reply.Dropped why) = drop_counter why
 counter_of (reply.Taken packet) = counter.Taken
 counter_of (reply.Sent sends) = counter.Sent
+
+-- the place of a counter in the order in which they are printed
+abbrev pub counter_place : Counter → ℕ
+counter_place counter.Connected = 0
+counter_place counter.TooMany = 1
+counter_place counter.Closed = 2
+counter_place counter.Admitted = 3
+counter_place counter.Busy = 4
+counter_place counter.Routed = 5
+counter_place counter.UnknownKind = 6
+counter_place counter.Malformed = 7
+counter_place counter.Duplicate = 8
+counter_place counter.NoRoute = 9
+counter_place counter.RouteGone = 10
+counter_place counter.BackToSender = 11
+counter_place counter.Expired = 12
+counter_place counter.Taken = 13
+counter_place counter.Sent = 14
+
+-- two counters are the same where their places are
+abbrev pub is_same_counter : Counter → Counter → Bool
+is_same_counter j k = counter_place j == counter_place k
 
 -- the number that statistics tell of a counter
 abbrev pub told : Counter → Stats → ℕ

@@ -1,12 +1,23 @@
 //! Laws of the rules that no one call shows.
 
-ghost use Rattle.gn_rules.specs.Laws.{CountersAddUp, OutputIsUntaken, RunsAgree};
+ghost use Rattle.gn_rules.specs.Laws.{CountersAddUp, CountersCount, LiveConnectionsRise, OutputIsUntaken, RunsAgree};
+ghost use Rattle.gn_rules.specs.ServentLaw.{ServentRouteIsLast};
 
 use std::alloc::Allocator;
 
 /// The law that a connection's output is what was queued to it and not taken yet.
 pub fn output_is_untaken<A: Allocator>()
     ensures { OutputIsUntaken A }
+{}
+
+/// The law that the live connections stand in the order of their numbers.
+pub fn live_connections_rise<A: Allocator>()
+    ensures { LiveConnectionsRise A }
+{}
+
+/// The law that the way to a servent is that of its last Query Hit, where fewer other servents than are remembered follow.
+pub fn servent_route_is_last<A: Allocator>()
+    ensures { ServentRouteIsLast A }
 {}
 
 /// The law that routers of one configuration which begin alike answer alike.
@@ -17,4 +28,9 @@ pub fn runs_agree<A: Allocator>()
 /// The law that each step is counted once.
 pub fn counters_add_up<A: Allocator>()
     ensures { CountersAddUp A }
+{}
+
+/// The law that each counter is the number of its steps.
+pub fn counters_count<A: Allocator>()
+    ensures { CountersCount A }
 {}

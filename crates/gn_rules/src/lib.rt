@@ -17,7 +17,10 @@ mod tests;
 
 pub use config::{BadConfig, Config, Field, Own};
 pub use event::{ConnId, Event, Ticket};
-pub use laws::{counters_add_up, output_is_untaken, runs_agree};
+pub use laws::{
+    counters_add_up, counters_count, live_connections_rise, output_is_untaken, runs_agree,
+    servent_route_is_last,
+};
 pub use packets::{forward_of, may_originate, own_pong};
 pub use receipt::{Receipt, Step};
 pub use refusal::Refusal;

@@ -35,11 +35,12 @@ pub record IsHeader (h : Header) : Type 0 where
   pub length_fits : h.length < 2 ^ 32
   pub lawful : fault_of h.kind h.length ≡ None
 
--- what is written is read: the bytes of a header are read as that header; and where 23 bytes are read as a header, they are
--- its bytes
+-- what is written is read: the bytes of a header are read as that header; where 23 bytes are read as a header, they are its
+-- bytes; and what 23 bytes are read as is a header
 pub record HeadersReturn : Type 0 where
   pub written : (h : Header) → IsHeader h → reading (header_bytes h) ≡ Ok h
-  pub read : (bytes : List ℕ) (h : Header) → ((k : ℕ) → slice_index bytes k < 256) → length bytes ≡ 23 → reading bytes ≡ Ok h → header_bytes h ≡ bytes
+  pub read : (bytes : List ℕ) (h : Header) → length bytes ≡ 23 → ((k : ℕ) → slice_index bytes k < 256) → reading bytes ≡ Ok h → header_bytes h ≡ bytes
+  pub found : (bytes : List ℕ) (h : Header) → length bytes ≡ 23 → ((k : ℕ) → slice_index bytes k < 256) → reading bytes ≡ Ok h → IsHeader h
 
 -- no spelling begins another: a stream that begins with two spellings begins with one
 abbrev pub SpellingsPart : Type 0

@@ -2,7 +2,8 @@
 
 ghost use Rattle.gn_wire.specs.Spelling.{HeadersReturn, SpellingsPart};
 
-/// The law that a header is read back from its bytes, and that the bytes which a header was read of are its own.
+/// The law that a header is read back from its bytes, that the bytes which a header was read of are its own, and that what
+/// 23 bytes are read as is a header.
 pub fn headers_return()
     ensures { HeadersReturn }
 {}
