@@ -1,5 +1,5 @@
 -- When a replay, or an audit, may stop.
-use Rattle.std.specs.Prelude.{◌≡◌, ◌≤◌, ◌⊎◌, ℕ, List, length, Option, IfSome, Result, Err}
+use Rattle.std.specs.Prelude.{◌≡◌, ◌≤◌, ◌⊎◌, ℕ, List, length, Option, IfSome, IsOk, Result, Err}
 use Rattle.gn_header.specs.declared.fault.CaptureFault.{CaptureFault}
 use Rattle.gn_header.specs.declared.fault.CaptureRefusal.{CaptureRefusal}
 use Rattle.gn_header.specs.declared.fault.CaptureRefusal.TheVariants as refusal
@@ -24,12 +24,12 @@ of_refusal refusal.NoMemory = NoMemory
 -- when each fault comes. `said` is what a text says, `rest` the input as far as it is known; then four counts, each as it
 -- was before and as it is after: the source's failures and its bytes given, the sink's failures and its stalls. Read tells
 -- of a read that failed, TooLarge of more than 67,108,864 bytes, Capture of the very fault of an input that has no more, Write
--- of a write that failed or took nothing; memory may be wanting at any time
+-- of a write that failed or took nothing, where the input has no more and no fault; memory may be wanting at any time
 abbrev pub IsReplayFault : {X : Type 0} → ReplayFault → (List ℕ → Result X CaptureFault) → Option (List ℕ) → ℕ → ℕ → ℕ → ℕ → ℕ → ℕ → ℕ → ℕ → Type 0
 IsReplayFault Read said rest failures failures_new given given_new unwritten unwritten_new stalls stalls_new = Rises failures failures_new
 IsReplayFault TooLarge said rest failures failures_new given given_new unwritten unwritten_new stalls stalls_new = IsTooLarge rest given given_new
 IsReplayFault (Capture fault) said rest failures failures_new given given_new unwritten unwritten_new stalls stalls_new =
     IfSome rest (λ text. (length text ≤ input_limit) × (said text ≡ Err fault))
 IsReplayFault Write said rest failures failures_new given given_new unwritten unwritten_new stalls stalls_new =
-    Rises unwritten unwritten_new ⊎ Rises stalls stalls_new
+    IfSome rest (λ text. (length text ≤ input_limit) × IsOk (said text)) × (Rises unwritten unwritten_new ⊎ Rises stalls stalls_new)
 IsReplayFault NoMemory said rest failures failures_new given given_new unwritten unwritten_new stalls stalls_new = Unit {0}

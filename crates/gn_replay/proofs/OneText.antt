@@ -70,4 +70,4 @@ there_is A input =
     let done = is_played (capture_of {A = A} input) (capture_configured A input) in (done.0.text, (done.0, done.1, refl))
 
 pub text_is_one : (A : Type 0) → ReplayTextIsOne A
-text_is_one A = record { there_is = there_is A; no_two = no_two A }
+text_is_one A = record { there_is = there_is A; no_two = no_two A; one_play = λ input. played_is (capture_of {A = A} input) }

@@ -71,18 +71,18 @@ module _ {A : Type 0} (text : List ℕ) (capture : Capture A) where
       (capture_plays capture.config capture.lines.items, is_replay text capture read, all ∙ sym (length-reverse steps) ∙ ap length run.past, refused ∙ run.refusals)
 
 -- where playing it stopped, a front of its replay text was written
-stopped_so : {A : Type 0} (f : PlayFault) (text : List ℕ) (old new : Option (List ℕ)) → AppendsReplayPart A text old new → HasStopped A (of_playing f) (Some text) old new
-stopped_so play.Write text old new part = part
-stopped_so play.NoMemory text old new part = inr part
+stopped_so : {A : Type 0} (f : PlayFault) (text : List ℕ) (old new : Option (List ℕ)) → length text ≤ input_limit → AppendsReplayPart A text old new → HasStopped A (of_playing f) (Some text) old new
+stopped_so play.Write text old new short part = part
+stopped_so play.NoMemory text old new short part = inr (short, part)
 
-pub stopped : {A T : Type 0} (r : Result T ReplayFault) (f : PlayFault) (text : List ℕ) (capture : Capture A) (old new : Option (List ℕ)) → IsErrAnd r (λ e. e ≡ of_playing f)
+pub stopped : {A T : Type 0} (r : Result T ReplayFault) (f : PlayFault) (text : List ℕ) (capture : Capture A) (old new : Option (List ℕ)) → length text ≤ input_limit → IsErrAnd r (λ e. e ≡ of_playing f)
     → capture_of text ≡ Ok (capture_seen capture) → AppendsPart old new (capture_plays capture.config capture.lines.items).text
     → IfErr r (λ e. HasStopped A e (Some text) old new)
-stopped (Ok x) f text capture old new is read part = tt
-stopped {A} (Err e) f text capture old new is read part =
+stopped (Ok x) f text capture old new short is read part = tt
+stopped {A} (Err e) f text capture old new short is read part =
     let played = capture_plays capture.config capture.lines.items in
     let all : AppendsReplayPart A text old new = (played.text, (played, is_replay text capture read, refl), part) in
-    subst (λ (e : ReplayFault). HasStopped A e (Some text) old new) (sym is) (stopped_so f text old new all)
+    subst (λ (e : ReplayFault). HasStopped A e (Some text) old new) (sym is) (stopped_so f text old new short all)
 
 -- what was done with a text was done with the input that it is
 pub fault_of_input : {X : Type 0} (f : ReplayFault) (said : List ℕ → Result X CaptureFault) (text : List ℕ) (rest : Option (List ℕ))
@@ -94,5 +94,7 @@ fault_of_input fault.TooLarge said text rest failures failures_new given given_n
 fault_of_input (fault.Capture c) said text None failures failures_new given given_new unwritten unwritten_new stalls stalls_new is h = tt
 fault_of_input (fault.Capture c) said text (Some bytes) failures failures_new given given_new unwritten unwritten_new stalls stalls_new is h =
     subst (λ (z : List ℕ). (length z ≤ input_limit) × (said z ≡ Err c)) is h
-fault_of_input fault.Write said text rest failures failures_new given given_new unwritten unwritten_new stalls stalls_new is h = h
+fault_of_input fault.Write said text None failures failures_new given given_new unwritten unwritten_new stalls stalls_new is h = (tt, h.1)
+fault_of_input fault.Write said text (Some bytes) failures failures_new given given_new unwritten unwritten_new stalls stalls_new is h =
+    (subst (λ (z : List ℕ). (length z ≤ input_limit) × IsOk (said z)) is h.0, h.1)
 fault_of_input fault.NoMemory said text rest failures failures_new given given_new unwritten unwritten_new stalls stalls_new is h = tt

@@ -82,7 +82,8 @@ IsReplay A input played = IsReplayOf A (capture_of {A = A} input) played
 abbrev pub IsReplayText : (A : Type 0) → List ℕ → List ℕ → Type 0
 IsReplayText A input text = (played : Played A) × IsReplay A input played × (text ≡ played.text)
 
--- an input has exactly one replay text: there is one, and no two differ
+-- an input has exactly one replay text: there is one, and no two differ; and what replay does with it is one thing
 pub record ReplayTextIsOne (A : Type 0) : Type 0 where
   pub there_is : (input : List ℕ) → (text : List ℕ) × IsReplayText A input text
   pub no_two : (input one other : List ℕ) → IsReplayText A input one → IsReplayText A input other → one ≡ other
+  pub one_play : (input : List ℕ) (one other : Played A) → IsReplay A input one → IsReplay A input other → one ≡ other

@@ -1,8 +1,9 @@
 -- What a replay comes to.
-use Rattle.std.specs.Prelude.{◌≡◌, ◌⊎◌, ℕ, List, length, Option, IfSome}
+use Rattle.std.specs.Prelude.{◌≡◌, ◌≤◌, ◌⊎◌, ℕ, List, length, Option, IfSome}
 use Rattle.std.specs.Io.KnownBytes.{Appends, Keeps}
 use Rattle.gn_fault.specs.declared.fault.ReplayFault.{ReplayFault}
 use Rattle.gn_fault.specs.declared.fault.ReplayFault.TheVariants.{Write, NoMemory}
+use Rattle.gn_io.specs.Input.{input_limit}
 use Rattle.gn_io.specs.Parts.{AppendsPart}
 use Rattle.gn_replay.specs.declared.replays.Exit.{Exit}
 use Rattle.gn_replay.specs.Events.{Played}
@@ -23,9 +24,9 @@ IsCounted A input exit =
     (played : Played A) × IsReplay A input played × (exit.steps ≡ length played.past)
     × (exit.refusals ≡ refused_more played.refusals 0)
 
--- what was written where a replay stopped: at Write a front of the replay text, at NoMemory that or nothing, at any other
--- fault nothing
+-- what was written where a replay stopped: at Write a front of the replay text, at NoMemory nothing or that of an input within
+-- the limit, at any other fault nothing
 abbrev pub HasStopped : (A : Type 0) → ReplayFault → Option (List ℕ) → Option (List ℕ) → Option (List ℕ) → Type 0
 HasStopped A Write rest old new = IfSome rest (λ input. AppendsReplayPart A input old new)
-HasStopped A NoMemory rest old new = IfSome rest (λ input. Keeps old new ⊎ AppendsReplayPart A input old new)
+HasStopped A NoMemory rest old new = IfSome rest (λ input. Keeps old new ⊎ ((length input ≤ input_limit) × AppendsReplayPart A input old new))
 HasStopped A fault rest old new = Keeps old new

@@ -4,7 +4,7 @@ ghost use Rattle.gn_replay.specs.ReplayText.{ReplayTextIsOne};
 
 use std::alloc::Allocator;
 
-/// The law that an input has exactly one replay text.
+/// The law that an input has exactly one replay text, and that what replay does with it is one thing.
 pub fn replay_text_is_one<A: Allocator>()
     ensures { ReplayTextIsOne A }
 {}

@@ -1,6 +1,6 @@
 //! The last descriptors that were remembered, and where each came from.
 
-ghost use Rattle.std.specs.Prelude.{◌≡◌, ◌<◌, ◌≤◌, [], None, IfOk, OnErr, OnOk, is_some, not};
+ghost use Rattle.std.specs.Prelude.{◌≡◌, ◌<◌, ◌≤◌, [], None, IfErr, IfOk, OnErr, OnOk, is_some, not};
 ghost use Rattle.std.specs.Map.{lookup};
 ghost use Rattle.indexmap.specs.IndexMap.{spare};
 ghost use Rattle.gn_wire.specs.declared.key.Key.{Key};
@@ -73,11 +73,12 @@ impl<A: Allocator + Copy> SeenTable<A> {
     }
 
     /// Keeps a key where it is new, and tells whether it was. A duplicate keeps its place and its source. An `Err` is want
-    /// of memory, and changes nothing.
+    /// of memory for a new key, and changes nothing.
     pub fn keep_new(&mut self, kind: Kind, id: Guid, from: u32) -> Result<bool, AllocError>
         ensures ok { OnOk result (self.new ≡ met (record { kind = kind; id = id }) from self.old) }
         ensures new { IfOk result (λ new. new ≡ not (is_some (lookup (is_same_key (record { kind = kind; id = id })) self.old.sights))) }
         ensures err { OnErr result (self.new ≡ self.old) }
+        ensures wanted { IfErr result (λ _. lookup (is_same_key (record { kind = kind; id = id })) self.old.sights ≡ None) }
     {
         if self.source(kind, &id).is_some() {
             return Ok(false);

@@ -167,10 +167,14 @@ fn no_memory_for_a_key(rt: HostRuntime) -> Result<(), Fail> {
     assert!(rt; SeenTable::new(&heap, 64).is_err());
     let mut seen = SeenTable::new(&heap, 1)?;
     let rest = rest_of(&heap)?;
+    assert!(rt; seen.keep(Kind::Ping, id(0xa1), 7).is_err());
     assert!(rt; seen.keep_new(Kind::Ping, id(0xa1), 7).is_err());
     assert_eq!(rt; seen.source(Kind::Ping, &id(0xa1)), None);
     drop(rest);
-    assert!(rt; seen.keep_new(Kind::Ping, id(0xa1), 7)?);
+    seen.keep(Kind::Ping, id(0xa1), 7)?;
+    let rest = rest_of(&heap)?;
+    assert!(rt; !seen.keep_new(Kind::Ping, id(0xa1), 8)?);
+    drop(rest);
     assert_eq!(rt; seen.source(Kind::Ping, &id(0xa1)), Some(7));
     Ok(())
 }
