@@ -1,4 +1,5 @@
 pub mod CounterLemmas
+pub mod EntryLemmas
 pub mod LiveLemmas
 pub mod OutputLemmas
 pub mod PastLemmas

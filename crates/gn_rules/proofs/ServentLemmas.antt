@@ -1,15 +1,14 @@
 -- The known servents are those of all hits, each at its newest.
-use Rattle.std.proofs.Common.{◌≡◌, ℕ, zero, suc, ◌+◌, Bool, true, false, ◌||◌, cond, if◌then◌else◌, nat_lt, List, [], ◌∷◌, ◌++◌, length, take, Option, Some, None, refl, sym, ap, ◌∙◌, arith}
+use Rattle.std.proofs.Common.{◌≡◌, ℕ, zero, suc, ◌+◌, Bool, true, false, ◌||◌, cond, if◌then◌else◌, nat_lt, List, [], ◌∷◌, ◌++◌, length, take, Option, Some, None, refl, ap, ◌∙◌, arith}
 use Rattle.std.specs.List.{list_any}
 use Rattle.std.specs.Map.{lookup, remove_entry}
 use Rattle.std.specs.Option.{option_to_list}
-use Rattle.std.proofs.lemmas.Grind.{common_steps}
-use lib.Pointwise.{bytes_decides}
 use Rattle.gn_wire.specs.declared.kind.Guid.{Guid}
 use Rattle.gn_wire.specs.Keys.{is_same_id}
 use Rattle.gn_rules.specs.declared.receipt.Step.{Step}
 use Rattle.gn_rules.specs.Servents.{hit_of, learned, servents}
 use Rattle.gn_rules.specs.ServentLaw.{hits, hits_after, servent_count, others, ServentRouteIsLast}
+use Rattle.gn_rules.proofs.EntryLemmas.{below_zero, below_more, zero_below, lookup_removed, ids_apart}
 
 -- each servent once, with its newest hit, the newest first
 abbrev newest : List (Guid × ℕ) → List (Guid × ℕ)
@@ -28,25 +27,13 @@ servents_newest : {A : Type 0} (past : List (Step A)) → servents past ≡ newe
 servents_newest [] = refl
 servents_newest (step ∷ past) = learned_newest (hit_of past step.event step.reply) (servents past) (hits past) (servents_newest past)
 
--- what is y isn't x, where the two differ
-apart : (x y : Guid) → is_same_id x y ≡ false → (k : Guid) → is_same_id y k ≡ true → is_same_id x k ≡ false
-apart x y other k same = ap (λ id. is_same_id x (record { 0 = id })) (sym ((bytes_decides y.0 k.0).0 same)) ∙ other
-
 module _ (x y : Guid) (other : is_same_id x y ≡ false) where
-  -- without a hit of y, x is found as before
-  lookup_removed : (es : List (Guid × ℕ)) → lookup (is_same_id x) (remove_entry (is_same_id y) es) ≡ lookup (is_same_id x) es
-  lookup_removed [] = refl
-  lookup_removed (e ∷ es) =
-      elim (is_same_id y e.0) as (λ b. is_same_id y e.0 ≡ b → lookup (is_same_id x) (cond b es (e ∷ remove_entry (is_same_id y) es)) ≡ cond (is_same_id x e.0) (Some e.1) (lookup (is_same_id x) es)) [
-        | true ↦ λ h. rw (apart x y other e.0 h) refl
-        | false ↦ λ h. ap (cond (is_same_id x e.0) (Some e.1)) (lookup_removed es)
-      ] refl
-
+  -- without a hit of y, x has one as before
   has_hit_removed : (es : List (Guid × ℕ)) → has_hit x (remove_entry (is_same_id y) es) ≡ has_hit x es
   has_hit_removed [] = refl
   has_hit_removed (e ∷ es) =
       elim (is_same_id y e.0) as (λ b. is_same_id y e.0 ≡ b → has_hit x (cond b es (e ∷ remove_entry (is_same_id y) es)) ≡ (is_same_id x e.0 || has_hit x es)) [
-        | true ↦ λ h. rw (apart x y other e.0 h) refl
+        | true ↦ λ h. rw (ids_apart x y other e.0 h) refl
         | false ↦ λ h. ap (λ b. is_same_id x e.0 || b) (has_hit_removed es)
       ] refl
 
@@ -55,7 +42,7 @@ module _ (x y : Guid) (other : is_same_id x y ≡ false) where
   after_removed [] = refl
   after_removed (e ∷ es) =
       elim (is_same_id y e.0) as (λ b. is_same_id y e.0 ≡ b → hits_after x (cond b es (e ∷ remove_entry (is_same_id y) es)) ≡ remove_entry (is_same_id y) (cond (is_same_id x e.0) [] (e ∷ hits_after x es))) [
-        | true ↦ λ h. rw (apart x y other e.0 h, h) refl
+        | true ↦ λ h. rw (ids_apart x y other e.0 h, h) refl
         | false ↦ λ h. elim (is_same_id x e.0) as (λ a. cond a [] (e ∷ hits_after x (remove_entry (is_same_id y) es)) ≡ remove_entry (is_same_id y) (cond a [] (e ∷ hits_after x es))) [
           | true ↦ refl
           | false ↦ rw h (ap (λ rest. e ∷ rest) (after_removed es))
@@ -71,22 +58,13 @@ length_removed y (e ∷ es) =
       | false ↦ omega (arith, length_removed y es)
     ]
 
-below_zero : (n : ℕ) → nat_lt n 0 ≡ false
-below_zero n = grind (arith, common_steps)
-
-below_more : (n m : ℕ) → nat_lt (suc n) (suc m) ≡ nat_lt n m
-below_more n m = grind (arith, common_steps)
-
-zero_below : (m : ℕ) → nat_lt 0 (suc m) ≡ true
-zero_below m = grind (arith, common_steps)
-
 module _ (x : Guid) where
   lookup_newest : (es : List (Guid × ℕ)) → lookup (is_same_id x) (newest es) ≡ lookup (is_same_id x) es
   lookup_newest [] = refl
   lookup_newest (e ∷ es) =
       elim (is_same_id x e.0) as (λ b. is_same_id x e.0 ≡ b → cond b (Some e.1) (lookup (is_same_id x) (remove_entry (is_same_id e.0) (newest es))) ≡ cond b (Some e.1) (lookup (is_same_id x) es)) [
         | true ↦ λ h. refl
-        | false ↦ λ h. lookup_removed x e.0 h (newest es) ∙ lookup_newest es
+        | false ↦ λ h. lookup_removed (is_same_id x) (is_same_id e.0) (ids_apart x e.0 h) (newest es) ∙ lookup_newest es
       ] refl
 
   has_hit_newest : (es : List (Guid × ℕ)) → has_hit x (newest es) ≡ has_hit x es

@@ -1,22 +1,15 @@
 //! What only calls can ask of a router.
 
+use crate::run::OWN;
 use bytes::Bytes;
 use gn_payload::Checked;
 use gn_plain::PlainRouter;
 use gn_router::TableRouter;
-use gn_rules::{Config, Event, Own, Refusal, RouterCore};
+use gn_rules::{Config, Event, Refusal, Reply, RouterCore};
 use gn_wire::{Descriptor, Guid, Kind};
 use std::alloc::Global;
 use std::process::Abort;
 use std::test::Fail;
-
-const OWN: Own = Own {
-    servent: Guid([0xee; 16]),
-    ip: [127, 0, 0, 1],
-    port: 6346,
-    files: 5,
-    kbytes: 40,
-};
 
 fn ping(id: u8) -> Result<Descriptor, Fail> {
     let ping = Descriptor::new(Guid([id; 16]), Kind::Ping, 7, 0, Bytes::new());
@@ -49,4 +42,28 @@ fn refuses<C: RouterCore<Global> + Drop, R: Abort + AllocGlobal>(rt: &R) -> Resu
 fn refusals_by_call(rt: HostRuntime) -> Result<(), Fail> {
     refuses::<TableRouter, _>(&rt)?;
     refuses::<PlainRouter, _>(&rt)
+}
+
+/// As many connections are made as there may be, and one more is turned away.
+fn connects<C: RouterCore<Global> + Drop, R: Abort + AllocGlobal>(rt: &R) -> Result<(), Fail> {
+    let config = Config::new(64, 65_536, 65_536, 4_096, 4_096, 1_000_000, OWN).map_err(
+        |_| "a configuration",
+    )?;
+    let mut core = C::make(rt.alloc(), &config)?;
+    for number in 1..65u32 {
+        let connected = core.apply(0, &Event::Connect).map_err(|_| "a connection")?;
+        assert!(rt;
+            matches!(connected.reply, Reply::Connected(c) if c == number),
+            "{number}"
+        );
+    }
+    let one_more = core.apply(0, &Event::Connect).map_err(|_| "a refusal")?;
+    assert!(rt; matches!(one_more.reply, Reply::TooMany));
+    Ok(())
+}
+
+#[test]
+fn connections_at_the_limit(rt: HostRuntime) -> Result<(), Fail> {
+    connects::<TableRouter, _>(&rt)?;
+    connects::<PlainRouter, _>(&rt)
 }

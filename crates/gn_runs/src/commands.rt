@@ -1,6 +1,8 @@
-//! A capture, captures with a fault, and audits, through the command line.
+//! The first run, captures with a fault, and audits, through the command line.
 
 use crate::compare::same;
+use crate::request_runs::request_run;
+use crate::run::capture_text;
 use crate::spelling::spelled;
 use gn_io::{ReaderSource, WriterSink};
 use gn_program::command;
@@ -9,18 +11,8 @@ use std::io::{self, Read};
 use std::process::Abort;
 use std::test::Fail;
 
-/// A short text that is read, the status, what is printed, and the line of its fault.
+/// A text that is read, the status, what is printed, and the line of its fault. The texts are short ones.
 type Case = (&'static str, u8, &'static str, &'static str);
-
-/// One Ping, which is answered and passed on.
-const REPLAYED: [Case; 1] = [(
-    "gnutella-capture 1; config 4 8 4 8 8 100; own <ee> 127.0.0.1 6346 5 40; join; join; \
-    data 1 <PING a1 07 00>; route 0",
-    0,
-    "0 connect = connected 1; 0 connect = connected 2; 0 admit 1 <PING a1 07 00> = admitted 0; \
-    0 route 0 = routed local 1+<OWN a1 01> 2+<PING a1 06 01>",
-    "",
-)];
 
 const FAULTY: [Case; 6] = [
     (
@@ -106,36 +98,44 @@ const AUDITED: [Case; 5] = [
     ),
 ];
 
-/// Gives each text to a command, and compares its answers.
-fn all_answer<R: Abort + AllocGlobal>(rt: &R, word: &str, cases: &[Case]) -> Result<(), Fail> {
+/// Gives the text of a case to a command, and compares its answer.
+fn answers<R: Abort + AllocGlobal>(
+    rt: &R,
+    word: &str,
+    text: &str,
+    case: &Case,
+) -> Result<(), Fail> {
     let alloc = rt.alloc();
-    for (short, status, printed, fault) in cases {
-        let text = spelled(alloc, short)?;
-        let mut reader = ReaderSource::new(text.as_bytes());
-        let mut writer = WriterSink::new(Vec::new(alloc));
-        let mut faults = WriterSink::new(Vec::new(alloc));
-        let words = ["gn", word];
-        let found = command(alloc, &words, &mut reader, &mut writer, &mut faults);
-        assert!(rt; found == *status, "{short}: status {found}");
+    let (short, status, printed, fault) = *case;
+    let mut reader = ReaderSource::new(text.as_bytes());
+    let mut writer = WriterSink::new(Vec::new(alloc));
+    let mut faults = WriterSink::new(Vec::new(alloc));
+    let words = ["gn", word];
+    let found = command(alloc, &words, &mut reader, &mut writer, &mut faults);
+    assert!(rt; found == status, "{short}: status {found}");
+    for (sink, told) in [(writer, printed), (faults, fault)] {
         same(
             rt,
             short,
-            &writer.into_inner(),
-            spelled(alloc, printed)?.as_bytes(),
+            &sink.into_inner(),
+            spelled(alloc, told)?.as_bytes(),
         );
-        same(
-            rt,
-            short,
-            &faults.into_inner(),
-            spelled(alloc, fault)?.as_bytes(),
-        );
+    }
+    Ok(())
+}
+
+fn all_answer<R: Abort + AllocGlobal>(rt: &R, word: &str, cases: &[Case]) -> Result<(), Fail> {
+    for case in cases {
+        answers(rt, word, &spelled(rt.alloc(), case.0)?, case)?;
     }
     Ok(())
 }
 
 #[test]
 fn first_ping(rt: HostRuntime) -> Result<(), Fail> {
-    all_answer(&rt, "replay", &REPLAYED)
+    let run = request_run("first_ping")?;
+    let text = capture_text(rt.alloc(), run.numbers, run.capture)?;
+    answers(&rt, "replay", &text, &(run.capture, 0, run.printed, ""))
 }
 
 #[test]

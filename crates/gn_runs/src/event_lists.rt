@@ -1,15 +1,15 @@
 //! Runs of requests as lists of events: both routers answer each event as the capture's text tells.
 
 use crate::compare::same;
-use crate::request_runs::REQUEST_RUNS;
-use crate::run::{Run, USUAL};
+use crate::request_runs::request_run;
+use crate::run::{OWN, Run};
 use crate::spelling::spelled;
 use gn_frames::Reassembler;
 use gn_plain::PlainRouter;
 use gn_router::TableRouter;
-use gn_rules::{Config, Event, Own, Receipt, Refusal, RouterCore, run_events};
+use gn_rules::{Config, Event, Receipt, Refusal, RouterCore, run_events};
 use gn_text::{push_refusal, push_step_of};
-use gn_wire::{Descriptor, Guid};
+use gn_wire::Descriptor;
 use std::alloc::{AllocError, Global};
 use std::process::Abort;
 use std::test::Fail;
@@ -105,14 +105,7 @@ fn config(numbers: &str) -> Result<Config, Fail> {
         *number = word.parse::<u32>().map_err(|_| "a number")?;
     }
     let [neighbours, seen, servents, stage, out, steps] = all;
-    let own = Own {
-        servent: Guid([0xee; 16]),
-        ip: [127, 0, 0, 1],
-        port: 6346,
-        files: 5,
-        kbytes: 40,
-    };
-    Ok(Config::new(neighbours, seen, servents, stage, out, steps, own).map_err(
+    Ok(Config::new(neighbours, seen, servents, stage, out, steps, OWN).map_err(
         |_| "a configuration",
     )?)
 }
@@ -155,10 +148,7 @@ fn answers_as<C: RouterCore<Global> + Drop, R: Abort + AllocGlobal>(
 #[test]
 fn events_are_answered_as_lines(rt: HostRuntime) -> Result<(), Fail> {
     for (name, lines) in EVENTS {
-        let run = REQUEST_RUNS
-            .iter()
-            .find(|run| run.name == name)
-            .ok_or(name)?;
+        let run = request_run(name)?;
         answers_as::<TableRouter, _>(&rt, run, lines)?;
         answers_as::<PlainRouter, _>(&rt, run, lines)?;
     }

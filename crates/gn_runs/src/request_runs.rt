@@ -132,3 +132,8 @@ pub(crate) const REQUEST_RUNS: [Run; 9] = [
             refused NotLive",
     },
 ];
+
+/// The run of this name.
+pub(crate) fn request_run(name: &'static str) -> Result<&'static Run, &'static str> {
+    REQUEST_RUNS.iter().find(|run| run.name == name).ok_or(name)
+}

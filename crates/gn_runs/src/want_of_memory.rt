@@ -1,21 +1,13 @@
 //! Routers that get no memory: an event is refused as such, and answered once there is some.
 
+use crate::run::OWN;
 use gn_plain::PlainRouter;
 use gn_router::TableRouter;
-use gn_rules::{Config, Event, Own, Refusal, RouterCore};
-use gn_wire::Guid;
+use gn_rules::{Config, Event, Refusal, RouterCore};
 use linked_list_allocator::LocalHeap;
 use std::alloc::AllocError;
 use std::process::Abort;
 use std::test::Fail;
-
-const OWN: Own = Own {
-    servent: Guid([0xee; 16]),
-    ip: [127, 0, 0, 1],
-    port: 6346,
-    files: 5,
-    kbytes: 40,
-};
 
 /// All that the heap has left: it refuses everything until this is dropped.
 fn rest_of(heap: &LocalHeap) -> Result<Vec<u8, &LocalHeap>, AllocError> {

@@ -1,5 +1,7 @@
 //! Worked runs of the four tables, each call at its happy path and at each refusal.
 
+ghost use Rattle.std.specs.Prelude.{◌≡◌};
+
 use crate::{Flights, Neighbours, SeenTable, ServentTable};
 use bytes::Bytes;
 use gn_wire::{Descriptor, Guid, Key, Kind};
@@ -60,6 +62,37 @@ fn as_many_as_there_may_be(rt: HostRuntime) -> Result<(), Fail> {
         assert_eq!(rt; seen.source(Kind::Ping, &numbered(number)), found);
         assert_eq!(rt; servents.route(&numbered(number)), found);
     }
+    Ok(())
+}
+
+/// Adds a flight, where there is a place and the ticket is new.
+fn add_new<A: Allocator + Copy>(flights: &mut Flights<A>, ticket: u32) -> Result<(), Fail>
+    requires { flights.old.most ≡ 4096 }
+    ensures { flights.new.most ≡ 4096 }
+{
+    if flights.len() < 4_096 && flights.get(ticket).is_none() {
+        flights.add(ticket, 1, ping(0xa1)?)?;
+    }
+    Ok(())
+}
+
+#[test]
+fn packets_and_flights_at_the_limits(rt: HostRuntime) -> Result<(), Fail> {
+    let mut neighbours = Neighbours::new(rt.alloc(), 64, 4_096)?;
+    neighbours.add(63)?;
+    neighbours.add(64)?;
+    let mut flights = Flights::new(rt.alloc(), 4_096);
+    for number in 0..4_096u32 {
+        assert!(rt; neighbours.push(64, ping(0xa1)?).is_ok());
+        add_new(&mut flights, number)?;
+    }
+    assert!(rt; neighbours.push(64, ping(0xa2)?).is_err());
+    for (connection, waiting) in [(63, 0), (64, 4_096)] {
+        assert_eq!(rt; neighbours.waiting(connection), Some(waiting));
+    }
+    assert_eq!(rt; flights.len(), 4_096);
+    assert!(rt; flights.finish(4_095).is_some());
+    assert!(rt; flights.get(0).is_some() && flights.get(4_095).is_none());
     Ok(())
 }
 
@@ -168,14 +201,18 @@ fn no_memory_for_a_key(rt: HostRuntime) -> Result<(), Fail> {
     let mut seen = SeenTable::new(&heap, 1)?;
     let rest = rest_of(&heap)?;
     assert!(rt; seen.keep(Kind::Ping, id(0xa1), 7).is_err());
-    assert!(rt; seen.keep_new(Kind::Ping, id(0xa1), 7).is_err());
-    assert_eq!(rt; seen.source(Kind::Ping, &id(0xa1)), None);
+    assert!(rt; seen.keep_new(Kind::Ping, id(0xa2), 8).is_err());
+    for byte in [0xa1, 0xa2] {
+        assert_eq!(rt; seen.source(Kind::Ping, &id(byte)), None);
+    }
     drop(rest);
     seen.keep(Kind::Ping, id(0xa1), 7)?;
-    let rest = rest_of(&heap)?;
-    assert!(rt; !seen.keep_new(Kind::Ping, id(0xa1), 8)?);
-    drop(rest);
     assert_eq!(rt; seen.source(Kind::Ping, &id(0xa1)), Some(7));
+    assert!(rt; seen.keep_new(Kind::Ping, id(0xa2), 8)?);
+    let rest = rest_of(&heap)?;
+    assert!(rt; !seen.keep_new(Kind::Ping, id(0xa2), 9)?);
+    drop(rest);
+    assert_eq!(rt; seen.source(Kind::Ping, &id(0xa2)), Some(8));
     Ok(())
 }
 
