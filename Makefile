@@ -1,13 +1,35 @@
 # Builds, checks and measures Tineflax with the Rattle toolchain's command `rt`, which has to be on the path.
-.PHONY: demo build test bench clean
+.PHONY: help demo build install examples test bench definitions clean
 
-# Builds `gn` and replays the first example. Standard output is its four lines, and nothing else.
-demo: build
-	@crates/gn/out/gn replay < examples/first_ping.capture
+# Where `make install` puts the program: PREFIX/bin/gn.
+PREFIX ?= /usr/local
+
+help:
+	@echo 'make demo      replays the first example in a minute or so; it proves nothing'
+	@echo 'make build     proves gn and all below it, and leaves the program at crates/gn/out/gn'
+	@echo 'make install   the same, and puts the program at PREFIX/bin/gn (PREFIX=$(PREFIX))'
+	@echo 'make examples  replays and audits all examples with the proved program, and compares what it prints'
+	@echo 'make test      the merge gate: every proof from nothing, the must-fail edits, the tests, the programs'
+	@echo 'make bench     proves and runs the benchmarks; their times go to standard error'
+	@echo 'make definitions  prints each definition that contracts cite, beside its words'
+	@echo 'make clean     removes all that was built'
+
+# Replays the first example. Standard output is its four lines, and nothing else.
+demo:
+	@echo 'demo: nothing is proved here, the program is only compiled and run; make build proves it' >&2
+	@cd crates/gn && rt try -- replay < ../../examples/first_ping.capture
 
 # Proves `gn` and all below it, and leaves the program at crates/gn/out/gn.
 build:
 	@cd crates/gn && rt run -- --version >&2
+
+install: build
+	install -d '$(DESTDIR)$(PREFIX)/bin'
+	install -m 755 crates/gn/out/gn '$(DESTDIR)$(PREFIX)/bin/gn'
+
+# What the proved program prints of each example is the text beside it.
+examples: build
+	@scripts/examples.sh crates/gn/out/gn
 
 # The merge gate: every proof from nothing, the must-fail edits, the tests, the programs.
 test:
@@ -16,11 +38,14 @@ test:
 # What a call of each table takes, jobs a second through the stage queue, and what replays and audits take, each load three
 # times in a process of its own. Times go to standard error.
 bench:
-	cd crates/gn_bench_tables && rt run -- 1000000
-	cd crates/gn_bench_stage && rt run -- 1000000
-	cd crates/gn_bench_replay && rt run -- table 1
+	cd crates/gn_bench && rt run -- tables 1000000
+	crates/gn_bench/out/gn_bench stage 1000000
 	for run in 1 2 3; do for load in 'table 300' 'table 1000' 'table 3000' 'table 10000' 'table 100000' 'comments 100000' \
-		'piece 1000000' 'plain 300' 'plain 1000'; do crates/gn_bench_replay/out/gn_bench_replay $$load || exit 1; done; done
+		'piece 1000000' 'plain 300' 'plain 1000'; do crates/gn_bench/out/gn_bench replay $$load || exit 1; done; done
+
+# Each definition that contracts cite, beside the words that stand above it.
+definitions:
+	@scripts/definitions
 
 clean:
 	rm -rf crates/*/out

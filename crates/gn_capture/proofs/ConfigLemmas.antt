@@ -2,12 +2,12 @@
 use Rattle.std.proofs.Common.{ℕ, List, Result, Ok, Err}
 use Rattle.std.specs.Prelude.{codes, IfOk}
 use Rattle.gn_rules.specs.declared.config.Own.{Own}
-use Rattle.gn_header.specs.declared.fault.CaptureFault.{CaptureFault}
-use Rattle.gn_header.specs.Faults.{◌>>=◌}
-use Rattle.gn_header.specs.Said.{behind_of, said_of}
-use Rattle.gn_header.specs.Settings.{Numbers}
-use Rattle.gn_header.proofs.ConfigLemmas.{IsConfigured}
-use Rattle.gn_header.proofs.HeaderLemmas.{Told, header_configured}
+use Rattle.gn_text.specs.declared.fault.CaptureFault.{CaptureFault}
+use Rattle.gn_text.specs.Faults.{◌>>=◌}
+use Rattle.gn_text.specs.Said.{behind_of, said_of}
+use Rattle.gn_text.specs.Settings.{Numbers}
+use Rattle.gn_text.proofs.ConfigLemmas.{IsConfigured}
+use Rattle.gn_text.proofs.HeaderLemmas.{Told, header_configured}
 use Rattle.gn_capture.specs.declared.line.Line.{Line}
 use Rattle.gn_capture.specs.Captures.{Said, capture_header, capture_of, lines_from, said_by}
 

@@ -1,4 +1,15 @@
 pub mod ConfigLemmas
+pub mod DescriptorsAgain
 pub mod FirstLemmas
+pub mod HistoryLemmas
+pub mod LinesAgain
+pub mod NumbersAgain
+pub mod PacketLemmas
 pub mod QueryLemmas
+pub mod RoundTripLemmas
 pub mod SaidLemmas
+pub mod SettingsAgain
+pub mod Spaced
+pub mod SpelledLemmas
+pub mod StepsAgain
+pub mod StepsLemmas

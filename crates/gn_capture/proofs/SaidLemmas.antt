@@ -2,16 +2,16 @@
 use Rattle.std.proofs.Common.{◌≡◌, ℕ, suc, ◌+◌, ◌<◌, ◌≤◌, List, [], ◌∷◌, ◌++◌, length, drop, get_or, refl, ap, ◌∙◌, sym, arith, Result, Ok, Err, append_assoc, append-nil, add-one, map, Bor}
 use Rattle.std.proofs.lemmas.List.{get_or-map, length-map, drop_all}
 use Rattle.std.proofs.Math.Seq.{drop-cons}
-use Rattle.gn_parse.specs.Lines.{fields_of}
-use Rattle.gn_header.specs.Said.{line_seen}
-use Rattle.gn_header.specs.declared.fault.CaptureFault.{CaptureFault}
-use Rattle.gn_header.specs.declared.fault.CaptureRefusal.{CaptureRefusal}
-use Rattle.gn_header.specs.declared.fault.CaptureRefusal.TheVariants.{Fault, NoMemory}
+use Rattle.gn_text.specs.Lines.{fields_of}
+use Rattle.gn_text.specs.Said.{line_seen}
+use Rattle.gn_text.specs.declared.fault.CaptureFault.{CaptureFault}
+use Rattle.gn_text.specs.declared.fault.CaptureRefusal.{CaptureRefusal}
+use Rattle.gn_text.specs.declared.fault.CaptureRefusal.TheVariants.{Fault, NoMemory}
 use Rattle.gn_capture.specs.declared.line.Line.{Line}
 use Rattle.gn_capture.specs.declared.line.Line.TheVariants.{Join, Greeted, Piece, Route, Take, Close, Originate, Stats}
 use Rattle.gn_capture.specs.CaptureLines.{line_of, links_after}
 use Rattle.gn_capture.specs.Captures.{lines_from, with_front}
-use Rattle.gn_header.specs.Faults.{◌>>=◌, IsRefused}
+use Rattle.gn_text.specs.Faults.{◌>>=◌, IsRefused}
 use Rattle.gn_capture.specs.Outcomes.{numbered}
 
 -- what the lines from i on say, before what was read

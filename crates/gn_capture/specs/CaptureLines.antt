@@ -1,14 +1,14 @@
 -- What one line of a capture says.
 use Rattle.std.specs.Prelude.{ℕ, ◌+◌, ◌==◌, ◌&&◌, nat_le, if◌then◌else◌, List, [], ◌∷◌, Option, Some, None, Result, Ok, Err}
-use Rattle.gn_parse.specs.Bytes.{bytes_said}
-use Rattle.gn_parse.specs.Numbers.{number_of}
-use Rattle.gn_header.specs.declared.fault.Cause.{Cause}
-use Rattle.gn_header.specs.declared.fault.Cause.TheVariants as cause
+use Rattle.gn_text.specs.Bytes.{bytes_said}
+use Rattle.gn_text.specs.Numbers.{number_of}
+use Rattle.gn_text.specs.declared.fault.Cause.{Cause}
+use Rattle.gn_text.specs.declared.fault.Cause.TheVariants as cause
 use Rattle.gn_capture.specs.declared.line.Line.{Line}
 use Rattle.gn_capture.specs.declared.line.Line.TheVariants.{Join, Greeted, Piece, Route, Take, Close, Originate, Stats}
 use Rattle.gn_capture.specs.declared.word.Word.{Word}
 use Rattle.gn_capture.specs.declared.word.Word.TheVariants as word
-use Rattle.gn_header.specs.Faults.{◌>>=◌}
+use Rattle.gn_text.specs.Faults.{◌>>=◌}
 use Rattle.gn_capture.specs.Outcomes.{said}
 use Rattle.gn_capture.specs.Requests.{ping_of, query_of}
 use Rattle.gn_capture.specs.Words.{word_of}

@@ -1,12 +1,12 @@
 -- What a capture says.
 use Rattle.std.specs.Prelude.{ℕ, List, [], ◌∷◌, ◌++◌, codes, Result, Ok}
 use Rattle.gn_rules.specs.declared.config.Own.{Own}
-use Rattle.gn_parse.specs.Lines.{fields_of}
-use Rattle.gn_header.specs.declared.fault.CaptureFault.{CaptureFault}
-use Rattle.gn_header.specs.Faults.{◌>>=◌}
-use Rattle.gn_header.specs.Header.{header_of}
-use Rattle.gn_header.specs.Said.{behind_of, said_of}
-use Rattle.gn_header.specs.Settings.{Numbers, settings_of}
+use Rattle.gn_text.specs.Lines.{fields_of}
+use Rattle.gn_text.specs.declared.fault.CaptureFault.{CaptureFault}
+use Rattle.gn_text.specs.Faults.{◌>>=◌}
+use Rattle.gn_text.specs.Header.{header_of}
+use Rattle.gn_text.specs.Said.{behind_of, said_of}
+use Rattle.gn_text.specs.Settings.{Numbers, settings_of}
 use Rattle.gn_capture.specs.declared.capture.Capture.{Capture}
 use Rattle.gn_capture.specs.declared.line.Line.{Line}
 use Rattle.gn_capture.specs.CaptureLines.{line_of, links_after}

@@ -1,11 +1,11 @@
 -- That a capture's fault is the first one.
 use Rattle.std.specs.Prelude.{◌≡◌, ℕ, List, [], ◌∷◌, ◌++◌, ◌⊎◌, Ok, Err}
 use Rattle.gn_rules.specs.declared.config.Own.{Own}
-use Rattle.gn_parse.specs.Lines.{fields_of}
-use Rattle.gn_header.specs.declared.fault.CaptureFault.{CaptureFault}
-use Rattle.gn_header.specs.declared.fault.CaptureRefusal.{CaptureRefusal}
-use Rattle.gn_header.specs.declared.fault.CaptureRefusal.TheVariants.{Fault, NoMemory}
-use Rattle.gn_header.specs.Settings.{Numbers}
+use Rattle.gn_text.specs.Lines.{fields_of}
+use Rattle.gn_text.specs.declared.fault.CaptureFault.{CaptureFault}
+use Rattle.gn_text.specs.declared.fault.CaptureRefusal.{CaptureRefusal}
+use Rattle.gn_text.specs.declared.fault.CaptureRefusal.TheVariants.{Fault, NoMemory}
+use Rattle.gn_text.specs.Settings.{Numbers}
 use Rattle.gn_capture.specs.declared.line.Line.{Line}
 use Rattle.gn_capture.specs.CaptureLines.{line_of, links_after}
 use Rattle.gn_capture.specs.Captures.{capture_header, lines_from}

@@ -1,6 +1,12 @@
 pub mod CaptureLines
 pub mod Captures
+pub mod Events
 pub mod FirstFaults
+pub mod Histories
 pub mod Outcomes
+pub mod Packets
+pub mod Replies
 pub mod Requests
+pub mod RoundTrip
+pub mod Steps
 pub mod Words

@@ -1,11 +1,11 @@
 -- What reading one line comes to: what it says, or its first cause.
 use Rattle.std.specs.Prelude.{◌≡◌, ℕ, Option, Some, None, Result, Ok, Err}
-use Rattle.gn_header.specs.declared.fault.Cause.{Cause}
-use Rattle.gn_header.specs.declared.fault.Cause.TheVariants.{Field}
-use Rattle.gn_header.specs.declared.fault.CaptureFault.{CaptureFault}
-use Rattle.gn_header.specs.declared.fault.CaptureRefusal.{CaptureRefusal}
-use Rattle.gn_header.specs.declared.fault.CaptureRefusal.TheVariants as whole
-use Rattle.gn_header.specs.Faults.{fault_at, refused_at}
+use Rattle.gn_text.specs.declared.fault.Cause.{Cause}
+use Rattle.gn_text.specs.declared.fault.Cause.TheVariants.{Field}
+use Rattle.gn_text.specs.declared.fault.CaptureFault.{CaptureFault}
+use Rattle.gn_text.specs.declared.fault.CaptureRefusal.{CaptureRefusal}
+use Rattle.gn_text.specs.declared.fault.CaptureRefusal.TheVariants as whole
+use Rattle.gn_text.specs.Faults.{fault_at, refused_at}
 use Rattle.gn_capture.specs.declared.refusal.LineRefusal.{LineRefusal}
 use Rattle.gn_capture.specs.declared.refusal.LineRefusal.TheVariants as line
 

@@ -6,11 +6,11 @@ use Rattle.gn_wire.specs.Packet.{Packet}
 use Rattle.gn_payload.specs.Fields.{QueryFields}
 use Rattle.gn_payload.specs.Refusals.{has_zero}
 use Rattle.gn_payload.specs.Spelling.{query_bytes}
-use Rattle.gn_parse.specs.Bytes.{bytes_said, guid_of}
-use Rattle.gn_parse.specs.Numbers.{number_below}
-use Rattle.gn_header.specs.declared.fault.Cause.{Cause}
-use Rattle.gn_header.specs.declared.fault.Cause.TheVariants.{Fields, Field}
-use Rattle.gn_header.specs.Faults.{◌>>=◌}
+use Rattle.gn_text.specs.Bytes.{bytes_said, guid_of}
+use Rattle.gn_text.specs.Numbers.{number_below}
+use Rattle.gn_text.specs.declared.fault.Cause.{Cause}
+use Rattle.gn_text.specs.declared.fault.Cause.TheVariants.{Fields, Field}
+use Rattle.gn_text.specs.Faults.{◌>>=◌}
 use Rattle.gn_capture.specs.Outcomes.{said}
 
 -- a Ping that comes from here

@@ -1,6 +1,6 @@
 -- The words that lines of a capture begin with.
 use Rattle.std.specs.Prelude.{ℕ, List, codes, if◌then◌else◌, Option, Some, None}
-use Rattle.gn_parse.specs.Lines.{is_word}
+use Rattle.gn_text.specs.Lines.{is_word}
 use Rattle.gn_capture.specs.declared.word.Word.{Word}
 use Rattle.gn_capture.specs.declared.word.Word.TheVariants.{Join, Open, Data, Route, Take, Close, Ping, Query, Stats}
 

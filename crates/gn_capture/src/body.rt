@@ -1,14 +1,14 @@
 //! The lines of a capture, one after another.
 
 ghost use Rattle.std.specs.Prelude.{◌≡◌, ◌<◌, ◌^◌, ◌-◌, map};
-ghost use Rattle.gn_header.specs.Said.{line_seen};
+ghost use Rattle.gn_text.specs.Said.{line_seen};
 ghost use Rattle.gn_capture.specs.CaptureLines.{links_after};
 ghost use Rattle.gn_capture.specs.Captures.{lines_from};
-ghost use Rattle.gn_header.specs.Faults.{IsRead};
+ghost use Rattle.gn_text.specs.Faults.{IsRead};
 
 use crate::line::Line;
 use crate::read_line::read_numbered;
-use gn_header::{CaptureRefusal, SaidLine};
+use gn_text::{CaptureRefusal, SaidLine};
 use std::alloc::Allocator;
 
 /// How many links there are after a line.

@@ -1,14 +1,14 @@
 //! A capture, read whole.
 
 ghost use Rattle.std.specs.Prelude.{IfErr};
-ghost use Rattle.gn_header.specs.Faults.{IsRead};
+ghost use Rattle.gn_text.specs.Faults.{IsRead};
 ghost use Rattle.gn_capture.specs.Captures.{capture_of, capture_seen};
 ghost use Rattle.gn_capture.specs.FirstFaults.{TellsFirst};
 
 use crate::body::read_lines;
 use crate::line::Line;
-use gn_header::{CaptureRefusal, read_header, said_lines};
 use gn_rules::Config;
+use gn_text::{CaptureRefusal, read_header, said_lines};
 use std::alloc::{Allocator, Global};
 
 /// What a capture says: how the router is set up, and what happens to it.

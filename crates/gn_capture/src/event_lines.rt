@@ -7,8 +7,7 @@ ghost use Rattle.gn_capture.specs.CaptureLines.{alone_of, data_of, link_of, numb
 use crate::line::Line;
 use crate::refusal::LineRefusal;
 use bytes::Bytes;
-use gn_header::Cause;
-use gn_parse::{hex_bytes, number};
+use gn_text::{Cause, hex_bytes, number};
 use std::alloc::Allocator;
 
 /// The most links of a capture.

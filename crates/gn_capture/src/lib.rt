@@ -1,17 +1,31 @@
-//! Captures: texts that tell what links deliver and what the local servent does, read into lines.
+//! Both texts whole: captures, which tell what links deliver and what the local servent does, and histories, written and
+//! read.
 #![tactic(auto)]
 
 mod body;
 mod capture;
+#[cfg(test)]
+mod capture_tests;
+mod event;
 mod event_lines;
+mod history;
+#[cfg(test)]
+mod history_tests;
+mod history_written;
+mod laws;
 mod line;
+mod packet;
 mod query_line;
 mod read_line;
 mod refusal;
-#[cfg(test)]
-mod tests;
+mod reply;
+mod sends;
+mod step;
 mod word;
 
 pub use capture::{Capture, read_capture};
-pub use gn_header::{CaptureFault, CaptureRefusal, Cause};
+pub use gn_text::{CaptureFault, CaptureRefusal, Cause};
+pub use history::read_history;
+pub use history_written::write_history;
+pub use laws::{read_is_spelled, written_is_read};
 pub use line::Line;

@@ -6,9 +6,8 @@ ghost use Rattle.gn_capture.specs.Requests.{ping_of, query_behind, query_from, q
 
 use crate::refusal::LineRefusal;
 use bytes::Bytes;
-use gn_header::Cause;
-use gn_parse::{guid, hex_bytes, number_u8, number_u16};
 use gn_payload::{WriteRefusal, write_query};
+use gn_text::{Cause, guid, hex_bytes, number_u8, number_u16};
 use gn_wire::{Descriptor, Guid, Kind};
 use std::alloc::Allocator;
 

@@ -1,9 +1,9 @@
 //! One line of a capture.
 
 ghost use Rattle.std.specs.Prelude.{◌≡◌, map};
-ghost use Rattle.gn_parse.specs.Lines.{fields_of};
+ghost use Rattle.gn_text.specs.Lines.{fields_of};
 ghost use Rattle.gn_capture.specs.CaptureLines.{fields_say, line_of};
-ghost use Rattle.gn_header.specs.Faults.{IsRead};
+ghost use Rattle.gn_text.specs.Faults.{IsRead};
 ghost use Rattle.gn_capture.specs.Outcomes.{IsLineRead, numbered};
 
 use crate::event_lines::{alone, data_line, link_line, number_alone};
@@ -11,8 +11,7 @@ use crate::line::Line;
 use crate::query_line::{ping_line, query_line};
 use crate::refusal::LineRefusal;
 use crate::word::{Word, word_in};
-use gn_header::{CaptureRefusal, Cause};
-use gn_parse::fields;
+use gn_text::{CaptureRefusal, Cause, fields};
 use std::alloc::Allocator;
 
 /// What the fields behind a word say, where so many links are made before them.

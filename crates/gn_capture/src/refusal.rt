@@ -1,6 +1,6 @@
 //! Why a line isn't read.
 
-use gn_header::{CaptureFault, CaptureRefusal, Cause};
+use gn_text::{CaptureFault, CaptureRefusal, Cause};
 use std::alloc::{AllocError, AllocFailed};
 
 /// Why a line isn't read, before its number is known.

@@ -3,7 +3,7 @@
 ghost use Rattle.std.specs.Prelude.{◌≡◌};
 ghost use Rattle.gn_capture.specs.Words.{word_of};
 
-use gn_parse::is_word;
+use gn_text::is_word;
 
 /// The word that a line of a capture begins with.
 #[derive(Clone, Copy, Debug, PartialEq, Eq)]

@@ -1,8 +1,9 @@
-pub mod AnswerLemmas
 pub mod CounterLemmas
 pub mod FlightLemmas
 pub mod KeptLemmas
+pub mod LegalityLemmas
 pub mod LegalLemmas
+pub mod LiveLemmas
 pub mod OutputLemmas
 pub mod PlaceLemmas
 pub mod SendLemmas

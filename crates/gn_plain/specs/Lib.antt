@@ -1,5 +1,4 @@
-pub mod Flights
 pub mod Kept
-pub mod Onward
 pub mod Place
+pub mod Places
 pub mod Views

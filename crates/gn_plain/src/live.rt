@@ -1,14 +1,17 @@
 //! Searches of a history for its connections.
 
-ghost use Rattle.std.specs.Prelude.{◌≡◌, ◌≤◌, length, reverse};
+ghost use Rattle.std.specs.Prelude.{◌≡◌, ◌≤◌, ◌+◌, ◌++◌, filter, length, reverse, true, IfSome};
+ghost use Rattle.std.specs.Option.{option_to_list};
+ghost use Rattle.gn_rules.specs.History.{connected_of};
 ghost use Rattle.gn_rules.specs.Live.{connections, live, live_connections};
+ghost use Rattle.gn_plain.specs.Places.{live_from};
 
 use gn_rules::{ConnId, Step};
 use std::alloc::Allocator;
 
 /// Whether the connection is live.
 #[tactic(auto, using(gn_rules::proofs::PastLemmas::past_more))]
-pub fn is_live<A: Allocator>(history: &[Step<A>], c: ConnId) -> bool
+pub(crate) fn is_live<A: Allocator>(history: &[Step<A>], c: ConnId) -> bool
     ensures { result ≡ live (reverse history.now) c }
 {
     let mut live = false;
@@ -23,7 +26,7 @@ pub fn is_live<A: Allocator>(history: &[Step<A>], c: ConnId) -> bool
 
 /// How many connections were made.
 #[tactic(auto, using(gn_rules::proofs::PastLemmas::past_more))]
-pub fn connection_count<A: Allocator>(history: &[Step<A>]) -> usize
+pub(crate) fn connection_count<A: Allocator>(history: &[Step<A>]) -> usize
     ensures value { result ≡ length (connections (reverse history.now)) }
     ensures bound { result ≤ length history.now }
 {
@@ -36,18 +39,40 @@ pub fn connection_count<A: Allocator>(history: &[Step<A>]) -> usize
     count
 }
 
+/// The connection that a step made, where it is live.
+fn live_made<A: Allocator>(history: &[Step<A>], step: &Step<A>) -> Option<ConnId>
+    ensures value { option_to_list result
+        ≡ filter (live (reverse history.now)) (option_to_list (connected_of step.now.reply)) }
+    ensures live { IfSome result (λ c. live (reverse history.now) c ≡ true) }
+{
+    let c = step.reply.connected()?;
+    if is_live(history, c) { Some(c) } else { None }
+}
+
 /// How many connections are live.
 #[tactic(auto, using(gn_rules::proofs::PastLemmas::past_more))]
-pub fn live_count<A: Allocator>(history: &[Step<A>]) -> usize
+pub(crate) fn live_count<A: Allocator>(history: &[Step<A>]) -> usize
     ensures value { result ≡ length (live_connections (reverse history.now)) }
+    ensures bound { result ≤ length history.now }
 {
     let mut count = 0usize;
     for step in history {
-        if let Some(c) = step.reply.connected() {
-            if is_live(history, c) {
-                count += 1;
-            }
+        if live_made(history, step).is_some() {
+            count += 1;
         }
     }
     count
+}
+
+/// The live connection that the step at this place made.
+#[tactic(auto, using(crate::proofs::LiveLemmas::live_here, crate::proofs::LiveLemmas::none_at))]
+pub(crate) fn live_at<A: Allocator>(history: &[Step<A>], place: u32) -> Option<ConnId>
+    ensures at { live_from history.now place ≡ option_to_list result ++ live_from history.now (place + 1) }
+    ensures live { IfSome result (λ c. live (reverse history.now) c ≡ true) }
+{
+    let place = place as usize;
+    if place >= history.len() {
+        return None;
+    }
+    live_made(history, &history[place])
 }

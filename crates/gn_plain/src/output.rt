@@ -1,13 +1,12 @@
-//! Searches of a legal history for the packets that wait.
+//! Searches of a history for the packets that wait.
 
 ghost use Rattle.std.specs.Prelude.{◌≡◌, ◌≤◌, ◌+◌, ◌-◌, if◌then◌else◌, length, min, slice_get, reverse};
-ghost use Rattle.gn_rules.specs.Answer.{first_taken};
 ghost use Rattle.gn_rules.specs.History.{is_take, sends_of};
 ghost use Rattle.gn_rules.specs.Legal.{IsLegal};
 ghost use Rattle.gn_rules.specs.Output.{out, queued, queued_to, takes};
-ghost use Rattle.gn_rules.specs.Sending as rules;
-ghost use Rattle.gn_plain.specs.Views.{packet_seen, taken_seen};
+ghost use Rattle.std.specs.Option.{option_copied};
 
+use crate::past::Past;
 use gn_rules::{Config, ConnId, Sending, Step};
 use gn_wire::Descriptor;
 use std::alloc::Allocator;
@@ -38,23 +37,17 @@ fn out_after<A: Allocator>(step: &Step<A>, c: ConnId, before: usize) -> usize
     }
 }
 
-/// How many packets are queued to the connection and not taken, in a legal history.
-pub fn out_count<A: Allocator>(config: &Config, history: &[Step<A>], c: ConnId) -> usize
-    ensures value { IsLegal config.now (reverse history.now) → result ≡ length (out (reverse history.now) c) }
-    ensures bound { IsLegal config.now (reverse history.now) → result ≤ config.now.out }
+/// How many packets were queued to the connection and not taken, in a legal history.
+pub(crate) fn out_count<A: Allocator>(config: &Config, history: &[Step<A>], c: ConnId) -> usize
+    requires { IsLegal config.now (reverse history.now) }
+    ensures value { result ≡ length (out (reverse history.now) c) }
+    ensures bound { result ≤ config.now.out }
 {
     let mut count = 0usize;
     for step in history {
         count = out_after(step, c, count);
     }
     count
-}
-
-/// Whether the connection's output has room for one more packet, in a legal history.
-pub fn has_room<A: Allocator>(config: &Config, history: &[Step<A>], c: ConnId) -> bool
-    ensures { IsLegal config.now (reverse history.now) → result ≡ rules.has_room config.now (reverse history.now) c }
-{
-    out_count(config, history, c) < config.out as usize
 }
 
 /// How many packets were taken from the connection's output.
@@ -77,7 +70,7 @@ fn queued_after<A: Allocator>(
     c: ConnId,
     others: usize,
 ) -> Option<&Descriptor<A>>
-    ensures { packet_seen result ≡ slice_get (queued_to c sends.now) others }
+    ensures { option_copied result ≡ slice_get (queued_to c sends.now) others }
 {
     let mut skip = others;
     for sending in sends {
@@ -97,7 +90,7 @@ fn packet_after<A: Allocator>(
     c: ConnId,
     others: usize,
 ) -> Option<&Descriptor<A>>
-    ensures { packet_seen result ≡ slice_get (queued (reverse history.now) c) others }
+    ensures { option_copied result ≡ slice_get (queued (reverse history.now) c) others }
 {
     let mut skip = others;
     for step in history {
@@ -110,14 +103,12 @@ fn packet_after<A: Allocator>(
     None
 }
 
-/// The first packet that waits for the connection in a legal history, where there is one.
-#[tactic(auto, using(crate::proofs::OutputLemmas::first_seen))]
-pub fn first_out<'a, A: Allocator>(
-    config: &Config,
-    history: &'a [Step<A>],
-    c: ConnId,
-) -> Option<&'a Descriptor<A>>
-    ensures { IsLegal config.now (reverse history.now) → taken_seen {A = A} result ≡ first_taken (out (reverse history.now) c) }
-{
-    packet_after(history, c, take_count(history, c))
+impl<'a, A: Allocator> Past<'a, A> {
+    /// The packet that has waited longest for a connection, were it live.
+    #[tactic(auto, using(crate::proofs::OutputLemmas::first_seen))]
+    pub(crate) fn first_out(&self, c: ConnId) -> Option<&Descriptor<A>>
+        ensures { option_copied result ≡ slice_get (out (reverse self.now.steps) c) 0 }
+    {
+        packet_after(self.history, c, take_count(self.history, c))
+    }
 }

@@ -5,10 +5,10 @@ ghost use Rattle.gn_rules.specs.declared.config.Config.{Config};
 ghost use Rattle.gn_plain.specs.Kept.{IsKept};
 
 use crate::counting::stats_in;
-use crate::events::{answer, checked_answer};
 use crate::flying::{follow, push_reserved};
 use crate::live;
-use crate::output::out_count;
+use crate::past::Past;
+use gn_decide::{Lookup, find, find_checked};
 use gn_payload::Checked;
 use gn_rules::{Config, ConnId, Event, Receipt, Refusal, Reply, RouterCore, Stats, Step, Ticket};
 use std::alloc::{AllocError, Allocator, Global};
@@ -37,9 +37,16 @@ impl<A: Allocator + Copy> Model for PlainRouter<A> {
 impl<A: Allocator + Copy> PlainRouter<A> {
     ghost use Rattle.gn_rules.specs.Answer as rules;
 
-    /// Adds the step of an event and the rules' reply, and gives its receipt. An `Err` is want of memory, and changes
+    /// Its history, to be searched.
+    fn past(&self) -> Past<'_, A>
+        ensures { result ≡ self.now }
+    {
+        Past::with_flights(&self.config, &self.history, self.flying.len())
+    }
+
+    /// Adds the step of an event and the rules' reply, and gives its receipt. An `Err` is out of memory, and changes
     /// nothing.
-    #[tactic(auto, using(gn_rules::proofs::PastLemmas::past_length, gn_rules::proofs::PastLemmas::past_push, crate::proofs::FlightLemmas::flying_more,))]
+    #[tactic(auto, using(gn_rules::proofs::PastLemmas::past_length, gn_rules::proofs::PastLemmas::past_push, gn_rules::proofs::LegalLemmas::legal_within))]
     fn add(
         &mut self,
         actor: u32,
@@ -47,8 +54,10 @@ impl<A: Allocator + Copy> PlainRouter<A> {
         reply: Reply<A>,
     ) -> Result<Receipt<A>, AllocError>
         requires { rules.answer self.old.settings (reverse self.old.steps) event.now ≡ Ok reply }
-        ensures step { IfOk result (λ receipt. self.new.steps ≡ self.old.steps ++ record { actor = actor; event = event.now; reply = reply } ∷ []) }
-        ensures receipt { IfOk result (λ receipt. receipt ≡ record { index = length self.old.steps; event = event.now; reply = reply }) }
+        ensures step { IfOk result (λ receipt. self.new.steps
+            ≡ self.old.steps ++ record { actor = actor; event = event.now; reply = reply } ∷ []) }
+        ensures receipt { IfOk result (λ receipt. receipt
+            ≡ record { index = length self.old.steps; event = event.now; reply = reply }) }
         ensures err { OnErr result (self.new.steps ≡ self.old.steps) }
         ensures settings { self.new.settings ≡ self.old.settings }
     {
@@ -82,24 +91,17 @@ impl<A: Allocator + Copy> RouterCore<A> for PlainRouter<A> {
     }
 
     fn apply(&mut self, actor: u32, event: &Event<A>) -> Result<Receipt<A>, Refusal> {
-        let reply = answer(
-            self.alloc,
-            &self.config,
-            &self.history,
-            self.flying.len(),
-            event,
-        )?;
+        let reply = find(self.alloc, &self.past(), event)?;
         Ok(self.add(actor, event, reply)?)
     }
 
-    #[tactic(auto, using(crate::proofs::AnswerLemmas::checked_is_answer))]
     fn route(
         &mut self,
         actor: u32,
         ticket: Ticket,
         checked: &Checked<A>,
     ) -> Result<Receipt<A>, Refusal> {
-        let reply = checked_answer(self.alloc, &self.config, &self.history, ticket, checked)?;
+        let reply = find_checked(self.alloc, &self.past(), ticket, checked)?;
         Ok(self.add(actor, &Event::Route(ticket), reply)?)
     }
 
@@ -115,11 +117,12 @@ impl<A: Allocator + Copy> RouterCore<A> for PlainRouter<A> {
         self.history
     }
 
+    #[tactic(auto, using(gn_rules::proofs::PastLemmas::past_length, gn_rules::proofs::LegalLemmas::legal_within))]
     fn stats(&self) -> Stats {
         stats_in(&self.history)
     }
 
-    #[tactic(auto, using(gn_rules::proofs::PastLemmas::past_length, crate::proofs::FlightLemmas::flying_within))]
+    #[tactic(auto, using(gn_rules::proofs::PastLemmas::past_length, gn_rules::proofs::LegalLemmas::legal_within, crate::proofs::FlightLemmas::flying_within))]
     fn flights(&self) -> u32 {
         self.flying.len() as u32
     }
@@ -129,10 +132,6 @@ impl<A: Allocator + Copy> RouterCore<A> for PlainRouter<A> {
     }
 
     fn waiting(&self, c: ConnId) -> u32 {
-        if live::is_live(&self.history, c) {
-            out_count(&self.config, &self.history, c) as u32
-        } else {
-            0
-        }
+        self.past().output(c).unwrap_or(0)
     }
 }

@@ -3,18 +3,17 @@ use Rattle.std.specs.Prelude.{◌≡◌, ◌≢◌, ◌⊎◌, ◌≤◌, ℕ, L
 use Rattle.std.specs.declared.alloc.Global.{Global}
 use Rattle.clap.specs.declared.error.kind.ErrorKind.{ErrorKind}
 use Rattle.clap.specs.declared.error.kind.ErrorKind.TheVariants.{DisplayHelp, DisplayVersion, OutOfMemory}
-use Rattle.gn_fault.specs.Faults.{IsReplayFault}
-use Rattle.gn_fault.specs.declared.fault.ReplayFault.{ReplayFault}
-use Rattle.gn_header.specs.declared.fault.CaptureFault.{CaptureFault}
+use Rattle.gn_replay.specs.Faults.{IsReplayFault}
+use Rattle.gn_replay.specs.declared.fault.ReplayFault.{ReplayFault}
+use Rattle.gn_text.specs.declared.fault.CaptureFault.{CaptureFault}
 use Rattle.gn_io.specs.Input.{input_limit}
 use Rattle.gn_capture.specs.Captures.{capture_of}
 use Rattle.gn_replay.specs.Replays.{AppendsReplay, HasStopped, IsCounted}
 use Rattle.gn_replay.specs.declared.replays.Exit.{Exit}
-use Rattle.gn_history.specs.Text.{history_of}
-use Rattle.gn_audit.specs.Audits.{AppendsVerdict}
-use Rattle.gn_audit.specs.Audits.{HasStopped as HasAuditStopped}
-use Rattle.gn_legal.specs.declared.legality.Legality.{Legality}
-use Rattle.gn_legal.specs.declared.legality.Legality.TheVariants.{Legal, WrongAt}
+use Rattle.gn_capture.specs.Histories.{history_of}
+use Rattle.gn_replay.specs.Audits.{AppendsVerdict, HasStopped as HasAuditStopped}
+use Rattle.gn_rules.specs.declared.legality.Legality.{Legality}
+use Rattle.gn_rules.specs.declared.legality.Legality.TheVariants.{Legal, WrongAt}
 use Rattle.gn_program.specs.declared.request.Request.{Request}
 use Rattle.gn_program.specs.declared.request.Request.TheVariants.{Replay, Audit}
 

@@ -1,7 +1,7 @@
 //! The fault lines.
 
-use gn_fault::ReplayFault;
-use gn_header::{CaptureFault, Cause};
+use gn_replay::ReplayFault;
+use gn_text::{CaptureFault, Cause};
 use thiserror::Error;
 
 /// Why a command wasn't done. Its text is the line that is told.

@@ -1,8 +1,7 @@
 //! The words of a command line.
 
-ghost use Rattle.std.specs.Prelude.{◌≡◌, Some, IfOk, IfErr, map, option_and_then, option_map};
+ghost use Rattle.std.specs.Prelude.{◌≡◌, Some, IfOk, IfErr, map, option_and_then, option_map, false};
 ghost use Rattle.clap.specs.Words.{app_of, fault_of, shape_of, new_app, HasKind};
-ghost use Rattle.std.specs.Prelude.{false};
 ghost use Rattle.clap.specs.declared.builder.command.Command.TheViews.{out-Command as fields_of};
 ghost use Rattle.gn_program.specs.Words.{gn_app, request_named, request_of, PlainWordsAreRead};
 

@@ -1,7 +1,9 @@
 pub mod AdmitLemmas
 pub mod EventLemmas
+pub mod JudgeLemmas
 pub mod LineLemmas
 pub mod LinkLemmas
 pub mod OneText
 pub mod ReplayLemmas
 pub mod RunLemmas
+pub mod VerdictLemmas

@@ -5,8 +5,8 @@ use Rattle.std.specs.Prelude.{IfOk}
 use Rattle.gn_rules.specs.declared.config.Config.{Config}
 use Rattle.gn_rules.specs.declared.config.Own.{Own}
 use Rattle.gn_rules.specs.Limits.{IsWithin}
-use Rattle.gn_header.specs.declared.fault.CaptureFault.{CaptureFault}
-use Rattle.gn_header.specs.Settings.{Numbers, settings_of}
+use Rattle.gn_text.specs.declared.fault.CaptureFault.{CaptureFault}
+use Rattle.gn_text.specs.Settings.{Numbers, settings_of}
 use Rattle.gn_capture.specs.Captures.{Said, capture_of}
 use Rattle.gn_capture.proofs.ConfigLemmas.{HasConfig, capture_configured}
 use Rattle.gn_replay.specs.Events.{Played, nothing}

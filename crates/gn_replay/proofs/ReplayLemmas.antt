@@ -3,12 +3,12 @@ use Rattle.std.proofs.Common.{◌≡◌, ◌≤◌, ◌<◌, ◌==◌, ◌∙◌
 use Rattle.std.proofs.lemmas.List.{length-reverse}
 use Rattle.std.proofs.lemmas.Bool.Decides.{nat_tests}
 use Rattle.std.specs.Result.{IsErrAnd}
-use Rattle.gn_header.specs.declared.fault.CaptureFault.{CaptureFault}
+use Rattle.gn_text.specs.declared.fault.CaptureFault.{CaptureFault}
 use Rattle.gn_io.specs.Input.{input_limit}
 use Rattle.gn_io.specs.Parts.{AppendsPart}
-use Rattle.gn_fault.specs.declared.fault.ReplayFault.{ReplayFault}
-use Rattle.gn_fault.specs.declared.fault.ReplayFault.TheVariants as fault
-use Rattle.gn_fault.specs.Faults.{IsReplayFault}
+use Rattle.gn_replay.specs.declared.fault.ReplayFault.{ReplayFault}
+use Rattle.gn_replay.specs.declared.fault.ReplayFault.TheVariants as fault
+use Rattle.gn_replay.specs.Faults.{IsReplayFault}
 use Rattle.gn_rules.specs.declared.config.Config.{Config}
 use Rattle.gn_rules.specs.declared.receipt.Step.{Step}
 use Rattle.gn_rules.specs.declared.refusal.Refusal.{Refusal}
@@ -16,30 +16,15 @@ use Rattle.gn_rules.specs.declared.refusal.Refusal.TheVariants.{HistoryFull}
 use Rattle.gn_rules.specs.declared.reply.Reply.{Reply}
 use Rattle.gn_rules.specs.Answer.{event_answer, with_room}
 use Rattle.gn_rules.specs.Legal.{IsLegal}
+use Rattle.gn_rules.proofs.LegalLemmas.{legal_within}
 use Rattle.gn_capture.specs.declared.capture.Capture.{Capture}
 use Rattle.gn_capture.specs.Captures.{Said, capture_of, capture_seen}
 use Rattle.gn_replay.specs.declared.replays.Exit.{Exit}
 use Rattle.gn_replay.specs.ReplayText.{IsReplay, IsReplayOf, capture_plays}
 use Rattle.gn_replay.specs.Replays.{AppendsReplay, AppendsReplayPart, HasStopped, IsCounted}
-use Rattle.gn_replay.specs.declared.fault.PlayFault.{PlayFault}
-use Rattle.gn_replay.specs.declared.fault.PlayFault.TheVariants as play
+use Rattle.gn_replay.specs.declared.play_fault.PlayFault.{PlayFault}
+use Rattle.gn_replay.specs.declared.play_fault.PlayFault.TheVariants as play
 use Rattle.gn_replay.specs.Runs.{HasRun, of_playing}
-
--- a step is made only where there is room for it
-room : {A : Type 0} (s : Config) (past : List (Step A)) (rules : Result (Reply A) Refusal) (reply : Reply A) → with_room s past rules ≡ Ok reply → (length past == s.steps) ≡ false
-room s past rules reply is =
-    elim (length past == s.steps) as (λ b. (if b then Err HistoryFull else rules) ≡ Ok reply → b ≡ false) [
-      | true ↦ λ h. cc
-      | false ↦ λ h. refl
-    ] is
-
--- a legal history has no more steps than it may have
-legal_within : {A : Type 0} (s : Config) (past : List (Step A)) → IsLegal s past → length past ≤ s.steps
-legal_within s [] legal = omega arith
-legal_within s (step ∷ past) legal =
-    let differs : (length past == s.steps) ≡ false = room s past (event_answer s past step.event) step.reply legal.0 in
-    let before : length past ≤ s.steps = legal_within s past legal.1 in
-    grind (arith, nat_tests, differs, before)
 
 -- so many steps fit a number
 pub few_steps : {A : Type 0} (s : Config) (steps : List (Step A)) → IsLegal s (reverse steps) → length steps < 4294967296

@@ -1,4 +1,6 @@
+pub mod Audits
 pub mod Events
+pub mod Faults
 pub mod Links
 pub mod Outcomes
 pub mod Pieces

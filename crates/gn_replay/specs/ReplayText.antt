@@ -6,8 +6,8 @@ use Rattle.gn_rules.specs.declared.event.Event.TheVariants.{Close, Route, Take, 
 use Rattle.gn_rules.specs.declared.receipt.Step.{Step}
 use Rattle.gn_rules.specs.Statistics.{stats_of}
 use Rattle.gn_text.specs.Statistics.{stats_text}
-use Rattle.gn_header.specs.declared.fault.CaptureFault.{CaptureFault}
-use Rattle.gn_header.specs.Settings.{settings_of}
+use Rattle.gn_text.specs.declared.fault.CaptureFault.{CaptureFault}
+use Rattle.gn_text.specs.Settings.{settings_of}
 use Rattle.gn_capture.specs.declared.line.Line.{Line}
 use Rattle.gn_capture.specs.declared.line.Line.TheVariants as line
 use Rattle.gn_capture.specs.Captures.{Said, capture_of}

@@ -1,8 +1,8 @@
 -- What a replay comes to.
 use Rattle.std.specs.Prelude.{◌≡◌, ◌≤◌, ◌⊎◌, ℕ, List, length, Option, IfSome}
 use Rattle.std.specs.Io.KnownBytes.{Appends, Keeps}
-use Rattle.gn_fault.specs.declared.fault.ReplayFault.{ReplayFault}
-use Rattle.gn_fault.specs.declared.fault.ReplayFault.TheVariants.{Write, NoMemory}
+use Rattle.gn_replay.specs.declared.fault.ReplayFault.{ReplayFault}
+use Rattle.gn_replay.specs.declared.fault.ReplayFault.TheVariants.{Write, NoMemory}
 use Rattle.gn_io.specs.Input.{input_limit}
 use Rattle.gn_io.specs.Parts.{AppendsPart}
 use Rattle.gn_replay.specs.declared.replays.Exit.{Exit}

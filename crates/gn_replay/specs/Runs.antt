@@ -1,12 +1,12 @@
 -- Lines that were played on a router, with what was written of their text.
 use Rattle.std.specs.Prelude.{◌≡◌, ◌⊎◌, ℕ, List, [], Option}
 use Rattle.std.specs.Io.KnownBytes.{Appends}
-use Rattle.gn_fault.specs.declared.fault.ReplayFault.{ReplayFault}
-use Rattle.gn_fault.specs.declared.fault.ReplayFault.TheVariants as replay
+use Rattle.gn_replay.specs.declared.fault.ReplayFault.{ReplayFault}
+use Rattle.gn_replay.specs.declared.fault.ReplayFault.TheVariants as replay
 use Rattle.gn_io.specs.Counts.{Rises}
 use Rattle.gn_rules.specs.declared.receipt.Step.{Step}
-use Rattle.gn_replay.specs.declared.fault.PlayFault.{PlayFault}
-use Rattle.gn_replay.specs.declared.fault.PlayFault.TheVariants.{Write, NoMemory}
+use Rattle.gn_replay.specs.declared.play_fault.PlayFault.{PlayFault}
+use Rattle.gn_replay.specs.declared.play_fault.PlayFault.TheVariants.{Write, NoMemory}
 use Rattle.gn_replay.specs.Events.{Played}
 use Rattle.gn_replay.specs.Links.{AreLinks}
 use Rattle.gn_replay.specs.Playing.{Playing, refused_more}

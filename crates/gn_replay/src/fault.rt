@@ -1,48 +1,76 @@
-//! Why lines aren't played to the end.
+//! The faults, and what they are made of.
 
 ghost use Rattle.std.specs.Prelude.{◌≡◌};
-ghost use Rattle.gn_replay.specs.Runs.{of_playing};
+ghost use Rattle.gn_replay.specs.Faults.{of_input, of_refusal};
 
-use gn_fault::ReplayFault;
-use gn_io::IoFault;
-use std::alloc::AllocError;
+use gn_io::{InputFault, IoFault};
+use gn_text::{CaptureFault, CaptureRefusal};
+use std::alloc::{AllocError, AllocFailed};
 
-/// Why lines aren't played to the end.
+/// Why a replay stopped, or an audit.
 #[derive(Clone, Copy, Debug, PartialEq, Eq)]
-pub enum PlayFault {
+pub enum ReplayFault {
+    /// A read of the input failed.
+    Read,
+    /// The input has more than 67,108,864 bytes.
+    TooLarge,
+    /// The input isn't what it has to be: its first fault.
+    Capture(CaptureFault),
     /// A write of the output failed, or took nothing.
     Write,
     /// No memory was given.
     NoMemory,
 }
 
-impl From<AllocError> for PlayFault {
-    ghost use Rattle.gn_replay.specs.declared.fault.PlayFault.TheVariants.{NoMemory};
+impl From<InputFault> for ReplayFault {
+    ghost from_gives = { λ fault e. e ≡ of_input fault };
 
-    ghost from_gives = { λ _ fault. fault ≡ NoMemory };
-
-    fn from(_error: AllocError) -> PlayFault {
-        PlayFault::NoMemory
-    }
-}
-
-impl From<IoFault> for PlayFault {
-    ghost use Rattle.gn_replay.specs.declared.fault.PlayFault.TheVariants.{Write};
-
-    ghost from_gives = { λ _ fault. fault ≡ Write };
-
-    fn from(_fault: IoFault) -> PlayFault {
-        PlayFault::Write
-    }
-}
-
-impl From<PlayFault> for ReplayFault {
-    ghost from_gives = { λ fault e. e ≡ of_playing fault };
-
-    fn from(fault: PlayFault) -> ReplayFault {
+    fn from(fault: InputFault) -> ReplayFault {
         match fault {
-            PlayFault::Write => ReplayFault::Write,
-            PlayFault::NoMemory => ReplayFault::NoMemory,
+            InputFault::Read => ReplayFault::Read,
+            InputFault::TooLarge => ReplayFault::TooLarge,
+            InputFault::NoMemory => ReplayFault::NoMemory,
         }
+    }
+}
+
+impl From<CaptureRefusal> for ReplayFault {
+    ghost from_gives = { λ refusal e. e ≡ of_refusal refusal };
+
+    fn from(refusal: CaptureRefusal) -> ReplayFault {
+        match refusal {
+            CaptureRefusal::Fault(fault) => ReplayFault::Capture(fault),
+            CaptureRefusal::NoMemory => ReplayFault::NoMemory,
+        }
+    }
+}
+
+impl From<IoFault> for ReplayFault {
+    ghost use Rattle.gn_replay.specs.declared.fault.ReplayFault.TheVariants.{Write};
+
+    ghost from_gives = { λ _ e. e ≡ Write };
+
+    fn from(_fault: IoFault) -> ReplayFault {
+        ReplayFault::Write
+    }
+}
+
+impl From<AllocError> for ReplayFault {
+    ghost use Rattle.gn_replay.specs.declared.fault.ReplayFault.TheVariants.{NoMemory};
+
+    ghost from_gives = { λ _ e. e ≡ NoMemory };
+
+    fn from(_e: AllocError) -> ReplayFault {
+        ReplayFault::NoMemory
+    }
+}
+
+impl<T: Drop> From<AllocFailed<T>> for ReplayFault {
+    ghost use Rattle.gn_replay.specs.declared.fault.ReplayFault.TheVariants.{NoMemory};
+
+    ghost from_gives = { λ _ e. e ≡ NoMemory };
+
+    fn from(_e: AllocFailed<T>) -> ReplayFault {
+        ReplayFault::NoMemory
     }
 }

@@ -1,19 +1,25 @@
-//! Captures replayed on any router.
+//! Captures replayed on any router, histories audited by one, and why either stopped.
 #![tactic(auto)]
 
+mod audits;
 mod fault;
+#[cfg(test)]
+mod fault_tests;
+mod judge;
 mod laws;
 mod line;
 mod link;
 mod outcome;
 mod piece;
+mod play_fault;
 mod playing;
 mod replays;
 mod run;
-#[cfg(test)]
-mod tests;
+mod verdict;
 
-pub use fault::PlayFault;
+pub use audits::audit;
+pub use fault::ReplayFault;
 pub use laws::replay_text_is_one;
+pub use play_fault::PlayFault;
 pub use replays::{Exit, replay};
 pub use run::{Replayed, play};

@@ -1,14 +1,14 @@
 //! A capture, replayed from its text.
 
 ghost use Rattle.std.specs.Prelude.{◌≡◌, ◌≤◌, Some, length, IfOk, IfErr, IfSome, IsOk, OnOk};
-ghost use Rattle.gn_fault.specs.Faults.{IsReplayFault};
+ghost use Rattle.gn_replay.specs.Faults.{IsReplayFault};
 ghost use Rattle.gn_io.specs.Input.{input_limit};
 ghost use Rattle.gn_capture.specs.Captures.{capture_of};
 ghost use Rattle.gn_replay.specs.Replays.{AppendsReplay, HasStopped, IsCounted};
 
+use crate::fault::ReplayFault;
 use crate::run::{Replayed, play};
 use gn_capture::read_capture;
-use gn_fault::ReplayFault;
 use gn_io::{Sink, Source, read_input};
 use gn_rules::RouterCore;
 use std::alloc::Allocator;

@@ -6,7 +6,7 @@ ghost use Rattle.gn_replay.specs.Links.{AreLinks, LinkState};
 ghost use Rattle.gn_replay.specs.ReplayText.{capture_plays, plays};
 ghost use Rattle.gn_replay.specs.Runs.{HasRun, HasWritten, IsNew, IsPlayFault};
 
-use crate::fault::PlayFault;
+use crate::play_fault::PlayFault;
 use crate::playing::Play;
 use gn_capture::{Capture, Line};
 use gn_io::{Sink, write_all};

@@ -1,30 +1,25 @@
 -- What the tables tell of the steps.
-use Rattle.std.proofs.Common.{◌≡◌, ℕ, ◌+◌, ◌<◌, ◌==◌, ◌||◌, Bool, true, false, cond, if◌then◌else◌, List, [], ◌∷◌, ◌++◌, length, filter, map, take, zero, suc, IfSome, Option, Some, None, Ok, Err, nat_eq, MatchOption, refl, sym, ap, ◌∙◌, add-one, append_assoc, arith}
+use Rattle.std.proofs.Common.{◌≡◌, ℕ, ◌+◌, ◌<◌, ◌==◌, ◌||◌, true, false, cond, if◌then◌else◌, List, [], ◌∷◌, ◌++◌, IfSome, length, map, take, zero, suc, Option, Some, None, nat_eq, refl, sym, ap, ◌∙◌, arith, drop, Bool, filter}
 use Rattle.std.specs.Borrow.{Bor}
 use Rattle.std.specs.List.{list_any, slice_get}
-use Rattle.std.specs.Option.{option_copied, option_to_list, option_map, option_and_then}
+use Rattle.std.specs.Option.{option_copied, option_map, option_and_then, option_to_list}
 use Rattle.std.specs.FinMap as map
 use Rattle.std.specs.Map.{lookup, keys_of}
 use Rattle.std.specs.Ordering.{nat_cmp}
-use Rattle.std.proofs.lemmas.List.{length-map, map-append, map-id}
-use Rattle.std.proofs.lemmas.List.Elements.{All-nil, filter-append}
+use Rattle.std.proofs.lemmas.List.{length-map, map-id}
+use Rattle.std.proofs.lemmas.List.Elements.{All-nil}
 use Rattle.std.proofs.lemmas.Map.Views.{exact_unsigned_eq}
 use Rattle.gn_wire.specs.Packet.{Packet}
 use Rattle.gn_rules.specs.declared.config.Config.{Config}
 use Rattle.gn_rules.specs.declared.receipt.Step.{Step}
-use Rattle.gn_rules.specs.declared.refusal.Refusal.TheVariants.{NothingWaiting}
-use Rattle.gn_rules.specs.declared.reply.Reply.TheVariants.{Taken}
-use Rattle.gn_rules.specs.Answer.{first_taken}
-use Rattle.gn_rules.specs.Flight.{Admission, in_flight}
 use Rattle.gn_rules.specs.Live.{connections, live, live_connections}
 use Rattle.gn_rules.specs.Output.{out, rows}
 use Rattle.gn_rules.proofs.StepLemmas.{is_listed, map_map}
 use Rattle.gn_rules.specs.Statistics.{no_stats}
-use Rattle.gn_tables.specs.declared.flights.Flight.{Flight}
 use Rattle.gn_tables.specs.Flying.{Flying}
 use Rattle.gn_tables.specs.Lines.{first_of, line_of}
 use Rattle.gn_router.specs.declared.tables.Tables.{Tables}
-use Rattle.gn_router.specs.Tabled.{IsTabled, carried, flight_of, lines}
+use Rattle.gn_router.specs.Tabled.{IsTabled, lines}
 
 -- a search among entries that are made of numbers
 lookup_made : {X : Type 0} (f : ℕ → X) (c : ℕ) (ns : List ℕ)
@@ -46,35 +41,37 @@ pub keys_are : {A : Type 0} (past : List (Step A)) → keys_of (rows past) ≡ l
 keys_are past = map_map (λ d. (d, out past d)) (λ (r : ℕ × List Packet). r.0) (live_connections past) ∙ map-id (live_connections past)
 
 -- what passes a filter passes its test
-passes : (p : ℕ → Bool) (ns : List ℕ) (i : ℕ) → IfSome (slice_get (filter p ns) i) (λ n. p n ≡ true)
-passes p [] i = tt
-passes p (n ∷ ns) i =
-    elim (p n) as (λ b. p n ≡ b → IfSome (slice_get (cond b (n ∷ filter p ns) (filter p ns)) i) (λ m. p m ≡ true)) [
+passes : (p : ℕ → Bool) (ns : List ℕ) (i n : ℕ) → Some n ≡ slice_get (filter p ns) i → p n ≡ true
+passes p [] i n h = absurd (cc)
+passes p (m ∷ ns) i n h =
+    elim (p m) as (λ b. p m ≡ b → Some n ≡ slice_get (cond b (m ∷ filter p ns) (filter p ns)) i → p n ≡ true) [
       | true ↦ λ e. first (passes p ns) i e
-      | false ↦ λ e. passes p ns i
-    ] refl
+      | false ↦ λ e. passes p ns i n
+    ] refl h
   where
-    first : ((j : ℕ) → IfSome (slice_get (filter p ns) j) (λ m. p m ≡ true)) → (i : ℕ) → p n ≡ true → IfSome (slice_get (n ∷ filter p ns) i) (λ m. p m ≡ true)
-    first rest zero e = e
-    first rest (suc i) e = rest i
+    first : ((j k : ℕ) → Some k ≡ slice_get (filter p ns) j → p k ≡ true) → (i : ℕ) → p m ≡ true → Some n ≡ slice_get (m ∷ filter p ns) i → p n ≡ true
+    first rest zero e h = let is : n ≡ m = cc in ap p is ∙ e
+    first rest (suc i) e h = rest i n h
 
--- so many items and the next one, where there is one
-take_next : {X : Type 0} (xs : List X) (i : ℕ) → take (suc i) xs ≡ take i xs ++ option_to_list (slice_get xs i)
-take_next [] zero = refl
-take_next [] (suc i) = refl
-take_next (x ∷ xs) zero = refl
-take_next (x ∷ xs) (suc i) = ap (λ ys. x ∷ ys) (take_next xs i)
+-- what stands among the live connections is live
+pub alive : {A : Type 0} (past : List (Step A)) (i : ℕ) (found : Option ℕ) → found ≡ slice_get (live_connections past) i → IfSome found (λ n. live past n ≡ true)
+alive past i None h = tt
+alive past i (Some n) h = passes (live past) (connections past) i n h
 
--- what is made of so many numbers that pass, and of the next one
-pub made_more : {X : Type 0} (f : ℕ → X) (p : ℕ → Bool) (ns : List ℕ) (i : ℕ) (start xs ys : List X) → xs ≡ start ++ map f (filter p (take i ns))
-    → ys ≡ xs ++ map f (filter p (option_to_list (slice_get ns i))) → ys ≡ start ++ map f (filter p (take (i + 1) ns))
-made_more f p ns i start xs ys before after =
-    let next : List ℕ = option_to_list (slice_get ns i) in
-    let all : map f (filter p (take i ns)) ++ map f (filter p next) ≡ map f (filter p (take (suc i) ns)) =
-    sym (map-append f (filter p (take i ns)) (filter p next)) ∙ ap (map f) (sym (filter-append p (take i ns) next) ∙ ap (filter p) (sym (take_next ns i))) in
-    rw add-one
-    (after ∙ ap (λ zs. zs ++ map f (filter p next)) before ∙ append_assoc start (map f (filter p (take i ns))) (map f (filter p next))
-    ∙ ap (λ zs. start ++ zs) all)
+drop_nil : {X : Type 0} (n : ℕ) → ◌≡◌ {A = List X} (drop n []) []
+drop_nil zero = refl
+drop_nil (suc n) = refl
+
+here : {X : Type 0} (xs : List X) (i : ℕ) → drop i xs ≡ option_to_list (slice_get xs i) ++ drop (suc i) xs
+here [] i = drop_nil i ∙ sym (drop_nil (suc i))
+here (x ∷ xs) zero = refl
+here (x ∷ xs) (suc i) = here xs i
+
+-- the item at a place stands before those after it
+pub item_at : {X : Type 0} (xs : List X) (i : ℕ) (found : Option X) → found ≡ slice_get xs i → drop i xs ≡ option_to_list found ++ drop (i + 1) xs
+item_at xs i found is =
+    let next : suc i ≡ i + 1 = omega arith in
+    here xs i ∙ ap (λ x. option_to_list x ++ drop (suc i) xs) (sym is) ∙ ap (λ n. option_to_list found ++ drop n xs) next
 
 module _ {A : Type 0} (s : Config) (past : List (Step A)) (t : Tables A) (are : IsTabled s past t) where
   line_there : (c : ℕ) → line_of c t.neighbours ≡ cond (live past c) (Some (out past c)) None
@@ -91,34 +88,12 @@ module _ {A : Type 0} (s : Config) (past : List (Step A)) (t : Tables A) (are : 
   pub number_told : (i : ℕ) → slice_get (keys_of t.neighbours.rows) i ≡ slice_get (live_connections past) i
   number_told i = ap (λ l. slice_get (keys_of l.rows) i) are.neighbours_are ∙ ap (λ ns. slice_get ns i) (keys_are past)
 
-  pub number_alive : (i : ℕ) (r : Option ℕ) → r ≡ slice_get (keys_of t.neighbours.rows) i → IfSome r (λ c. live past c ≡ true)
-  number_alive i r h = rw (h ∙ number_told i) (passes (live past) (connections past) i)
-
-  -- the first packet that waits is the one that a take finds
+  -- the first packet that waits is the first of the output
   pub first_told : (c : ℕ) (r : Option (Bor Packet)) → live past c ≡ true → option_copied r ≡ first_of c t.neighbours
-      → MatchOption r (first_taken {A = A} (out past c) ≡ Err NothingWaiting) (λ p. first_taken {A = A} (out past c) ≡ Ok (Taken p.now))
+      → option_copied r ≡ slice_get (out past c) 0
   first_told c r alive h =
       let there : line_of c t.neighbours ≡ Some (out past c) = line_there c ∙ ap (λ b. cond b (Some (out past c)) None) alive in
-      by_first (out past c) r (h ∙ ap (option_and_then (λ packets. slice_get packets 0)) there)
-    where
-      by_first : (xs : List Packet) (r : Option (Bor Packet)) → option_copied r ≡ slice_get xs 0
-          → MatchOption r (first_taken {A = A} xs ≡ Err NothingWaiting) (λ p. first_taken {A = A} xs ≡ Ok (Taken p.now))
-      by_first [] None h = refl
-      by_first [] (Some x) h = absurd (cc)
-      by_first (p ∷ ps) None h = absurd (cc)
-      by_first (p ∷ ps) (Some x) h = let is : x.now ≡ p = cc in ap (λ q. Ok (Taken q)) (sym is)
-
-  -- what is found under a ticket is in flight
-  pub flight_told : (u : ℕ) (r : Option (Bor (Flight A))) → option_copied r ≡ map.get t.flights.flights u
-      → MatchOption r (in_flight past u ≡ None) (λ f. in_flight past u ≡ Some (carried f.now))
-  flight_told u r h = by_flight (in_flight past u) r (h ∙ are.flights_are.each u)
-    where
-      by_flight : (o : Option Admission) (r : Option (Bor (Flight A))) → option_copied r ≡ option_map flight_of o
-          → MatchOption r (o ≡ None) (λ f. o ≡ Some (carried f.now))
-      by_flight None None h = refl
-      by_flight None (Some f) h = absurd (cc)
-      by_flight (Some a) None h = absurd (cc)
-      by_flight (Some a) (Some f) h = let is : f.now ≡ flight_of a = cc in ap (λ x. Some (carried x)) (sym is)
+      h ∙ ap (option_and_then (λ packets. slice_get packets 0)) there
 
 take_nil : {X : Type 0} (n : ℕ) → ◌≡◌ {A = List X} [] (take n [])
 take_nil zero = refl

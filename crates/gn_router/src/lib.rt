@@ -1,10 +1,7 @@
 //! The router by tables: it answers as the rules say without ever reading its history.
 #![tactic(auto)]
 
-mod decide;
-mod find;
 mod follow;
-mod packets;
 mod readers;
 mod router_core;
 mod table_router;
@@ -12,5 +9,7 @@ mod tables;
 
 pub use table_router::TableRouter;
 
+#[cfg(test)]
+mod memory_tests;
 #[cfg(test)]
 mod tests;

@@ -5,12 +5,13 @@ ghost use Rattle.gn_rules.specs.Answer.{answer};
 ghost use Rattle.gn_router.specs.Tabled.{past_of};
 
 use crate::table_router::TableRouter;
+use gn_decide::{Lookup, find, find_checked};
 use gn_payload::Checked;
 use gn_rules::{Config, ConnId, Event, Receipt, Refusal, Reply, RouterCore, Stats, Step, Ticket};
 use std::alloc::{AllocError, Allocator};
 
 impl<A: Allocator + Copy> TableRouter<A> {
-    /// Makes the step of an event whose reply was found. An `Err` is want of memory, and changes nothing.
+    /// Makes the step of an event whose reply was found. An `Err` is out of memory, and changes nothing.
     fn enter(
         &mut self,
         actor: u32,
@@ -56,7 +57,7 @@ impl<A: Allocator + Copy> RouterCore<A> for TableRouter<A> {
     }
 
     fn apply(&mut self, actor: u32, event: &Event<A>) -> Result<Receipt<A>, Refusal> {
-        let reply = self.find(event)?;
+        let reply = find(self.alloc, self, event)?;
         Ok(self.enter(actor, event, reply)?)
     }
 
@@ -66,7 +67,7 @@ impl<A: Allocator + Copy> RouterCore<A> for TableRouter<A> {
         ticket: Ticket,
         checked: &Checked<A>,
     ) -> Result<Receipt<A>, Refusal> {
-        let reply = self.find_checked(ticket, checked)?;
+        let reply = find_checked(self.alloc, self, ticket, checked)?;
         Ok(self.enter(actor, &Event::Route(ticket), reply)?)
     }
 
@@ -87,14 +88,14 @@ impl<A: Allocator + Copy> RouterCore<A> for TableRouter<A> {
     }
 
     fn flights(&self) -> u32 {
-        self.flying()
+        self.tables.flights.len()
     }
 
     fn is_live(&self, c: ConnId) -> bool {
-        self.has(c)
+        self.output(c).is_some()
     }
 
     fn waiting(&self, c: ConnId) -> u32 {
-        self.line(c).unwrap_or(0)
+        self.output(c).unwrap_or(0)
     }
 }

@@ -1,6 +1,11 @@
+pub mod AnswerLemmas
 pub mod CounterLemmas
 pub mod EntryLemmas
+pub mod FitLemmas
+pub mod FlightLemmas
+pub mod LegalLemmas
 pub mod LiveLemmas
+pub mod NumberLemmas
 pub mod OutputLemmas
 pub mod PastLemmas
 pub mod RunLemmas

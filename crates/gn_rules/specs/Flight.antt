@@ -7,6 +7,7 @@ use Rattle.gn_rules.specs.declared.config.Config.{Config}
 use Rattle.gn_rules.specs.declared.event.Event.{Event}
 use Rattle.gn_rules.specs.declared.event.Event.TheVariants.{Admit, Route}
 use Rattle.gn_rules.specs.declared.receipt.Step.{Step}
+use Rattle.gn_rules.specs.declared.reply.Reply.{Reply}
 use Rattle.gn_rules.specs.History.{admitted_of, is_at}
 
 -- a descriptor, and the connection that admitted it
@@ -41,6 +42,10 @@ tickets (step ∷ earlier) = tickets earlier ++ option_to_list (admitted_of step
 -- the tickets in flight: admitted and not routed
 abbrev pub flying : {A : Type 0} → List (Step A) → List ℕ
 flying past = filter (λ t. not (is_routed past t)) (tickets past)
+
+-- the tickets in flight after one more step: without the one that it routes, with the one that it gives
+abbrev pub flying_after : {A : Type 0} → Event A → Reply A → List ℕ → List ℕ
+flying_after event reply flying = filter (λ t. not (is_route t event)) flying ++ option_to_list (admitted_of reply)
 
 -- what is in flight under the ticket t
 abbrev pub in_flight : {A : Type 0} → List (Step A) → ℕ → Option Admission

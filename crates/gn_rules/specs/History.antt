@@ -3,11 +3,12 @@
 -- A history is the list of a router's steps. Contracts tell it in order. The definitions of the rules are given the
 -- steps before an event with the newest first: there the newest step is the head, and "the steps before it" the tail.
 use Rattle.std.specs.Prelude.{ℕ, Bool, true, false, ◌==◌, List, [], Option, Some, None}
+use Rattle.gn_wire.specs.Packet.{Packet}
 use Rattle.gn_rules.specs.declared.event.Event.{Event}
-use Rattle.gn_rules.specs.declared.event.Event.TheVariants.{Close, Route, Take}
+use Rattle.gn_rules.specs.declared.event.Event.TheVariants.{Close, Admit, Route, Take}
 use Rattle.gn_rules.specs.declared.reply.DropReason.{DropReason}
 use Rattle.gn_rules.specs.declared.reply.Reply.{Reply}
-use Rattle.gn_rules.specs.declared.reply.Reply.TheVariants.{Connected, Admitted, Routed, Dropped, Sent}
+use Rattle.gn_rules.specs.declared.reply.Reply.TheVariants.{Connected, Closed, Admitted, Routed, Dropped, Taken, Sent}
 use Rattle.gn_rules.specs.declared.sends.Sending.{Sending}
 
 -- the connection that a reply made
@@ -35,6 +36,16 @@ abbrev pub is_sent_reply : {A : Type 0} → Reply A → Bool
 is_sent_reply (Sent sends) = true
 is_sent_reply reply = false
 
+-- the packet that a reply took
+abbrev pub taken_of : {A : Type 0} → Reply A → Option Packet
+taken_of (Taken packet) = Some packet
+taken_of reply = None
+
+-- how many packets a reply says were discarded
+abbrev pub closed_of : {A : Type 0} → Reply A → Option ℕ
+closed_of (Closed count) = Some count
+closed_of reply = None
+
 -- the packets that a reply sends
 abbrev pub sends_of : {A : Type 0} → Reply A → List (Sending A)
 sends_of (Routed sends local) = sends
@@ -55,6 +66,11 @@ is_take c event = false
 abbrev pub ticket_of : {A : Type 0} → Event A → Option ℕ
 ticket_of (Route t) = Some t
 ticket_of event = None
+
+-- the descriptor that an event offers to admission
+abbrev pub offered_of : {A : Type 0} → Event A → Option Packet
+offered_of (Admit c packet) = Some packet
+offered_of event = None
 
 -- whether a number is the one that is told
 abbrev pub is_at : ℕ → Option ℕ → Bool

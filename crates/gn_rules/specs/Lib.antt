@@ -1,12 +1,15 @@
 pub mod Answer
 pub mod Decision
+pub mod Fits
 pub mod Flight
 pub mod History
 pub mod Kept
 pub mod Laws
 pub mod Legal
+pub mod Legality
 pub mod Limits
 pub mod Live
+pub mod Mine
 pub mod Output
 pub mod Runs
 pub mod Sending

@@ -1,9 +1,10 @@
 -- The packets that wait for each connection.
-use Rattle.std.specs.Prelude.{◌+◌, ℕ, Bool, true, false, ◌==◌, ◌&&◌, if◌then◌else◌, List, [], ◌∷◌, ◌++◌, length, map, filter, drop}
+use Rattle.std.specs.Prelude.{◌+◌, ℕ, Bool, true, false, ◌==◌, ◌&&◌, if◌then◌else◌, List, [], ◌∷◌, ◌++◌, length, map, filter, drop, Option, None}
+use Rattle.std.specs.Option.{option_to_list}
 use Rattle.gn_wire.specs.Packet.{Packet}
 use Rattle.gn_rules.specs.declared.receipt.Step.{Step}
 use Rattle.gn_rules.specs.declared.sends.Sending.{Sending}
-use Rattle.gn_rules.specs.History.{is_take, sends_of}
+use Rattle.gn_rules.specs.History.{is_take, sends_of, taken_of}
 use Rattle.gn_rules.specs.Live.{live, live_connections}
 
 -- the packets of these sends that were queued to c
@@ -37,3 +38,12 @@ queued (step ∷ earlier) c = queued earlier c ++ queued_to c (sends_of step.rep
 abbrev pub takes : {A : Type 0} → List (Step A) → ℕ → ℕ
 takes [] c = 0
 takes (step ∷ earlier) c = takes earlier c + (if is_take c step.event then 1 else 0)
+
+-- the packet that a step took from c, where it is a Take(c)
+abbrev pub took : {A : Type 0} → ℕ → Step A → Option Packet
+took c step = if is_take c step.event then taken_of step.reply else None
+
+-- all packets that were ever taken from c, from the first on
+abbrev pub taken : {A : Type 0} → List (Step A) → ℕ → List Packet
+taken [] c = []
+taken (step ∷ earlier) c = taken earlier c ++ option_to_list (took c step)

@@ -1,5 +1,6 @@
 //! Laws of the rules that no one call shows.
 
+ghost use Rattle.gn_rules.specs.Fits.{AnswersFit, CheckedAnswersFit};
 ghost use Rattle.gn_rules.specs.Laws.{CountersAddUp, CountersCount, LiveConnectionsRise, OutputIsUntaken, RunsAgree};
 ghost use Rattle.gn_rules.specs.ServentLaw.{ServentRouteIsLast};
 
@@ -33,4 +34,14 @@ pub fn counters_add_up<A: Allocator>()
 /// The law that each counter is the number of its steps.
 pub fn counters_count<A: Allocator>()
     ensures { CountersCount A }
+{}
+
+/// The law that what the rules answer to an event is a reply or a refusal that it may have.
+pub fn answers_fit<A: Allocator>()
+    ensures { AnswersFit A }
+{}
+
+/// The law that the same holds of a Route whose descriptor was checked beforehand.
+pub fn checked_answers_fit<A: Allocator>()
+    ensures { CheckedAnswersFit A }
 {}

@@ -4,12 +4,14 @@
 mod config;
 mod event;
 mod laws;
+mod legality;
 mod packets;
 mod receipt;
 mod refusal;
 mod reply;
 mod router_core;
 mod runs;
+mod same;
 mod sends;
 mod statistics;
 #[cfg(test)]
@@ -18,14 +20,16 @@ mod tests;
 pub use config::{BadConfig, Config, Field, Own};
 pub use event::{ConnId, Event, Ticket};
 pub use laws::{
-    counters_add_up, counters_count, live_connections_rise, output_is_untaken, runs_agree,
-    servent_route_is_last,
+    answers_fit, checked_answers_fit, counters_add_up, counters_count, live_connections_rise,
+    output_is_untaken, runs_agree, servent_route_is_last,
 };
+pub use legality::Legality;
 pub use packets::{forward_of, may_originate, own_pong};
 pub use receipt::{Receipt, Step};
 pub use refusal::Refusal;
 pub use reply::{Decision, DropReason, Reply};
 pub use router_core::RouterCore;
 pub use runs::run_events;
+pub use same::{is_same_event, is_same_reply, is_step_of};
 pub use sends::{Sending, Sends};
 pub use statistics::{Counter, Stats};

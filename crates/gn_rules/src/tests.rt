@@ -1,4 +1,4 @@
-//! Limits of a configuration, copies, and the packets that a router makes.
+//! Limits of a configuration, copies, comparisons, and the packets that a router makes.
 
 use crate::*;
 use bytes::Bytes;
@@ -85,5 +85,64 @@ fn steps_are_copied_and_counted(rt: HostRuntime) -> Result<(), Fail> {
     for k in Counter::ALL {
         assert_eq!(rt; stats.get(k), u32::from(k == counter));
     }
+    Ok(())
+}
+
+/// A reply to a Route that sends one Ping to connection 2 and, with this mark, to connection 3.
+fn routed(alloc: Global, queued: bool, local: bool) -> Result<Reply, Fail> {
+    let mut sends = Sends::new(alloc);
+    for (to, queued) in [(2, true), (3, queued)] {
+        let packet = ping(alloc, 6, 1)?;
+        sends.push(Sending { to, packet, queued })?;
+    }
+    Ok(Reply::Routed { sends, local })
+}
+
+/// Whether each of the replies is equal to itself alone.
+fn are_distinct(replies: &[Reply]) -> bool {
+    for (i, reply) in replies.iter().enumerate() {
+        for (j, other) in replies.iter().enumerate() {
+            if is_same_reply(reply, other) != (i == j) {
+                return false;
+            }
+        }
+    }
+    true
+}
+
+#[test]
+fn replies_are_compared(rt: HostRuntime) -> Result<(), Fail> {
+    let plain = [
+        Reply::Connected(1),
+        Reply::TooMany,
+        Reply::Closed(1),
+        Reply::Admitted(1),
+        Reply::Busy,
+        Reply::Dropped(DropReason::NoRoute),
+        Reply::Dropped(DropReason::RouteGone),
+        Reply::Sent(Sends::new(rt.alloc())),
+    ];
+    assert!(rt; are_distinct(&plain));
+    let first = routed(rt.alloc(), true, true)?;
+    assert!(rt; is_same_reply(&first, &first.copy(rt.alloc())?));
+    assert!(rt; !is_same_reply(&first, &routed(rt.alloc(), false, true)?));
+    assert!(rt; !is_same_reply(&first, &routed(rt.alloc(), true, false)?));
+    let none = Reply::Routed {
+        sends: Sends::new(rt.alloc()),
+        local: true,
+    };
+    assert!(rt; !is_same_reply(&first, &none) && !is_same_reply(&none, &first));
+    Ok(())
+}
+
+#[test]
+fn a_receipt_tells_its_step(rt: HostRuntime) -> Result<(), Fail> {
+    let event = Event::Admit(2, ping(rt.alloc(), 6, 1)?);
+    let (step, mut receipt) = Step::with_receipt(rt.alloc(), 3, 4, &event, Reply::Admitted(0))?;
+    assert!(rt; is_step_of(&step, 4, &receipt) && !is_step_of(&step, 3, &receipt));
+    receipt.reply = Reply::Admitted(1);
+    assert!(rt; !is_step_of(&step, 4, &receipt));
+    let later = Event::Admit(2, ping(rt.alloc(), 5, 2)?);
+    assert!(rt; is_same_event(&event, &step.event) && !is_same_event(&event, &later));
     Ok(())
 }

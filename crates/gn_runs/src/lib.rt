@@ -4,6 +4,8 @@
 #[cfg(test)]
 mod answer_runs;
 #[cfg(test)]
+mod audits;
+#[cfg(test)]
 mod calls;
 #[cfg(test)]
 mod commands;
@@ -17,6 +19,8 @@ mod event_lists;
 mod link_runs;
 #[cfg(test)]
 mod played;
+#[cfg(test)]
+mod replays;
 #[cfg(test)]
 mod request_runs;
 #[cfg(test)]

@@ -1,3 +1,4 @@
 pub mod Greeting
+pub mod Roles
 pub mod Shaking
 pub mod Texts

@@ -1,5 +1,12 @@
+pub mod Addresses
+pub mod Bytes
+pub mod Faults
+pub mod Header
+pub mod Lines
 pub mod Links
+pub mod Numbers
 pub mod Refusals
+pub mod Said
 pub mod Settings
 pub mod Statistics
 pub mod Steps

@@ -1,9 +1,79 @@
--- The texts of a configuration.
-use Rattle.std.specs.Prelude.{ℕ, List, ◌++◌, codes, decimal}
-use Rattle.hex.specs.Hex.{encode_lower}
-use Rattle.gn_parse.specs.Addresses.{ip_text}
+-- What the lines of a configuration say, and their texts.
+use Rattle.std.specs.Prelude.{ℕ, Bool, ◌&&◌, nat_le, if◌then◌else◌, List, [], ◌∷◌, codes, Option, Some, None, ◌++◌, decimal}
 use Rattle.gn_rules.specs.declared.config.Config.{Config}
 use Rattle.gn_rules.specs.declared.config.Own.{Own}
+use Rattle.gn_text.specs.Addresses.{ip_of, ◌>>=◌, ip_text}
+use Rattle.gn_text.specs.Bytes.{guid_of}
+use Rattle.gn_text.specs.Lines.{is_word}
+use Rattle.gn_text.specs.Numbers.{number_of, number_below}
+use Rattle.hex.specs.Hex.{encode_lower}
+
+-- the six numbers of a configuration
+pub record Numbers : Type 0 where
+  pub neighbours : ℕ
+  pub seen : ℕ
+  pub servents : ℕ
+  pub stage : ℕ
+  pub out : ℕ
+  pub steps : ℕ
+
+-- those that a configuration keeps
+abbrev pub numbers_of : Config → Numbers
+numbers_of s = record { neighbours = s.neighbours; seen = s.seen; servents = s.servents; stage = s.stage; out = s.out; steps = s.steps }
+
+-- what a configuration tells: its numbers and its own servent
+abbrev pub settings_of : Config → Numbers × Own
+settings_of s = (numbers_of s, s.own)
+
+-- a number is from 1 to its limit
+abbrev pub is_within : ℕ → ℕ → Bool
+is_within number most = nat_le 1 number && nat_le number most
+
+-- each number is from 1 to its limit
+abbrev pub are_within : Numbers → Bool
+are_within n =
+    is_within n.neighbours 64 && is_within n.seen 65536 && is_within n.servents 65536 && is_within n.stage 4096
+    && is_within n.out 4096 && is_within n.steps 1000000
+
+-- numbers, where each is within its limit
+abbrev pub numbers_within : Numbers → Option Numbers
+numbers_within n = if are_within n then Some n else None
+
+-- the numbers that six fields say, where each is within its limit
+abbrev pub numbers_said : List (List ℕ) → Option Numbers
+numbers_said (k ∷ n ∷ m ∷ t ∷ w ∷ h ∷ []) = do
+  neighbours ← number_of k
+  seen ← number_of n
+  servents ← number_of m
+  stage ← number_of t
+  out ← number_of w
+  steps ← number_of h
+  numbers_within (record { neighbours = neighbours; seen = seen; servents = servents; stage = stage; out = out; steps = steps })
+numbers_said fields = None
+
+-- the servent that five fields say: its ID, its address and port, its files and its kilobytes
+abbrev pub servent_said : List (List ℕ) → Option Own
+servent_said (id ∷ address ∷ place ∷ shared ∷ size ∷ []) = do
+  servent ← guid_of id
+  ip ← ip_of address
+  port ← number_below 65536 place
+  files ← number_of shared
+  kbytes ← number_of size
+  Some (record { servent = servent; ip = ip; port = port; files = files; kbytes = kbytes })
+servent_said fields = None
+
+-- what the fields behind a word say
+abbrev pub behind_word : {X : Type 0} → List ℕ → (List (List ℕ) → Option X) → List (List ℕ) → Option X
+behind_word word said [] = None
+behind_word word said (field ∷ fields) = if is_word field word then said fields else None
+
+-- what the fields of a line `config K N M T W H` say
+abbrev pub config_of : List (List ℕ) → Option Numbers
+config_of fields = behind_word (codes "config") numbers_said fields
+
+-- what the fields of a line `own SERVENT IP PORT FILES KBYTES` say
+abbrev pub own_of : List (List ℕ) → Option Own
+own_of fields = behind_word (codes "own") servent_said fields
 
 -- a number behind a space
 abbrev pub field_text : ℕ → List ℕ

@@ -4,7 +4,7 @@ ghost use Rattle.std.specs.Prelude.{◌≡◌, ◌++◌, OnOk};
 ghost use Rattle.gn_text.specs.Steps.{event_text};
 
 use crate::packet::write_packet;
-use gn_parse::push_number;
+use crate::push::push_number;
 use gn_rules::Event;
 use std::alloc::{AllocError, Allocator};
 

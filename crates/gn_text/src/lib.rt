@@ -1,19 +1,39 @@
-//! The printed texts: steps, refusals, counters, what happens to links, and the lines of a configuration.
+//! One line of text: what its fields say, the lines that a text begins with, and each line that is printed.
 #![tactic(auto)]
 
+mod address;
 mod event;
+mod fault;
+#[cfg(test)]
+mod field_tests;
+mod header;
+#[cfg(test)]
+mod header_tests;
+mod line;
 mod link;
+mod numbers;
+mod octets;
 mod packet;
+#[cfg(test)]
+mod print_tests;
+mod push;
 mod refusal;
 mod reply;
+mod said;
 mod settings;
 mod statistics;
 mod step;
-#[cfg(test)]
-mod tests;
 
+pub use address::ip;
+pub use fault::{CaptureFault, CaptureRefusal, Cause};
+pub use header::read_header;
+pub use line::{fields, is_skipped, is_word, lines};
 pub use link::{push_ended, push_frame_fault, push_greeting_refused};
+pub use numbers::{number, number_u8, number_u16};
+pub use octets::{guid, hex_bytes};
+pub use push::{push_hex, push_ip, push_number};
 pub use refusal::push_refusal;
-pub use settings::push_settings;
+pub use said::{SaidLine, SaidLines, said_lines};
+pub use settings::{push_settings, read_config, read_own};
 pub use statistics::push_stats;
 pub use step::{push_step, push_step_of};

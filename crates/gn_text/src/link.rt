@@ -3,7 +3,7 @@
 ghost use Rattle.std.specs.Prelude.{◌≡◌, ◌++◌, OnOk, OnErr};
 ghost use Rattle.gn_text.specs.Links.{ended_text, frame_fault_text, greeting_refused_text, kind_text};
 
-use gn_parse::push_number;
+use crate::push::push_number;
 use gn_wire::{FrameFault, Kind};
 use std::alloc::{AllocError, Allocator};
 

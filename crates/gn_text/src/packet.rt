@@ -3,7 +3,7 @@
 ghost use Rattle.std.specs.Prelude.{◌≡◌, ◌++◌, OnOk};
 ghost use Rattle.gn_text.specs.Steps.{packet_text, sends_text};
 
-use gn_parse::{push_hex, push_number};
+use crate::push::{push_hex, push_number};
 use gn_rules::Sending;
 use gn_wire::Descriptor;
 use std::alloc::{AllocError, Allocator};

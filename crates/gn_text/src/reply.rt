@@ -4,8 +4,8 @@ ghost use Rattle.std.specs.Prelude.{◌≡◌, ◌++◌, OnOk};
 ghost use Rattle.gn_text.specs.Steps.{place_text, reason_text, reply_text};
 
 use crate::packet::{write_packet, write_sends};
+use crate::push::push_number;
 use crate::statistics::counter_name;
-use gn_parse::push_number;
 use gn_rules::{Counter, DropReason, Reply};
 use std::alloc::{AllocError, Allocator};
 

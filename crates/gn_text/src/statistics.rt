@@ -3,7 +3,7 @@
 ghost use Rattle.std.specs.Prelude.{◌≡◌, ◌++◌, OnOk, OnErr};
 ghost use Rattle.gn_text.specs.Statistics.{count_text, counter_text, counts_text, stats_text};
 
-use gn_parse::push_number;
+use crate::push::push_number;
 use gn_rules::{Counter, Stats};
 use std::alloc::{AllocError, Allocator};
 

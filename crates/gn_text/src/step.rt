@@ -5,8 +5,8 @@ ghost use Rattle.gn_rules.specs.declared.receipt.Step.{Step};
 ghost use Rattle.gn_text.specs.Steps.{step_text};
 
 use crate::event::write_event;
+use crate::push::push_number;
 use crate::reply::write_reply;
-use gn_parse::push_number;
 use gn_rules::{Event, Reply, Step};
 use std::alloc::{AllocError, Allocator};
 

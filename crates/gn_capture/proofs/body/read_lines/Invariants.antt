@@ -1,5 +1,5 @@
 use Rattle.std.proofs.Common.{◌≡◌, ◌≤◌, drop, map}
-use Rattle.gn_header.specs.Said.{line_seen}
+use Rattle.gn_text.specs.Said.{line_seen}
 use Rattle.gn_capture.specs.Captures.{lines_from, with_front}
 use Rattle.gn_capture.proofs.body.read_lines.Given as goal
 

@@ -1,5 +1,5 @@
 use Rattle.std.proofs.Common.{◌≡◌, Ok}
-use Rattle.gn_header.specs.Header.{header_seen}
+use Rattle.gn_text.specs.Header.{header_seen}
 use Rattle.gn_capture.specs.Captures.{capture_header}
 use Rattle.gn_capture.proofs.FirstLemmas.{body_refused, told_first}
 use Rattle.gn_capture.proofs.capture.read_capture.Goals as goal

@@ -1,0 +1,46 @@
+//! The benchmarks, each a load of its own by the first argument: `tables CALLS`, `stage JOBS`, and `replay WHAT AMOUNT`,
+//! where WHAT is `table`, `plain`, `comments` or `piece`. With no argument a little of each. Times and memory go to standard
+//! error.
+#![tactic(auto)]
+
+mod captures;
+mod memory;
+mod replays;
+mod stage;
+mod tables;
+
+use replays::measure_replay;
+use stage::compare_stage;
+use std::rt::Runtime;
+use std::{env, io};
+use tables::measure_tables;
+
+/// The number that a word is, where it is one above 0.
+fn amount_in(word: Option<&String>) -> Option<u32> {
+    word.and_then(|word| word.as_str().parse::<u32>().ok())
+        .filter(|amount| *amount > 0)
+}
+
+fn words_of<R: Runtime>(rt: &R) -> io::Result<Vec<String<R::A>, R::A>> {
+    Ok(env::args(rt)?.skip(1).collect(rt.alloc())?)
+}
+
+fn main(rt: HostRuntime) -> io::Result<()> {
+    let words = words_of(&rt)?;
+    let load = words.first().map_or("", |word| word.as_str());
+    let what = words.get(1).map_or("table", |word| word.as_str());
+    match load {
+        "tables" => measure_tables(&rt, amount_in(words.get(1)).unwrap_or(1_000_000)),
+        "stage" => compare_stage(
+            &rt,
+            rt.alloc(),
+            amount_in(words.get(1)).unwrap_or(1_000_000),
+        ),
+        "replay" => measure_replay(&rt, what, amount_in(words.get(2)).unwrap_or(300)),
+        _ => {
+            measure_tables(&rt, 1_000)?;
+            compare_stage(&rt, rt.alloc(), 1_000)?;
+            measure_replay(&rt, "table", 300)
+        }
+    }
+}

@@ -1,4 +1,0 @@
-use Rattle.gn_bench_stage.proofs.runs.through_stage.Given as goal
-
-abbrev pub ghosts-pass_on : goal.ghosts-pass_on
-ghosts-pass_on g a = record { stage = a.stage }

@@ -1,0 +1,165 @@
+-- One receipt more.
+use Rattle.std.proofs.Common.{◌≡◌, inl, inr, ℕ, ◌<◌, true, List, [], ◌∷◌, ◌++◌, length, Option, Some, None, refl, ap, ◌∙◌, sym, append_assoc, append-nil, arith}
+use Rattle.std.proofs.lemmas.List.{length_push, map-append}
+use Rattle.gn_wire.specs.Packet.{Packet}
+use Rattle.gn_rules.specs.declared.event.Event.TheVariants.{Admit, Close, Connect, Route}
+use Rattle.gn_rules.specs.declared.receipt.Receipt.{Receipt}
+use Rattle.gn_rules.specs.declared.reply.Reply.{Reply}
+use Rattle.gn_rules.specs.declared.reply.Reply.TheVariants.{Connected, TooMany, Closed, Admitted, Busy, Routed, Dropped, Taken, Sent}
+use Rattle.gn_rules.specs.History.{admitted_of, connected_of}
+use Rattle.gn_stage.specs.Jobs.{Queued}
+use Rattle.gn_service.specs.ActorState.{ActorState, receipt, with_receipt}
+use Rattle.gn_rules.specs.Fits.{replies}
+use Rattle.gn_service.specs.Receipts.{HasReceipt, MayHaveClosed}
+use Rattle.gn_bodies.specs.Admitting.{HasAdmitted, KeepsConnection}
+use Rattle.gn_bodies.specs.Events.{events_of, link_event, link_events, link_events_in, connection_of, connection_from, connection_after, packets_of, packets_in, packet_of, HasDrained, MayClose}
+use Rattle.gn_bodies.specs.ReaderRows.{WithClose}
+
+link_events-push : {A : Type 0} (rs : List (Receipt A)) (r : Receipt A) → link_events_in (rs ++ r ∷ []) ≡ link_events_in rs ++ link_event r.event
+link_events-push [] r = append-nil (link_event r.event)
+link_events-push (x ∷ rs) r = ap (λ w. link_event x.event ++ w) (link_events-push rs r) ∙ sym (append_assoc (link_event x.event) (link_events_in rs) (link_event r.event))
+
+connection-push : {A : Type 0} (made : Option ℕ) (rs : List (Receipt A)) (r : Receipt A) → connection_from made (rs ++ r ∷ []) ≡ connection_after (connection_from made rs) r.reply
+connection-push made [] r = refl
+connection-push made (x ∷ rs) r = connection-push (connection_after made x.reply) rs r
+
+packets-push : {A : Type 0} (rs : List (Receipt A)) (r : Receipt A) → packets_in (rs ++ r ∷ []) ≡ packets_in rs ++ packet_of r.reply
+packets-push [] r = append-nil (packet_of r.reply)
+packets-push (x ∷ rs) r = ap (λ w. packet_of x.reply ++ w) (packets-push rs r) ∙ sym (append_assoc (packet_of x.reply) (packets_in rs) (packet_of r.reply))
+
+-- what one receipt does to the events, the connection and the packets
+pub link_events-receipt : {A : Type 0} (me us : ActorState A) (r : Receipt A) → us ≡ with_receipt me r → link_events us ≡ link_events me ++ link_event r.event
+link_events-receipt me us r got = ap link_events got ∙ link_events-push me.receipts r
+
+pub connection-receipt : {A : Type 0} (me us : ActorState A) (r : Receipt A) → us ≡ with_receipt me r → KeepsConnection me us
+connection-receipt me us r got c was = ap connection_of got ∙ connection-push None me.receipts r ∙ ap (λ made. connection_after made r.reply) was
+
+pub packets-receipt : {A : Type 0} (me us : ActorState A) (r : Receipt A) → us ≡ with_receipt me r → packets_of us ≡ packets_of me ++ packet_of r.reply
+packets-receipt me us r got = ap packets_of got ∙ packets-push me.receipts r
+
+pub events-receipt : {A : Type 0} (me us : ActorState A) (r : Receipt A) → us ≡ with_receipt me r → events_of us ≡ events_of me ++ r.event ∷ []
+events-receipt me us r got = ap events_of got ∙ map-append (λ x. x.event) me.receipts (r ∷ [])
+
+-- a route is no event of a link
+pub link_events-route : {A : Type 0} (t : ℕ) (me us : ActorState A) → HasReceipt (Route t) me us → link_events us ≡ link_events me
+link_events-route t me us (index, reply, fits, got) = link_events-receipt me us (receipt index (Route t) reply) got ∙ append-nil (link_events me)
+
+pub connection-route : {A : Type 0} (t : ℕ) (me us : ActorState A) → HasReceipt (Route t) me us → KeepsConnection me us
+connection-route t me us (index, reply, fits, got) = connection-receipt me us (receipt index (Route t) reply) got
+
+pub events-route : {A : Type 0} (t : ℕ) (me us : ActorState A) → HasReceipt (Route t) me us → events_of us ≡ events_of me ++ Route t ∷ []
+events-route t me us (index, reply, fits, got) = events-receipt me us (receipt index (Route t) reply) got
+
+pub number-route : {A : Type 0} (t : ℕ) (me us : ActorState A) → HasReceipt (Route t) me us → us.number ≡ me.number
+number-route t me us (index, reply, fits, got) = ap (λ w. w.number) got
+
+-- what an admission does
+admission_none : {A : Type 0} (c : ℕ) (d : Packet) (reply : Reply A) → replies (Admit c d) reply ≡ true → admitted_of reply ≡ None → reply ≡ Busy
+admission_none c d (Connected e) fits none = absurd (cc)
+admission_none c d TooMany fits none = absurd (cc)
+admission_none c d (Closed n) fits none = absurd (cc)
+admission_none c d (Admitted t) fits none = absurd (cc)
+admission_none c d Busy fits none = refl
+admission_none c d (Routed sends local) fits none = absurd (cc)
+admission_none c d (Dropped reason) fits none = absurd (cc)
+admission_none c d (Taken p) fits none = absurd (cc)
+admission_none c d (Sent sends) fits none = absurd (cc)
+
+admission_some : {A : Type 0} (t : ℕ) (reply : Reply A) → admitted_of reply ≡ Some t → reply ≡ Admitted t
+admission_some t (Connected e) some = absurd (cc)
+admission_some t TooMany some = absurd (cc)
+admission_some t (Closed n) some = absurd (cc)
+admission_some t (Admitted u) some = cc
+admission_some t Busy some = absurd (cc)
+admission_some t (Routed sends local) some = absurd (cc)
+admission_some t (Dropped reason) some = absurd (cc)
+admission_some t (Taken p) some = absurd (cc)
+admission_some t (Sent sends) some = absurd (cc)
+
+-- the reply of the last receipt
+abbrev pub IsLast : {A : Type 0} → Reply A → ActorState A → Type 0
+IsLast {A} last me = (rs : List (Receipt A)) (r : Receipt A) → me.receipts ≡ rs ++ r ∷ [] → last ≡ r.reply
+
+pub admitted_none : {A : Type 0} (c : ℕ) (d : Packet) (last : Reply A) (me us : ActorState A) → HasReceipt (Admit c d) me us → IsLast last us
+    → None ≡ admitted_of last → HasAdmitted c d None me us
+admitted_none c d last me us (index, reply, fits, got) is none =
+    let same : last ≡ reply = is me.receipts (receipt index (Admit c d) reply) (ap (λ w. w.receipts) got) in
+    let busy = admission_none c d reply fits (ap admitted_of (sym same) ∙ sym none) in
+    (index, got ∙ ap (λ r. with_receipt me (receipt index (Admit c d) r)) busy)
+
+pub admitted_some : {A : Type 0} (c t : ℕ) (d : Packet) (last : Reply A) (me us : ActorState A) → HasReceipt (Admit c d) me us → IsLast last us
+    → Some t ≡ admitted_of last → HasAdmitted c d (Some (record { ticket = t; descriptor = d })) me us
+admitted_some c t d last me us (index, reply, fits, got) is some =
+    let same : last ≡ reply = is me.receipts (receipt index (Admit c d) reply) (ap (λ w. w.receipts) got) in
+    let given = admission_some t reply (ap admitted_of (sym same) ∙ sym some) in
+    (index, refl, got ∙ ap (λ r. with_receipt me (receipt index (Admit c d) r)) given)
+
+pub admitted_number : {A : Type 0} (c : ℕ) (d : Packet) (job : Option Queued) (me us : ActorState A) → HasAdmitted c d job me us → us.number ≡ me.number
+admitted_number c d None me us (index, got) = ap (λ w. w.number) got
+admitted_number c d (Some job) me us (index, same, got) = ap (λ w. w.number) got
+
+pub admitted_connection : {A : Type 0} (c : ℕ) (d : Packet) (job : Option Queued) (me us : ActorState A) → HasAdmitted c d job me us → KeepsConnection me us
+admitted_connection c d None me us (index, got) = connection-receipt me us (receipt index (Admit c d) Busy) got
+admitted_connection c d (Some job) me us (index, same, got) = connection-receipt me us (receipt index (Admit c d) (Admitted job.ticket)) got
+
+pub admitted_events : {A : Type 0} (c : ℕ) (d : Packet) (job : Option Queued) (me us : ActorState A) → HasAdmitted c d job me us → link_events us ≡ link_events me ++ Admit c d ∷ []
+admitted_events c d None me us (index, got) = link_events-receipt me us (receipt index (Admit c d) Busy) got
+admitted_events c d (Some job) me us (index, same, got) = link_events-receipt me us (receipt index (Admit c d) (Admitted job.ticket)) got
+
+-- what a close does
+closed_reply : {A : Type 0} (c : ℕ) (reply : Reply A) → replies (Close c) reply ≡ true → (count : ℕ) × (reply ≡ Closed count)
+closed_reply c (Connected d) fits = absurd (cc)
+closed_reply c TooMany fits = absurd (cc)
+closed_reply c (Closed count) fits = (count, refl)
+closed_reply c (Admitted t) fits = absurd (cc)
+closed_reply c Busy fits = absurd (cc)
+closed_reply c (Routed sends local) fits = absurd (cc)
+closed_reply c (Dropped reason) fits = absurd (cc)
+closed_reply c (Taken p) fits = absurd (cc)
+closed_reply c (Sent sends) fits = absurd (cc)
+
+pub closed_once : {A : Type 0} (c : ℕ) (me us : ActorState A) → HasReceipt (Close c) me us → MayClose c me us
+closed_once c me us (index, reply, fits, got) =
+    let (count, is) = closed_reply c reply fits in
+    inr (index, count, got ∙ ap (λ r. with_receipt me (receipt index (Close c) r)) is)
+
+pub close_number : {A : Type 0} (c : ℕ) (me us : ActorState A) → MayClose c me us → us.number ≡ me.number
+close_number c me us (inl same) = ap (λ w. w.number) same
+close_number c me us (inr (index, count, got)) = ap (λ w. w.number) got
+
+pub close_connection : {A : Type 0} (c : ℕ) (me us : ActorState A) → MayClose c me us → KeepsConnection me us
+close_connection c me us (inl same) = λ d was. ap connection_of same ∙ was
+close_connection c me us (inr (index, count, got)) = connection-receipt me us (receipt index (Close c) (Closed count)) got
+
+pub close_events : {A : Type 0} (c : ℕ) (me us : ActorState A) → MayClose c me us → WithClose c (link_events us) (link_events me)
+close_events c me us (inl same) = inl (ap link_events same)
+close_events c me us (inr (index, count, got)) = inr (link_events-receipt me us (receipt index (Close c) (Closed count)) got)
+
+pub close_packets : {A : Type 0} (c : ℕ) (me us : ActorState A) → MayClose c me us → packets_of us ≡ packets_of me
+close_packets c me us (inl same) = ap packets_of same
+close_packets c me us (inr (index, count, got)) = packets-receipt me us (receipt index (Close c) (Closed count)) got ∙ append-nil (packets_of me)
+
+pub drained_packets : {A : Type 0} (c : ℕ) (me us : ActorState A) → HasDrained c me us → packets_of us ≡ packets_of me
+drained_packets c me us (index, got) = packets-receipt me us (receipt index (Close c) (Closed 0)) got ∙ append-nil (packets_of me)
+
+-- an actor that got no receipt, or one of a close, by how many it has
+pub drained_more : {A : Type 0} (c : ℕ) (me us : ActorState A) → MayHaveClosed c me us → length me.receipts < length us.receipts → HasDrained c me us
+drained_more c me us (inl same) more = let e = ap (λ w. length w.receipts) same in absurd (omega arith)
+drained_more c me us (inr got) more = got
+
+pub drained_no_more : {A : Type 0} (c : ℕ) (me us : ActorState A) → MayHaveClosed c me us → ¬ (length me.receipts < length us.receipts) → us ≡ me
+drained_no_more c me us (inl same) more = same
+drained_no_more c me us (inr (index, got)) more =
+    let e = ap (λ w. length w.receipts) got ∙ length_push me.receipts (receipt index (Close c) (Closed 0)) in
+    absurd (more (omega arith))
+
+-- the first receipt of a reader
+pub first_connection : {A : Type 0} (me us : ActorState A) (last : Reply A) → HasReceipt Connect me us → me.receipts ≡ [] → IsLast last us → connection_of us ≡ connected_of last
+first_connection me us last (index, reply, fits, got) none is =
+    let r = receipt index Connect reply in
+    let same : last ≡ reply = is me.receipts r (ap (λ w. w.receipts) got) in
+    ap connection_of got ∙ connection-push None me.receipts r ∙ ap (λ w. connection_after (connection_from None w) reply) none ∙ ap connected_of (sym same)
+
+pub first_events : {A : Type 0} (me us : ActorState A) → HasReceipt Connect me us → me.receipts ≡ [] → link_events us ≡ Connect ∷ []
+first_events me us (index, reply, fits, got) none =
+    link_events-receipt me us (receipt index Connect reply) got ∙ ap (λ w. link_events_in w ++ Connect ∷ []) none

@@ -1,0 +1,111 @@
+-- The jobs that receipts leave, with one receipt more.
+use Rattle.std.proofs.Common.{◌≡◌, inl, inr, ℕ, Bool, true, false, cond, List, [], ◌∷◌, ◌++◌, Some, None, refl, ap, ◌∙◌, sym, append_assoc, append-nil, arith, nat_eq}
+use Rattle.std.proofs.lemmas.List.{map-append}
+use Rattle.gn_wire.specs.Packet.{Packet}
+use Rattle.gn_rules.specs.declared.event.Event.{Event}
+use Rattle.gn_rules.specs.declared.event.Event.TheVariants.{Connect, Close, Admit, Route, Take, Originate}
+use Rattle.gn_rules.specs.declared.receipt.Receipt.{Receipt}
+use Rattle.gn_rules.specs.declared.reply.Reply.{Reply}
+use Rattle.gn_rules.specs.declared.reply.Reply.TheVariants.{Connected, TooMany, Closed, Admitted, Busy, Routed, Dropped, Taken, Sent}
+use Rattle.gn_stage.specs.Ends.{End, with_job}
+use Rattle.gn_stage.specs.Jobs.{Queued}
+use Rattle.gn_service.specs.ActorState.{ActorState, receipt, with_receipt}
+use Rattle.gn_service.specs.Receipts.{HasReceipt}
+use Rattle.gn_bodies.specs.Admitting.{Admitting, HasAdmitted, IsOwed, IsSettled}
+use Rattle.gn_bodies.specs.Events.{MayClose, events_of}
+use Rattle.gn_bodies.specs.Jobs.{is_route, is_routed_next, is_route_of, job_by, jobs_left, routes_of}
+use Rattle.gn_bodies.proofs.EventLemmas.{events-route}
+
+no_route : {A : Type 0} (reply : Reply A) (event : Event A) → is_route event ≡ false → is_route_of reply event ≡ false
+no_route (Connected c) event other = refl
+no_route TooMany event other = refl
+no_route (Closed n) event other = refl
+no_route (Admitted t) Connect other = refl
+no_route (Admitted t) (Close c) other = refl
+no_route (Admitted t) (Admit c d) other = refl
+no_route (Admitted t) (Route u) other = absurd (cc)
+no_route (Admitted t) (Take c) other = refl
+no_route (Admitted t) (Originate d) other = refl
+no_route Busy event other = refl
+no_route (Routed sends local) event other = refl
+no_route (Dropped reason) event other = refl
+no_route (Taken p) event other = refl
+no_route (Sent sends) event other = refl
+
+routed_next-push : {A : Type 0} (reply : Reply A) (rs : List (Receipt A)) (r : Receipt A) → is_route r.event ≡ false → is_routed_next reply (rs ++ r ∷ []) ≡ is_routed_next reply rs
+routed_next-push reply [] r other = no_route reply r.event other
+routed_next-push reply (x ∷ rs) r other = refl
+
+-- a receipt that is other route leaves its job
+pub jobs_left-push : {A : Type 0} (rs : List (Receipt A)) (r : Receipt A) → is_route r.event ≡ false → jobs_left (rs ++ r ∷ []) ≡ jobs_left rs ++ job_by r.event r.reply
+jobs_left-push [] r other = append-nil (job_by r.event r.reply)
+jobs_left-push (x ∷ rs) r other =
+    let first = λ (routed : Bool). cond routed [] (job_by x.event x.reply) in
+    ap (λ routed. first routed ++ jobs_left (rs ++ r ∷ [])) (routed_next-push x.reply rs r other)
+    ∙ ap (λ w. first (is_routed_next x.reply rs) ++ w) (jobs_left-push rs r other)
+    ∙ sym (append_assoc (first (is_routed_next x.reply rs)) (jobs_left rs) (job_by r.event r.reply))
+
+-- an admission and its own route leave other job
+pub jobs_left-routed : {A : Type 0} (rs : List (Receipt A)) (i j c t : ℕ) (d : Packet) (reply : Reply A)
+    → jobs_left ((rs ++ receipt i (Admit c d) (Admitted t) ∷ []) ++ receipt j (Route t) reply ∷ []) ≡ jobs_left rs
+jobs_left-routed [] i j c t d reply =
+    let same : nat_eq t t ≡ true = grind (arith) in
+    ap (λ routed. cond routed [] (record { ticket = t; descriptor = d } ∷ []) ++ []) same
+jobs_left-routed (x ∷ []) i j c t d reply =
+    ap (λ w. cond (is_route_of x.reply (Admit c d)) [] (job_by x.event x.reply) ++ w) (jobs_left-routed [] i j c t d reply)
+    ∙ ap (λ routed. cond routed [] (job_by x.event x.reply) ++ []) (no_route x.reply (Admit c d) refl)
+jobs_left-routed (x ∷ y ∷ rs) i j c t d reply =
+    ap (λ w. cond (is_route_of x.reply y.event) [] (job_by x.event x.reply) ++ w) (jobs_left-routed (y ∷ rs) i j c t d reply)
+
+-- a receipt that leaves other job settles nothing new
+pub left_none : {A : Type 0} (me us : ActorState A) (r : Receipt A) → us ≡ with_receipt me r → is_route r.event ≡ false → job_by r.event r.reply ≡ [] → jobs_left us.receipts ≡ jobs_left me.receipts
+left_none me us r got other none =
+    ap (λ w. jobs_left w.receipts) got ∙ jobs_left-push me.receipts r other ∙ ap (λ w. jobs_left me.receipts ++ w) none ∙ append-nil (jobs_left me.receipts)
+
+pub close_jobs : {A : Type 0} (c : ℕ) (me us : ActorState A) → MayClose c me us → jobs_left us.receipts ≡ jobs_left me.receipts
+close_jobs c me us (inl same) = ap (λ w. jobs_left w.receipts) same
+close_jobs c me us (inr (index, count, got)) = left_none me us (receipt index (Close c) (Closed count)) got refl refl
+
+pub busy_jobs : {A : Type 0} (c : ℕ) (d : Packet) (me us : ActorState A) → HasAdmitted c d None me us → jobs_left us.receipts ≡ jobs_left me.receipts
+busy_jobs c d me us (index, got) = left_none me us (receipt index (Admit c d) Busy) got refl refl
+
+pub first_jobs : {A : Type 0} (me us : ActorState A) → HasReceipt Connect me us → me.receipts ≡ [] → jobs_left us.receipts ≡ []
+first_jobs me us (index, reply, fits, got) none =
+    ap (λ w. jobs_left w.receipts) got ∙ jobs_left-push me.receipts (receipt index Connect reply) refl ∙ ap (λ w. jobs_left w ++ []) none
+
+-- an admitted job is owed
+pub owed : {A : Type 0} (c : ℕ) (d : Packet) (job : Queued) (jobs : List Queued) (me us : Admitting A) → HasAdmitted c d (Some job) me.actor us.actor
+    → us.intake ≡ me.intake → us.is_refused ≡ me.is_refused → IsSettled jobs me → IsOwed jobs job us
+owed c d job jobs me us (index, same, got) intake refused settled = record {
+  index = index;
+  connection = c;
+  earlier = me.actor.receipts;
+  last = ap (λ w. w.receipts) got ∙ ap (λ p. me.actor.receipts ++ receipt index (Admit c p) (Admitted job.ticket) ∷ []) (sym same);
+  settled = λ other. ap (λ w. w.jobs) intake ∙ settled (sym refused ∙ other);
+}
+
+-- once it is put, all is settled
+pub settled_put : {A : Type 0} (jobs : List Queued) (job : Queued) (me us : Admitting A) → IsOwed jobs job me → us.actor ≡ me.actor → us.is_refused ≡ me.is_refused
+    → us.intake.jobs ≡ me.intake.jobs ++ job ∷ [] → IsSettled jobs us
+settled_put jobs job me us is actor refused put other =
+    let r = receipt is.index (Admit is.connection job.descriptor) (Admitted job.ticket) in
+    let left : jobs_left us.actor.receipts ≡ jobs_left is.earlier ++ job ∷ [] =
+    ap (λ w. jobs_left w.receipts) actor ∙ ap jobs_left is.last ∙ jobs_left-push is.earlier r refl in
+    put ∙ ap (λ w. w ++ job ∷ []) (is.settled (sym refused ∙ other)) ∙ append_assoc jobs (jobs_left is.earlier) (job ∷ []) ∙ ap (λ w. jobs ++ w) (sym left)
+
+-- once it is routed, too
+pub settled_routed : {A : Type 0} (jobs : List Queued) (job : Queued) (t : ℕ) (me us : Admitting A) → t ≡ job.ticket → IsOwed jobs job me → HasReceipt (Route t) me.actor us.actor
+    → us.is_refused ≡ me.is_refused → us.intake ≡ me.intake → IsSettled jobs us
+settled_routed jobs job t me us ticket is (index, reply, fits, got) refused intake other =
+    let left : jobs_left us.actor.receipts ≡ jobs_left is.earlier =
+    ap (λ w. jobs_left w.receipts) got ∙ ap (λ w. jobs_left (w ++ receipt index (Route t) reply ∷ [])) is.last
+    ∙ ap (λ u. jobs_left ((is.earlier ++ receipt is.index (Admit is.connection job.descriptor) (Admitted job.ticket) ∷ []) ++ receipt index (Route u) reply ∷ [])) ticket
+    ∙ jobs_left-routed is.earlier is.index index is.connection job.ticket job.descriptor reply in
+    ap (λ w. w.jobs) intake ∙ is.settled (sym refused ∙ other) ∙ ap (λ w. jobs ++ w) (sym left)
+
+-- a job more was taken, and routed
+pub routes_more : {A : Type 0} (start : List (Event A)) (job : Queued) (before after : End Queued) (me us : ActorState A) → after ≡ with_job before job
+    → HasReceipt (Route job.ticket) me us → routes_of before.jobs ≡ start ++ events_of me → routes_of after.jobs ≡ start ++ events_of us
+routes_more start job before after me us grown got was =
+    ap (λ w. routes_of w.jobs) grown ∙ map-append (λ j. Route j.ticket) before.jobs (job ∷ []) ∙ ap (λ w. w ++ Route job.ticket ∷ []) was
+    ∙ append_assoc start (events_of me) (Route job.ticket ∷ []) ∙ ap (λ w. start ++ w) (sym (events-route job.ticket me us got))

@@ -1,0 +1,6 @@
+pub mod AdmitLemmas
+pub mod DeliveryLemmas
+pub mod EventLemmas
+pub mod JobLemmas
+pub mod ReadingLemmas
+pub mod WrittenLemmas

@@ -1,0 +1,132 @@
+-- A reader's bytes so far.
+use Rattle.std.proofs.Common.{◌≡◌, ℕ, ◌<◌, Bool, true, false, cond, List, [], ◌∷◌, ◌++◌, length, take, drop, Option, Some, None, refl, sym, ap, ◌∙◌, subst, append_assoc}
+use Rattle.std.proofs.lemmas.List.{drop_at}
+use Rattle.gn_wire.specs.declared.header.FrameFault.{FrameFault}
+use Rattle.gn_frames.specs.Frames.{Frames, frames_of, no_frames}
+use Rattle.gn_rules.specs.declared.event.Event.TheVariants.{Connect}
+use Rattle.gn_shake.specs.declared.shake.ShakeState.{ShakeState}
+use Rattle.gn_shake.specs.declared.shake.ShakeState.TheVariants.{More, Done}
+use Rattle.gn_shake.specs.Greeting.{GreetingIsTold, greeting_state}
+use Rattle.gn_shake.specs.Shaking.{Shaking, answer_of, fed, used_of, shake_of, PiecesAreOneStream}
+use Rattle.gn_rules.specs.declared.event.Event.{Event}
+use Rattle.gn_bodies.specs.declared.ends.ReaderEnd.{ReaderEnd}
+use Rattle.gn_bodies.specs.declared.ends.ReaderEnd.TheVariants.{Bytes, Fault, ReadFailed, Turns, GreetingRefused, GreetingCut, TooMany, NotLive}
+use Rattle.gn_shake.specs.declared.role.Role.{Role}
+use Rattle.gn_bodies.specs.declared.piece.Reading.{Reading}
+use Rattle.gn_bodies.specs.declared.piece.Reading.TheVariants as reading
+use Rattle.gn_service.specs.ActorState.{ActorState}
+use Rattle.gn_bodies.specs.Events.{link_events, link_events_in, connection_of, offered_events}
+use Rattle.gn_shake.specs.Roles.{greeting_of}
+use Rattle.gn_bodies.specs.Offers.{frames_after, is_done}
+use Rattle.gn_bodies.specs.ReaderRows.{ConnectedRow, SourceRow, WithClose}
+use Rattle.gn_bodies.specs.Reading.{HasConnection, IsOffering, IsReading, ReadRow, OpenRow, reading_connection, end_of_bytes, is_of_bytes, closes}
+
+-- the frames after the greeting, where it is accepted
+pub after_greeting : GreetingIsTold → (role : Role) (b s : List ℕ) → b ≡ greeting_of role ++ s → frames_after role b ≡ frames_of s
+after_greeting told role b s whole =
+    let g = greeting_of role in
+    let done : Done ≡ greeting_state g b = (told g b Done).0 (s, whole) in
+    ap (λ (w : ShakeState). cond (is_done w) (frames_of (drop (length g) b)) (no_frames [] None)) (sym done)
+    ∙ ap frames_of (ap (drop (length g)) whole ∙ drop_at g s (length g) refl)
+
+-- a joined link goes on
+pub whole_more : (role : Role) (b s piece : List ℕ) → b ≡ greeting_of role ++ s → b ++ piece ≡ greeting_of role ++ (s ++ piece)
+whole_more role b s piece whole = ap (λ w. w ++ piece) whole ∙ append_assoc (greeting_of role) s piece
+
+pub fault_row : {A : Type 0} → GreetingIsTold → (role : Role) (b s : List ℕ) (c : ℕ) (f : FrameFault) (me : ActorState A) → b ≡ greeting_of role ++ s
+    → (frames_of s).fault ≡ Some f → link_events me ≡ offered_events c (frames_of s).descriptors → ReadRow role (Fault f) (Some c) (link_events me) b
+fault_row told role b s c f me whole ends events =
+    let is = after_greeting told role b s whole in
+    (ap (λ (w : Frames). w.fault) is ∙ ends, events ∙ ap (λ (w : Frames). offered_events c w.descriptors) (sym is))
+
+pub not_live_row : {A : Type 0} → GreetingIsTold → (role : Role) (b s : List ℕ) (c : ℕ) (me : ActorState A) → b ≡ greeting_of role ++ s
+    → ((n : ℕ) × (n < length (frames_of s).descriptors) × (link_events me ≡ offered_events c (take n (frames_of s).descriptors))) → ReadRow role NotLive (Some c) (link_events me) b
+not_live_row told role b s c me whole part =
+    subst (λ (w : Frames). (n : ℕ) × (n < length w.descriptors) × (link_events me ≡ offered_events c (take n w.descriptors))) (sym (after_greeting told role b s whole)) part
+
+-- a link that just connected
+pub just_joined : {A : Type 0} (c : ℕ) (frames : Option (List ℕ)) (me : ActorState A) → frames ≡ Some [] → link_events me ≡ Connect ∷ [] → IsOffering [] c frames me
+unfolding frames_of
+just_joined c frames me none events = record { held = none; clean = refl; events = events }
+
+-- a piece of a greeting was answered with the state of all bytes so far
+pub record IsGreeted (g b piece : List ℕ) (after : Shaking) (state : ShakeState) : Type 0 where
+  pub state_is : greeting_state g (b ++ piece) ≡ state
+  pub kept : after ≡ shake_of g (b ++ piece)
+
+pub greeted : (g b piece : List ℕ) (before after : Shaking) (state : ShakeState) → PiecesAreOneStream → before ≡ shake_of g b
+    → state ≡ answer_of before piece → after ≡ fed before piece → IsGreeted g b piece after state
+greeted g b piece before after state one start answered then_kept =
+    record {
+      state_is = sym (one g b piece).state ∙ ap (λ (k : Shaking). answer_of k piece) (sym start) ∙ sym answered;
+      kept = then_kept ∙ ap (λ (k : Shaking). fed k piece) start ∙ (one g b piece).after;
+    }
+
+-- the bytes after a greeting that is done
+pub rest_after : (g b piece rest : List ℕ) (used : ℕ) (before : Shaking) → PiecesAreOneStream → GreetingIsTold → before ≡ shake_of g b → greeting_state g b ≡ More
+    → greeting_state g (b ++ piece) ≡ Done → used ≡ used_of before piece → rest ≡ drop used piece → b ++ piece ≡ g ++ rest
+rest_after g b piece rest used before one told start more done used_is rest_is =
+    let (s, whole) = (told g (b ++ piece) Done).1 (sym done) in
+    let here : rest ≡ drop (length g) (b ++ piece) =
+    rest_is ∙ ap (λ (n : ℕ). drop n piece) (used_is ∙ ap (λ (k : Shaking). used_of k piece) start) ∙ (one g b piece).behind more done in
+    whole ∙ ap (λ w. g ++ w) (sym (here ∙ ap (drop (length g)) whole ∙ drop_at g s (length g) refl))
+
+-- a reader that stops reading
+pub none_done : {A : Type 0} (me : ActorState A) → me.receipts ≡ [] → link_events me ≡ []
+none_done me none = ap link_events_in none
+
+pub failed_row : {A : Type 0} → GreetingIsTold → (role : Role) (r : Reading A) (b : List ℕ) (me : ActorState A) → IsReading role r b me → HasConnection r me
+    → ReadRow role ReadFailed (reading_connection r) (link_events me) b
+failed_row told role (reading.Greeting shake) b me (kept, more) has = (more, none_done me has)
+failed_row told role (reading.Joined c frames) b me is has =
+    is.offering.events ∙ ap (λ (w : Frames). offered_events c w.descriptors) (sym (after_greeting told role b is.stream is.whole))
+
+pub turns_row : {A : Type 0} → GreetingIsTold → (role : Role) (r : Reading A) (b : List ℕ) (me : ActorState A) → IsReading role r b me → HasConnection r me
+    → ReadRow role Turns (reading_connection r) (link_events me) b
+turns_row told role (reading.Greeting shake) b me (kept, more) has = (more, none_done me has)
+turns_row told role (reading.Joined c frames) b me is has =
+    is.offering.events ∙ ap (λ (w : Frames). offered_events c w.descriptors) (sym (after_greeting told role b is.stream is.whole))
+
+pub ended_row : {A : Type 0} → GreetingIsTold → (role : Role) (r : Reading A) (b : List ℕ) (me : ActorState A) → IsReading role r b me → HasConnection r me
+    → ReadRow role (end_of_bytes r) (reading_connection r) (link_events me) b
+ended_row told role (reading.Greeting shake) b me (kept, more) has = (more, none_done me has)
+ended_row told role (reading.Joined c frames) b me is has =
+    let same = after_greeting told role b is.stream is.whole in
+    (ap (λ (w : Frames). w.fault) same ∙ is.offering.clean, is.offering.events ∙ ap (λ (w : Frames). offered_events c w.descriptors) (sym same))
+
+pub conn_of_reading : {A : Type 0} (r : Reading A) (me : ActorState A) → HasConnection r me → connection_of me ≡ reading_connection r
+conn_of_reading (reading.Greeting shake) me none = ap (λ w. connection_of (record { number = me.number; receipts = w })) none
+conn_of_reading (reading.Joined c frames) me is = is
+
+-- an end that bytes bring says nothing of the link
+pub bytes_source : (end : ReaderEnd) (failures gave : ℕ) (ended : Bool) → is_of_bytes end ≡ true → SourceRow end failures gave ended
+bytes_source Bytes failures gave ended is = absurd (cc)
+bytes_source (Fault f) failures gave ended is = tt
+bytes_source ReadFailed failures gave ended is = absurd (cc)
+bytes_source Turns failures gave ended is = absurd (cc)
+bytes_source GreetingRefused failures gave ended is = tt
+bytes_source GreetingCut failures gave ended is = absurd (cc)
+bytes_source TooMany failures gave ended is = tt
+bytes_source NotLive failures gave ended is = tt
+
+-- a reader that closed, or closed nothing
+pub closed_row : {A : Type 0} (role : Role) (end : ReaderEnd) (c : ℕ) (es before : List (Event A)) (b : List ℕ) → closes end ≡ true → OpenRow role end c before b → WithClose c es before
+    → ConnectedRow role end c es b
+closed_row role Bytes c es before b is row more = absurd (cc)
+closed_row {A} role (Fault f) c es before b is row more = (row.0, subst (λ (w : List (Event A)). WithClose c es w) row.1 more)
+closed_row {A} role ReadFailed c es before b is row more = subst (λ (w : List (Event A)). WithClose c es w) row more
+closed_row {A} role Turns c es before b is row more = subst (λ (w : List (Event A)). WithClose c es w) row more
+closed_row role GreetingRefused c es before b is row more = absurd (cc)
+closed_row role GreetingCut c es before b is row more = absurd (cc)
+closed_row role TooMany c es before b is row more = absurd (cc)
+closed_row role NotLive c es before b is row more = absurd (cc)
+
+pub open_row : {A : Type 0} (role : Role) (end : ReaderEnd) (c : ℕ) (es : List (Event A)) (b : List ℕ) → closes end ≡ false → OpenRow role end c es b → ConnectedRow role end c es b
+open_row role Bytes c es b is row = row
+open_row role (Fault f) c es b is row = absurd (cc)
+open_row role ReadFailed c es b is row = absurd (cc)
+open_row role Turns c es b is row = absurd (cc)
+open_row role GreetingRefused c es b is row = absurd row
+open_row role GreetingCut c es b is row = absurd row
+open_row role TooMany c es b is row = absurd row
+open_row role NotLive c es b is row = row

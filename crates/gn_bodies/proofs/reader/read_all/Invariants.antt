@@ -1,0 +1,14 @@
+use Rattle.std.proofs.Common.{◌≡◌, true}
+use Rattle.gn_bodies.specs.Admitting.{HasSameNumbers, StaysSettled}
+use Rattle.gn_bodies.specs.Reading.{HasConnection, IsReading}
+use Rattle.gn_bodies.proofs.reader.read_all.Given as goal
+
+abbrev pub invariant-loop : goal.invariant-loop
+invariant-loop g l = record {
+  numbers : HasSameNumbers l.initial.me l.me;
+  has : HasConnection l.reading l.me.actor;
+  is : g.Rd.LinkReader.is_known ≡ true → IsReading l.fn.role l.reading (g.Rd.LinkReader.bytes_read l.reader) l.me.actor;
+  pieces : g.Rd.LinkReader.pieces l.reader ≡ l.counter;
+  failures : g.Rd.LinkReader.failures l.reader ≡ 0;
+  settled : StaysSettled l.initial.me l.me;
+}

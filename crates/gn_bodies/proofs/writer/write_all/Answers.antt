@@ -1,0 +1,14 @@
+use Rattle.std.proofs.Common.{◌≡◌, ◌-◌, take, drop, length, arith}
+use Rattle.std.proofs.lemmas.Grind.{common_steps}
+use Rattle.gn_bodies.proofs.WrittenLemmas.{written_on}
+use Rattle.gn_bodies.proofs.writer.write_all.Goals as goal
+
+pub loop-at-preserved : goal.loop-at-preserved
+loop-at-preserved g c =
+    let was = c.loop-at.invariant in
+    let text = c.args.text.now in
+    let all : take (length text - c.loop-at.at) (drop c.loop-at.at text) ≡ drop c.loop-at.at text = grind (arith, common_steps) in
+    record {
+      within = grind (arith, common_steps);
+      bytes = λ known. written_on _ _ (g.W.LinkWriter.bytes_written c.args.writer.now) text (take (length text - c.loop-at.at) (drop c.loop-at.at text)) c.loop-at.at c.in-Ok.n all (was.bytes known) (c.in-Ok.ensures.bytes known);
+    }

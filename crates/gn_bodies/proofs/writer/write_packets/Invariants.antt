@@ -1,0 +1,12 @@
+use Rattle.std.proofs.Common.{◌≡◌, true}
+use Rattle.std.specs.List.{concat}
+use Rattle.gn_bodies.specs.Events.{packets_of}
+use Rattle.gn_bodies.specs.Written.{AreTakes, texts}
+use Rattle.gn_bodies.proofs.writer.write_packets.Given as goal
+
+abbrev pub invariant-loop : goal.invariant-loop
+invariant-loop g l = record {
+  number : l.me.number ≡ l.initial.me.number;
+  takes : AreTakes l.fn.c l.me;
+  bytes : g.W.LinkWriter.is_known ≡ true → g.W.LinkWriter.bytes_written l.writer ≡ concat (texts l.fn.role (packets_of l.me));
+}

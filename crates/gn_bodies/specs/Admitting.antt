@@ -1,0 +1,47 @@
+-- What a reader admits, and what it does with the jobs.
+use Rattle.std.specs.Prelude.{◌≡◌, ℕ, Bool, false, List, [], ◌∷◌, ◌++◌, Option, Some, None}
+use Rattle.gn_rules.specs.declared.event.Event.TheVariants.{Admit}
+use Rattle.gn_rules.specs.declared.receipt.Receipt.{Receipt}
+use Rattle.gn_rules.specs.declared.reply.Reply.TheVariants.{Admitted, Busy}
+use Rattle.gn_stage.specs.Ends.{End}
+use Rattle.gn_stage.specs.Jobs.{Queued}
+use Rattle.gn_wire.specs.Packet.{Packet}
+use Rattle.gn_service.specs.ActorState.{ActorState, receipt, with_receipt}
+use Rattle.gn_bodies.specs.Events.{connection_of}
+use Rattle.gn_bodies.specs.Jobs.{jobs_left}
+
+-- a reader's actor, its intake, and whether a job that was handed back was refused its route
+pub record Admitting (A : Type 0) : Type 0 where
+  pub actor : ActorState A
+  pub intake : End Queued
+  pub is_refused : Bool
+
+-- its actor and its intake are those of before
+abbrev pub HasSameNumbers : {A : Type 0} → Admitting A → Admitting A → Type 0
+HasSameNumbers before after = (after.actor.number ≡ before.actor.number) × (after.intake.number ≡ before.intake.number)
+
+-- its connection, where it has one, is that of before
+abbrev pub KeepsConnection : {A : Type 0} → ActorState A → ActorState A → Type 0
+KeepsConnection before after = (c : ℕ) → connection_of before ≡ Some c → connection_of after ≡ Some c
+
+-- with no route refused, its intake put the jobs that its receipts leave, after those of before
+abbrev pub IsSettled : {A : Type 0} → List Queued → Admitting A → Type 0
+IsSettled before me = me.is_refused ≡ false → me.intake.jobs ≡ before ++ jobs_left me.actor.receipts
+
+-- what was settled stays settled
+abbrev pub StaysSettled : {A : Type 0} → Admitting A → Admitting A → Type 0
+StaysSettled before after = (jobs : List Queued) → IsSettled jobs before → IsSettled jobs after
+
+-- an actor got the receipt of an admission: a job with the ticket, or none where the router was busy
+abbrev pub HasAdmitted : {A : Type 0} → ℕ → Packet → Option Queued → ActorState A → ActorState A → Type 0
+HasAdmitted c d None me us = (index : ℕ) × (us ≡ with_receipt me (receipt index (Admit c d) Busy))
+HasAdmitted c d (Some job) me us =
+    (index : ℕ) × (job.descriptor ≡ d) × (us ≡ with_receipt me (receipt index (Admit c d) (Admitted job.ticket)))
+
+-- its last receipt admitted this job, which is to be put or routed, and all before is settled
+pub record IsOwed {A : Type 0} (before : List Queued) (job : Queued) (me : Admitting A) : Type 0 where
+  pub index : ℕ
+  pub connection : ℕ
+  pub earlier : List (Receipt A)
+  pub last : me.actor.receipts ≡ earlier ++ receipt index (Admit connection job.descriptor) (Admitted job.ticket) ∷ []
+  pub settled : me.is_refused ≡ false → me.intake.jobs ≡ before ++ jobs_left earlier

@@ -1,0 +1,47 @@
+-- What the end of a reader says of its events, of the bytes that it read, and of its link.
+use Rattle.std.specs.Prelude.{◌≡◌, ◌<◌, ◌⊎◌, ℕ, Bool, true, List, [], ◌∷◌, ◌++◌, length, take, Option, Some, None, ⊤}
+use Rattle.gn_rules.specs.declared.event.Event.{Event}
+use Rattle.gn_rules.specs.declared.event.Event.TheVariants.{Connect, Close}
+use Rattle.gn_shake.specs.declared.role.Role.{Role}
+use Rattle.gn_shake.specs.declared.shake.ShakeState.TheVariants.{More, Refused}
+use Rattle.gn_shake.specs.Greeting.{greeting_state}
+use Rattle.gn_shake.specs.Roles.{greeting_of}
+use Rattle.gn_bodies.specs.declared.ends.ReaderEnd.{ReaderEnd}
+use Rattle.gn_bodies.specs.declared.ends.ReaderEnd.TheVariants.{Bytes, Fault, ReadFailed, Turns, GreetingRefused, GreetingCut, TooMany, NotLive}
+use Rattle.gn_bodies.specs.Events.{offered_events}
+use Rattle.gn_bodies.specs.Offers.{offers, fault}
+
+-- these events are those before, maybe with a close after them
+abbrev pub WithClose : {A : Type 0} → ℕ → List (Event A) → List (Event A) → Type 0
+WithClose c es before = (es ≡ before) ⊎ (es ≡ before ++ Close c ∷ [])
+
+-- a reader that connected as c: what its end says of its events except the routes, and of the bytes that it read
+abbrev pub ConnectedRow : {A : Type 0} → Role → ReaderEnd → ℕ → List (Event A) → List ℕ → Type 0
+ConnectedRow role Bytes c es b = (fault role b ≡ None) × (es ≡ offered_events c (offers role b))
+ConnectedRow role (Fault f) c es b = (fault role b ≡ Some f) × WithClose c es (offered_events c (offers role b))
+ConnectedRow role ReadFailed c es b = WithClose c es (offered_events c (offers role b))
+ConnectedRow role Turns c es b = WithClose c es (offered_events c (offers role b))
+ConnectedRow role NotLive c es b = (n : ℕ) × (n < length (offers role b)) × (es ≡ offered_events c (take n (offers role b)))
+ConnectedRow role end c es b = ⊥
+
+-- a reader that didn't connect: the same
+abbrev pub UnconnectedRow : {A : Type 0} → Role → ReaderEnd → List (Event A) → List ℕ → Type 0
+UnconnectedRow role ReadFailed es b = (greeting_state (greeting_of role) b ≡ More) × (es ≡ [])
+UnconnectedRow role Turns es b = (greeting_state (greeting_of role) b ≡ More) × (es ≡ [])
+UnconnectedRow role GreetingRefused es b = (greeting_state (greeting_of role) b ≡ Refused) × (es ≡ [])
+UnconnectedRow role GreetingCut es b = (greeting_state (greeting_of role) b ≡ More) × (es ≡ [])
+UnconnectedRow role TooMany es b = es ≡ Connect ∷ []
+UnconnectedRow role end es b = ⊥
+
+-- what the end says of the connection, the events except the routes, and the bytes that were read
+abbrev pub ReaderRow : {A : Type 0} → Role → ReaderEnd → Option ℕ → List (Event A) → List ℕ → Type 0
+ReaderRow role end (Some c) es b = ConnectedRow role end c es b
+ReaderRow role end None es b = UnconnectedRow role end es b
+
+-- what the end says of the link, which was new: its failures, its reads that gave bytes, whether it ended
+abbrev pub SourceRow : ReaderEnd → ℕ → ℕ → Bool → Type 0
+SourceRow Bytes failures pieces has_ended = has_ended ≡ true
+SourceRow GreetingCut failures pieces has_ended = has_ended ≡ true
+SourceRow ReadFailed failures pieces has_ended = 0 < failures
+SourceRow Turns failures pieces has_ended = pieces ≡ 1000000
+SourceRow end failures pieces has_ended = ⊤

@@ -1,0 +1,110 @@
+-- What a reader keeps of its link, piece by piece.
+use Rattle.std.specs.Prelude.{◌≡◌, ◌<◌, ℕ, Bool, true, false, List, [], ◌++◌, length, take, Option, Some, None, ⊤}
+use Rattle.gn_rules.specs.declared.event.Event.{Event}
+use Rattle.gn_frames.specs.Frames.{frames_of}
+use Rattle.gn_frames.specs.Reassembly.{held_of}
+use Rattle.gn_shake.specs.declared.role.Role.{Role}
+use Rattle.gn_shake.specs.declared.shake.ShakeState.TheVariants.{More}
+use Rattle.gn_shake.specs.Greeting.{greeting_state}
+use Rattle.gn_shake.specs.Roles.{greeting_of}
+use Rattle.gn_shake.specs.Shaking.{shake_of}
+use Rattle.gn_service.specs.ActorState.{ActorState}
+use Rattle.gn_bodies.specs.declared.ends.ReaderEnd.{ReaderEnd}
+use Rattle.gn_bodies.specs.declared.ends.ReaderEnd.TheVariants.{Bytes, Fault, ReadFailed, Turns, GreetingCut, NotLive}
+use Rattle.gn_bodies.specs.declared.piece.Delivery.{Delivery}
+use Rattle.gn_bodies.specs.declared.piece.Delivery.TheVariants as delivery
+use Rattle.gn_bodies.specs.declared.piece.Piece.{Piece}
+use Rattle.gn_bodies.specs.declared.piece.Piece.TheVariants as piece
+use Rattle.gn_bodies.specs.declared.piece.Reading.{Reading}
+use Rattle.gn_bodies.specs.declared.piece.Reading.TheVariants as reading
+use Rattle.gn_bodies.specs.Events.{link_events, connection_of, offered_events}
+use Rattle.gn_bodies.specs.Offers.{offers, fault}
+use Rattle.gn_bodies.specs.ReaderRows.{UnconnectedRow}
+
+-- a reader that connected as c: its row, before it closes what it closes
+abbrev pub OpenRow : {A : Type 0} → Role → ReaderEnd → ℕ → List (Event A) → List ℕ → Type 0
+OpenRow role Bytes c es b = (fault role b ≡ None) × (es ≡ offered_events c (offers role b))
+OpenRow role (Fault f) c es b = (fault role b ≡ Some f) × (es ≡ offered_events c (offers role b))
+OpenRow role ReadFailed c es b = es ≡ offered_events c (offers role b)
+OpenRow role Turns c es b = es ≡ offered_events c (offers role b)
+OpenRow role NotLive c es b = (n : ℕ) × (n < length (offers role b)) × (es ≡ offered_events c (take n (offers role b)))
+OpenRow role end c es b = ⊥
+
+-- a reader's row, before it closes what it closes
+abbrev pub ReadRow : {A : Type 0} → Role → ReaderEnd → Option ℕ → List (Event A) → List ℕ → Type 0
+ReadRow role end (Some c) es b = OpenRow role end c es b
+ReadRow role end None es b = UnconnectedRow role end es b
+
+-- whether a connected reader closes its connection at this end
+abbrev pub closes : ReaderEnd → Bool
+closes (Fault f) = true
+closes ReadFailed = true
+closes Turns = true
+closes end = false
+
+-- a reader that connected as c has admitted all that its bytes after the greeting offer, and they have no fault
+pub record IsOffering {A : Type 0} (s : List ℕ) (c : ℕ) (frames : Option (List ℕ)) (me : ActorState A) : Type 0 where
+  pub held : frames ≡ held_of (frames_of s)
+  pub clean : (frames_of s).fault ≡ None
+  pub events : link_events me ≡ offered_events c (frames_of s).descriptors
+
+-- what a piece of these bytes after the greeting did
+abbrev pub IsDelivered : {A : Type 0} → Delivery → List ℕ → ℕ → Option (List ℕ) → ActorState A → Type 0
+IsDelivered delivery.More s c frames me = IsOffering s c frames me
+IsDelivered (delivery.Fault f) s c frames me = ((frames_of s).fault ≡ Some f) × (link_events me ≡ offered_events c (frames_of s).descriptors)
+IsDelivered delivery.NotLive s c frames me =
+    (n : ℕ) × (n < length (frames_of s).descriptors) × (link_events me ≡ offered_events c (take n (frames_of s).descriptors))
+IsDelivered (delivery.Stop f) s c frames me = ⊤
+
+-- the bytes of a joined link are its greeting and what came after it, all of which is offered
+pub record IsJoined {A : Type 0} (role : Role) (b : List ℕ) (c : ℕ) (frames : Option (List ℕ)) (me : ActorState A) : Type 0 where
+  pub stream : List ℕ
+  pub whole : b ≡ greeting_of role ++ stream
+  pub offering : IsOffering stream c frames me
+
+-- what a reader keeps is what its bytes so far leave of it
+abbrev pub IsReading : {A : Type 0} → Role → Reading A → List ℕ → ActorState A → Type 0
+IsReading role (reading.Greeting shake) b me =
+    (shake ≡ shake_of (greeting_of role) b) × (greeting_state (greeting_of role) b ≡ More)
+IsReading role (reading.Joined c frames) b me = IsJoined role b c frames me
+
+-- the connection of a reader
+abbrev pub reading_connection : {A : Type 0} → Reading A → Option ℕ
+reading_connection (reading.Greeting shake) = None
+reading_connection (reading.Joined c frames) = Some c
+
+-- how a reader ends where its bytes do
+abbrev pub end_of_bytes : {A : Type 0} → Reading A → ReaderEnd
+end_of_bytes (reading.Greeting shake) = GreetingCut
+end_of_bytes (reading.Joined c frames) = Bytes
+
+-- a reader that awaits the greeting has no receipts; a joined one has its connection
+abbrev pub HasConnection : {A : Type 0} → Reading A → ActorState A → Type 0
+HasConnection (reading.Greeting shake) me = me.receipts ≡ []
+HasConnection (reading.Joined c frames) me = connection_of me ≡ Some c
+
+-- what a piece leaves of the connection
+abbrev pub HasConnectionAfter : {A : Type 0} → Piece A → ActorState A → Type 0
+HasConnectionAfter (piece.More r) me = HasConnection r me
+HasConnectionAfter (piece.End made end) me = connection_of me ≡ made
+HasConnectionAfter (piece.Stop f) me = ⊤
+
+-- whether an end is one that bytes bring
+abbrev pub is_of_bytes : ReaderEnd → Bool
+is_of_bytes Bytes = false
+is_of_bytes GreetingCut = false
+is_of_bytes ReadFailed = false
+is_of_bytes Turns = false
+is_of_bytes end = true
+
+-- where a piece brings an end, it is one that bytes bring
+abbrev pub EndsByBytes : {A : Type 0} → Piece A → Type 0
+EndsByBytes (piece.More r) = ⊤
+EndsByBytes (piece.End made end) = is_of_bytes end ≡ true
+EndsByBytes (piece.Stop f) = ⊤
+
+-- what a piece did, with the bytes so far
+abbrev pub IsTaken : {A : Type 0} → Role → Piece A → List ℕ → ActorState A → Type 0
+IsTaken role (piece.More r) b me = IsReading role r b me
+IsTaken role (piece.End made end) b me = ReadRow role end made (link_events me) b
+IsTaken role (piece.Stop f) b me = ⊤

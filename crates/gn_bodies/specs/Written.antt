@@ -1,0 +1,73 @@
+-- What a writer's end says of its receipts, of the packets that it took, and of the bytes that it wrote.
+use Rattle.std.specs.Prelude.{◌≡◌, ◌<◌, ◌⊎◌, ℕ, Bool, true, List, [], ◌∷◌, ◌++◌, take, map}
+use Rattle.std.specs.List.{concat}
+use Rattle.gn_wire.specs.Packet.{Packet}
+use Rattle.gn_wire.specs.Spelling.{bytes_of}
+use Rattle.gn_rules.specs.declared.event.Event.TheVariants.{Take}
+use Rattle.gn_shake.specs.declared.role.Role.{Role}
+use Rattle.gn_shake.specs.declared.role.Role.TheVariants.{Accepting, Calling, Plain}
+use Rattle.gn_shake.specs.Texts.{request_text, consent_text}
+use Rattle.gn_service.specs.ActorState.{ActorState}
+use Rattle.gn_bodies.specs.declared.ends.WriterEnd.{WriterEnd}
+use Rattle.gn_bodies.specs.declared.ends.WriterEnd.TheVariants.{Drained, WriteFailed, Closed, NeverOpened}
+use Rattle.gn_bodies.specs.Events.{events_of, packets_of, HasDrained, MayClose}
+
+-- the texts before the packets, once connected
+abbrev pub opening_texts : Role → List (List ℕ)
+opening_texts Accepting = consent_text ∷ []
+opening_texts Calling = request_text ∷ []
+opening_texts Plain = []
+
+-- the texts of a link that never opened
+abbrev pub call_texts : Role → List (List ℕ)
+call_texts Calling = request_text ∷ []
+call_texts Accepting = []
+call_texts Plain = []
+
+-- all texts of a writer that took these packets
+abbrev pub texts : Role → List Packet → List (List ℕ)
+texts role ds = opening_texts role ++ map bytes_of ds
+
+-- all of the texts except the last, and a prefix of the last
+pub record Breaks (all : List (List ℕ)) (written : List ℕ) : Type 0 where
+  pub done : List (List ℕ)
+  pub last : List ℕ
+  pub part : ℕ
+  pub split : all ≡ done ++ last ∷ []
+  pub prefix : written ≡ concat done ++ take part last
+
+-- what the end says of what was written, once the link is open
+abbrev pub PacketRow : WriterEnd → Role → List Packet → List ℕ → Type 0
+PacketRow Drained role ds written = written ≡ concat (texts role ds)
+PacketRow Closed role ds written = written ≡ concat (texts role ds)
+PacketRow WriteFailed role ds written = Breaks (texts role ds) written
+PacketRow NeverOpened role ds written = ⊥
+
+-- what the end says of the packets that were taken, and of what was written
+abbrev pub WriterRow : WriterEnd → Role → List Packet → List ℕ → Type 0
+WriterRow Drained role ds written = written ≡ concat (texts role ds)
+WriterRow Closed role ds written = written ≡ concat (texts role ds)
+WriterRow WriteFailed role ds written = Breaks (texts role ds) written
+WriterRow NeverOpened role ds written = written ≡ concat (call_texts role)
+
+-- a write failed, or took nothing of a nonempty piece
+abbrev pub IsHurt : ℕ → Bool → Type 0
+IsHurt failures is_stuck = (0 < failures) ⊎ (is_stuck ≡ true)
+
+-- an actor took packets of connection c, and did nothing else
+abbrev pub AreTakes : {A : Type 0} → ℕ → ActorState A → Type 0
+AreTakes c me = events_of me ≡ map (λ packet. Take c) (packets_of me)
+
+-- what the end says of the steps of a writer on connection c, before it closes what it closes
+abbrev pub PacketSteps : {A : Type 0} → WriterEnd → ℕ → ActorState A → Type 0
+PacketSteps {A} Drained c me = (before : ActorState A) × AreTakes c before × HasDrained c before me
+PacketSteps Closed c me = AreTakes c me
+PacketSteps WriteFailed c me = AreTakes c me
+PacketSteps NeverOpened c me = ⊥
+
+-- what the end says of the steps of a writer on connection c: it took from it alone, and closed it alone
+abbrev pub WriterSteps : {A : Type 0} → WriterEnd → ℕ → ActorState A → Type 0
+WriterSteps {A} Drained c me = (before : ActorState A) × AreTakes c before × HasDrained c before me
+WriterSteps Closed c me = AreTakes c me
+WriterSteps {A} WriteFailed c me = (before : ActorState A) × AreTakes c before × MayClose c before me
+WriterSteps NeverOpened c me = me.receipts ≡ []

@@ -1,0 +1,109 @@
+//! The calls on the service that the bodies make, by what they do to the actor.
+
+ghost use Rattle.std.specs.Prelude.{◌≡◌, ◌∷◌, [], ℕ, Some, true, IfErr, IfOk, MatchResult, OnErr, OnOk};
+ghost use Rattle.gn_rules.specs.declared.event.Event.TheVariants.{Admit, Connect, Route};
+ghost use Rattle.gn_wire.specs.Packet.{Packet};
+ghost use Rattle.gn_rules.specs.Fits.{refuses};
+ghost use Rattle.gn_service.specs.Receipts.{HasReceipt};
+ghost use Rattle.gn_bodies.specs.Admitting.{HasAdmitted};
+ghost use Rattle.gn_bodies.specs.Events.{connection_of, link_events, packets_of, MayClose};
+ghost use Rattle.gn_bodies.specs.Jobs.{jobs_left};
+
+use crate::ends::BodyFault;
+use gn_payload::Checked;
+use gn_rules::{ConnId, Event, Refusal, RouterCore, Ticket};
+use gn_service::{Actor, Service};
+use gn_stage::Job;
+use gn_wire::Descriptor;
+use std::alloc::Allocator;
+use std::sync::Wait;
+use std::sync::ledger::Ledger;
+
+/// Admits a descriptor, which comes back as a job with its ticket. None where the router is busy: the descriptor is gone.
+pub(crate) fn admit<C: RouterCore<A> + Drop, L: Ledger, A: Allocator + Copy, R: Wait>(
+    rt: &R,
+    service: &Service<C, L, A>,
+    me: &mut Actor<L, A>,
+    c: ConnId,
+    descriptor: Descriptor<A>,
+) -> Result<Option<Job<A>>, Refusal>
+    ensures ok { IfOk result (λ job. HasAdmitted c descriptor job me.old me.new) }
+    ensures err { IfErr result (λ refusal. (refuses {A = A} (Admit c descriptor) refusal ≡ true) × (me.new ≡ me.old)) }
+{
+    let event = Event::Admit(c, descriptor);
+    service.call(rt, me, &event)?;
+    match me.last_reply().admitted() {
+        None => Ok(None),
+        Some(ticket) => Ok(job_of(ticket, event)),
+    }
+}
+
+/// The job of an event that was admitted.
+fn job_of<A: Allocator>(ticket: Ticket, event: Event<A>) -> Option<Job<A>>
+    ensures { (c : ℕ) (d : Packet) → event ≡ Admit c d → result ≡ Some (record { ticket = ticket; descriptor = d }) }
+{
+    match event {
+        Event::Admit(_c, descriptor) => Some(Job { ticket, descriptor }),
+        _other => None,
+    }
+}
+
+/// Routes a job that was checked. Refused where its ticket isn't in flight, or was another descriptor's.
+pub(crate) fn route<C: RouterCore<A> + Drop, L: Ledger, A: Allocator + Copy, R: Wait>(
+    rt: &R,
+    service: &Service<C, L, A>,
+    me: &mut Actor<L, A>,
+    ticket: Ticket,
+    checked: &Checked<A>,
+) -> Result<(), BodyFault>
+    ensures { MatchResult result (λ _. HasReceipt (Route ticket) me.old me.new) (λ _. me.new ≡ me.old) }
+{
+    match service.route(rt, me, ticket, checked) {
+        Ok(()) => Ok(()),
+        Err(Refusal::HistoryFull) => Err(BodyFault::HistoryFull),
+        Err(Refusal::NoMemory) => Err(BodyFault::NoMemory),
+        Err(_) => Err(BodyFault::Refused),
+    }
+}
+
+/// Connects a link, whose reader has no receipts yet. The connection, or none where too many are live.
+pub(crate) fn connect<C: RouterCore<A> + Drop, L: Ledger, A: Allocator + Copy, R: Wait>(
+    rt: &R,
+    service: &Service<C, L, A>,
+    me: &mut Actor<L, A>,
+    link: u32,
+) -> Result<Option<ConnId>, BodyFault>
+    requires number { me.old.number ≡ link }
+    requires none { me.old.receipts ≡ [] }
+    ensures number { me.new.number ≡ me.old.number }
+    ensures connection { IfOk result (λ made. connection_of me.new ≡ made) }
+    ensures events { OnOk result (link_events me.new ≡ Connect ∷ []) }
+    ensures jobs { OnOk result (jobs_left me.new.receipts ≡ []) }
+    ensures err { OnErr result (me.new ≡ me.old) }
+{
+    match service.connect(rt, me, link) {
+        Ok(()) => Ok(me.last_reply().connected()),
+        Err(Refusal::HistoryFull) => Err(BodyFault::HistoryFull),
+        Err(Refusal::NoMemory) => Err(BodyFault::NoMemory),
+        Err(_) => unreachable!(),
+    }
+}
+
+/// Closes a connection, if it is still live.
+pub(crate) fn close<C: RouterCore<A> + Drop, L: Ledger, A: Allocator + Copy, R: Wait>(
+    rt: &R,
+    service: &Service<C, L, A>,
+    me: &mut Actor<L, A>,
+    c: ConnId,
+) -> Result<(), BodyFault>
+    ensures closed { MayClose c me.old me.new }
+    ensures packets { packets_of me.new ≡ packets_of me.old }
+{
+    match service.call(rt, me, &Event::Close(c)) {
+        Ok(()) => Ok(()),
+        Err(Refusal::NotLive) => Ok(()),
+        Err(Refusal::HistoryFull) => Err(BodyFault::HistoryFull),
+        Err(Refusal::NoMemory) => Err(BodyFault::NoMemory),
+        Err(_) => unreachable!(),
+    }
+}

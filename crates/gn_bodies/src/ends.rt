@@ -1,0 +1,60 @@
+//! How the bodies end.
+
+use gn_wire::FrameFault;
+
+/// How the body of a reader ended.
+#[derive(Clone, Copy, Debug, PartialEq, Eq)]
+pub enum ReaderEnd {
+    /// All bytes were read.
+    Bytes,
+    /// The bytes end with this fault.
+    Fault(FrameFault),
+    /// A read failed.
+    ReadFailed,
+    /// As many reads gave bytes as may be: 1,000,000.
+    Turns,
+    /// The bytes differ from the greeting.
+    GreetingRefused,
+    /// The bytes end within the greeting.
+    GreetingCut,
+    /// As many connections are live as may be.
+    TooMany,
+    /// The connection was closed by another.
+    NotLive,
+}
+
+/// How the body of a writer ended.
+#[derive(Clone, Copy, Debug, PartialEq, Eq)]
+pub enum WriterEnd {
+    /// All was written, and the writer closed the connection.
+    Drained,
+    /// A write failed, or took nothing.
+    WriteFailed,
+    /// All was written, and another closed the connection, or the run failed.
+    Closed,
+    /// The link never connected.
+    NeverOpened,
+}
+
+/// Why a body has no end of its own.
+#[derive(Clone, Copy, Debug, PartialEq, Eq)]
+pub enum BodyFault {
+    /// The history has as many steps as it may have.
+    HistoryFull,
+    /// Out of memory.
+    NoMemory,
+    /// A job was refused its route. The body went on to its end.
+    Refused,
+}
+
+impl BodyFault {
+    ghost use Rattle.std.specs.Prelude.{◌≡◌};
+    ghost use Rattle.gn_bodies.specs.Ends.{is_stop};
+
+    /// Whether it stops the body at once, and with it the run.
+    pub fn is_stop(self) -> bool
+        ensures { result ≡ is_stop self }
+    {
+        matches!(self, BodyFault::HistoryFull | BodyFault::NoMemory)
+    }
+}

@@ -1,0 +1,19 @@
+//! The bodies of the threads of a run: each link's reader and writer, and the workers between them.
+//!
+//! No body says in its contract that it called `shut`, `reader_done` or `fail` of the service, which leave no trace in what
+//! it gives back: the tests show these calls.
+#![tactic(auto)]
+
+mod admitter;
+mod asking;
+mod ends;
+mod piece;
+mod reader;
+mod reading;
+mod worker;
+mod writer;
+
+pub use ends::{BodyFault, ReaderEnd, WriterEnd};
+pub use reader::{ReaderDone, reader_body};
+pub use worker::{WorkerDone, worker_body};
+pub use writer::{WriterDone, writer_body};

@@ -1,0 +1,118 @@
+//! The body of a worker.
+
+ghost use Rattle.std.specs.Prelude.{◌≡◌, ◌++◌, [], false, MatchResult, OnOk};
+ghost use Rattle.gn_rules.specs.declared.event.Event.TheVariants.{Route};
+ghost use Rattle.gn_service.specs.Receipts.{HasReceipt};
+ghost use Rattle.gn_stage.specs.Lessons.{WasEmpty};
+ghost use Rattle.gn_bodies.specs.Ends.{is_stopped};
+ghost use Rattle.gn_bodies.specs.Events.{events_of, link_events};
+ghost use Rattle.gn_bodies.specs.Jobs.{routes_of};
+
+use crate::asking::route;
+use crate::ends::BodyFault;
+use gn_links::Gate;
+use gn_payload::Checked;
+use gn_rules::RouterCore;
+use gn_service::{Actor, Service};
+use gn_stage::{Job, Outlet, OutletHome, Site};
+use std::alloc::{Allocator, Global};
+use std::sync::Wait;
+use std::sync::ledger::Ledger;
+
+/// What the body of a worker gives back.
+#[derive(Drop)]
+pub struct WorkerDone<S: Site, L: Ledger, A: Allocator = Global> {
+    pub actor: Actor<L, A>,
+    pub home: OutletHome<S, A>,
+    pub end: Result<(), BodyFault>,
+}
+
+/// Checks a job, passes the gate, and routes it. No lock is held before the route.
+fn route_job<G: Gate, C: RouterCore<A> + Drop, L: Ledger, A: Allocator + Copy, R: Wait>(
+    rt: &R,
+    service: &Service<C, L, A>,
+    me: &mut Actor<L, A>,
+    worker: u32,
+    gate: &G,
+    job: Job<A>,
+) -> Result<(), BodyFault>
+    ensures { MatchResult result (λ _. HasReceipt (Route job.ticket) me.old me.new) (λ _. me.new ≡ me.old) }
+{
+    let Job { ticket, descriptor } = job;
+    let checked = Checked::new(descriptor);
+    gate.enter(rt, worker, ticket);
+    route(rt, service, me, ticket, &checked)
+}
+
+/// Routes the jobs to their end.
+fn route_all<G: Gate, S: Site, C: RouterCore<A> + Drop, L: Ledger, A: Allocator + Copy, R: Wait>(
+    rt: &R,
+    service: &Service<C, L, A>,
+    me: &mut Actor<L, A>,
+    worker: u32,
+    gate: &G,
+    outlet: &mut Outlet<S, A>,
+) -> Result<(), BodyFault>
+    requires none { me.old.receipts ≡ [] }
+    ensures number { me.new.number ≡ me.old.number }
+    ensures home { outlet.new.number ≡ outlet.old.number }
+    ensures routes { link_events me.new ≡ [] }
+    ensures each { OnOk result (routes_of outlet.new.jobs ≡ routes_of outlet.old.jobs ++ events_of me.new) }
+    ensures over { is_stopped result ≡ false → WasEmpty outlet.new }
+{
+    let mut is_refused = false;
+    for _ in rt.forever() {
+        let Some(job) = outlet.take(rt) else {
+            break;
+        };
+        if let Err(fault) = route_job(rt, service, me, worker, gate, job) {
+            if fault.is_stop() {
+                return Err(fault);
+            }
+            is_refused = true;
+        }
+    }
+    if is_refused {
+        return Err(BodyFault::Refused);
+    }
+    Ok(())
+}
+
+/// The body of a worker: it takes each job, checks its payload, passes the gate, and routes it. Where it ended well, it
+/// routed each job that it took once, in order. A job that is refused its route makes no step; the worker goes on with the
+/// next one, and ends as Refused.
+///
+/// A stop fails the run. In any case its outlet is finished.
+pub fn worker_body<
+    G: Gate,
+    S: Site,
+    C: RouterCore<A> + Drop,
+    L: Ledger,
+    A: Allocator + Copy,
+    R: Wait,
+>(
+    rt: &R,
+    service: &Service<C, L, A>,
+    actor: Actor<L, A>,
+    worker: u32,
+    gate: &G,
+    outlet: Outlet<S, A>,
+) -> WorkerDone<S, L, A>
+    requires none { actor.receipts ≡ [] }
+    ensures number { result.actor.number ≡ actor.number }
+    ensures home { result.home.number ≡ outlet.number }
+    ensures routes { link_events result.actor ≡ [] }
+    ensures each { OnOk result.end (routes_of result.home.jobs ≡ routes_of outlet.jobs ++ events_of result.actor) }
+    ensures over { is_stopped result.end ≡ false → WasEmpty result.home }
+{
+    let (mut actor, mut outlet) = (actor, outlet);
+    let end = route_all(rt, service, &mut actor, worker, gate, &mut outlet);
+    if let Err(BodyFault::HistoryFull | BodyFault::NoMemory) = end {
+        service.fail(rt);
+    }
+    WorkerDone {
+        actor,
+        home: outlet.finish(),
+        end,
+    }
+}

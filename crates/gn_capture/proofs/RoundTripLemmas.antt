@@ -1,0 +1,76 @@
+-- A history that is written is read again.
+use Rattle.std.proofs.Common.{◌≡◌, ℕ, ◌+◌, List, [], ◌∷◌, ◌++◌, refl, sym, ap, ◌∙◌, Ok, Some, append_assoc, codes}
+use Rattle.std.specs.List.{AllByRecursion}
+use Rattle.gn_rules.specs.declared.config.Config.{Config}
+use Rattle.gn_rules.specs.declared.receipt.Step.{Step}
+use Rattle.gn_text.specs.Lines.{lines_of}
+use Rattle.gn_text.specs.Header.{header_of}
+use Rattle.gn_text.specs.Said.{said_from, said_of, behind_of}
+use Rattle.gn_text.specs.Settings.{settings_of, config_line, own_line}
+use Rattle.gn_text.specs.Steps.{step_line, step_text}
+use Rattle.gn_capture.specs.RoundTrip.{IsOwn, IsStep, WrittenIsRead}
+use Rattle.gn_capture.specs.Histories.{ending, history_text, line_said, steps_from, steps_text, title}
+use Rattle.gn_capture.proofs.LinesAgain.{IsSaid, fed, lines_again, numbered, said_again}
+use Rattle.gn_capture.proofs.SettingsAgain.{config_again, config_line_is, own_again, own_line_is}
+use Rattle.gn_capture.proofs.Spaced.{IsLine}
+use Rattle.gn_capture.proofs.StepsAgain.{step_again, step_goes_on, step_line_is, step_line_said}
+use Rattle.gn_capture.proofs.HistoryLemmas.{history_read}
+
+-- the lines of steps, and the last one
+abbrev step_lines : {A : Type 0} → List (Step A) → List (List ℕ)
+step_lines [] = ending ∷ []
+step_lines (step ∷ more) = step_line step ∷ step_lines more
+
+-- the lines of a history behind its title
+abbrev lines_behind : {A : Type 0} → Config → List (Step A) → List (List ℕ)
+lines_behind s steps = config_line s ∷ own_line s.own ∷ step_lines steps
+
+step_lines_fed : {A : Type 0} (steps : List (Step A)) → steps_text steps ++ codes "end\n" ≡ fed (step_lines steps)
+step_lines_fed [] = refl
+step_lines_fed (step ∷ more) = append_assoc (step_text step) (steps_text more) (codes "end\n") ∙ ap (λ (t : List ℕ). step_text step ++ t) (step_lines_fed more)
+
+joined : (t c o s e : List ℕ) → (((t ++ (c ++ o)) ++ s) ++ e) ≡ t ++ (c ++ (o ++ (s ++ e)))
+joined t c o s e = simp append_assoc
+
+history_fed : {A : Type 0} (s : Config) (steps : List (Step A)) → history_text s steps ≡ fed (title ∷ lines_behind s steps)
+history_fed s steps =
+    let front : List ℕ → List ℕ = λ t. codes "gnutella-history 1\n" ++ ((config_line s ++ codes "\n") ++ ((own_line s.own ++ codes "\n") ++ t)) in
+    joined (codes "gnutella-history 1\n") (config_line s ++ codes "\n") (own_line s.own ++ codes "\n") (steps_text steps) (codes "end\n")
+    ∙ ap front (step_lines_fed steps)
+
+step_lines_are : {A : Type 0} (steps : List (Step A)) → AllByRecursion IsStep steps → AllByRecursion IsLine (step_lines steps)
+step_lines_are [] h = (refl, tt)
+step_lines_are (step ∷ more) h = (step_line_is step h.0, step_lines_are more h.1)
+
+step_lines_said : {A : Type 0} (steps : List (Step A)) → AllByRecursion IsStep steps → AllByRecursion IsSaid (step_lines steps)
+step_lines_said [] h = (refl, tt)
+step_lines_said (step ∷ more) h = (step_line_said step h.0, step_lines_said more h.1)
+
+-- the lines of a history, each with its number
+said_lines : {A : Type 0} (s : Config) (steps : List (Step A)) → IsOwn s.own → AllByRecursion IsStep steps
+    → said_of (history_text s steps) ≡ numbered 1 (title ∷ lines_behind s steps)
+said_lines s steps h k =
+    ap (said_from 1) (ap lines_of (history_fed s steps) ∙ lines_again title (lines_behind s steps) refl (config_line_is s, (own_line_is s.own h, step_lines_are steps k)))
+    ∙ said_again 1 (title ∷ lines_behind s steps) (refl, (refl, (refl, step_lines_said steps k)))
+
+line_again : {A : Type 0} (n : ℕ) (step : Step A) → IsStep step → line_said (n, step_line step) ≡ Ok (Some step)
+line_again n step h = rw (step_goes_on step h, step_again step h) refl
+
+one_more : {A : Type 0} (behind : ℕ) (line : ℕ × List ℕ) (more : List (ℕ × List ℕ)) (step : Step A) (steps : List (Step A)) → line_said line ≡ Ok (Some step)
+    → steps_from behind more ≡ Ok steps → steps_from behind (line ∷ more) ≡ Ok (step ∷ steps)
+one_more behind line more step steps e f = rw (e, f) refl
+
+steps_again : {A : Type 0} (behind n : ℕ) (steps : List (Step A)) → AllByRecursion IsStep steps → steps_from behind (numbered n (step_lines steps)) ≡ Ok steps
+steps_again behind n [] h = refl
+steps_again behind n (step ∷ more) h =
+    one_more behind (n, step_line step) (numbered (n + 1) (step_lines more)) step more (line_again n step h.0) (steps_again behind (n + 1) more h.1)
+
+header_again : (s : Config) (behind : ℕ) (more : List (ℕ × List ℕ)) → IsOwn s.own
+    → header_of title behind ((1, title) ∷ (2, config_line s) ∷ (3, own_line s.own) ∷ more) ≡ Ok (settings_of s, more)
+header_again s behind more h = rw (config_again s, own_again s.own h) refl
+
+pub written_is_read : {A : Type 0} → WrittenIsRead A
+written_is_read s steps h k =
+    history_read (history_text s steps) (numbered 1 (title ∷ lines_behind s steps)) (behind_of (history_text s steps)) (settings_of s)
+    (numbered 4 (step_lines steps)) steps (sym (said_lines s steps h k)) refl (header_again s (behind_of (history_text s steps)) (numbered 4 (step_lines steps)) h)
+    (steps_again (behind_of (history_text s steps)) 4 steps k)

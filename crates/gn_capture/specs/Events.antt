@@ -1,0 +1,47 @@
+-- What the fields of a step line say of its event.
+use Rattle.std.specs.Prelude.{ℕ, if◌then◌else◌, List, [], ◌∷◌, map, codes, Option, Some, None}
+use Rattle.std.proofs.Common.{Bor}
+use Rattle.gn_wire.specs.Packet.{Packet}
+use Rattle.gn_rules.specs.declared.event.Event.{Event}
+use Rattle.gn_rules.specs.declared.event.Event.TheVariants.{Connect, Close, Admit, Route, Take, Originate}
+use Rattle.gn_text.specs.Addresses.{◌>>=◌}
+use Rattle.gn_text.specs.Lines.{is_word}
+use Rattle.gn_text.specs.Numbers.{number_of}
+use Rattle.gn_capture.specs.Packets.{packet_said}
+
+-- a value that the first fields say, with the fields behind them, and what these refer to
+abbrev pub first_seen : {X : Type 0} → X × Bor (List (Bor (List ℕ))) → X × List (List ℕ)
+first_seen first = (first.0, map (λ x. x.now) first.1.now)
+
+-- the number that the first field says, and the fields behind it
+abbrev pub number_first : List (List ℕ) → Option (ℕ × List (List ℕ))
+number_first [] = None
+number_first (field ∷ more) = do
+  n ← number_of field
+  Some (n, more)
+
+-- the descriptor that the first field says, and the fields behind it
+abbrev pub packet_first : List (List ℕ) → Option (Packet × List (List ℕ))
+packet_first [] = None
+packet_first (field ∷ more) = do
+  packet ← packet_said field
+  Some (packet, more)
+
+-- a number and a descriptor make an Admit
+abbrev pub admit_first : {A : Type 0} → List (List ℕ) → Option (Event A × List (List ℕ))
+admit_first fields = do
+  c ← number_first fields
+  packet ← packet_first c.1
+  Some (Admit c.0 packet.0, packet.1)
+
+-- the event that the first fields say, and the fields behind them
+abbrev pub event_first : {A : Type 0} → List (List ℕ) → Option (Event A × List (List ℕ))
+event_first [] = None
+event_first (word ∷ more) =
+    if is_word word (codes "connect") then Some (Connect, more)
+    else if is_word word (codes "close") then (number_first more >>= λ c. Some (Close c.0, c.1))
+    else if is_word word (codes "admit") then admit_first more
+    else if is_word word (codes "route") then (number_first more >>= λ t. Some (Route t.0, t.1))
+    else if is_word word (codes "take") then (number_first more >>= λ c. Some (Take c.0, c.1))
+    else if is_word word (codes "originate") then (packet_first more >>= λ d. Some (Originate d.0, d.1))
+    else None

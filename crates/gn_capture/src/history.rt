@@ -1,0 +1,75 @@
+//! What a history's text says.
+
+ghost use Rattle.std.specs.Prelude.{◌≡◌, map};
+ghost use Rattle.gn_text.specs.Faults.{IsRead, refused_at};
+ghost use Rattle.gn_text.specs.Said.{line_seen};
+ghost use Rattle.gn_capture.specs.Histories.{ended, history_of, history_seen, line_said, steps_from};
+
+use crate::step::read_step;
+use gn_rules::{Config, Step};
+use gn_text::{
+    CaptureFault, CaptureRefusal, Cause, SaidLine, fields, is_word, read_header, said_lines,
+};
+use std::alloc::Allocator;
+
+fn refused(line: u64, cause: Cause) -> CaptureRefusal
+    ensures { result ≡ refused_at line cause }
+{
+    CaptureRefusal::Fault(CaptureFault { line, cause })
+}
+
+/// The step of a line, or `None` where the line is `end`.
+fn read_line<A: Allocator + Copy>(
+    alloc: A,
+    line: &SaidLine,
+) -> Result<Option<Step<A>>, CaptureRefusal>
+    ensures { IsRead (λ x. x) result (line_said (line_seen line.now)) }
+{
+    let (number, line) = *line;
+    if is_word(line, b"end") {
+        return Ok(None);
+    }
+    match read_step(alloc, &fields(alloc, line)?)? {
+        Some(step) => Ok(Some(step)),
+        None => Err(refused(number, Cause::Field)),
+    }
+}
+
+fn read_steps<A: Allocator + Copy>(
+    alloc: A,
+    lines: &[SaidLine],
+    behind: u64,
+) -> Result<Vec<Step<A>, A>, CaptureRefusal>
+    ensures { IsRead (λ v. v.items) result (steps_from behind (map line_seen lines.now)) }
+{
+    let mut steps = Vec::new(alloc);
+    for (i, line) in lines.iter().enumerate() {
+        match read_line(alloc, line) {
+            Ok(Some(step)) => steps.push(step)?,
+            Ok(None) => {
+                return match lines.get(i + 1) {
+                    Some((number, _)) => Err(refused(*number, Cause::End)),
+                    None => Ok(steps),
+                };
+            }
+            Err(refusal) => return Err(refusal),
+        }
+    }
+    Err(refused(behind, Cause::End))
+}
+
+/// The configuration and the steps that a history's text says. An `Err` tells its first line that something is wrong
+/// with: the first line isn't `gnutella-history 1` (`Header`), a bad or missing `config` or `own` line, a line that is no
+/// step (`Field`), a missing `end` or something behind it (`End`); or want of memory. Empty lines and comments are
+/// skipped, also behind `end`. Whether the replies are right isn't looked at.
+pub fn read_history<A: Allocator + Copy>(
+    alloc: A,
+    text: &[u8],
+) -> Result<(Config, Vec<Step<A>, A>), CaptureRefusal>
+    ensures { IsRead (history_seen (λ v. v.items)) result (history_of text.now) }
+{
+    let said = said_lines(alloc, text)?;
+    let (config, lines) = read_header(alloc, b"gnutella-history 1", &said.lines, said.behind)?;
+    let steps = read_steps(alloc, lines, said.behind)?;
+    Ok((config, steps))
+}

@@ -1,0 +1,77 @@
+//! Descriptors in hex.
+
+ghost use Rattle.std.specs.Prelude.{◌≡◌, IfOk, option_map, map};
+ghost use Rattle.gn_capture.specs.Events.{first_seen, number_first, packet_first};
+ghost use Rattle.gn_capture.specs.Packets.{packet_of, packet_said};
+
+use bytes::Bytes;
+use gn_text::{hex_bytes, number};
+use gn_wire::{Descriptor, read_header};
+use std::alloc::{AllocError, Allocator};
+
+#[tactic(auto, unfolding(crate::specs::Packets::packet_of))]
+fn packet_in<A: Allocator + Copy>(
+    alloc: A,
+    bytes: &[u8],
+) -> Result<Option<Descriptor<A>>, AllocError>
+    ensures { IfOk result (λ found. found ≡ packet_of bytes.now) }
+{
+    if bytes.len() < 23 {
+        return Ok(None);
+    }
+    let (front, payload) = bytes.split_at(23);
+    let mut head = [0u8; 23];
+    head.copy_from_slice(front);
+    match read_header(&head) {
+        Err(_) => Ok(None),
+        Ok(header) => {
+            if header.length as usize != payload.len() {
+                return Ok(None);
+            }
+            let payload = Bytes::copy_from_slice(alloc, payload)?;
+            Ok(Descriptor::new(header.id, header.kind, header.ttl, header.hops, payload).ok())
+        }
+    }
+}
+
+/// The descriptor that a field spells, where it spells a whole one and no more. An `Err` is want of memory.
+pub(crate) fn read_packet<A: Allocator + Copy>(
+    alloc: A,
+    field: &[u8],
+) -> Result<Option<Descriptor<A>>, AllocError>
+    ensures { IfOk result (λ found. found ≡ packet_said field.now) }
+{
+    match hex_bytes(alloc, field)? {
+        None => Ok(None),
+        Some(bytes) => packet_in(alloc, &bytes),
+    }
+}
+
+/// The number of the first field, and the fields behind it.
+pub(crate) fn number_first<'a, 'b>(fields: &'b [&'a [u8]]) -> Option<(u32, &'b [&'a [u8]])>
+    ensures { option_map first_seen result ≡ number_first (map (λ x. x.now) fields.now) }
+{
+    match fields {
+        [] => None,
+        [field, more @ ..] => match number(field) {
+            Some(n) => Some((n, more)),
+            None => None,
+        },
+    }
+}
+
+/// The descriptor of the first field, and the fields behind it. An `Err` is want of memory.
+pub(crate) fn packet_first<'a, 'b, A: Allocator + Copy>(
+    alloc: A,
+    fields: &'b [&'a [u8]],
+) -> Result<Option<(Descriptor<A>, &'b [&'a [u8]])>, AllocError>
+    ensures { IfOk result (λ found. option_map first_seen found ≡ packet_first (map (λ x. x.now) fields.now)) }
+{
+    match fields {
+        [] => Ok(None),
+        [field, more @ ..] => match read_packet(alloc, field)? {
+            Some(packet) => Ok(Some((packet, more))),
+            None => Ok(None),
+        },
+    }
+}

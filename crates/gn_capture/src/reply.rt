@@ -1,0 +1,181 @@
+//! The reply of a step line.
+
+ghost use Rattle.std.specs.Prelude.{◌≡◌, IfOk, map};
+ghost use Rattle.gn_text.specs.Numbers.{number_of};
+ghost use Rattle.gn_capture.specs.Packets.{packet_said};
+ghost use Rattle.gn_capture.specs.Replies.{alone, packets_said, place_named, reason_named, reply_said, routed_said, unnumbered_said};
+
+use crate::packet::read_packet;
+use crate::sends::read_sends;
+use gn_rules::{DropReason, Reply};
+use gn_text::{is_word, number};
+use gn_wire::Descriptor;
+use std::alloc::{AllocError, Allocator};
+
+fn reason_named(field: &[u8]) -> Option<DropReason>
+    ensures { result ≡ reason_named field.now }
+{
+    if is_word(field, b"unknownkind") {
+        Some(DropReason::UnknownKind)
+    } else if is_word(field, b"malformed") {
+        Some(DropReason::Malformed)
+    } else if is_word(field, b"duplicate") {
+        Some(DropReason::Duplicate)
+    } else if is_word(field, b"noroute") {
+        Some(DropReason::NoRoute)
+    } else if is_word(field, b"routegone") {
+        Some(DropReason::RouteGone)
+    } else if is_word(field, b"backtosender") {
+        Some(DropReason::BackToSender)
+    } else if is_word(field, b"expired") {
+        Some(DropReason::Expired)
+    } else {
+        None
+    }
+}
+
+fn place_named(field: &[u8]) -> Option<bool>
+    ensures { result ≡ place_named field.now }
+{
+    if is_word(field, b"local") {
+        Some(true)
+    } else if is_word(field, b"away") {
+        Some(false)
+    } else {
+        None
+    }
+}
+
+fn number_alone(fields: &[&[u8]]) -> Option<u32>
+    ensures { result ≡ alone number_of (map (λ x. x.now) fields.now) }
+{
+    match fields {
+        [field] => number(field),
+        _ => None,
+    }
+}
+
+fn reason_alone(fields: &[&[u8]]) -> Option<DropReason>
+    ensures { result ≡ alone reason_named (map (λ x. x.now) fields.now) }
+{
+    match fields {
+        [field] => reason_named(field),
+        _ => None,
+    }
+}
+
+fn packet_alone<A: Allocator + Copy>(
+    alloc: A,
+    fields: &[&[u8]],
+) -> Result<Option<Descriptor<A>>, AllocError>
+    ensures { IfOk result (λ found. found ≡ alone packet_said (map (λ x. x.now) fields.now)) }
+{
+    match fields {
+        [field] => read_packet(alloc, field),
+        _ => Ok(None),
+    }
+}
+
+fn read_routed<A: Allocator + Copy>(
+    alloc: A,
+    fields: &[&[u8]],
+) -> Result<Option<Reply<A>>, AllocError>
+    ensures { IfOk result (λ found. found ≡ routed_said (map (λ x. x.now) fields.now)) }
+{
+    let [place, more @ ..] = fields else {
+        return Ok(None);
+    };
+    let Some(local) = place_named(place) else {
+        return Ok(None);
+    };
+    match read_sends(alloc, more)? {
+        Some(sends) => Ok(Some(Reply::Routed { sends, local })),
+        None => Ok(None),
+    }
+}
+
+fn read_packets<A: Allocator + Copy>(
+    alloc: A,
+    word: &[u8],
+    more: &[&[u8]],
+) -> Result<Option<Reply<A>>, AllocError>
+    ensures { IfOk result (λ found. found ≡ packets_said word.now (map (λ x. x.now) more.now)) }
+{
+    if is_word(word, b"routed") {
+        return read_routed(alloc, more);
+    }
+    if is_word(word, b"taken") {
+        return match packet_alone(alloc, more)? {
+            Some(packet) => Ok(Some(Reply::Taken(packet))),
+            None => Ok(None),
+        };
+    }
+    if is_word(word, b"sent") {
+        return match read_sends(alloc, more)? {
+            Some(sends) => Ok(Some(Reply::Sent(sends))),
+            None => Ok(None),
+        };
+    }
+    Ok(None)
+}
+
+fn read_unnumbered<A: Allocator + Copy>(
+    alloc: A,
+    word: &[u8],
+    more: &[&[u8]],
+) -> Result<Option<Reply<A>>, AllocError>
+    ensures { IfOk result (λ found. found ≡ unnumbered_said word.now (map (λ x. x.now) more.now)) }
+{
+    if is_word(word, b"toomany") {
+        return Ok(if more.is_empty() {
+            Some(Reply::TooMany)
+        } else {
+            None
+        });
+    }
+    if is_word(word, b"busy") {
+        return Ok(if more.is_empty() {
+            Some(Reply::Busy)
+        } else {
+            None
+        });
+    }
+    if is_word(word, b"dropped") {
+        return match reason_alone(more) {
+            Some(reason) => Ok(Some(Reply::Dropped(reason))),
+            None => Ok(None),
+        };
+    }
+    read_packets(alloc, word, more)
+}
+
+/// The reply that fields say. An `Err` is want of memory.
+pub(crate) fn read_reply<A: Allocator + Copy>(
+    alloc: A,
+    fields: &[&[u8]],
+) -> Result<Option<Reply<A>>, AllocError>
+    ensures { IfOk result (λ found. found ≡ reply_said (map (λ x. x.now) fields.now)) }
+{
+    let Some((word, more)) = fields.split_first() else {
+        return Ok(None);
+    };
+    if is_word(word, b"connected") {
+        return Ok(match number_alone(more) {
+            Some(c) => Some(Reply::Connected(c)),
+            None => None,
+        });
+    }
+    if is_word(word, b"closed") {
+        return Ok(match number_alone(more) {
+            Some(count) => Some(Reply::Closed(count)),
+            None => None,
+        });
+    }
+    if is_word(word, b"admitted") {
+        return Ok(match number_alone(more) {
+            Some(t) => Some(Reply::Admitted(t)),
+            None => None,
+        });
+    }
+    read_unnumbered(alloc, word, more)
+}

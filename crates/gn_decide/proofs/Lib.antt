@@ -1,0 +1,3 @@
+pub mod FirstLemmas
+pub mod RestLemmas
+pub mod SendLemmas

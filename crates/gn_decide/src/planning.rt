@@ -1,0 +1,168 @@
+//! The plan for each event: the rules' answer, before any packet is made.
+
+ghost use Rattle.std.specs.Prelude.{◌≡◌, ◌==◌, Ok, IfOk, length};
+ghost use Rattle.gn_payload.specs.Sound.{verdict_of};
+ghost use Rattle.gn_rules.specs.Answer as rules;
+ghost use Rattle.gn_rules.specs.Flight.{Admission, in_flight};
+ghost use Rattle.gn_rules.specs.declared.event.Event.TheVariants.{Route};
+ghost use Rattle.gn_decide.specs.Planned.{plan_reply, planned};
+
+use crate::deciding::{decide, is_remembered};
+use crate::lookup::Lookup;
+use crate::plan::{Outgoing, Plan};
+use gn_payload::{Checked, Verdict, verdict_on};
+use gn_rules::{ConnId, Event, Refusal, Reply, Ticket, may_originate};
+use gn_wire::Descriptor;
+use std::alloc::Allocator;
+
+/// The plan for a Connect.
+fn plan_connect<A: Allocator, L: Lookup<A>>(past: &L) -> Plan<'_, A>
+    ensures { rules.connect_answer (L.settings past.now) (L.past past.now)
+        ≡ Ok (plan_reply (L.settings past.now) (L.past past.now) result) }
+{
+    if past.live_count() == past.config().neighbours {
+        return Plan::Ready(Reply::TooMany);
+    }
+    Plan::Ready(Reply::Connected(past.next_connection()))
+}
+
+/// The plan for a Close.
+fn plan_close<A: Allocator, L: Lookup<A>>(past: &L, c: ConnId) -> Result<Plan<'_, A>, Refusal>
+    ensures { planned (L.settings past.now) (L.past past.now) result ≡ rules.close_answer (L.past past.now) c }
+{
+    match past.output(c) {
+        None => Err(Refusal::NotLive),
+        Some(waiting) => Ok(Plan::Ready(Reply::Closed(waiting))),
+    }
+}
+
+/// The plan for an Admit.
+fn plan_admit<A: Allocator, L: Lookup<A>>(past: &L, c: ConnId) -> Result<Plan<'_, A>, Refusal>
+    ensures { planned (L.settings past.now) (L.past past.now) result
+        ≡ rules.admit_answer (L.settings past.now) (L.past past.now) c }
+{
+    if !past.is_live(c) {
+        return Err(Refusal::NotLive);
+    }
+    if past.flights() == past.config().stage {
+        return Ok(Plan::Ready(Reply::Busy));
+    }
+    Ok(Plan::Ready(Reply::Admitted(past.next_ticket())))
+}
+
+/// The plan for a Take.
+#[tactic(auto, using(crate::proofs::FirstLemmas::first_none, crate::proofs::FirstLemmas::first_some))]
+fn plan_take<A: Allocator, L: Lookup<A>>(past: &L, c: ConnId) -> Result<Plan<'_, A>, Refusal>
+    ensures { planned (L.settings past.now) (L.past past.now) result ≡ rules.take_answer (L.past past.now) c }
+{
+    if !past.is_live(c) {
+        return Err(Refusal::NotLive);
+    }
+    match past.first(c) {
+        None => Err(Refusal::NothingWaiting),
+        Some(packet) => Ok(Plan::Taken(packet)),
+    }
+}
+
+/// The plan for an Originate.
+fn plan_originate<'a, A: Allocator, L: Lookup<A>>(
+    past: &L,
+    packet: &'a Descriptor<A>,
+) -> Result<Plan<'a, A>, Refusal>
+    ensures { planned (L.settings past.now) (L.past past.now) result
+        ≡ rules.originate_answer (L.settings past.now) (L.past past.now) packet.now }
+{
+    if !may_originate(packet) {
+        return Err(Refusal::BadOrigin);
+    }
+    if is_remembered(past, packet) {
+        return Err(Refusal::Remembered);
+    }
+    Ok(Plan::Sent(Outgoing::Each(packet)))
+}
+
+/// The plan for a Route.
+fn plan_route<A: Allocator, L: Lookup<A>>(past: &L, ticket: Ticket) -> Result<Plan<'_, A>, Refusal>
+    ensures { planned (L.settings past.now) (L.past past.now) result
+        ≡ rules.route_answer (L.settings past.now) (L.past past.now) ticket }
+{
+    match past.flight(ticket) {
+        None => Err(Refusal::NoTicket),
+        Some((origin, packet)) => Ok(decide(past, origin, packet, verdict_on(packet))),
+    }
+}
+
+/// The plan for an event where there is room for a step.
+fn plan_event<'a, A: Allocator, L: Lookup<A>>(
+    past: &'a L,
+    event: &'a Event<A>,
+) -> Result<Plan<'a, A>, Refusal>
+    ensures { planned (L.settings past.now) (L.past past.now) result
+        ≡ rules.event_answer (L.settings past.now) (L.past past.now) event.now }
+{
+    match event {
+        Event::Connect => Ok(plan_connect(past)),
+        Event::Close(c) => plan_close(past, *c),
+        Event::Admit(c, _) => plan_admit(past, *c),
+        Event::Route(ticket) => plan_route(past, *ticket),
+        Event::Take(c) => plan_take(past, *c),
+        Event::Originate(packet) => plan_originate(past, packet),
+    }
+}
+
+/// Whether there are as many steps as there may be.
+fn is_full<A: Allocator, L: Lookup<A>>(past: &L) -> bool
+    ensures { result ≡ (length (L.past past.now) == (L.settings past.now).steps) }
+{
+    past.step_count() == past.config().steps
+}
+
+/// The plan for an event, or the rules' refusal. Takes no memory.
+pub fn plan_of<'a, A: Allocator, L: Lookup<A>>(
+    past: &'a L,
+    event: &'a Event<A>,
+) -> Result<Plan<'a, A>, Refusal>
+    ensures { planned (L.settings past.now) (L.past past.now) result
+        ≡ rules.answer (L.settings past.now) (L.past past.now) event.now }
+{
+    if is_full(past) {
+        return Err(Refusal::HistoryFull);
+    }
+    plan_event(past, event)
+}
+
+/// The plan for a Route with a descriptor that was checked beforehand, where there is room for a step.
+fn plan_checked_flight<'a, A: Allocator, L: Lookup<A>>(
+    past: &'a L,
+    ticket: Ticket,
+    checked: &Checked<A>,
+) -> Result<Plan<'a, A>, Refusal>
+    ensures value { planned (L.settings past.now) (L.past past.now) result
+        ≡ rules.checked_flight_answer (L.settings past.now) (L.past past.now) checked.now
+        (in_flight (L.past past.now) ticket) }
+    ensures routed { IfOk result (λ plan. rules.route_answer (L.settings past.now) (L.past past.now) ticket
+        ≡ Ok (plan_reply (L.settings past.now) (L.past past.now) plan)) }
+{
+    match past.flight(ticket) {
+        None => Err(Refusal::NoTicket),
+        Some((_, packet)) if !checked.descriptor().is_same(packet) => Err(Refusal::Strange),
+        Some((origin, packet)) => Ok(decide(past, origin, packet, checked.verdict())),
+    }
+}
+
+/// The plan for a Route with a descriptor that was checked beforehand, or the rules' refusal. Takes no memory.
+pub fn plan_checked<'a, A: Allocator, L: Lookup<A>>(
+    past: &'a L,
+    ticket: Ticket,
+    checked: &Checked<A>,
+) -> Result<Plan<'a, A>, Refusal>
+    ensures value { planned (L.settings past.now) (L.past past.now) result
+        ≡ rules.checked_answer (L.settings past.now) (L.past past.now) ticket checked.now }
+    ensures routed { IfOk result (λ plan. rules.answer (L.settings past.now) (L.past past.now) (Route ticket)
+        ≡ Ok (plan_reply (L.settings past.now) (L.past past.now) plan)) }
+{
+    if is_full(past) {
+        return Err(Refusal::HistoryFull);
+    }
+    plan_checked_flight(past, ticket, checked)
+}

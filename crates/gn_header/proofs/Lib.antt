@@ -1,4 +1,0 @@
-pub mod ConfigLemmas
-pub mod HeaderLemmas
-pub mod SaidLemmas
-pub mod SettingsLemmas

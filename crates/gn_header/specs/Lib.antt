@@ -1,4 +1,0 @@
-pub mod Faults
-pub mod Header
-pub mod Said
-pub mod Settings

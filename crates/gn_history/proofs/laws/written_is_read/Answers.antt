@@ -1,5 +1,0 @@
-use Rattle.gn_history.proofs.RoundTripLemmas.{written_is_read}
-use Rattle.gn_history.proofs.laws.written_is_read.Goals as goal
-
-pub returns : goal.returns
-returns g c = written_is_read

@@ -1,8 +1,0 @@
-use Rattle.std.specs.Prelude.{◌≡◌, ◌++◌, drop, map}
-use Rattle.gn_header.specs.Said.{line_seen}
-use Rattle.gn_history.specs.Text.{map_result, steps_from}
-use Rattle.gn_history.proofs.read.read_steps.Given as goal
-
-abbrev pub invariant-loop-i : goal.invariant-loop-i
-invariant-loop-i g l =
-    map_result (λ more. l.steps.items ++ more) (steps_from l.fn.behind (map line_seen (drop l.i l.lines))) ≡ steps_from l.fn.behind (map line_seen l.lines)

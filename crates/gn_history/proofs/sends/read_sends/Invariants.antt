@@ -1,7 +1,0 @@
-use Rattle.std.specs.Prelude.{◌≡◌, ◌++◌, drop, map, option_map}
-use Rattle.gn_history.specs.Replies.{sends_said}
-use Rattle.gn_history.proofs.sends.read_sends.Given as goal
-
-abbrev pub invariant-loop-field : goal.invariant-loop-field
-invariant-loop-field g l =
-    option_map (λ more. l.sends ++ more) (sends_said (map (λ x. x.now) (drop l.field-index l.fields))) ≡ sends_said (map (λ x. x.now) l.fields)

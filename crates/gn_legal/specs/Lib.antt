@@ -1,3 +1,0 @@
-pub mod Legality
-pub mod Made
-pub mod Same

@@ -1,0 +1,40 @@
+-- What the two halves of a link count, and when they are new.
+use Rattle.std.specs.Prelude.{◌≡◌, ◌+◌, ◌-◌, ◌^◌, ◌==◌, ◌&&◌, not, ℕ, Bool, false, if◌then◌else◌, min, List, [], take, Result, Ok, Err}
+
+-- a count after what may have happened; at the last u64 it stays
+abbrev pub counted : Bool → ℕ → ℕ
+counted happened count = if happened then min (count + 1) (2 ^ 64 - 1) else count
+
+-- the bytes that a read gave
+abbrev pub read_by : {E : Type 0} → Result ℕ E → List ℕ → List ℕ
+read_by (Ok n) buffer = take n buffer
+read_by (Err fault) buffer = []
+
+-- a read gave bytes
+abbrev pub gave_bytes : {E : Type 0} → Result ℕ E → Bool
+gave_bytes (Ok n) = not (n == 0)
+gave_bytes (Err fault) = false
+
+-- a read into a nonempty buffer gave none
+abbrev pub is_end : {E : Type 0} → Result ℕ E → ℕ → Bool
+is_end (Ok n) room = (n == 0) && not (room == 0)
+is_end (Err fault) room = false
+
+-- the bytes that a write took
+abbrev pub written_by : {E : Type 0} → Result ℕ E → List ℕ → List ℕ
+written_by (Ok n) piece = take n piece
+written_by (Err fault) piece = []
+
+-- a write of a nonempty piece took nothing
+abbrev pub is_stall : {E : Type 0} → Result ℕ E → ℕ → Bool
+is_stall (Ok n) length = (n == 0) && not (length == 0)
+is_stall (Err fault) length = false
+
+-- a reader that read nothing yet: its bytes, its failures, its reads that gave bytes, whether it ended
+abbrev pub IsNewReader : List ℕ → ℕ → ℕ → Bool → Type 0
+IsNewReader bytes failures pieces has_ended = (bytes ≡ []) × (failures ≡ 0) × (pieces ≡ 0) × (has_ended ≡ false)
+
+-- a writer that wrote nothing yet: its bytes, its failures, whether it is stuck, whether it is finished
+abbrev pub IsNewWriter : List ℕ → ℕ → Bool → Bool → Type 0
+IsNewWriter bytes failures is_stuck is_finished =
+    (bytes ≡ []) × (failures ≡ 0) × (is_stuck ≡ false) × (is_finished ≡ false)

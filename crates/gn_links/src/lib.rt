@@ -1,0 +1,16 @@
+//! What the threads of a run read from, write to and pass: links with their two halves, and gates.
+#![tactic(auto)]
+
+mod gate;
+mod link;
+mod memory;
+mod memory_reader;
+mod memory_writer;
+#[cfg(test)]
+mod tests;
+
+pub use gate::{Gate, NoGate};
+pub use link::{Link, LinkFault, LinkReader, LinkWriter};
+pub use memory::MemoryLink;
+pub use memory_reader::MemoryReader;
+pub use memory_writer::MemoryWriter;

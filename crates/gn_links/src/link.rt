@@ -1,0 +1,93 @@
+//! A link and its two halves.
+
+ghost use Rattle.std.specs.Prelude.{◌≡◌, ◌++◌, ◌||◌, ◌≤◌, [], ℕ, Bool, List, false, length, true, IfOk, is_err};
+ghost use Rattle.gn_shake.specs.declared.role.Role.{Role};
+ghost use Rattle.gn_links.specs.Halves.{counted, gave_bytes, is_end, is_stall, read_by, written_by, IsNewReader, IsNewWriter};
+
+use gn_shake::Role;
+use std::sync::Wait;
+
+/// A read or a write of a link failed, or its split.
+#[derive(Clone, Copy, Debug, PartialEq, Eq)]
+pub struct LinkFault;
+
+/// The half of a link that gives the bytes of its other side. Its counts go up to the last u64 and stay there.
+pub trait LinkReader: Drop {
+    /// Whether its bytes are known.
+    ghost is_known: { Bool };
+
+    /// The bytes that its reads gave so far, where they are known.
+    ghost bytes_read: { Self → List ℕ };
+
+    /// How many reads failed.
+    ghost failures: { Self → ℕ };
+
+    /// How many reads gave bytes.
+    ghost pieces: { Self → ℕ };
+
+    /// Whether a read into a nonempty buffer gave none.
+    ghost has_ended: { Self → Bool };
+
+    /// Waits for bytes, puts them at the beginning of the buffer, and gives their number. 0 into a nonempty buffer says
+    /// that there are no more.
+    fn read<R: Wait>(&mut self, rt: &R, buffer: &mut [u8]) -> Result<usize, LinkFault>
+        ensures within { IfOk result (λ n. n ≤ length buffer.old) }
+        ensures bytes { is_known ≡ true → bytes_read self.new ≡ bytes_read self.old ++ read_by result buffer.new }
+        ensures failures { failures self.new ≡ counted (is_err result) (failures self.old) }
+        ensures pieces { pieces self.new ≡ counted (gave_bytes result) (pieces self.old) }
+        ensures has_ended { has_ended self.new ≡ (has_ended self.old || is_end result (length buffer.old)) };
+}
+
+/// The half of a link that takes the bytes for its other side. Its count goes up to the last u64 and stays there.
+pub trait LinkWriter: Drop {
+    /// Whether its bytes are known.
+    ghost is_known: { Bool };
+
+    /// The bytes that it took so far, where they are known.
+    ghost bytes_written: { Self → List ℕ };
+
+    /// How many writes failed.
+    ghost failures: { Self → ℕ };
+
+    /// Whether a write of a nonempty piece took nothing.
+    ghost is_stuck: { Self → Bool };
+
+    /// Whether it was finished.
+    ghost is_finished: { Self → Bool };
+
+    /// Takes the first bytes of the piece, and gives their number.
+    fn write<R: Wait>(&mut self, rt: &R, piece: &[u8]) -> Result<usize, LinkFault>
+        ensures within { IfOk result (λ n. n ≤ length piece.now) }
+        ensures bytes { is_known ≡ true → bytes_written self.new ≡ bytes_written self.old ++ written_by result piece.now }
+        ensures failures { failures self.new ≡ counted (is_err result) (failures self.old) }
+        ensures is_stuck { is_stuck self.new ≡ (is_stuck self.old || is_stall result (length piece.now)) };
+
+    /// There is nothing more to write.
+    fn finish<R: Wait>(&mut self, rt: &R)
+        ensures is_finished { is_finished self.new ≡ true }
+        ensures bytes { bytes_written self.new ≡ bytes_written self.old }
+        ensures counts { (failures self.new ≡ failures self.old) × (is_stuck self.new ≡ is_stuck self.old) };
+}
+
+/// What a run reads from and writes to.
+pub trait Link: Drop {
+    type Reader: LinkReader;
+
+    type Writer: LinkWriter;
+
+    /// How it begins.
+    ghost role_of: { Self → Role };
+
+    /// How it begins.
+    fn role(&self) -> Role
+        ensures { result ≡ role_of self.now };
+
+    /// Its two halves, which are new.
+    fn split(self) -> Result<(Self::Reader, Self::Writer), LinkFault>
+    where
+        Self: Sized,
+        ensures reader { IfOk result (λ h. IsNewReader
+            (Self.Reader.bytes_read h.0) (Self.Reader.failures h.0) (Self.Reader.pieces h.0) (Self.Reader.has_ended h.0)) }
+        ensures writer { IfOk result (λ h. IsNewWriter
+            (Self.Writer.bytes_written h.1) (Self.Writer.failures h.1) (Self.Writer.is_stuck h.1) (Self.Writer.is_finished h.1)) };
+}

@@ -1,0 +1,140 @@
+//! The reading half of a link over memory.
+
+ghost use Rattle.std.specs.Prelude.{◌≡◌, ◌++◌, ◌||◌, ◌<◌, ◌≤◌, false, length, take, true, IfOk, is_err};
+ghost use Rattle.gn_links.specs.Halves.{counted, gave_bytes, is_end, read_by};
+ghost use Rattle.gn_links.specs.Memory.{is_failing, next_call};
+
+use crate::link::{LinkFault, LinkReader};
+use std::alloc::{Allocator, Global};
+use std::marker::Model;
+use std::sync::Wait;
+
+/// Gives the bytes of a memory link, in order.
+#[derive(Drop)]
+pub struct MemoryReader<A: Allocator = Global> {
+    bytes: Vec<u8, A>,
+    given: usize,
+    piece: usize,
+    fails_from: Option<u32>,
+    calls: u32,
+    failures: u64,
+    pieces: u64,
+    has_ended: bool,
+}
+
+impl<A: Allocator> Model for MemoryReader<A> {
+    ghost use Rattle.std.specs.Prelude.{◌<◌, ◌≤◌, vec_len};
+    ghost use Rattle.gn_links.specs.Memory.{MemoryReading};
+
+    ghost Value = { MemoryReading };
+
+    ghost view = { λ r. record {
+      bytes = r.bytes.items;
+      given = r.given;
+      piece = r.piece;
+      fails_from = r.fails_from;
+      calls = r.calls;
+      failures = r.failures;
+      pieces = r.pieces;
+      has_ended = r.has_ended;
+    } };
+
+    ghost invariant = { λ r. (r.given ≤ vec_len r.bytes) × (0 < r.piece) };
+}
+
+impl<A: Allocator> MemoryReader<A> {
+    pub(crate) fn new(bytes: Vec<u8, A>, piece: usize, fails_from: Option<u32>) -> Self
+        requires { 0 < piece }
+        ensures { result ≡ record {
+          bytes = bytes.items;
+          given = 0;
+          piece = piece;
+          fails_from = fails_from;
+          calls = 0;
+          failures = 0;
+          pieces = 0;
+          has_ended = false;
+        } }
+    {
+        MemoryReader {
+            bytes,
+            given: 0,
+            piece,
+            fails_from,
+            calls: 0,
+            failures: 0,
+            pieces: 0,
+            has_ended: false,
+        }
+    }
+
+    /// Gives the next bytes, which are none only where none are left or the buffer is empty.
+    fn give(&mut self, buffer: &mut [u8]) -> usize
+        ensures within { (result ≤ length buffer.old) × (result ≤ self.old.piece) }
+        ensures bytes { take self.new.given self.new.bytes ≡ take self.old.given self.old.bytes ++ take result buffer.new }
+        ensures end { result ≡ 0 → 0 < length buffer.old → self.old.given ≡ length self.old.bytes }
+        ensures same { self.new ≡ record self.old { given = self.new.given } }
+    {
+        let from = self.given;
+        let n = buffer.len().min(self.piece).min(self.bytes.len() - from);
+        copy_to(buffer, &self.bytes[from..from + n]);
+        self.given = from + n;
+        n
+    }
+}
+
+impl<A: Allocator> LinkReader for MemoryReader<A> {
+    ghost is_known = { true };
+
+    ghost bytes_read = { λ r. take r.given r.bytes };
+
+    ghost failures = { λ r. r.failures };
+
+    ghost pieces = { λ r. r.pieces };
+
+    ghost has_ended = { λ r. r.has_ended };
+
+    fn read<R: Wait>(&mut self, _rt: &R, buffer: &mut [u8]) -> Result<usize, LinkFault>
+        ensures within { IfOk result (λ n. (n ≤ length buffer.old) × (n ≤ self.old.piece)) }
+        ensures bytes { take self.new.given self.new.bytes ≡ take self.old.given self.old.bytes ++ read_by result buffer.new }
+        ensures end { IfOk result (λ n. n ≡ 0 → 0 < length buffer.old → self.old.given ≡ length self.old.bytes) }
+        ensures fails { is_err result ≡ is_failing self.old.fails_from (next_call self.old.calls) }
+        ensures calls { self.new.calls ≡ next_call self.old.calls }
+        ensures failures { self.new.failures ≡ counted (is_err result) self.old.failures }
+        ensures pieces { self.new.pieces ≡ counted (gave_bytes result) self.old.pieces }
+        ensures has_ended { self.new.has_ended ≡ (self.old.has_ended || is_end result (length buffer.old)) }
+        ensures same { (self.new.bytes ≡ self.old.bytes) × (self.new.piece ≡ self.old.piece)
+            × (self.new.fails_from ≡ self.old.fails_from) }
+    {
+        self.calls = self.calls.saturating_add(1);
+        if is_failing(self.fails_from, self.calls) {
+            self.failures = self.failures.saturating_add(1);
+            return Err(LinkFault);
+        }
+        let n = self.give(buffer);
+        if n > 0 {
+            self.pieces = self.pieces.saturating_add(1);
+        } else if !buffer.is_empty() {
+            self.has_ended = true;
+        }
+        Ok(n)
+    }
+}
+
+/// Whether a call of this number fails.
+pub(crate) fn is_failing(fails_from: Option<u32>, call: u32) -> bool
+    ensures { result ≡ is_failing fails_from call }
+{
+    match fails_from {
+        None => false,
+        Some(from) => from <= call,
+    }
+}
+
+/// Copies a piece to the beginning of a buffer.
+fn copy_to(buffer: &mut [u8], piece: &[u8])
+    requires { length piece.now ≤ length buffer.old }
+    ensures { take (length piece.now) buffer.new ≡ piece.now }
+{
+    buffer[..piece.len()].copy_from_slice(piece);
+}

@@ -1,0 +1,109 @@
+//! The writing half of a link over memory.
+
+ghost use Rattle.std.specs.Prelude.{◌≡◌, ◌+◌, ◌++◌, ◌⊎◌, ◌<◌, ◌≤◌, [], false, length, true, vec_capacity, IfOk, OnErr, OnOk, is_err};
+ghost use Rattle.gn_links.specs.Halves.{counted, is_stall, written_by};
+ghost use Rattle.gn_links.specs.Memory.{is_failing, next_call};
+
+use crate::link::{LinkFault, LinkWriter};
+use crate::memory_reader::is_failing;
+use std::alloc::{Allocator, Global};
+use std::marker::Model;
+use std::sync::Wait;
+
+/// Collects the bytes that a memory link is given.
+#[derive(Drop)]
+pub struct MemoryWriter<A: Allocator = Global> {
+    bytes: Vec<u8, A>,
+    fails_from: Option<u32>,
+    calls: u32,
+    failures: u64,
+    is_finished: bool,
+}
+
+impl<A: Allocator> Model for MemoryWriter<A> {
+    ghost use Rattle.std.specs.Prelude.{vec_capacity};
+    ghost use Rattle.gn_links.specs.Memory.{MemoryWriting};
+
+    ghost Value = { MemoryWriting };
+
+    ghost view = { λ w. record {
+      bytes = w.bytes.items;
+      room = vec_capacity w.bytes;
+      fails_from = w.fails_from;
+      calls = w.calls;
+      failures = w.failures;
+      is_finished = w.is_finished;
+    } };
+}
+
+impl<A: Allocator> MemoryWriter<A> {
+    pub(crate) fn new(alloc: A, fails_from: Option<u32>) -> Self
+        ensures { result ≡ record {
+          bytes = [];
+          room = 0;
+          fails_from = fails_from;
+          calls = 0;
+          failures = 0;
+          is_finished = false;
+        } }
+    {
+        MemoryWriter {
+            bytes: Vec::new(alloc),
+            fails_from,
+            calls: 0,
+            failures: 0,
+            is_finished: false,
+        }
+    }
+
+    /// What was written.
+    pub fn bytes(&self) -> &[u8]
+        ensures { result.now ≡ self.now.bytes }
+    {
+        self.bytes.as_slice()
+    }
+
+    /// What was written, for keeps.
+    pub fn into_bytes(self) -> Vec<u8, A>
+        ensures { result.items ≡ self.bytes }
+    {
+        self.bytes
+    }
+}
+
+impl<A: Allocator> LinkWriter for MemoryWriter<A> {
+    ghost is_known = { true };
+
+    ghost bytes_written = { λ w. w.bytes };
+
+    ghost failures = { λ w. w.failures };
+
+    ghost is_stuck = { λ _. false };
+
+    ghost is_finished = { λ w. w.is_finished };
+
+    /// Takes all of the piece. Fails from the write on that was named, and where memory is refused.
+    fn write<R: Wait>(&mut self, _rt: &R, piece: &[u8]) -> Result<usize, LinkFault>
+        ensures all { IfOk result (λ n. n ≡ length piece.now) }
+        ensures within { IfOk result (λ n. n ≤ length piece.now) }
+        ensures bytes { self.new.bytes ≡ self.old.bytes ++ written_by result piece.now }
+        ensures ok { OnOk result (is_failing self.old.fails_from (next_call self.old.calls) ≡ false) }
+        ensures err { OnErr result ((is_failing self.old.fails_from (next_call self.old.calls) ≡ true)
+            ⊎ (self.old.room < length self.old.bytes + length piece.now)) }
+        ensures calls { self.new.calls ≡ next_call self.old.calls }
+        ensures failures { self.new.failures ≡ counted (is_err result) self.old.failures }
+        ensures is_stuck { false ≡ is_stall result (length piece.now) }
+        ensures same { (self.new.fails_from ≡ self.old.fails_from) × (self.new.is_finished ≡ self.old.is_finished) }
+    {
+        self.calls = self.calls.saturating_add(1);
+        if is_failing(self.fails_from, self.calls) || self.bytes.extend_from_slice(piece).is_err() {
+            self.failures = self.failures.saturating_add(1);
+            return Err(LinkFault);
+        }
+        Ok(piece.len())
+    }
+
+    fn finish<R: Wait>(&mut self, _rt: &R) {
+        self.is_finished = true;
+    }
+}

@@ -1,4 +1,0 @@
-pub mod Addresses
-pub mod Bytes
-pub mod Lines
-pub mod Numbers

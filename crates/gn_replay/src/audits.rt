@@ -1,0 +1,36 @@
+//! A history audited from stream to stream.
+
+ghost use Rattle.std.specs.Prelude.{◌≤◌, length, IfOk, IfErr, IfSome, IsOk, OnOk};
+ghost use Rattle.gn_replay.specs.Faults.{IsReplayFault};
+ghost use Rattle.gn_capture.specs.Histories.{history_of};
+ghost use Rattle.gn_io.specs.Input.{input_limit};
+ghost use Rattle.gn_replay.specs.Audits.{AppendsVerdict, HasStopped};
+
+use crate::fault::ReplayFault;
+use crate::verdict::judge_text;
+use gn_io::{Sink, Source, read_input, write_all};
+use gn_rules::{Legality, RouterCore};
+use std::alloc::Allocator;
+
+/// Reads a history's text whole, asks a new router for each of its steps again, and writes one line: `legal COUNT`, or
+/// `wrong INDEX` with the index of the first step, counted from 0, at which the router does otherwise. Nothing is written
+/// before all is decided.
+pub fn audit<A: Allocator + Copy, C: RouterCore<A> + Drop, S: Source, W: Sink>(
+    alloc: A,
+    source: &mut S,
+    sink: &mut W,
+) -> Result<Legality, ReplayFault>
+    ensures short { OnOk result (IfSome (S.rest source.old) (λ text. length text ≤ input_limit)) }
+    ensures lawful { OnOk result (IfSome (S.rest source.old) (λ text. IsOk (history_of {A = A} text))) }
+    ensures told { IfOk result (λ legality. IfSome (S.rest source.old) (λ text.
+        AppendsVerdict A text legality (W.told sink.old) (W.told sink.new))) }
+    ensures stopped { IfErr result (λ fault. HasStopped A fault (S.rest source.old) (W.told sink.old) (W.told sink.new)) }
+    ensures fault { IfErr result (λ fault. IsReplayFault fault (history_of {A = A}) (S.rest source.old)
+        (S.failures source.old) (S.failures source.new) (S.given source.old) (S.given source.new)
+        (W.failures sink.old) (W.failures sink.new) (W.stalls sink.old) (W.stalls sink.new)) }
+{
+    let input = read_input(alloc, source)?;
+    let (legality, line) = judge_text::<A, C>(alloc, &input)?;
+    write_all(sink, &line)?;
+    Ok(legality)
+}

@@ -1,0 +1,75 @@
+-- What the rules answer fits the event.
+use Rattle.std.proofs.Common.{◌≡◌, ◌+◌, ◌==◌, ℕ, Bool, true, false, cond, not, List, [], ◌∷◌, length, Option, Some, None, Result, Ok, Err, refl, sym, ap, ◌∙◌}
+use Rattle.gn_wire.specs.Packet.{Packet}
+use Rattle.gn_wire.specs.Keys.{is_same_packet, key_of}
+use Rattle.gn_rules.specs.declared.config.Config.{Config}
+use Rattle.gn_rules.specs.declared.event.Event.{Event}
+use Rattle.gn_rules.specs.declared.event.Event.TheVariants.{Connect, Close, Admit, Route, Take, Originate}
+use Rattle.gn_rules.specs.declared.receipt.Step.{Step}
+use Rattle.gn_rules.specs.declared.refusal.Refusal.{Refusal}
+use Rattle.gn_rules.specs.declared.refusal.Refusal.TheVariants.{HistoryFull, NotLive, NoTicket, Strange, NothingWaiting, BadOrigin, Remembered, NoMemory}
+use Rattle.gn_rules.specs.declared.reply.Decision.{Decision}
+use Rattle.gn_rules.specs.declared.reply.Decision.TheVariants.{Drop}
+use Rattle.gn_rules.specs.declared.reply.Reply.{Reply}
+use Rattle.gn_rules.specs.declared.reply.Reply.TheVariants.{Connected, TooMany, Closed, Admitted, Busy, Sent}
+use Rattle.gn_rules.specs.Answer.{event_answer, first_taken, flight_answer, checked_flight_answer, decision_reply, route_reply, may_originate, Finds}
+use Rattle.gn_rules.specs.Decision.{decide}
+use Rattle.gn_rules.specs.Fits.{is_fit, replies, AnswersFit, CheckedAnswersFit}
+use Rattle.gn_rules.specs.Flight.{Admission, in_flight, is_at_threshold, tickets}
+use Rattle.gn_rules.specs.Live.{live, connections, live_connections}
+use Rattle.gn_rules.specs.Output.{out}
+use Rattle.gn_rules.specs.Sending.{fanout}
+use Rattle.gn_rules.specs.Sights.{is_remembered}
+
+-- one of two answers that fit
+either_fits : {A : Type 0} (event : Event A) (b : Bool) (x y : Result (Reply A) Refusal) → is_fit event x ≡ true → is_fit event y ≡ true → is_fit event (cond b x y) ≡ true
+either_fits event true x y first second = first
+either_fits event false x y first second = second
+
+decision_fits : {A : Type 0} (s : Config) (past : List (Step A)) (t : ℕ) (a : Admission) (decision : Decision) → replies {A = A} (Route t) (decision_reply s past a decision) ≡ true
+decision_fits s past t a (Drop reason) = refl
+decision_fits s past t a decision = refl
+
+flight_fits : {A : Type 0} (s : Config) (past : List (Step A)) (t : ℕ) (found : Option Admission) → is_fit {A = A} (Route t) (flight_answer s past found) ≡ true
+flight_fits s past t None = refl
+flight_fits s past t (Some a) = decision_fits s past t a (decide s past a)
+
+checked_flight_fits : {A : Type 0} (s : Config) (past : List (Step A)) (t : ℕ) (d : Packet) (found : Option Admission) → is_fit {A = A} (Route t) (checked_flight_answer s past d found) ≡ true
+checked_flight_fits s past t d None = refl
+checked_flight_fits s past t d (Some a) =
+    either_fits (Route t) (is_same_packet d a.packet) (Ok (route_reply s past a)) (Err Strange) (decision_fits s past t a (decide s past a)) refl
+
+first_fits : (A : Type 0) (c : ℕ) (packets : List Packet) → is_fit {A = A} (Take c) (first_taken packets) ≡ true
+first_fits A c [] = refl
+first_fits A c (p ∷ ps) = refl
+
+event_fits : {A : Type 0} (s : Config) (past : List (Step A)) (event : Event A) → is_fit event (event_answer s past event) ≡ true
+event_fits s past Connect = either_fits Connect (length (live_connections past) == s.neighbours) (Ok TooMany) (Ok (Connected (1 + length (connections past)))) refl refl
+event_fits s past (Close c) = either_fits (Close c) (not (live past c)) (Err NotLive) (Ok (Closed (length (out past c)))) refl refl
+event_fits s past (Admit c d) =
+    either_fits (Admit c d) (not (live past c)) (Err NotLive) (cond (is_at_threshold s past) (Ok Busy) (Ok (Admitted (length (tickets past))))) refl
+    (either_fits (Admit c d) (is_at_threshold s past) (Ok Busy) (Ok (Admitted (length (tickets past)))) refl refl)
+event_fits s past (Route t) = flight_fits s past t (in_flight past t)
+event_fits {A} s past (Take c) = either_fits (Take c) (not (live past c)) (Err NotLive) (first_taken (out past c)) refl (first_fits A c (out past c))
+event_fits s past (Originate d) =
+    either_fits (Originate d) (not (may_originate d)) (Err BadOrigin) (cond (is_remembered s past (key_of d)) (Err Remembered) (Ok (Sent (fanout s past 0 d)))) refl
+    (either_fits (Originate d) (is_remembered s past (key_of d)) (Err Remembered) (Ok (Sent (fanout s past 0 d))) refl refl)
+
+pub answers_fit : (A : Type 0) → AnswersFit A
+answers_fit A s past event = either_fits event (length past == s.steps) (Err HistoryFull) (event_answer s past event) refl (event_fits s past event)
+
+pub checked_answers_fit : (A : Type 0) → CheckedAnswersFit A
+checked_answers_fit A s past t d =
+    either_fits (Route t) (length past == s.steps) (Err HistoryFull) (checked_flight_answer s past d (in_flight past t)) refl (checked_flight_fits s past t d (in_flight past t))
+
+-- what a router finds fits where the rules' answer does
+pub found_fits : {A : Type 0} (event : Event A) (found rules : Result (Reply A) Refusal) → Finds found rules → is_fit event rules ≡ true → is_fit event found ≡ true
+found_fits event (Ok reply) rules is fit = ap (is_fit event) (sym is) ∙ fit
+found_fits event (Err HistoryFull) rules is fit = refl
+found_fits event (Err NotLive) rules is fit = ap (is_fit event) (sym is) ∙ fit
+found_fits event (Err NoTicket) rules is fit = ap (is_fit event) (sym is) ∙ fit
+found_fits event (Err Strange) rules is fit = ap (is_fit event) (sym is) ∙ fit
+found_fits event (Err NothingWaiting) rules is fit = ap (is_fit event) (sym is) ∙ fit
+found_fits event (Err BadOrigin) rules is fit = ap (is_fit event) (sym is) ∙ fit
+found_fits event (Err Remembered) rules is fit = ap (is_fit event) (sym is) ∙ fit
+found_fits event (Err NoMemory) rules is fit = refl

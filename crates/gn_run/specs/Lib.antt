@@ -1,0 +1,5 @@
+pub mod Actors
+pub mod Closes
+pub mod Ends
+pub mod Flaw
+pub mod Survey

@@ -1,0 +1,14 @@
+//! What a run of many threads did: its report, and how the report is compared with its own history.
+#![tactic(auto)]
+
+mod closes;
+mod compared;
+mod ends;
+mod events;
+mod own;
+mod report;
+mod survey;
+#[cfg(test)]
+mod tests;
+
+pub use report::{LinkReport, Report};

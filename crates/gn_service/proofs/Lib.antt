@@ -1,0 +1,3 @@
+pub mod ActorLemmas
+pub mod StepLemmas
+pub mod WakingLemmas

@@ -1,0 +1,18 @@
+//! What the threads of a run share: the router under one lock, the book of its steps, and what is known of each link.
+#![tactic(auto)]
+
+mod actor;
+mod answered;
+mod hub;
+mod mark;
+mod next;
+mod opening;
+mod service;
+
+pub use actor::Actor;
+pub use gn_shake::Role;
+pub use hub::Hub;
+pub use mark::{Door, Mark};
+pub use next::Next;
+pub use opening::ServiceFault;
+pub use service::Service;

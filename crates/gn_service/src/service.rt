@@ -1,0 +1,154 @@
+//! The lock that the threads of a run take.
+
+ghost use Rattle.std.specs.Prelude.{◌≡◌, true, false, IfOk, IfErr, MatchResult};
+ghost use Rattle.gn_rules.specs.declared.event.Event.TheVariants.{Connect, Route};
+ghost use Rattle.gn_rules.specs.Fits.{refuses};
+ghost use Rattle.gn_service.specs.Receipts.{HasReceipt, HasTaken, MayHaveClosed, is_stop};
+
+use crate::actor::Actor;
+use crate::answered::Answered;
+use crate::hub::Hub;
+use crate::mark::Door;
+use crate::next::Next;
+use gn_payload::Checked;
+use gn_rules::{ConnId, Event, Refusal, RouterCore, Ticket};
+use std::alloc::{Allocator, Global};
+use std::sync::ledger::Ledger;
+use std::sync::{Condvar, Mutex, Wait};
+
+/// The hub under one lock, and the condition variable that is notified where a change may have brought what a thread waits
+/// for: a door, a packet, the end of a connection, the closing of the run, or its failure.
+#[derive(Drop)]
+pub struct Service<C: RouterCore<A> + Drop, L: Ledger, A: Allocator + Copy = Global> {
+    hub: Mutex<Hub<C, L, A>>,
+    changed: Condvar,
+}
+
+impl<C: RouterCore<A> + Drop, L: Ledger, A: Allocator + Copy> Service<C, L, A> {
+    /// A hub under a lock of its own.
+    pub(crate) fn over(hub: Hub<C, L, A>) -> Self {
+        Service {
+            hub: Mutex::new(hub),
+            changed: Condvar::new(),
+        }
+    }
+
+    /// An actor's event.
+    pub fn call<R: Wait>(
+        &self,
+        rt: &R,
+        me: &mut Actor<L, A>,
+        event: &Event<A>,
+    ) -> Result<(), Refusal>
+        ensures { MatchResult result
+            (λ _. HasReceipt event.now me.old me.new)
+            (λ refusal. (refuses event.now refusal ≡ true) × (me.new ≡ me.old)) }
+    {
+        let Answered { answer, wakes } = self.hub.lock(rt).call_answered(me, event);
+        self.wake(wakes);
+        answer
+    }
+
+    /// An actor's Route, with the descriptor's payload checked beforehand.
+    pub fn route<R: Wait>(
+        &self,
+        rt: &R,
+        me: &mut Actor<L, A>,
+        ticket: Ticket,
+        checked: &Checked<A>,
+    ) -> Result<(), Refusal>
+        ensures { MatchResult result
+            (λ _. HasReceipt (Route ticket) me.old me.new)
+            (λ refusal. (refuses {A = A} (Route ticket) refusal ≡ true) × (me.new ≡ me.old)) }
+    {
+        let Answered { answer, wakes } = self.hub.lock(rt).route_answered(me, ticket, checked);
+        self.wake(wakes);
+        answer
+    }
+
+    /// The Connect of the reader of a link, which opens or shuts its door.
+    pub fn connect<R: Wait>(&self, rt: &R, me: &mut Actor<L, A>, link: u32) -> Result<(), Refusal>
+        requires { me.old.number ≡ link }
+        ensures { MatchResult result
+            (λ _. HasReceipt Connect me.old me.new)
+            (λ refusal. (refuses {A = A} Connect refusal ≡ true) × (me.new ≡ me.old)) }
+    {
+        let Answered { answer, wakes } = self.hub.lock(rt).connect_answered(me, link);
+        self.wake(wakes);
+        answer
+    }
+
+    /// Waits until the connection has a packet for its writer, or is over: true for a packet, which is in the last receipt,
+    /// false where it is over, also where this call closed it.
+    pub fn next_out<R: Wait>(
+        &self,
+        rt: &R,
+        me: &mut Actor<L, A>,
+        c: ConnId,
+    ) -> Result<bool, Refusal>
+        ensures packet { IfOk result (λ found. found ≡ true → HasTaken c me.old me.new) }
+        ensures over { IfOk result (λ found. found ≡ false → MayHaveClosed c me.old me.new) }
+        ensures refused { IfErr result (λ refusal. (is_stop refusal ≡ true) × (me.new ≡ me.old)) }
+    {
+        let mut hub = self.hub.lock(rt);
+        for _ in rt.forever() {
+            let Answered { answer, wakes } = hub.next_answered(me, c);
+            self.wake(wakes);
+            match answer? {
+                Next::Packet => return Ok(true),
+                Next::Over => return Ok(false),
+                Next::Later => {}
+            }
+            hub = self.changed.wait(rt, hub);
+        }
+        unreachable!()
+    }
+
+    /// Waits until the door of the link is met or shut, or the run has failed. The connection, where it is met.
+    pub fn meet<R: Wait>(&self, rt: &R, link: u32) -> Option<ConnId> {
+        let mut hub = self.hub.lock(rt);
+        for _ in rt.forever() {
+            match hub.door(link) {
+                Door::Met(c) => return Some(c),
+                Door::Shut => return None,
+                Door::Unmet => {}
+            }
+            if hub.failed() {
+                return None;
+            }
+            hub = self.changed.wait(rt, hub);
+        }
+        unreachable!()
+    }
+
+    /// The link won't connect.
+    pub fn shut<R: Wait>(&self, rt: &R, link: u32) {
+        self.hub.lock(rt).shut(link);
+        self.changed.notify_all();
+    }
+
+    /// The reader of the link is done.
+    pub fn reader_done<R: Wait>(&self, rt: &R, link: u32) {
+        self.hub.lock(rt).reader_done(link);
+        self.changed.notify_all();
+    }
+
+    /// The run has failed.
+    pub fn fail<R: Wait>(&self, rt: &R) {
+        self.hub.lock(rt).fail();
+        self.changed.notify_all();
+    }
+
+    /// Wakes the threads that wait, where they have to look again.
+    fn wake(&self, wakes: bool) {
+        if wakes {
+            self.changed.notify_all();
+        }
+    }
+
+    /// The hub, without its lock.
+    pub fn into_hub(self) -> Hub<C, L, A> {
+        let Service { hub, changed: _ } = self;
+        hub.into_inner()
+    }
+}

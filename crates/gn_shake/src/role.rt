@@ -1,0 +1,37 @@
+//! The role of a link in the greeting.
+
+use crate::texts::{consent, request};
+
+/// How a link begins (Gnutella v0.4, "Protocol definition").
+#[derive(Clone, Copy, Debug, PartialEq, Eq)]
+pub enum Role {
+    /// It awaits a request, and answers with its consent.
+    Accepting,
+    /// It sends a request, and awaits the consent.
+    Calling,
+    /// No greeting is exchanged.
+    Plain,
+}
+
+impl Role {
+    ghost use Rattle.std.specs.Prelude.{◌≡◌};
+    ghost use Rattle.gn_shake.specs.Roles.{greeting_of, is_calling};
+
+    /// Whether the link calls.
+    pub fn is_calling(self) -> bool
+        ensures { result ≡ is_calling self }
+    {
+        matches!(self, Role::Calling)
+    }
+
+    /// The text that the link awaits before the descriptors: empty on a plain link.
+    pub fn greeting(self) -> &'static [u8]
+        ensures { result.now ≡ greeting_of self }
+    {
+        match self {
+            Role::Accepting => request(),
+            Role::Calling => consent(),
+            Role::Plain => &[],
+        }
+    }
+}

@@ -1,0 +1,24 @@
+//! IP addresses in dotted decimal.
+
+ghost use Rattle.std.specs.Prelude.{◌≡◌, map, IfOk};
+ghost use Rattle.gn_text.specs.Addresses.{ip_of, ip_of_parts};
+
+use crate::line::parts;
+use crate::numbers::number_u8;
+use std::alloc::{AllocError, Allocator};
+
+fn ip_of_parts(parts: &[&[u8]]) -> Option<[u8; 4]>
+    ensures { result ≡ ip_of_parts (map (λ x. x.now) parts.now) }
+{
+    match parts {
+        [a, b, c, d] => Some([number_u8(a)?, number_u8(b)?, number_u8(c)?, number_u8(d)?]),
+        _ => None,
+    }
+}
+
+/// The address that four numbers joined by dots say, its first byte first. An `Err` is want of memory.
+pub fn ip<A: Allocator + Copy>(alloc: A, field: &[u8]) -> Result<Option<[u8; 4]>, AllocError>
+    ensures { IfOk result (λ found. found ≡ ip_of field.now) }
+{
+    Ok(ip_of_parts(&parts(alloc, field, b'.')?))
+}

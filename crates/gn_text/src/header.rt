@@ -1,0 +1,78 @@
+//! The three lines that a text begins with.
+
+ghost use Rattle.std.specs.Prelude.{◌≡◌, map};
+ghost use Rattle.gn_text.specs.Faults.{IsRead, refused_at};
+ghost use Rattle.gn_text.specs.Header.{config_from, header_of, header_seen, own_from};
+ghost use Rattle.gn_text.specs.Said.{line_seen};
+ghost use Rattle.gn_text.specs.Settings.{numbers_of};
+
+use crate::fault::{CaptureFault, CaptureRefusal, Cause};
+use crate::line::{fields, is_word};
+use crate::said::SaidLine;
+use crate::settings::{read_config, read_own};
+use gn_rules::Config;
+use std::alloc::Allocator;
+
+fn refused(line: u64, cause: Cause) -> CaptureRefusal
+    ensures { result ≡ refused_at line cause }
+{
+    CaptureRefusal::Fault(CaptureFault { line, cause })
+}
+
+fn read_own_line<'a, 'b, A: Allocator + Copy>(
+    alloc: A,
+    mut config: Config,
+    lines: &'b [SaidLine<'a>],
+    behind: u64,
+) -> Result<(Config, &'b [SaidLine<'a>]), CaptureRefusal>
+    ensures { IsRead header_seen result (own_from (numbers_of config) behind (map line_seen lines.now)) }
+{
+    match lines {
+        [] => Err(refused(behind, Cause::Own)),
+        [(number, line), more @ ..] => match read_own(alloc, &fields(alloc, line)?)? {
+            Some(own) => {
+                config.own = own;
+                Ok((config, more))
+            }
+            None => Err(refused(*number, Cause::Own)),
+        },
+    }
+}
+
+fn read_config_line<'a, 'b, A: Allocator + Copy>(
+    alloc: A,
+    lines: &'b [SaidLine<'a>],
+    behind: u64,
+) -> Result<(Config, &'b [SaidLine<'a>]), CaptureRefusal>
+    ensures { IsRead header_seen result (config_from behind (map line_seen lines.now)) }
+{
+    match lines {
+        [] => Err(refused(behind, Cause::Config)),
+        [(number, line), more @ ..] => match read_config(&fields(alloc, line)?) {
+            Some(config) => read_own_line(alloc, config, more, behind),
+            None => Err(refused(*number, Cause::Config)),
+        },
+    }
+}
+
+/// The configuration that a text begins with, and the lines behind it: the first line is the title, letter by letter, the
+/// second a `config` line, the third an `own` line. The lines are those that aren't skipped; `behind` is the number of the
+/// line behind the last, where a missing one is at fault.
+pub fn read_header<'a, 'b, A: Allocator + Copy>(
+    alloc: A,
+    title: &[u8],
+    lines: &'b [SaidLine<'a>],
+    behind: u64,
+) -> Result<(Config, &'b [SaidLine<'a>]), CaptureRefusal>
+    ensures { IsRead header_seen result (header_of title.now behind (map line_seen lines.now)) }
+{
+    match lines {
+        [] => Err(refused(behind, Cause::Header)),
+        [(number, line), more @ ..] => {
+            if !is_word(line, title) {
+                return Err(refused(*number, Cause::Header));
+            }
+            read_config_line(alloc, more, behind)
+        }
+    }
+}
