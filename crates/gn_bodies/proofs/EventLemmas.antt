@@ -163,3 +163,7 @@ first_connection me us last (index, reply, fits, got) none is =
 pub first_events : {A : Type 0} (me us : ActorState A) → HasReceipt Connect me us → me.receipts ≡ [] → link_events us ≡ Connect ∷ []
 first_events me us (index, reply, fits, got) none =
     link_events-receipt me us (receipt index Connect reply) got ∙ ap (λ w. link_events_in w ++ Connect ∷ []) none
+
+pub first_alone : {A : Type 0} (me us : ActorState A) → HasReceipt Connect me us → me.receipts ≡ [] → events_of us ≡ link_events us
+first_alone me us (index, reply, fits, got) none =
+    events-receipt me us (receipt index Connect reply) got ∙ ap (λ w. events_of (record me { receipts = w }) ++ Connect ∷ []) none ∙ sym (first_events me us (index, reply, fits, got) none)

@@ -17,7 +17,7 @@ use Rattle.gn_bodies.specs.declared.piece.Piece.{Piece}
 use Rattle.gn_bodies.specs.declared.piece.Piece.TheVariants as piece
 use Rattle.gn_bodies.specs.declared.piece.Reading.{Reading}
 use Rattle.gn_bodies.specs.declared.piece.Reading.TheVariants as reading
-use Rattle.gn_bodies.specs.Events.{link_events, connection_of, offered_events}
+use Rattle.gn_bodies.specs.Events.{events_of, link_events, connection_of, offered_events}
 use Rattle.gn_bodies.specs.Offers.{offers, fault}
 use Rattle.gn_bodies.specs.ReaderRows.{UnconnectedRow}
 
@@ -88,6 +88,12 @@ abbrev pub HasConnectionAfter : {A : Type 0} → Piece A → ActorState A → Ty
 HasConnectionAfter (piece.More r) me = HasConnection r me
 HasConnectionAfter (piece.End made end) me = connection_of me ≡ made
 HasConnectionAfter (piece.Stop f) me = ⊤
+
+-- where a piece ends a reader that didn't connect, it routed nothing
+abbrev pub RoutesNoneAlone : {A : Type 0} → Piece A → ActorState A → Type 0
+RoutesNoneAlone (piece.More r) me = ⊤
+RoutesNoneAlone (piece.End made end) me = made ≡ None → events_of me ≡ link_events me
+RoutesNoneAlone (piece.Stop f) me = ⊤
 
 -- whether an end is one that bytes bring
 abbrev pub is_of_bytes : ReaderEnd → Bool

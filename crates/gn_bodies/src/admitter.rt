@@ -5,7 +5,7 @@ ghost use Rattle.gn_rules.specs.declared.event.Event.TheVariants.{Admit, Connect
 ghost use Rattle.gn_stage.specs.Jobs.{Queued};
 ghost use Rattle.gn_bodies.specs.declared.piece.Halt.TheVariants as halt;
 ghost use Rattle.gn_bodies.specs.Admitting.{HasSameNumbers, IsOwed, IsSettled, KeepsConnection, StaysSettled};
-ghost use Rattle.gn_bodies.specs.Events.{connection_of, link_events};
+ghost use Rattle.gn_bodies.specs.Events.{connection_of, events_of, link_events};
 ghost use Rattle.gn_bodies.specs.ReaderRows.{WithClose};
 
 use crate::asking::{admit, close, connect, route};
@@ -50,6 +50,7 @@ impl<S: Site, L: Ledger, A: Allocator + Copy> Admitter<S, L, A> {
         ensures numbers { HasSameNumbers self.old self.new }
         ensures connection { IfOk result (λ made. connection_of self.new.actor ≡ made) }
         ensures events { OnOk result (link_events self.new.actor ≡ Connect ∷ []) }
+        ensures alone { OnOk result (events_of self.new.actor ≡ link_events self.new.actor) }
         ensures settled { StaysSettled self.old self.new }
     {
         connect(rt, service, &mut self.actor, link)

@@ -6,7 +6,7 @@ ghost use Rattle.gn_wire.specs.Packet.{Packet};
 ghost use Rattle.gn_rules.specs.Fits.{refuses};
 ghost use Rattle.gn_service.specs.Receipts.{HasReceipt};
 ghost use Rattle.gn_bodies.specs.Admitting.{HasAdmitted};
-ghost use Rattle.gn_bodies.specs.Events.{connection_of, link_events, packets_of, MayClose};
+ghost use Rattle.gn_bodies.specs.Events.{connection_of, events_of, link_events, packets_of, MayClose};
 ghost use Rattle.gn_bodies.specs.Jobs.{jobs_left};
 
 use crate::ends::BodyFault;
@@ -78,6 +78,7 @@ pub(crate) fn connect<C: RouterCore<A> + Drop, L: Ledger, A: Allocator + Copy, R
     ensures number { me.new.number ≡ me.old.number }
     ensures connection { IfOk result (λ made. connection_of me.new ≡ made) }
     ensures events { OnOk result (link_events me.new ≡ Connect ∷ []) }
+    ensures alone { OnOk result (events_of me.new ≡ link_events me.new) }
     ensures jobs { OnOk result (jobs_left me.new.receipts ≡ []) }
     ensures err { OnErr result (me.new ≡ me.old) }
 {

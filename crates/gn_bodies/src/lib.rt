@@ -10,6 +10,8 @@ mod ends;
 mod piece;
 mod reader;
 mod reading;
+#[cfg(test)]
+mod tests;
 mod worker;
 mod writer;
 

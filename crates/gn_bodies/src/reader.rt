@@ -1,12 +1,12 @@
 //! The body of a reader.
 
-ghost use Rattle.std.specs.Prelude.{◌≡◌, ◌++◌, [], List, ℕ, false, true, IfOk, OnOk};
+ghost use Rattle.std.specs.Prelude.{◌≡◌, ◌++◌, [], List, None, ℕ, false, true, IfOk, OnOk};
 ghost use Rattle.gn_links.specs.Halves.{IsNewReader};
 ghost use Rattle.gn_bodies.specs.Admitting.{HasSameNumbers, StaysSettled};
-ghost use Rattle.gn_bodies.specs.Events.{connection_of, link_events};
+ghost use Rattle.gn_bodies.specs.Events.{connection_of, events_of, link_events};
 ghost use Rattle.gn_bodies.specs.Jobs.{jobs_left};
 ghost use Rattle.gn_bodies.specs.ReaderRows.{ReaderRow, SourceRow};
-ghost use Rattle.gn_bodies.specs.Reading.{EndsByBytes, HasConnectionAfter, IsTaken, ReadRow, closes};
+ghost use Rattle.gn_bodies.specs.Reading.{EndsByBytes, HasConnectionAfter, IsTaken, ReadRow, RoutesNoneAlone, closes};
 
 use crate::admitter::Admitter;
 use crate::ends::{BodyFault, ReaderEnd};
@@ -48,6 +48,7 @@ fn begin<S: Site, C: RouterCore<A> + Drop, L: Ledger, A: Allocator + Copy, R: Wa
     ensures numbers { HasSameNumbers me.old me.new }
     ensures connection { HasConnectionAfter result me.new.actor }
     ensures ends { EndsByBytes result }
+    ensures alone { RoutesNoneAlone result me.new.actor }
     ensures taken { IsTaken role result [] me.new.actor }
     ensures settled { StaysSettled me.old me.new }
 {
@@ -81,6 +82,7 @@ fn read_all<
     requires none { me.old.actor.receipts ≡ [] }
     ensures numbers { HasSameNumbers me.old me.new }
     ensures connection { IfOk result (λ r. connection_of me.new.actor ≡ r.0) }
+    ensures alone { IfOk result (λ r. r.0 ≡ None → events_of me.new.actor ≡ link_events me.new.actor) }
     ensures row { IfOk result (λ r. Rd.is_known ≡ true
         → ReadRow role r.1 r.0 (link_events me.new.actor) (Rd.bytes_read reader.new)) }
     ensures source { IfOk result (λ r. SourceRow r.1 (Rd.failures reader.new) (Rd.pieces reader.new)
@@ -140,6 +142,8 @@ fn read_link<
     requires number { me.old.actor.number ≡ link }
     requires none { me.old.actor.receipts ≡ [] }
     ensures numbers { HasSameNumbers me.old me.new }
+    ensures alone { OnOk result (connection_of me.new.actor ≡ None
+        → events_of me.new.actor ≡ link_events me.new.actor) }
     ensures row { IfOk result (λ end. Rd.is_known ≡ true
         → ReaderRow role end (connection_of me.new.actor) (link_events me.new.actor) (Rd.bytes_read reader.new)) }
     ensures source { IfOk result (λ end. SourceRow end (Rd.failures reader.new) (Rd.pieces reader.new)
@@ -190,6 +194,8 @@ pub fn reader_body<
     ensures number { result.actor.number ≡ link }
     ensures role { result.role ≡ role }
     ensures home { result.home.number ≡ intake.number }
+    ensures alone { OnOk result.end (connection_of result.actor ≡ None
+        → events_of result.actor ≡ link_events result.actor) }
     ensures row { IfOk result.end (λ end. Rd.is_known ≡ true
         → ReaderRow role end (connection_of result.actor) (link_events result.actor) (Rd.bytes_read result.reader)) }
     ensures source { IfOk result.end (λ end. SourceRow end (Rd.failures result.reader) (Rd.pieces result.reader)

@@ -6,7 +6,7 @@ ghost use Rattle.gn_shake.specs.Roles.{greeting_of};
 ghost use Rattle.gn_bodies.specs.declared.piece.Reading.TheVariants as reading;
 ghost use Rattle.gn_bodies.specs.Admitting.{HasSameNumbers, KeepsConnection, StaysSettled};
 ghost use Rattle.gn_bodies.specs.Events.{connection_of};
-ghost use Rattle.gn_bodies.specs.Reading.{EndsByBytes, HasConnection, HasConnectionAfter, IsDelivered, IsOffering, IsReading, IsTaken};
+ghost use Rattle.gn_bodies.specs.Reading.{EndsByBytes, HasConnection, HasConnectionAfter, IsDelivered, IsOffering, IsReading, IsTaken, RoutesNoneAlone};
 
 use crate::admitter::Admitter;
 use crate::ends::{BodyFault, ReaderEnd};
@@ -63,6 +63,7 @@ fn deliver_on<S: Site, C: RouterCore<A> + Drop, L: Ledger, A: Allocator + Copy, 
     ensures numbers { HasSameNumbers me.old me.new }
     ensures connection { connection_of me.old.actor ≡ Some c → HasConnectionAfter result me.new.actor }
     ensures ends { EndsByBytes result }
+    ensures alone { RoutesNoneAlone result me.new.actor }
     ensures taken { (role : Role) (b s : List ℕ) → b ≡ greeting_of role ++ s → IsOffering s c frames me.old.actor
         → IsTaken role result (b ++ piece.now) me.new.actor }
     ensures settled { StaysSettled me.old me.new }
@@ -100,6 +101,7 @@ pub(crate) fn open<S: Site, C: RouterCore<A> + Drop, L: Ledger, A: Allocator + C
     ensures numbers { HasSameNumbers me.old me.new }
     ensures connection { HasConnectionAfter result me.new.actor }
     ensures ends { EndsByBytes result }
+    ensures alone { RoutesNoneAlone result me.new.actor }
     ensures taken { (role : Role) (b : List ℕ) → b ≡ greeting_of role ++ piece.now
         → IsTaken role result b me.new.actor }
     ensures settled { StaysSettled me.old me.new }
@@ -132,6 +134,7 @@ fn greet<S: Site, C: RouterCore<A> + Drop, L: Ledger, A: Allocator + Copy, R: Wa
     ensures numbers { HasSameNumbers me.old me.new }
     ensures connection { HasConnectionAfter result me.new.actor }
     ensures ends { EndsByBytes result }
+    ensures alone { RoutesNoneAlone result me.new.actor }
     ensures taken { (role : Role) (b : List ℕ) → IsReading {A = A} role (reading.Greeting shake) b me.old.actor
         → IsTaken role result (b ++ piece.now) me.new.actor }
     ensures settled { StaysSettled me.old me.new }
@@ -180,6 +183,7 @@ pub(crate) fn take_piece<S: Site, C: RouterCore<A> + Drop, L: Ledger, A: Allocat
     ensures numbers { HasSameNumbers me.old me.new }
     ensures connection { HasConnectionAfter result me.new.actor }
     ensures ends { EndsByBytes result }
+    ensures alone { RoutesNoneAlone result me.new.actor }
     ensures taken { (role : Role) (b : List ℕ) → IsReading role reading b me.old.actor
         → IsTaken role result (b ++ piece.now) me.new.actor }
     ensures settled { StaysSettled me.old me.new }

@@ -1,9 +1,9 @@
 -- One write after another.
 use Rattle.std.specs.Prelude.{◌==◌, ◌&&◌, not}
 use Rattle.gn_io.specs.Counts.{counted}
-use Rattle.gn_io.specs.Parts.{Owes, AppendsPart}
-use Rattle.std.proofs.Common.{refl, subst, append-nil, zero, suc, ◌≡◌, ℕ, ◌+◌, ◌≤◌, ◌-◌, List, [], ◌++◌, length, take, drop, ap, ◌∙◌, sym, arith, append_assoc, Option, Some, None, length-drop}
-use Rattle.std.proofs.lemmas.List.{length-take, take-append-drop}
+use Rattle.gn_io.specs.Parts.{Owes, AppendsPart, WaitsPart}
+use Rattle.std.proofs.Common.{refl, subst, append-nil, zero, suc, ◌≡◌, ℕ, ◌+◌, ◌≤◌, ◌-◌, List, [], ◌++◌, length, take, drop, ap, ◌∙◌, sym, arith, append_assoc, Option, Some, None}
+use Rattle.std.proofs.lemmas.List.{take-append-drop}
 use Rattle.std.proofs.Math.Seq.{take-add}
 use Rattle.std.specs.Io.KnownBytes.{Appends, Keeps}
 use Rattle.std.proofs.lemmas.Grind.{common_steps}
@@ -68,3 +68,41 @@ nothing_kept (Some xs) (Some zs) n ys e h = h ∙ (ap (λ k. xs ++ take k ys) e 
 -- after i bytes no more were taken
 pub part_kept : (old mid new : Option (List ℕ)) (bytes : List ℕ) (i : ℕ) → Appends old mid (take i bytes) → Keeps mid new → AppendsPart old new bytes
 part_kept old mid new bytes i h k = (drop i bytes, (take i bytes, appends_kept old mid new (take i bytes) h k, take-append-drop i bytes))
+
+-- what was written whole leaves nothing
+pub appended_owes : (old new : Option (List ℕ)) (all : List ℕ) → Appends old new all → Owes old new [] all
+appended_owes old new all h = (all, h, append-nil all)
+
+-- what waited was written, whole or a front of it
+pub rest_part : (old mid new : Option (List ℕ)) (waiting all : List ℕ) → WaitsPart old mid waiting all → Appends mid new waiting → AppendsPart old new all
+rest_part old mid new waiting all h k = (h.0, owes_step old mid new waiting h.0 all h.1 k)
+
+pub rest_cut : (old mid new : Option (List ℕ)) (waiting all : List ℕ) → WaitsPart old mid waiting all → AppendsPart mid new waiting → AppendsPart old new all
+rest_cut old mid new waiting all h k = owes_part old mid new waiting h.0 all h.1 k
+
+-- a front of what was owed was written, and what waits is owed first
+pub owes_after : (old mid new : Option (List ℕ)) (x rest waiting all : List ℕ) → Owes old mid (x ++ rest) all → Owes mid new waiting x → Owes old new (waiting ++ rest) all
+owes_after old mid new x rest waiting all h k =
+    let e : (h.0 ++ k.0) ++ (waiting ++ rest) ≡ all =
+    append_assoc h.0 k.0 (waiting ++ rest) ∙ (ap (λ r. h.0 ++ r) (sym (append_assoc k.0 waiting rest) ∙ ap (λ r. r ++ rest) k.2) ∙ h.2) in
+    (h.0 ++ k.0, appends_after old mid new h.0 k.0 h.1 k.1, e)
+
+-- a text was added behind what waited, and what is over was written
+pub owes_text : (old mid new : Option (List ℕ)) (waited text rest waiting all : List ℕ) → Owes old mid (waited ++ (text ++ rest)) all → Owes mid new waiting (waited ++ text)
+    → Owes old new (waiting ++ rest) all
+owes_text old mid new waited text rest waiting all h k =
+    owes_after old mid new (waited ++ text) rest waiting all (subst (λ (xs : List ℕ). Owes old mid xs all) (sym (append_assoc waited text rest)) h) k
+
+pub waits_text : (old mid new : Option (List ℕ)) (waited text rest waiting all : List ℕ) → Owes old mid (waited ++ (text ++ rest)) all → WaitsPart mid new waiting (waited ++ text)
+    → WaitsPart old new waiting all
+waits_text old mid new waited text rest waiting all h k =
+    (k.0 ++ rest, subst (λ (xs : List ℕ). Owes old new xs all) (append_assoc waiting k.0 rest) (owes_text old mid new waited text rest (waiting ++ k.0) all h k.1))
+
+-- what is owed waits, and nothing else
+pub owes_waits : (old new : Option (List ℕ)) (waiting all : List ℕ) → Owes old new waiting all → WaitsPart old new waiting all
+owes_waits old new waiting all h = ([], subst (λ (xs : List ℕ). Owes old new xs all) (sym (append-nil waiting)) h)
+
+-- all that waited was written
+pub owes_rest : (old mid new : Option (List ℕ)) (waiting all : List ℕ) → Owes old mid waiting all → Appends mid new waiting → Appends old new all
+owes_rest old mid new waiting all h k =
+    owes_none old new all (owes_step old mid new waiting [] all (subst (λ (xs : List ℕ). Owes old mid xs all) (sym (append-nil waiting)) h) k)

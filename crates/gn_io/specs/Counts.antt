@@ -1,5 +1,5 @@
 -- What sources and sinks count.
-use Rattle.std.specs.Prelude.{◌≡◌, ◌+◌, ◌-◌, ◌^◌, ◌≤◌, ◌<◌, ◌⊎◌, ℕ, Bool, if◌then◌else◌, min, List, length, Result, Ok, Err, ◌==◌, ◌&&◌, not, false}
+use Rattle.std.specs.Prelude.{◌+◌, ◌-◌, ◌^◌, ◌≤◌, ◌<◌, ◌⊎◌, ℕ, Bool, if◌then◌else◌, min, List, length, Result, Ok, Err, ◌==◌, ◌&&◌, not, false}
 
 -- the last value of a count
 abbrev pub last_count : ℕ

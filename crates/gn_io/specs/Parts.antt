@@ -9,3 +9,11 @@ Owes old new rest all = (written : List ℕ) × Appends old new written × (writ
 -- known bytes grew by a front of these
 abbrev pub AppendsPart : Option (List ℕ) → Option (List ℕ) → List ℕ → Type 0
 AppendsPart old new all = (rest : List ℕ) × Owes old new rest all
+
+-- known bytes grew by a front of these, and of the rest, what waits comes first
+abbrev pub WaitsPart : Option (List ℕ) → Option (List ℕ) → List ℕ → List ℕ → Type 0
+WaitsPart old new waiting all = (rest : List ℕ) × Owes old new (waiting ++ rest) all
+
+-- the least bytes of a block
+abbrev pub block_size : ℕ
+block_size = 32768

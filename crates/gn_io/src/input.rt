@@ -1,6 +1,6 @@
 //! Input read whole.
 
-ghost use Rattle.std.specs.Prelude.{◌≡◌, ◌≤◌, length, IfOk, IfErr, IfSome};
+ghost use Rattle.std.specs.Prelude.{◌≡◌, ◌≤◌, length, IfOk, IfErr, IfSome, OnOk};
 ghost use Rattle.gn_io.specs.Input.{input_limit, IsInputFault};
 
 use crate::source::Source;
@@ -28,6 +28,7 @@ pub fn read_input<A: Allocator, S: Source>(
 ) -> Result<Vec<u8, A>, InputFault>
     ensures all { IfOk result (λ input. IfSome (S.rest source.old) (λ bytes. input.items ≡ bytes)) }
     ensures short { IfOk result (λ input. length input.items ≤ input_limit) }
+    ensures failures { OnOk result (S.failures source.new ≡ S.failures source.old) }
     ensures fault { IfErr result (λ fault. IsInputFault fault (S.rest source.old)
         (S.failures source.old) (S.failures source.new) (S.given source.old) (S.given source.new)) }
 {

@@ -59,6 +59,23 @@ fn memory_is_read_and_written(rt: HostRuntime) -> Result<(), Fail> {
 }
 
 #[test]
+fn blocks_wait(rt: HostRuntime) -> Result<(), Fail> {
+    let alloc = rt.alloc();
+    let mut sink = WriterSink::new(Vec::new(alloc));
+    let mut block = Block::new(alloc);
+    block.add(&[b'a'; 32_767])?;
+    assert_eq!(rt; block.write_full(&mut sink), Ok(()));
+    assert_eq!(rt; block.write_rest(&mut Nowhere), Ok(()));
+    block.add(&[b'b'; 32_767])?;
+    block.add(b"b")?;
+    assert_eq!(rt; block.write_full(&mut sink), Ok(()));
+    block.add(b"c")?;
+    assert_eq!(rt; block.write_full(&mut sink), Ok(()));
+    assert_eq!(rt; sink.into_inner().as_slice(), [b'b'; 32_768].as_slice());
+    Ok(())
+}
+
+#[test]
 fn streams_that_falter(rt: HostRuntime) {
     for fails in [true, false] {
         let faltering = Faltering {

@@ -1,5 +1,5 @@
 -- What is known where words were read as a request, and no request came of it.
-use Rattle.std.proofs.Common.{◌≡◌, ◌∙◌, ◌⊎◌, inl, inr, sym, ℕ, List, [], ◌∷◌, Option, Some}
+use Rattle.std.proofs.Common.{◌≡◌, ◌∙◌, ◌⊎◌, inl, inr, refl, sym, ℕ, List, [], ◌∷◌, Option, Some}
 use Rattle.clap.specs.Kinds.{HasKind, IsAmong, Kinds}
 use Rattle.clap.specs.Words.{Row, Text, fault_of, kind_of}
 use Rattle.clap.specs.declared.error.Error.{Error}
@@ -15,13 +15,14 @@ memory_by [] o r k asked (inl e) = e
 memory_by [] o r k asked (inr e) = absurd e
 memory_by (f ∷ fs) o r k asked h = cc
 
-unread_by : {W : Type 0} (k : ErrorKind) (w v : W) (status : ℕ) → IsTurnedAway k w v status → k ≡ OutOfMemory → IsUnread w v status
-unread_by k w v status t e = (
+unread_by : {S W : Type 0} (k : ErrorKind) (r : S) (w v : W) (status : ℕ) → IsTurnedAway k w v status → k ≡ OutOfMemory → IsUnread r r w v status
+unread_by k r w v status t e = (
+  refl,
   t.unwritten (λ h. let bad : DisplayHelp ≡ OutOfMemory = sym h ∙ e in cc) (λ h. let bad : DisplayVersion ≡ OutOfMemory = sym h ∙ e in cc),
   t.memory e,
 )
 
--- only memory can have been wanting
-pub unread : {W : Type 0} (words : List Text) (r : Request) (error : Error) (w v : W) (status : ℕ) → request_of words ≡ Some r
-    → HasKind (fault_of gn_app words) error → IsTurnedAway (kind_of error) w v status → IsUnread w v status
-unread words r error w v status asked has t = unread_by (kind_of error) w v status t (memory_by _ _ r (kind_of error) asked has)
+-- only memory can have run out
+pub unread : {S W : Type 0} (words : List Text) (r : Request) (error : Error) (reader : S) (w v : W) (status : ℕ) → request_of words ≡ Some r
+    → HasKind (fault_of gn_app words) error → IsTurnedAway (kind_of error) w v status → IsUnread reader reader w v status
+unread words r error reader w v status asked has t = unread_by (kind_of error) reader w v status t (memory_by _ _ r (kind_of error) asked has)

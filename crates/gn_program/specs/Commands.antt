@@ -10,12 +10,13 @@ use Rattle.gn_io.specs.Input.{input_limit}
 use Rattle.gn_capture.specs.Captures.{capture_of}
 use Rattle.gn_replay.specs.Replays.{AppendsReplay, HasStopped, IsCounted}
 use Rattle.gn_replay.specs.declared.replays.Exit.{Exit}
+use Rattle.gn_replay.specs.ReplayHistory.{AppendsHistory, HasHistoryStopped}
 use Rattle.gn_capture.specs.Histories.{history_of}
 use Rattle.gn_replay.specs.Audits.{AppendsVerdict, HasStopped as HasAuditStopped}
 use Rattle.gn_rules.specs.declared.legality.Legality.{Legality}
 use Rattle.gn_rules.specs.declared.legality.Legality.TheVariants.{Legal, WrongAt}
 use Rattle.gn_program.specs.declared.request.Request.{Request}
-use Rattle.gn_program.specs.declared.request.Request.TheVariants.{Replay, Audit}
+use Rattle.gn_program.specs.declared.request.Request.TheVariants.{Replay, History, Audit}
 
 -- a command's input and output: what the input will give, before; what the output has taken, before and after, as far as
 -- they are known; then each count before and after: reads that failed, bytes given, writes that failed, and writes that took
@@ -33,6 +34,10 @@ pub record Streams : Type 0 where
   pub stalls : ℕ
   pub stalls_new : ℕ
 
+-- no read and no write failed, and no write took nothing
+abbrev pub IsUnfailed : Streams → Type 0
+IsUnfailed s = (s.failures_new ≡ s.failures) × (s.unwritten_new ≡ s.unwritten) × (s.stalls_new ≡ s.stalls)
+
 -- the streams bear out the fault, where `said` is what a text says
 abbrev pub BearsOut : {X : Type 0} → (List ℕ → Result X CaptureFault) → Streams → ReplayFault → Type 0
 BearsOut said s fault = IsReplayFault fault said s.rest s.failures s.failures_new s.given s.given_new s.unwritten s.unwritten_new s.stalls s.stalls_new
@@ -44,7 +49,18 @@ pub record IsReplayAnswer (s : Streams) (answer : Result Exit ReplayFault) : Typ
   pub lawful : OnOk answer (IfSome s.rest (λ text. IsOk (capture_of {A = Global} text)))
   pub written : OnOk answer (IfSome s.rest (λ text. AppendsReplay Global text s.told s.told_new))
   pub counted : IfOk answer (λ exit. IfSome s.rest (λ text. IsCounted Global text exit))
+  pub unfailed : OnOk answer (IsUnfailed s)
   pub stopped : IfErr answer (λ fault. HasStopped Global fault s.rest s.told s.told_new)
+  pub fault : IfErr answer (BearsOut (capture_of {A = Global}) s)
+
+-- what replay_history answers: as replay, with the history text of the input in place of its replay text
+pub record IsHistoryAnswer (s : Streams) (answer : Result Exit ReplayFault) : Type 0 where
+  pub short : OnOk answer (IfSome s.rest (λ text. length text ≤ input_limit))
+  pub lawful : OnOk answer (IfSome s.rest (λ text. IsOk (capture_of {A = Global} text)))
+  pub written : OnOk answer (IfSome s.rest (λ text. AppendsHistory Global text s.told s.told_new))
+  pub counted : IfOk answer (λ exit. IfSome s.rest (λ text. IsCounted Global text exit))
+  pub unfailed : OnOk answer (IsUnfailed s)
+  pub stopped : IfErr answer (λ fault. HasHistoryStopped Global fault s.rest s.told s.told_new)
   pub fault : IfErr answer (BearsOut (capture_of {A = Global}) s)
 
 -- what audit answers: the input was a history, no longer than it may be, and the line that tells of it was written; or it
@@ -53,6 +69,7 @@ pub record IsAuditAnswer (s : Streams) (answer : Result Legality ReplayFault) : 
   pub short : OnOk answer (IfSome s.rest (λ text. length text ≤ input_limit))
   pub lawful : OnOk answer (IfSome s.rest (λ text. IsOk (history_of {A = Global} text)))
   pub told : IfOk answer (λ legality. IfSome s.rest (λ text. AppendsVerdict Global text legality s.told s.told_new))
+  pub unfailed : OnOk answer (IsUnfailed s)
   pub stopped : IfErr answer (λ fault. HasAuditStopped Global fault s.rest s.told s.told_new)
   pub fault : IfErr answer (BearsOut (history_of {A = Global}) s)
 
@@ -71,6 +88,10 @@ audit_status (Err fault) = 1
 abbrev pub Replays : Streams → ℕ → Type 0
 Replays s status = (answer : Result Exit ReplayFault) × IsReplayAnswer s answer × (status ≡ replay_status answer)
 
+-- the streams are as some answer of replay_history leaves them, and the status is that answer's
+abbrev pub TellsHistory : Streams → ℕ → Type 0
+TellsHistory s status = (answer : Result Exit ReplayFault) × IsHistoryAnswer s answer × (status ≡ replay_status answer)
+
 -- the streams are as some answer of audit leaves them, and the status is that answer's
 abbrev pub Audits : Streams → ℕ → Type 0
 Audits s status = (answer : Result Legality ReplayFault) × IsAuditAnswer s answer × (status ≡ audit_status answer)
@@ -78,16 +99,17 @@ Audits s status = (answer : Result Legality ReplayFault) × IsAuditAnswer s answ
 -- the streams and the status are as one of the request's answers says
 abbrev pub Does : Request → Streams → ℕ → Type 0
 Does Replay s status = Replays s status
+Does History s status = TellsHistory s status
 Does Audit s status = Audits s status
 
 -- words that ask for no work: at help and the version the status is 0 or 1 and anything may be written; else nothing is
--- written, and the status is 1 at want of memory and 2 at all else
+-- written, and the status is 1 where memory ran out and 2 at all else
 pub record IsTurnedAway {W : Type 0} (kind : ErrorKind) (writer writer_new : W) (status : ℕ) : Type 0 where
   pub shown : (kind ≡ DisplayHelp) ⊎ (kind ≡ DisplayVersion) → status ≤ 1
   pub memory : kind ≡ OutOfMemory → status ≡ 1
   pub mistake : kind ≢ DisplayHelp → kind ≢ DisplayVersion → kind ≢ OutOfMemory → status ≡ 2
   pub unwritten : kind ≢ DisplayHelp → kind ≢ DisplayVersion → writer_new ≡ writer
 
--- what is left where memory was wanting as the words were read: nothing was written, and the status is 1
-abbrev pub IsUnread : {W : Type 0} → W → W → ℕ → Type 0
-IsUnread writer writer_new status = (writer_new ≡ writer) × (status ≡ 1)
+-- what is left where memory ran out as the words were read: nothing was read or written, and the status is 1
+abbrev pub IsUnread : {S W : Type 0} → S → S → W → W → ℕ → Type 0
+IsUnread reader reader_new writer writer_new status = (reader_new ≡ reader) × (writer_new ≡ writer) × (status ≡ 1)

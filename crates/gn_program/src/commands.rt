@@ -13,12 +13,12 @@ ghost use Rattle.gn_program.specs.declared.request.Request.{Request as Asked};
 
 use crate::fault::Fault;
 use crate::request::Request;
-use crate::tell::{tell, tell_line};
+use crate::tell::tell;
 use crate::words::read_words;
 use clap::Error;
 use clap::error::ErrorKind;
 use gn_io::{Sink, Source};
-use gn_replay::{Exit, ReplayFault, audit, replay};
+use gn_replay::{Exit, ReplayFault, audit, replay, replay_history};
 use gn_router::TableRouter;
 use gn_rules::Legality;
 use std::alloc::Global;
@@ -38,7 +38,7 @@ const USAGE: u8 = 2;
 fn fault_told<F: Sink>(faults: &mut F, fault: Fault) -> u8
     ensures { result ≡ 1 }
 {
-    let _ = tell_line(faults, fault);
+    let _ = tell(faults, fault);
     FAULT
 }
 
@@ -90,6 +90,10 @@ fn obey<S: Source, W: Sink, F: Sink>(
             let answer = replay::<Global, TableRouter, S, W>(alloc, reader, writer);
             tell_of_replay(faults, answer)
         }
+        Request::History => {
+            let answer = replay_history::<Global, TableRouter, S, W>(alloc, reader, writer);
+            tell_of_replay(faults, answer)
+        }
         Request::Audit => {
             let answer = audit::<Global, TableRouter, S, W>(alloc, reader, writer);
             tell_of_audit(faults, answer)
@@ -116,8 +120,8 @@ fn turn_away<W: Sink, F: Sink>(error: Error, writer: &mut W, faults: &mut F) -> 
 
 /// Does what the words ask for, of which the first is the program's name, and gives the status to end with: 0 where it is
 /// done or the history is legal, 1 at a fault or a wrong history, 2 where the words can't be read. What is asked for is read
-/// from `reader` and written to `writer`, help and the version are written to it too; a fault is told as a line on `faults`,
-/// where a failed write changes nothing.
+/// from `reader` and written to `writer`; at help, the version and mistakes nothing is read, and help and the version are
+/// written to `writer` too. A fault is one line on `faults`, where a failed write changes nothing.
 pub fn command<T: AsStr, S: Source, W: Sink, F: Sink>(
     alloc: Global,
     words: &[T],
@@ -126,7 +130,7 @@ pub fn command<T: AsStr, S: Source, W: Sink, F: Sink>(
     faults: &mut F,
 ) -> u8
     ensures asked { (request : Asked) → request_of (map T.text words.now) ≡ Some request
-        → IsUnread writer.old writer.new result ⊎ Does request (record {
+        → IsUnread reader.old reader.new writer.old writer.new result ⊎ Does request (record {
           rest = S.rest reader.old;
           told = W.told writer.old;
           told_new = W.told writer.new;
@@ -142,6 +146,7 @@ pub fn command<T: AsStr, S: Source, W: Sink, F: Sink>(
     ensures neither { request_of (map T.text words.now) ≡ None → (kind : Kind)
         × ((kind ≡ OutOfMemory) ⊎ IsAmong kind (fault_of gn_app (map T.text words.now)))
         × IsTurnedAway kind writer.old writer.new result }
+    ensures unread { request_of (map T.text words.now) ≡ None → reader.new ≡ reader.old }
 {
     match read_words(alloc, words) {
         Ok(request) => obey(alloc, request, reader, writer, faults),

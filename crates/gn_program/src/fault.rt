@@ -4,18 +4,18 @@ use gn_replay::ReplayFault;
 use gn_text::{CaptureFault, Cause};
 use thiserror::Error;
 
-/// Why a command wasn't done. Its text is the line that is told.
+/// Why a command wasn't done. Its text is its line, with the line feed.
 #[derive(Debug, Drop, Error)]
 pub(crate) enum Fault {
-    #[error("fault: input failed")]
+    #[error("fault: input failed\n")]
     Input,
-    #[error("fault: input too large")]
+    #[error("fault: input too large\n")]
     InputTooLarge,
-    #[error("fault: line {line}: {cause}")]
+    #[error("fault: line {line}: {cause}\n")]
     Line { line: u64, cause: &'static str },
-    #[error("fault: output failed")]
+    #[error("fault: output failed\n")]
     Output,
-    #[error("fault: no memory")]
+    #[error("fault: no memory\n")]
     NoMemory,
 }
 

@@ -1,24 +1,34 @@
 //! The texts of help.
 
 pub(crate) const ABOUT: &str =
-    "Tineflax, a packet router for Gnutella v0.4 whose answers are proved to follow its rules.";
+    "Tineflax, a packet router for Gnutella v0.4 whose answers are proved to follow its rules as written
+down in this repository. The rules were taken from memory of the public specification, and not
+compared with its text.";
 
 pub(crate) const EXAMPLES: &str = "\
 Examples:
   gn replay < examples/first_ping.capture
   gn audit < examples/first_ping.history
+  gn replay --history < examples/first_ping.capture | gn audit
+
+docs/FORMATS.md has each line of a capture, a history and the printed texts.
 
 Exit status: 0 where it is done, or the history is legal; 1 where input or output is at fault,
 or the history is wrong; 2 where the command line can't be read.";
 
 pub(crate) const REPLAY: &str = "Reads a capture, and prints what the router answers";
 
+pub(crate) const REPLAY_USAGE: &str =
+    "gn replay [--history] < CAPTURE   (the capture is read from standard input)";
+
+pub(crate) const HISTORY: &str = "Prints the history of the router instead, which `gn audit` reads";
+
 pub(crate) const REPLAY_TEXTS: &str = "\
 Standard input is a capture: what links deliver to a router, and what its servent does. Behind
 its three first lines stand `join`, `open`, `data LINK HEX`, `route TICKET`, `take CONNECTION`,
 `close CONNECTION`, `ping ID TTL`, `query ID TTL SPEED HEX` and `stats`, each on a line.
-Standard output is a line for each answer. A capture with a fault prints none, and its first
-fault is told on standard error.
+Standard output is a line for each answer, or the history with `--history`. A capture with a fault
+prints none, and its first fault is a line on standard error.
 
 Example: two neighbours join, the first sends a Ping, and the Ping is routed.
 
@@ -37,6 +47,9 @@ prints, after the two joins and the Ping's admission,
 where the first packet is the router's own Pong.";
 
 pub(crate) const AUDIT: &str = "Reads a history, and tells whether each answer in it is right";
+
+pub(crate) const AUDIT_USAGE: &str =
+    "gn audit < HISTORY   (the history is read from standard input)";
 
 pub(crate) const AUDIT_TEXTS: &str = "\
 Standard input is a history: a router's configuration, and each event with its answer.

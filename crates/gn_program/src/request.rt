@@ -3,8 +3,10 @@
 /// What a command line asks for.
 #[derive(Clone, Copy, Debug, PartialEq, Eq)]
 pub enum Request {
-    /// A capture is replayed.
+    /// A capture is replayed, and what it prints is written.
     Replay,
+    /// A capture is replayed, and the history of its router is written.
+    History,
     /// A history is audited.
     Audit,
 }

@@ -5,7 +5,7 @@ use gn_io::{ReaderSource, WriterSink};
 use std::io::{self, ErrorKind, Read, Write};
 
 /// Words, the status, and how the output and the told faults begin.
-const ANSWERS: [(&[&str], u8, &str, &str); 9] = [
+const ANSWERS: [(&[&str], u8, &str, &str); 10] = [
     (&["gn", "--version"], 0, "gn 0.1.0\n", ""),
     (&["gn", "--help"], 0, "Tineflax, a packet router", ""),
     (&["gn", "replay", "--help"], 0, "Reads a capture,", ""),
@@ -14,6 +14,12 @@ const ANSWERS: [(&[&str], u8, &str, &str); 9] = [
     (&["gn", "serve"], 2, "", "error: unrecognized subcommand"),
     (&["gn", "replay", "x"], 2, "", "error: unexpected argument"),
     (&["gn", "replay"], 1, "", "fault: line 1: header\n"),
+    (
+        &["gn", "replay", "--history"],
+        1,
+        "",
+        "fault: line 1: header\n",
+    ),
     (&["gn", "audit", "--"], 1, "", "fault: line 1: header\n"),
 ];
 

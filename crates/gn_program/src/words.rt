@@ -1,24 +1,59 @@
 //! The words of a command line.
 
-ghost use Rattle.std.specs.Prelude.{◌≡◌, Some, IfOk, IfErr, map, option_and_then, option_map, false};
-ghost use Rattle.clap.specs.Words.{app_of, fault_of, shape_of, new_app, HasKind};
+ghost use Rattle.std.specs.Prelude.{◌≡◌, Some, IfOk, IfErr, codes, map, false};
+ghost use Rattle.std.specs.Option.{option_map_or};
+ghost use Rattle.std.specs.Str.{bytes_eq};
+ghost use Rattle.clap.specs.Words.{app_of, fault_of, found_of, new_app, rows_of, rule_of, HasKind};
 ghost use Rattle.clap.specs.declared.builder.command.Command.TheViews.{out-Command as fields_of};
-ghost use Rattle.gn_program.specs.Words.{gn_app, request_named, request_of, PlainWordsAreRead};
+ghost use Rattle.gn_program.specs.Words.{flag_rule, gn_app, is_set, replay_app, request_named, request_of, PlainWordsAreRead};
 
 use crate::help;
 use crate::request::Request;
-use clap::{Command, Error};
+use clap::{Arg, ArgAction, ArgMatches, Command, Error};
 use std::alloc::{AllocError, Global};
 use std::convert::AsStr;
 
 /// The version that is told.
 const VERSION: &str = "0.1.0";
 
-fn leaf<'a>(alloc: Global, name: &'a str, about: &'a str, texts: &'a str) -> Command<'a>
-    ensures shape { shape_of result ≡ (new_app name.now).top }
+fn flag<'a>(alloc: Global, name: &'a str, text: &'a str) -> Arg<'a>
+    ensures rule { rule_of result ≡ flag_rule name.now }
+    ensures local { result.global ≡ false }
+{
+    Arg::new(alloc, name)
+        .long(name)
+        .action(ArgAction::SetTrue)
+        .help(text)
+}
+
+fn leaf<'a>(
+    alloc: Global,
+    name: &'a str,
+    about: &'a str,
+    usage: &'a str,
+    texts: &'a str,
+) -> Command<'a>
+    ensures app { app_of result ≡ new_app name.now }
     ensures globals { (fields_of result).has_globals ≡ false }
 {
-    Command::new(alloc, name).about(about).after_help(texts)
+    Command::new(alloc, name)
+        .about(about)
+        .override_usage(usage)
+        .after_help(texts)
+}
+
+fn replay_command<'a>(alloc: Global) -> Result<Command<'a>, AllocError>
+    ensures shape { IfOk result (λ command. app_of command ≡ replay_app) }
+    ensures globals { IfOk result (λ command. (fields_of command).has_globals ≡ false) }
+{
+    leaf(
+        alloc,
+        "replay",
+        help::REPLAY,
+        help::REPLAY_USAGE,
+        help::REPLAY_TEXTS,
+    )
+    .arg(flag(alloc, "history", help::HISTORY))
 }
 
 fn gn_command<'a>(alloc: Global) -> Result<Command<'a>, AllocError>
@@ -30,28 +65,53 @@ fn gn_command<'a>(alloc: Global) -> Result<Command<'a>, AllocError>
         .after_help(help::EXAMPLES)
         .disable_help_subcommand(true)
         .subcommand_required(true)
-        .subcommand(leaf(alloc, "replay", help::REPLAY, help::REPLAY_TEXTS))?
-        .subcommand(leaf(alloc, "audit", help::AUDIT, help::AUDIT_TEXTS))
+        .subcommand(replay_command(alloc)?)?
+        .subcommand(leaf(
+            alloc,
+            "audit",
+            help::AUDIT,
+            help::AUDIT_USAGE,
+            help::AUDIT_TEXTS,
+        ))
 }
 
-fn request_named(name: Option<&str>) -> Option<Request>
-    ensures { result ≡ option_and_then request_named (option_map (λ s. s.now) name.entry) }
+fn is_true(value: Option<&str>) -> bool
+    ensures { result ≡ option_map_or (λ s. bytes_eq s.now (codes "true")) value.entry false }
+{
+    match value {
+        Some("true") => true,
+        _ => false,
+    }
+}
+
+fn is_set(options: &ArgMatches<'_>, flag: &str) -> bool
+    ensures { result ≡ is_set flag.now (rows_of (found_of options.now)) }
+{
+    is_true(options.get_str(flag))
+}
+
+fn request_named(name: &str, options: &ArgMatches<'_>) -> Option<Request>
+    ensures { result ≡ request_named name.now (rows_of (found_of options.now)) }
 {
     match name {
-        Some("replay") => Some(Request::Replay),
-        Some("audit") => Some(Request::Audit),
+        "replay" if is_set(options, "history") => Some(Request::History),
+        "replay" => Some(Request::Replay),
+        "audit" => Some(Request::Audit),
         _ => None,
     }
 }
 
 /// What the words ask for, the first of them the program's name. An `Err` is clap's: help, the version, a mistake in the
-/// words, or want of memory.
+/// words, or out of memory.
 pub(crate) fn read_words<'a, T: AsStr>(alloc: Global, words: &'a [T]) -> Result<Request, Error>
     ensures ok { IfOk result (λ request. request_of (map T.text words.entry.now) ≡ Some request) }
     ensures err { IfErr result (HasKind (fault_of gn_app (map T.text words.entry.now))) }
 {
     let matches = gn_command(alloc)?.try_get_matches_from(words)?;
-    match request_named(matches.subcommand_name()) {
+    let Some((name, options)) = matches.subcommand() else {
+        unreachable!()
+    };
+    match request_named(name, options) {
         Some(request) => Ok(request),
         None => unreachable!(),
     }

@@ -1,6 +1,6 @@
 -- A capture that was read, and played.
-use Rattle.std.proofs.Common.{◌≡◌, ◌≤◌, ◌<◌, ◌==◌, ◌∙◌, ℕ, true, false, List, [], ◌∷◌, length, reverse, if◌then◌else◌, Option, Some, None, IfSome, IsOk, IfErr, Result, Ok, Err, refl, sym, ap, subst, arith, inr}
-use Rattle.std.proofs.lemmas.List.{length-reverse}
+use Rattle.std.proofs.Common.{◌≡◌, ◌≤◌, ◌<◌, ◌==◌, ◌∙◌, ℕ, true, false, List, [], ◌∷◌, ◌++◌, length, reverse, if◌then◌else◌, Option, Some, None, IfSome, IsOk, IfErr, Result, Ok, Err, refl, sym, ap, subst, arith, inr}
+use Rattle.std.proofs.lemmas.List.{length-reverse, reverse-reverse}
 use Rattle.std.proofs.lemmas.Bool.Decides.{nat_tests}
 use Rattle.std.specs.Result.{IsErrAnd}
 use Rattle.gn_text.specs.declared.fault.CaptureFault.{CaptureFault}
@@ -19,6 +19,8 @@ use Rattle.gn_rules.specs.Legal.{IsLegal}
 use Rattle.gn_rules.proofs.LegalLemmas.{legal_within}
 use Rattle.gn_capture.specs.declared.capture.Capture.{Capture}
 use Rattle.gn_capture.specs.Captures.{Said, capture_of, capture_seen}
+use Rattle.gn_capture.specs.Histories.{history_text}
+use Rattle.gn_replay.specs.ReplayHistory.{IsHistoryOf, IsHistoryText}
 use Rattle.gn_replay.specs.declared.replays.Exit.{Exit}
 use Rattle.gn_replay.specs.ReplayText.{IsReplay, IsReplayOf, capture_plays}
 use Rattle.gn_replay.specs.Replays.{AppendsReplay, AppendsReplayPart, HasStopped, IsCounted}
@@ -54,6 +56,16 @@ module _ {A : Type 0} (text : List ℕ) (capture : Capture A) where
       → HasRun (capture_plays capture.config capture.lines.items) (reverse steps) count old new → exit.steps ≡ length steps → exit.refusals ≡ count → IsCounted A text exit
   counted exit steps count old new read run all refused =
       (capture_plays capture.config capture.lines.items, is_replay text capture read, all ∙ sym (length-reverse steps) ∙ ap length run.past, refused ∙ run.refusals)
+
+  -- the history of the router that played it was printed
+  pub history_printed : (before printed : List ℕ) (steps lent : List (Step A)) (count : ℕ) (old new : Option (List ℕ)) → capture_of text ≡ Ok (capture_seen capture)
+      → HasRun (capture_plays capture.config capture.lines.items) (reverse steps) count old new → lent ≡ steps → before ≡ []
+      → printed ≡ before ++ history_text capture.config lent → IsHistoryText A text printed
+  history_printed before printed steps lent count old new read run same empty wrote =
+      let made : lent ≡ reverse (capture_plays capture.config capture.lines.items).past = same ∙ sym (reverse-reverse steps) ∙ ap reverse run.past in
+      let is : printed ≡ history_text capture.config (reverse (capture_plays capture.config capture.lines.items).past) =
+      wrote ∙ ap (λ (xs : List ℕ). xs ++ history_text capture.config lent) empty ∙ ap (history_text capture.config) made in
+      subst (λ (said : Result (Said A) CaptureFault). IsHistoryOf A said printed) (sym read) (capture.config, refl, is)
 
 -- where playing it stopped, a front of its replay text was written
 stopped_so : {A : Type 0} (f : PlayFault) (text : List ℕ) (old new : Option (List ℕ)) → length text ≤ input_limit → AppendsReplayPart A text old new → HasStopped A (of_playing f) (Some text) old new

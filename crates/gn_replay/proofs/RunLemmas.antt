@@ -1,16 +1,17 @@
 -- Lines that are played and written one by one.
-use Rattle.std.proofs.Common.{◌≡◌, ◌<◌, ◌+◌, ℕ, suc, List, [], ◌∷◌, length, get_or, drop, Option, Result, Ok, Err, OnErr, refl, sym, ap, ◌∙◌, subst, add-one}
+use Rattle.std.proofs.Common.{◌≡◌, ◌<◌, ◌+◌, ◌++◌, ℕ, suc, List, [], ◌∷◌, length, get_or, drop, Option, Result, Ok, Err, OnErr, refl, sym, ap, ◌∙◌, subst, add-one, append-nil}
 use Rattle.std.proofs.Math.Seq.{drop-cons}
 use Rattle.std.specs.Io.KnownBytes.{Appends}
-use Rattle.gn_io.specs.Parts.{Owes, AppendsPart}
-use Rattle.gn_io.proofs.StreamLemmas.{owes_all, owes_none, owes_part, owes_step}
+use Rattle.gn_io.specs.Parts.{Owes, AppendsPart, WaitsPart}
+use Rattle.gn_io.proofs.StreamLemmas.{owes_all, owes_rest, owes_text, owes_waits, rest_cut, rest_part, waits_text}
 use Rattle.gn_rules.specs.declared.config.Config.{Config}
+use Rattle.gn_rules.specs.declared.receipt.Step.{Step}
 use Rattle.gn_capture.specs.declared.line.Line.{Line}
 use Rattle.gn_replay.specs.Events.{Played}
 use Rattle.gn_replay.specs.Links.{LinkState, AreLinks}
 use Rattle.gn_replay.specs.Playing.{Playing, HasPlayed, refused_more}
 use Rattle.gn_replay.specs.ReplayText.{After, capture_plays, play_lines, plays}
-use Rattle.gn_replay.specs.Runs.{HasRun, HasWritten, IsNew}
+use Rattle.gn_replay.specs.Runs.{HasPassed, HasRun, HasWritten, IsNew}
 use Rattle.gn_replay.proofs.AdmitLemmas.{refused_both}
 
 -- what holds anyway, holds at an error
@@ -25,72 +26,76 @@ from_clear : {A : Type 0} (before cleared after : Playing A) (line : Line A) →
 from_clear before cleared after line clear played =
     subst (λ (v : Playing _). (states : List LinkState) → AreLinks v.links states → HasPlayed v after (plays v.settings v.past states line)) clear played
 
--- it was played, and what it printed was written
-pub written : {A : Type 0} (before cleared after : Playing A) (old new : Option (List ℕ)) (line : Line A) (bytes : List ℕ) → cleared ≡ record before { out = [] }
+-- it was played, and of what waited and what it printed all was written but what waits
+pub written : {A : Type 0} (before cleared after : Playing A) (old new : Option (List ℕ)) (waited held waiting : List ℕ) (line : Line A) (bytes : List ℕ) → cleared ≡ record before { out = [] }
     → ((states : List LinkState) → AreLinks cleared.links states → HasPlayed cleared after (plays cleared.settings cleared.past states line))
-    → bytes ≡ after.out → Appends old new bytes
-    → (states : List LinkState) → AreLinks before.links states → HasWritten before after old new (plays before.settings before.past states line)
-written before cleared after old new line bytes clear play is told states are =
+    → bytes ≡ after.out → held ≡ waited ++ bytes → Owes old new waiting held
+    → (states : List LinkState) → AreLinks before.links states → HasWritten before after old new waited waiting (plays before.settings before.past states line)
+written before cleared after old new waited held waiting line bytes clear play is added owed states are =
     let played = from_clear before cleared after line clear play states are in
     record {
       settings = ap (λ (v : Playing _). v.settings) played.played;
       past = ap (λ (v : Playing _). v.past) played.played;
       refusals = ap (λ (v : Playing _). v.refusals) played.played;
       links = played.links;
-      text = subst (λ (text : List ℕ). Appends old new text) (is ∙ ap (λ (v : Playing _). v.out) played.played) told;
+      text = subst (λ (text : List ℕ). Owes old new waiting text) (added ∙ ap (λ (text : List ℕ). waited ++ text) (is ∙ ap (λ (v : Playing _). v.out) played.played)) owed;
     }
 
--- only a front of what it printed was written
-pub part_written : {A : Type 0} (before cleared after : Playing A) (old new : Option (List ℕ)) (line : Line A) (bytes : List ℕ) → cleared ≡ record before { out = [] }
+-- only a front of it was written, and nothing waits any more
+pub part_written : {A : Type 0} (before cleared after : Playing A) (old new : Option (List ℕ)) (waited held waiting : List ℕ) (line : Line A) (bytes : List ℕ) → cleared ≡ record before { out = [] }
     → ((states : List LinkState) → AreLinks cleared.links states → HasPlayed cleared after (plays cleared.settings cleared.past states line))
-    → bytes ≡ after.out → AppendsPart old new bytes
-    → (states : List LinkState) → AreLinks before.links states → AppendsPart old new (plays before.settings before.past states line).played.text
-part_written before cleared after old new line bytes clear play is part states are =
+    → bytes ≡ after.out → held ≡ waited ++ bytes → waiting ≡ [] → AppendsPart old new held
+    → (states : List LinkState) → AreLinks before.links states → WaitsPart old new waiting (waited ++ (plays before.settings before.past states line).played.text)
+part_written before cleared after old new waited held waiting line bytes clear play is added empty part states are =
     let played = from_clear before cleared after line clear play states are in
-    subst (λ (text : List ℕ). AppendsPart old new text) (is ∙ ap (λ (v : Playing _). v.out) played.played) part
+    rw empty (subst (λ (text : List ℕ). AppendsPart old new text) (added ∙ ap (λ (text : List ℕ). waited ++ text) (is ∙ ap (λ (v : Playing _). v.out) played.played)) part)
+
+-- nothing was written yet, and what waited still waits
+pub still_waits : (told : Option (List ℕ)) (waited waiting text : List ℕ) → waiting ≡ waited → WaitsPart told told waiting (waited ++ text)
+still_waits told waited waiting text same = rw same (text, owes_all told (waited ++ text))
 
 -- nothing was written yet
 pub none_written : (told : Option (List ℕ)) (text : List ℕ) → AppendsPart told told text
 none_written told text = (text, owes_all told text)
 
 -- a loop over all lines, where those of `left` are still to come
-pub record IsRunning {A : Type 0} (s : Config) (now : Playing A) (first last : Option (List ℕ)) (left all : List (ℕ × Line A)) : Type 0 where
+pub record IsRunning {A : Type 0} (s : Config) (now : Playing A) (first last : Option (List ℕ)) (waiting : List ℕ) (left all : List (ℕ × Line A)) : Type 0 where
   pub states : List LinkState
   pub links : AreLinks now.links states
   pub settings : now.settings ≡ s
   pub past : (play_lines s now.past states left).past ≡ (capture_plays s all).past
   pub refusals : refused_more (play_lines s now.past states left).refusals now.refusals ≡ refused_more (capture_plays s all).refusals 0
-  pub owed : Owes first last (play_lines s now.past states left).text (capture_plays s all).text
+  pub owed : Owes first last (waiting ++ (play_lines s now.past states left).text) (capture_plays s all).text
 
 -- the next line is the first of those that are left
 pub next_of : {X : Type 0} (xs : List X) (i : ℕ) (x : X) → i < length xs → x ≡ get_or xs i x → drop i xs ≡ x ∷ drop (i + 1) xs
 next_of xs i x inside is = rw (add-one, drop-cons xs i x) (ap (λ y. y ∷ drop (suc i) xs) (sym is))
 
 -- no line was played yet
-pub running_start : {A : Type 0} (v : Playing A) (told : Option (List ℕ)) (all : List (ℕ × Line A)) → IsNew v → IsRunning v.settings v told told all all
-running_start v told all new = record {
+pub running_start : {A : Type 0} (v : Playing A) (told : Option (List ℕ)) (waiting : List ℕ) (all : List (ℕ × Line A)) → IsNew v → waiting ≡ [] → IsRunning v.settings v told told waiting all all
+running_start v told waiting all new empty = record {
   states = [];
   links = rw new.links tt;
   settings = refl;
   past = rw new.past refl;
   refusals = rw (new.past, new.refusals) refl;
-  owed = rw new.past (owes_all told (capture_plays v.settings all).text);
+  owed = rw (new.past, empty) (owes_all told (capture_plays v.settings all).text);
 }
 
 -- what a line did, by the configuration of the loop
-here_done : {A : Type 0} (s : Config) (now after : Playing A) (first mid last : Option (List ℕ)) (line : Line A) (left all : List (ℕ × Line A)) (r : IsRunning s now first mid left all)
-    → ((states : List LinkState) → AreLinks now.links states → HasWritten now after mid last (plays now.settings now.past states line))
-    → HasWritten now after mid last (plays s now.past r.states line)
-here_done s now after first mid last line left all r wrote =
-    subst (λ (c : Config). HasWritten now after mid last (plays c now.past r.states line)) r.settings (wrote r.states r.links)
+here_done : {A : Type 0} (s : Config) (now after : Playing A) (first mid last : Option (List ℕ)) (waited waiting : List ℕ) (line : Line A) (left all : List (ℕ × Line A)) (r : IsRunning s now first mid waited left all)
+    → ((states : List LinkState) → AreLinks now.links states → HasWritten now after mid last waited waiting (plays now.settings now.past states line))
+    → HasWritten now after mid last waited waiting (plays s now.past r.states line)
+here_done s now after first mid last waited waiting line left all r wrote =
+    subst (λ (c : Config). HasWritten now after mid last waited waiting (plays c now.past r.states line)) r.settings (wrote r.states r.links)
 
 -- one line more
-pub running_more : {A : Type 0} (s : Config) (now after : Playing A) (first mid last : Option (List ℕ)) (n : ℕ) (line : Line A) (left all : List (ℕ × Line A))
-    → IsRunning s now first mid ((n, line) ∷ left) all
-    → ((states : List LinkState) → AreLinks now.links states → HasWritten now after mid last (plays now.settings now.past states line))
-    → IsRunning s after first last left all
-running_more {A} s now after first mid last n line left all r wrote =
-    let done = here_done s now after first mid last line ((n, line) ∷ left) all r wrote in
+pub running_more : {A : Type 0} (s : Config) (now after : Playing A) (first mid last : Option (List ℕ)) (waited waiting : List ℕ) (n : ℕ) (line : Line A) (left all : List (ℕ × Line A))
+    → IsRunning s now first mid waited ((n, line) ∷ left) all
+    → ((states : List LinkState) → AreLinks now.links states → HasWritten now after mid last waited waiting (plays now.settings now.past states line))
+    → IsRunning s after first last waiting left all
+running_more {A} s now after first mid last waited waiting n line left all r wrote =
+    let done = here_done s now after first mid last waited waiting line ((n, line) ∷ left) all r wrote in
     let here : After A = plays s now.past r.states line in
     let later : Played A = play_lines s here.played.past here.links left in
     let same : play_lines s after.past here.links left ≡ later = ap (λ p. play_lines s p here.links left) done.past in
@@ -103,22 +108,39 @@ running_more {A} s now after first mid last n line left all r wrote =
           ap (λ (p : Played A). refused_more p.refusals after.refusals) same ∙ ap (λ (n : ℕ). refused_more later.refusals n) done.refusals
           ∙ refused_both here.played.refusals later.refusals now.refusals ∙ r.refusals;
       owed =
-          subst (λ (p : Played A). Owes first last p.text (capture_plays s all).text) (sym same)
-          (owes_step first mid last here.played.text later.text (capture_plays s all).text r.owed done.text);
+          subst (λ (p : Played A). Owes first last (waiting ++ p.text) (capture_plays s all).text) (sym same)
+          (owes_text first mid last waited here.played.text later.text waiting (capture_plays s all).text r.owed done.text);
     }
 
 -- none is left
-pub running_all : {A : Type 0} (s : Config) (now : Playing A) (first last : Option (List ℕ)) (all : List (ℕ × Line A)) → IsRunning s now first last [] all
-    → HasRun (capture_plays s all) now.past now.refusals first last
-running_all s now first last all r = record { past = r.past; refusals = r.refusals; text = owes_none first last (capture_plays s all).text r.owed }
+pub running_all : {A : Type 0} (s : Config) (now : Playing A) (first last : Option (List ℕ)) (waiting : List ℕ) (all : List (ℕ × Line A)) → IsRunning s now first last waiting [] all
+    → HasPassed (capture_plays s all) now.past now.refusals first last waiting
+running_all s now first last waiting all r =
+    record { past = r.past; refusals = r.refusals; owed = subst (λ (xs : List ℕ). Owes first last xs (capture_plays s all).text) (append-nil waiting) r.owed }
 
--- only a front of the next line's text was written
-pub running_part : {A : Type 0} (s : Config) (now : Playing A) (first mid last : Option (List ℕ)) (n : ℕ) (line : Line A) (left all : List (ℕ × Line A))
-    → IsRunning s now first mid ((n, line) ∷ left) all
-    → ((states : List LinkState) → AreLinks now.links states → AppendsPart mid last (plays now.settings now.past states line).played.text)
-    → AppendsPart first last (capture_plays s all).text
-running_part {A} s now first mid last n line left all r part =
+-- the next line wasn't played, or not all of its text was taken
+pub running_part : {A : Type 0} (s : Config) (now : Playing A) (first mid last : Option (List ℕ)) (waited waiting : List ℕ) (n : ℕ) (line : Line A) (left all : List (ℕ × Line A))
+    → IsRunning s now first mid waited ((n, line) ∷ left) all
+    → ((states : List LinkState) → AreLinks now.links states → WaitsPart mid last waiting (waited ++ (plays now.settings now.past states line).played.text))
+    → WaitsPart first last waiting (capture_plays s all).text
+running_part {A} s now first mid last waited waiting n line left all r part =
     let here : After A = plays s now.past r.states line in
-    let some : AppendsPart mid last here.played.text =
-    subst (λ (c : Config). AppendsPart mid last (plays c now.past r.states line).played.text) r.settings (part r.states r.links) in
-    owes_part first mid last here.played.text (play_lines s here.played.past here.links left).text (capture_plays s all).text r.owed some
+    let some : WaitsPart mid last waiting (waited ++ here.played.text) =
+    subst (λ (c : Config). WaitsPart mid last waiting (waited ++ (plays c now.past r.states line).played.text)) r.settings (part r.states r.links) in
+    waits_text first mid last waited here.played.text (play_lines s here.played.past here.links left).text waiting (capture_plays s all).text r.owed some
+
+-- what waited after the last line was written
+pub run_written : {A : Type 0} (played : Played A) (steps : List (Step A)) (count : ℕ) (first mid last : Option (List ℕ)) (waiting : List ℕ) → HasPassed played steps count first mid waiting → Appends mid last waiting
+    → HasRun played steps count first last
+run_written played steps count first mid last waiting p rest =
+    record { past = p.past; refusals = p.refusals; text = owes_rest first mid last waiting played.text p.owed rest }
+
+-- only a front of it was
+pub run_cut : {A : Type 0} (played : Played A) (steps : List (Step A)) (count : ℕ) (first mid last : Option (List ℕ)) (waiting : List ℕ) → HasPassed played steps count first mid waiting → AppendsPart mid last waiting
+    → AppendsPart first last played.text
+run_cut played steps count first mid last waiting p rest =
+    rest_cut first mid last waiting played.text (owes_waits first mid waiting played.text p.owed) rest
+
+-- nothing of it was
+pub run_left : (first last : Option (List ℕ)) (waiting all : List ℕ) → WaitsPart first last waiting all → AppendsPart first last all
+run_left first last waiting all w = (waiting ++ w.0, w.1)

@@ -5,6 +5,7 @@ pub mod Links
 pub mod Outcomes
 pub mod Pieces
 pub mod Playing
+pub mod ReplayHistory
 pub mod ReplayText
 pub mod Replays
 pub mod Runs

@@ -1,6 +1,6 @@
 //! A history audited from stream to stream.
 
-ghost use Rattle.std.specs.Prelude.{◌≤◌, length, IfOk, IfErr, IfSome, IsOk, OnOk};
+ghost use Rattle.std.specs.Prelude.{◌≡◌, ◌≤◌, length, IfOk, IfErr, IfSome, IsOk, OnOk};
 ghost use Rattle.gn_replay.specs.Faults.{IsReplayFault};
 ghost use Rattle.gn_capture.specs.Histories.{history_of};
 ghost use Rattle.gn_io.specs.Input.{input_limit};
@@ -14,7 +14,7 @@ use std::alloc::Allocator;
 
 /// Reads a history's text whole, asks a new router for each of its steps again, and writes one line: `legal COUNT`, or
 /// `wrong INDEX` with the index of the first step, counted from 0, at which the router does otherwise. Nothing is written
-/// before all is decided.
+/// before all is decided. An `Ok` says that no read failed and no write failed or took nothing.
 pub fn audit<A: Allocator + Copy, C: RouterCore<A> + Drop, S: Source, W: Sink>(
     alloc: A,
     source: &mut S,
@@ -24,6 +24,9 @@ pub fn audit<A: Allocator + Copy, C: RouterCore<A> + Drop, S: Source, W: Sink>(
     ensures lawful { OnOk result (IfSome (S.rest source.old) (λ text. IsOk (history_of {A = A} text))) }
     ensures told { IfOk result (λ legality. IfSome (S.rest source.old) (λ text.
         AppendsVerdict A text legality (W.told sink.old) (W.told sink.new))) }
+    ensures reads { OnOk result (S.failures source.new ≡ S.failures source.old) }
+    ensures failures { OnOk result (W.failures sink.new ≡ W.failures sink.old) }
+    ensures stalls { OnOk result (W.stalls sink.new ≡ W.stalls sink.old) }
     ensures stopped { IfErr result (λ fault. HasStopped A fault (S.rest source.old) (W.told sink.old) (W.told sink.new)) }
     ensures fault { IfErr result (λ fault. IsReplayFault fault (history_of {A = A}) (S.rest source.old)
         (S.failures source.old) (S.failures source.new) (S.given source.old) (S.given source.new)

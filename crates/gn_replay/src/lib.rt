@@ -5,6 +5,7 @@ mod audits;
 mod fault;
 #[cfg(test)]
 mod fault_tests;
+mod histories;
 mod judge;
 mod laws;
 mod line;
@@ -19,6 +20,7 @@ mod verdict;
 
 pub use audits::audit;
 pub use fault::ReplayFault;
+pub use histories::replay_history;
 pub use laws::replay_text_is_one;
 pub use play_fault::PlayFault;
 pub use replays::{Exit, replay};

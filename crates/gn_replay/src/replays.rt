@@ -24,7 +24,7 @@ pub struct Exit {
 
 /// The counts of what was played.
 #[tactic(auto, using(crate::proofs::ReplayLemmas::few_steps))]
-fn exit_of<A: Allocator + Copy, C: RouterCore<A>>(replayed: &Replayed<C>) -> Exit
+pub(crate) fn exit_of<A: Allocator + Copy, C: RouterCore<A>>(replayed: &Replayed<C>) -> Exit
     ensures steps { result.steps ≡ length (C.steps replayed.now.core) }
     ensures refusals { result.refusals ≡ replayed.now.refusals }
 {
@@ -44,6 +44,8 @@ fn replay_text<A: Allocator + Copy, C: RouterCore<A> + Drop, W: Sink>(
     ensures lawful { OnOk result (IsOk (capture_of {A = A} text.now)) }
     ensures written { OnOk result (AppendsReplay A text.now (W.told sink.old) (W.told sink.new)) }
     ensures counted { IfOk result (λ exit. IsCounted A text.now exit) }
+    ensures failures { OnOk result (W.failures sink.new ≡ W.failures sink.old) }
+    ensures stalls { OnOk result (W.stalls sink.new ≡ W.stalls sink.old) }
     ensures stopped { IfErr result (λ fault. HasStopped A fault (Some text.now) (W.told sink.old) (W.told sink.new)) }
     ensures fault { IfErr result (λ fault. IsReplayFault fault (capture_of {A = A}) (Some text.now) 0 0 0 0
         (W.failures sink.old) (W.failures sink.new) (W.stalls sink.old) (W.stalls sink.new)) }
@@ -53,8 +55,9 @@ fn replay_text<A: Allocator + Copy, C: RouterCore<A> + Drop, W: Sink>(
     Ok(exit_of::<A, C>(&replayed))
 }
 
-/// Reads a capture whole, plays its lines on a new router, and writes what each prints before the next is played. After an
-/// `Err` a front of that text was written, and nothing where the capture wasn't read or has a fault.
+/// Reads a capture whole, plays its lines on a new router, and writes what they print in blocks, as `play` does. An `Ok` says
+/// that no read failed and no write failed or took nothing. After an `Err` a prefix of that text was written, and nothing
+/// where the capture wasn't read or has a fault.
 pub fn replay<A: Allocator + Copy, C: RouterCore<A> + Drop, S: Source, W: Sink>(
     alloc: A,
     source: &mut S,
@@ -64,6 +67,9 @@ pub fn replay<A: Allocator + Copy, C: RouterCore<A> + Drop, S: Source, W: Sink>(
     ensures lawful { OnOk result (IfSome (S.rest source.old) (λ text. IsOk (capture_of {A = A} text))) }
     ensures written { OnOk result (IfSome (S.rest source.old) (λ text. AppendsReplay A text (W.told sink.old) (W.told sink.new))) }
     ensures counted { IfOk result (λ exit. IfSome (S.rest source.old) (λ text. IsCounted A text exit)) }
+    ensures reads { OnOk result (S.failures source.new ≡ S.failures source.old) }
+    ensures failures { OnOk result (W.failures sink.new ≡ W.failures sink.old) }
+    ensures stalls { OnOk result (W.stalls sink.new ≡ W.stalls sink.old) }
     ensures stopped { IfErr result (λ fault. HasStopped A fault (S.rest source.old) (W.told sink.old) (W.told sink.new)) }
     ensures fault { IfErr result (λ fault. IsReplayFault fault (capture_of {A = A}) (S.rest source.old)
         (S.failures source.old) (S.failures source.new) (S.given source.old) (S.given source.new)

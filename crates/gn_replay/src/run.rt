@@ -1,15 +1,15 @@
 //! The lines of a capture, played on a router one after the other.
 
-ghost use Rattle.std.specs.Prelude.{◌≡◌, [], List, reverse, IfOk, IfErr, OnOk, OnErr};
-ghost use Rattle.gn_io.specs.Parts.{AppendsPart};
+ghost use Rattle.std.specs.Prelude.{◌≡◌, ◌++◌, [], List, reverse, IfOk, IfErr, OnOk, OnErr};
+ghost use Rattle.gn_io.specs.Parts.{AppendsPart, Owes, WaitsPart};
 ghost use Rattle.gn_replay.specs.Links.{AreLinks, LinkState};
 ghost use Rattle.gn_replay.specs.ReplayText.{capture_plays, plays};
-ghost use Rattle.gn_replay.specs.Runs.{HasRun, HasWritten, IsNew, IsPlayFault};
+ghost use Rattle.gn_replay.specs.Runs.{HasPassed, HasRun, HasWritten, IsNew, IsPlayFault};
 
 use crate::play_fault::PlayFault;
 use crate::playing::Play;
 use gn_capture::{Capture, Line};
-use gn_io::{Sink, write_all};
+use gn_io::{Block, Sink};
 use gn_rules::RouterCore;
 use std::alloc::Allocator;
 
@@ -29,43 +29,92 @@ impl<A: Allocator + Copy, C: RouterCore<A>> Play<A, C> {
         self.out.clear();
     }
 
-    /// Plays one line, and writes its text.
-    fn write_line<W: Sink>(&mut self, line: &Line<A>, sink: &mut W) -> Result<(), PlayFault>
+    /// Plays one line. Its text waits behind what waited, and is written once that is a block.
+    fn write_line<W: Sink>(
+        &mut self,
+        line: &Line<A>,
+        block: &mut Block<A>,
+        sink: &mut W,
+    ) -> Result<(), PlayFault>
         ensures ok { OnOk result ((states : List LinkState) → AreLinks self.old.links states
-            → HasWritten self.old self.new (W.told sink.old) (W.told sink.new) (plays self.old.settings self.old.past states line.now)) }
+            → HasWritten self.old self.new (W.told sink.old) (W.told sink.new) block.old block.new
+            (plays self.old.settings self.old.past states line.now)) }
         ensures err { OnErr result ((states : List LinkState) → AreLinks self.old.links states
-            → AppendsPart (W.told sink.old) (W.told sink.new) (plays self.old.settings self.old.past states line.now).played.text) }
-        ensures cause { IfErr result (λ fault. IsPlayFault fault (W.failures sink.old) (W.failures sink.new) (W.stalls sink.old) (W.stalls sink.new)) }
+            → WaitsPart (W.told sink.old) (W.told sink.new) block.new
+            (block.old ++ (plays self.old.settings self.old.past states line.now).played.text)) }
+        ensures cause { IfErr result (λ fault. IsPlayFault fault (W.failures sink.old) (W.failures sink.new)
+            (W.stalls sink.old) (W.stalls sink.new)) }
         ensures failures { OnOk result (W.failures sink.new ≡ W.failures sink.old) }
         ensures stalls { OnOk result (W.stalls sink.new ≡ W.stalls sink.old) }
     {
         self.clear_out();
         self.play_line(line)?;
-        write_all(sink, &self.out)?;
+        block.add(&self.out)?;
+        block.write_full(sink)?;
         Ok(())
     }
 
-    /// Plays lines in order, and writes the text of each before the next is played.
+    /// Plays lines in order. Their text is written in blocks, and what is over waits.
+    fn pass_lines<W: Sink>(
+        &mut self,
+        lines: &[(u64, Line<A>)],
+        block: &mut Block<A>,
+        sink: &mut W,
+    ) -> Result<(), PlayFault>
+        requires new { IsNew self.old }
+        requires empty { block.old ≡ [] }
+        ensures ok { OnOk result (HasPassed (capture_plays self.old.settings lines.now) self.new.past self.new.refusals
+            (W.told sink.old) (W.told sink.new) block.new) }
+        ensures err { OnErr result (WaitsPart (W.told sink.old) (W.told sink.new) block.new
+            (capture_plays self.old.settings lines.now).text) }
+        ensures settings { OnOk result (self.new.settings ≡ self.old.settings) }
+        ensures cause { IfErr result (λ fault. IsPlayFault fault (W.failures sink.old) (W.failures sink.new)
+            (W.stalls sink.old) (W.stalls sink.new)) }
+        ensures failures { OnOk result (W.failures sink.new ≡ W.failures sink.old) }
+        ensures stalls { OnOk result (W.stalls sink.new ≡ W.stalls sink.old) }
+    {
+        for (_, line) in lines {
+            self.write_line(line, block, sink)?;
+        }
+        Ok(())
+    }
+
+    /// Plays lines in order, and writes their text in blocks, what is over at the end. Where memory runs out, the text of
+    /// all lines before that is written too.
     fn write_lines<W: Sink>(
         &mut self,
         lines: &[(u64, Line<A>)],
         sink: &mut W,
     ) -> Result<(), PlayFault>
         requires { IsNew self.old }
-        ensures ok { OnOk result (HasRun (capture_plays self.old.settings lines.now) self.new.past self.new.refusals (W.told sink.old) (W.told sink.new)) }
-        ensures err { OnErr result (AppendsPart (W.told sink.old) (W.told sink.new) (capture_plays self.old.settings lines.now).text) }
+        ensures ok { OnOk result (HasRun (capture_plays self.old.settings lines.now) self.new.past self.new.refusals
+            (W.told sink.old) (W.told sink.new)) }
+        ensures err { OnErr result (AppendsPart (W.told sink.old) (W.told sink.new)
+            (capture_plays self.old.settings lines.now).text) }
         ensures settings { OnOk result (self.new.settings ≡ self.old.settings) }
-        ensures cause { IfErr result (λ fault. IsPlayFault fault (W.failures sink.old) (W.failures sink.new) (W.stalls sink.old) (W.stalls sink.new)) }
+        ensures cause { IfErr result (λ fault. IsPlayFault fault (W.failures sink.old) (W.failures sink.new)
+            (W.stalls sink.old) (W.stalls sink.new)) }
+        ensures failures { OnOk result (W.failures sink.new ≡ W.failures sink.old) }
+        ensures stalls { OnOk result (W.stalls sink.new ≡ W.stalls sink.old) }
     {
-        for (_, line) in lines {
-            self.write_line(line, sink)?;
+        let mut block = Block::new(self.alloc);
+        match self.pass_lines(lines, &mut block, sink) {
+            Ok(()) => {
+                block.write_rest(sink)?;
+                Ok(())
+            }
+            Err(PlayFault::NoMemory) => {
+                block.write_rest(sink)?;
+                Err(PlayFault::NoMemory)
+            }
+            Err(PlayFault::Write) => Err(PlayFault::Write),
         }
-        Ok(())
     }
 }
 
-/// Makes a router as the capture's first lines say, plays its lines on it, and writes what they print. An `Err` is a write
-/// that failed or took nothing, or want of memory: a front of that text was written.
+/// Makes a router as the capture's first lines say, plays its lines on it, and writes what they print in blocks of at
+/// least 32,768 bytes, the last one shorter. An `Err` is a write that failed or took nothing, or out of memory: a prefix of
+/// that text was written.
 pub fn play<A: Allocator + Copy, C: RouterCore<A> + Drop, W: Sink>(
     alloc: A,
     capture: &Capture<A>,
@@ -74,8 +123,12 @@ pub fn play<A: Allocator + Copy, C: RouterCore<A> + Drop, W: Sink>(
     ensures settings { IfOk result (λ replayed. C.settings replayed.core ≡ capture.now.config) }
     ensures played { IfOk result (λ replayed. HasRun (capture_plays capture.now.config capture.now.lines.items)
         (reverse (C.steps replayed.core)) replayed.refusals (W.told sink.old) (W.told sink.new)) }
-    ensures err { OnErr result (AppendsPart (W.told sink.old) (W.told sink.new) (capture_plays capture.now.config capture.now.lines.items).text) }
-    ensures cause { IfErr result (λ fault. IsPlayFault fault (W.failures sink.old) (W.failures sink.new) (W.stalls sink.old) (W.stalls sink.new)) }
+    ensures err { OnErr result (AppendsPart (W.told sink.old) (W.told sink.new)
+        (capture_plays capture.now.config capture.now.lines.items).text) }
+    ensures failures { OnOk result (W.failures sink.new ≡ W.failures sink.old) }
+    ensures stalls { OnOk result (W.stalls sink.new ≡ W.stalls sink.old) }
+    ensures cause { IfErr result (λ fault. IsPlayFault fault (W.failures sink.old) (W.failures sink.new)
+        (W.stalls sink.old) (W.stalls sink.new)) }
 {
     let mut play = Play {
         alloc,

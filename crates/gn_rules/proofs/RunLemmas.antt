@@ -9,7 +9,8 @@ use Rattle.gn_rules.specs.declared.reply.Reply.{Reply}
 use Rattle.gn_rules.specs.declared.refusal.Refusal.{Refusal}
 use Rattle.gn_rules.specs.declared.refusal.Refusal.TheVariants.{HistoryFull, NotLive, NoTicket, Strange, NothingWaiting, BadOrigin, Remembered, NoMemory}
 use Rattle.gn_rules.specs.Answer.{answer, Finds, reply_of}
-use Rattle.gn_rules.specs.Laws.{RunsAgree}
+use Rattle.gn_rules.specs.Laws.{AgreeSoFar, RunsAgree, RunsAgreeSoFar, RunsStayLegal}
+use Rattle.gn_rules.specs.Legal.{IsLegal}
 use Rattle.gn_rules.proofs.PastLemmas.{past_push}
 use Rattle.gn_rules.specs.Runs.{past_after, IsReceipt, IsAnswered, Ran, had_memory}
 
@@ -83,6 +84,12 @@ same_result past event (Ok x) (Err y) same told_x told_y = absurd (cc)
 same_result past event (Err x) (Ok y) same told_x told_y = absurd (cc)
 same_result past event (Err x) (Err y) same told_x told_y = cc
 
+-- two results with memory after the same steps are equal
+agreed : {A : Type 0} (s : Config) (past : List (Step A)) (e : Event A) (x y : Result (Receipt A) Refusal)
+    → IsAnswered s past e x → IsAnswered s past e y → had_memory x ≡ true → had_memory y ≡ true → x ≡ y
+agreed s past e x y of_x of_y had_x had_y =
+    same_result past e x y (sym (found_is x (answer s past e) of_x.found had_x) ∙ found_is y (answer s past e) of_y.found had_y) of_x.told of_y.told
+
 -- two runs agree: event by event
 pub runs_agree : (A : Type 0) → RunsAgree A
 runs_agree A s past [] [] [] first second ran_x ran_y had_x had_y = (refl, ran_x ∙ sym ran_y)
@@ -91,10 +98,30 @@ runs_agree A s past [] (x ∷ xs) ys first second ran_x ran_y had_x had_y = absu
 runs_agree A s past (e ∷ es) [] ys first second ran_x ran_y had_x had_y = absurd ran_x
 runs_agree A s past (e ∷ es) (x ∷ xs) [] first second ran_x ran_y had_x had_y = absurd ran_y
 runs_agree A s past (e ∷ es) (x ∷ xs) (y ∷ ys) first second ran_x ran_y had_x had_y =
-    let rules : Result (Reply A) Refusal = answer s past e in
-    let same : x ≡ y =
-    same_result past e x y (sym (found_is x rules ran_x.0.found had_x.0) ∙ found_is y rules ran_y.0.found had_y.0) ran_x.0.told ran_y.0.told in
+    let same : x ≡ y = agreed s past e x y ran_x.0 ran_y.0 had_x.0 had_y.0 in
     let there : Ran s (past_after past e x) es ys second =
     subst (λ (z : Result (Receipt A) Refusal). Ran s (past_after past e z) es ys second) (sym same) ran_y.1 in
     let rest : (xs ≡ ys) × (first ≡ second) = runs_agree A s (past_after past e x) es xs ys first second ran_x.1 there had_x.1 had_y.1 in
     (rw (same, rest.0) refl, rest.1)
+
+-- two runs agree up to the first that is out of memory: event by event
+pub runs_agree_so_far : (A : Type 0) → RunsAgreeSoFar A
+runs_agree_so_far A s past [] [] [] first second ran_x ran_y = tt
+runs_agree_so_far A s past [] [] (y ∷ ys) first second ran_x ran_y = absurd ran_y
+runs_agree_so_far A s past [] (x ∷ xs) ys first second ran_x ran_y = absurd ran_x
+runs_agree_so_far A s past (e ∷ es) [] ys first second ran_x ran_y = absurd ran_x
+runs_agree_so_far A s past (e ∷ es) (x ∷ xs) [] first second ran_x ran_y = absurd ran_y
+runs_agree_so_far A s past (e ∷ es) (x ∷ xs) (y ∷ ys) first second ran_x ran_y = λ had_x had_y.
+    let same : x ≡ y = agreed s past e x y ran_x.0 ran_y.0 had_x had_y in
+    let there : Ran s (past_after past e x) es ys second =
+    subst (λ (z : Result (Receipt A) Refusal). Ran s (past_after past e z) es ys second) (sym same) ran_y.1 in
+    (same, runs_agree_so_far A s (past_after past e x) es xs ys first second ran_x.1 there)
+
+-- a run keeps its history legal: event by event
+pub runs_stay_legal : (A : Type 0) → RunsStayLegal A
+runs_stay_legal A s past [] [] after legal ran = subst (IsLegal s) (sym ran) legal
+runs_stay_legal A s past [] (x ∷ xs) after legal ran = absurd ran
+runs_stay_legal A s past (e ∷ es) [] after legal ran = absurd ran
+runs_stay_legal A s past (e ∷ es) (Ok receipt ∷ xs) after legal ran =
+    runs_stay_legal A s (past_after past e (Ok receipt)) es xs after (ran.0.found, legal) ran.1
+runs_stay_legal A s past (e ∷ es) (Err refusal ∷ xs) after legal ran = runs_stay_legal A s past es xs after legal ran.1

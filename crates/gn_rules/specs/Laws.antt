@@ -25,8 +25,27 @@ abbrev pub LiveConnectionsRise : Type 0 → Type 0
 LiveConnectionsRise A =
     (s : Config) (past : List (Step A)) → IsLegal s past → IsStrictlyIncreasing (live_connections past)
 
--- two runs of equal configurations, histories and events, neither of which met want of memory, have equal results and
--- equal histories
+-- results that are equal up to the first that is out of memory, in either list
+abbrev pub AgreeSoFar : {A : Type 0} → List (Result (Receipt A) Refusal) → List (Result (Receipt A) Refusal) → Type 0
+AgreeSoFar [] [] = Unit {0}
+AgreeSoFar (x ∷ xs) (y ∷ ys) = had_memory x ≡ true → had_memory y ≡ true → (x ≡ y) × AgreeSoFar xs ys
+AgreeSoFar xs ys = ⊥
+
+-- two runs of equal configurations, histories and events have equal results up to the first of either that is out of memory
+abbrev pub RunsAgreeSoFar : Type 0 → Type 0
+RunsAgreeSoFar A =
+    (s : Config) (past : List (Step A)) (events : List (Event A)) (xs ys : List (Result (Receipt A) Refusal))
+    (first second : List (Step A))
+    → Ran s past events xs first → Ran s past events ys second → AgreeSoFar xs ys
+
+-- a run that begins with a legal history ends with one, whatever was refused
+abbrev pub RunsStayLegal : Type 0 → Type 0
+RunsStayLegal A =
+    (s : Config) (past : List (Step A)) (events : List (Event A)) (xs : List (Result (Receipt A) Refusal)) (after : List (Step A))
+    → IsLegal s past → Ran s past events xs after → IsLegal s after
+
+-- two runs of equal configurations, histories and events, neither of which was out of memory, have equal results and equal
+-- histories
 abbrev pub RunsAgree : Type 0 → Type 0
 RunsAgree A =
     (s : Config) (past : List (Step A)) (events : List (Event A)) (xs ys : List (Result (Receipt A) Refusal))

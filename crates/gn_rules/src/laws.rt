@@ -1,7 +1,7 @@
 //! Laws of the rules that no one call shows.
 
 ghost use Rattle.gn_rules.specs.Fits.{AnswersFit, CheckedAnswersFit};
-ghost use Rattle.gn_rules.specs.Laws.{CountersAddUp, CountersCount, LiveConnectionsRise, OutputIsUntaken, RunsAgree};
+ghost use Rattle.gn_rules.specs.Laws.{CountersAddUp, CountersCount, LiveConnectionsRise, OutputIsUntaken, RunsAgree, RunsAgreeSoFar, RunsStayLegal};
 ghost use Rattle.gn_rules.specs.ServentLaw.{ServentRouteIsLast};
 
 use std::alloc::Allocator;
@@ -24,6 +24,16 @@ pub fn servent_route_is_last<A: Allocator>()
 /// The law that routers of one configuration which begin alike answer alike.
 pub fn runs_agree<A: Allocator>()
     ensures { RunsAgree A }
+{}
+
+/// The law that such routers answer alike up to the first answer of either that is out of memory.
+pub fn runs_agree_so_far<A: Allocator>()
+    ensures { RunsAgreeSoFar A }
+{}
+
+/// The law that a router's history stays legal, whatever memory it was refused.
+pub fn runs_stay_legal<A: Allocator>()
+    ensures { RunsStayLegal A }
 {}
 
 /// The law that each step is counted once.

@@ -21,7 +21,7 @@ pub use config::{BadConfig, Config, Field, Own};
 pub use event::{ConnId, Event, Ticket};
 pub use laws::{
     answers_fit, checked_answers_fit, counters_add_up, counters_count, live_connections_rise,
-    output_is_untaken, runs_agree, servent_route_is_last,
+    output_is_untaken, runs_agree, runs_agree_so_far, runs_stay_legal, servent_route_is_last,
 };
 pub use legality::Legality;
 pub use packets::{forward_of, may_originate, own_pong};

@@ -148,7 +148,8 @@ impl Stats {
 
     /// Counts one more, at most up to the last u32, which no history reaches.
     pub fn raise(&mut self, counter: Counter)
-        ensures { told counter self.old + 1 < 2 ^ 32 → self.new ≡ raised counter self.old }
+        ensures more { told counter self.old + 1 < 2 ^ 32 → self.new ≡ raised counter self.old }
+        ensures last { told counter self.old + 1 ≡ 2 ^ 32 → self.new ≡ self.old }
     {
         match counter {
             Counter::Connected => self.connected = one_more(self.connected),
@@ -172,7 +173,8 @@ impl Stats {
 
 /// One more, at most the last u32.
 fn one_more(count: u32) -> u32
-    ensures { count + 1 < 2 ^ 32 → result ≡ count + 1 }
+    ensures more { count + 1 < 2 ^ 32 → result ≡ count + 1 }
+    ensures last { count + 1 ≡ 2 ^ 32 → result ≡ count }
 {
     count.saturating_add(1)
 }

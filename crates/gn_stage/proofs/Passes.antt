@@ -1,11 +1,11 @@
 -- What the desk knows, as its parts.
 use Rattle.std.proofs.Common.{◌≡◌, ℕ, ◌+◌, ◌≤◌, max, List, [], length, sym, refl, ap, ◌∙◌, arith}
-use Rattle.gn_stage.specs.Rule.{Known, IsDeskOf, new_pass, new_desk, with_intake, with_outlet, one_made}
+use Rattle.gn_stage.specs.Rule.{Role, Known, IsDeskOf, new_pass, new_desk, with_intake, with_outlet, one_made}
 use Rattle.gn_stage.specs.Settled.{told}
 
 module _ {J : Type 0} where
   -- a new pass is its parts
-  pub new_parts : (role room p : ℕ) (v : Known J) → v ≡ new_pass role room p → (v.role ≡ role) × (v.room ≡ room) × (p ≡ v.end.number) × (0 ≡ told (length v.end.jobs))
+  pub new_parts : (role : Role) (room p : ℕ) (v : Known J) → v ≡ new_pass role room p → (v.role ≡ role) × (v.room ≡ room) × (p ≡ v.end.number) × (0 ≡ told (length v.end.jobs))
   new_parts role room p v e = (
     ap (λ (v : Known J). v.role) e,
     ap (λ (v : Known J). v.room) e,

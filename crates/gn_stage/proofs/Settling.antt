@@ -4,7 +4,7 @@ use Rattle.std.specs.Prelude.{sum_by}
 use mathlib.Core.Option.{none}
 use Rattle.gn_stage.specs.Ends.{End, AreAllHome}
 use Rattle.gn_stage.specs.Lessons.{IsDraining}
-use Rattle.gn_stage.specs.Rule.{Known, Gathered, FitsSide, IsDeskOf, AreHome, jobs_of, with_drained, with_intakes_home, with_outlets_home}
+use Rattle.gn_stage.specs.Rule.{of_desk, Known, Gathered, FitsSide, IsDeskOf, AreHome, jobs_of, with_drained, with_intakes_home, with_outlets_home}
 use Rattle.gn_stage.specs.Settled.{IsSettled, told}
 use Rattle.gn_stage.proofs.Interleavings.{interleaves, counts}
 
@@ -13,7 +13,7 @@ module _ {J : Type 0} where
   abbrev pub home_desk : ℕ → ℕ → Known J → List (End J) → List (End J) → Type 0
   home_desk intakes outlets v ins outs = (v.ins ≡ record { made = intakes; home = ins }) × (v.outs ≡ record { made = outlets; home = outs })
 
-  pub gathers : (intakes outlets capacity : ℕ) (v w z : Known J) (ins outs : List (End J)) → IsDeskOf intakes outlets capacity v → w ≡ with_intakes_home v ins → z ≡ with_outlets_home w outs → home_desk intakes outlets z ins outs × (z.role ≡ 0) × (z.end.jobs ≡ []) × (z.room ≡ v.room)
+  pub gathers : (intakes outlets capacity : ℕ) (v w z : Known J) (ins outs : List (End J)) → IsDeskOf intakes outlets capacity v → w ≡ with_intakes_home v ins → z ≡ with_outlets_home w outs → home_desk intakes outlets z ins outs × (z.role ≡ of_desk) × (z.end.jobs ≡ []) × (z.room ≡ v.room)
   gathers intakes outlets capacity v w z ins outs h first second = (
     (
       ap (λ (v : Known J). v.ins) second ∙ ap (λ (v : Known J). v.ins) first ∙ ap (λ (g : Gathered J). record g { home = g.home ++ ins }) h.ins,

@@ -5,10 +5,21 @@ use lib.ListN.{get_elem?}
 use Rattle.atomic_table.proofs.Lists.{at_set}
 use Rattle.crossbeam_channel.specs.Fifo.{Pushes, Pops, Forks, Merges, Learns}
 use Rattle.gn_stage.specs.Ends.{End}
-use Rattle.gn_stage.specs.Rule.{Owned, owned, jobs_of, owned_by, Past, FitsDesk, Fits, Kept, Known, AreHome, new_desk, new_intake, new_outlet, spent, none_made, with_item, with_intake, with_outlet, with_intake_home, with_outlet_home}
+use Rattle.gn_stage.specs.Rule.{Role, of_desk, of_intake, of_outlet, joined, Owned, owned, jobs_of, owned_by, Past, FitsDesk, Fits, Kept, Known, AreHome, new_desk, new_intake, new_outlet, spent, none_made, with_item, with_intake, with_outlet, with_intake_home, with_outlet_home}
 use Rattle.gn_stage.specs.Lessons.{IsRunning, IsDraining, Drained}
 use Rattle.gn_stage.proofs.Owners.{owned_by-mine, owned_by-other, jobs_of-push}
 use Rattle.gn_stage.proofs.Sides.{Seats, seat_set, seat_here, seat_else, free_apart, seats_apart, still_held, side_more, side_made, side_home, side_begins, side_free, all_free}
+
+-- roles, numbered
+abbrev rank : Role → ℕ
+rank of_desk = 0
+rank of_intake = 1
+rank of_outlet = 2
+rank joined = 3
+
+-- two roles of different numbers are not one
+unlike : (a b : Role) → rank a ≢ rank b → a ≡ b → ⊥
+unlike a b apart same = apart (ap rank same)
 
 module _ {J : Type 0} where
   abbrev AllFit : (ℕ → Known J → Type 0) → List (Known J) → Type 0
@@ -31,7 +42,7 @@ module _ {J : Type 0} where
   few_more : (d items : List J) (x : J) (n room most : ℕ) → d ≡ [] → length items < n → room ≡ n → room ≤ most → length d + length (items ++ x ∷ []) ≤ most
   few_more d items x n room most none_drained short e le = rw none_drained (let l = length-append items (x ∷ []) in omega arith)
 
-  pub puts : (n port : ℕ) (v : Known J) (x : J) → v.role ≡ 1 → v.room ≡ n → Pushes Kept n port v x (λ w. w ≡ with_item v x)
+  pub puts : (n port : ℕ) (v : Known J) (x : J) → v.role ≡ of_intake → v.room ≡ n → Pushes Kept n port v x (λ w. w ≡ with_item v x)
   puts n port v x is room items views short h at =
       let p = h.past in
       let mine = (h.fits port v at).as_intake is in
@@ -48,8 +59,8 @@ module _ {J : Type 0} where
           fits = all_set (Fits past) views port w
               (record {
                 as_intake = λ i. (mine.0, ap (λ l. l ++ x ∷ []) mine.1 ∙ sym (owned_by-mine me x p.put), mine.2);
-                as_outlet = λ i. absurd (omega arith);
-                as_desk = λ i. absurd (omega arith);
+                as_outlet = λ i. absurd (unlike of_intake of_outlet (λ (e : 1 ≡ 2). omega arith) (sym is ∙ i));
+                as_desk = λ i. absurd (unlike of_intake of_desk (λ (e : 1 ≡ 0). omega arith) (sym is ∙ i));
               })
               (λ j u other e. let was = h.fits j u e in record {
                 as_intake = λ i. let f = was.as_intake i in (f.0, f.1 ∙ sym (owned_by-other me u.end.number x p.put (seats_apart p.in_seat me u.end.number port j mine.0 f.0 other)), f.2);
@@ -63,7 +74,7 @@ module _ {J : Type 0} where
   order_taken : (q t d items : List J) (x : J) → d ≡ [] → q ≡ (t ++ d) ++ (x ∷ items) → q ≡ ((t ++ x ∷ []) ++ d) ++ items
   order_taken q t d items x none_drained e = rw none_drained (rw none_drained at e ∙ simp (append_assoc, append-nil))
 
-  pub takes : (port : ℕ) (v : Known J) → v.role ≡ 2 → Pops Kept port v (λ x w. w ≡ with_item v x)
+  pub takes : (port : ℕ) (v : Known J) → v.role ≡ of_outlet → Pops Kept port v (λ x w. w ≡ with_item v x)
   takes port v is x items views h at =
       let p = h.past in
       let mine = (h.fits port v at).as_outlet is in
@@ -79,9 +90,9 @@ module _ {J : Type 0} where
           few = let few = h.few in omega arith;
           fits = all_set (Fits past) views port w
               (record {
-                as_intake = λ i. absurd (omega arith);
+                as_intake = λ i. absurd (unlike of_outlet of_intake (λ (e : 2 ≡ 1). omega arith) (sym is ∙ i));
                 as_outlet = λ i. (mine.0, ap (λ l. l ++ x ∷ []) mine.1 ∙ sym (owned_by-mine me x p.taken));
-                as_desk = λ i. absurd (omega arith);
+                as_desk = λ i. absurd (unlike of_outlet of_desk (λ (e : 2 ≡ 0). omega arith) (sym is ∙ i));
               })
               (λ j u other e. let was = h.fits j u e in record {
                 as_intake = was.as_intake;
@@ -95,7 +106,7 @@ module _ {J : Type 0} where
   order_drained : (q t d items : List J) (x : J) → q ≡ (t ++ d) ++ (x ∷ items) → q ≡ (t ++ (d ++ x ∷ [])) ++ items
   order_drained q t d items x e = e ∙ simp append_assoc
 
-  pub drains : (port : ℕ) (v : Known J) → v.role ≡ 0 → AreHome v.ins → AreHome v.outs → Pops Kept port v (Drained v)
+  pub drains : (port : ℕ) (v : Known J) → v.role ≡ of_desk → AreHome v.ins → AreHome v.outs → Pops Kept port v (Drained v)
   drains port v is all_in all_out x items views h at =
       let p = h.past in
       let mine = (h.fits port v at).as_desk is in
@@ -114,8 +125,8 @@ module _ {J : Type 0} where
           few = few;
           fits = all_set (Fits past) views port w
               (record {
-                as_intake = λ i. absurd (omega arith);
-                as_outlet = λ i. absurd (omega arith);
+                as_intake = λ i. absurd (unlike of_desk of_intake (λ (e : 0 ≡ 1). omega arith) (sym is ∙ i));
+                as_outlet = λ i. absurd (unlike of_desk of_outlet (λ (e : 0 ≡ 2). omega arith) (sym is ∙ i));
                 as_desk = λ i. record { here = mine.here; drained = drained; room = mine.room; ins = mine.ins; outs = mine.outs };
               })
               (λ j u other e. let was = h.fits j u e in record {
@@ -127,14 +138,14 @@ module _ {J : Type 0} where
         (refl, few_drained),
       )
 
-  pub runs : (port : ℕ) (v : Known J) → v.role ≡ 2 → Learns Kept port v (IsRunning v.end)
+  pub runs : (port : ℕ) (v : Known J) → v.role ≡ of_outlet → Learns Kept port v (IsRunning v.end)
   runs port v is items views h at =
       let p = h.past in
       let mine = (h.fits port v at).as_outlet is in
       let none_drained = h.outs_last v.end.number port mine.0 in
       record { put = p.put; taken = p.taken; order = h.order ∙ ap (λ l. l ++ items) (ap (λ d. jobs_of p.taken ++ d) none_drained ∙ append-nil (jobs_of p.taken)); mine = mine.1 }
 
-  pub learns : (port : ℕ) (v : Known J) → v.role ≡ 0 → AreHome v.ins → AreHome v.outs → Learns Kept port v (IsDraining v)
+  pub learns : (port : ℕ) (v : Known J) → v.role ≡ of_desk → AreHome v.ins → AreHome v.outs → Learns Kept port v (IsDraining v)
   learns port v is all_in all_out items views h at =
       let p = h.past in
       let mine = (h.fits port v at).as_desk is in record {
@@ -152,7 +163,7 @@ module _ {J : Type 0} where
   pub begins : Kept {J = J} [] (new_desk ∷ [])
   begins =
       let past : Past J = record { put = []; taken = []; drained = []; in_seat = λ k. none; out_seat = λ k. none; desk = 0; room = 0 } in
-      let first : Fits past 0 new_desk = record { as_intake = λ i. absurd (omega arith); as_outlet = λ i. absurd (omega arith); as_desk = λ i. record { here = refl; drained = refl; room = refl; ins = side_begins; outs = side_begins } } in
+      let first : Fits past 0 new_desk = record { as_intake = λ i. absurd (unlike of_desk of_intake (λ (e : 0 ≡ 1). omega arith) i); as_outlet = λ i. absurd (unlike of_desk of_outlet (λ (e : 0 ≡ 2). omega arith) i); as_desk = λ i. record { here = refl; drained = refl; room = refl; ins = side_begins; outs = side_begins } } in
       record {
         past = past;
         order = refl;
@@ -162,7 +173,7 @@ module _ {J : Type 0} where
         fits = all_set (Fits past) (new_desk ∷ []) 0 new_desk first (λ j u other e. absurd (alone j u other e));
       }
 
-  pub makes_intake : (room port : ℕ) (v : Known J) → v.role ≡ 0 → v.end.jobs ≡ [] → Forks Kept port v (with_intake room v) (new_intake room v.ins.made)
+  pub makes_intake : (room port : ℕ) (v : Known J) → v.role ≡ of_desk → v.end.jobs ≡ [] → Forks Kept port v (with_intake room v) (new_intake room v.ins.made)
   makes_intake room port v is empty items views h at =
       let p = h.past in
       let mine = (h.fits port v at).as_desk is in
@@ -181,8 +192,8 @@ module _ {J : Type 0} where
         fits = all_end (Fits past) vs right
             (all_set (Fits past) views port left
             (record {
-              as_intake = λ i. absurd (omega arith);
-              as_outlet = λ i. absurd (omega arith);
+              as_intake = λ i. absurd (unlike of_desk of_intake (λ (e : 0 ≡ 1). omega arith) (sym is ∙ i));
+              as_outlet = λ i. absurd (unlike of_desk of_outlet (λ (e : 0 ≡ 2). omega arith) (sym is ∙ i));
               as_desk = λ i. record { here = mine.here; drained = mine.drained; room = ap (λ n. max n room) mine.room; ins = side_made _ p.in_seat p.put (length vs) mine.ins; outs = mine.outs };
             })
             (λ j u other e. let was = h.fits j u e in record {
@@ -192,12 +203,12 @@ module _ {J : Type 0} where
             }))
             (record {
               as_intake = λ i. (seat_here p.in_seat v.ins.made (some (length vs)), sym free.1, omega arith);
-              as_outlet = λ i. absurd (omega arith);
-              as_desk = λ i. absurd (omega arith);
+              as_outlet = λ i. absurd (unlike of_intake of_outlet (λ (e : 1 ≡ 2). omega arith) i);
+              as_desk = λ i. absurd (unlike of_intake of_desk (λ (e : 1 ≡ 0). omega arith) i);
             });
       }
 
-  pub makes_outlet : (room port : ℕ) (v : Known J) → v.role ≡ 0 → v.end.jobs ≡ [] → Forks Kept port v (with_outlet v) (new_outlet room v.outs.made)
+  pub makes_outlet : (room port : ℕ) (v : Known J) → v.role ≡ of_desk → v.end.jobs ≡ [] → Forks Kept port v (with_outlet v) (new_outlet room v.outs.made)
   makes_outlet room port v is empty items views h at =
       let p = h.past in
       let mine = (h.fits port v at).as_desk is in
@@ -216,8 +227,8 @@ module _ {J : Type 0} where
         fits = all_end (Fits past) vs right
             (all_set (Fits past) views port left
             (record {
-              as_intake = λ i. absurd (omega arith);
-              as_outlet = λ i. absurd (omega arith);
+              as_intake = λ i. absurd (unlike of_desk of_intake (λ (e : 0 ≡ 1). omega arith) (sym is ∙ i));
+              as_outlet = λ i. absurd (unlike of_desk of_outlet (λ (e : 0 ≡ 2). omega arith) (sym is ∙ i));
               as_desk = λ i. record { here = mine.here; drained = mine.drained; room = mine.room; ins = mine.ins; outs = side_made _ p.out_seat p.taken (length vs) mine.outs };
             })
             (λ j u other e. let was = h.fits j u e in record {
@@ -226,13 +237,13 @@ module _ {J : Type 0} where
               as_desk = λ i. absurd (other ((was.as_desk i).here ∙ sym mine.here));
             }))
             (record {
-              as_intake = λ i. absurd (omega arith);
+              as_intake = λ i. absurd (unlike of_outlet of_intake (λ (e : 2 ≡ 1). omega arith) i);
               as_outlet = λ i. (seat_here p.out_seat v.outs.made (some (length vs)), sym free.1);
-              as_desk = λ i. absurd (omega arith);
+              as_desk = λ i. absurd (unlike of_outlet of_desk (λ (e : 2 ≡ 0). omega arith) i);
             });
       }
 
-  pub joins_intake : (port : ℕ) (v : Known J) (other : ℕ) (w : Known J) → v.role ≡ 0 → w.role ≡ 1 → Merges Kept port v other w (with_intake_home v w.end) spent
+  pub joins_intake : (port : ℕ) (v : Known J) (other : ℕ) (w : Known J) → v.role ≡ of_desk → w.role ≡ of_intake → Merges Kept port v other w (with_intake_home v w.end) spent
   joins_intake port v other w is home items views h at two at' =
       let p = h.past in
       let mine = (h.fits port v at).as_desk is in
@@ -245,8 +256,8 @@ module _ {J : Type 0} where
       let Now : ℕ → Known J → Type 0 = λ j y. j ≢ other → Fits past j y in
       let now : AllFit Now vs = all_set Now views port both
       (λ off. record {
-        as_intake = λ i. absurd (omega arith);
-        as_outlet = λ i. absurd (omega arith);
+        as_intake = λ i. absurd (unlike of_desk of_intake (λ (e : 0 ≡ 1). omega arith) (sym is ∙ i));
+        as_outlet = λ i. absurd (unlike of_desk of_outlet (λ (e : 0 ≡ 2). omega arith) (sym is ∙ i));
         as_desk = λ i. record { here = mine.here; drained = mine.drained; room = mine.room; ins = side_home _ p.in_seat p.put w.end other theirs.0 theirs.1 mine.ins; outs = mine.outs };
       })
       (λ j u away e off. let f = h.fits j u e in record {
@@ -260,10 +271,10 @@ module _ {J : Type 0} where
         ins_last = λ k j e. h.ins_last k j (still_held p.in_seat w.end.number k j e);
         outs_last = h.outs_last;
         few = h.few;
-        fits = all_set (Fits past) vs other spent (record { as_intake = λ i. absurd (omega arith); as_outlet = λ i. absurd (omega arith); as_desk = λ i. absurd (omega arith) }) (λ j y off e. now j y e off);
+        fits = all_set (Fits past) vs other spent (record { as_intake = λ i. absurd (unlike joined of_intake (λ (e : 3 ≡ 1). omega arith) i); as_outlet = λ i. absurd (unlike joined of_outlet (λ (e : 3 ≡ 2). omega arith) i); as_desk = λ i. absurd (unlike joined of_desk (λ (e : 3 ≡ 0). omega arith) i) }) (λ j y off e. now j y e off);
       }
 
-  pub joins_outlet : (port : ℕ) (v : Known J) (other : ℕ) (w : Known J) → v.role ≡ 0 → w.role ≡ 2 → Merges Kept port v other w (with_outlet_home v w.end) spent
+  pub joins_outlet : (port : ℕ) (v : Known J) (other : ℕ) (w : Known J) → v.role ≡ of_desk → w.role ≡ of_outlet → Merges Kept port v other w (with_outlet_home v w.end) spent
   joins_outlet port v other w is home items views h at two at' =
       let p = h.past in
       let mine = (h.fits port v at).as_desk is in
@@ -276,8 +287,8 @@ module _ {J : Type 0} where
       let Now : ℕ → Known J → Type 0 = λ j y. j ≢ other → Fits past j y in
       let now : AllFit Now vs = all_set Now views port both
       (λ off. record {
-        as_intake = λ i. absurd (omega arith);
-        as_outlet = λ i. absurd (omega arith);
+        as_intake = λ i. absurd (unlike of_desk of_intake (λ (e : 0 ≡ 1). omega arith) (sym is ∙ i));
+        as_outlet = λ i. absurd (unlike of_desk of_outlet (λ (e : 0 ≡ 2). omega arith) (sym is ∙ i));
         as_desk = λ i. record { here = mine.here; drained = mine.drained; room = mine.room; ins = mine.ins; outs = side_home _ p.out_seat p.taken w.end other theirs.0 theirs.1 mine.outs };
       })
       (λ j u away e off. let f = h.fits j u e in record {
@@ -291,5 +302,5 @@ module _ {J : Type 0} where
         ins_last = h.ins_last;
         outs_last = λ k j e. h.outs_last k j (still_held p.out_seat w.end.number k j e);
         few = h.few;
-        fits = all_set (Fits past) vs other spent (record { as_intake = λ i. absurd (omega arith); as_outlet = λ i. absurd (omega arith); as_desk = λ i. absurd (omega arith) }) (λ j y off e. now j y e off);
+        fits = all_set (Fits past) vs other spent (record { as_intake = λ i. absurd (unlike joined of_intake (λ (e : 3 ≡ 1). omega arith) i); as_outlet = λ i. absurd (unlike joined of_outlet (λ (e : 3 ≡ 2). omega arith) i); as_desk = λ i. absurd (unlike joined of_desk (λ (e : 3 ≡ 0). omega arith) i) }) (λ j y off e. now j y e off);
       }

@@ -1,4 +1,5 @@
 pub mod Jobs
+pub mod Bound
 pub mod Ends
 pub mod Interleaving
 pub mod Settled

@@ -27,10 +27,17 @@ pub record Gathered (J : Type 0) : Type 0 where
   pub made : ℕ
   pub home : List (End J)
 
--- what a pass knows. Its role: 0 the desk's, 1 an intake's, 2 an outlet's, 3 a pass that was joined. The desk's own jobs are
--- those that it drained. The room is the most jobs that the pass knows the queue to have room for.
+-- whose a pass is: the desk's, an intake's, an outlet's, or nobody's, since it was joined
+pub data Role : Type 0 where
+  of_desk : Role
+  of_intake : Role
+  of_outlet : Role
+  joined : Role
+
+-- what a pass knows. The desk's own jobs are those that it drained. The room is the most jobs that the pass knows the queue
+-- to have room for.
 pub record Known (J : Type 0) : Type 0 where
-  pub role : ℕ
+  pub role : Role
   pub end : End J
   pub room : ℕ
   pub ins : Gathered J
@@ -41,24 +48,24 @@ abbrev pub none_made : {J : Type 0} → Gathered J
 none_made = record { made = 0; home = [] }
 
 -- a pass of this role, room and number that has seen nothing
-abbrev pub new_pass : {J : Type 0} → ℕ → ℕ → ℕ → Known J
+abbrev pub new_pass : {J : Type 0} → Role → ℕ → ℕ → Known J
 new_pass role room p = record { role = role; end = new_end p; room = room; ins = none_made; outs = none_made }
 
 -- the desk's pass, as a stage begins
 abbrev pub new_desk : {J : Type 0} → Known J
-new_desk = new_pass 0 0 0
+new_desk = new_pass of_desk 0 0
 
 -- a new intake's pass
 abbrev pub new_intake : {J : Type 0} → ℕ → ℕ → Known J
-new_intake room p = new_pass 1 room p
+new_intake room p = new_pass of_intake room p
 
 -- a new outlet's pass
 abbrev pub new_outlet : {J : Type 0} → ℕ → ℕ → Known J
-new_outlet room p = new_pass 2 room p
+new_outlet room p = new_pass of_outlet room p
 
 -- a pass that was joined
 abbrev pub spent : {J : Type 0} → Known J
-spent = new_pass 3 0 0
+spent = new_pass joined 0 0
 
 -- a pass that has put, or taken, one job more
 abbrev pub with_item : {J : Type 0} → Known J → J → Known J
@@ -106,7 +113,7 @@ AreHome g = AreAllHome g.made g.home
 
 -- what a desk with so many ends, all of them out, knows
 pub record IsDeskOf {J : Type 0} (intakes outlets capacity : ℕ) (v : Known J) : Type 0 where
-  pub role : v.role ≡ 0
+  pub role : v.role ≡ of_desk
   pub undrained : v.end.jobs ≡ []
   pub room : v.room ≤ capacity
   pub ins : v.ins ≡ record { made = intakes; home = [] }
@@ -145,9 +152,11 @@ pub record FitsDesk {J : Type 0} (p : Past J) (port : ℕ) (v : Known J) : Type 
 
 -- a pass agrees with the past
 pub record Fits {J : Type 0} (p : Past J) (port : ℕ) (v : Known J) : Type 0 where
-  pub as_intake : v.role ≡ 1 → (p.in_seat v.end.number ≡ some port) × (v.end.jobs ≡ owned_by v.end.number p.put) × (v.room ≤ p.room)
-  pub as_outlet : v.role ≡ 2 → (p.out_seat v.end.number ≡ some port) × (v.end.jobs ≡ owned_by v.end.number p.taken)
-  pub as_desk : v.role ≡ 0 → FitsDesk p port v
+  pub as_intake : v.role ≡ of_intake →
+      (p.in_seat v.end.number ≡ some port) × (v.end.jobs ≡ owned_by v.end.number p.put) × (v.room ≤ p.room)
+  pub as_outlet : v.role ≡ of_outlet →
+      (p.out_seat v.end.number ≡ some port) × (v.end.jobs ≡ owned_by v.end.number p.taken)
+  pub as_desk : v.role ≡ of_desk → FitsDesk p port v
 
 -- what was put is what outlets took, what the desk drained, and what the queue holds. The desk drains once no end is out,
 -- and the queue never holds more than its room.

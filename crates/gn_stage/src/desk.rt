@@ -40,11 +40,15 @@ impl<S: Site, A: Allocator> Model for Desk<S, A> {
 
     ghost view = { λ d. record { intakes = d.intakes; outlets = d.outlets; capacity = d.capacity } };
 
-    ghost invariant = { λ d. IsLineOf S.stage (sends_on d.sender) × IsLineOf S.stage (receives_on d.receiver) × IsPassOf S.stage d.pass × (d.capacity ≡ S.stage.capacity) × IsDeskOf d.intakes d.outlets d.capacity (knows d.pass) };
+    ghost invariant = { λ d. IsLineOf S.stage (sends_on d.sender)
+        × IsLineOf S.stage (receives_on d.receiver)
+        × IsPassOf S.stage d.pass
+        × (d.capacity ≡ S.stage.capacity)
+        × IsDeskOf d.intakes d.outlets d.capacity (knows d.pass) };
 }
 
 impl<S: Site, A: Allocator + Copy> Desk<S, A> {
-    // The desk of a new stage, which has no ends.
+    /// The desk of a new stage, which has no ends.
     pub(crate) fn new(
         sender: RuledSender<Job<A>, View, Law, A>,
         receiver: RuledReceiver<Job<A>, View, Law, A>,
@@ -73,7 +77,8 @@ impl<S: Site, A: Allocator + Copy> Desk<S, A> {
         ready: &Tokens<A>,
     ) -> Result<Intake<S, A>, AllocError>
         requires { self.old.intakes < 2 ^ 32 - 1 }
-        ensures { IfOk result (λ i. (i ≡ new_end self.old.intakes) × (self.new ≡ record self.old { intakes = self.old.intakes + 1 })) }
+        ensures { IfOk result (λ i. (i ≡ new_end self.old.intakes)
+            × (self.new ≡ record self.old { intakes = self.old.intakes + 1 })) }
     {
         let sender = self.sender.try_clone()?;
         let (room, ready) = (room.to.clone()?, ready.to.clone()?);
@@ -89,7 +94,8 @@ impl<S: Site, A: Allocator + Copy> Desk<S, A> {
         ready: &Tokens<A>,
     ) -> Result<Outlet<S, A>, AllocError>
         requires { self.old.outlets < 2 ^ 32 - 1 }
-        ensures { IfOk result (λ o. (o ≡ new_end self.old.outlets) × (self.new ≡ record self.old { outlets = self.old.outlets + 1 })) }
+        ensures { IfOk result (λ o. (o ≡ new_end self.old.outlets)
+            × (self.new ≡ record self.old { outlets = self.old.outlets + 1 })) }
     {
         let receiver = self.receiver.try_clone()?;
         let (room, ready) = (room.from.clone()?, ready.from.clone()?);

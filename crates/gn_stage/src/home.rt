@@ -17,27 +17,31 @@ use std::marker::{Model, PhantomData};
 use std::sync::Wait;
 
 /// Whether an end puts or takes.
-pub trait Kind {
-    ghost use Rattle.std.specs.Prelude.{ℕ};
+pub trait Direction {
+    ghost use Rattle.gn_stage.specs.Rule.{Role};
 
-    ghost role: { ℕ };
+    ghost role: { Role };
 }
 
-impl Kind for Putting {
-    ghost role = { 1 };
+impl Direction for Putting {
+    ghost use Rattle.gn_stage.specs.Rule.{of_intake};
+
+    ghost role = { of_intake };
 }
 
-impl Kind for Taking {
-    ghost role = { 2 };
+impl Direction for Taking {
+    ghost use Rattle.gn_stage.specs.Rule.{of_outlet};
+
+    ghost role = { of_outlet };
 }
 
 /// What an end has seen. `count` is how many jobs, in a u64.
 #[derive(Drop)]
-pub struct Home<K: Kind, S: Site, A: Allocator = Global> {
+pub struct Home<D: Direction, S: Site, A: Allocator = Global> {
     number: u32,
     count: u64,
     pass: Pass<Job<A>, View>,
-    of: PhantomData<(K, S)>,
+    of: PhantomData<(D, S)>,
 }
 
 /// What an intake put, in order.
@@ -46,7 +50,7 @@ pub type IntakeHome<S, A = Global> = Home<Putting, S, A>;
 /// What an outlet took, in order.
 pub type OutletHome<S, A = Global> = Home<Taking, S, A>;
 
-impl<K: Kind, S: Site, A: Allocator> Model for Home<K, S, A> {
+impl<D: Direction, S: Site, A: Allocator> Model for Home<D, S, A> {
     ghost use Rattle.std.specs.Prelude.{◌≡◌, length};
     ghost use Rattle.gn_stage.specs.Ends.{End};
     ghost use Rattle.gn_stage.specs.Opened.{IsPassOf, knows};
@@ -57,14 +61,18 @@ impl<K: Kind, S: Site, A: Allocator> Model for Home<K, S, A> {
 
     ghost view = { λ h. (knows h.pass).end };
 
-    ghost invariant = { λ h. IsPassOf S.stage h.pass × ((knows h.pass).role ≡ K.role) × ((knows h.pass).room ≡ S.stage.capacity) × (h.number ≡ (knows h.pass).end.number) × (h.count ≡ told (length (knows h.pass).end.jobs)) };
+    ghost invariant = { λ h. IsPassOf S.stage h.pass
+        × ((knows h.pass).role ≡ D.role)
+        × ((knows h.pass).room ≡ S.stage.capacity)
+        × (h.number ≡ (knows h.pass).end.number)
+        × (h.count ≡ told (length (knows h.pass).end.jobs)) };
 }
 
-impl<K: Kind, S: Site, A: Allocator> Home<K, S, A> {
-    // An end that has seen nothing.
+impl<D: Direction, S: Site, A: Allocator> Home<D, S, A> {
+    /// An end that has seen nothing.
     pub(crate) fn new(number: u32, pass: Pass<Job<A>, View>) -> Self
         requires here { IsPassOf S.stage pass }
-        requires new { knows pass ≡ new_pass K.role S.stage.capacity number }
+        requires new { knows pass ≡ new_pass D.role S.stage.capacity number }
         ensures { result ≡ (knows pass).end }
     {
         Home {
@@ -81,7 +89,7 @@ impl<K: Kind, S: Site, A: Allocator> Home<K, S, A> {
         self.number
     }
 
-    // How many jobs it has seen.
+    /// How many jobs it has seen.
     pub(crate) fn count(&self) -> u64
         ensures { result ≡ told (length self.now.jobs) }
     {
@@ -91,14 +99,14 @@ impl<K: Kind, S: Site, A: Allocator> Home<K, S, A> {
     pub(crate) fn into_pass(self) -> Pass<Job<A>, View>
         ensures here { IsPassOf S.stage result }
         ensures end { (knows result).end ≡ self }
-        ensures role { (knows result).role ≡ K.role }
+        ensures role { (knows result).role ≡ D.role }
     {
         self.pass
     }
 }
 
 impl<S: Site, A: Allocator> IntakeHome<S, A> {
-    // Puts a job at the back of the queue, which has room for it.
+    /// Puts a job at the back of the queue, which has room for it.
     pub(crate) fn put<R: Wait>(
         &mut self,
         rt: &R,
@@ -106,7 +114,9 @@ impl<S: Site, A: Allocator> IntakeHome<S, A> {
         job: Job<A>,
     ) -> Result<(), Job<A>>
         requires { IsLineOf S.stage (sends_on sender.now) }
-        ensures { MatchResult result (λ _. self.new ≡ with_job self.old job) (λ back. (back ≡ job) × (self.new ≡ self.old)) }
+        ensures { MatchResult result
+            (λ _. self.new ≡ with_job self.old job)
+            (λ back. (back ≡ job) × (self.new ≡ self.old)) }
     {
         match sender.send_as::<Putting, R>(rt, &mut self.pass, job) {
             Ok(()) => {
@@ -119,14 +129,16 @@ impl<S: Site, A: Allocator> IntakeHome<S, A> {
 }
 
 impl<S: Site, A: Allocator> OutletHome<S, A> {
-    // Takes the job at the front of the queue. `None` teaches that there was none.
+    /// Takes the job at the front of the queue. `None` comes where there was none.
     pub(crate) fn take<R: Wait>(
         &mut self,
         rt: &R,
         receiver: &RuledReceiver<Job<A>, View, Law, A>,
     ) -> Option<Job<A>>
         requires { IsLineOf S.stage (receives_on receiver.now) }
-        ensures { MatchOption result ((self.new ≡ self.old) × WasEmpty self.old) (λ job. self.new ≡ with_job self.old job) }
+        ensures { MatchOption result
+            ((self.new ≡ self.old) × WasEmpty self.old)
+            (λ job. self.new ≡ with_job self.old job) }
     {
         match receiver.try_recv_as::<Taking, R>(rt, &mut self.pass) {
             Ok(job) => {

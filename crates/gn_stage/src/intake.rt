@@ -18,9 +18,9 @@ use std::sync::Wait;
 #[derive(Drop)]
 pub struct Intake<S: Site, A: Allocator = Global> {
     sender: RuledSender<Job<A>, View, Law, A>,
-    // A token for each job that is queued or about to be: it waits while there are as many as the queue has room for.
+    /// A token for each job that is queued or about to be: it waits while there are as many as the queue has room for.
     room: Sender<(), A>,
-    // A token for each job that is there to be taken.
+    /// A token for each job that is there to be taken.
     ready: Sender<(), A>,
     home: IntakeHome<S, A>,
 }
@@ -59,7 +59,9 @@ impl<S: Site, A: Allocator> Intake<S, A> {
     /// Waits for room, and queues the job behind all that are there. Once every outlet has finished it hands the job back,
     /// also where it waits already.
     pub fn put<R: Wait>(&mut self, rt: &R, job: Job<A>) -> Result<(), Job<A>>
-        ensures { MatchResult result (λ _. self.new ≡ with_job self.old job) (λ back. (back ≡ job) × (self.new ≡ self.old)) }
+        ensures { MatchResult result
+            (λ _. self.new ≡ with_job self.old job)
+            (λ back. (back ≡ job) × (self.new ≡ self.old)) }
     {
         if self.room.send(rt, ()).is_err() {
             return Err(job);

@@ -19,8 +19,9 @@ use std::sync::Wait;
 #[derive(Drop)]
 pub struct Outlet<S: Site, A: Allocator = Global> {
     receiver: RuledReceiver<Job<A>, View, Law, A>,
-    // The other ends of an intake's two.
+    /// The other end of an intake's `room`.
     room: Receiver<(), A>,
+    /// The other end of an intake's `ready`.
     ready: Receiver<(), A>,
     home: OutletHome<S, A>,
 }
@@ -57,9 +58,11 @@ impl<S: Site, A: Allocator> Outlet<S, A> {
     }
 
     /// Waits for a job, and takes the one that was queued first. `None` comes once every intake has finished and the queue
-    /// is empty; it teaches that the queue was empty at one moment of the call.
+    /// is empty.
     pub fn take<R: Wait>(&mut self, rt: &R) -> Option<Job<A>>
-        ensures { MatchOption result ((self.new ≡ self.old) × WasEmpty self.old) (λ job. self.new ≡ with_job self.old job) }
+        ensures { MatchOption result
+            ((self.new ≡ self.old) × WasEmpty self.old)
+            (λ job. self.new ≡ with_job self.old job) }
     {
         for _ in rt.forever() {
             let is_closed = self.ready.recv(rt).is_err();
@@ -72,10 +75,12 @@ impl<S: Site, A: Allocator> Outlet<S, A> {
         unreachable!()
     }
 
-    // Takes the job at the front. `None` also comes to an outlet whose job another took: one that found the stage closed
-    // takes what it can, whoever has the token.
+    /// Takes the job at the front. `None` also comes to an outlet whose job another took: one that found the stage closed
+    /// takes what it can, whoever has the token.
     fn take_one<R: Wait>(&mut self, rt: &R) -> Option<Job<A>>
-        ensures { MatchOption result ((self.new ≡ self.old) × WasEmpty self.old) (λ job. self.new ≡ with_job self.old job) }
+        ensures { MatchOption result
+            ((self.new ≡ self.old) × WasEmpty self.old)
+            (λ job. self.new ≡ with_job self.old job) }
     {
         let job = self.home.take(rt, &self.receiver)?;
         // The token of this job, or of another that is gone.

@@ -7,7 +7,7 @@ use crossbeam_channel::protocol::{Join, Lesson, Outcome, Protocol, Split};
 use std::alloc::Allocator;
 use std::marker::{Model, PhantomData};
 
-// What a pass knows. No value of it is made.
+/// What a pass knows. No value of it is made.
 pub struct View;
 
 impl Model for View {
@@ -19,6 +19,7 @@ impl Model for View {
     ghost view = { λ _. spent };
 }
 
+/// The rule that the channel keeps.
 pub struct Law;
 
 impl<A: Allocator> Protocol<Job<A>, View> for Law {
@@ -29,7 +30,7 @@ impl<A: Allocator> Protocol<Job<A>, View> for Law {
     ghost first = { new_desk };
 }
 
-// An intake puts a job. At a full queue it learns nothing.
+/// An intake puts a job. At a full queue it learns nothing.
 pub struct Putting;
 
 impl<A: Allocator> Outcome<Job<A>, View> for Putting {
@@ -45,7 +46,7 @@ impl<A: Allocator> Lesson<Job<A>, View> for Putting {
     ghost fact = { λ v items. ⊤ };
 }
 
-// An outlet takes a job, or learns that none is queued.
+/// An outlet takes a job, or learns that none is queued.
 pub struct Taking;
 
 impl<A: Allocator> Outcome<Job<A>, View> for Taking {
@@ -61,7 +62,7 @@ impl<A: Allocator> Lesson<Job<A>, View> for Taking {
     ghost fact = { λ v items. IsRunning v.end items };
 }
 
-// The desk, with all ends home, takes what is left.
+/// The desk, with all ends home, takes what is left.
 pub struct Draining;
 
 impl<A: Allocator> Outcome<Job<A>, View> for Draining {
@@ -76,7 +77,7 @@ impl<A: Allocator> Lesson<Job<A>, View> for Draining {
     ghost fact = { IsDraining };
 }
 
-// An intake is made of the desk's pass, and comes home to it.
+/// An intake is made of the desk's pass, and comes home to it.
 pub struct Intakes<S> {
     of: PhantomData<S>,
 }
@@ -97,7 +98,7 @@ impl<S: Site> Join<View> for Intakes<S> {
     ghost spent = { spent };
 }
 
-// An outlet is made of the desk's pass, and comes home to it.
+/// An outlet is made of the desk's pass, and comes home to it.
 pub struct Outlets<S> {
     of: PhantomData<S>,
 }

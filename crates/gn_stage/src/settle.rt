@@ -4,12 +4,12 @@ ghost use Rattle.std.specs.Prelude.{◌≡◌, ◌≤◌, ◌↔◌, [], Any, Is
 ghost use Rattle.crossbeam_channel.specs.Ends.{receives_on, sends_on};
 ghost use Rattle.gn_stage.specs.Ends.{AreAllHome};
 ghost use Rattle.gn_stage.specs.Opened.{IsLineOf, IsPassOf, knows};
-ghost use Rattle.gn_stage.specs.Rule.{AreHome, with_drained, with_intakes_home, with_outlets_home};
+ghost use Rattle.gn_stage.specs.Rule.{AreHome, of_desk, with_drained, with_intakes_home, with_outlets_home};
 ghost use Rattle.gn_stage.specs.Lessons.{IsDraining};
 ghost use Rattle.gn_stage.specs.Settled.{AreWhole, FaultComes, IsSettled, told};
 
 use crate::desk::Desk;
-use crate::home::{Home, IntakeHome, Kind, OutletHome};
+use crate::home::{Direction, Home, IntakeHome, OutletHome};
 use crate::job::Job;
 use crate::rule::{Draining, Intakes, Law, Outlets, View};
 use crate::site::Site;
@@ -43,7 +43,7 @@ pub struct Unsettled<S: Site, A: Allocator = Global> {
     pub outlets: Vec<OutletHome<S, A>, A>,
 }
 
-fn is_home<K: Kind, S: Site, A: Allocator>(homes: &[Home<K, S, A>], number: u32) -> bool
+fn is_home<D: Direction, S: Site, A: Allocator>(homes: &[Home<D, S, A>], number: u32) -> bool
     ensures { IsTrue result ↔ Any (λ e. e.number ≡ number) homes.now }
 {
     for home in homes {
@@ -54,7 +54,7 @@ fn is_home<K: Kind, S: Site, A: Allocator>(homes: &[Home<K, S, A>], number: u32)
     false
 }
 
-fn are_all_home<K: Kind, S: Site, A: Allocator>(homes: &[Home<K, S, A>], made: u32) -> bool
+fn are_all_home<D: Direction, S: Site, A: Allocator>(homes: &[Home<D, S, A>], made: u32) -> bool
     ensures { IsTrue result ↔ AreAllHome made homes.now }
 {
     for number in 0..made {
@@ -65,8 +65,8 @@ fn are_all_home<K: Kind, S: Site, A: Allocator>(homes: &[Home<K, S, A>], made: u
     true
 }
 
-// How many jobs these have seen.
-fn count_of<K: Kind, S: Site, A: Allocator>(homes: &[Home<K, S, A>]) -> u64
+/// How many jobs these have seen.
+fn count_of<D: Direction, S: Site, A: Allocator>(homes: &[Home<D, S, A>]) -> u64
     ensures { result ≡ told (sum_by (λ e. length e.jobs) homes.now) }
 {
     let mut count = 0u64;
@@ -82,7 +82,7 @@ fn gather_intakes<S: Site, A: Allocator>(
     homes: Vec<IntakeHome<S, A>, A>,
 )
     requires line { IsLineOf S.stage (sends_on sender.now) }
-    requires here { IsPassOf S.stage pass.old × ((knows pass.old).role ≡ 0) }
+    requires here { IsPassOf S.stage pass.old × ((knows pass.old).role ≡ of_desk) }
     ensures here { IsPassOf S.stage pass.new }
     ensures known { knows pass.new ≡ with_intakes_home (knows pass.old) homes.items }
 {
@@ -97,7 +97,7 @@ fn gather_outlets<S: Site, A: Allocator>(
     homes: Vec<OutletHome<S, A>, A>,
 )
     requires line { IsLineOf S.stage (sends_on sender.now) }
-    requires here { IsPassOf S.stage pass.old × ((knows pass.old).role ≡ 0) }
+    requires here { IsPassOf S.stage pass.old × ((knows pass.old).role ≡ of_desk) }
     ensures here { IsPassOf S.stage pass.new }
     ensures known { knows pass.new ≡ with_outlets_home (knows pass.old) homes.items }
 {
@@ -106,7 +106,7 @@ fn gather_outlets<S: Site, A: Allocator>(
     }
 }
 
-// Takes what is left of the queue, in order. The vector has room for as many jobs as the queue.
+/// Takes what is left of the queue, in order. The vector has room for as many jobs as the queue.
 fn drain<S: Site, A: Allocator, R: Wait>(
     rt: &R,
     receiver: &RuledReceiver<Job<A>, View, Law, A>,
@@ -114,10 +114,13 @@ fn drain<S: Site, A: Allocator, R: Wait>(
     drained: &mut Vec<Job<A>, A>,
 )
     requires line { IsLineOf S.stage (receives_on receiver.now) }
-    requires here { IsPassOf S.stage pass.old × ((knows pass.old).role ≡ 0) × ((knows pass.old).end.jobs ≡ []) }
+    requires here { IsPassOf S.stage pass.old }
+    requires desk { ((knows pass.old).role ≡ of_desk) × ((knows pass.old).end.jobs ≡ []) }
     requires home { AreHome (knows pass.old).ins × AreHome (knows pass.old).outs }
     requires room { (drained.old.items ≡ []) × ((knows pass.old).room ≤ vec_capacity drained.old) }
-    ensures { (knows pass.new ≡ with_drained (knows pass.old) drained.new.items) × IsDraining (knows pass.new) [] × (vec_len drained.new ≤ (knows pass.old).room) }
+    ensures drained { knows pass.new ≡ with_drained (knows pass.old) drained.new.items }
+    ensures empty { IsDraining (knows pass.new) [] }
+    ensures few { vec_len drained.new ≤ (knows pass.old).room }
 {
     for _ in rt.forever() {
         match receiver.try_recv_as::<Draining, R>(rt, pass) {
@@ -162,7 +165,7 @@ impl<S: Site, A: Allocator + Copy> Desk<S, A> {
         Ok(self.settle_whole(rt, intakes, outlets, drained))
     }
 
-    // Whether every end of its stage is among these.
+    /// Whether every end of its stage is among these.
     fn are_whole(&self, intakes: &[IntakeHome<S, A>], outlets: &[OutletHome<S, A>]) -> bool
         ensures { IsTrue result ↔ AreWhole self.now intakes.now outlets.now }
     {

@@ -15,7 +15,7 @@ use crossbeam_channel::{
 use std::alloc::{AllocError, Allocator, Global};
 use std::marker::Model;
 
-// Both ends of a channel that counts.
+/// Both ends of a channel that counts.
 #[derive(Drop)]
 pub(crate) struct Tokens<A: Allocator> {
     pub(crate) to: Sender<(), A>,
@@ -44,7 +44,14 @@ impl<A: Allocator> Model for Stage<A> {
 
     ghost view = { λ s. record { table = s.pass.table_id; key = s.pass.me.0.of; capacity = s.capacity } };
 
-    ghost invariant = { λ s. IsLineOf (record { table = s.pass.table_id; key = s.pass.me.0.of; capacity = s.capacity }) (sends_on s.sender) × (receives_on s.receiver ≡ sends_on s.sender) × (s.pass.me.1 ≡ []) × (knows s.pass ≡ new_desk) };
+    ghost invariant = { λ s. IsLineOf (record {
+      table = s.pass.table_id;
+      key = s.pass.me.0.of;
+      capacity = s.capacity;
+    }) (sends_on s.sender)
+        × (receives_on s.receiver ≡ sends_on s.sender)
+        × (s.pass.me.1 ≡ [])
+        × (knows s.pass ≡ new_desk) };
 }
 
 impl<A: Allocator + Copy> Tokens<A> {
@@ -55,7 +62,7 @@ impl<A: Allocator + Copy> Tokens<A> {
 }
 
 impl<A: Allocator + Copy> Stage<A> {
-    /// A stage whose queue has room for so many jobs, 1 to 4,096. An `Err` is want of memory.
+    /// A stage whose queue has room for so many jobs, 1 to 4,096.
     pub fn new(alloc: A, capacity: usize) -> Result<Self, AllocError>
         requires { (0 < capacity) × (capacity ≤ 4096) }
         ensures { IfOk result (λ s. s.capacity ≡ capacity) }
@@ -71,7 +78,7 @@ impl<A: Allocator + Copy> Stage<A> {
         })
     }
 
-    /// The ends of the stage, as many as asked, maybe none. An `Err` is want of memory.
+    /// The ends of the stage, as many as asked, maybe none.
     pub fn ends<S: Site>(
         self,
         alloc: A,
@@ -79,7 +86,9 @@ impl<A: Allocator + Copy> Stage<A> {
         outlets: u32,
     ) -> Result<(Vec<Intake<S, A>, A>, Vec<Outlet<S, A>, A>, Desk<S, A>), AllocError>
         requires { self ≡ S.stage }
-        ensures { IfOk result (λ r. AreNew intakes r.0.items × AreNew outlets r.1.items × (r.2 ≡ record { intakes = intakes; outlets = outlets; capacity = self.capacity })) }
+        ensures ends { IfOk result (λ r. AreNew intakes r.0.items × AreNew outlets r.1.items) }
+        ensures desk { IfOk result (λ r.
+            r.2 ≡ record { intakes = intakes; outlets = outlets; capacity = self.capacity }) }
     {
         let Stage {
             sender,

@@ -14,7 +14,7 @@ use std::thread;
 use std::thread::Threads;
 use std::time::{Clock, Duration};
 
-// A Ping with this ticket.
+/// A Ping with this ticket.
 fn job<A: Allocator>(ticket: u32) -> Result<Job<A>, AllocError> {
     match Descriptor::new(Guid([0; 16]), Kind::Ping, 5, 0, Bytes::new()) {
         Ok(descriptor) => Ok(Job { ticket, descriptor }),
@@ -22,7 +22,7 @@ fn job<A: Allocator>(ticket: u32) -> Result<Job<A>, AllocError> {
     }
 }
 
-// What a settled stage says: how many jobs were put and taken, and the tickets that were drained.
+/// What a settled stage says: how many jobs were put and taken, and the tickets that were drained.
 fn told<A: Allocator>(
     alloc: Global,
     settled: &Settled<A>,
@@ -34,7 +34,7 @@ fn told<A: Allocator>(
     Ok((settled.put, settled.taken, tickets))
 }
 
-// Two jobs are put and one is taken. With two intakes the second comes home late.
+/// Two jobs are put and one is taken. With two intakes the second comes home late.
 fn one_thread<S: Site, R: Wait>(
     rt: &R,
     alloc: Global,
@@ -99,7 +99,7 @@ fn stage_settles(rt: HostRuntime) -> Result<(), Fail> {
     Ok(())
 }
 
-// The desk is first given a heap with no room, then the one that the stage was made on.
+/// The desk is first given a heap with no room, then the one that the stage was made on.
 fn poor_then_rich<A: Allocator + Copy, S: Site, R: Wait>(
     rt: &R,
     poor: A,
@@ -184,8 +184,8 @@ fn take_all<S: Site, R: Wait>(
     (outlet.finish(), tickets)
 }
 
-// A thread for each end: each intake puts so many jobs, each outlet takes until there are no more. It gives what was
-// taken, too.
+/// A thread for each end: each intake puts so many jobs, each outlet takes until there are no more. It gives what was
+/// taken, too.
 fn many_threads<S: Site + Send, R: Threads + Wait + Sync>(
     rt: &R,
     alloc: Global,
@@ -229,7 +229,7 @@ fn many_threads<S: Site + Send, R: Threads + Wait + Sync>(
     }
 }
 
-// How many jobs were put, taken and drained, with all tickets in order.
+/// How many jobs were put, taken and drained, with all tickets in order.
 fn counted<R: Threads + Wait + Sync>(
     rt: &R,
     alloc: Global,
@@ -280,7 +280,7 @@ fn seven_put_and_five_take_a_hundred_times(rt: HostRuntime) -> Result<(), Fail> 
     Ok(())
 }
 
-// A thread waits at a full queue of one while the only outlet finishes. It gives the ticket that came back.
+/// A thread waits at a full queue of one while the only outlet finishes. It gives the ticket that came back.
 fn outlet_leaves<S: Site + Send, R: Threads + Wait + Sync + Clock>(
     rt: &R,
     alloc: Global,
@@ -296,10 +296,10 @@ fn outlet_leaves<S: Site + Send, R: Threads + Wait + Sync + Clock>(
         thread::scope_env(),
         rt,
         |scope| -> Result<(Vec<IntakeHome<S>>, Vec<OutletHome<S>>, Option<u32>), AllocError> {
-            let (one, two) = (job(0)?, job(1)?);
+            let _ = intake.put(rt, job(0)?);
+            let second = job(1)?;
             let putting = scope.spawn(move || {
-                let _ = intake.put(rt, one);
-                let back = intake.put(rt, two).err().map(|job| job.ticket);
+                let back = intake.put(rt, second).err().map(|job| job.ticket);
                 (intake.finish(), back)
             })?;
             thread::sleep(rt, Duration::from_millis(100));

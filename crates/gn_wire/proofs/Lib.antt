@@ -1,3 +1,4 @@
+pub mod EqualityLemmas
 pub mod HeaderLemmas
 pub mod KeyLemmas
 pub mod KindLemmas

@@ -1,3 +1,4 @@
+pub mod Equality
 pub mod Forward
 pub mod Keys
 pub mod Kinds

@@ -13,4 +13,4 @@ pub use descriptor::Descriptor;
 pub use header::{FrameFault, Header, length_fault, read_header, write_header};
 pub use key::Key;
 pub use kind::{Guid, Kind};
-pub use laws::{headers_return, spellings_part};
+pub use laws::{headers_return, same_is_equal, spellings_part};

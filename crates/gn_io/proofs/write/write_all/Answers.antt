@@ -1,4 +1,3 @@
-use Rattle.std.proofs.Common.{rules, arith, ◌+◌, ◌≤◌, take, length}
 use Rattle.gn_io.proofs.StreamLemmas.{appends_more, within_more, stalls_same, nothing_kept, part_kept}
 use Rattle.gn_io.proofs.write.write_all.Goals as goal
 

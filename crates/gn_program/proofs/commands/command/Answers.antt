@@ -4,4 +4,4 @@ use Rattle.gn_program.proofs.commands.command.Goals as goal
 
 pub returns-in-Err-clause-asked : goal.returns-in-Err-clause-asked
 returns-in-Err-clause-asked g c request asked =
-    inl (unread (map g.T.AsStr.text c.args.words.now) request c.in-Err.error _ _ _ asked c.in-Err.ensures.err c.turn_away.ensures)
+    inl (unread (map g.T.AsStr.text c.args.words.now) request c.in-Err.error _ _ _ _ asked c.in-Err.ensures.err c.turn_away.ensures)

@@ -1,30 +1,17 @@
-use Rattle.std.proofs.Common.{◌+◌, ◌∙◌, drop, refl}
-use Rattle.gn_replay.proofs.RunLemmas.{next_of, on_err, running_more, running_part, running_start}
+use Rattle.gn_io.proofs.StreamLemmas.{rest_cut}
+use Rattle.gn_replay.specs.ReplayText.{capture_plays}
+use Rattle.gn_replay.proofs.RunLemmas.{on_err, run_cut}
 use Rattle.gn_replay.proofs.playing.Play.write_lines.Goals as goal
 
-pub loop-line-init : goal.loop-line-init
-loop-line-init g c = record {
-  running = running_start c.args.self.now (g.W.Sink.told c.args.sink.now) c.args.lines.now (record { past = c.requires.past; links = c.requires.links; refusals = c.requires.refusals });
-  failures = refl;
-  stalls = refl;
-}
-
-pub returns-in_err-write_line-clause-err : goal.returns-in_err-write_line-clause-err
-returns-in_err-write_line-clause-err g c =
-    let next = next_of c.args.lines.now c.loop-line.line-index c.loop-line-item.result c.loop-line-test.true c.loop-line-item.is in
+pub returns-in_err-write_rest-in-Ok-clause-err : goal.returns-in_err-write_rest-in-Ok-clause-err
+returns-in_err-write_rest-in-Ok-clause-err g c =
     on_err c.from_residual.result
-    (running_part c.args.self.now.settings c.loop-line.self (g.W.Sink.told c.args.sink.now) (g.W.Sink.told c.loop-line.sink) (g.W.Sink.told c.write_line.new.sink)
-    c.loop-line-item.result.0 c.loop-line-item.result.1 (drop (c.loop-line.line-index + 1) c.args.lines.now) c.args.lines.now (rw next at c.loop-line.invariant.running)
-    c.in_err-write_line.ensures.err)
+    (run_cut (capture_plays c.args.self.now.settings c.args.lines.now) c.pass_lines.new.self.past c.pass_lines.new.self.refusals
+    (g.W.Sink.told c.args.sink.now) (g.W.Sink.told c.pass_lines.new.sink) (g.W.Sink.told c.write_rest.new.sink) c.pass_lines.new.block
+    c.in-Ok.ensures.ok c.in_err-write_rest-in-Ok.ensures.err)
 
-pub loop-line-preserved : goal.loop-line-preserved
-loop-line-preserved g c =
-    let next = next_of c.args.lines.now c.loop-line.line-index c.loop-line-item.result c.loop-line-test.true c.loop-line-item.is in
-    record {
-      running =
-          running_more c.args.self.now.settings c.loop-line.self c.write_line.new.self (g.W.Sink.told c.args.sink.now) (g.W.Sink.told c.loop-line.sink) (g.W.Sink.told c.write_line.new.sink)
-          c.loop-line-item.result.0 c.loop-line-item.result.1 (drop (c.loop-line.line-index + 1) c.args.lines.now) c.args.lines.now (rw next at c.loop-line.invariant.running)
-          c.in_ok-write_line.ensures.ok;
-      failures = c.in_ok-write_line.ensures.failures ∙ c.loop-line.invariant.failures;
-      stalls = c.in_ok-write_line.ensures.stalls ∙ c.loop-line.invariant.stalls;
-    }
+pub returns-in_err-write_rest-in-Err-NoMemory-clause-err : goal.returns-in_err-write_rest-in-Err-NoMemory-clause-err
+returns-in_err-write_rest-in-Err-NoMemory-clause-err g c =
+    on_err c.from_residual-in_err-write_rest-in-Err-NoMemory.result
+    (rest_cut (g.W.Sink.told c.args.sink.now) (g.W.Sink.told c.pass_lines.new.sink) (g.W.Sink.told c.write_rest-in-Err-NoMemory.new.sink) c.pass_lines.new.block
+    (capture_plays c.args.self.now.settings c.args.lines.now).text c.in-Err-NoMemory.ensures.err c.in_err-write_rest-in-Err-NoMemory.ensures.err)

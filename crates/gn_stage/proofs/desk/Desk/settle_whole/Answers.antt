@@ -16,4 +16,4 @@ returns-clause-settled g c =
     let desk = gathers _ _ _ _ _ _ _ _ c.self.invariant.4 c.gather_intakes.ensures.known c.gather_outlets.ensures.known in
     let put = count_at _ _ _ c.as_slice.ensures.value c.count_of-put.ensures in
     let taken = count_at _ _ _ c.as_slice-2.ensures.value c.count_of-taken.ensures in
-    settles _ _ _ _ (knows c.gather_outlets.new.pass) (knows c.drain.new.pass) _ _ _ desk.0 c.drain.ensures.0 c.drain.ensures.1 whole.ins whole.outs put taken
+    settles _ _ _ _ (knows c.gather_outlets.new.pass) (knows c.drain.new.pass) _ _ _ desk.0 c.drain.ensures.drained c.drain.ensures.empty whole.ins whole.outs put taken
