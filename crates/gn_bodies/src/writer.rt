@@ -3,7 +3,7 @@
 ghost use Rattle.std.specs.Prelude.{◌≡◌, ◌<◌, ◌∷◌, ◌++◌, [], ℕ, List, true, false, length, take, IfOk};
 ghost use Rattle.std.specs.List.{concat};
 ghost use Rattle.gn_wire.specs.Packet.{Packet};
-ghost use Rattle.gn_wire.specs.Spelling.{bytes_of};
+ghost use Rattle.gn_wire.specs.Encoding.{bytes_of};
 ghost use Rattle.gn_rules.specs.declared.event.Event.TheVariants.{Take};
 ghost use Rattle.gn_rules.specs.declared.receipt.Receipt.{Receipt};
 ghost use Rattle.gn_rules.specs.declared.reply.Reply.TheVariants.{Taken};

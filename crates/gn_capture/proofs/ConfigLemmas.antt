@@ -4,27 +4,27 @@ use Rattle.std.specs.Prelude.{codes, IfOk}
 use Rattle.gn_rules.specs.declared.config.Own.{Own}
 use Rattle.gn_text.specs.declared.fault.CaptureFault.{CaptureFault}
 use Rattle.gn_text.specs.Faults.{◌>>=◌}
-use Rattle.gn_text.specs.Said.{behind_of, said_of}
+use Rattle.gn_text.specs.Parsed.{behind_of, parsed_of}
 use Rattle.gn_text.specs.Settings.{Numbers}
 use Rattle.gn_text.proofs.ConfigLemmas.{IsConfigured}
 use Rattle.gn_text.proofs.HeaderLemmas.{Told, header_configured}
 use Rattle.gn_capture.specs.declared.line.Line.{Line}
-use Rattle.gn_capture.specs.Captures.{Said, capture_header, capture_of, lines_from, said_by}
+use Rattle.gn_capture.specs.Captures.{Parsed, capture_header, capture_of, lines_from, parsed_by}
 
 -- the settings that a capture says are those of a configuration
-abbrev pub HasConfig : {A : Type 0} → Said A → Type 0
-HasConfig said = IsConfigured (said.numbers, said.own)
+abbrev pub HasConfig : {A : Type 0} → Parsed A → Type 0
+HasConfig parsed = IsConfigured (parsed.numbers, parsed.own)
 
 lines_configured : {A : Type 0} (settings : Numbers × Own) (read : Result (List (ℕ × Line A)) CaptureFault) → IsConfigured settings
-    → IfOk (read >>= λ lines. Ok (record { numbers = settings.0; own = settings.1; lines = lines })) (λ (said : Said A). HasConfig said)
+    → IfOk (read >>= λ lines. Ok (record { numbers = settings.0; own = settings.1; lines = lines })) (λ (parsed : Parsed A). HasConfig parsed)
 lines_configured settings (Ok lines) h = h
 lines_configured settings (Err fault) h = _
 
 behind_configured : (A : Type 0) (read : Result Told CaptureFault) → IfOk read (λ (header : Told). IsConfigured header.0)
-    → IfOk (read >>= said_by {A = A}) (λ (said : Said A). HasConfig said)
+    → IfOk (read >>= parsed_by {A = A}) (λ (parsed : Parsed A). HasConfig parsed)
 behind_configured A (Ok header) h = lines_configured header.0 (lines_from {A = A} 0 header.1) h
 behind_configured A (Err fault) h = _
 
-pub capture_configured : (A : Type 0) (text : List ℕ) → IfOk (capture_of {A = A} text) (λ (said : Said A). HasConfig said)
+pub capture_configured : (A : Type 0) (text : List ℕ) → IfOk (capture_of {A = A} text) (λ (parsed : Parsed A). HasConfig parsed)
 capture_configured A text =
-    behind_configured A (capture_header text) (header_configured (codes "gnutella-capture 1") (behind_of text) (said_of text))
+    behind_configured A (capture_header text) (header_configured (codes "gnutella-capture 1") (behind_of text) (parsed_of text))

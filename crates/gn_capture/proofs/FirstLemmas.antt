@@ -10,7 +10,7 @@ use Rattle.gn_text.specs.Faults.{◌>>=◌, fault_at, IsRefused}
 use Rattle.gn_text.specs.Settings.{Numbers}
 use Rattle.gn_capture.specs.declared.line.Line.{Line}
 use Rattle.gn_capture.specs.CaptureLines.{line_of, links_after}
-use Rattle.gn_capture.specs.Captures.{capture_header, capture_of, lines_from, said_by}
+use Rattle.gn_capture.specs.Captures.{capture_header, capture_of, lines_from, parsed_by}
 use Rattle.gn_capture.specs.FirstFaults.{IsFirstFault, TellsFirst}
 use Rattle.gn_capture.specs.Outcomes.{numbered}
 
@@ -30,16 +30,16 @@ first_line : {A : Type 0} (links n : ℕ) (text : List ℕ) (more : List (ℕ ×
 first_line {A} links n text more fault (Err cause) q e behind =
     let same : fault_at n cause ≡ fault = cc in
     let P : CaptureFault → Type 0 = λ f. IsFirstFault A links ((n, text) ∷ more) f in
-    subst P same (record { before = []; said = []; text = text; after = more; split = refl; lawful = refl; spoils = q })
+    subst P same (record { before = []; parsed = []; text = text; after = more; split = refl; valid = refl; spoils = q })
 first_line {A} links n text more fault (Ok line) q e behind =
     let r = behind (links_after links line) (unjoined (λ others. (n, line) ∷ others) (lines_from (links_after links line) more) fault e) in
     record {
       before = (n, text) ∷ r.before;
-      said = (n, line) ∷ r.said;
+      parsed = (n, line) ∷ r.parsed;
       text = r.text;
       after = r.after;
       split = ap (λ t. (n, text) ∷ t) r.split;
-      lawful = rw (q, r.lawful) refl;
+      valid = rw (q, r.valid) refl;
       spoils = r.spoils;
     }
 
@@ -49,7 +49,7 @@ first_in ((n, text) ∷ more) links fault e =
     first_line links n text more fault (line_of links (fields_of text)) refl e (λ after h. first_in more after fault h)
 
 first_of : {A : Type 0} (text : List ℕ) (fault : CaptureFault) (header : Result ((Numbers × Own) × List (ℕ × List ℕ)) CaptureFault)
-    → capture_header text ≡ header → (header >>= said_by {A = A}) ≡ Err fault → TellsFirst A text (Fault fault)
+    → capture_header text ≡ header → (header >>= parsed_by {A = A}) ≡ Err fault → TellsFirst A text (Fault fault)
 first_of text fault (Err other) q e = let same : other ≡ fault = cc in inl (q ∙ ap Err same)
 first_of {A} text fault (Ok header) q e =
     inr (header, q, first_in header.1 0 fault (unjoined (λ lines. record { numbers = header.0.0; own = header.0.1; lines = lines }) (lines_from {A = A} 0 header.1) fault e))

@@ -5,7 +5,7 @@ use Rattle.std.specs.Result.{is_ok}
 use Rattle.gn_rules.specs.declared.config.Own.{Own}
 use Rattle.gn_rules.specs.declared.receipt.Step.{Step}
 use Rattle.gn_text.specs.Header.{header_of}
-use Rattle.gn_text.specs.Said.{said_of, behind_of}
+use Rattle.gn_text.specs.Parsed.{parsed_of, behind_of}
 use Rattle.gn_text.specs.Settings.{Numbers}
 use Rattle.gn_capture.specs.Histories.{history_of, steps_from, title}
 
@@ -17,7 +17,7 @@ appended (Err x) out new t0 t1 t2 t3 t4 a b c d e0 e1 e2 e3 e4 e = _
 
 -- a history is its header and the steps behind it
 pub history_read : {A : Type 0} (text : List ℕ) (lines : List (ℕ × List ℕ)) (behind : ℕ) (settings : Numbers × Own) (more : List (ℕ × List ℕ)) (steps : List (Step A))
-    → lines ≡ said_of text → behind ≡ behind_of text → header_of title behind lines ≡ Ok (settings, more) → steps_from behind more ≡ Ok steps
+    → lines ≡ parsed_of text → behind ≡ behind_of text → header_of title behind lines ≡ Ok (settings, more) → steps_from behind more ≡ Ok steps
     → history_of text ≡ Ok (settings, steps)
 history_read text lines behind settings more steps e f h s =
     rw (← e, ← f, h, s) refl

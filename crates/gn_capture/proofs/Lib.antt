@@ -7,9 +7,9 @@ pub mod NumbersAgain
 pub mod PacketLemmas
 pub mod QueryLemmas
 pub mod RoundTripLemmas
-pub mod SaidLemmas
+pub mod ParsedLemmas
 pub mod SettingsAgain
 pub mod Spaced
-pub mod SpelledLemmas
+pub mod EncodedLemmas
 pub mod StepsAgain
 pub mod StepsLemmas

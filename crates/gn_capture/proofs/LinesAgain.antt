@@ -9,7 +9,7 @@ use Rattle.std.proofs.lemmas.List.{get_or_push, take_at}
 use Rattle.std.proofs.lemmas.List.Splits.{slice_split_at, slice_split_none}
 use Rattle.std.proofs.lemmas.List.Sums.{AllPass-from_list_all}
 use Rattle.gn_text.specs.Lines.{is_skipped, is_word, lines_of, without_last_feed}
-use Rattle.gn_text.specs.Said.{said_from}
+use Rattle.gn_text.specs.Parsed.{numbered_from}
 use Rattle.gn_capture.specs.Histories.{ending}
 use Rattle.gn_capture.proofs.Spaced.{IsLine}
 
@@ -58,24 +58,24 @@ numbered n [] = []
 numbered n (line ∷ more) = (n, line) ∷ numbered (n + 1) more
 
 -- a line that isn't skipped
-abbrev pub IsSaid : List ℕ → Type 0
-IsSaid line = is_skipped line ≡ false
+abbrev pub IsParsed : List ℕ → Type 0
+IsParsed line = is_skipped line ≡ false
 
 -- where no line is skipped, each one says something
-pub said_again : (n : ℕ) (lines : List (List ℕ)) → AllByRecursion IsSaid lines → said_from n lines ≡ numbered n lines
-said_again n [] h = refl
-said_again n (line ∷ more) h = rw (h.0, said_again (n + 1) more h.1) refl
+pub parsed_again : (n : ℕ) (lines : List (List ℕ)) → AllByRecursion IsParsed lines → numbered_from n lines ≡ numbered n lines
+parsed_again n [] h = refl
+parsed_again n (line ∷ more) h = rw (h.0, parsed_again (n + 1) more h.1) refl
 
-digit_said : (x : ℕ) → is_ascii_digit x ≡ true → (x == 35) ≡ false
-digit_said x h = grind (arith, nat_tests)
+digit_parsed : (x : ℕ) → is_ascii_digit x ≡ true → (x == 35) ≡ false
+digit_parsed x h = grind (arith, nat_tests)
 
 digit_goes_on : (x : ℕ) → is_ascii_digit x ≡ true → (x == 101) ≡ false
 digit_goes_on x h = grind (arith, nat_tests)
 
 -- a line that begins with a number isn't skipped, nor is it the line `end`
-pub number_said : (ds rest : List ℕ) → 0 < length ds → list_all is_ascii_digit ds ≡ true → IsSaid (ds ++ rest)
-number_said [] rest some h = absurd (omega arith)
-number_said (d ∷ ds) rest some h = digit_said d (and_parts (is_ascii_digit d) (list_all is_ascii_digit ds) h).0
+pub number_parsed : (ds rest : List ℕ) → 0 < length ds → list_all is_ascii_digit ds ≡ true → IsParsed (ds ++ rest)
+number_parsed [] rest some h = absurd (omega arith)
+number_parsed (d ∷ ds) rest some h = digit_parsed d (and_parts (is_ascii_digit d) (list_all is_ascii_digit ds) h).0
 
 pub number_goes_on : (ds rest : List ℕ) → 0 < length ds → list_all is_ascii_digit ds ≡ true → is_word (ds ++ rest) ending ≡ false
 number_goes_on [] rest some h = absurd (omega arith)

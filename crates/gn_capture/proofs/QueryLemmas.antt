@@ -7,7 +7,7 @@ use Rattle.gn_payload.specs.declared.refusal.WriteRefusal.{WriteRefusal}
 use Rattle.gn_payload.specs.declared.refusal.WriteRefusal.TheVariants.{ZeroInText, TooLong}
 use Rattle.gn_payload.specs.Fields.{QueryFields}
 use Rattle.gn_payload.specs.Refusals.{has_zero, query_refusal}
-use Rattle.gn_payload.specs.Spelling.{query_bytes}
+use Rattle.gn_payload.specs.Encoding.{query_bytes}
 use Rattle.gn_capture.specs.Requests.{is_text}
 
 -- a Query with no tail

@@ -5,15 +5,15 @@ use Rattle.gn_rules.specs.declared.config.Config.{Config}
 use Rattle.gn_rules.specs.declared.receipt.Step.{Step}
 use Rattle.gn_text.specs.Lines.{lines_of}
 use Rattle.gn_text.specs.Header.{header_of}
-use Rattle.gn_text.specs.Said.{said_from, said_of, behind_of}
+use Rattle.gn_text.specs.Parsed.{numbered_from, parsed_of, behind_of}
 use Rattle.gn_text.specs.Settings.{settings_of, config_line, own_line}
 use Rattle.gn_text.specs.Steps.{step_line, step_text}
 use Rattle.gn_capture.specs.RoundTrip.{IsOwn, IsStep, WrittenIsRead}
-use Rattle.gn_capture.specs.Histories.{ending, history_text, line_said, steps_from, steps_text, title}
-use Rattle.gn_capture.proofs.LinesAgain.{IsSaid, fed, lines_again, numbered, said_again}
+use Rattle.gn_capture.specs.Histories.{ending, history_text, line_parsed, steps_from, steps_text, title}
+use Rattle.gn_capture.proofs.LinesAgain.{IsParsed, fed, lines_again, numbered, parsed_again}
 use Rattle.gn_capture.proofs.SettingsAgain.{config_again, config_line_is, own_again, own_line_is}
 use Rattle.gn_capture.proofs.Spaced.{IsLine}
-use Rattle.gn_capture.proofs.StepsAgain.{step_again, step_goes_on, step_line_is, step_line_said}
+use Rattle.gn_capture.proofs.StepsAgain.{step_again, step_goes_on, step_line_is, step_line_parsed}
 use Rattle.gn_capture.proofs.HistoryLemmas.{history_read}
 
 -- the lines of steps, and the last one
@@ -42,21 +42,21 @@ step_lines_are : {A : Type 0} (steps : List (Step A)) → AllByRecursion IsStep 
 step_lines_are [] h = (refl, tt)
 step_lines_are (step ∷ more) h = (step_line_is step h.0, step_lines_are more h.1)
 
-step_lines_said : {A : Type 0} (steps : List (Step A)) → AllByRecursion IsStep steps → AllByRecursion IsSaid (step_lines steps)
-step_lines_said [] h = (refl, tt)
-step_lines_said (step ∷ more) h = (step_line_said step h.0, step_lines_said more h.1)
+step_lines_parsed : {A : Type 0} (steps : List (Step A)) → AllByRecursion IsStep steps → AllByRecursion IsParsed (step_lines steps)
+step_lines_parsed [] h = (refl, tt)
+step_lines_parsed (step ∷ more) h = (step_line_parsed step h.0, step_lines_parsed more h.1)
 
 -- the lines of a history, each with its number
-said_lines : {A : Type 0} (s : Config) (steps : List (Step A)) → IsOwn s.own → AllByRecursion IsStep steps
-    → said_of (history_text s steps) ≡ numbered 1 (title ∷ lines_behind s steps)
-said_lines s steps h k =
-    ap (said_from 1) (ap lines_of (history_fed s steps) ∙ lines_again title (lines_behind s steps) refl (config_line_is s, (own_line_is s.own h, step_lines_are steps k)))
-    ∙ said_again 1 (title ∷ lines_behind s steps) (refl, (refl, (refl, step_lines_said steps k)))
+numbered_lines : {A : Type 0} (s : Config) (steps : List (Step A)) → IsOwn s.own → AllByRecursion IsStep steps
+    → parsed_of (history_text s steps) ≡ numbered 1 (title ∷ lines_behind s steps)
+numbered_lines s steps h k =
+    ap (numbered_from 1) (ap lines_of (history_fed s steps) ∙ lines_again title (lines_behind s steps) refl (config_line_is s, (own_line_is s.own h, step_lines_are steps k)))
+    ∙ parsed_again 1 (title ∷ lines_behind s steps) (refl, (refl, (refl, step_lines_parsed steps k)))
 
-line_again : {A : Type 0} (n : ℕ) (step : Step A) → IsStep step → line_said (n, step_line step) ≡ Ok (Some step)
+line_again : {A : Type 0} (n : ℕ) (step : Step A) → IsStep step → line_parsed (n, step_line step) ≡ Ok (Some step)
 line_again n step h = rw (step_goes_on step h, step_again step h) refl
 
-one_more : {A : Type 0} (behind : ℕ) (line : ℕ × List ℕ) (more : List (ℕ × List ℕ)) (step : Step A) (steps : List (Step A)) → line_said line ≡ Ok (Some step)
+one_more : {A : Type 0} (behind : ℕ) (line : ℕ × List ℕ) (more : List (ℕ × List ℕ)) (step : Step A) (steps : List (Step A)) → line_parsed line ≡ Ok (Some step)
     → steps_from behind more ≡ Ok steps → steps_from behind (line ∷ more) ≡ Ok (step ∷ steps)
 one_more behind line more step steps e f = rw (e, f) refl
 
@@ -72,5 +72,5 @@ header_again s behind more h = rw (config_again s, own_again s.own h) refl
 pub written_is_read : {A : Type 0} → WrittenIsRead A
 written_is_read s steps h k =
     history_read (history_text s steps) (numbered 1 (title ∷ lines_behind s steps)) (behind_of (history_text s steps)) (settings_of s)
-    (numbered 4 (step_lines steps)) steps (sym (said_lines s steps h k)) refl (header_again s (behind_of (history_text s steps)) (numbered 4 (step_lines steps)) h)
+    (numbered 4 (step_lines steps)) steps (sym (numbered_lines s steps h k)) refl (header_again s (behind_of (history_text s steps)) (numbered 4 (step_lines steps)) h)
     (steps_again (behind_of (history_text s steps)) 4 steps k)

@@ -19,12 +19,12 @@ use Rattle.gn_text.specs.Lines.{fields_of, is_word}
 use Rattle.gn_capture.specs.Histories.{ending}
 use Rattle.gn_text.specs.Steps.{event_text, mark_text, packet_text, place_text, reason_text, reply_text, sending_text, sends_text, step_line}
 use Rattle.gn_capture.specs.Events.{event_first}
-use Rattle.gn_capture.specs.Replies.{is_unmarked, mark_place, marked_said, reason_named, reply_said, sending_said, sends_said}
+use Rattle.gn_capture.specs.Replies.{is_unmarked, mark_place, marked_parsed, reason_named, reply_parsed, sending_parsed, sends_parsed}
 use Rattle.gn_capture.specs.RoundTrip.{IsEvent, IsPacket, IsReply, IsSending, IsStep}
-use Rattle.gn_capture.specs.Steps.{step_said}
+use Rattle.gn_capture.specs.Steps.{step_parsed}
 use Rattle.gn_capture.proofs.DescriptorsAgain.{hex_plain, packet_again}
 use Rattle.gn_capture.proofs.NumbersAgain.{number_again, number_digits, number_nonempty, number_plain}
-use Rattle.gn_capture.proofs.LinesAgain.{IsSaid, number_said, number_goes_on}
+use Rattle.gn_capture.proofs.LinesAgain.{IsParsed, number_parsed, number_goes_on}
 use Rattle.gn_capture.proofs.Spaced.{IsLine, IsPlain, all_append, fields_again, fields_append, is_plain, spaced_line, tail_text, weaker}
 
 -- ---- the fields of an event
@@ -85,28 +85,28 @@ place_at (x ∷ xs) rest mark h e =
     let parts = and_parts (is_unmarked x) (list_all is_unmarked xs) h in
     let more = place_at xs rest mark parts.1 e in rw (parts.0, more) (omega arith)
 
-cut_at : {A : Type 0} (n : ℕ) (ds rest : List ℕ) → n ≡ length ds → marked_said {A = A} (take n (ds ++ rest)) (drop n (ds ++ rest)) ≡ marked_said ds rest
+cut_at : {A : Type 0} (n : ℕ) (ds rest : List ℕ) → n ≡ length ds → marked_parsed {A = A} (take n (ds ++ rest)) (drop n (ds ++ rest)) ≡ marked_parsed ds rest
 cut_at n ds rest e = rw (take_at ds rest n (sym e), drop_at ds rest n (sym e)) refl
 
 digit_unmarked : (x : ℕ) → is_ascii_digit x ≡ true → is_unmarked x ≡ true
 digit_unmarked x h = grind (arith, nat_tests)
 
 marked_again : {A : Type 0} (to mark : ℕ) (hex : List ℕ) → to < 2 ^ 32 → is_unmarked mark ≡ false
-    → sending_said {A = A} (decimal to ++ mark ∷ hex) ≡ marked_said (decimal to) (mark ∷ hex)
+    → sending_parsed {A = A} (decimal to ++ mark ∷ hex) ≡ marked_parsed (decimal to) (mark ∷ hex)
 marked_again to mark hex h e =
     let digits = weaker is_ascii_digit is_unmarked digit_unmarked (decimal to) (number_digits to h) in
     cut_at (mark_place (decimal to ++ mark ∷ hex)) (decimal to) (mark ∷ hex) (place_at (decimal to) hex mark digits e)
 
 send_again : {A : Type 0} (to : ℕ) (d : Packet) (queued : Bool) → to < 2 ^ 32 → IsPacket d
-    → sending_said {A = A} ((decimal to ++ mark_text queued) ++ packet_text d) ≡ Some (record { to = to; packet = d; queued = queued })
+    → sending_parsed {A = A} ((decimal to ++ mark_text queued) ++ packet_text d) ≡ Some (record { to = to; packet = d; queued = queued })
 send_again to d true h k =
-    ap sending_said (append_assoc (decimal to) (codes "+") (packet_text d)) ∙ marked_again to 43 (packet_text d) h refl
+    ap sending_parsed (append_assoc (decimal to) (codes "+") (packet_text d)) ∙ marked_again to 43 (packet_text d) h refl
     ∙ rw (number_again to h, packet_again d k) refl
 send_again to d false h k =
-    ap sending_said (append_assoc (decimal to) (codes "-") (packet_text d)) ∙ marked_again to 45 (packet_text d) h refl
+    ap sending_parsed (append_assoc (decimal to) (codes "-") (packet_text d)) ∙ marked_again to 45 (packet_text d) h refl
     ∙ rw (number_again to h, packet_again d k) refl
 
-sending_again : {A : Type 0} (x : Sending A) → IsSending x → sending_said (sending_field x) ≡ Some x
+sending_again : {A : Type 0} (x : Sending A) → IsSending x → sending_parsed (sending_field x) ≡ Some x
 sending_again x h = send_again x.to x.packet x.queued h.to h.packet
 
 mark_plain : (queued : Bool) → IsPlain (mark_text queued)
@@ -122,11 +122,11 @@ sends_plain : {A : Type 0} (xs : List (Sending A)) → AllByRecursion IsSending 
 sends_plain [] h = tt
 sends_plain (x ∷ xs) h = (sending_plain x h.0, sends_plain xs h.1)
 
-one_more : {A : Type 0} (x : Sending A) (xs : List (Sending A)) (field : List ℕ) (more : List (List ℕ)) → sending_said field ≡ Some x → sends_said more ≡ Some xs
-    → sends_said (field ∷ more) ≡ Some (x ∷ xs)
+one_more : {A : Type 0} (x : Sending A) (xs : List (Sending A)) (field : List ℕ) (more : List (List ℕ)) → sending_parsed field ≡ Some x → sends_parsed more ≡ Some xs
+    → sends_parsed (field ∷ more) ≡ Some (x ∷ xs)
 one_more x xs field more e f = rw (e, f) refl
 
-sends_again : {A : Type 0} (xs : List (Sending A)) → AllByRecursion IsSending xs → sends_said (map sending_field xs) ≡ Some xs
+sends_again : {A : Type 0} (xs : List (Sending A)) → AllByRecursion IsSending xs → sends_parsed (map sending_field xs) ≡ Some xs
 sends_again [] h = refl
 sends_again (x ∷ xs) h = one_more x xs (sending_field x) (map sending_field xs) (sending_again x h.0) (sends_again xs h.1)
 
@@ -191,20 +191,20 @@ reply_plain (Dropped reason) h = (refl, (reason_plain reason, tt))
 reply_plain (Taken d) h = (refl, (packet_plain d h, tt))
 reply_plain (Sent sends) h = (refl, sends_plain sends h)
 
-routed_again : {A : Type 0} (sends : List (Sending A)) (local : Bool) (more : List (List ℕ)) → sends_said more ≡ Some sends
-    → reply_said (codes "routed" ∷ place_text local ∷ more) ≡ Some (Routed sends local)
+routed_again : {A : Type 0} (sends : List (Sending A)) (local : Bool) (more : List (List ℕ)) → sends_parsed more ≡ Some sends
+    → reply_parsed (codes "routed" ∷ place_text local ∷ more) ≡ Some (Routed sends local)
 routed_again sends true more e = rw e refl
 routed_again sends false more e = rw e refl
 
-sent_again : {A : Type 0} (sends : List (Sending A)) (more : List (List ℕ)) → sends_said more ≡ Some sends
-    → reply_said (codes "sent" ∷ more) ≡ Some (Sent sends)
+sent_again : {A : Type 0} (sends : List (Sending A)) (more : List (List ℕ)) → sends_parsed more ≡ Some sends
+    → reply_parsed (codes "sent" ∷ more) ≡ Some (Sent sends)
 sent_again sends more e = rw e refl
 
 dropped_again : {A : Type 0} (field : List ℕ) (reason : DropReason) → reason_named field ≡ Some reason
-    → reply_said {A = A} (codes "dropped" ∷ field ∷ []) ≡ Some (Dropped reason)
+    → reply_parsed {A = A} (codes "dropped" ∷ field ∷ []) ≡ Some (Dropped reason)
 dropped_again field reason e = rw e refl
 
-reply_again : {A : Type 0} (r : Reply A) → IsReply r → reply_said (reply_fields r) ≡ Some r
+reply_again : {A : Type 0} (r : Reply A) → IsReply r → reply_parsed (reply_fields r) ≡ Some r
 reply_again (Connected c) h = rw (number_again c h) refl
 reply_again TooMany h = refl
 reply_again (Closed count) h = rw (number_again count h) refl
@@ -239,21 +239,21 @@ step_plain step h =
 pub step_line_is : {A : Type 0} (step : Step A) → IsStep step → IsLine (step_line step)
 step_line_is step h = rw (step_spaced step) (spaced_line (decimal step.actor) (step_fields step) (number_plain step.actor h.actor) (step_plain step h))
 
-pub step_line_said : {A : Type 0} (step : Step A) → IsStep step → IsSaid (step_line step)
-step_line_said step h =
-    rw (step_spaced step) (number_said (decimal step.actor) (tail_text (step_fields step)) (number_nonempty step.actor h.actor) (number_digits step.actor h.actor))
+pub step_line_parsed : {A : Type 0} (step : Step A) → IsStep step → IsParsed (step_line step)
+step_line_parsed step h =
+    rw (step_spaced step) (number_parsed (decimal step.actor) (tail_text (step_fields step)) (number_nonempty step.actor h.actor) (number_digits step.actor h.actor))
 
 pub step_goes_on : {A : Type 0} (step : Step A) → IsStep step → is_word (step_line step) ending ≡ false
 step_goes_on step h =
     rw (step_spaced step) (number_goes_on (decimal step.actor) (tail_text (step_fields step)) (number_nonempty step.actor h.actor) (number_digits step.actor h.actor))
 
-said_again : {A : Type 0} (step : Step A) → IsStep step → step_said (decimal step.actor ∷ step_fields step) ≡ Some step
-said_again step h =
+parsed_again : {A : Type 0} (step : Step A) → IsStep step → step_parsed (decimal step.actor ∷ step_fields step) ≡ Some step
+parsed_again step h =
     rw (number_again step.actor h.actor, event_again step.event (codes "=" ∷ reply_fields step.reply) h.event, reply_again step.reply h.reply) refl
 
 -- the line of a step is read again
-pub step_again : {A : Type 0} (step : Step A) → IsStep step → step_said (fields_of (step_line step)) ≡ Some step
+pub step_again : {A : Type 0} (step : Step A) → IsStep step → step_parsed (fields_of (step_line step)) ≡ Some step
 step_again step h =
-    ap (λ (line : List ℕ). step_said (fields_of line)) (step_spaced step)
-    ∙ ap step_said (fields_again (decimal step.actor) (step_fields step) (number_plain step.actor h.actor) (step_plain step h))
-    ∙ said_again step h
+    ap (λ (line : List ℕ). step_parsed (fields_of line)) (step_spaced step)
+    ∙ ap step_parsed (fields_again (decimal step.actor) (step_fields step) (number_plain step.actor h.actor) (step_plain step h))
+    ∙ parsed_again step h

@@ -1,6 +1,6 @@
 -- What one line of a capture says.
 use Rattle.std.specs.Prelude.{ℕ, ◌+◌, ◌==◌, ◌&&◌, nat_le, if◌then◌else◌, List, [], ◌∷◌, Option, Some, None, Result, Ok, Err}
-use Rattle.gn_text.specs.Bytes.{bytes_said}
+use Rattle.gn_text.specs.Bytes.{bytes_parsed}
 use Rattle.gn_text.specs.Numbers.{number_of}
 use Rattle.gn_text.specs.declared.fault.Cause.{Cause}
 use Rattle.gn_text.specs.declared.fault.Cause.TheVariants as cause
@@ -9,7 +9,7 @@ use Rattle.gn_capture.specs.declared.line.Line.TheVariants.{Join, Greeted, Piece
 use Rattle.gn_capture.specs.declared.word.Word.{Word}
 use Rattle.gn_capture.specs.declared.word.Word.TheVariants as word
 use Rattle.gn_text.specs.Faults.{◌>>=◌}
-use Rattle.gn_capture.specs.Outcomes.{said}
+use Rattle.gn_capture.specs.Outcomes.{parsed}
 use Rattle.gn_capture.specs.Requests.{ping_of, query_of}
 use Rattle.gn_capture.specs.Words.{word_of}
 
@@ -25,14 +25,14 @@ link_of line links (field ∷ more) = Err cause.Fields
 
 -- the number of a line that takes one
 abbrev pub number_alone : List (List ℕ) → Result ℕ Cause
-number_alone (field ∷ []) = said (number_of field)
+number_alone (field ∷ []) = parsed (number_of field)
 number_alone _ = Err cause.Fields
 
 -- a piece of a link, which has to be made before
 abbrev pub data_of : {A : Type 0} → ℕ → List (List ℕ) → Result (Line A) Cause
 data_of links (link ∷ hex ∷ []) = do
-  i ← said (number_of link)
-  bytes ← said (bytes_said hex)
+  i ← parsed (number_of link)
+  bytes ← parsed (bytes_parsed hex)
   if nat_le 1 i && nat_le i links then Ok (Piece i bytes) else Err cause.Link
 data_of links _ = Err cause.Fields
 

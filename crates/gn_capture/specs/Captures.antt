@@ -5,7 +5,7 @@ use Rattle.gn_text.specs.Lines.{fields_of}
 use Rattle.gn_text.specs.declared.fault.CaptureFault.{CaptureFault}
 use Rattle.gn_text.specs.Faults.{◌>>=◌}
 use Rattle.gn_text.specs.Header.{header_of}
-use Rattle.gn_text.specs.Said.{behind_of, said_of}
+use Rattle.gn_text.specs.Parsed.{behind_of, parsed_of}
 use Rattle.gn_text.specs.Settings.{Numbers, settings_of}
 use Rattle.gn_capture.specs.declared.capture.Capture.{Capture}
 use Rattle.gn_capture.specs.declared.line.Line.{Line}
@@ -22,29 +22,29 @@ lines_from links ((n, text) ∷ more) = do
   Ok ((n, line) ∷ others)
 
 -- what a capture says: the numbers of its configuration, the own servent, and its lines
-pub record Said (A : Type 0) : Type 0 where
+pub record Parsed (A : Type 0) : Type 0 where
   pub numbers : Numbers
   pub own : Own
   pub lines : List (ℕ × Line A)
 
 -- the numbers and the own servent that a capture's first three lines say, and the lines behind them
 abbrev pub capture_header : List ℕ → Result ((Numbers × Own) × List (ℕ × List ℕ)) CaptureFault
-capture_header text = header_of (codes "gnutella-capture 1") (behind_of text) (said_of text)
+capture_header text = header_of (codes "gnutella-capture 1") (behind_of text) (parsed_of text)
 
 -- what a capture of this header says
-abbrev pub said_by : {A : Type 0} → (Numbers × Own) × List (ℕ × List ℕ) → Result (Said A) CaptureFault
-said_by header = do
+abbrev pub parsed_by : {A : Type 0} → (Numbers × Own) × List (ℕ × List ℕ) → Result (Parsed A) CaptureFault
+parsed_by header = do
   lines ← lines_from 0 header.1
   Ok (record { numbers = header.0.0; own = header.0.1; lines = lines })
 
 -- a capture says what its first three lines say, and what the lines behind them say; its fault is the first one
-abbrev pub capture_of : {A : Type 0} → List ℕ → Result (Said A) CaptureFault
+abbrev pub capture_of : {A : Type 0} → List ℕ → Result (Parsed A) CaptureFault
 capture_of text = do
   header ← capture_header text
-  said_by header
+  parsed_by header
 
 -- a capture that was read, as what it says
-abbrev pub capture_seen : {A : Type 0} → Capture A → Said A
+abbrev pub capture_seen : {A : Type 0} → Capture A → Parsed A
 capture_seen capture =
     record { numbers = (settings_of capture.config).0; own = capture.config.own; lines = capture.lines.items }
 

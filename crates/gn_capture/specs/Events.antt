@@ -7,7 +7,7 @@ use Rattle.gn_rules.specs.declared.event.Event.TheVariants.{Connect, Close, Admi
 use Rattle.gn_text.specs.Addresses.{◌>>=◌}
 use Rattle.gn_text.specs.Lines.{is_word}
 use Rattle.gn_text.specs.Numbers.{number_of}
-use Rattle.gn_capture.specs.Packets.{packet_said}
+use Rattle.gn_capture.specs.Packets.{packet_parsed}
 
 -- a value that the first fields say, with the fields behind them, and what these refer to
 abbrev pub first_seen : {X : Type 0} → X × Bor (List (Bor (List ℕ))) → X × List (List ℕ)
@@ -24,7 +24,7 @@ number_first (field ∷ more) = do
 abbrev pub packet_first : List (List ℕ) → Option (Packet × List (List ℕ))
 packet_first [] = None
 packet_first (field ∷ more) = do
-  packet ← packet_said field
+  packet ← packet_parsed field
   Some (packet, more)
 
 -- a number and a descriptor make an Admit

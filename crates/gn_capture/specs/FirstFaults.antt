@@ -15,17 +15,17 @@ abbrev pub links_made : {A : Type 0} → ℕ → List (ℕ × Line A) → ℕ
 links_made links [] = links
 links_made links (line ∷ more) = links_made (links_after links line.1) more
 
--- the fault is of a line before which each line is lawful
+-- the fault is of a line before which each line is valid
 pub record IsFirstFault (A : Type 0) (links : ℕ) (lines : List (ℕ × List ℕ)) (fault : CaptureFault) : Type 0 where
   pub before : List (ℕ × List ℕ)
-  pub said : List (ℕ × Line A)
+  pub parsed : List (ℕ × Line A)
   pub text : List ℕ
   pub after : List (ℕ × List ℕ)
   pub split : lines ≡ before ++ (fault.line, text) ∷ after
-  pub lawful : lines_from links before ≡ Ok said
-  pub spoils : line_of {A = A} (links_made links said) (fields_of text) ≡ Err fault.cause
+  pub valid : lines_from links before ≡ Ok parsed
+  pub spoils : line_of {A = A} (links_made links parsed) (fields_of text) ≡ Err fault.cause
 
--- the first three lines are lawful, and of those behind them it is the first fault
+-- the first three lines are valid, and of those behind them it is the first fault
 abbrev pub IsBodyFault : (A : Type 0) → List ℕ → CaptureFault → Type 0
 IsBodyFault A text fault =
     (header : (Numbers × Own) × List (ℕ × List ℕ)) × (capture_header text ≡ Ok header) × IsFirstFault A 0 header.1 fault

@@ -7,12 +7,12 @@ use Rattle.gn_rules.specs.declared.receipt.Step.{Step}
 use Rattle.gn_text.specs.Lines.{fields_of, is_word}
 use Rattle.gn_text.specs.declared.fault.Cause.TheVariants as cause
 use Rattle.gn_text.specs.declared.fault.CaptureFault.{CaptureFault}
-use Rattle.gn_text.specs.Faults.{fault_at, said_at, ◌>>=◌}
+use Rattle.gn_text.specs.Faults.{fault_at, numbered_at, ◌>>=◌}
 use Rattle.gn_text.specs.Header.{header_of}
-use Rattle.gn_text.specs.Said.{said_of, behind_of}
+use Rattle.gn_text.specs.Parsed.{parsed_of, behind_of}
 use Rattle.gn_text.specs.Settings.{Numbers, settings_of, settings_text}
 use Rattle.gn_text.specs.Steps.{step_text}
-use Rattle.gn_capture.specs.Steps.{step_said}
+use Rattle.gn_capture.specs.Steps.{step_parsed}
 
 -- a value that was read, changed
 abbrev pub map_result : {X Y E : Type 0} → (X → Y) → Result X E → Result Y E
@@ -36,8 +36,8 @@ abbrev pub history_text : {A : Type 0} → Config → List (Step A) → List ℕ
 history_text s steps = codes "gnutella-history 1\n" ++ settings_text s ++ steps_text steps ++ codes "end\n"
 
 -- what a line says: a step, or nothing where it is the line `end`
-abbrev pub line_said : {A : Type 0} → ℕ × List ℕ → Result (Option (Step A)) CaptureFault
-line_said line = if is_word line.1 ending then Ok None else map_result Some (said_at line.0 cause.Field (step_said (fields_of line.1)))
+abbrev pub line_parsed : {A : Type 0} → ℕ × List ℕ → Result (Option (Step A)) CaptureFault
+line_parsed line = if is_word line.1 ending then Ok None else map_result Some (numbered_at line.0 cause.Field (step_parsed (fields_of line.1)))
 
 -- nothing stands behind the line `end`
 abbrev pub ended : {A : Type 0} → List (ℕ × List ℕ) → Result (List (Step A)) CaptureFault
@@ -53,13 +53,13 @@ steps_behind (Some step) more steps = map_result (λ xs. step ∷ xs) steps
 abbrev pub steps_from : {A : Type 0} → ℕ → List (ℕ × List ℕ) → Result (List (Step A)) CaptureFault
 steps_from behind [] = Err (fault_at behind cause.End)
 steps_from behind (line ∷ more) = do
-  found ← line_said line
+  found ← line_parsed line
   steps_behind found more (steps_from behind more)
 
 -- what a text says: the settings and the steps, or its first fault
 abbrev pub history_of : {A : Type 0} → List ℕ → Result ((Numbers × Own) × List (Step A)) CaptureFault
 history_of text = do
-  header ← header_of title (behind_of text) (said_of text)
+  header ← header_of title (behind_of text) (parsed_of text)
   map_result (λ steps. (header.0, steps)) (steps_from (behind_of text) header.1)
 
 -- a history that was read

@@ -10,9 +10,9 @@ use Rattle.gn_capture.specs.declared.refusal.LineRefusal.{LineRefusal}
 use Rattle.gn_capture.specs.declared.refusal.LineRefusal.TheVariants as line
 
 -- what a field says; where it can't be read, that is the cause
-abbrev pub said : {X : Type 0} → Option X → Result X Cause
-said None = Err Field
-said (Some x) = Ok x
+abbrev pub parsed : {X : Type 0} → Option X → Result X Cause
+parsed None = Err Field
+parsed (Some x) = Ok x
 
 -- what line n says, or its first cause as its fault
 abbrev pub numbered : {X : Type 0} → ℕ → Result X Cause → Result X CaptureFault
@@ -24,7 +24,7 @@ abbrev pub refusal_at : ℕ → LineRefusal → CaptureRefusal
 refusal_at n (line.Fault cause) = refused_at n cause
 refusal_at n line.NoMemory = whole.NoMemory
 
--- a line is refused for its first cause, or for want of memory
+-- a line is refused for its first cause, or because it is out of memory
 abbrev pub IsLineRefused : {X : Type 0} → LineRefusal → Result X Cause → Type 0
 IsLineRefused line.NoMemory says = Unit {0}
 IsLineRefused (line.Fault cause) says = says ≡ Err cause

@@ -9,7 +9,7 @@ use Rattle.gn_rules.specs.declared.sends.Sending.{Sending}
 use Rattle.gn_text.specs.Addresses.{◌>>=◌}
 use Rattle.gn_text.specs.Lines.{is_word}
 use Rattle.gn_text.specs.Numbers.{number_of}
-use Rattle.gn_capture.specs.Packets.{packet_said}
+use Rattle.gn_capture.specs.Packets.{packet_parsed}
 
 -- no mark of a send: neither + nor -
 abbrev pub is_unmarked : ℕ → Bool
@@ -20,23 +20,23 @@ abbrev pub mark_place : List ℕ → ℕ
 mark_place field = prefix_len is_unmarked field
 
 -- the send to the connection that the first text says: the mark, and the packet behind it
-abbrev pub marked_said : {A : Type 0} → List ℕ → List ℕ → Option (Sending A)
-marked_said to [] = None
-marked_said to (mark ∷ hex) = do
+abbrev pub marked_parsed : {A : Type 0} → List ℕ → List ℕ → Option (Sending A)
+marked_parsed to [] = None
+marked_parsed to (mark ∷ hex) = do
   c ← number_of to
-  packet ← packet_said hex
+  packet ← packet_parsed hex
   Some (record { to = c; packet = packet; queued = mark == 43 })
 
 -- the send that a field says
-abbrev pub sending_said : {A : Type 0} → List ℕ → Option (Sending A)
-sending_said field = marked_said (take (mark_place field) field) (drop (mark_place field) field)
+abbrev pub sending_parsed : {A : Type 0} → List ℕ → Option (Sending A)
+sending_parsed field = marked_parsed (take (mark_place field) field) (drop (mark_place field) field)
 
 -- the sends that fields say, one each
-abbrev pub sends_said : {A : Type 0} → List (List ℕ) → Option (List (Sending A))
-sends_said [] = Some []
-sends_said (field ∷ more) = do
-  sending ← sending_said field
-  others ← sends_said more
+abbrev pub sends_parsed : {A : Type 0} → List (List ℕ) → Option (List (Sending A))
+sends_parsed [] = Some []
+sends_parsed (field ∷ more) = do
+  sending ← sending_parsed field
+  others ← sends_parsed more
   Some (sending ∷ others)
 
 -- why a descriptor was dropped, by its name
@@ -60,8 +60,8 @@ place_named field =
 
 -- what one field says, where it is alone
 abbrev pub alone : {X : Type 0} → (List ℕ → Option X) → List (List ℕ) → Option X
-alone said (field ∷ []) = said field
-alone said fields = None
+alone parsed (field ∷ []) = parsed field
+alone parsed fields = None
 
 -- a value, where no field is left
 abbrev pub none_left : {X : Type 0} → X → List (List ℕ) → Option X
@@ -69,34 +69,34 @@ none_left x [] = Some x
 none_left x (field ∷ more) = None
 
 -- the place and the sends of a routed descriptor
-abbrev pub routed_said : {A : Type 0} → List (List ℕ) → Option (Reply A)
-routed_said [] = None
-routed_said (place ∷ more) = do
+abbrev pub routed_parsed : {A : Type 0} → List (List ℕ) → Option (Reply A)
+routed_parsed [] = None
+routed_parsed (place ∷ more) = do
   local ← place_named place
-  sends ← sends_said more
+  sends ← sends_parsed more
   Some (Routed sends local)
 
 -- a reply with packets: by its word, what the fields behind it say
-abbrev pub packets_said : {A : Type 0} → List ℕ → List (List ℕ) → Option (Reply A)
-packets_said word more =
-    if is_word word (codes "routed") then routed_said more
-    else if is_word word (codes "taken") then (alone packet_said more >>= λ packet. Some (Taken packet))
-    else if is_word word (codes "sent") then (sends_said more >>= λ sends. Some (Sent sends))
+abbrev pub packets_parsed : {A : Type 0} → List ℕ → List (List ℕ) → Option (Reply A)
+packets_parsed word more =
+    if is_word word (codes "routed") then routed_parsed more
+    else if is_word word (codes "taken") then (alone packet_parsed more >>= λ packet. Some (Taken packet))
+    else if is_word word (codes "sent") then (sends_parsed more >>= λ sends. Some (Sent sends))
     else None
 
 -- a reply without a number: by its word, what the fields behind it say
-abbrev pub unnumbered_said : {A : Type 0} → List ℕ → List (List ℕ) → Option (Reply A)
-unnumbered_said word more =
+abbrev pub unnumbered_parsed : {A : Type 0} → List ℕ → List (List ℕ) → Option (Reply A)
+unnumbered_parsed word more =
     if is_word word (codes "toomany") then none_left TooMany more
     else if is_word word (codes "busy") then none_left Busy more
     else if is_word word (codes "dropped") then (alone reason_named more >>= λ reason. Some (Dropped reason))
-    else packets_said word more
+    else packets_parsed word more
 
 -- the reply that fields say
-abbrev pub reply_said : {A : Type 0} → List (List ℕ) → Option (Reply A)
-reply_said [] = None
-reply_said (word ∷ more) =
+abbrev pub reply_parsed : {A : Type 0} → List (List ℕ) → Option (Reply A)
+reply_parsed [] = None
+reply_parsed (word ∷ more) =
     if is_word word (codes "connected") then (alone number_of more >>= λ c. Some (Connected c))
     else if is_word word (codes "closed") then (alone number_of more >>= λ count. Some (Closed count))
     else if is_word word (codes "admitted") then (alone number_of more >>= λ t. Some (Admitted t))
-    else unnumbered_said word more
+    else unnumbered_parsed word more

@@ -5,13 +5,13 @@ use Rattle.gn_wire.specs.declared.kind.Kind.TheVariants.{Ping, Query}
 use Rattle.gn_wire.specs.Packet.{Packet}
 use Rattle.gn_payload.specs.Fields.{QueryFields}
 use Rattle.gn_payload.specs.Refusals.{has_zero}
-use Rattle.gn_payload.specs.Spelling.{query_bytes}
-use Rattle.gn_text.specs.Bytes.{bytes_said, guid_of}
+use Rattle.gn_payload.specs.Encoding.{query_bytes}
+use Rattle.gn_text.specs.Bytes.{bytes_parsed, guid_of}
 use Rattle.gn_text.specs.Numbers.{number_below}
 use Rattle.gn_text.specs.declared.fault.Cause.{Cause}
 use Rattle.gn_text.specs.declared.fault.Cause.TheVariants.{Fields, Field}
 use Rattle.gn_text.specs.Faults.{◌>>=◌}
-use Rattle.gn_capture.specs.Outcomes.{said}
+use Rattle.gn_capture.specs.Outcomes.{parsed}
 
 -- a Ping that comes from here
 abbrev pub own_ping : Guid → ℕ → Packet
@@ -34,22 +34,22 @@ query_from id ttl speed bytes = if is_text bytes then Ok (own_query id ttl speed
 -- the Ping of a ping line: its ID and TTL
 abbrev pub ping_of : List (List ℕ) → Result Packet Cause
 ping_of (id ∷ ttl ∷ []) = do
-  guid ← said (guid_of id)
-  hops_left ← said (number_below 256 ttl)
+  guid ← parsed (guid_of id)
+  hops_left ← parsed (number_below 256 ttl)
   Ok (own_ping guid hops_left)
 ping_of _ = Err Fields
 
 -- the Query of a speed and a text in hex
 abbrev pub query_behind : Guid → ℕ → List ℕ → List ℕ → Result Packet Cause
 query_behind id ttl speed hex = do
-  least ← said (number_below 65536 speed)
-  bytes ← said (bytes_said hex)
+  least ← parsed (number_below 65536 speed)
+  bytes ← parsed (bytes_parsed hex)
   query_from id ttl least bytes
 
 -- the Query of a query line: its ID, TTL, speed and text
 abbrev pub query_of : List (List ℕ) → Result Packet Cause
 query_of (id ∷ ttl ∷ speed ∷ hex ∷ []) = do
-  guid ← said (guid_of id)
-  hops_left ← said (number_below 256 ttl)
+  guid ← parsed (guid_of id)
+  hops_left ← parsed (number_below 256 ttl)
   query_behind guid hops_left speed hex
 query_of _ = Err Fields

@@ -4,7 +4,7 @@ use Rattle.std.specs.List.{AllByRecursion}
 use Rattle.hex.specs.Hex.{IsBytes}
 use Rattle.gn_wire.specs.Lengths.{IsDescriptor}
 use Rattle.gn_wire.specs.Packet.{Packet}
-use Rattle.gn_wire.specs.Spelling.{bytes_of}
+use Rattle.gn_wire.specs.Encoding.{bytes_of}
 use Rattle.gn_rules.specs.declared.config.Config.{Config}
 use Rattle.gn_rules.specs.declared.config.Own.{Own}
 use Rattle.gn_rules.specs.declared.event.Event.{Event}
@@ -75,6 +75,6 @@ abbrev pub WrittenIsRead : (A : Type 0) → Type 0
 WrittenIsRead A = (s : Config) (steps : List (Step A)) → IsOwn s.own → AllByRecursion IsStep steps
     → history_of (history_text s steps) ≡ Ok (settings_of s, steps)
 
--- a descriptor that bytes are read as is spelled by those very bytes
-abbrev pub ReadIsSpelled : Type 0
-ReadIsSpelled = (bytes : List ℕ) (d : Packet) → IsBytes bytes → packet_of bytes ≡ Some d → bytes_of d ≡ bytes
+-- a descriptor that bytes are read as is encoded by those very bytes
+abbrev pub ReadIsEncoded : Type 0
+ReadIsEncoded = (bytes : List ℕ) (d : Packet) → IsBytes bytes → packet_of bytes ≡ Some d → bytes_of d ≡ bytes

@@ -1,14 +1,14 @@
 //! The lines of a capture, one after another.
 
 ghost use Rattle.std.specs.Prelude.{◌≡◌, ◌<◌, ◌^◌, ◌-◌, map};
-ghost use Rattle.gn_text.specs.Said.{line_seen};
+ghost use Rattle.gn_text.specs.Parsed.{line_seen};
 ghost use Rattle.gn_capture.specs.CaptureLines.{links_after};
 ghost use Rattle.gn_capture.specs.Captures.{lines_from};
 ghost use Rattle.gn_text.specs.Faults.{IsRead};
 
 use crate::line::Line;
 use crate::read_line::read_numbered;
-use gn_text::{CaptureRefusal, SaidLine};
+use gn_text::{CaptureRefusal, NumberedLine};
 use std::alloc::Allocator;
 
 /// How many links there are after a line.
@@ -25,20 +25,20 @@ fn links_after<A: Allocator>(links: u64, line: &Line<A>) -> u64
 /// What these lines say, each with its number.
 pub(crate) fn read_lines<A: Allocator + Copy>(
     alloc: A,
-    lines: &[SaidLine],
+    lines: &[NumberedLine],
 ) -> Result<Vec<(u64, Line<A>), A>, CaptureRefusal>
     ensures { IsRead (λ v. v.items) result (lines_from 0 (map line_seen lines.now)) }
 {
-    let mut said = Vec::new(alloc);
+    let mut parsed = Vec::new(alloc);
     let mut links = 0;
     for (number, text) in lines {
         match read_numbered(alloc, links, *number, text) {
             Ok(line) => {
                 links = links_after(links, &line);
-                said.push((*number, line))?;
+                parsed.push((*number, line))?;
             }
             Err(refusal) => return Err(refusal),
         }
     }
-    Ok(said)
+    Ok(parsed)
 }

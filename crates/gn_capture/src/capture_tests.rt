@@ -199,7 +199,7 @@ fn each_word(rt: HostRuntime) -> Result<(), Fail> {
 
 #[test]
 fn requests(rt: HostRuntime) -> Result<(), Fail> {
-    let said: [(&[u8], Kind, u8, &[u8]); 3] = [
+    let parsed: [(&[u8], Kind, u8, &[u8]); 3] = [
         (
             b"ping D1d1d1d1d1d1d1d1d1d1d1d1d1d1d1d1 5",
             Kind::Ping,
@@ -219,7 +219,7 @@ fn requests(rt: HostRuntime) -> Result<(), Fail> {
             b"\x00\x00\x00",
         ),
     ];
-    for (line, kind, ttl, payload) in said {
+    for (line, kind, ttl, payload) in parsed {
         let text = joined(rt.alloc(), BEGUN, line)?;
         let capture = read_capture(rt.alloc(), &text).map_err(|_| "refused")?;
         let [(_, Line::Originate(d))] = capture.lines.as_slice() else {
@@ -234,21 +234,17 @@ fn requests(rt: HostRuntime) -> Result<(), Fail> {
 
 #[test]
 fn the_longest_text(rt: HostRuntime) -> Result<(), Fail> {
-    for (length, lawful) in [(65_533, true), (65_534, false)] {
+    for (length, valid) in [(65_533, true), (65_534, false)] {
         let query = b"query d3d3d3d3d3d3d3d3d3d3d3d3d3d3d3d3 7 0 ";
         let mut text = joined(rt.alloc(), BEGUN, query)?;
         for _ in 0u32..length {
             text.extend_from_slice(b"78")?;
         }
         let read = read_capture(rt.alloc(), &text);
-        assert_eq!(rt; read.is_ok(), lawful);
+        assert_eq!(rt; read.is_ok(), valid);
         assert_eq!(rt;
             fault(read),
-            if lawful {
-                None
-            } else {
-                Some((4, Cause::Field))
-            }
+            if valid { None } else { Some((4, Cause::Field)) }
         );
     }
     Ok(())

@@ -2,13 +2,13 @@
 
 ghost use Rattle.std.specs.Prelude.{◌≡◌, map};
 ghost use Rattle.gn_text.specs.Faults.{IsRead, refused_at};
-ghost use Rattle.gn_text.specs.Said.{line_seen};
-ghost use Rattle.gn_capture.specs.Histories.{ended, history_of, history_seen, line_said, steps_from};
+ghost use Rattle.gn_text.specs.Parsed.{line_seen};
+ghost use Rattle.gn_capture.specs.Histories.{ended, history_of, history_seen, line_parsed, steps_from};
 
 use crate::step::read_step;
 use gn_rules::{Config, Step};
 use gn_text::{
-    CaptureFault, CaptureRefusal, Cause, SaidLine, fields, is_word, read_header, said_lines,
+    CaptureFault, CaptureRefusal, Cause, NumberedLine, fields, is_word, numbered_lines, read_header,
 };
 use std::alloc::Allocator;
 
@@ -21,9 +21,9 @@ fn refused(line: u64, cause: Cause) -> CaptureRefusal
 /// The step of a line, or `None` where the line is `end`.
 fn read_line<A: Allocator + Copy>(
     alloc: A,
-    line: &SaidLine,
+    line: &NumberedLine,
 ) -> Result<Option<Step<A>>, CaptureRefusal>
-    ensures { IsRead (λ x. x) result (line_said (line_seen line.now)) }
+    ensures { IsRead (λ x. x) result (line_parsed (line_seen line.now)) }
 {
     let (number, line) = *line;
     if is_word(line, b"end") {
@@ -37,7 +37,7 @@ fn read_line<A: Allocator + Copy>(
 
 fn read_steps<A: Allocator + Copy>(
     alloc: A,
-    lines: &[SaidLine],
+    lines: &[NumberedLine],
     behind: u64,
 ) -> Result<Vec<Step<A>, A>, CaptureRefusal>
     ensures { IsRead (λ v. v.items) result (steps_from behind (map line_seen lines.now)) }
@@ -60,7 +60,7 @@ fn read_steps<A: Allocator + Copy>(
 
 /// The configuration and the steps that a history's text says. An `Err` tells its first line that something is wrong
 /// with: the first line isn't `gnutella-history 1` (`Header`), a bad or missing `config` or `own` line, a line that is no
-/// step (`Field`), a missing `end` or something behind it (`End`); or want of memory. Empty lines and comments are
+/// step (`Field`), a missing `end` or something behind it (`End`); or out of memory. Empty lines and comments are
 /// skipped, also behind `end`. Whether the replies are right isn't looked at.
 pub fn read_history<A: Allocator + Copy>(
     alloc: A,
@@ -68,8 +68,8 @@ pub fn read_history<A: Allocator + Copy>(
 ) -> Result<(Config, Vec<Step<A>, A>), CaptureRefusal>
     ensures { IsRead (history_seen (λ v. v.items)) result (history_of text.now) }
 {
-    let said = said_lines(alloc, text)?;
-    let (config, lines) = read_header(alloc, b"gnutella-history 1", &said.lines, said.behind)?;
-    let steps = read_steps(alloc, lines, said.behind)?;
+    let parsed = numbered_lines(alloc, text)?;
+    let (config, lines) = read_header(alloc, b"gnutella-history 1", &parsed.lines, parsed.behind)?;
+    let steps = read_steps(alloc, lines, parsed.behind)?;
     Ok((config, steps))
 }

@@ -45,7 +45,7 @@ fn history(rt: &HostRuntime, steps: &str) -> Result<String, Fail> {
 
 fn again(rt: &HostRuntime, text: &[u8]) -> Result<Vec<u8>, Fail> {
     let Ok((config, steps)) = read_history(rt.alloc(), text) else {
-        return Err(Fail::new("it is lawful"));
+        return Err(Fail::new("it is valid"));
     };
     let mut out = Vec::new(rt.alloc());
     write_history(rt.alloc(), &config, &steps, &mut out)?;
@@ -94,6 +94,6 @@ fn faults(rt: HostRuntime) -> Result<(), Fail> {
         matches!(read_history(rt.alloc(), b"gnutella-capture 1\n"), Err(found) if found == refusal)
     );
     written_is_read::<Global>();
-    read_is_spelled();
+    read_is_encoded();
     Ok(())
 }

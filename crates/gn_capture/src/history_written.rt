@@ -21,7 +21,7 @@ fn write_steps<A: Allocator + Copy, B: Allocator>(
 }
 
 /// Appends the text of a history: the line `gnutella-history 1`, the `config` and `own` lines, a line for each step, and
-/// the line `end`. An `Err` is want of memory, and changes nothing.
+/// the line `end`. An `Err` is out of memory, and changes nothing.
 pub fn write_history<A: Allocator + Copy, B: Allocator>(
     alloc: A,
     config: &Config,

@@ -1,6 +1,6 @@
 //! Laws of a history's text that no one call shows.
 
-ghost use Rattle.gn_capture.specs.RoundTrip.{ReadIsSpelled, WrittenIsRead};
+ghost use Rattle.gn_capture.specs.RoundTrip.{ReadIsEncoded, WrittenIsRead};
 
 use std::alloc::Allocator;
 
@@ -9,7 +9,7 @@ pub fn written_is_read<A: Allocator>()
     ensures { WrittenIsRead A }
 {}
 
-/// The law that a descriptor is read only of the bytes that spell it.
-pub fn read_is_spelled()
-    ensures { ReadIsSpelled }
+/// The law that a descriptor is read only of the bytes that encode it.
+pub fn read_is_encoded()
+    ensures { ReadIsEncoded }
 {}

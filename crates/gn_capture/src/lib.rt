@@ -27,5 +27,5 @@ pub use capture::{Capture, read_capture};
 pub use gn_text::{CaptureFault, CaptureRefusal, Cause};
 pub use history::read_history;
 pub use history_written::write_history;
-pub use laws::{read_is_spelled, written_is_read};
+pub use laws::{read_is_encoded, written_is_read};
 pub use line::Line;

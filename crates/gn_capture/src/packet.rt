@@ -2,7 +2,7 @@
 
 ghost use Rattle.std.specs.Prelude.{◌≡◌, IfOk, option_map, map};
 ghost use Rattle.gn_capture.specs.Events.{first_seen, number_first, packet_first};
-ghost use Rattle.gn_capture.specs.Packets.{packet_of, packet_said};
+ghost use Rattle.gn_capture.specs.Packets.{packet_of, packet_parsed};
 
 use bytes::Bytes;
 use gn_text::{hex_bytes, number};
@@ -34,12 +34,12 @@ fn packet_in<A: Allocator + Copy>(
     }
 }
 
-/// The descriptor that a field spells, where it spells a whole one and no more. An `Err` is want of memory.
+/// The descriptor that a field encodes, where it encodes a whole one and no more. An `Err` is out of memory.
 pub(crate) fn read_packet<A: Allocator + Copy>(
     alloc: A,
     field: &[u8],
 ) -> Result<Option<Descriptor<A>>, AllocError>
-    ensures { IfOk result (λ found. found ≡ packet_said field.now) }
+    ensures { IfOk result (λ found. found ≡ packet_parsed field.now) }
 {
     match hex_bytes(alloc, field)? {
         None => Ok(None),
@@ -60,7 +60,7 @@ pub(crate) fn number_first<'a, 'b>(fields: &'b [&'a [u8]]) -> Option<(u32, &'b [
     }
 }
 
-/// The descriptor of the first field, and the fields behind it. An `Err` is want of memory.
+/// The descriptor of the first field, and the fields behind it. An `Err` is out of memory.
 pub(crate) fn packet_first<'a, 'b, A: Allocator + Copy>(
     alloc: A,
     fields: &'b [&'a [u8]],

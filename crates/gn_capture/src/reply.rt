@@ -2,8 +2,8 @@
 
 ghost use Rattle.std.specs.Prelude.{◌≡◌, IfOk, map};
 ghost use Rattle.gn_text.specs.Numbers.{number_of};
-ghost use Rattle.gn_capture.specs.Packets.{packet_said};
-ghost use Rattle.gn_capture.specs.Replies.{alone, packets_said, place_named, reason_named, reply_said, routed_said, unnumbered_said};
+ghost use Rattle.gn_capture.specs.Packets.{packet_parsed};
+ghost use Rattle.gn_capture.specs.Replies.{alone, packets_parsed, place_named, reason_named, reply_parsed, routed_parsed, unnumbered_parsed};
 
 use crate::packet::read_packet;
 use crate::sends::read_sends;
@@ -68,7 +68,7 @@ fn packet_alone<A: Allocator + Copy>(
     alloc: A,
     fields: &[&[u8]],
 ) -> Result<Option<Descriptor<A>>, AllocError>
-    ensures { IfOk result (λ found. found ≡ alone packet_said (map (λ x. x.now) fields.now)) }
+    ensures { IfOk result (λ found. found ≡ alone packet_parsed (map (λ x. x.now) fields.now)) }
 {
     match fields {
         [field] => read_packet(alloc, field),
@@ -80,7 +80,7 @@ fn read_routed<A: Allocator + Copy>(
     alloc: A,
     fields: &[&[u8]],
 ) -> Result<Option<Reply<A>>, AllocError>
-    ensures { IfOk result (λ found. found ≡ routed_said (map (λ x. x.now) fields.now)) }
+    ensures { IfOk result (λ found. found ≡ routed_parsed (map (λ x. x.now) fields.now)) }
 {
     let [place, more @ ..] = fields else {
         return Ok(None);
@@ -99,7 +99,7 @@ fn read_packets<A: Allocator + Copy>(
     word: &[u8],
     more: &[&[u8]],
 ) -> Result<Option<Reply<A>>, AllocError>
-    ensures { IfOk result (λ found. found ≡ packets_said word.now (map (λ x. x.now) more.now)) }
+    ensures { IfOk result (λ found. found ≡ packets_parsed word.now (map (λ x. x.now) more.now)) }
 {
     if is_word(word, b"routed") {
         return read_routed(alloc, more);
@@ -124,7 +124,7 @@ fn read_unnumbered<A: Allocator + Copy>(
     word: &[u8],
     more: &[&[u8]],
 ) -> Result<Option<Reply<A>>, AllocError>
-    ensures { IfOk result (λ found. found ≡ unnumbered_said word.now (map (λ x. x.now) more.now)) }
+    ensures { IfOk result (λ found. found ≡ unnumbered_parsed word.now (map (λ x. x.now) more.now)) }
 {
     if is_word(word, b"toomany") {
         return Ok(if more.is_empty() {
@@ -149,12 +149,12 @@ fn read_unnumbered<A: Allocator + Copy>(
     read_packets(alloc, word, more)
 }
 
-/// The reply that fields say. An `Err` is want of memory.
+/// The reply that fields say. An `Err` is out of memory.
 pub(crate) fn read_reply<A: Allocator + Copy>(
     alloc: A,
     fields: &[&[u8]],
 ) -> Result<Option<Reply<A>>, AllocError>
-    ensures { IfOk result (λ found. found ≡ reply_said (map (λ x. x.now) fields.now)) }
+    ensures { IfOk result (λ found. found ≡ reply_parsed (map (λ x. x.now) fields.now)) }
 {
     let Some((word, more)) = fields.split_first() else {
         return Ok(None);

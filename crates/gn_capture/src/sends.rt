@@ -1,7 +1,7 @@
 //! The packets that a reply sends.
 
 ghost use Rattle.std.specs.Prelude.{◌≡◌, ◌≤◌, IfOk, length, map};
-ghost use Rattle.gn_capture.specs.Replies.{is_unmarked, mark_place, marked_said, sending_said, sends_said};
+ghost use Rattle.gn_capture.specs.Replies.{is_unmarked, mark_place, marked_parsed, sending_parsed, sends_parsed};
 
 use crate::packet::read_packet;
 use gn_rules::{Sending, Sends};
@@ -31,7 +31,7 @@ fn read_marked<A: Allocator + Copy>(
     to: &[u8],
     marked: &[u8],
 ) -> Result<Option<Sending<A>>, AllocError>
-    ensures { IfOk result (λ found. found ≡ marked_said to.now marked.now) }
+    ensures { IfOk result (λ found. found ≡ marked_parsed to.now marked.now) }
 {
     let [mark, hex @ ..] = marked else {
         return Ok(None);
@@ -53,18 +53,18 @@ fn read_sending<A: Allocator + Copy>(
     alloc: A,
     field: &[u8],
 ) -> Result<Option<Sending<A>>, AllocError>
-    ensures { IfOk result (λ found. found ≡ sending_said field.now) }
+    ensures { IfOk result (λ found. found ≡ sending_parsed field.now) }
 {
     let (to, marked) = field.split_at(mark_place(field));
     read_marked(alloc, to, marked)
 }
 
-/// The sends that fields say, one each. An `Err` is want of memory.
+/// The sends that fields say, one each. An `Err` is out of memory.
 pub(crate) fn read_sends<A: Allocator + Copy>(
     alloc: A,
     fields: &[&[u8]],
 ) -> Result<Option<Sends<A>>, AllocError>
-    ensures { IfOk result (λ found. found ≡ sends_said (map (λ x. x.now) fields.now)) }
+    ensures { IfOk result (λ found. found ≡ sends_parsed (map (λ x. x.now) fields.now)) }
 {
     let mut sends = Sends::new(alloc);
     for field in fields {

@@ -1,7 +1,7 @@
 //! The line of a step.
 
 ghost use Rattle.std.specs.Prelude.{◌≡◌, IfOk, map};
-ghost use Rattle.gn_capture.specs.Steps.{answer_said, step_said};
+ghost use Rattle.gn_capture.specs.Steps.{answer_parsed, step_parsed};
 
 use crate::event::event_first;
 use crate::packet::number_first;
@@ -14,7 +14,7 @@ fn read_answer<A: Allocator + Copy>(
     alloc: A,
     fields: &[&[u8]],
 ) -> Result<Option<Reply<A>>, AllocError>
-    ensures { IfOk result (λ found. found ≡ answer_said (map (λ x. x.now) fields.now)) }
+    ensures { IfOk result (λ found. found ≡ answer_parsed (map (λ x. x.now) fields.now)) }
 {
     match fields {
         [word, more @ ..] if is_word(word, b"=") => read_reply(alloc, more),
@@ -22,12 +22,12 @@ fn read_answer<A: Allocator + Copy>(
     }
 }
 
-/// The step that the fields of a line `ACTOR EVENT = REPLY` say. An `Err` is want of memory.
+/// The step that the fields of a line `ACTOR EVENT = REPLY` say. An `Err` is out of memory.
 pub(crate) fn read_step<A: Allocator + Copy>(
     alloc: A,
     fields: &[&[u8]],
 ) -> Result<Option<Step<A>>, AllocError>
-    ensures { IfOk result (λ found. found ≡ step_said (map (λ x. x.now) fields.now)) }
+    ensures { IfOk result (λ found. found ≡ step_parsed (map (λ x. x.now) fields.now)) }
 {
     let Some((actor, fields)) = number_first(fields) else {
         return Ok(None);

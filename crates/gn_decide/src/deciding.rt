@@ -6,7 +6,7 @@ ghost use Rattle.gn_wire.specs.declared.kind.Kind.TheVariants.{Push};
 ghost use Rattle.gn_rules.specs.Answer.{decision_reply};
 ghost use Rattle.gn_rules.specs.Decision as rules;
 ghost use Rattle.gn_rules.specs.Flight.{Admission};
-ghost use Rattle.gn_rules.specs.Sights as sights;
+ghost use Rattle.gn_rules.specs.SeenEntries as seen_entries;
 ghost use Rattle.gn_decide.specs.Planned.{plan_reply};
 
 use crate::lookup::Lookup;
@@ -42,7 +42,7 @@ fn checks<'a, A: Allocator, L: Lookup<A>>(
 
 /// Whether a descriptor's key is remembered.
 pub(crate) fn is_remembered<A: Allocator, L: Lookup<A>>(past: &L, packet: &Descriptor<A>) -> bool
-    ensures { result ≡ sights.is_remembered (L.settings past.now) (L.past past.now) (key_of packet.now) }
+    ensures { result ≡ seen_entries.is_remembered (L.settings past.now) (L.past past.now) (key_of packet.now) }
 {
     past.source(&packet.key()).is_some()
 }
@@ -75,7 +75,7 @@ fn decide_reply<'a, A: Allocator, L: Lookup<A>>(
     ensures { let a : Admission = record { origin = origin; packet = packet.now } in
         plan_reply (L.settings past.now) (L.past past.now) result
         ≡ decision_reply (L.settings past.now) (L.past past.now) a (rules.decide_reply (L.past past.now) a
-        (sights.source (L.settings past.now) (L.past past.now) (rules.request_key request a))) }
+        (seen_entries.source (L.settings past.now) (L.past past.now) (rules.request_key request a))) }
 {
     let key = Key {
         kind: request,

@@ -7,7 +7,7 @@ ghost use Rattle.gn_rules.specs.Flight.{flying, in_flight, tickets};
 ghost use Rattle.gn_rules.specs.Live.{connections, live, live_connections};
 ghost use Rattle.gn_rules.specs.Output.{out};
 ghost use Rattle.gn_rules.specs.Servents as servents;
-ghost use Rattle.gn_rules.specs.Sights as sights;
+ghost use Rattle.gn_rules.specs.SeenEntries as seen_entries;
 ghost use Rattle.gn_rules.specs.declared.config.Config.{Config};
 ghost use Rattle.gn_rules.specs.declared.receipt.Step.{Step};
 ghost use Rattle.gn_decide.specs.Seen.{admission_seen};
@@ -72,7 +72,7 @@ pub trait Lookup<A: Allocator> {
 
     /// Where a descriptor of this key came from, where it is remembered; 0 is the local servent.
     fn source(&self, key: &Key) -> Option<ConnId>
-        ensures { result ≡ sights.source (settings self.now) (past self.now) key.now };
+        ensures { result ≡ seen_entries.source (settings self.now) (past self.now) key.now };
 
     /// The connection that leads to a servent, where one is known.
     fn servent_route(&self, servent: &Guid) -> Option<ConnId>

@@ -4,7 +4,7 @@ ghost use Rattle.std.specs.Prelude.{◌≡◌, IfOk};
 ghost use Rattle.gn_wire.specs.Keys.{is_same_packet};
 ghost use Rattle.gn_rules.specs.Sending as sending;
 
-use gn_payload::{Pong, spell_pong};
+use gn_payload::{Pong, encode_pong};
 use gn_rules::{Own, forward_of, own_pong};
 use gn_wire::{Descriptor, Header, Key, Kind};
 use std::alloc::{AllocError, Allocator};
@@ -21,7 +21,7 @@ impl<'a, A: Allocator> Model for Forwarded<'a, A> {
     ghost use Rattle.std.specs.Prelude.{◌≡◌, false};
     ghost use Rattle.gn_wire.specs.Forward.{forward_of, is_expired};
     ghost use Rattle.gn_wire.specs.Packet.{Packet};
-    ghost use Rattle.gn_wire.specs.Spelling.{header_of};
+    ghost use Rattle.gn_wire.specs.Encoding.{header_of};
 
     ghost Value = { Packet };
 
@@ -94,7 +94,7 @@ fn is_own_pong<A: Allocator>(own: &Own, ping: &Descriptor<A>, other: &Descriptor
     key == other.key()
         && ping.hops().saturating_add(1) == other.ttl()
         && other.hops() == 0
-        && spell_pong(&pong).as_slice() == other.payload().as_slice()
+        && encode_pong(&pong).as_slice() == other.payload().as_slice()
 }
 
 impl<'a, A: Allocator> Made<'a, A> {

@@ -54,7 +54,7 @@ frames_whole s h e = frames_of_front s ∙ ap (frames_by frames_of s) e
 pub behind_twice : (ds es : List Packet) (f : Frames) → behind (ds ++ es) f ≡ behind ds (behind es f)
 behind_twice ds es f = ap (λ xs. let g : Frames = record { descriptors = xs; rest = f.rest; fault = f.fault } in g) (append_assoc ds es f.descriptors)
 
--- a string that goes on, by the front of what it begins with
+-- a string that goes on, by the head of what it begins with
 goes_on : (s more : List ℕ) (n : ℕ) → length s ≤ n → (front : Front) → front_of s ≡ front
     → frames_of (s ++ more) ≡ behind (frames_of s).descriptors (frames_of ((frames_of s).rest ++ more))
 goes_on s more n size Open e = rw (frames_open s e) refl

@@ -1,4 +1,4 @@
--- The front of a string.
+-- The head of a string.
 use Rattle.std.proofs.Common.{◌≡◌, ℕ, ◌+◌, ◌-◌, ◌<◌, ◌≤◌, ◌⊎◌, inl, inr, List, ◌++◌, length, take, Option, Some, None, Ok, Err, refl, sym, ap, ◌∙◌, arith, nat_lt, cond, true, false, length-append}
 use Rattle.std.proofs.lemmas.Bool.Decides.{nat_tests}
 use Rattle.std.proofs.lemmas.Bool.{cases_order}
@@ -6,7 +6,7 @@ use Rattle.std.proofs.lemmas.List.{take-append-le}
 use Rattle.gn_wire.specs.declared.header.FrameFault.{FrameFault}
 use Rattle.gn_wire.specs.declared.header.Header.{Header}
 use Rattle.gn_wire.specs.Lengths.{fault_of, unless_fault}
-use Rattle.gn_wire.specs.Spelling.{header_at, reading}
+use Rattle.gn_wire.specs.Encoding.{header_at, reading}
 use Rattle.gn_frames.specs.declared.front.Front.TheVariants.{Open, Faulty, Whole}
 use Rattle.gn_frames.specs.Front.{front_of, front_behind}
 use Rattle.gn_frames.specs.Frames.{named_length, named_fault, IsOpen, IsFaulty}
@@ -17,7 +17,7 @@ less a b h = grind (arith, nat_tests)
 not_less : (a b : ℕ) → b ≤ a → nat_lt a b ≡ false
 not_less a b h = grind (arith, nat_tests)
 
--- the front of a string that has a header
+-- the head of a string that has a header
 front_long : (s : List ℕ) → 23 ≤ length s → front_of s ≡ front_behind (reading (take 23 s)) (length s - 23)
 front_long s long = ap (λ b. cond b Open (front_behind (reading (take 23 s)) (length s - 23))) (not_less (length s) 23 long)
 
@@ -34,10 +34,10 @@ below_or_not a b = elim (cases_order a b) [
 short_or_long : (s : List ℕ) → (length s < 23) ⊎ (23 ≤ length s)
 short_or_long s = below_or_not (length s) 23
 
--- what a whole front tells: its header, which is lawful, and enough bytes behind it
+-- what a whole front tells: its header, which is valid, and enough bytes behind it
 pub record IsWhole (s : List ℕ) (h : Header) : Type 0 where
   pub header : header_at (take 23 s) ≡ h
-  pub lawful : fault_of h.kind h.length ≡ None
+  pub valid : fault_of h.kind h.length ≡ None
   pub fits : 23 + h.length ≤ length s
 
 whole_by : (fault : Option FrameFault) (h k : Header) (n : ℕ) → fault_of h.kind h.length ≡ fault → front_behind (unless_fault fault h) n ≡ Whole k
@@ -56,7 +56,7 @@ whole s h e = elim (short_or_long s) [
       let told = whole_by (fault_of k.kind k.length) k h (length s - 23) refl (sym (front_long s long) ∙ e) in
       record {
         header = told.0;
-        lawful = sym (ap (λ (x : Header). fault_of x.kind x.length) told.0) ∙ told.1;
+        valid = sym (ap (λ (x : Header). fault_of x.kind x.length) told.0) ∙ told.1;
         fits = let n : k.length ≡ h.length = ap (λ (x : Header). x.length) told.0 in let fits = told.2 in omega arith;
       }
 ]
@@ -71,7 +71,7 @@ pub front_read_faulty : (s start : List ℕ) (fault : FrameFault) → 23 ≤ len
 front_read_faulty s start fault long is read =
     front_long s long ∙ ap (λ r. front_behind r (length s - 23)) (ap reading (sym is) ∙ read)
 
--- what is read is the header that stands there, and is lawful
+-- what is read is the header that stands there, and is valid
 read_by : (fault : Option FrameFault) (h k : Header) → unless_fault fault h ≡ Ok k → (h ≡ k) × (fault ≡ None)
 read_by None h k e = (cc, refl)
 read_by (Some fault) h k e = cc
@@ -84,18 +84,18 @@ read_is start h e =
 
 -- the front by the parts of its definition in words
 pub front_whole : (s : List ℕ) → named_fault s ≡ None → 23 + named_length s ≤ length s → front_of s ≡ Whole (header_at (take 23 s))
-front_whole s lawful fits =
-    sym (front_read s (take 23 s) (header_at (take 23 s)) (omega arith) refl (ap (λ fault. unless_fault fault (header_at (take 23 s))) lawful) (omega arith))
+front_whole s valid fits =
+    sym (front_read s (take 23 s) (header_at (take 23 s)) (omega arith) refl (ap (λ fault. unless_fault fault (header_at (take 23 s))) valid) (omega arith))
 
 pub front_open : (s : List ℕ) → IsOpen s → front_of s ≡ Open
 front_open s (inl short) = front_short s short
-front_open s (inr (long, lawful, wanting)) =
-    front_long s long ∙ ap (λ fault. front_behind (unless_fault fault (header_at (take 23 s))) (length s - 23)) lawful
+front_open s (inr (long, valid, wanting)) =
+    front_long s long ∙ ap (λ fault. front_behind (unless_fault fault (header_at (take 23 s))) (length s - 23)) valid
     ∙ ap (λ b. cond b Open (Whole (header_at (take 23 s)))) (less (length s - 23) (named_length s) (omega arith))
 
 pub front_faulty : (s : List ℕ) (fault : FrameFault) → IsFaulty s fault → front_of s ≡ Faulty fault
-front_faulty s fault (long, unlawful) =
-    front_long s long ∙ ap (λ fault. front_behind (unless_fault fault (header_at (take 23 s))) (length s - 23)) unlawful
+front_faulty s fault (long, invalid) =
+    front_long s long ∙ ap (λ fault. front_behind (unless_fault fault (header_at (take 23 s))) (length s - 23)) invalid
 
 -- what an open and a faulty front tell
 open_by : (fault : Option FrameFault) (h : Header) (n : ℕ) → front_behind (unless_fault fault h) n ≡ Open → (fault ≡ None) × (n < h.length)
@@ -135,7 +135,7 @@ whole_stays s more h e =
     let is = whole s h e in
     let size = length-append s more in
     let same : header_at (take 23 (s ++ more)) ≡ h = ap header_at (front_bytes s more (omega (arith, is.fits))) ∙ is.header in
-    front_whole (s ++ more) (ap (λ (x : Header). fault_of x.kind x.length) same ∙ is.lawful)
+    front_whole (s ++ more) (ap (λ (x : Header). fault_of x.kind x.length) same ∙ is.valid)
     (let n : named_length (s ++ more) ≡ h.length = ap (λ (x : Header). x.length) same in let fits = is.fits in omega arith)
     ∙ ap Whole same
 

@@ -7,7 +7,7 @@ use Rattle.gn_wire.specs.declared.header.FrameFault.{FrameFault}
 use Rattle.gn_wire.specs.declared.header.Header.{Header}
 use Rattle.gn_wire.specs.Lengths.{fault_of}
 use Rattle.gn_wire.specs.Packet.{Packet}
-use Rattle.gn_wire.specs.Spelling.{header_at, reading}
+use Rattle.gn_wire.specs.Encoding.{header_at, reading}
 use Rattle.gn_frames.specs.declared.front.Front.TheVariants.{Open, Faulty, Whole}
 use Rattle.gn_frames.specs.Front.{front_of, packet_of}
 use Rattle.gn_frames.specs.Frames.{Frames, named_length, no_frames, behind, frames_of}

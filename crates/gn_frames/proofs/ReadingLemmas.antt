@@ -9,10 +9,10 @@ use Rattle.gn_wire.specs.declared.header.Header.{Header}
 use Rattle.gn_wire.specs.Kinds.{IsStored}
 use Rattle.gn_wire.specs.Lengths.{fault_of, IsDescriptor}
 use Rattle.gn_wire.specs.Packet.{Packet}
-use Rattle.gn_wire.specs.Spelling.{header_at, header_bytes, header_of, bytes_of}
+use Rattle.gn_wire.specs.Encoding.{header_at, header_bytes, header_of, bytes_of}
 use Rattle.gn_wire.proofs.HeaderLemmas.{header_bytes-header_at}
 use Rattle.gn_wire.proofs.KindLemmas.{stored-kind_of}
-use Rattle.gn_wire.proofs.SpellingLemmas.{header_at-stream, drop-stream, length-header_bytes}
+use Rattle.gn_wire.proofs.EncodingLemmas.{header_at-stream, drop-stream, length-header_bytes}
 use Rattle.gn_frames.specs.declared.front.Front.{Front}
 use Rattle.gn_frames.specs.declared.front.Front.TheVariants.{Open, Faulty, Whole}
 use Rattle.gn_frames.specs.Front.{front_of, packet_of}
@@ -28,7 +28,7 @@ whole_stream d rest kept =
     let header : length (header_bytes (header_of d)) ≡ 23 = length-header_bytes (header_of d) kept.id_size in
     let size : length (bytes_of d ++ rest) ≡ 23 + length d.payload + length rest =
     length-append (bytes_of d) rest ∙ ap (λ (k : ℕ). k + length rest) (length-append (header_bytes (header_of d)) d.payload ∙ ap (λ (k : ℕ). k + length d.payload) header) in
-    front_whole (bytes_of d ++ rest) (ap (λ (h : Header). fault_of h.kind h.length) same ∙ kept.lawful) (omega arith)
+    front_whole (bytes_of d ++ rest) (ap (λ (h : Header). fault_of h.kind h.length) same ∙ kept.valid) (omega arith)
     ∙ ap Whole same
 
 -- and its frames are the descriptor and those of what stands behind it
@@ -50,11 +50,11 @@ ends r (Some fault) ended = frames_faulty r fault (front_faulty r fault ended)
 
 only : (ds : List Packet) (r : List ℕ) (fault : Option FrameFault) → All IsDescriptor ds → IsRest r fault
     → frames_of (flat_map bytes_of ds ++ r) ≡ record { descriptors = ds; rest = r; fault = fault }
-only [] r fault lawful ended = ends r fault ended
-only (d ∷ ds) r fault lawful ended =
+only [] r fault valid ended = ends r fault ended
+only (d ∷ ds) r fault valid ended =
     ap frames_of (append_assoc (bytes_of d) (flat_map bytes_of ds) r)
-    ∙ frames_stream d (flat_map bytes_of ds ++ r) (lawful 0 d (omega arith))
-    ∙ ap (behind (d ∷ [])) (only ds r fault (λ k e h. lawful (suc k) e (omega arith)) ended)
+    ∙ frames_stream d (flat_map bytes_of ds ++ r) (valid 0 d (omega arith))
+    ∙ ap (behind (d ∷ [])) (only ds r fault (λ k e h. valid (suc k) e (omega arith)) ended)
 
 -- a byte, at any place
 byte_at : (s : List ℕ) → All (λ b. b < 256) s → (k : ℕ) → get_or s k 0 < 256
@@ -67,7 +67,7 @@ byte_at s bytes k = elim (below_or_not k (length s)) [
 payload_size : (s : List ℕ) (h : Header) → IsWhole s h → length (take h.length (drop 23 s)) ≡ h.length
 payload_size s h is = length-take-le h.length (drop 23 s) (let fits = is.fits in rw length-drop (omega arith))
 
--- the descriptor of a whole front spells it
+-- the descriptor of a whole front encodes it
 told_whole : (s : List ℕ) (h : Header) → All (λ b. b < 256) s → IsWhole s h
     → bytes_of (packet_of h (take h.length (drop 23 s))) ++ drop (23 + h.length) s ≡ s
 told_whole s h bytes is =
@@ -77,11 +77,11 @@ told_whole s h bytes is =
     let header : header_bytes h ≡ start =
     ap header_bytes (sym is.header)
     ∙ header_bytes-header_at start (length-take-le 23 s (omega arith)) (byte_at start (All-take (λ b. b < 256) 23 s bytes)) in
-    let spelled : bytes_of (packet_of h payload) ≡ take (23 + h.length) s =
+    let encoded : bytes_of (packet_of h payload) ≡ take (23 + h.length) s =
     ap (λ (n : ℕ). header_bytes (record h { length = n }) ++ payload) (payload_size s h is)
     ∙ ap (λ xs. xs ++ payload) header
     ∙ sym (take-add 23 h.length s) in
-    ap (λ xs. xs ++ drop (23 + h.length) s) spelled ∙ take-append-drop (23 + h.length) s
+    ap (λ xs. xs ++ drop (23 + h.length) s) encoded ∙ take-append-drop (23 + h.length) s
 
 told_descriptor : (s : List ℕ) (h : Header) → All (λ b. b < 256) s → IsWhole s h → IsDescriptor (packet_of h (take h.length (drop 23 s)))
 told_descriptor s h bytes is =
@@ -90,7 +90,7 @@ told_descriptor s h bytes is =
     let size : length start ≡ 23 = length-take-le 23 s (omega arith) in
     let byte = byte_at start (All-take (λ b. b < 256) 23 s bytes) in
     record {
-      lawful = ap (fault_of h.kind) (payload_size s h is) ∙ is.lawful;
+      valid = ap (fault_of h.kind) (payload_size s h is) ∙ is.valid;
       stored = subst (λ (x : Header). IsStored x.kind) is.header (stored-kind_of (get_or start 16 0));
       id_size = sym (ap (λ (x : Header). length x.id.0) is.header) ∙ length-take-le 16 start (omega arith);
       ttl_fits = subst (λ (x : Header). x.ttl < 256) is.header (byte 17);
@@ -100,9 +100,9 @@ told_descriptor s h bytes is =
 -- the function gives a reading
 told : (s : List ℕ) (n : ℕ) → length s ≤ n → All (λ b. b < 256) s → (front : Front) → front_of s ≡ front → IsFrames s (frames_of s)
 told s n size bytes Open e =
-    subst (IsFrames s) (sym (frames_open s e)) (record { spelled = refl; lawful = λ k d h. absurd (omega arith); ended = is_open s e })
+    subst (IsFrames s) (sym (frames_open s e)) (record { encoded = refl; valid = λ k d h. absurd (omega arith); ended = is_open s e })
 told s n size bytes (Faulty fault) e =
-    subst (IsFrames s) (sym (frames_faulty s fault e)) (record { spelled = refl; lawful = λ k d h. absurd (omega arith); ended = is_faulty s fault e })
+    subst (IsFrames s) (sym (frames_faulty s fault e)) (record { encoded = refl; valid = λ k d h. absurd (omega arith); ended = is_faulty s fault e })
 told s zero size bytes (Whole h) e = let fits = (whole s h e).fits in absurd (omega arith)
 told s (suc n) size bytes (Whole h) e =
     let is = whole s h e in
@@ -111,13 +111,13 @@ told s (suc n) size bytes (Whole h) e =
     let there = told rest n (shorter s n h.length size) (All-drop (λ b. b < 256) (23 + h.length) s bytes) (front_of rest) refl in
     let f = frames_of rest in
     subst (IsFrames s) (sym (frames_whole s h e)) (record {
-      spelled = sym (told_whole s h bytes is) ∙ ap (λ xs. bytes_of d ++ xs) there.spelled ∙ sym (append_assoc (bytes_of d) (flat_map bytes_of f.descriptors) f.rest);
-      lawful = All-cons IsDescriptor d f.descriptors (told_descriptor s h bytes is) there.lawful;
+      encoded = sym (told_whole s h bytes is) ∙ ap (λ xs. bytes_of d ++ xs) there.encoded ∙ sym (append_assoc (bytes_of d) (flat_map bytes_of f.descriptors) f.rest);
+      valid = All-cons IsDescriptor d f.descriptors (told_descriptor s h bytes is) there.valid;
       ended = there.ended;
     })
 
 pub frames_are_one : FramesAreOne
 frames_are_one s bytes f = (
-  λ reading. sym (ap frames_of reading.spelled ∙ only f.descriptors f.rest f.fault reading.lawful reading.ended),
+  λ reading. sym (ap frames_of reading.encoded ∙ only f.descriptors f.rest f.fault reading.valid reading.ended),
   λ e. subst (IsFrames s) (sym e) (told s (length s) (omega arith) bytes (front_of s) refl),
 )

@@ -1,10 +1,10 @@
--- The descriptors that a string of bytes spells, and what stands behind them.
+-- The descriptors that a string of bytes encodes, and what stands behind them.
 use Rattle.std.specs.Prelude.{◌≡◌, ◌<◌, ◌≤◌, ◌+◌, ◌⊎◌, ◌↔◌, ℕ, zero, suc, List, [], ◌∷◌, ◌++◌, length, take, drop, Option, Some, None, All}
 use Rattle.std.specs.List.{flat_map}
 use Rattle.gn_wire.specs.declared.header.FrameFault.{FrameFault}
 use Rattle.gn_wire.specs.Lengths.{fault_of, IsDescriptor}
 use Rattle.gn_wire.specs.Packet.{Packet}
-use Rattle.gn_wire.specs.Spelling.{bytes_of, header_at}
+use Rattle.gn_wire.specs.Encoding.{bytes_of, header_at}
 use Rattle.gn_frames.specs.declared.front.Front.{Front}
 use Rattle.gn_frames.specs.declared.front.Front.TheVariants.{Open, Faulty, Whole}
 use Rattle.gn_frames.specs.Front.{front_of, packet_of}
@@ -23,11 +23,11 @@ named_length r = (header_at (take 23 r)).length
 abbrev pub named_fault : List ℕ → Option FrameFault
 named_fault r = fault_of (header_at (take 23 r)).kind (named_length r)
 
--- open: shorter than a header, or with a lawful header and fewer payload bytes than it names
+-- open: shorter than a header, or with a valid header and fewer payload bytes than it names
 abbrev pub IsOpen : List ℕ → Type 0
 IsOpen r = (length r < 23) ⊎ ((23 ≤ length r) × (named_fault r ≡ None) × (length r < 23 + named_length r))
 
--- faulty: the first 23 bytes name an unlawful length
+-- faulty: the first 23 bytes name an invalid length
 abbrev pub IsFaulty : List ℕ → FrameFault → Type 0
 IsFaulty r fault = (23 ≤ length r) × (named_fault r ≡ Some fault)
 
@@ -36,10 +36,10 @@ abbrev pub IsRest : List ℕ → Option FrameFault → Type 0
 IsRest r None = IsOpen r
 IsRest r (Some fault) = IsFaulty r fault
 
--- a reading of a string: it is the spellings of descriptors, one behind the other, and a rest
+-- a reading of a string: it is the encodings of descriptors, one behind the other, and a rest
 pub record IsFrames (s : List ℕ) (f : Frames) : Type 0 where
-  pub spelled : s ≡ flat_map bytes_of f.descriptors ++ f.rest
-  pub lawful : All IsDescriptor f.descriptors
+  pub encoded : s ≡ flat_map bytes_of f.descriptors ++ f.rest
+  pub valid : All IsDescriptor f.descriptors
   pub ended : IsRest f.rest f.fault
 
 -- no descriptor, and all bytes are the rest

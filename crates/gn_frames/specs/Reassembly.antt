@@ -26,7 +26,7 @@ abbrev pub IsAnswer : Option (List ℕ) → List ℕ → List Packet → Option 
 IsAnswer None piece descriptors fault after = ⊥
 IsAnswer (Some rest) piece descriptors fault after = IsFed rest piece descriptors fault after
 
--- the refusal: ended after a fault, else want of memory
+-- the refusal: ended after a fault, else out of memory
 abbrev pub IsFeedRefusal : Option (List ℕ) → FeedRefusal → Type 0
 IsFeedRefusal None refusal = refusal ≡ Ended
 IsFeedRefusal (Some rest) refusal = refusal ≡ NoMemory

@@ -1,4 +1,4 @@
-//! What stands at the front of a slice of bytes.
+//! What stands at the head of a slice of bytes.
 
 ghost use Rattle.std.specs.Prelude.{◌≡◌, ◌<◌, ◌≤◌, None, length, IfOk};
 ghost use Rattle.gn_wire.specs.Kinds.{IsStored};
@@ -17,7 +17,7 @@ pub(crate) const HEADER_BYTES: usize = 23;
 pub enum Front {
     /// Too few bytes for a descriptor.
     Open,
-    /// A header whose length isn't lawful.
+    /// A header whose length isn't valid.
     Faulty(FrameFault),
     /// A whole descriptor, with this header.
     Whole(Header),
@@ -37,13 +37,13 @@ pub(crate) fn front_of(bytes: &[u8]) -> Front
     }
 }
 
-/// The descriptor of a lawful header, with a copy of its payload. An `Err` is want of memory.
+/// The descriptor of a valid header, with a copy of its payload. An `Err` is out of memory.
 pub(crate) fn copied<A: Allocator + Copy>(
     alloc: A,
     header: Header,
     payload: &[u8],
 ) -> Result<Descriptor<A>, AllocError>
-    requires lawful { fault_of header.kind header.length ≡ None }
+    requires valid { fault_of header.kind header.length ≡ None }
     requires stored { IsStored header.kind }
     requires whole { length payload.now ≡ header.length }
     ensures { IfOk result (λ d. d ≡ packet_of header payload.now) }

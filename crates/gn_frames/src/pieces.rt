@@ -65,7 +65,7 @@ fn take_one<'a, A: Allocator + Copy>(
 }
 
 /// Adds the descriptors that the bytes begin with, and gives the bytes behind them with the fault that stands there, if
-/// one does. An `Err` is want of memory.
+/// one does. An `Err` is out of memory.
 fn take_frames<'a, A: Allocator + Copy>(
     alloc: A,
     bytes: &'a [u8],

@@ -12,7 +12,7 @@ use std::marker::Model;
 pub struct Fed<A: Allocator = Global> {
     /// The descriptors that are whole now, in the order of the stream.
     pub descriptors: Vec<Descriptor<A>, A>,
-    /// The length behind them that is unlawful, where one is. The stream ends there.
+    /// The length behind them that is invalid, where one is. The stream ends there.
     pub fault: Option<FrameFault>,
 }
 
@@ -46,7 +46,7 @@ impl<A: Allocator> Model for Reassembler<A> {
 impl<A: Allocator + Copy> Reassembler<A> {
     ghost use Rattle.gn_frames.specs.Reassembly.{IsAnswer, IsFeedRefusal, pending_of};
 
-    /// Holds nothing yet. An `Err` is want of memory.
+    /// Holds nothing yet. An `Err` is out of memory.
     pub fn new(alloc: A) -> Result<Self, AllocError>
         ensures { IfOk result (λ r. r ≡ Some []) }
     {
@@ -57,7 +57,7 @@ impl<A: Allocator + Copy> Reassembler<A> {
         })
     }
 
-    /// Takes the next piece, of any size. Descriptors that came in front of a fault are given with it. A refusal changes
+    /// Takes the next piece, of any size. Descriptors that came before a fault are given with it. A refusal changes
     /// nothing.
     pub fn feed(&mut self, piece: &[u8]) -> Result<Fed<A>, FeedRefusal>
         ensures ok { IfOk result (λ fed. IsAnswer self.old piece.now fed.descriptors.items fed.fault self.new) }

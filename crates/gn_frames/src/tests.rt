@@ -24,8 +24,8 @@ fn header(code: u8, length: [u8; 4]) -> [u8; 23] {
     bytes
 }
 
-/// The spellings of the descriptors, one behind the other.
-fn spelled<A: Allocator + Copy>(
+/// The encodings of the descriptors, one behind the other.
+fn encoded<A: Allocator + Copy>(
     alloc: A,
     descriptors: &[Descriptor<A>],
 ) -> Result<Vec<u8, A>, Fail> {
@@ -76,7 +76,7 @@ fn each_cut(rt: HostRuntime) -> Result<(), Fail> {
             "at {at}"
         );
         assert_eq!(rt;
-            spelled(rt.alloc(), &whole.descriptors)?.as_slice(),
+            encoded(rt.alloc(), &whole.descriptors)?.as_slice(),
             HIT,
             "at {at}"
         );
@@ -93,7 +93,7 @@ fn one_byte_a_piece(rt: HostRuntime) -> Result<(), Fail> {
         let fed = reassembler.feed(&[*byte])?;
         assert_eq!(rt; fed.fault, None);
         if i + 1 == HIT.len() {
-            assert_eq!(rt; spelled(rt.alloc(), &fed.descriptors)?.as_slice(), HIT);
+            assert_eq!(rt; encoded(rt.alloc(), &fed.descriptors)?.as_slice(), HIT);
         } else {
             assert_eq!(rt; fed.descriptors.len(), 0, "at {i}");
         }
@@ -118,7 +118,7 @@ fn longest_payload(rt: HostRuntime) -> Result<(), Fail> {
 }
 
 #[test]
-fn unlawful_lengths(rt: HostRuntime) -> Result<(), Fail> {
+fn invalid_lengths(rt: HostRuntime) -> Result<(), Fail> {
     let faults = [
         (0x00, [1, 0, 0, 0], FrameFault::FixedLength(Kind::Ping, 1)),
         (0x01, [13, 0, 0, 0], FrameFault::FixedLength(Kind::Pong, 13)),
@@ -152,7 +152,7 @@ fn descriptors_before_a_fault(rt: HostRuntime) -> Result<(), Fail> {
     bytes.extend_from_slice(PING)?;
     let mut reassembler = Reassembler::new(rt.alloc())?;
     let fed = reassembler.feed(&bytes)?;
-    assert_eq!(rt; spelled(rt.alloc(), &fed.descriptors)?.as_slice(), PONG);
+    assert_eq!(rt; encoded(rt.alloc(), &fed.descriptors)?.as_slice(), PONG);
     assert_eq!(rt; fed.fault, Some(FrameFault::FixedLength(Kind::Ping, 1)));
     for piece in [b"\x00".as_slice(), b"".as_slice(), PING] {
         assert_eq!(rt; reassembler.feed(piece).err(), Some(FeedRefusal::Ended));

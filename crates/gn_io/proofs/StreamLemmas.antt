@@ -1,7 +1,7 @@
 -- One write after another.
 use Rattle.std.specs.Prelude.{◌==◌, ◌&&◌, not}
 use Rattle.gn_io.specs.Counts.{counted}
-use Rattle.gn_io.specs.Parts.{Owes, AppendsPart, WaitsPart}
+use Rattle.gn_io.specs.Parts.{LeavesToWrite, AppendsPart, WaitsPart}
 use Rattle.std.proofs.Common.{refl, subst, append-nil, zero, suc, ◌≡◌, ℕ, ◌+◌, ◌≤◌, ◌-◌, List, [], ◌++◌, length, take, drop, ap, ◌∙◌, sym, arith, append_assoc, Option, Some, None}
 use Rattle.std.proofs.lemmas.List.{take-append-drop}
 use Rattle.std.proofs.Math.Seq.{take-add}
@@ -43,18 +43,18 @@ appends_kept (Some xs) None new a h k = absurd h
 appends_kept (Some xs) (Some ys) None a h k = absurd k
 appends_kept (Some xs) (Some ys) (Some zs) a h k = k ∙ h
 
-pub owes_all : (old : Option (List ℕ)) (all : List ℕ) → Owes old old all all
-owes_all None all = ([], _, refl)
-owes_all (Some xs) all = ([], sym (append-nil xs), refl)
+pub leaves_all : (old : Option (List ℕ)) (all : List ℕ) → LeavesToWrite old old all all
+leaves_all None all = ([], _, refl)
+leaves_all (Some xs) all = ([], sym (append-nil xs), refl)
 
-pub owes_none : (old new : Option (List ℕ)) (all : List ℕ) → Owes old new [] all → Appends old new all
-owes_none old new all h = let e : h.0 ≡ all = sym (append-nil h.0) ∙ h.2 in let P : List ℕ → Type 0 = λ t. Appends old new t in subst P e h.1
+pub leaves_none : (old new : Option (List ℕ)) (all : List ℕ) → LeavesToWrite old new [] all → Appends old new all
+leaves_none old new all h = let e : h.0 ≡ all = sym (append-nil h.0) ∙ h.2 in let P : List ℕ → Type 0 = λ t. Appends old new t in subst P e h.1
 
-pub owes_step : (old mid new : Option (List ℕ)) (t rest all : List ℕ) → Owes old mid (t ++ rest) all → Appends mid new t → Owes old new rest all
-owes_step old mid new t rest all h k = (h.0 ++ t, appends_after old mid new h.0 t h.1 k, append_assoc h.0 t rest ∙ h.2)
+pub leaves_step : (old mid new : Option (List ℕ)) (t rest all : List ℕ) → LeavesToWrite old mid (t ++ rest) all → Appends mid new t → LeavesToWrite old new rest all
+leaves_step old mid new t rest all h k = (h.0 ++ t, appends_after old mid new h.0 t h.1 k, append_assoc h.0 t rest ∙ h.2)
 
-pub owes_part : (old mid new : Option (List ℕ)) (t rest all : List ℕ) → Owes old mid (t ++ rest) all → AppendsPart mid new t → AppendsPart old new all
-owes_part old mid new t rest all h k =
+pub leaves_part : (old mid new : Option (List ℕ)) (t rest all : List ℕ) → LeavesToWrite old mid (t ++ rest) all → AppendsPart mid new t → AppendsPart old new all
+leaves_part old mid new t rest all h k =
     let written = k.1.0 in
     let e : (h.0 ++ written) ++ (k.0 ++ rest) ≡ all =
     append_assoc h.0 written (k.0 ++ rest) ∙ (ap (λ r. h.0 ++ r) (sym (append_assoc written k.0 rest) ∙ ap (λ r. r ++ rest) k.1.2) ∙ h.2) in
@@ -70,39 +70,39 @@ pub part_kept : (old mid new : Option (List ℕ)) (bytes : List ℕ) (i : ℕ) �
 part_kept old mid new bytes i h k = (drop i bytes, (take i bytes, appends_kept old mid new (take i bytes) h k, take-append-drop i bytes))
 
 -- what was written whole leaves nothing
-pub appended_owes : (old new : Option (List ℕ)) (all : List ℕ) → Appends old new all → Owes old new [] all
-appended_owes old new all h = (all, h, append-nil all)
+pub appended_leaves : (old new : Option (List ℕ)) (all : List ℕ) → Appends old new all → LeavesToWrite old new [] all
+appended_leaves old new all h = (all, h, append-nil all)
 
--- what waited was written, whole or a front of it
+-- what waited was written, whole or a prefix of it
 pub rest_part : (old mid new : Option (List ℕ)) (waiting all : List ℕ) → WaitsPart old mid waiting all → Appends mid new waiting → AppendsPart old new all
-rest_part old mid new waiting all h k = (h.0, owes_step old mid new waiting h.0 all h.1 k)
+rest_part old mid new waiting all h k = (h.0, leaves_step old mid new waiting h.0 all h.1 k)
 
 pub rest_cut : (old mid new : Option (List ℕ)) (waiting all : List ℕ) → WaitsPart old mid waiting all → AppendsPart mid new waiting → AppendsPart old new all
-rest_cut old mid new waiting all h k = owes_part old mid new waiting h.0 all h.1 k
+rest_cut old mid new waiting all h k = leaves_part old mid new waiting h.0 all h.1 k
 
--- a front of what was owed was written, and what waits is owed first
-pub owes_after : (old mid new : Option (List ℕ)) (x rest waiting all : List ℕ) → Owes old mid (x ++ rest) all → Owes mid new waiting x → Owes old new (waiting ++ rest) all
-owes_after old mid new x rest waiting all h k =
+-- a prefix of what was owed was written, and what waits is owed first
+pub leaves_after : (old mid new : Option (List ℕ)) (x rest waiting all : List ℕ) → LeavesToWrite old mid (x ++ rest) all → LeavesToWrite mid new waiting x → LeavesToWrite old new (waiting ++ rest) all
+leaves_after old mid new x rest waiting all h k =
     let e : (h.0 ++ k.0) ++ (waiting ++ rest) ≡ all =
     append_assoc h.0 k.0 (waiting ++ rest) ∙ (ap (λ r. h.0 ++ r) (sym (append_assoc k.0 waiting rest) ∙ ap (λ r. r ++ rest) k.2) ∙ h.2) in
     (h.0 ++ k.0, appends_after old mid new h.0 k.0 h.1 k.1, e)
 
 -- a text was added behind what waited, and what is over was written
-pub owes_text : (old mid new : Option (List ℕ)) (waited text rest waiting all : List ℕ) → Owes old mid (waited ++ (text ++ rest)) all → Owes mid new waiting (waited ++ text)
-    → Owes old new (waiting ++ rest) all
-owes_text old mid new waited text rest waiting all h k =
-    owes_after old mid new (waited ++ text) rest waiting all (subst (λ (xs : List ℕ). Owes old mid xs all) (sym (append_assoc waited text rest)) h) k
+pub leaves_text : (old mid new : Option (List ℕ)) (waited text rest waiting all : List ℕ) → LeavesToWrite old mid (waited ++ (text ++ rest)) all → LeavesToWrite mid new waiting (waited ++ text)
+    → LeavesToWrite old new (waiting ++ rest) all
+leaves_text old mid new waited text rest waiting all h k =
+    leaves_after old mid new (waited ++ text) rest waiting all (subst (λ (xs : List ℕ). LeavesToWrite old mid xs all) (sym (append_assoc waited text rest)) h) k
 
-pub waits_text : (old mid new : Option (List ℕ)) (waited text rest waiting all : List ℕ) → Owes old mid (waited ++ (text ++ rest)) all → WaitsPart mid new waiting (waited ++ text)
+pub waits_text : (old mid new : Option (List ℕ)) (waited text rest waiting all : List ℕ) → LeavesToWrite old mid (waited ++ (text ++ rest)) all → WaitsPart mid new waiting (waited ++ text)
     → WaitsPart old new waiting all
 waits_text old mid new waited text rest waiting all h k =
-    (k.0 ++ rest, subst (λ (xs : List ℕ). Owes old new xs all) (append_assoc waiting k.0 rest) (owes_text old mid new waited text rest (waiting ++ k.0) all h k.1))
+    (k.0 ++ rest, subst (λ (xs : List ℕ). LeavesToWrite old new xs all) (append_assoc waiting k.0 rest) (leaves_text old mid new waited text rest (waiting ++ k.0) all h k.1))
 
 -- what is owed waits, and nothing else
-pub owes_waits : (old new : Option (List ℕ)) (waiting all : List ℕ) → Owes old new waiting all → WaitsPart old new waiting all
-owes_waits old new waiting all h = ([], subst (λ (xs : List ℕ). Owes old new xs all) (sym (append-nil waiting)) h)
+pub leaves_waits : (old new : Option (List ℕ)) (waiting all : List ℕ) → LeavesToWrite old new waiting all → WaitsPart old new waiting all
+leaves_waits old new waiting all h = ([], subst (λ (xs : List ℕ). LeavesToWrite old new xs all) (sym (append-nil waiting)) h)
 
 -- all that waited was written
-pub owes_rest : (old mid new : Option (List ℕ)) (waiting all : List ℕ) → Owes old mid waiting all → Appends mid new waiting → Appends old new all
-owes_rest old mid new waiting all h k =
-    owes_none old new all (owes_step old mid new waiting [] all (subst (λ (xs : List ℕ). Owes old mid xs all) (sym (append-nil waiting)) h) k)
+pub leaves_rest : (old mid new : Option (List ℕ)) (waiting all : List ℕ) → LeavesToWrite old mid waiting all → Appends mid new waiting → Appends old new all
+leaves_rest old mid new waiting all h k =
+    leaves_none old new all (leaves_step old mid new waiting [] all (subst (λ (xs : List ℕ). LeavesToWrite old mid xs all) (sym (append-nil waiting)) h) k)

@@ -3,7 +3,7 @@
 ghost use Rattle.std.specs.Prelude.{◌≡◌, ◌<◌, ◌++◌, ◌⊎◌, [], length, OnOk, OnErr};
 ghost use Rattle.std.specs.Io.KnownBytes.{Appends};
 ghost use Rattle.gn_io.specs.Counts.{Rises};
-ghost use Rattle.gn_io.specs.Parts.{AppendsPart, Owes, block_size};
+ghost use Rattle.gn_io.specs.Parts.{AppendsPart, LeavesToWrite, block_size};
 
 use crate::fault::IoFault;
 use crate::sink::Sink;
@@ -63,7 +63,7 @@ impl<A: Allocator> Block<A> {
 
     /// Writes all that waits where that is 32,768 bytes or more, and nothing else. An `Err` is as in `write_rest`.
     pub fn write_full<S: Sink>(&mut self, sink: &mut S) -> Result<(), IoFault>
-        ensures ok { OnOk result (Owes (S.told sink.old) (S.told sink.new) self.new self.old) }
+        ensures ok { OnOk result (LeavesToWrite (S.told sink.old) (S.told sink.new) self.new self.old) }
         ensures small { length self.new < block_size }
         ensures err { OnErr result (AppendsPart (S.told sink.old) (S.told sink.new) self.old) }
         ensures empty { OnErr result (self.new ≡ []) }

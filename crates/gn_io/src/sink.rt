@@ -17,7 +17,7 @@ pub trait Sink {
     /// How many writes took none of a piece that isn't empty, up to the last u64.
     ghost stalls: { Self → ℕ };
 
-    /// Writes a front of the piece, and tells its length. An `Err` is a write that failed: it took nothing.
+    /// Writes a prefix of the piece, and tells its length. An `Err` is a write that failed: it took nothing.
     fn write(&mut self, piece: &[u8]) -> Result<usize, IoFault>
         ensures bound { IfOk result (λ n. n ≤ length piece.now) }
         ensures bytes { WriteAppends (told self.old) (told self.new) result piece.now }

@@ -17,7 +17,7 @@ pub trait Source {
     /// How many bytes it gave, up to the last u64.
     ghost given: { Self → ℕ };
 
-    /// Reads bytes to the front of the room, and tells their number. Into a room that isn't empty it gives none only at
+    /// Reads bytes to the head of the room, and tells their number. Into a room that isn't empty it gives none only at
     /// the end. An `Err` is a read that failed: it gave nothing.
     fn read(&mut self, room: &mut [u8]) -> Result<usize, IoFault>
         ensures bound { IfOk result (λ n. n ≤ length room.new) }

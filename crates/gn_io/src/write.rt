@@ -8,7 +8,7 @@ ghost use Rattle.gn_io.specs.Parts.{AppendsPart};
 use crate::fault::IoFault;
 use crate::sink::Sink;
 
-/// Writes all of the bytes. An `Err` is a write that failed, or one that took none: a front of the bytes was written.
+/// Writes all of the bytes. An `Err` is a write that failed, or one that took none: a prefix of the bytes was written.
 pub fn write_all<S: Sink>(sink: &mut S, bytes: &[u8]) -> Result<(), IoFault>
     ensures ok { OnOk result (Appends (S.told sink.old) (S.told sink.new) bytes.now) }
     ensures err { OnErr result (AppendsPart (S.told sink.old) (S.told sink.new) bytes.now) }

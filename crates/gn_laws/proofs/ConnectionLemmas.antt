@@ -33,7 +33,7 @@ use Rattle.gn_rules.specs.Live.{connections, live}
 use Rattle.gn_rules.specs.Output.{queued, queued_to, takes}
 use Rattle.gn_rules.specs.Sending.{fanout, flood_sends, forward_sends, is_ping, own_pong, pong_sends, send}
 use Rattle.gn_rules.specs.Servents.{servent_route}
-use Rattle.gn_rules.specs.Sights.{is_remembered, source}
+use Rattle.gn_rules.specs.SeenEntries.{is_remembered, source}
 use Rattle.gn_rules.proofs.LiveLemmas.{connections_counted, connects_next}
 use Rattle.gn_rules.proofs.SendLemmas.{fanout_to, queued_append, queued_none}
 use Rattle.gn_laws.specs.Connections.{connects, closes, is_closed, is_connected, NothingSince, ClosedStaysClosed, ConnectionsCount, LiveIsOpen, NothingAfterClose, PacketsGoToLive}

@@ -46,7 +46,7 @@ none_are : {A : Type 0} (own : List (Receipt A)) → 0 ≡ length own → [] ≡
 none_are [] h = refl
 none_are (r ∷ own) h = absurd (omega (arith, h))
 
--- one receipt more, at the front of both
+-- one receipt more, at the head of both
 part_more : {A : Type 0} (r s : Receipt A) (receipts own : List (Receipt A)) → r ≡ s → IsPart receipts own → IsPart (r ∷ receipts) (s ∷ own)
 part_more r s receipts own is part = record {
   few = omega (arith, part.few);

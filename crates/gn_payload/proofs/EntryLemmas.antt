@@ -5,7 +5,7 @@ use Rattle.std.proofs.lemmas.List.{take-append-drop, append-nil, take_more, map-
 use Rattle.std.proofs.lemmas.List.Concat.{flat_map-append}
 use Rattle.gn_payload.specs.declared.hit_result.HitResult.{HitResult}
 use Rattle.gn_payload.specs.Fields.{ResultFields}
-use Rattle.gn_payload.specs.Spelling.{HasNumbers, result_bytes, results_bytes}
+use Rattle.gn_payload.specs.Encoding.{HasNumbers, result_bytes, results_bytes}
 use Rattle.gn_payload.specs.Views.{result_fields}
 
 -- a test of what entries tell, as one of the entries

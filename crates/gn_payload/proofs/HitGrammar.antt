@@ -14,7 +14,7 @@ query_is : (a b : ℕ) (x y z w : List ℕ) → a ≡ b → x ≡ y → z ≡ w
     → ◌≡◌ {A = QueryFields} (record { speed = a; text = x; tail = z }) (record { speed = b; text = y; tail = w })
 query_is a b x y z w e1 e2 e3 = rw (e1, e2, e3) refl
 
--- a Query with its speed in front of what is read
+-- a Query with its speed before what is read
 abbrev query_made : List ℕ → List ℕ × List ℕ → QueryFields
 query_made bytes x = record { speed = number_at 2 0 bytes; text = x.0; tail = x.1 }
 

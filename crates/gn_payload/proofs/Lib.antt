@@ -1,12 +1,12 @@
 pub mod EntryLemmas
 pub mod HitGrammar
-pub mod HitSpelled
+pub mod HitEncoded
 pub mod Numbers
 pub mod PongLemmas
 pub mod Readers
 pub mod ResultGrammar
 pub mod ResultLemmas
 pub mod SoundLemmas
-pub mod Spelled
+pub mod Encoded
 pub mod TextGrammar
 pub mod TextLemmas

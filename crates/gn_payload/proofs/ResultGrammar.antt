@@ -43,7 +43,7 @@ read_result bytes r rest e =
     let extra_ends = read_ended name.1 extra.0 extra.1 extra_is in
     rw (← parts.0, ← parts.1) (record { file = refl; size = refl; texts = (name.1, name_ends, extra_ends) })))
 
--- one result in front of others
+-- one result before others
 abbrev with_front : ResultFields → List ResultFields × List ℕ → Option (List ResultFields × List ℕ)
 with_front r others = Some (r ∷ others.0, others.1)
 
@@ -82,19 +82,19 @@ result_cut bytes r front rest h =
     let name = h.texts.1 in
     let extra = h.texts.2 in
     let joined : drop 8 bytes ≡ texts ++ rest =
-    name.spelled ∙ ap (λ (xs : List ℕ). r.name ++ 0 ∷ xs) extra.spelled ∙ simp append_assoc in
-    let long : 8 ≤ length bytes = omega (arith, length-drop 8 bytes, length-append r.name (0 ∷ h.texts.0), ap length name.spelled) in
+    name.encoded ∙ ap (λ (xs : List ℕ). r.name ++ 0 ∷ xs) extra.encoded ∙ simp append_assoc in
+    let long : 8 ≤ length bytes = omega (arith, length-drop 8 bytes, length-append r.name (0 ∷ h.texts.0), ap length name.encoded) in
     let eight : length (take 8 bytes) ≡ 8 = length-take 8 bytes ∙ omega arith in
     let seam : take 8 whole ≡ take 8 bytes = ap (λ (n : ℕ). take n whole) (sym eight) ∙ take-append_seam (take 8 bytes) texts in
     let back : drop 8 whole ≡ texts = ap (λ (n : ℕ). drop n whole) (sym eight) ∙ drop-append_seam (take 8 bytes) texts in
-    let spelled : bytes ≡ whole ++ rest =
+    let encoded : bytes ≡ whole ++ rest =
     sym (take-append-drop 8 bytes) ∙ ap (λ (xs : List ℕ). take 8 bytes ++ xs) joined ∙ sym (append_assoc (take 8 bytes) texts rest) in (
       whole,
-      spelled,
+      encoded,
       record {
         file = h.file ∙ same_number 4 0 8 bytes whole (omega arith) (sym seam);
         size = h.size ∙ same_number 4 4 8 bytes whole (omega arith) (sym seam);
-        texts = (r.extra ++ 0 ∷ front, record { spelled = back; nonzero = name.nonzero }, record { spelled = refl; nonzero = extra.nonzero });
+        texts = (r.extra ++ 0 ∷ front, record { encoded = back; nonzero = name.nonzero }, record { encoded = refl; nonzero = extra.nonzero });
       },
     )
 
@@ -108,7 +108,7 @@ results_cut (r ∷ rs) bytes rest h =
     let one = result_cut bytes r more.0 rest first in
     (one.0, one.1, (more.0, one.2, more.2))
 
--- the front of bytes that begin with so many results, up to what follows them, is just these results
+-- the head of bytes that begin with so many results, up to what follows them, is just these results
 pub results_split : (n : ℕ) (bytes rest : List ℕ) (rs : List ResultFields) → results_reading n bytes ≡ Some (rs, rest)
     → let front = take (length bytes - length rest) bytes in (length rest ≤ length bytes) × AreJust n front × (rs ≡ results_in n front)
 results_split n bytes rest rs e =
@@ -139,6 +139,6 @@ pub split_past : (n : ℕ) (bytes rest : List ℕ) → past (results_reading n b
     → let front = take (length bytes - length rest) bytes in (length rest ≤ length bytes) × AreJust n front × (results_reading n bytes ≡ Some (results_in n front, rest))
 split_past n bytes rest e = split_of n bytes rest (results_reading n bytes) refl e
 
--- bytes that are just so many results spell them
+-- bytes that are just so many results encode them
 pub just_are : (n : ℕ) (bytes : List ℕ) → AreJust n bytes → (length (results_in n bytes) ≡ n) × AreResults bytes (results_in n bytes) []
 just_are n bytes just = read_results n bytes (results_in n bytes) [] just

@@ -16,21 +16,21 @@ text_read (b ∷ bs) rest h =
     ∙ ap (λ (o : Option (List ℕ × List ℕ)). option_map (λ x. (b ∷ x.0, x.1)) o) (text_read bs rest h.1)
 
 pub ended_read : (bytes text rest : List ℕ) → IsEnded bytes text rest → text_reading bytes ≡ Some (text, rest)
-ended_read bytes text rest h = ap text_reading h.spelled ∙ text_read text rest h.nonzero
+ended_read bytes text rest h = ap text_reading h.encoded ∙ text_read text rest h.nonzero
 
--- one byte in front of what is ended so
+-- one byte before what is ended so
 ended_more : (t : Bool) (b : ℕ) (bs text rest : List ℕ) (o : Option (List ℕ × List ℕ)) → (b == 0) ≡ t
     → ((x y : List ℕ) → o ≡ Some (x, y) → IsEnded bs x y) → cond {A = Option (List ℕ × List ℕ)} t (Some ([], bs)) (option_map (λ x. (b ∷ x.0, x.1)) o) ≡ Some (text, rest) → IsEnded (b ∷ bs) text rest
 ended_more true b bs text rest o is all e =
     let parts = some_pair_parts [] text bs rest e in
     let b_is : b ≡ 0 = grind (arith, nat_tests) in
-    rw (← parts.0) (record { spelled = rw (b_is, parts.1) refl; nonzero = tt })
+    rw (← parts.0) (record { encoded = rw (b_is, parts.1) refl; nonzero = tt })
 ended_more false b bs text rest None is all e = absurd (none-some _ e)
 ended_more false b bs text rest (Some (x, y)) is all e =
     let parts = some_pair_parts (b ∷ x) text y rest e in
     let h = all x y refl in
     let above : 0 < b = grind (arith, nat_tests) in
-    rw (← parts.0) (record { spelled = ap (λ (z : List ℕ). b ∷ z) h.spelled ∙ rw parts.1 refl; nonzero = (above, h.nonzero) })
+    rw (← parts.0) (record { encoded = ap (λ (z : List ℕ). b ∷ z) h.encoded ∙ rw parts.1 refl; nonzero = (above, h.nonzero) })
 
 -- what is read is a text, a zero byte and more
 pub read_ended : (bytes text rest : List ℕ) → text_reading bytes ≡ Some (text, rest) → IsEnded bytes text rest

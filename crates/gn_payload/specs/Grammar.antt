@@ -13,7 +13,7 @@ IsText = AllByRecursion (λ b. 0 < b)
 
 -- a text, the zero byte that ends it, and what follows
 pub record IsEnded (bytes text rest : List ℕ) : Type 0 where
-  pub spelled : bytes ≡ text ++ 0 ∷ rest
+  pub encoded : bytes ≡ text ++ 0 ∷ rest
   pub nonzero : IsText text
 
 -- a Pong has 14 bytes, each field at its place

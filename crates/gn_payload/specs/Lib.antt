@@ -4,5 +4,5 @@ pub mod Places
 pub mod Reading
 pub mod Refusals
 pub mod Sound
-pub mod Spelling
+pub mod Encoding
 pub mod Views

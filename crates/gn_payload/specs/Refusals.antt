@@ -4,7 +4,7 @@ use Rattle.std.specs.List.{list_any}
 use Rattle.gn_payload.specs.declared.refusal.WriteRefusal.{WriteRefusal}
 use Rattle.gn_payload.specs.declared.refusal.WriteRefusal.TheVariants.{ZeroInText, TooManyHits, TooLong, NoMemory}
 use Rattle.gn_payload.specs.Fields.{QueryFields, ResultFields, HitFields}
-use Rattle.gn_payload.specs.Spelling.{query_bytes, hit_bytes}
+use Rattle.gn_payload.specs.Encoding.{query_bytes, hit_bytes}
 
 -- a zero byte stands in the text
 abbrev pub has_zero : List ℕ → Bool
@@ -28,7 +28,7 @@ hit_refusal h =
     if list_any zero_in_result h.results then Some ZeroInText else if nat_lt 255 (length h.results) then Some TooManyHits
     else long_refusal (hit_bytes h)
 
--- a writer's answer, where this is against writing: that refusal, or where nothing is against it, done or want of memory
+-- a writer's answer, where this is against writing: that refusal, or where nothing is against it, done or out of memory
 abbrev pub Refuses : Result (Unit {0}) WriteRefusal → Option WriteRefusal → Type 0
 Refuses (Ok x) against = against ≡ None
 Refuses (Err NoMemory) against = against ≡ None

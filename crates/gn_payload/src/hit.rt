@@ -74,7 +74,7 @@ impl<'a> QueryHit<'a> {
         Results::of(self.hits, self.results)
     }
 
-    /// The bytes that spell the results, and nothing else.
+    /// The bytes that encode the results, and nothing else.
     pub fn result_bytes(&self) -> &'a [u8]
         ensures { AreResults result.now self.now.results [] }
     {

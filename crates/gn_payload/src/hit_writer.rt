@@ -6,7 +6,7 @@ ghost use Rattle.byteorder.specs.Endian.{little_bytes};
 ghost use Rattle.gn_payload.specs.declared.refusal.WriteRefusal.TheVariants.{NoMemory};
 ghost use Rattle.gn_payload.specs.Grammar.{IsHit};
 ghost use Rattle.gn_payload.specs.Refusals.{Refuses, hit_refusal, zero_in_result};
-ghost use Rattle.gn_payload.specs.Spelling.{HasNumbers, hit_bytes, result_bytes, results_bytes};
+ghost use Rattle.gn_payload.specs.Encoding.{HasNumbers, hit_bytes, result_bytes, results_bytes};
 ghost use Rattle.gn_payload.specs.Views.{hit_fields, result_fields};
 
 use crate::hit_result::HitResult;

@@ -20,7 +20,7 @@ pub use hit::{QueryHit, read_hit, servent_of_hit};
 pub use hit_result::{HitResult, Results};
 pub use hit_writer::write_hit;
 pub use laws::{one_reading, sound_is_read};
-pub use pong::{Pong, read_pong, spell_pong, write_pong};
+pub use pong::{Pong, encode_pong, read_pong, write_pong};
 pub use push::{Push, read_push, servent_of_push, write_push};
 pub use query::{Query, read_query, write_query};
 pub use refusal::WriteRefusal;

@@ -3,7 +3,7 @@
 ghost use Rattle.std.specs.Prelude.{◌≡◌, ◌<◌, ◌+◌, ◌++◌, IfSome, IfNone, OnOk, OnErr, vec_len, vec_capacity};
 ghost use Rattle.gn_payload.specs.declared.pong.Pong.{Pong};
 ghost use Rattle.gn_payload.specs.Grammar.{IsPong};
-ghost use Rattle.gn_payload.specs.Spelling.{pong_bytes};
+ghost use Rattle.gn_payload.specs.Encoding.{pong_bytes};
 
 use crate::parts::first_bytes;
 use crate::put::{little_u16, little_u32, put};
@@ -39,7 +39,7 @@ pub fn read_pong(bytes: &[u8]) -> Option<Pong>
 }
 
 /// The 14 bytes of a Pong. It takes no memory.
-pub fn spell_pong(pong: &Pong) -> [u8; 14]
+pub fn encode_pong(pong: &Pong) -> [u8; 14]
     ensures bytes { result ≡ pong_bytes pong.now.port pong.now.ip pong.now.files pong.now.kbytes }
     ensures read { IsPong (pong_bytes pong.now.port pong.now.ip pong.now.files pong.now.kbytes) pong.now }
 {
@@ -53,7 +53,7 @@ pub fn spell_pong(pong: &Pong) -> [u8; 14]
     ]
 }
 
-/// Appends the 14 bytes of a Pong. An `Err` is want of memory: it comes only where the vector has no room for them, and
+/// Appends the 14 bytes of a Pong. An `Err` is out of memory: it comes only where the vector has no room for them, and
 /// changes nothing.
 pub fn write_pong<B: Allocator>(pong: &Pong, out: &mut Vec<u8, B>) -> Result<(), AllocError>
     ensures ok { OnOk result (out.new.items ≡ out.old.items ++ pong_bytes pong.now.port pong.now.ip pong.now.files pong.now.kbytes) }
@@ -62,6 +62,6 @@ pub fn write_pong<B: Allocator>(pong: &Pong, out: &mut Vec<u8, B>) -> Result<(),
     ensures full { OnErr result (vec_capacity out.old < vec_len out.old + 14) }
 {
     out.reserve(14)?;
-    put(out, &spell_pong(pong));
+    put(out, &encode_pong(pong));
     Ok(())
 }

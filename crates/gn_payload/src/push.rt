@@ -4,7 +4,7 @@ ghost use Rattle.std.specs.Prelude.{◌≡◌, ◌≤◌, ◌<◌, ◌+◌, ◌+
 ghost use Rattle.gn_payload.specs.declared.push.Push.{Push};
 ghost use Rattle.gn_payload.specs.Grammar.{IsPush};
 ghost use Rattle.gn_payload.specs.Places.{push_servent};
-ghost use Rattle.gn_payload.specs.Spelling.{push_bytes};
+ghost use Rattle.gn_payload.specs.Encoding.{push_bytes};
 
 use crate::parts::first_bytes;
 use crate::put::{put, put_u16, put_u32};
@@ -49,7 +49,7 @@ pub fn servent_of_push(bytes: &[u8]) -> Guid
     }
 }
 
-/// Appends the 26 bytes of a Push. An `Err` is want of memory: it comes only where the vector has no room for them, and
+/// Appends the 26 bytes of a Push. An `Err` is out of memory: it comes only where the vector has no room for them, and
 /// changes nothing.
 pub fn write_push<B: Allocator>(push: &Push, out: &mut Vec<u8, B>) -> Result<(), AllocError>
     ensures ok { OnOk result (out.new.items ≡ out.old.items ++ push_bytes push.now) }

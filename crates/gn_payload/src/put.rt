@@ -2,7 +2,7 @@
 
 ghost use Rattle.std.specs.Prelude.{◌≡◌, ◌≤◌, ◌+◌, ◌++◌, length, vec_len, vec_capacity};
 ghost use Rattle.byteorder.specs.Endian.{little_bytes};
-ghost use Rattle.gn_payload.specs.Spelling.{ended};
+ghost use Rattle.gn_payload.specs.Encoding.{ended};
 
 use byteorder::{ByteOrder, LittleEndian};
 use std::alloc::Allocator;

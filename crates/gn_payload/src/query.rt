@@ -5,7 +5,7 @@ ghost use Rattle.gn_payload.specs.Fields.{QueryFields};
 ghost use Rattle.gn_payload.specs.Grammar.{IsQuery};
 ghost use Rattle.gn_payload.specs.Reading.{query_reading};
 ghost use Rattle.gn_payload.specs.Refusals.{Refuses, query_refusal};
-ghost use Rattle.gn_payload.specs.Spelling.{query_bytes};
+ghost use Rattle.gn_payload.specs.Encoding.{query_bytes};
 ghost use Rattle.gn_payload.specs.declared.refusal.WriteRefusal.TheVariants.{NoMemory};
 ghost use Rattle.gn_payload.specs.Views.{query_fields};
 

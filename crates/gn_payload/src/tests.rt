@@ -130,7 +130,7 @@ fn queries(rt: HostRuntime) -> Result<(), Fail> {
 #[test]
 fn hits(rt: HostRuntime) -> Result<(), Fail> {
     let results = RESULTS;
-    let spelled: [(u8, &[u8], &[u8], &[u8]); 2] = [
+    let encoded: [(u8, &[u8], &[u8], &[u8]); 2] = [
         (0, b"", b"", b""),
         (
             2,
@@ -139,7 +139,7 @@ fn hits(rt: HostRuntime) -> Result<(), Fail> {
             b"LIME",
         ),
     ];
-    for (count, middle, result_bytes, trailer) in spelled {
+    for (count, middle, result_bytes, trailer) in encoded {
         let payload = hit_payload(rt.alloc(), count, middle)?;
         let Some(hit) = read_hit(&payload) else {
             return Err("a reading".into());
@@ -254,7 +254,7 @@ fn verdicts(rt: HostRuntime) -> Result<(), Fail> {
     for (kind, payload, verdict) in cases {
         let bytes = Bytes::copy_from_slice(rt.alloc(), payload)?;
         let Ok(descriptor) = Descriptor::new(SERVENT, kind, 7, 0, bytes) else {
-            return Err("a lawful length".into());
+            return Err("a valid length".into());
         };
         let checked = Checked::new(descriptor);
         assert_eq!(rt; checked.verdict(), verdict);

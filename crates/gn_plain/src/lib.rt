@@ -9,8 +9,8 @@ mod live;
 mod output;
 mod past;
 mod plain;
+mod seen_entries;
 mod servents;
-mod sights;
 
 pub use legality::legal;
 pub use past::Past;

@@ -38,40 +38,40 @@ pub record Streams : Type 0 where
 abbrev pub IsUnfailed : Streams → Type 0
 IsUnfailed s = (s.failures_new ≡ s.failures) × (s.unwritten_new ≡ s.unwritten) × (s.stalls_new ≡ s.stalls)
 
--- the streams bear out the fault, where `said` is what a text says
-abbrev pub BearsOut : {X : Type 0} → (List ℕ → Result X CaptureFault) → Streams → ReplayFault → Type 0
-BearsOut said s fault = IsReplayFault fault said s.rest s.failures s.failures_new s.given s.given_new s.unwritten s.unwritten_new s.stalls s.stalls_new
+-- the streams confirm the fault, where `parsed` is what a text says
+abbrev pub IsConfirmedBy : {X : Type 0} → (List ℕ → Result X CaptureFault) → Streams → ReplayFault → Type 0
+IsConfirmedBy parsed s fault = IsReplayFault fault parsed s.rest s.failures s.failures_new s.given s.given_new s.unwritten s.unwritten_new s.stalls s.stalls_new
 
 -- what replay answers: the input was a capture, no longer than it may be, and its replay text was written, its steps and
--- refusals counted; or it stopped, at a fault that the streams bear out, and what was written then is a front of the text
+-- refusals counted; or it stopped, at a fault that the streams confirm, and what was written then is a prefix of the text
 pub record IsReplayAnswer (s : Streams) (answer : Result Exit ReplayFault) : Type 0 where
   pub short : OnOk answer (IfSome s.rest (λ text. length text ≤ input_limit))
-  pub lawful : OnOk answer (IfSome s.rest (λ text. IsOk (capture_of {A = Global} text)))
+  pub valid : OnOk answer (IfSome s.rest (λ text. IsOk (capture_of {A = Global} text)))
   pub written : OnOk answer (IfSome s.rest (λ text. AppendsReplay Global text s.told s.told_new))
   pub counted : IfOk answer (λ exit. IfSome s.rest (λ text. IsCounted Global text exit))
   pub unfailed : OnOk answer (IsUnfailed s)
   pub stopped : IfErr answer (λ fault. HasStopped Global fault s.rest s.told s.told_new)
-  pub fault : IfErr answer (BearsOut (capture_of {A = Global}) s)
+  pub fault : IfErr answer (IsConfirmedBy (capture_of {A = Global}) s)
 
 -- what replay_history answers: as replay, with the history text of the input in place of its replay text
 pub record IsHistoryAnswer (s : Streams) (answer : Result Exit ReplayFault) : Type 0 where
   pub short : OnOk answer (IfSome s.rest (λ text. length text ≤ input_limit))
-  pub lawful : OnOk answer (IfSome s.rest (λ text. IsOk (capture_of {A = Global} text)))
+  pub valid : OnOk answer (IfSome s.rest (λ text. IsOk (capture_of {A = Global} text)))
   pub written : OnOk answer (IfSome s.rest (λ text. AppendsHistory Global text s.told s.told_new))
   pub counted : IfOk answer (λ exit. IfSome s.rest (λ text. IsCounted Global text exit))
   pub unfailed : OnOk answer (IsUnfailed s)
   pub stopped : IfErr answer (λ fault. HasHistoryStopped Global fault s.rest s.told s.told_new)
-  pub fault : IfErr answer (BearsOut (capture_of {A = Global}) s)
+  pub fault : IfErr answer (IsConfirmedBy (capture_of {A = Global}) s)
 
 -- what audit answers: the input was a history, no longer than it may be, and the line that tells of it was written; or it
--- stopped, at a fault that the streams bear out, and what was written then, of the line, is a front of it
+-- stopped, at a fault that the streams confirm, and what was written then, of the line, is a prefix of it
 pub record IsAuditAnswer (s : Streams) (answer : Result Legality ReplayFault) : Type 0 where
   pub short : OnOk answer (IfSome s.rest (λ text. length text ≤ input_limit))
-  pub lawful : OnOk answer (IfSome s.rest (λ text. IsOk (history_of {A = Global} text)))
+  pub valid : OnOk answer (IfSome s.rest (λ text. IsOk (history_of {A = Global} text)))
   pub told : IfOk answer (λ legality. IfSome s.rest (λ text. AppendsVerdict Global text legality s.told s.told_new))
   pub unfailed : OnOk answer (IsUnfailed s)
   pub stopped : IfErr answer (λ fault. HasAuditStopped Global fault s.rest s.told s.told_new)
-  pub fault : IfErr answer (BearsOut (history_of {A = Global}) s)
+  pub fault : IfErr answer (IsConfirmedBy (history_of {A = Global}) s)
 
 -- the status of a replay: 0 where it was done, else 1
 abbrev pub replay_status : Result Exit ReplayFault → ℕ

@@ -12,8 +12,8 @@ use Rattle.gn_replay.specs.Links.{LinkState, ended, IsLink, AreLinks}
 use Rattle.gn_shake.specs.Shaking.{Shaking, shake_of}
 use Rattle.gn_shake.specs.Texts.{request_text}
 use Rattle.gn_replay.specs.Pieces.{Linked, awaits, takes_piece}
-use Rattle.gn_replay.proofs.AdmitLemmas.{led_nothing}
-use Rattle.gn_replay.specs.Playing.{Playing, HasLinked, HasPlayed, led, with_links}
+use Rattle.gn_replay.proofs.AdmitLemmas.{after_playing_nothing}
+use Rattle.gn_replay.specs.Playing.{Playing, HasLinked, HasPlayed, after_playing, with_links}
 use Rattle.gn_replay.specs.ReplayText.{After, event_plays, link_added, link_given, piece_plays, state_of, with_state}
 
 -- as many links are kept as there are
@@ -66,10 +66,10 @@ get_or_past (z ∷ zs) zero d beyond = absurd (omega (arith, beyond))
 get_or_past (z ∷ zs) (suc i) d beyond = get_or_past zs i d (omega (arith, beyond))
 
 -- an event, or a text: the links stay
-pub played_event : {A : Type 0} (v after : Playing A) (p : Played A) (states : List LinkState) → after ≡ led v p → AreLinks v.links states → HasPlayed v after (event_plays states p)
+pub played_event : {A : Type 0} (v after : Playing A) (p : Played A) (states : List LinkState) → after ≡ after_playing v p → AreLinks v.links states → HasPlayed v after (event_plays states p)
 played_event v after p states done are =
     let same : after.links ≡ v.links = ap (λ (w : Playing _). w.links) done in
-    record { played = done ∙ ap (with_links (led v p)) (sym same); links = rw same are }
+    record { played = done ∙ ap (with_links (after_playing v p)) (sym same); links = rw same are }
 
 -- a new link
 pub played_link : {A : Type 0} (v between after : Playing A) (link : Link A) (linked : Linked A) (states : List LinkState) → HasLinked link v between linked
@@ -78,7 +78,7 @@ played_link v between after link linked states done added are =
     let same : between.links ≡ v.links = ap (λ (w : Playing _). w.links) done.played in
     let now : after.links ≡ v.links ++ link ∷ [] = ap (λ (w : Playing _). w.links) added ∙ ap (λ (ls : List (Link _)). ls ++ link ∷ []) same in
     record {
-      played = added ∙ ap (λ (w : Playing _). with_links w (between.links ++ link ∷ [])) done.played ∙ ap (with_links (led v linked.played)) (sym (ap (λ (w : Playing _). w.links) added));
+      played = added ∙ ap (λ (w : Playing _). with_links w (between.links ++ link ∷ [])) done.played ∙ ap (with_links (after_playing v linked.played)) (sym (ap (λ (w : Playing _). w.links) added));
       links = rw now (links_more v.links states link linked.state are done.state);
     }
 
@@ -104,7 +104,7 @@ played_piece {A} v taken fed after i at piece link kept states place inside ther
     there_now ∙ ap (λ (ls : List (Link A)). set ls at kept) left ∙ set_again v.links at keep.Ended kept in
     let all : HasPlayed v after (record { played = linked.played; links = set states at linked.state }) =
     record {
-      played = put ∙ ap (λ (w : Playing A). with_links w (set fed.links at kept)) done.played ∙ ap (with_links (led v linked.played)) (sym there_now);
+      played = put ∙ ap (λ (w : Playing A). with_links w (set fed.links at kept)) done.played ∙ ap (with_links (after_playing v linked.played)) (sym there_now);
       links = subst (λ (ls : List (Link A)). AreLinks ls (set states at linked.state)) (sym now) (links_set v.links states at kept linked.state are done.state);
     } in
     let next : i ≡ suc at = omega (arith, place) in
@@ -119,7 +119,7 @@ none_at states (suc at) outside =
 
 -- a piece of a link that isn't there
 pub played_none : {A : Type 0} (v after : Playing A) (i : ℕ) (piece : List ℕ) (states : List LinkState) → (1 ≤ i → length v.links < i)
-    → after ≡ led v (prints v.past (ended_text i)) → AreLinks v.links states → HasPlayed v after (piece_plays v.settings v.past states i piece)
+    → after ≡ after_playing v (prints v.past (ended_text i)) → AreLinks v.links states → HasPlayed v after (piece_plays v.settings v.past states i piece)
 played_none {A} v after i piece states outside printed are =
     let none = none_at states i (λ one. omega (arith, outside one, same_length v.links states are)) in
     let linked : Linked A = record { played = prints v.past (ended_text i); state = ended } in
@@ -131,11 +131,11 @@ pub ruleset lines = (played_event, played_link)
 
 -- a link that awaits its greeting has no bytes yet
 pub awaiting : {A : Type 0} (v : Playing A) (shake : Shaking) → shake ≡ shake_of request_text [] → HasLinked (keep.Greeting shake) v v (awaits v.past)
-awaiting v shake new = record { played = sym (led_nothing v); state = (new, refl) }
+awaiting v shake new = record { played = sym (after_playing_nothing v); state = (new, refl) }
 
 -- the counters are printed
 pub counters_printed : {A U E : Type 0} (r : Result U E) (v : Playing A) (now : List ℕ) (told : Stats) → OnOk r (now ≡ v.out ++ stats_text told) → told ≡ stats_of v.past
-    → OnOk r (record v { out = now } ≡ led v (prints v.past (stats_text (stats_of v.past))))
+    → OnOk r (record v { out = now } ≡ after_playing v (prints v.past (stats_text (stats_of v.past))))
 counters_printed (Err e) v now told printed is = tt
 counters_printed (Ok u) v now told printed is =
     let text : now ≡ v.out ++ stats_text (stats_of v.past) = printed ∙ ap (λ (s : Stats). v.out ++ stats_text s) is in

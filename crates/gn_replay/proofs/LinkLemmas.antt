@@ -18,8 +18,8 @@ use Rattle.gn_replay.specs.declared.link.Link.TheVariants as keep
 use Rattle.gn_replay.specs.Events.{prints, happens, connection_of}
 use Rattle.gn_replay.specs.Links.{greeting, joined, IsLink}
 use Rattle.gn_replay.specs.Pieces.{admits, completed, delivers, delivers_these, fault_plays, joins, joined_to, connects, delivers_on, greets}
-use Rattle.gn_replay.specs.Playing.{Playing, HasAdmitted, HasLinked, led}
-use Rattle.gn_replay.proofs.AdmitLemmas.{led_both, led_nothing}
+use Rattle.gn_replay.specs.Playing.{Playing, HasAdmitted, HasLinked, after_playing}
+use Rattle.gn_replay.proofs.AdmitLemmas.{after_playing_both, after_playing_nothing}
 
 -- a link that has no bytes yet
 pub new_link : (A : Type 0) (c : ℕ) → IsLink {A = A} (keep.Joined c (Some [])) (joined c [])
@@ -43,13 +43,13 @@ finished_well v after i c bytes packets kept done held =
 -- a fault stands behind them
 pub finished_badly : {A : Type 0} (v between after : Playing A) (i c : ℕ) (bytes : List ℕ) (packets : List Packet) (fault : FrameFault)
     → HasAdmitted false v between (admits v.settings v.past c packets)
-    → after ≡ led between (fault_plays between.settings between.past i c fault)
+    → after ≡ after_playing between (fault_plays between.settings between.past i c fault)
     → HasLinked keep.Ended v after (delivers_these v.settings v.past i c bytes packets (Some fault))
 finished_badly v between after i c bytes packets fault done more =
     let came = (admits v.settings v.past c packets).played in
-    let last : led between (fault_plays between.settings between.past i c fault) ≡ led (led v came) (fault_plays v.settings came.past i c fault) =
-    ap (λ (w : Playing _). led w (fault_plays w.settings w.past i c fault)) done.played in
-    rw (← done.told) (record { played = more ∙ last ∙ led_both v came (fault_plays v.settings came.past i c fault); state = tt })
+    let last : after_playing between (fault_plays between.settings between.past i c fault) ≡ after_playing (after_playing v came) (fault_plays v.settings came.past i c fault) =
+    ap (λ (w : Playing _). after_playing w (fault_plays w.settings w.past i c fault)) done.played in
+    rw (← done.told) (record { played = more ∙ last ∙ after_playing_both v came (fault_plays v.settings came.past i c fault); state = tt })
 
 -- what a reassembler gave of a piece is what the piece completes
 pub record IsGiven (bytes piece : List ℕ) (packets : List Packet) (fault : Option FrameFault) (after : Option (List ℕ)) : Type 0 where
@@ -93,29 +93,29 @@ delivered {A} v after i c piece before later packets fault (Ok kept) cut answere
 
 -- a link was connected, and the bytes behind its greeting delivered
 pub connected : {A E : Type 0} (v between after : Playing A) (i c : ℕ) (piece : List ℕ) (frames : Option (List ℕ)) (told : Option ℕ) (r : Result (Link A) E)
-    → between ≡ led v (happens v.settings v.past Connect) → told ≡ connection_of (answer v.settings v.past Connect) → told ≡ Some c → frames ≡ Some []
+    → between ≡ after_playing v (happens v.settings v.past Connect) → told ≡ connection_of (answer v.settings v.past Connect) → told ≡ Some c → frames ≡ Some []
     → IfOk r (λ link. (bytes : List ℕ) → IsLink {A = A} (keep.Joined c frames) (joined c bytes)
     → HasLinked link between after (delivers between.settings between.past i c bytes piece))
     → IfOk r (λ link. HasLinked link v after (connects v.settings v.past i piece))
-connected v between after i c piece frames told (Err e) led_is told_is some none have = have
-connected {A} v between after i c piece frames told (Ok kept) led_is told_is some none have =
+connected v between after i c piece frames told (Err e) after_playing_is told_is some none have = have
+connected {A} v between after i c piece frames told (Ok kept) after_playing_is told_is some none have =
     let p = happens v.settings v.past Connect in
     let start : IsLink {A = A} (keep.Joined c frames) (joined c []) = subst (λ (f : Option (List ℕ)). IsLink {A = A} (keep.Joined c f) (joined c [])) (sym none) (new_link A c) in
-    let done : HasLinked kept (led v p) after (delivers v.settings p.past i c [] piece) =
-    subst (λ (w : Playing A). HasLinked kept w after (delivers w.settings w.past i c [] piece)) led_is (have [] start) in
+    let done : HasLinked kept (after_playing v p) after (delivers v.settings p.past i c [] piece) =
+    subst (λ (w : Playing A). HasLinked kept w after (delivers w.settings w.past i c [] piece)) after_playing_is (have [] start) in
     let made : connection_of (answer v.settings v.past Connect) ≡ Some c = sym told_is ∙ some in
     let all : HasLinked kept v after (delivers_on v.settings i p piece (Some c)) =
-    record { played = done.played ∙ led_both v p (delivers v.settings p.past i c [] piece).played; state = done.state } in
+    record { played = done.played ∙ after_playing_both v p (delivers v.settings p.past i c [] piece).played; state = done.state } in
     subst (λ (o : Option ℕ). HasLinked kept v after (delivers_on v.settings i p piece o)) (sym made) all
 
 -- a link that needs no greeting was connected
 pub was_joined : {A : Type 0} (v after : Playing A) (c : ℕ) (frames : Option (List ℕ)) (told : Option ℕ)
-    → after ≡ led v (happens v.settings v.past Connect) → told ≡ connection_of (answer v.settings v.past Connect) → told ≡ Some c → frames ≡ Some []
+    → after ≡ after_playing v (happens v.settings v.past Connect) → told ≡ connection_of (answer v.settings v.past Connect) → told ≡ Some c → frames ≡ Some []
     → HasLinked {A = A} (keep.Joined c frames) v after (joins v.settings v.past)
-was_joined {A} v after c frames told led_is told_is some none =
+was_joined {A} v after c frames told after_playing_is told_is some none =
     let made : connection_of (answer v.settings v.past Connect) ≡ Some c = sym told_is ∙ some in
     let start : IsLink {A = A} (keep.Joined c frames) (joined c []) = subst (λ (f : Option (List ℕ)). IsLink {A = A} (keep.Joined c f) (joined c [])) (sym none) (new_link A c) in
-    record { played = led_is; state = subst (λ (o : Option ℕ). IsLink {A = A} (keep.Joined c frames) (joined_to o)) (sym made) start }
+    record { played = after_playing_is; state = subst (λ (o : Option ℕ). IsLink {A = A} (keep.Joined c frames) (joined_to o)) (sym made) start }
 
 -- a piece of a greeting was answered with the state of all bytes so far
 pub record IsGreeted (bytes piece : List ℕ) (after : Shaking) (told : ShakeState) : Type 0 where
@@ -137,10 +137,10 @@ pub greets_more : {A : Type 0} (v : Playing A) (i : ℕ) (before after : Shaking
 greets_more v i before after piece state one answered then_kept more bytes start =
     let is = greeted before after bytes piece state one start.0 answered then_kept in
     let here : greeting_state request_text (bytes ++ piece) ≡ More = is.state ∙ more in
-    rw here (record { played = sym (led_nothing v); state = (is.kept, here) })
+    rw here (record { played = sym (after_playing_nothing v); state = (is.kept, here) })
 
 pub greets_refused : {A : Type 0} (v later : Playing A) (i : ℕ) (before after : Shaking) (piece : List ℕ) (state : ShakeState) → PiecesAreOneStream
-    → state ≡ answer_of before piece → after ≡ shaken before piece → state ≡ Refused → later ≡ led v (prints v.past (greeting_refused_text i))
+    → state ≡ answer_of before piece → after ≡ shaken before piece → state ≡ Refused → later ≡ after_playing v (prints v.past (greeting_refused_text i))
     → (bytes : List ℕ) → IsLink {A = A} (keep.Greeting before) (greeting bytes)
     → HasLinked keep.Ended v later (greets v.settings v.past i (bytes ++ piece) (greeting_state request_text (bytes ++ piece)))
 greets_refused v later i before after piece state one answered then_kept refused printed bytes start =

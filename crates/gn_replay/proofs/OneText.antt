@@ -7,7 +7,7 @@ use Rattle.gn_rules.specs.declared.config.Own.{Own}
 use Rattle.gn_rules.specs.Limits.{IsWithin}
 use Rattle.gn_text.specs.declared.fault.CaptureFault.{CaptureFault}
 use Rattle.gn_text.specs.Settings.{Numbers, settings_of}
-use Rattle.gn_capture.specs.Captures.{Said, capture_of}
+use Rattle.gn_capture.specs.Captures.{Parsed, capture_of}
 use Rattle.gn_capture.proofs.ConfigLemmas.{HasConfig, capture_configured}
 use Rattle.gn_replay.specs.Events.{Played, nothing}
 use Rattle.gn_replay.specs.ReplayText.{IsReplayOf, IsReplayText, ReplayTextIsOne, capture_plays}
@@ -49,10 +49,10 @@ config_is s t same =
     subst (λ (told : Numbers × Own). IsMade s told) same (made s) t.neighbours_in_limit t.seen_in_limit t.servents_in_limit t.stage_in_limit t.out_in_limit t.steps_in_limit
 
 -- what is done with what was read is told by it
-played_is : {A : Type 0} (read : Result (Said A) CaptureFault) (one other : Played A) → IsReplayOf A read one → IsReplayOf A read other → one ≡ other
+played_is : {A : Type 0} (read : Result (Parsed A) CaptureFault) (one other : Played A) → IsReplayOf A read one → IsReplayOf A read other → one ≡ other
 played_is (Err fault) one other h k = h ∙ sym k
-played_is (Ok said) one other h k =
-    h.2 ∙ ap (λ (s : Config). capture_plays s said.lines) (config_is h.0 k.0 (h.1 ∙ sym k.1)) ∙ sym k.2
+played_is (Ok parsed) one other h k =
+    h.2 ∙ ap (λ (s : Config). capture_plays s parsed.lines) (config_is h.0 k.0 (h.1 ∙ sym k.1)) ∙ sym k.2
 
 -- no two texts are the replay text of an input
 no_two : (A : Type 0) (input one other : List ℕ) → IsReplayText A input one → IsReplayText A input other → one ≡ other
@@ -60,10 +60,10 @@ no_two A input one other h k =
     h.2 ∙ ap (λ (p : Played A). p.text) (played_is (capture_of {A = A} input) h.0 k.0 h.1 k.1) ∙ sym k.2
 
 -- something is done with what was read, where its settings are those of a configuration
-is_played : {A : Type 0} (read : Result (Said A) CaptureFault) → IfOk read (λ (said : Said A). HasConfig said)
+is_played : {A : Type 0} (read : Result (Parsed A) CaptureFault) → IfOk read (λ (parsed : Parsed A). HasConfig parsed)
     → (played : Played A) × IsReplayOf A read played
 is_played (Err fault) h = (nothing [], refl)
-is_played (Ok said) h = (capture_plays h.0 said.lines, (h.0, h.1, refl))
+is_played (Ok parsed) h = (capture_plays h.0 parsed.lines, (h.0, h.1, refl))
 
 there_is : (A : Type 0) (input : List ℕ) → (text : List ℕ) × IsReplayText A input text
 there_is A input =

@@ -18,7 +18,7 @@ use Rattle.gn_rules.specs.Answer.{event_answer, with_room}
 use Rattle.gn_rules.specs.Legal.{IsLegal}
 use Rattle.gn_rules.proofs.LegalLemmas.{legal_within}
 use Rattle.gn_capture.specs.declared.capture.Capture.{Capture}
-use Rattle.gn_capture.specs.Captures.{Said, capture_of, capture_seen}
+use Rattle.gn_capture.specs.Captures.{Parsed, capture_of, capture_seen}
 use Rattle.gn_capture.specs.Histories.{history_text}
 use Rattle.gn_replay.specs.ReplayHistory.{IsHistoryOf, IsHistoryText}
 use Rattle.gn_replay.specs.declared.replays.Exit.{Exit}
@@ -36,11 +36,11 @@ few_steps s steps legal = omega (arith, length-reverse steps, legal_within s (re
 pub is_replay : {A : Type 0} (text : List ℕ) (capture : Capture A) → capture_of text ≡ Ok (capture_seen capture)
     → IsReplay A text (capture_plays capture.config capture.lines.items)
 is_replay {A} text capture read =
-    subst (λ (said : Result (Said A) CaptureFault). IsReplayOf A said (capture_plays capture.config capture.lines.items)) (sym read) (capture.config, refl, refl)
+    subst (λ (parsed : Result (Parsed A) CaptureFault). IsReplayOf A parsed (capture_plays capture.config capture.lines.items)) (sym read) (capture.config, refl, refl)
 
--- a capture that was read is lawful
-pub is_lawful : {A : Type 0} (text : List ℕ) (capture : Capture A) → capture_of text ≡ Ok (capture_seen capture) → IsOk (capture_of {A = A} text)
-is_lawful {A} text capture read = subst (λ (said : Result (Said A) CaptureFault). IsOk said) (sym read) refl
+-- a capture that was read is valid
+pub is_valid : {A : Type 0} (text : List ℕ) (capture : Capture A) → capture_of text ≡ Ok (capture_seen capture) → IsOk (capture_of {A = A} text)
+is_valid {A} text capture read = subst (λ (parsed : Result (Parsed A) CaptureFault). IsOk parsed) (sym read) refl
 
 -- what was done with a capture that was read
 module _ {A : Type 0} (text : List ℕ) (capture : Capture A) where
@@ -65,9 +65,9 @@ module _ {A : Type 0} (text : List ℕ) (capture : Capture A) where
       let made : lent ≡ reverse (capture_plays capture.config capture.lines.items).past = same ∙ sym (reverse-reverse steps) ∙ ap reverse run.past in
       let is : printed ≡ history_text capture.config (reverse (capture_plays capture.config capture.lines.items).past) =
       wrote ∙ ap (λ (xs : List ℕ). xs ++ history_text capture.config lent) empty ∙ ap (history_text capture.config) made in
-      subst (λ (said : Result (Said A) CaptureFault). IsHistoryOf A said printed) (sym read) (capture.config, refl, is)
+      subst (λ (parsed : Result (Parsed A) CaptureFault). IsHistoryOf A parsed printed) (sym read) (capture.config, refl, is)
 
--- where playing it stopped, a front of its replay text was written
+-- where playing it stopped, a prefix of its replay text was written
 stopped_so : {A : Type 0} (f : PlayFault) (text : List ℕ) (old new : Option (List ℕ)) → length text ≤ input_limit → AppendsReplayPart A text old new → HasStopped A (of_playing f) (Some text) old new
 stopped_so play.Write text old new short part = part
 stopped_so play.NoMemory text old new short part = inr (short, part)
@@ -82,16 +82,16 @@ stopped {A} (Err e) f text capture old new short is read part =
     subst (λ (e : ReplayFault). HasStopped A e (Some text) old new) (sym is) (stopped_so f text old new short all)
 
 -- what was done with a text was done with the input that it is
-pub fault_of_input : {X : Type 0} (f : ReplayFault) (said : List ℕ → Result X CaptureFault) (text : List ℕ) (rest : Option (List ℕ))
+pub fault_of_input : {X : Type 0} (f : ReplayFault) (parsed : List ℕ → Result X CaptureFault) (text : List ℕ) (rest : Option (List ℕ))
     (failures failures_new given given_new unwritten unwritten_new stalls stalls_new : ℕ)
-    → IfSome rest (λ bytes. text ≡ bytes) → IsReplayFault f said (Some text) 0 0 0 0 unwritten unwritten_new stalls stalls_new
-    → IsReplayFault f said rest failures failures_new given given_new unwritten unwritten_new stalls stalls_new
-fault_of_input fault.Read said text rest failures failures_new given given_new unwritten unwritten_new stalls stalls_new is h = absurd (grind (arith, h))
-fault_of_input fault.TooLarge said text rest failures failures_new given given_new unwritten unwritten_new stalls stalls_new is h = absurd (grind (arith, h.given))
-fault_of_input (fault.Capture c) said text None failures failures_new given given_new unwritten unwritten_new stalls stalls_new is h = tt
-fault_of_input (fault.Capture c) said text (Some bytes) failures failures_new given given_new unwritten unwritten_new stalls stalls_new is h =
-    subst (λ (z : List ℕ). (length z ≤ input_limit) × (said z ≡ Err c)) is h
-fault_of_input fault.Write said text None failures failures_new given given_new unwritten unwritten_new stalls stalls_new is h = (tt, h.1)
-fault_of_input fault.Write said text (Some bytes) failures failures_new given given_new unwritten unwritten_new stalls stalls_new is h =
-    (subst (λ (z : List ℕ). (length z ≤ input_limit) × IsOk (said z)) is h.0, h.1)
-fault_of_input fault.NoMemory said text rest failures failures_new given given_new unwritten unwritten_new stalls stalls_new is h = tt
+    → IfSome rest (λ bytes. text ≡ bytes) → IsReplayFault f parsed (Some text) 0 0 0 0 unwritten unwritten_new stalls stalls_new
+    → IsReplayFault f parsed rest failures failures_new given given_new unwritten unwritten_new stalls stalls_new
+fault_of_input fault.Read parsed text rest failures failures_new given given_new unwritten unwritten_new stalls stalls_new is h = absurd (grind (arith, h))
+fault_of_input fault.TooLarge parsed text rest failures failures_new given given_new unwritten unwritten_new stalls stalls_new is h = absurd (grind (arith, h.given))
+fault_of_input (fault.Capture c) parsed text None failures failures_new given given_new unwritten unwritten_new stalls stalls_new is h = tt
+fault_of_input (fault.Capture c) parsed text (Some bytes) failures failures_new given given_new unwritten unwritten_new stalls stalls_new is h =
+    subst (λ (z : List ℕ). (length z ≤ input_limit) × (parsed z ≡ Err c)) is h
+fault_of_input fault.Write parsed text None failures failures_new given given_new unwritten unwritten_new stalls stalls_new is h = (tt, h.1)
+fault_of_input fault.Write parsed text (Some bytes) failures failures_new given given_new unwritten unwritten_new stalls stalls_new is h =
+    (subst (λ (z : List ℕ). (length z ≤ input_limit) × IsOk (parsed z)) is h.0, h.1)
+fault_of_input fault.NoMemory parsed text rest failures failures_new given given_new unwritten unwritten_new stalls stalls_new is h = tt

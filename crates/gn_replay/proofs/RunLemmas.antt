@@ -2,8 +2,8 @@
 use Rattle.std.proofs.Common.{◌≡◌, ◌<◌, ◌+◌, ◌++◌, ℕ, suc, List, [], ◌∷◌, length, get_or, drop, Option, Result, Ok, Err, OnErr, refl, sym, ap, ◌∙◌, subst, add-one, append-nil}
 use Rattle.std.proofs.Math.Seq.{drop-cons}
 use Rattle.std.specs.Io.KnownBytes.{Appends}
-use Rattle.gn_io.specs.Parts.{Owes, AppendsPart, WaitsPart}
-use Rattle.gn_io.proofs.StreamLemmas.{owes_all, owes_rest, owes_text, owes_waits, rest_cut, rest_part, waits_text}
+use Rattle.gn_io.specs.Parts.{LeavesToWrite, AppendsPart, WaitsPart}
+use Rattle.gn_io.proofs.StreamLemmas.{leaves_all, leaves_rest, leaves_text, leaves_waits, rest_cut, rest_part, waits_text}
 use Rattle.gn_rules.specs.declared.config.Config.{Config}
 use Rattle.gn_rules.specs.declared.receipt.Step.{Step}
 use Rattle.gn_capture.specs.declared.line.Line.{Line}
@@ -29,7 +29,7 @@ from_clear before cleared after line clear played =
 -- it was played, and of what waited and what it printed all was written but what waits
 pub written : {A : Type 0} (before cleared after : Playing A) (old new : Option (List ℕ)) (waited held waiting : List ℕ) (line : Line A) (bytes : List ℕ) → cleared ≡ record before { out = [] }
     → ((states : List LinkState) → AreLinks cleared.links states → HasPlayed cleared after (plays cleared.settings cleared.past states line))
-    → bytes ≡ after.out → held ≡ waited ++ bytes → Owes old new waiting held
+    → bytes ≡ after.out → held ≡ waited ++ bytes → LeavesToWrite old new waiting held
     → (states : List LinkState) → AreLinks before.links states → HasWritten before after old new waited waiting (plays before.settings before.past states line)
 written before cleared after old new waited held waiting line bytes clear play is added owed states are =
     let played = from_clear before cleared after line clear play states are in
@@ -38,10 +38,10 @@ written before cleared after old new waited held waiting line bytes clear play i
       past = ap (λ (v : Playing _). v.past) played.played;
       refusals = ap (λ (v : Playing _). v.refusals) played.played;
       links = played.links;
-      text = subst (λ (text : List ℕ). Owes old new waiting text) (added ∙ ap (λ (text : List ℕ). waited ++ text) (is ∙ ap (λ (v : Playing _). v.out) played.played)) owed;
+      text = subst (λ (text : List ℕ). LeavesToWrite old new waiting text) (added ∙ ap (λ (text : List ℕ). waited ++ text) (is ∙ ap (λ (v : Playing _). v.out) played.played)) owed;
     }
 
--- only a front of it was written, and nothing waits any more
+-- only a prefix of it was written, and nothing waits any more
 pub part_written : {A : Type 0} (before cleared after : Playing A) (old new : Option (List ℕ)) (waited held waiting : List ℕ) (line : Line A) (bytes : List ℕ) → cleared ≡ record before { out = [] }
     → ((states : List LinkState) → AreLinks cleared.links states → HasPlayed cleared after (plays cleared.settings cleared.past states line))
     → bytes ≡ after.out → held ≡ waited ++ bytes → waiting ≡ [] → AppendsPart old new held
@@ -52,11 +52,11 @@ part_written before cleared after old new waited held waiting line bytes clear p
 
 -- nothing was written yet, and what waited still waits
 pub still_waits : (told : Option (List ℕ)) (waited waiting text : List ℕ) → waiting ≡ waited → WaitsPart told told waiting (waited ++ text)
-still_waits told waited waiting text same = rw same (text, owes_all told (waited ++ text))
+still_waits told waited waiting text same = rw same (text, leaves_all told (waited ++ text))
 
 -- nothing was written yet
 pub none_written : (told : Option (List ℕ)) (text : List ℕ) → AppendsPart told told text
-none_written told text = (text, owes_all told text)
+none_written told text = (text, leaves_all told text)
 
 -- a loop over all lines, where those of `left` are still to come
 pub record IsRunning {A : Type 0} (s : Config) (now : Playing A) (first last : Option (List ℕ)) (waiting : List ℕ) (left all : List (ℕ × Line A)) : Type 0 where
@@ -65,7 +65,7 @@ pub record IsRunning {A : Type 0} (s : Config) (now : Playing A) (first last : O
   pub settings : now.settings ≡ s
   pub past : (play_lines s now.past states left).past ≡ (capture_plays s all).past
   pub refusals : refused_more (play_lines s now.past states left).refusals now.refusals ≡ refused_more (capture_plays s all).refusals 0
-  pub owed : Owes first last (waiting ++ (play_lines s now.past states left).text) (capture_plays s all).text
+  pub owed : LeavesToWrite first last (waiting ++ (play_lines s now.past states left).text) (capture_plays s all).text
 
 -- the next line is the first of those that are left
 pub next_of : {X : Type 0} (xs : List X) (i : ℕ) (x : X) → i < length xs → x ≡ get_or xs i x → drop i xs ≡ x ∷ drop (i + 1) xs
@@ -79,7 +79,7 @@ running_start v told waiting all new empty = record {
   settings = refl;
   past = rw new.past refl;
   refusals = rw (new.past, new.refusals) refl;
-  owed = rw (new.past, empty) (owes_all told (capture_plays v.settings all).text);
+  owed = rw (new.past, empty) (leaves_all told (capture_plays v.settings all).text);
 }
 
 -- what a line did, by the configuration of the loop
@@ -108,15 +108,15 @@ running_more {A} s now after first mid last waited waiting n line left all r wro
           ap (λ (p : Played A). refused_more p.refusals after.refusals) same ∙ ap (λ (n : ℕ). refused_more later.refusals n) done.refusals
           ∙ refused_both here.played.refusals later.refusals now.refusals ∙ r.refusals;
       owed =
-          subst (λ (p : Played A). Owes first last (waiting ++ p.text) (capture_plays s all).text) (sym same)
-          (owes_text first mid last waited here.played.text later.text waiting (capture_plays s all).text r.owed done.text);
+          subst (λ (p : Played A). LeavesToWrite first last (waiting ++ p.text) (capture_plays s all).text) (sym same)
+          (leaves_text first mid last waited here.played.text later.text waiting (capture_plays s all).text r.owed done.text);
     }
 
 -- none is left
 pub running_all : {A : Type 0} (s : Config) (now : Playing A) (first last : Option (List ℕ)) (waiting : List ℕ) (all : List (ℕ × Line A)) → IsRunning s now first last waiting [] all
     → HasPassed (capture_plays s all) now.past now.refusals first last waiting
 running_all s now first last waiting all r =
-    record { past = r.past; refusals = r.refusals; owed = subst (λ (xs : List ℕ). Owes first last xs (capture_plays s all).text) (append-nil waiting) r.owed }
+    record { past = r.past; refusals = r.refusals; owed = subst (λ (xs : List ℕ). LeavesToWrite first last xs (capture_plays s all).text) (append-nil waiting) r.owed }
 
 -- the next line wasn't played, or not all of its text was taken
 pub running_part : {A : Type 0} (s : Config) (now : Playing A) (first mid last : Option (List ℕ)) (waited waiting : List ℕ) (n : ℕ) (line : Line A) (left all : List (ℕ × Line A))
@@ -133,13 +133,13 @@ running_part {A} s now first mid last waited waiting n line left all r part =
 pub run_written : {A : Type 0} (played : Played A) (steps : List (Step A)) (count : ℕ) (first mid last : Option (List ℕ)) (waiting : List ℕ) → HasPassed played steps count first mid waiting → Appends mid last waiting
     → HasRun played steps count first last
 run_written played steps count first mid last waiting p rest =
-    record { past = p.past; refusals = p.refusals; text = owes_rest first mid last waiting played.text p.owed rest }
+    record { past = p.past; refusals = p.refusals; text = leaves_rest first mid last waiting played.text p.owed rest }
 
--- only a front of it was
+-- only a prefix of it was
 pub run_cut : {A : Type 0} (played : Played A) (steps : List (Step A)) (count : ℕ) (first mid last : Option (List ℕ)) (waiting : List ℕ) → HasPassed played steps count first mid waiting → AppendsPart mid last waiting
     → AppendsPart first last played.text
 run_cut played steps count first mid last waiting p rest =
-    rest_cut first mid last waiting played.text (owes_waits first mid waiting played.text p.owed) rest
+    rest_cut first mid last waiting played.text (leaves_waits first mid waiting played.text p.owed) rest
 
 -- nothing of it was
 pub run_left : (first last : Option (List ℕ)) (waiting all : List ℕ) → WaitsPart first last waiting all → AppendsPart first last all

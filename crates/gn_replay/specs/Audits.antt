@@ -21,7 +21,7 @@ verdict_text (WrongAt i) steps = codes "wrong " ++ decimal i ++ codes "\n"
 pub record IsAudited (A : Type 0) (text : List ℕ) (legality : Legality) (line : List ℕ) : Type 0 where
   pub settings : Config
   pub steps : List (Step A)
-  pub said : history_of text ≡ Ok (settings_of settings, steps)
+  pub parsed : history_of text ≡ Ok (settings_of settings, steps)
   pub tells : Tells settings steps legality
   pub printed : line ≡ verdict_text legality (length steps)
 
@@ -29,11 +29,11 @@ pub record IsAudited (A : Type 0) (text : List ℕ) (legality : Legality) (line 
 abbrev pub AppendsVerdict : (A : Type 0) → List ℕ → Legality → Option (List ℕ) → Option (List ℕ) → Type 0
 AppendsVerdict A text legality old new = (line : List ℕ) × IsAudited A text legality line × Appends old new line
 
--- known bytes grew by a front of the line that tells of the history that a text says
+-- known bytes grew by a prefix of the line that tells of the history that a text says
 abbrev pub AppendsVerdictPart : (A : Type 0) → List ℕ → Option (List ℕ) → Option (List ℕ) → Type 0
 AppendsVerdictPart A text old new = (legality : Legality) × (line : List ℕ) × IsAudited A text legality line × AppendsPart old new line
 
--- what was written where an audit stopped: a front of the line at Write, where a write failed or took nothing; at any other
+-- what was written where an audit stopped: a prefix of the line at Write, where a write failed or took nothing; at any other
 -- fault nothing
 abbrev pub HasStopped : (A : Type 0) → ReplayFault → Option (List ℕ) → Option (List ℕ) → Option (List ℕ) → Type 0
 HasStopped A Write rest old new = IfSome rest (λ text. AppendsVerdictPart A text old new)

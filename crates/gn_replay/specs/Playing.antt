@@ -31,12 +31,12 @@ shows v event answer = record v { out = v.out ++ answer_text event answer; refus
 
 -- the replay after something was played: its steps stand then, its text is behind what was printed, its refusals are counted;
 -- the links are as they were
-abbrev pub led : {A : Type 0} → Playing A → Played A → Playing A
-led v p = record v { past = p.past; out = v.out ++ p.text; refusals = refused_more p.refusals v.refusals }
+abbrev pub after_playing : {A : Type 0} → Playing A → Played A → Playing A
+after_playing v p = record v { past = p.past; out = v.out ++ p.text; refusals = refused_more p.refusals v.refusals }
 
 -- descriptors were admitted, and the connection was found closed or not
 pub record HasAdmitted {A : Type 0} (closed : Bool) (before after : Playing A) (came : Admits A) : Type 0 where
-  pub played : after ≡ led before came.played
+  pub played : after ≡ after_playing before came.played
   pub told : closed ≡ came.closed
 
 -- the replay with these links
@@ -45,10 +45,10 @@ with_links v links = record v { links = links }
 
 -- something was played, and what is kept of the link is what its bytes so far leave of it
 pub record HasLinked {A : Type 0} (link : Link A) (before after : Playing A) (linked : Linked A) : Type 0 where
-  pub played : after ≡ led before linked.played
+  pub played : after ≡ after_playing before linked.played
   pub state : IsLink link linked.state
 
 -- a line was played, and what is kept of each link is what its bytes so far leave of it
 pub record HasPlayed {A : Type 0} (before after : Playing A) (done : After A) : Type 0 where
-  pub played : after ≡ with_links (led before done.played) after.links
+  pub played : after ≡ with_links (after_playing before done.played) after.links
   pub links : AreLinks after.links done.links

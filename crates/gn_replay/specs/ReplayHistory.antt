@@ -4,7 +4,7 @@ use Rattle.std.specs.Io.KnownBytes.{Appends, Keeps}
 use Rattle.gn_rules.specs.declared.config.Config.{Config}
 use Rattle.gn_text.specs.declared.fault.CaptureFault.{CaptureFault}
 use Rattle.gn_text.specs.Settings.{settings_of}
-use Rattle.gn_capture.specs.Captures.{Said, capture_of}
+use Rattle.gn_capture.specs.Captures.{Parsed, capture_of}
 use Rattle.gn_capture.specs.Histories.{history_text}
 use Rattle.gn_io.specs.Parts.{AppendsPart}
 use Rattle.gn_replay.specs.declared.fault.ReplayFault.{ReplayFault}
@@ -13,10 +13,10 @@ use Rattle.gn_replay.specs.ReplayText.{capture_plays}
 
 -- the history text of what was read of an input: none where that is no capture, else the configuration that it tells, and
 -- the steps that its lines make, the oldest first
-abbrev pub IsHistoryOf : (A : Type 0) → Result (Said A) CaptureFault → List ℕ → Type 0
+abbrev pub IsHistoryOf : (A : Type 0) → Result (Parsed A) CaptureFault → List ℕ → Type 0
 IsHistoryOf A (Err fault) text = text ≡ []
-IsHistoryOf A (Ok said) text =
-    (s : Config) × (settings_of s ≡ (said.numbers, said.own)) × (text ≡ history_text s (reverse (capture_plays s said.lines).past))
+IsHistoryOf A (Ok parsed) text =
+    (s : Config) × (settings_of s ≡ (parsed.numbers, parsed.own)) × (text ≡ history_text s (reverse (capture_plays s parsed.lines).past))
 
 -- the history text of an input
 abbrev pub IsHistoryText : (A : Type 0) → List ℕ → List ℕ → Type 0

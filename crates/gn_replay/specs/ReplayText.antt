@@ -10,7 +10,7 @@ use Rattle.gn_text.specs.declared.fault.CaptureFault.{CaptureFault}
 use Rattle.gn_text.specs.Settings.{settings_of}
 use Rattle.gn_capture.specs.declared.line.Line.{Line}
 use Rattle.gn_capture.specs.declared.line.Line.TheVariants as line
-use Rattle.gn_capture.specs.Captures.{Said, capture_of}
+use Rattle.gn_capture.specs.Captures.{Parsed, capture_of}
 use Rattle.gn_replay.specs.Events.{Played, nothing, prints, followed, happens}
 use Rattle.gn_replay.specs.Links.{LinkState, ended}
 use Rattle.gn_replay.specs.Pieces.{Linked, awaits, joins, takes_piece}
@@ -69,10 +69,10 @@ capture_plays s lines = play_lines s [] [] lines
 
 -- what replay does with what was read of its input: nothing where that is no capture, else what its lines do on a router of
 -- the configuration that it tells
-abbrev pub IsReplayOf : (A : Type 0) → Result (Said A) CaptureFault → Played A → Type 0
+abbrev pub IsReplayOf : (A : Type 0) → Result (Parsed A) CaptureFault → Played A → Type 0
 IsReplayOf A (Err fault) played = played ≡ nothing []
-IsReplayOf A (Ok said) played =
-    (s : Config) × (settings_of s ≡ (said.numbers, said.own)) × (played ≡ capture_plays s said.lines)
+IsReplayOf A (Ok parsed) played =
+    (s : Config) × (settings_of s ≡ (parsed.numbers, parsed.own)) × (played ≡ capture_plays s parsed.lines)
 
 -- what replay does with an input
 abbrev pub IsReplay : (A : Type 0) → List ℕ → Played A → Type 0

@@ -14,7 +14,7 @@ use Rattle.gn_replay.specs.ReplayText.{IsReplay, IsReplayText}
 abbrev pub AppendsReplay : (A : Type 0) → List ℕ → Option (List ℕ) → Option (List ℕ) → Type 0
 AppendsReplay A input old new = (text : List ℕ) × IsReplayText A input text × Appends old new text
 
--- known bytes grew by a front of the replay text of the input
+-- known bytes grew by a prefix of the replay text of the input
 abbrev pub AppendsReplayPart : (A : Type 0) → List ℕ → Option (List ℕ) → Option (List ℕ) → Type 0
 AppendsReplayPart A input old new = (text : List ℕ) × IsReplayText A input text × AppendsPart old new text
 
@@ -24,7 +24,7 @@ IsCounted A input exit =
     (played : Played A) × IsReplay A input played × (exit.steps ≡ length played.past)
     × (exit.refusals ≡ refused_more played.refusals 0)
 
--- what was written where a replay stopped: at Write a front of the replay text, at NoMemory nothing or that of an input within
+-- what was written where a replay stopped: at Write a prefix of the replay text, at NoMemory nothing or that of an input within
 -- the limit, at any other fault nothing
 abbrev pub HasStopped : (A : Type 0) → ReplayFault → Option (List ℕ) → Option (List ℕ) → Option (List ℕ) → Type 0
 HasStopped A Write rest old new = IfSome rest (λ input. AppendsReplayPart A input old new)

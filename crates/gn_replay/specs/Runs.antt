@@ -4,7 +4,7 @@ use Rattle.std.specs.Io.KnownBytes.{Appends}
 use Rattle.gn_replay.specs.declared.fault.ReplayFault.{ReplayFault}
 use Rattle.gn_replay.specs.declared.fault.ReplayFault.TheVariants as replay
 use Rattle.gn_io.specs.Counts.{Rises}
-use Rattle.gn_io.specs.Parts.{Owes}
+use Rattle.gn_io.specs.Parts.{LeavesToWrite}
 use Rattle.gn_rules.specs.declared.receipt.Step.{Step}
 use Rattle.gn_replay.specs.declared.play_fault.PlayFault.{PlayFault}
 use Rattle.gn_replay.specs.declared.play_fault.PlayFault.TheVariants.{Write, NoMemory}
@@ -23,7 +23,7 @@ pub record HasRun {A : Type 0} (played : Played A) (steps : List (Step A)) (coun
 pub record HasPassed {A : Type 0} (played : Played A) (steps : List (Step A)) (count : ℕ) (old new : Option (List ℕ)) (waiting : List ℕ) : Type 0 where
   pub past : steps ≡ played.past
   pub refusals : count ≡ refused_more played.refusals 0
-  pub owed : Owes old new waiting played.text
+  pub owed : LeavesToWrite old new waiting played.text
 
 -- a replay that has nothing yet
 pub record IsNew {A : Type 0} (v : Playing A) : Type 0 where
@@ -37,7 +37,7 @@ pub record HasWritten {A : Type 0} (before after : Playing A) (old new : Option 
   pub past : after.past ≡ done.played.past
   pub refusals : after.refusals ≡ refused_more done.played.refusals before.refusals
   pub links : AreLinks after.links done.links
-  pub text : Owes old new waiting (waited ++ done.played.text)
+  pub text : LeavesToWrite old new waiting (waited ++ done.played.text)
 
 -- when playing stops: Write where a write failed or took nothing, as the sink counts them; memory may run out at any time,
 -- and then no write did

@@ -21,7 +21,7 @@ pub fn audit<A: Allocator + Copy, C: RouterCore<A> + Drop, S: Source, W: Sink>(
     sink: &mut W,
 ) -> Result<Legality, ReplayFault>
     ensures short { OnOk result (IfSome (S.rest source.old) (λ text. length text ≤ input_limit)) }
-    ensures lawful { OnOk result (IfSome (S.rest source.old) (λ text. IsOk (history_of {A = A} text))) }
+    ensures valid { OnOk result (IfSome (S.rest source.old) (λ text. IsOk (history_of {A = A} text))) }
     ensures told { IfOk result (λ legality. IfSome (S.rest source.old) (λ text.
         AppendsVerdict A text legality (W.told sink.old) (W.told sink.new))) }
     ensures reads { OnOk result (S.failures source.new ≡ S.failures source.old) }

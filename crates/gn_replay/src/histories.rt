@@ -22,7 +22,7 @@ fn history_text<A: Allocator + Copy, C: RouterCore<A> + Drop>(
     alloc: A,
     text: &[u8],
 ) -> Result<(Exit, Vec<u8, A>), CaptureRefusal>
-    ensures lawful { IfOk result (λ _. IsOk (capture_of {A = A} text.now)) }
+    ensures valid { IfOk result (λ _. IsOk (capture_of {A = A} text.now)) }
     ensures history { IfOk result (λ replayed. IsHistoryText A text.now replayed.1.items) }
     ensures counted { IfOk result (λ replayed. IsCounted A text.now replayed.0) }
     ensures refused { IfErr result (λ refusal. IsRefused refusal (capture_of {A = A} text.now)) }
@@ -49,7 +49,7 @@ pub fn replay_history<A: Allocator + Copy, C: RouterCore<A> + Drop, S: Source, W
     sink: &mut W,
 ) -> Result<Exit, ReplayFault>
     ensures short { OnOk result (IfSome (S.rest source.old) (λ text. length text ≤ input_limit)) }
-    ensures lawful { OnOk result (IfSome (S.rest source.old) (λ text. IsOk (capture_of {A = A} text))) }
+    ensures valid { OnOk result (IfSome (S.rest source.old) (λ text. IsOk (capture_of {A = A} text))) }
     ensures written { OnOk result (IfSome (S.rest source.old) (λ text. AppendsHistory A text (W.told sink.old) (W.told sink.new))) }
     ensures counted { IfOk result (λ exit. IfSome (S.rest source.old) (λ text. IsCounted A text exit)) }
     ensures reads { OnOk result (S.failures source.new ≡ S.failures source.old) }

@@ -8,7 +8,7 @@ ghost use Rattle.gn_rules.specs.Legality.{Tells};
 use gn_rules::{Legality, Refusal, RouterCore, Step, is_same_reply};
 use std::alloc::{AllocError, Allocator};
 
-/// Whether a router gives a step's reply to its event: then it has made the very step. An `Err` is want of memory.
+/// Whether a router gives a step's reply to its event: then it has made the very step. An `Err` is out of memory.
 fn repeats<A: Allocator + Copy, C: RouterCore<A>>(
     core: &mut C,
     step: &Step<A>,
@@ -25,7 +25,7 @@ fn repeats<A: Allocator + Copy, C: RouterCore<A>>(
     }
 }
 
-/// What a new router tells of steps, by answering their events itself. An `Err` is want of memory.
+/// What a new router tells of steps, by answering their events itself. An `Err` is out of memory.
 pub(crate) fn judge<A: Allocator + Copy, C: RouterCore<A>>(
     core: &mut C,
     steps: &[Step<A>],

@@ -8,7 +8,7 @@ ghost use Rattle.gn_text.specs.Statistics.{stats_text};
 ghost use Rattle.gn_replay.specs.Events.{prints};
 ghost use Rattle.gn_replay.specs.Links.{AreLinks, LinkState};
 ghost use Rattle.gn_replay.specs.Pieces.{awaits, joins};
-ghost use Rattle.gn_replay.specs.Playing.{HasPlayed, led, with_links};
+ghost use Rattle.gn_replay.specs.Playing.{HasPlayed, after_playing, with_links};
 ghost use Rattle.gn_replay.specs.ReplayText.{link_added, piece_plays, plays};
 
 use crate::link::Link;
@@ -98,7 +98,7 @@ impl<A: Allocator + Copy, C: RouterCore<A>> Play<A, C> {
 
     /// Prints the counters.
     fn print_counters(&mut self) -> Result<(), AllocError>
-        ensures { OnOk result (self.new ≡ led self.old (prints self.old.past (stats_text (stats_of self.old.past)))) }
+        ensures { OnOk result (self.new ≡ after_playing self.old (prints self.old.past (stats_text (stats_of self.old.past)))) }
     {
         push_stats(self.alloc, &mut self.out, &self.core.stats())
     }

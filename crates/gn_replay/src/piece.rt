@@ -8,7 +8,7 @@ ghost use Rattle.gn_text.specs.Links.{ended_text};
 ghost use Rattle.gn_replay.specs.Events.{prints};
 ghost use Rattle.gn_replay.specs.Links.{IsLink, LinkState, greeting, joined};
 ghost use Rattle.gn_replay.specs.Pieces.{admits, connects, delivers, delivers_these, fault_plays, greets, joins, takes_piece};
-ghost use Rattle.gn_replay.specs.Playing.{HasAdmitted, HasLinked, led};
+ghost use Rattle.gn_replay.specs.Playing.{HasAdmitted, HasLinked, after_playing};
 
 use crate::link::Link;
 use crate::playing::Play;
@@ -35,7 +35,7 @@ impl<A: Allocator + Copy, C: RouterCore<A>> Play<A, C> {
 
     /// Ends a link that can't have what it was given: prints the fault, and closes the connection.
     fn end_by(&mut self, i: u32, connection: ConnId, fault: FrameFault) -> Result<(), AllocError>
-        ensures { OnOk result (self.new ≡ led self.old (fault_plays self.old.settings self.old.past i connection fault)) }
+        ensures { OnOk result (self.new ≡ after_playing self.old (fault_plays self.old.settings self.old.past i connection fault)) }
     {
         push_frame_fault(self.alloc, &mut self.out, i, fault)?;
         self.happen(&Event::Close(connection))?;
@@ -130,7 +130,7 @@ impl<A: Allocator + Copy, C: RouterCore<A>> Play<A, C> {
 
     /// Prints that a link has ended.
     pub(crate) fn print_ended(&mut self, i: u32) -> Result<(), AllocError>
-        ensures { OnOk result (self.new ≡ led self.old (prints self.old.past (ended_text i))) }
+        ensures { OnOk result (self.new ≡ after_playing self.old (prints self.old.past (ended_text i))) }
     {
         push_ended(self.alloc, &mut self.out, i)
     }

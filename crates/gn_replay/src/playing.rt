@@ -4,7 +4,7 @@ ghost use Rattle.std.specs.Prelude.{◌≡◌, IfOk, OnOk};
 ghost use Rattle.gn_rules.specs.Answer.{answer, reply_of};
 ghost use Rattle.gn_replay.specs.Events.{happens, past_then};
 ghost use Rattle.gn_replay.specs.Outcomes.{IsOutcome};
-ghost use Rattle.gn_replay.specs.Playing.{led, shows};
+ghost use Rattle.gn_replay.specs.Playing.{after_playing, shows};
 
 use crate::link::Link;
 use crate::outcome::{Outcome, outcome_of};
@@ -39,7 +39,7 @@ impl<A: Allocator + Copy, C: RouterCore<A>> Model for Play<A, C> {
 }
 
 impl<A: Allocator + Copy, C: RouterCore<A>> Play<A, C> {
-    /// The router's answer to an event. An `Err` is want of memory.
+    /// The router's answer to an event. An `Err` is out of memory.
     #[tactic(auto, using(crate::proofs::EventLemmas::found, crate::proofs::EventLemmas::past_push))]
     fn ask(&mut self, event: &Event<A>) -> Result<Result<Receipt<A>, Refusal>, AllocError>
         ensures answer { IfOk result (λ a. answer self.old.settings self.old.past event.now ≡ reply_of a) }
@@ -72,7 +72,7 @@ impl<A: Allocator + Copy, C: RouterCore<A>> Play<A, C> {
     /// Lets an event happen, and prints its answer.
     pub(crate) fn happen(&mut self, event: &Event<A>) -> Result<Outcome, AllocError>
         ensures outcome { IfOk result (λ o. IsOutcome o (answer self.old.settings self.old.past event.now)) }
-        ensures after { OnOk result (self.new ≡ led self.old (happens self.old.settings self.old.past event.now)) }
+        ensures after { OnOk result (self.new ≡ after_playing self.old (happens self.old.settings self.old.past event.now)) }
     {
         let answer = self.ask(event)?;
         self.print(event, &answer)?;
@@ -81,7 +81,7 @@ impl<A: Allocator + Copy, C: RouterCore<A>> Play<A, C> {
 
     /// Lets an event of a line happen.
     pub(crate) fn play_event(&mut self, event: &Event<A>) -> Result<(), AllocError>
-        ensures { OnOk result (self.new ≡ led self.old (happens self.old.settings self.old.past event.now)) }
+        ensures { OnOk result (self.new ≡ after_playing self.old (happens self.old.settings self.old.past event.now)) }
     {
         self.happen(event)?;
         Ok(())

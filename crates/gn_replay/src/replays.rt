@@ -41,7 +41,7 @@ fn replay_text<A: Allocator + Copy, C: RouterCore<A> + Drop, W: Sink>(
     sink: &mut W,
 ) -> Result<Exit, ReplayFault>
     requires { length text.now ≤ input_limit }
-    ensures lawful { OnOk result (IsOk (capture_of {A = A} text.now)) }
+    ensures valid { OnOk result (IsOk (capture_of {A = A} text.now)) }
     ensures written { OnOk result (AppendsReplay A text.now (W.told sink.old) (W.told sink.new)) }
     ensures counted { IfOk result (λ exit. IsCounted A text.now exit) }
     ensures failures { OnOk result (W.failures sink.new ≡ W.failures sink.old) }
@@ -64,7 +64,7 @@ pub fn replay<A: Allocator + Copy, C: RouterCore<A> + Drop, S: Source, W: Sink>(
     sink: &mut W,
 ) -> Result<Exit, ReplayFault>
     ensures short { OnOk result (IfSome (S.rest source.old) (λ text. length text ≤ input_limit)) }
-    ensures lawful { OnOk result (IfSome (S.rest source.old) (λ text. IsOk (capture_of {A = A} text))) }
+    ensures valid { OnOk result (IfSome (S.rest source.old) (λ text. IsOk (capture_of {A = A} text))) }
     ensures written { OnOk result (IfSome (S.rest source.old) (λ text. AppendsReplay A text (W.told sink.old) (W.told sink.new))) }
     ensures counted { IfOk result (λ exit. IfSome (S.rest source.old) (λ text. IsCounted A text exit)) }
     ensures reads { OnOk result (S.failures source.new ≡ S.failures source.old) }

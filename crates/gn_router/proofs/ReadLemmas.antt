@@ -100,7 +100,7 @@ take_nil zero = refl
 take_nil (suc n) = refl
 
 -- the tables of no steps
-pub made : {A : Type 0} (s : Config) (t : Tables A) → t.seen ≡ record { sights = []; most = s.seen } → t.servents ≡ record { routes = []; most = s.servents }
+pub made : {A : Type 0} (s : Config) (t : Tables A) → t.seen ≡ record { seen_entries = []; most = s.seen } → t.servents ≡ record { routes = []; most = s.servents }
     → t.neighbours ≡ record { rows = []; most = s.neighbours; room = s.out } → t.flights ≡ record { flights = map.empty; most = s.stage }
     → t.connected ≡ 0 → t.admitted ≡ 0 → t.stats ≡ no_stats → IsTabled s [] t
 made s t seen servents neighbours flights connected admitted stats = record {
@@ -126,7 +126,7 @@ made s t seen servents neighbours flights connected admitted stats = record {
     many = ap (λ (f : Flying _). map.len f.flights) flights ∙ map.len-empty nat_cmp _;
     most = ap (λ (f : Flying _). f.most) flights;
   };
-  seen_is = seen ∙ ap (λ (xs : List _). record { sights = xs; most = s.seen }) (take_nil s.seen);
+  seen_is = seen ∙ ap (λ (xs : List _). record { seen_entries = xs; most = s.seen }) (take_nil s.seen);
   servents_are = servents ∙ ap (λ (xs : List _). record { routes = xs; most = s.servents }) (take_nil s.servents);
   neighbours_are = neighbours;
   stats_are = stats;

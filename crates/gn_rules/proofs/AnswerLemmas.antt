@@ -15,7 +15,7 @@ use Rattle.gn_rules.specs.Flight.{Admission, in_flight, is_at_threshold, tickets
 use Rattle.gn_rules.specs.Live.{live, connections, live_connections}
 use Rattle.gn_rules.specs.Output.{out}
 use Rattle.gn_rules.specs.Sending.{fanout}
-use Rattle.gn_rules.specs.Sights.{is_remembered}
+use Rattle.gn_rules.specs.SeenEntries.{is_remembered}
 
 -- a reply that took the first packet
 pub record TookFirst {A : Type 0} (packets : List Packet) (reply : Reply A) : Type 0 where

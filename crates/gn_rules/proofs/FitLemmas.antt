@@ -19,7 +19,7 @@ use Rattle.gn_rules.specs.Flight.{Admission, in_flight, is_at_threshold, tickets
 use Rattle.gn_rules.specs.Live.{live, connections, live_connections}
 use Rattle.gn_rules.specs.Output.{out}
 use Rattle.gn_rules.specs.Sending.{fanout}
-use Rattle.gn_rules.specs.Sights.{is_remembered}
+use Rattle.gn_rules.specs.SeenEntries.{is_remembered}
 
 -- one of two answers that fit
 either_fits : {A : Type 0} (event : Event A) (b : Bool) (x y : Result (Reply A) Refusal) → is_fit event x ≡ true → is_fit event y ≡ true → is_fit event (cond b x y) ≡ true

@@ -12,7 +12,7 @@ use Rattle.gn_rules.specs.Output.{queued_to}
 use Rattle.gn_rules.specs.Sending.{send, fanout}
 use Rattle.gn_rules.proofs.StepLemmas.{map_map, below_is_other}
 
--- a fanout goes to the live connections but one
+-- a fanout goes to the live connections except one
 pub fanout_to : {A : Type 0} (s : Config) (past : List (Step A)) (c : ℕ) (p : Packet) → map (λ x. x.to) (fanout s past c p) ≡ filter (λ d. not (d == c)) (live_connections past)
 fanout_to s past c p = map_map (send s past p) (λ x. x.to) (filter (λ d. not (d == c)) (live_connections past)) ∙ map-id (filter (λ d. not (d == c)) (live_connections past))
 

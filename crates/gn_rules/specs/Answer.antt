@@ -22,7 +22,7 @@ use Rattle.gn_rules.specs.Flight.{Admission, tickets, in_flight, is_at_threshold
 use Rattle.gn_rules.specs.Live.{live, connections, live_connections}
 use Rattle.gn_rules.specs.Output.{out}
 use Rattle.gn_rules.specs.Sending.{send, fanout, flood_sends}
-use Rattle.gn_rules.specs.Sights.{is_remembered}
+use Rattle.gn_rules.specs.SeenEntries.{is_remembered}
 
 -- Connect: too many where as many connections are live as may be, else the next number
 abbrev pub connect_answer : {A : Type 0} → Config → List (Step A) → Result (Reply A) Refusal
@@ -61,7 +61,7 @@ abbrev pub may_originate : Packet → Bool
 may_originate d = is_request d.kind && not (d.ttl == 0) && (d.hops == 0) && is_sound d
 
 -- Originate of d: refused where the local servent may not send it or its key is remembered, else unchanged to each live
--- connection, rising
+-- connection, ascending
 abbrev pub originate_answer : {A : Type 0} → Config → List (Step A) → Packet → Result (Reply A) Refusal
 originate_answer s past d =
     if not (may_originate d) then Err BadOrigin
@@ -115,7 +115,7 @@ checked_flight_answer s past d (Some a) = if is_same_packet d a.packet then Ok (
 abbrev pub checked_answer : {A : Type 0} → Config → List (Step A) → ℕ → Packet → Result (Reply A) Refusal
 checked_answer s past t d = with_room s past (checked_flight_answer s past d (in_flight past t))
 
--- what a router finds: just what the rules answer, or want of memory where they give a reply
+-- what a router finds: just what the rules answer, or out of memory where they give a reply
 abbrev pub Finds : {A : Type 0} → Result (Reply A) Refusal → Result (Reply A) Refusal → Type 0
 Finds (Err NoMemory) rules = IsOk rules
 Finds found rules = rules ≡ found

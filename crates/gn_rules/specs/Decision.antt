@@ -17,7 +17,7 @@ use Rattle.gn_rules.specs.declared.reply.DropReason.TheVariants as reason
 use Rattle.gn_rules.specs.Flight.{Admission}
 use Rattle.gn_rules.specs.Live.{live}
 use Rattle.gn_rules.specs.Servents.{servent_route}
-use Rattle.gn_rules.specs.Sights.{source, is_remembered}
+use Rattle.gn_rules.specs.SeenEntries.{source, is_remembered}
 
 -- the checks of a route to the connection r: it is live, it isn't where the descriptor came from, and the descriptor isn't
 -- expired
@@ -32,12 +32,12 @@ checks past a r =
 abbrev pub decide_request : {A : Type 0} → Config → List (Step A) → Admission → Decision
 decide_request s past a = if is_remembered s past (key_of a.packet) then Drop reason.Duplicate else Flood
 
--- a Pong or Query Hit goes the way that its request came; 0 is the local servent's own request
+-- a Pong or Query Hit goes by the route that its request came; 0 is the local servent's own request
 abbrev pub decide_reply : {A : Type 0} → List (Step A) → Admission → Option ℕ → Decision
 decide_reply past a None = Drop reason.NoRoute
 decide_reply past a (Some r) = if r == 0 then Local else checks past a r
 
--- a Push to another servent goes the way that the servent's last Query Hit came
+-- a Push to another servent goes by the route that the servent's last Query Hit came
 abbrev pub decide_push_to : {A : Type 0} → List (Step A) → Admission → Option ℕ → Decision
 decide_push_to past a None = Drop reason.NoRoute
 decide_push_to past a (Some r) = checks past a r

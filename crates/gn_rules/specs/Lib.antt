@@ -16,5 +16,5 @@ pub mod Sending
 pub mod ServentLaw
 pub mod Servents
 pub mod Settings
-pub mod Sights
+pub mod SeenEntries
 pub mod Statistics

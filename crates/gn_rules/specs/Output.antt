@@ -25,7 +25,7 @@ out (step ∷ earlier) c = untaken (is_take c step.event) (out earlier c) ++ que
 abbrev pub waiting : {A : Type 0} → List (Step A) → ℕ → ℕ
 waiting past c = if live past c then length (out past c) else 0
 
--- the live connections, rising, each with its output
+-- the live connections, ascending, each with its output
 abbrev pub rows : {A : Type 0} → List (Step A) → List (ℕ × List Packet)
 rows past = map (λ c. (c, out past c)) (live_connections past)
 

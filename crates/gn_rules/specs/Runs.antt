@@ -18,7 +18,7 @@ abbrev pub IsReceipt : {A : Type 0} → List (Step A) → Event A → Result (Re
 IsReceipt past event (Ok receipt) = (receipt.index ≡ length past) × (receipt.event ≡ event)
 IsReceipt past event (Err refusal) = Unit {0}
 
--- the result of an event is what the rules answer after these steps, or want of memory where they give a reply
+-- the result of an event is what the rules answer after these steps, or out of memory where they give a reply
 pub record IsAnswered {A : Type 0} (s : Config) (past : List (Step A)) (event : Event A) (result : Result (Receipt A) Refusal) : Type 0 where
   pub found : Finds (reply_of result) (answer s past event)
   pub told : IsReceipt past event result
@@ -30,7 +30,7 @@ Ran s past (event ∷ events) (result ∷ results) after =
     IsAnswered s past event result × Ran s (past_after past event result) events results after
 Ran s past events results after = ⊥
 
--- a result that isn't want of memory
+-- a result that isn't out of memory
 abbrev pub had_memory : {A : Type 0} → Result (Receipt A) Refusal → Bool
 had_memory (Err NoMemory) = false
 had_memory result = true

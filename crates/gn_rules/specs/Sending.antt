@@ -4,7 +4,7 @@ use Rattle.gn_wire.specs.declared.kind.Kind.{Kind}
 use Rattle.gn_wire.specs.declared.kind.Kind.TheVariants.{Ping, Pong}
 use Rattle.gn_wire.specs.Forward.{is_expired, forward_of}
 use Rattle.gn_wire.specs.Packet.{Packet}
-use Rattle.gn_payload.specs.Spelling.{pong_bytes}
+use Rattle.gn_payload.specs.Encoding.{pong_bytes}
 use Rattle.gn_rules.specs.declared.config.Config.{Config}
 use Rattle.gn_rules.specs.declared.config.Own.{Own}
 use Rattle.gn_rules.specs.declared.receipt.Step.{Step}
@@ -21,7 +21,7 @@ has_room s past c = nat_lt (length (out past c)) s.out
 abbrev pub send : {A : Type 0} → Config → List (Step A) → Packet → ℕ → Sending A
 send s past p c = record { to = c; packet = p; queued = has_room s past c }
 
--- a fan-out: a send of the packet to each live connection but c, in the order in which they were made, which is rising
+-- a fan-out: a send of the packet to each live connection but c, in the order in which they were made, which is ascending
 abbrev pub fanout : {A : Type 0} → Config → List (Step A) → ℕ → Packet → List (Sending A)
 fanout s past c p = map (send s past p) (filter (λ d. not (d == c)) (live_connections past))
 

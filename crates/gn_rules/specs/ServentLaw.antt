@@ -1,4 +1,4 @@
--- The law that the way to a servent is that of its last Query Hit.
+-- The law that the route to a servent is that of its last Query Hit.
 use Rattle.std.specs.Prelude.{◌≡◌, ◌+◌, ℕ, nat_lt, if◌then◌else◌, List, [], ◌∷◌, ◌++◌, None}
 use Rattle.std.specs.List.{list_any}
 use Rattle.std.specs.Map.{lookup}
@@ -28,7 +28,7 @@ servent_count (hit ∷ earlier) = servent_count earlier + (if list_any (λ other
 abbrev pub others : {A : Type 0} → List (Step A) → Guid → ℕ
 others past x = servent_count (hits_after x (hits past))
 
--- the way to x is the connection that admitted its last hit, where fewer others than are remembered have one after it
+-- the route to x is the connection that admitted its last hit, where fewer others than are remembered have one after it
 abbrev pub ServentRouteIsLast : Type 0 → Type 0
 ServentRouteIsLast A =
     (s : Config) (past : List (Step A)) (x : Guid)

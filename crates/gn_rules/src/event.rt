@@ -72,7 +72,7 @@ impl<A: Allocator> Event<A> {
         }
     }
 
-    /// An equal event. An `Err` is want of memory.
+    /// An equal event. An `Err` is out of memory.
     pub fn copy(&self) -> Result<Event<A>, AllocError>
         ensures { IfOk result (λ e. e ≡ self.now) }
     {

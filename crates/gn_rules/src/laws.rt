@@ -16,7 +16,7 @@ pub fn live_connections_rise<A: Allocator>()
     ensures { LiveConnectionsRise A }
 {}
 
-/// The law that the way to a servent is that of its last Query Hit, where fewer other servents than are remembered follow.
+/// The law that the route to a servent is that of its last Query Hit, where fewer other servents than are remembered follow.
 pub fn servent_route_is_last<A: Allocator>()
     ensures { ServentRouteIsLast A }
 {}

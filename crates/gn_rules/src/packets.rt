@@ -12,7 +12,7 @@ use gn_wire::{Descriptor, Kind};
 use std::alloc::{AllocError, Allocator};
 
 /// The router's own Pong to a Ping: its ID, TTL one more than its Hops and at most 255, Hops 0, and the own servent's place and files
-/// (Gnutella v0.4, "Pong"). An `Err` is want of memory.
+/// (Gnutella v0.4, "Pong"). An `Err` is out of memory.
 pub fn own_pong<A: Allocator + Copy>(
     alloc: A,
     own: &Own,
@@ -41,7 +41,7 @@ pub fn own_pong<A: Allocator + Copy>(
     }
 }
 
-/// The descriptor as it is forwarded, or `None` where it is expired. An `Err` is want of memory.
+/// The descriptor as it is forwarded, or `None` where it is expired. An `Err` is out of memory.
 pub fn forward_of<A: Allocator>(packet: &Descriptor<A>) -> Result<Option<Descriptor<A>>, AllocError>
     ensures { IfOk result (λ forward. MatchOption forward (wire.is_expired packet.now ≡ true)
         (λ d. (wire.is_expired packet.now ≡ false) × (d ≡ wire.forward_of packet.now))) }

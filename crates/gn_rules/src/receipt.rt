@@ -26,7 +26,7 @@ impl<A: Allocator + Copy> Step<A> {
     ghost use Rattle.gn_rules.specs.declared.receipt.Receipt.{Receipt};
     ghost use Rattle.gn_rules.specs.declared.receipt.Step.{Step};
 
-    /// The step of an event and its reply, and the receipt of it. An `Err` is want of memory.
+    /// The step of an event and its reply, and the receipt of it. An `Err` is out of memory.
     pub fn with_receipt(
         alloc: A,
         index: u32,

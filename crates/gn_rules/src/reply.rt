@@ -18,9 +18,9 @@ pub enum DropReason {
     Duplicate,
     /// A reply whose request isn't remembered, or a Push to a servent that isn't known.
     NoRoute,
-    /// Its way back leads to a connection that has closed.
+    /// Its route back leads to a connection that has closed.
     RouteGone,
-    /// Its way back leads to the connection that delivered it.
+    /// Its route back leads to the connection that delivered it.
     BackToSender,
     /// It came with TTL 0 or 1, or with Hops 255.
     Expired,
@@ -65,7 +65,7 @@ pub enum Reply<A: Allocator = Global> {
 
 impl<A: Allocator> Reply<A> {
     ghost use Rattle.gn_rules.specs.History.{admitted_of, connected_of, is_routed_reply, is_sent_reply, dropped_of, sends_of};
-    ghost use Rattle.gn_rules.specs.Sights.{keeps};
+    ghost use Rattle.gn_rules.specs.SeenEntries.{keeps};
 
     /// The connection that it made.
     pub fn connected(&self) -> Option<ConnId>
@@ -139,7 +139,7 @@ impl<A: Allocator> Reply<A> {
 }
 
 impl<A: Allocator + Copy> Reply<A> {
-    /// An equal reply. An `Err` is want of memory.
+    /// An equal reply. An `Err` is out of memory.
     pub fn copy(&self, alloc: A) -> Result<Self, AllocError>
         ensures { IfOk result (λ r. r ≡ self.now) }
     {

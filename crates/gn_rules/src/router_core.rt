@@ -27,12 +27,12 @@ pub trait RouterCore<A: Allocator + Copy> {
     /// Its history, in order.
     ghost steps: { Self → List (Step A) };
 
-    /// A router with no steps. An `Err` is want of memory.
+    /// A router with no steps. An `Err` is out of memory.
     fn make(alloc: A, config: &Config) -> Result<Self, AllocError>
         ensures settings { IfOk result (λ router. settings router ≡ config.now) }
         ensures empty { IfOk result (λ router. steps router ≡ []) };
 
-    /// Answers an event. A refusal is no step and changes nothing; want of memory is the last, and comes only where the
+    /// Answers an event. A refusal is no step and changes nothing; out of memory is the last, and comes only where the
     /// rules give a reply.
     fn apply(&mut self, actor: u32, event: &Event<A>) -> Result<Receipt<A>, Refusal>
         ensures answer { Finds (reply_of result) (answer (settings self.old) (reverse (steps self.old)) event.now) }

@@ -9,7 +9,7 @@ use crate::refusal::Refusal;
 use crate::router_core::RouterCore;
 use std::alloc::{AllocError, Allocator};
 
-/// Gives a router the events in order, as actor 0, and answers each one's result. An `Err` is want of memory for the list
+/// Gives a router the events in order, as actor 0, and answers each one's result. An `Err` is out of memory for the list
 /// of results: no event was applied.
 pub fn run_events<A: Allocator + Copy, C: RouterCore<A>>(
     alloc: A,

@@ -51,7 +51,7 @@ impl<A: Allocator + Copy> Sends<A> {
         }
     }
 
-    /// Adds a packet at the end. An `Err` is want of memory, and changes nothing.
+    /// Adds a packet at the end. An `Err` is out of memory, and changes nothing.
     pub fn push(&mut self, sending: Sending<A>) -> Result<(), AllocError>
         ensures ok { OnOk result (self.new ≡ self.old ++ sending ∷ []) }
         ensures err { OnErr result (self.new ≡ self.old) }
@@ -60,7 +60,7 @@ impl<A: Allocator + Copy> Sends<A> {
         Ok(())
     }
 
-    /// Equal packets. An `Err` is want of memory.
+    /// Equal packets. An `Err` is out of memory.
     pub fn copy(&self, alloc: A) -> Result<Self, AllocError>
         ensures { IfOk result (λ s. s ≡ self.now) }
     {

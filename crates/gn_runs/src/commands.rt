@@ -1,9 +1,9 @@
 //! The first run, captures with a fault, and audits, through the command line.
 
 use crate::compare::same;
+use crate::encoding::encoded;
 use crate::request_runs::request_run;
 use crate::run::capture_text;
-use crate::spelling::spelled;
 use gn_io::{ReaderSource, WriterSink};
 use gn_program::command;
 use std::alloc::Global;
@@ -118,7 +118,7 @@ fn answers<R: Abort + AllocGlobal>(
             rt,
             short,
             &sink.into_inner(),
-            spelled(alloc, told)?.as_bytes(),
+            encoded(alloc, told)?.as_bytes(),
         );
     }
     Ok(())
@@ -126,7 +126,7 @@ fn answers<R: Abort + AllocGlobal>(
 
 fn all_answer<R: Abort + AllocGlobal>(rt: &R, word: &str, cases: &[Case]) -> Result<(), Fail> {
     for case in cases {
-        answers(rt, word, &spelled(rt.alloc(), case.0)?, case)?;
+        answers(rt, word, &encoded(rt.alloc(), case.0)?, case)?;
     }
     Ok(())
 }

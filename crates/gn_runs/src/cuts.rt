@@ -1,8 +1,8 @@
 //! Bytes of links that come in pieces: however they are cut, the same is printed.
 
 use crate::compare::same;
+use crate::encoding::encoded;
 use crate::run::capture_text;
-use crate::spelling::spelled;
 use gn_io::{ReaderSource, WriterSink};
 use gn_plain::PlainRouter;
 use gn_replay::replay;
@@ -82,7 +82,7 @@ fn cut_text(
     let before = capture_text(alloc, cut.numbers, cut.before)?;
     let mut text = Vec::from_slice(alloc, before.as_bytes())?;
     push_pieces(&mut text, cut.link, digits, at)?;
-    text.extend_from_slice(spelled(alloc, cut.after)?.as_bytes())?;
+    text.extend_from_slice(encoded(alloc, cut.after)?.as_bytes())?;
     Ok(text)
 }
 
@@ -101,7 +101,7 @@ fn prints<C: RouterCore<Global> + Drop, R: Abort + AllocGlobal>(
         rt,
         cut.name,
         &sink.into_inner(),
-        spelled(alloc, cut.printed)?.as_bytes(),
+        encoded(alloc, cut.printed)?.as_bytes(),
     );
     Ok(())
 }
@@ -110,7 +110,7 @@ fn prints_the_same<C: RouterCore<Global> + Drop, R: Abort + AllocGlobal>(
     rt: &R,
 ) -> Result<(), Fail> {
     for cut in &CUTS {
-        let piece = spelled(rt.alloc(), cut.piece)?;
+        let piece = encoded(rt.alloc(), cut.piece)?;
         let digits = piece.as_str().trim_end();
         for at in 0..digits.len() / 2 {
             prints::<C, R>(rt, cut, digits, Some(at))?;

@@ -1,9 +1,9 @@
 //! Runs of requests as lists of events: both routers answer each event as the capture's text tells.
 
 use crate::compare::same;
+use crate::encoding::encoded;
 use crate::request_runs::request_run;
 use crate::run::{OWN, Run};
-use crate::spelling::spelled;
 use gn_frames::Reassembler;
 use gn_plain::PlainRouter;
 use gn_router::TableRouter;
@@ -66,7 +66,7 @@ const EVENTS: [(&str, &str); 7] = [
     ),
 ];
 
-/// The descriptor that hex digits spell.
+/// The descriptor that hex digits encode.
 fn descriptor(alloc: Global, digits: &str) -> Result<Descriptor, Fail> {
     let bytes = hex::decode(alloc, digits).map_err(|_| "hex")?;
     let mut frames = Reassembler::new(alloc)?;
@@ -90,7 +90,7 @@ fn event(alloc: Global, line: &str) -> Result<Event, Fail> {
 }
 
 fn events(alloc: Global, lines: &str) -> Result<Vec<Event>, Fail> {
-    let text = spelled(alloc, lines)?;
+    let text = encoded(alloc, lines)?;
     let mut events = Vec::new(alloc);
     for line in text.lines() {
         events.push(event(alloc, line)?)?;
@@ -140,7 +140,7 @@ fn answers_as<C: RouterCore<Global> + Drop, R: Abort + AllocGlobal>(
         rt,
         run.name,
         &found,
-        spelled(alloc, run.printed)?.as_bytes(),
+        encoded(alloc, run.printed)?.as_bytes(),
     );
     Ok(())
 }

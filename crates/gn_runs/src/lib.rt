@@ -14,6 +14,8 @@ mod compare;
 #[cfg(test)]
 mod cuts;
 #[cfg(test)]
+mod encoding;
+#[cfg(test)]
 mod event_lists;
 #[cfg(test)]
 mod link_runs;
@@ -25,7 +27,5 @@ mod replays;
 mod request_runs;
 #[cfg(test)]
 mod run;
-#[cfg(test)]
-mod spelling;
 #[cfg(test)]
 mod want_of_memory;

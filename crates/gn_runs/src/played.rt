@@ -2,10 +2,10 @@
 
 use crate::answer_runs::ANSWER_RUNS;
 use crate::compare::same;
+use crate::encoding::encoded;
 use crate::link_runs::LINK_RUNS;
 use crate::request_runs::REQUEST_RUNS;
 use crate::run::{Run, capture_text};
-use crate::spelling::spelled;
 use gn_capture::{read_capture, read_history, write_history};
 use gn_io::{ReaderSource, WriterSink};
 use gn_plain::{PlainRouter, legal};
@@ -48,7 +48,7 @@ fn plays<C: RouterCore<Global> + Drop, R: Abort + AllocGlobal>(
     let capture = read_capture(alloc, text.as_bytes()).map_err(|_| run.name)?;
     let mut sink = WriterSink::new(Vec::new(alloc));
     let replayed: Replayed<C> = play(alloc, &capture, &mut sink).map_err(|_| run.name)?;
-    let printed = spelled(alloc, run.printed)?;
+    let printed = encoded(alloc, run.printed)?;
     same(rt, run.name, &sink.into_inner(), printed.as_bytes());
     history_is_kept::<C, R>(rt, run.name, &replayed.core)
 }

@@ -1,6 +1,6 @@
 //! What a run is.
 
-use crate::spelling::spelled;
+use crate::encoding::encoded;
 use gn_rules::Own;
 use gn_wire::Guid;
 use std::alloc::{AllocError, Global};
@@ -17,7 +17,7 @@ pub(crate) const OWN: Own = Own {
 /// The numbers of the configuration that most runs have.
 pub(crate) const USUAL: &str = "4 8 4 8 8 100";
 
-/// A capture, and what is printed of it. The texts are short ones, as told in `spelling`.
+/// A capture, and what is printed of it. The texts are short ones, as told in `encoding`.
 #[derive(Clone, Copy)]
 pub(crate) struct Run {
     pub name: &'static str,
@@ -35,7 +35,7 @@ pub(crate) fn capture_text(
     numbers: &str,
     lines: &str,
 ) -> Result<String, AllocError> {
-    let own = spelled(alloc, "own <ee> 127.0.0.1 6346 5 40")?;
-    let lines = spelled(alloc, lines)?;
+    let own = encoded(alloc, "own <ee> 127.0.0.1 6346 5 40")?;
+    let lines = encoded(alloc, lines)?;
     format!(in alloc; "gnutella-capture 1\nconfig {numbers}\n{own}{lines}")
 }

@@ -129,7 +129,7 @@ impl<S: Site, A: Allocator> IntakeHome<S, A> {
 }
 
 impl<S: Site, A: Allocator> OutletHome<S, A> {
-    /// Takes the job at the front of the queue. `None` comes where there was none.
+    /// Takes the job at the head of the queue. `None` comes where there was none.
     pub(crate) fn take<R: Wait>(
         &mut self,
         rt: &R,

@@ -37,7 +37,7 @@ module _ {K X : Type 0} where
         | false ↦ λ h. (refl, differs eq k es n h)
       ] none
 
-  -- a new key in front of the first n
+  -- a new key before the first n
   pub apart_in_front : {eq : K → K → Bool} (laws : IsEquivalence eq) (k : K) (es : List (K × X)) (n : ℕ) → IsDistinct eq (keys_of es) → lookup (eq k) es ≡ None
       → IsDistinct eq (k ∷ keys_of (take n es))
   apart_in_front {eq} laws k es n apart none =

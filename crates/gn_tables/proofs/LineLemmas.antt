@@ -53,9 +53,9 @@ found_ring c most room es v are found =
 
 -- ---- one more neighbour
 
-rising_push : (c : ℕ) (ks : List ℕ) → IsStrictlyIncreasing ks → All (λ k. k < c) ks → IsStrictlyIncreasing (ks ++ c ∷ [])
-rising_push c ks rising below = λ k h.
-    ⊎_elim (λ p. rw (get_or_append_left ks (c ∷ []) 0 k (omega arith), get_or_append_left ks (c ∷ []) 0 (k + 1) p) (rising k p))
+ascending_push : (c : ℕ) (ks : List ℕ) → IsStrictlyIncreasing ks → All (λ k. k < c) ks → IsStrictlyIncreasing (ks ++ c ∷ [])
+ascending_push c ks ascending below = λ k h.
+    ⊎_elim (λ p. rw (get_or_append_left ks (c ∷ []) 0 k (omega arith), get_or_append_left ks (c ∷ []) 0 (k + 1) p) (ascending k p))
     (λ p. let at : length ks ≡ k + 1 = omega (arith, length-append ks (c ∷ [])) in
     rw (get_or_append_left ks (c ∷ []) 0 k (omega arith), get_or_at ks c [] 0 (k + 1) at) (below k 0 (omega arith)))
     (cases_lt (k + 1) (length ks))
@@ -79,7 +79,7 @@ added m fs most room c b are few below b_is is =
         few = omega (arith, length-append m.entries ((c, empty) ∷ []), length-map m.entries row_of);
         most_fits = are.most_fits;
         room_fits = are.room_fits;
-        rising = rw (map-append (λ (e : ℕ × Buffer Packet). e.0) m.entries ((c, empty) ∷ [])) (rising_push c (keys_of m.entries) are.rising keys_below);
+        ascending = rw (map-append (λ (e : ℕ × Buffer Packet). e.0) m.entries ((c, empty) ∷ [])) (ascending_push c (keys_of m.entries) are.ascending keys_below);
         rings = rw (map-append (λ (e : ℕ × Buffer Packet). e.1) m.entries ((c, empty) ∷ [])) (All-push (IsRing room) (values_of m.entries) empty are.rings empty_fits);
       },
       rw (map-append row_of m.entries ((c, empty) ∷ [])) refl,
@@ -132,15 +132,15 @@ not_longer test (e ∷ es) =
     ]
 
 -- numbers that rise differ
-rising_differ : (ks : List ℕ) → IsStrictlyIncreasing ks → IsDistinct nat_eq ks
-rising_differ ks rising =
-    subst (λ (t : ℕ → ℕ → Bool). IsDistinct t ks) (λ i q k. same_test q k i) (IsDistinct-from_sorted nat_cmp ks (sorted_from_strictly_increasing ks rising))
+ascending_differ : (ks : List ℕ) → IsStrictlyIncreasing ks → IsDistinct nat_eq ks
+ascending_differ ks ascending =
+    subst (λ (t : ℕ → ℕ → Bool). IsDistinct t ks) (λ i q k. same_test q k i) (IsDistinct-from_sorted nat_cmp ks (sorted_from_strictly_increasing ks ascending))
 
 -- a neighbour that is taken out
 pub removed : (c most room : ℕ) (es fs : List (ℕ × Buffer Packet)) → AreRings es most room → fs ≡ remove_entry (nat_eq c) es
     → AreRings fs most room × (lines_of most room fs ≡ left c (lines_of most room es))
 removed c most room es fs are is =
-    let distinct : IsDistinct nat_eq (keys_of es) = rising_differ (keys_of es) are.rising in
+    let distinct : IsDistinct nat_eq (keys_of es) = ascending_differ (keys_of es) are.ascending in
     let rows_are : rows_of fs ≡ filter (λ r. not (r.0 == c)) (rows_of es) = ap rows_of is ∙ left_rows c es distinct in
     let keys_are : keys_of fs ≡ filter (λ k. not (k == c)) (keys_of es) =
     sym (keys_of_rows fs) ∙ ap keys_of rows_are ∙ keys_filter (λ k. not (k == c)) (rows_of es) ∙ ap (filter (λ k. not (k == c))) (keys_of_rows es) in (
@@ -148,7 +148,7 @@ removed c most room es fs are is =
         few = rw is (omega (arith, are.few, not_longer (nat_eq c) es));
         most_fits = are.most_fits;
         room_fits = are.room_fits;
-        rising = rw keys_are (IsStrictlyIncreasing-filter (λ k. not (k == c)) (keys_of es) are.rising);
+        ascending = rw keys_are (IsStrictlyIncreasing-filter (λ k. not (k == c)) (keys_of es) are.ascending);
         rings = rw is (All-map-remove_entry (nat_eq c) (λ (e : ℕ × Buffer Packet). e.1) (IsRing room) es are.rings);
       },
       rw rows_are refl,
@@ -162,7 +162,7 @@ lines_are most room es are =
     let rings : All (λ e. IsRing room e.1) es = all_unmapped (λ (e : ℕ × Buffer Packet). e.1) (IsRing room) es are.rings in
     record {
       few = omega (arith, are.few, length-map es row_of);
-      rising = rw (keys_of_rows es) are.rising;
+      ascending = rw (keys_of_rows es) are.ascending;
       short = All-map (λ r. length r.1 ≤ room) row_of es (λ k d h. (rings k d h).1);
     }
 
@@ -219,7 +219,7 @@ module _ (c most room : ℕ) (es fs : List (ℕ × Buffer Packet)) (v w : Buffer
     few = omega (arith, are.few, wrote.len);
     most_fits = are.most_fits;
     room_fits = are.room_fits;
-    rising = rw wrote.keys are.rising;
+    ascending = rw wrote.keys are.ascending;
     rings = rw wrote.is (All-values-set_value (nat_eq c) (IsRing room) es w are.rings fits);
   }
 

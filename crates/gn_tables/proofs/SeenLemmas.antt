@@ -1,4 +1,4 @@
--- The hashed sources stay those of the sights in the ring.
+-- The hashed sources stay those of the seen entries in the ring.
 use Rattle.std.proofs.Common.{◌≡◌, ◌≤◌, ℕ, zero, suc, ◌+◌, Bool, true, false, cond, List, [], ◌∷◌, take, length, Option, Some, None, refl, sym, ◌∙◌, arith, subst}
 use Rattle.std.specs.List.{IsDistinct, slice_get}
 use Rattle.std.specs.Map.{lookup, keys_of}
@@ -24,7 +24,7 @@ pub written : (old new : List (Key × ℕ)) (key : Key) (w : Option ℕ) → IsW
 written old new key w h =
     subst (λ (t : Key → Key → Bool). (q : Key) → lookup (t q) new ≡ cond (t key q) w (lookup (t q) old)) same_test h
 
--- a key that is in no later sight isn't forgotten with one of them
+-- a key that is in no later seen entry isn't forgotten with one of them
 not_fallen : (q : Key) (es : List (Key × ℕ)) (n v : ℕ) → lookup (is_same_key q) es ≡ None → forgotten (slice_get es n) q (Some v) ≡ Some v
 not_fallen q [] n v none = refl
 not_fallen q (e ∷ es) zero v none =
@@ -38,7 +38,7 @@ not_fallen q (e ∷ es) (suc n) v none =
       | false ↦ λ h. not_fallen q es n v h
     ] none
 
--- a search in the first n of n + 1 sights
+-- a search in the first n of n + 1 seen entries
 fallen_is : (es : List (Key × ℕ)) (n : ℕ) (q : Key) → IsDistinct is_same_key (keys_of es) → length es ≤ n + 1
     → lookup (is_same_key q) (take n es) ≡ forgotten (slice_get es n) q (lookup (is_same_key q) es)
 fallen_is [] zero q distinct few = refl
@@ -56,24 +56,24 @@ fallen_is (e ∷ es) (suc n) q distinct few =
       | false ↦ λ t. rest
     ] refl
 
--- one more sight in front, and the sources without the one that fell out
-sighted : (sources left after sights : List (Key × ℕ)) (n : ℕ) (key : Key) (from : ℕ) → AreSources sources sights (suc n) → lookup (is_same_key key) sights ≡ None
-    → ((q : Key) → lookup (is_same_key q) left ≡ forgotten (slice_get sights n) q (lookup (is_same_key q) sources))
+-- one more seen entry in front, and the sources without the one that fell out
+entered : (sources left after seen_entries : List (Key × ℕ)) (n : ℕ) (key : Key) (from : ℕ) → AreSources sources seen_entries (suc n) → lookup (is_same_key key) seen_entries ≡ None
+    → ((q : Key) → lookup (is_same_key q) left ≡ forgotten (slice_get seen_entries n) q (lookup (is_same_key q) sources))
     → ((q : Key) → lookup (is_same_key q) after ≡ cond (is_same_key key q) (Some from) (lookup (is_same_key q) left))
-    → AreSources after ((key, from) ∷ take n sights) (suc n)
-sighted sources left after sights n key from are none gone put = record {
+    → AreSources after ((key, from) ∷ take n seen_entries) (suc n)
+entered sources left after seen_entries n key from are none gone put = record {
   positive = are.positive;
-  few = omega (arith, length-take n sights);
-  distinct = apart_in_front key_laws key sights n are.distinct none;
-  same = λ q. put q ∙ rw (gone q, are.same q, key_laws.symm key q, ← fallen_is sights n q are.distinct (omega (arith, are.few))) refl;
+  few = omega (arith, length-take n seen_entries);
+  distinct = apart_in_front key_laws key seen_entries n are.distinct none;
+  same = λ q. put q ∙ rw (gone q, are.same q, key_laws.symm key q, ← fallen_is seen_entries n q are.distinct (omega (arith, are.few))) refl;
 }
 
 -- the same of a table of any size
-pub kept_in : (sources left after sights : List (Key × ℕ)) (most : ℕ) (key : Key) (from : ℕ) (fallen : Option (Key × ℕ)) (ring : Buffer (Key × ℕ)) → AreSources sources sights most
-    → lookup (is_same_key key) sights ≡ None → fallen ≡ slice_get ((key, from) ∷ sights) most
+pub kept_in : (sources left after seen_entries : List (Key × ℕ)) (most : ℕ) (key : Key) (from : ℕ) (fallen : Option (Key × ℕ)) (ring : Buffer (Key × ℕ)) → AreSources sources seen_entries most
+    → lookup (is_same_key key) seen_entries ≡ None → fallen ≡ slice_get ((key, from) ∷ seen_entries) most
     → ((q : Key) → lookup (is_same_key q) left ≡ forgotten fallen q (lookup (is_same_key q) sources))
-    → IsWritten left after key (Some from) → ring ≡ buffer (take most ((key, from) ∷ sights)) most
+    → IsWritten left after key (Some from) → ring ≡ buffer (take most ((key, from) ∷ seen_entries)) most
     → AreSources after ring.items ring.capacity
-kept_in sources left after sights zero key from fallen ring are none fell gone put is = absurd (omega (arith, are.positive))
-kept_in sources left after sights (suc n) key from fallen ring are none fell gone put is =
-    rw is (sighted sources left after sights n key from are none (rw fell at gone) (written left after key (Some from) put))
+kept_in sources left after seen_entries zero key from fallen ring are none fell gone put is = absurd (omega (arith, are.positive))
+kept_in sources left after seen_entries (suc n) key from fallen ring are none fell gone put is =
+    rw is (entered sources left after seen_entries n key from are none (rw fell at gone) (written left after key (Some from) put))

@@ -12,12 +12,12 @@ pub record Flying (Flight : Type 0) : Type 0 where
 
 module _ {Flight : Type 0} where
   -- with one more, under a ticket of its own
-  abbrev pub flown : ℕ → Flight → Flying Flight → Flying Flight
-  flown ticket flight f = record f { flights = map.insert f.flights ticket flight }
+  abbrev pub with_flight : ℕ → Flight → Flying Flight → Flying Flight
+  with_flight ticket flight f = record f { flights = map.insert f.flights ticket flight }
 
   -- without the one of a ticket
-  abbrev pub landed : ℕ → Flying Flight → Flying Flight
-  landed ticket f = record f { flights = map.remove f.flights ticket }
+  abbrev pub without_flight : ℕ → Flying Flight → Flying Flight
+  without_flight ticket f = record f { flights = map.remove f.flights ticket }
 
   -- how what is in flight is told as one value, for comparisons
   abbrev pub flying_code : Coded Flight → Coded (Flying Flight)

@@ -7,7 +7,7 @@ use Rattle.std.specs.Option.{option_map_or, option_and_then}
 use Rattle.circular_buffer.specs.Buffer.{Buffer}
 use Rattle.gn_wire.specs.Packet.{Packet}
 
--- the neighbours, rising, each with the packets that wait for it, the first to go first; and how many neighbours there
+-- the neighbours, ascending, each with the packets that wait for it, the first to go first; and how many neighbours there
 -- may be, and how many packets may wait for each
 pub record Lines : Type 0 where
   pub rows : List (ℕ × List Packet)
@@ -46,10 +46,10 @@ joined c l = record l { rows = l.rows ++ (c, []) ∷ [] }
 abbrev pub left : ℕ → Lines → Lines
 left c l = record l { rows = filter (λ r. not (r.0 == c)) l.rows }
 
--- what every table keeps: not too many neighbours, rising, and no line too long
+-- what every table keeps: not too many neighbours, ascending, and no line too long
 pub record AreLines (l : Lines) : Type 0 where
   pub few : length l.rows ≤ l.most
-  pub rising : IsStrictlyIncreasing (keys_of l.rows)
+  pub ascending : IsStrictlyIncreasing (keys_of l.rows)
   pub short : All (λ r. length r.1 ≤ l.room) l.rows
 
 -- the rows that the entries of a table show
@@ -73,5 +73,5 @@ pub record AreRings (entries : List (ℕ × Buffer Packet)) (most room : ℕ) : 
   pub few : length entries ≤ most
   pub most_fits : most ≤ 64
   pub room_fits : room ≤ 4096
-  pub rising : IsStrictlyIncreasing (keys_of entries)
+  pub ascending : IsStrictlyIncreasing (keys_of entries)
   pub rings : All (IsRing room) (values_of entries)

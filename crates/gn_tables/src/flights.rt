@@ -3,7 +3,7 @@
 ghost use Rattle.std.specs.Prelude.{◌≡◌, ◌<◌, ◌≤◌, None, OnErr, OnOk};
 ghost use Rattle.std.specs.FinMap as map;
 ghost use Rattle.std.specs.Option.{option_copied};
-ghost use Rattle.gn_tables.specs.Flying.{flown, landed};
+ghost use Rattle.gn_tables.specs.Flying.{with_flight, without_flight};
 
 use gn_wire::Descriptor;
 use indexmap::IndexMap;
@@ -72,7 +72,7 @@ impl<A: Allocator + Copy> Flights<A> {
         self.flights.get(&ticket)
     }
 
-    /// Adds a descriptor under a new ticket. An `Err` is want of memory: the descriptor is dropped, and nothing changes.
+    /// Adds a descriptor under a new ticket. An `Err` is out of memory: the descriptor is dropped, and nothing changes.
     pub fn add(
         &mut self,
         ticket: u32,
@@ -81,7 +81,7 @@ impl<A: Allocator + Copy> Flights<A> {
     ) -> Result<(), AllocError>
         requires few { map.len self.old.flights < self.old.most }
         requires fresh { map.get self.old.flights ticket ≡ None }
-        ensures ok { OnOk result (self.new ≡ flown ticket (record { from = from; descriptor = descriptor }) self.old) }
+        ensures ok { OnOk result (self.new ≡ with_flight ticket (record { from = from; descriptor = descriptor }) self.old) }
         ensures err { OnErr result (self.new ≡ self.old) }
     {
         self.flights.insert(ticket, Flight { from, descriptor })?;
@@ -91,7 +91,7 @@ impl<A: Allocator + Copy> Flights<A> {
     /// Takes the flight of the ticket out.
     pub fn finish(&mut self, ticket: u32) -> Option<Flight<A>>
         ensures value { result ≡ map.get self.old.flights ticket }
-        ensures rest { self.new ≡ landed ticket self.old }
+        ensures rest { self.new ≡ without_flight ticket self.old }
     {
         self.flights.swap_remove(&ticket)
     }

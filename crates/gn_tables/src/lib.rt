@@ -1,4 +1,4 @@
-//! The router's four tables: what it has seen, which way servents lie, what waits for its neighbours, what is in flight.
+//! The router's four tables: what it has seen, the routes to servents, what waits for its neighbours, what is in flight.
 #![tactic(auto)]
 
 mod flights;

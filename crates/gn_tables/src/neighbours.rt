@@ -1,4 +1,4 @@
-//! The live connections, rising, each with the packets that wait for it.
+//! The live connections, ascending, each with the packets that wait for it.
 
 ghost use Rattle.std.specs.Prelude.{◌≡◌, ◌<◌, ◌≤◌, [], length, true, false, slice_get, IfErr, IfOk, OnErr, OnOk};
 ghost use Rattle.std.specs.List.{All};
@@ -20,7 +20,7 @@ type Rows<A> = IndexMap<
     A,
 >;
 
-/// The live connections, rising, each with the packets that wait for it, the first to go first. Connections are hashed
+/// The live connections, ascending, each with the packets that wait for it, the first to go first. Connections are hashed
 /// with a fixed seed. A connection's ring takes its memory at once when it is added, 64 bytes for each packet that may
 /// wait: 262,144 bytes for 4,096 packets, and 16,777,216 bytes for 64 connections of these.
 #[derive(Drop)]
@@ -67,7 +67,7 @@ impl<A: Allocator + Copy> Neighbours<A> {
         self.rows.len() as u32
     }
 
-    /// The connection at this place, counted from 0, of those that are there, rising.
+    /// The connection at this place, counted from 0, of those that are there, ascending.
     pub fn number(&self, index: u32) -> Option<u32>
         ensures { result ≡ slice_get (keys_of self.now.rows) index }
     {

@@ -5,7 +5,7 @@ ghost use Rattle.std.specs.Map.{lookup};
 ghost use Rattle.indexmap.specs.IndexMap.{spare};
 ghost use Rattle.gn_wire.specs.declared.key.Key.{Key};
 ghost use Rattle.gn_wire.specs.Keys.{is_same_key};
-ghost use Rattle.gn_tables.specs.Remembered.{IsRemembered, forgotten, met, with_sight};
+ghost use Rattle.gn_tables.specs.Remembered.{IsRemembered, forgotten, met, with_entry};
 
 use circular_buffer::HeapCircularBuffer;
 use gn_wire::{Guid, Key, Kind};
@@ -30,17 +30,17 @@ impl<A: Allocator + Copy> Model for SeenTable<A> {
 
     ghost Value = { Remembered };
 
-    ghost view = { λ t. record { sights = t.ring.items; most = t.ring.capacity } };
+    ghost view = { λ t. record { seen_entries = t.ring.items; most = t.ring.capacity } };
 
     ghost invariant = { λ t. AreSources t.sources.entries t.ring.items t.ring.capacity };
 }
 
 impl<A: Allocator + Copy> SeenTable<A> {
-    /// Nothing kept yet, and room for `most` keys: 1 to 65,536. An `Err` is want of memory.
+    /// Nothing kept yet, and room for `most` keys: 1 to 65,536. An `Err` is out of memory.
     pub fn new(alloc: A, most: u32) -> Result<Self, AllocError>
         requires positive { 0 < most }
         requires limit { most ≤ 65536 }
-        ensures { IfOk result (λ t. t ≡ record { sights = []; most = most }) }
+        ensures { IfOk result (λ t. t ≡ record { seen_entries = []; most = most }) }
     {
         Ok(SeenTable {
             sources: IndexMap::new(alloc),
@@ -50,16 +50,16 @@ impl<A: Allocator + Copy> SeenTable<A> {
 
     /// Where the descriptor of this kind and ID came from, where it is still kept. What every table keeps is told here too.
     pub fn source(&self, kind: Kind, id: &Guid) -> Option<u32>
-        ensures value { result ≡ lookup (is_same_key (record { kind = kind; id = id.now })) self.now.sights }
+        ensures value { result ≡ lookup (is_same_key (record { kind = kind; id = id.now })) self.now.seen_entries }
         ensures kept { IsRemembered self.now }
     {
         self.sources.get(&Key { kind, id: *id }).copied()
     }
 
-    /// Keeps a new key in front; a full table forgets its oldest one. An `Err` is want of memory, and changes nothing.
+    /// Keeps a new key in front; a full table forgets its oldest one. An `Err` is out of memory, and changes nothing.
     pub fn keep(&mut self, kind: Kind, id: Guid, from: u32) -> Result<(), AllocError>
-        requires { lookup (is_same_key (record { kind = kind; id = id })) self.old.sights ≡ None }
-        ensures ok { OnOk result (self.new ≡ with_sight (record { kind = kind; id = id }) from self.old) }
+        requires { lookup (is_same_key (record { kind = kind; id = id })) self.old.seen_entries ≡ None }
+        ensures ok { OnOk result (self.new ≡ with_entry (record { kind = kind; id = id }) from self.old) }
         ensures err { OnErr result (self.new ≡ self.old) }
     {
         let key = Key { kind, id };
@@ -76,9 +76,9 @@ impl<A: Allocator + Copy> SeenTable<A> {
     /// of memory for a new key, and changes nothing.
     pub fn keep_new(&mut self, kind: Kind, id: Guid, from: u32) -> Result<bool, AllocError>
         ensures ok { OnOk result (self.new ≡ met (record { kind = kind; id = id }) from self.old) }
-        ensures new { IfOk result (λ new. new ≡ not (is_some (lookup (is_same_key (record { kind = kind; id = id })) self.old.sights))) }
+        ensures new { IfOk result (λ new. new ≡ not (is_some (lookup (is_same_key (record { kind = kind; id = id })) self.old.seen_entries))) }
         ensures err { OnErr result (self.new ≡ self.old) }
-        ensures wanted { IfErr result (λ _. lookup (is_same_key (record { kind = kind; id = id })) self.old.sights ≡ None) }
+        ensures wanted { IfErr result (λ _. lookup (is_same_key (record { kind = kind; id = id })) self.old.seen_entries ≡ None) }
     {
         if self.source(kind, &id).is_some() {
             return Ok(false);

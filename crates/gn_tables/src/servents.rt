@@ -1,4 +1,4 @@
-//! The servents whose answers were routed last, and which way each lies.
+//! The servents whose answers were routed last, and the route to each.
 
 ghost use Rattle.std.specs.Prelude.{◌≡◌, ◌<◌, ◌≤◌, [], IfOk, IsOk, IsSome, OnErr, OnOk};
 ghost use Rattle.std.specs.Map.{lookup};
@@ -30,7 +30,7 @@ impl<A: Allocator + Copy> Model for ServentTable<A> {
 }
 
 impl<A: Allocator + Copy> ServentTable<A> {
-    /// Nothing learned yet, and room for `most` servents: 1 to 65,536. An `Err` is want of memory.
+    /// Nothing learned yet, and room for `most` servents: 1 to 65,536. An `Err` is out of memory.
     pub fn new(alloc: A, most: u32) -> Result<Self, AllocError>
         requires positive { 0 < most }
         requires limit { most ≤ 65536 }

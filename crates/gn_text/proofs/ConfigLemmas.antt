@@ -7,7 +7,7 @@ use Rattle.gn_rules.specs.declared.config.Own.{Own}
 use Rattle.gn_text.specs.Addresses.{◌>>=◌}
 use Rattle.gn_text.specs.Lines.{is_word}
 use Rattle.gn_text.specs.Numbers.{number_of}
-use Rattle.gn_text.specs.Settings.{Numbers, are_within, config_of, numbers_said, numbers_within, settings_of}
+use Rattle.gn_text.specs.Settings.{Numbers, are_within, config_of, numbers_parsed, numbers_within, settings_of}
 
 -- the settings are those of a configuration
 abbrev pub IsConfigured : Numbers × Own → Type 0
@@ -56,7 +56,7 @@ six (Some k) (Some n) (Some m) (Some t) (Some w) None = _
 six (Some k) (Some n) (Some m) (Some t) (Some w) (Some h) =
     let numbers : Numbers = record { neighbours = k; seen = n; servents = m; stage = t; out = w; steps = h } in tested numbers (are_within numbers) refl
 
-numbers_are_within : (fields : List (List ℕ)) → IfSome (numbers_said fields) AreWithin
+numbers_are_within : (fields : List (List ℕ)) → IfSome (numbers_parsed fields) AreWithin
 numbers_are_within [] = _
 numbers_are_within (k ∷ []) = _
 numbers_are_within (k ∷ n ∷ []) = _
@@ -70,7 +70,7 @@ numbers_are_within (k ∷ n ∷ m ∷ t ∷ w ∷ h ∷ x ∷ more) = _
 pub config_is_within : (fields : List (List ℕ)) → IfSome (config_of fields) AreWithin
 config_is_within [] = _
 config_is_within (field ∷ fields) =
-    elim (is_word field (codes "config")) as (λ b. IfSome (if b then numbers_said fields else None) AreWithin) [
+    elim (is_word field (codes "config")) as (λ b. IfSome (if b then numbers_parsed fields else None) AreWithin) [
       | true ↦ numbers_are_within fields
       | false ↦ _
     ]

@@ -4,7 +4,7 @@ use Rattle.std.specs.Prelude.{IfOk, IfSome}
 use Rattle.gn_rules.specs.declared.config.Own.{Own}
 use Rattle.gn_text.specs.Lines.{fields_of, is_word}
 use Rattle.gn_text.specs.declared.fault.Cause.TheVariants as cause
-use Rattle.gn_text.specs.Faults.{fault_at, said_at, ◌>>=◌}
+use Rattle.gn_text.specs.Faults.{fault_at, numbered_at, ◌>>=◌}
 use Rattle.gn_text.specs.Header.{config_from, header_of, own_from}
 use Rattle.gn_text.specs.Settings.{Numbers, config_of, own_of}
 use Rattle.gn_text.proofs.ConfigLemmas.{AreWithin, IsConfigured, config_is_within, made}
@@ -14,7 +14,7 @@ abbrev pub Told : Type 0
 Told = (Numbers × Own) × List (ℕ × List ℕ)
 
 own_line : (numbers : Numbers) (n : ℕ) (more : List (ℕ × List ℕ)) (own : Option Own) → AreWithin numbers
-    → IfOk (said_at n cause.Own own >>= λ own. Ok ((numbers, own), more)) (λ (header : Told). IsConfigured header.0)
+    → IfOk (numbered_at n cause.Own own >>= λ own. Ok ((numbers, own), more)) (λ (header : Told). IsConfigured header.0)
 own_line numbers n more None h = _
 own_line numbers n more (Some own) h = made numbers own h
 
@@ -24,7 +24,7 @@ own_configured numbers behind [] h = _
 own_configured numbers behind (line ∷ more) h = own_line numbers line.0 more (own_of (fields_of line.1)) h
 
 config_line : (n behind : ℕ) (more : List (ℕ × List ℕ)) (numbers : Option Numbers) → IfSome numbers AreWithin
-    → IfOk (said_at n cause.Config numbers >>= λ numbers. own_from numbers behind more) (λ (header : Told). IsConfigured header.0)
+    → IfOk (numbered_at n cause.Config numbers >>= λ numbers. own_from numbers behind more) (λ (header : Told). IsConfigured header.0)
 config_line n behind more None h = _
 config_line n behind more (Some numbers) h = own_configured numbers behind more h
 

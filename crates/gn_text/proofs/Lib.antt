@@ -1,5 +1,5 @@
 pub mod ConfigLemmas
 pub mod HeaderLemmas
 pub mod NumberLemmas
-pub mod SaidLemmas
+pub mod ParsedLemmas
 pub mod SettingsLemmas

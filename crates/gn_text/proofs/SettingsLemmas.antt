@@ -10,7 +10,7 @@ use Rattle.gn_rules.specs.declared.config.BadConfig.{BadConfig}
 use Rattle.gn_rules.specs.declared.config.Field.{Field}
 use Rattle.gn_rules.specs.declared.config.Field.TheVariants.{Neighbours, Seen, Servents, Stage, Out, Steps}
 use Rattle.gn_rules.specs.declared.config.Own.{Own}
-use Rattle.gn_text.specs.Settings.{Numbers, numbers_of, is_within, are_within, numbers_within, servent_said}
+use Rattle.gn_text.specs.Settings.{Numbers, numbers_of, is_within, are_within, numbers_within, servent_parsed}
 
 within : (n most : ℕ) → IsWithin n most → is_within n most ≡ true
 within n most h = grind (arith, nat_tests)
@@ -58,7 +58,7 @@ made_within k n m t w h own (Ok s) made first =
     sym e ∙ ap numbers_within same
 made_within k n m t w h own (Err bad) made first = rw (first_out bad.0 k n m t w h first) refl
 
-pub other_fields : (fields : List (List ℕ)) → ¬ (length fields ≡ 5) → None ≡ servent_said fields
+pub other_fields : (fields : List (List ℕ)) → ¬ (length fields ≡ 5) → None ≡ servent_parsed fields
 other_fields [] h = refl
 other_fields (a ∷ []) h = refl
 other_fields (a ∷ b ∷ []) h = refl

@@ -15,8 +15,8 @@ bytes_of_pairs [] = None
 bytes_of_pairs (b ∷ bs) = result_ok (decode_of (b ∷ bs))
 
 -- the bytes that a field says: those of its pairs of hex digits in either case, or none by a dash
-abbrev pub bytes_said : List ℕ → Option (List ℕ)
-bytes_said field = if is_dash field then Some [] else bytes_of_pairs field
+abbrev pub bytes_parsed : List ℕ → Option (List ℕ)
+bytes_parsed field = if is_dash field then Some [] else bytes_of_pairs field
 
 -- an ID of these 16 bytes
 abbrev pub guid_from : List ℕ → Guid

@@ -20,16 +20,16 @@ abbrev pub refused_at : ℕ → Cause → CaptureRefusal
 refused_at line cause = Fault (fault_at line cause)
 
 -- what line n says, or its fault
-abbrev pub said_at : {X : Type 0} → ℕ → Cause → Option X → Result X CaptureFault
-said_at n cause None = Err (fault_at n cause)
-said_at n cause (Some x) = Ok x
+abbrev pub numbered_at : {X : Type 0} → ℕ → Cause → Option X → Result X CaptureFault
+numbered_at n cause None = Err (fault_at n cause)
+numbered_at n cause (Some x) = Ok x
 
 -- a text was refused as the definition says, or memory ran out
 abbrev pub IsRefused : {X : Type 0} → CaptureRefusal → Result X CaptureFault → Type 0
-IsRefused NoMemory said = Unit {0}
-IsRefused (Fault fault) said = said ≡ Err fault
+IsRefused NoMemory parsed = Unit {0}
+IsRefused (Fault fault) parsed = parsed ≡ Err fault
 
 -- a text was read as the definition says, or memory ran out; view is how the definition sees the value that was read
 abbrev pub IsRead : {X T : Type 0} → (T → X) → Result T CaptureRefusal → Result X CaptureFault → Type 0
-IsRead view (Ok x) said = said ≡ Ok (view x)
-IsRead view (Err refusal) said = IsRefused refusal said
+IsRead view (Ok x) parsed = parsed ≡ Ok (view x)
+IsRead view (Err refusal) parsed = IsRefused refusal parsed

@@ -6,22 +6,22 @@ use Rattle.gn_rules.specs.declared.config.Own.{Own}
 use Rattle.gn_text.specs.Lines.{fields_of, is_word}
 use Rattle.gn_text.specs.declared.fault.Cause.TheVariants as cause
 use Rattle.gn_text.specs.declared.fault.CaptureFault.{CaptureFault}
-use Rattle.gn_text.specs.Faults.{fault_at, said_at, ◌>>=◌}
-use Rattle.gn_text.specs.Said.{line_seen}
+use Rattle.gn_text.specs.Faults.{fault_at, numbered_at, ◌>>=◌}
+use Rattle.gn_text.specs.Parsed.{line_seen}
 use Rattle.gn_text.specs.Settings.{Numbers, config_of, own_of, settings_of}
 
 -- the lines from the third on: the servent, beside the numbers that the second line said, and the lines behind it
 abbrev pub own_from : Numbers → ℕ → List (ℕ × List ℕ) → Result ((Numbers × Own) × List (ℕ × List ℕ)) CaptureFault
 own_from numbers behind [] = Err (fault_at behind cause.Own)
 own_from numbers behind (line ∷ more) = do
-  own ← said_at line.0 cause.Own (own_of (fields_of line.1))
+  own ← numbered_at line.0 cause.Own (own_of (fields_of line.1))
   Ok ((numbers, own), more)
 
 -- the lines from the second on: the numbers, then the servent
 abbrev pub config_from : ℕ → List (ℕ × List ℕ) → Result ((Numbers × Own) × List (ℕ × List ℕ)) CaptureFault
 config_from behind [] = Err (fault_at behind cause.Config)
 config_from behind (line ∷ more) = do
-  numbers ← said_at line.0 cause.Config (config_of (fields_of line.1))
+  numbers ← numbered_at line.0 cause.Config (config_of (fields_of line.1))
   own_from numbers behind more
 
 -- what the lines of a text say that begins with this title: the settings, and the lines behind them. A line that is missing

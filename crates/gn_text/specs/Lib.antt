@@ -6,7 +6,7 @@ pub mod Lines
 pub mod Links
 pub mod Numbers
 pub mod Refusals
-pub mod Said
+pub mod Parsed
 pub mod Settings
 pub mod Statistics
 pub mod Steps

@@ -40,8 +40,8 @@ abbrev pub numbers_within : Numbers → Option Numbers
 numbers_within n = if are_within n then Some n else None
 
 -- the numbers that six fields say, where each is within its limit
-abbrev pub numbers_said : List (List ℕ) → Option Numbers
-numbers_said (k ∷ n ∷ m ∷ t ∷ w ∷ h ∷ []) = do
+abbrev pub numbers_parsed : List (List ℕ) → Option Numbers
+numbers_parsed (k ∷ n ∷ m ∷ t ∷ w ∷ h ∷ []) = do
   neighbours ← number_of k
   seen ← number_of n
   servents ← number_of m
@@ -49,31 +49,31 @@ numbers_said (k ∷ n ∷ m ∷ t ∷ w ∷ h ∷ []) = do
   out ← number_of w
   steps ← number_of h
   numbers_within (record { neighbours = neighbours; seen = seen; servents = servents; stage = stage; out = out; steps = steps })
-numbers_said fields = None
+numbers_parsed fields = None
 
 -- the servent that five fields say: its ID, its address and port, its files and its kilobytes
-abbrev pub servent_said : List (List ℕ) → Option Own
-servent_said (id ∷ address ∷ place ∷ shared ∷ size ∷ []) = do
+abbrev pub servent_parsed : List (List ℕ) → Option Own
+servent_parsed (id ∷ address ∷ place ∷ shared ∷ size ∷ []) = do
   servent ← guid_of id
   ip ← ip_of address
   port ← number_below 65536 place
   files ← number_of shared
   kbytes ← number_of size
   Some (record { servent = servent; ip = ip; port = port; files = files; kbytes = kbytes })
-servent_said fields = None
+servent_parsed fields = None
 
 -- what the fields behind a word say
 abbrev pub behind_word : {X : Type 0} → List ℕ → (List (List ℕ) → Option X) → List (List ℕ) → Option X
-behind_word word said [] = None
-behind_word word said (field ∷ fields) = if is_word field word then said fields else None
+behind_word word parsed [] = None
+behind_word word parsed (field ∷ fields) = if is_word field word then parsed fields else None
 
 -- what the fields of a line `config K N M T W H` say
 abbrev pub config_of : List (List ℕ) → Option Numbers
-config_of fields = behind_word (codes "config") numbers_said fields
+config_of fields = behind_word (codes "config") numbers_parsed fields
 
 -- what the fields of a line `own SERVENT IP PORT FILES KBYTES` say
 abbrev pub own_of : List (List ℕ) → Option Own
-own_of fields = behind_word (codes "own") servent_said fields
+own_of fields = behind_word (codes "own") servent_parsed fields
 
 -- a number behind a space
 abbrev pub field_text : ℕ → List ℕ

@@ -3,7 +3,7 @@ use Rattle.std.specs.Prelude.{ℕ, Bool, true, false, List, ◌++◌, codes, dec
 use Rattle.std.specs.List.{flat_map}
 use Rattle.hex.specs.Hex.{encode_lower}
 use Rattle.gn_wire.specs.Packet.{Packet}
-use Rattle.gn_wire.specs.Spelling.{bytes_of}
+use Rattle.gn_wire.specs.Encoding.{bytes_of}
 use Rattle.gn_rules.specs.declared.event.Event.{Event}
 use Rattle.gn_rules.specs.declared.event.Event.TheVariants.{Connect, Close, Admit, Route, Take, Originate}
 use Rattle.gn_rules.specs.declared.receipt.Step.{Step}
@@ -14,7 +14,7 @@ use Rattle.gn_rules.specs.declared.sends.Sending.{Sending}
 use Rattle.gn_rules.specs.Statistics.{drop_counter}
 use Rattle.gn_text.specs.Statistics.{counter_text}
 
--- the whole spelling of a descriptor, in hex digits of lower case
+-- the whole encoding of a descriptor, in hex digits of lower case
 abbrev pub packet_text : Packet → List ℕ
 packet_text d = encode_lower (bytes_of d)
 

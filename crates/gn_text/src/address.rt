@@ -16,7 +16,7 @@ fn ip_of_parts(parts: &[&[u8]]) -> Option<[u8; 4]>
     }
 }
 
-/// The address that four numbers joined by dots say, its first byte first. An `Err` is want of memory.
+/// The address that four numbers joined by dots say, its first byte first. An `Err` is out of memory.
 pub fn ip<A: Allocator + Copy>(alloc: A, field: &[u8]) -> Result<Option<[u8; 4]>, AllocError>
     ensures { IfOk result (λ found. found ≡ ip_of field.now) }
 {

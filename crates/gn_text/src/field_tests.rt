@@ -1,4 +1,4 @@
-//! Fields of each kind, lawful and not.
+//! Fields of each kind, valid and not.
 
 use super::*;
 use gn_wire::Guid;
@@ -6,7 +6,7 @@ use std::test::Fail;
 
 #[test]
 fn numbers(rt: HostRuntime) {
-    let said: [(&[u8], Option<u32>); 12] = [
+    let parsed: [(&[u8], Option<u32>); 12] = [
         (b"0", Some(0)),
         (b"007", Some(7)),
         (b"4294967295", Some(4_294_967_295)),
@@ -20,7 +20,7 @@ fn numbers(rt: HostRuntime) {
         (b"\xd9\xa1", None),
         (b"1\x00", None),
     ];
-    for (field, value) in said {
+    for (field, value) in parsed {
         assert_eq!(rt; number(field), value);
     }
     assert_eq!(rt; (number_u8(b"255"), number_u8(b"256")), (Some(255), None));
@@ -32,7 +32,7 @@ fn numbers(rt: HostRuntime) {
 
 #[test]
 fn bytes(rt: HostRuntime) -> Result<(), Fail> {
-    let said: [(&[u8], Option<&[u8]>); 8] = [
+    let parsed: [(&[u8], Option<&[u8]>); 8] = [
         (b"-", Some(b"")),
         (b"a1", Some(b"\xa1")),
         (b"A1bC", Some(b"\xa1\xbc")),
@@ -42,7 +42,7 @@ fn bytes(rt: HostRuntime) -> Result<(), Fail> {
         (b"--", None),
         (b"0x", None),
     ];
-    for (field, value) in said {
+    for (field, value) in parsed {
         assert_eq!(rt; hex_bytes(rt.alloc(), field)?.as_deref(), value);
     }
     assert_eq!(rt;
@@ -56,7 +56,7 @@ fn bytes(rt: HostRuntime) -> Result<(), Fail> {
 
 #[test]
 fn addresses(rt: HostRuntime) -> Result<(), Fail> {
-    let said: [(&[u8], Option<[u8; 4]>); 8] = [
+    let parsed: [(&[u8], Option<[u8; 4]>); 8] = [
         (b"127.0.0.1", Some([127, 0, 0, 1])),
         (b"208.017.50.0000000004", Some([208, 17, 50, 4])),
         (b"255.255.255.255", Some([255; 4])),
@@ -66,7 +66,7 @@ fn addresses(rt: HostRuntime) -> Result<(), Fail> {
         (b"127..0.1", None),
         (b"", None),
     ];
-    for (field, value) in said {
+    for (field, value) in parsed {
         assert_eq!(rt; ip(rt.alloc(), field)?, value);
     }
     Ok(())
@@ -82,8 +82,8 @@ fn lines_and_fields(rt: HostRuntime) -> Result<(), Fail> {
         (b"join\n", &[b"join"]),
         (b"# one\n\nstats", &[b"# one", b"", b"stats"]),
     ];
-    for (text, said) in cut {
-        assert_eq!(rt; lines(alloc, text)?.as_slice(), said);
+    for (text, parsed) in cut {
+        assert_eq!(rt; lines(alloc, text)?.as_slice(), parsed);
     }
     let parts: [&[u8]; 4] = [b"", b"data", b"", b"1"];
     assert_eq!(rt; fields(alloc, b" data  1")?.as_slice(), parts.as_slice());

@@ -3,12 +3,12 @@
 ghost use Rattle.std.specs.Prelude.{◌≡◌, map};
 ghost use Rattle.gn_text.specs.Faults.{IsRead, refused_at};
 ghost use Rattle.gn_text.specs.Header.{config_from, header_of, header_seen, own_from};
-ghost use Rattle.gn_text.specs.Said.{line_seen};
+ghost use Rattle.gn_text.specs.Parsed.{line_seen};
 ghost use Rattle.gn_text.specs.Settings.{numbers_of};
 
 use crate::fault::{CaptureFault, CaptureRefusal, Cause};
 use crate::line::{fields, is_word};
-use crate::said::SaidLine;
+use crate::parsed::NumberedLine;
 use crate::settings::{read_config, read_own};
 use gn_rules::Config;
 use std::alloc::Allocator;
@@ -22,9 +22,9 @@ fn refused(line: u64, cause: Cause) -> CaptureRefusal
 fn read_own_line<'a, 'b, A: Allocator + Copy>(
     alloc: A,
     mut config: Config,
-    lines: &'b [SaidLine<'a>],
+    lines: &'b [NumberedLine<'a>],
     behind: u64,
-) -> Result<(Config, &'b [SaidLine<'a>]), CaptureRefusal>
+) -> Result<(Config, &'b [NumberedLine<'a>]), CaptureRefusal>
     ensures { IsRead header_seen result (own_from (numbers_of config) behind (map line_seen lines.now)) }
 {
     match lines {
@@ -41,9 +41,9 @@ fn read_own_line<'a, 'b, A: Allocator + Copy>(
 
 fn read_config_line<'a, 'b, A: Allocator + Copy>(
     alloc: A,
-    lines: &'b [SaidLine<'a>],
+    lines: &'b [NumberedLine<'a>],
     behind: u64,
-) -> Result<(Config, &'b [SaidLine<'a>]), CaptureRefusal>
+) -> Result<(Config, &'b [NumberedLine<'a>]), CaptureRefusal>
     ensures { IsRead header_seen result (config_from behind (map line_seen lines.now)) }
 {
     match lines {
@@ -61,9 +61,9 @@ fn read_config_line<'a, 'b, A: Allocator + Copy>(
 pub fn read_header<'a, 'b, A: Allocator + Copy>(
     alloc: A,
     title: &[u8],
-    lines: &'b [SaidLine<'a>],
+    lines: &'b [NumberedLine<'a>],
     behind: u64,
-) -> Result<(Config, &'b [SaidLine<'a>]), CaptureRefusal>
+) -> Result<(Config, &'b [NumberedLine<'a>]), CaptureRefusal>
     ensures { IsRead header_seen result (header_of title.now behind (map line_seen lines.now)) }
 {
     match lines {

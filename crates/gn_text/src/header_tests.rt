@@ -1,4 +1,4 @@
-//! Headers, lawful and not.
+//! Headers, valid and not.
 
 use super::*;
 use gn_rules::{Config, Own};
@@ -50,19 +50,19 @@ const FAULTS: [(&[u8], u64, Cause); 13] = [
 ];
 
 fn read(rt: &HostRuntime, text: &[u8]) -> Result<(Config, usize), CaptureRefusal> {
-    let said = said_lines(rt.alloc(), text)?;
-    match read_header(rt.alloc(), TITLE, &said.lines, said.behind) {
+    let parsed = numbered_lines(rt.alloc(), text)?;
+    match read_header(rt.alloc(), TITLE, &parsed.lines, parsed.behind) {
         Ok((config, more)) => Ok((config, more.len())),
         Err(refusal) => Err(refusal),
     }
 }
 
 #[test]
-fn lawful(rt: HostRuntime) -> Result<(), Fail> {
+fn valid(rt: HostRuntime) -> Result<(), Fail> {
     let text = b"# a capture\n\ngnutella-capture 1\nconfig 04 8 4 4096 8 1000000\nown \
         EEeeeeeeeeeeeeeeeeeeeeeeeeeeeeee 127.0.0.01 0 5 4294967295\njoin\n# two\nroute 0";
     let Ok((config, more)) = read(&rt, text) else {
-        return Err(Fail::new("it is lawful"));
+        return Err(Fail::new("it is valid"));
     };
     assert_eq!(rt;
         [

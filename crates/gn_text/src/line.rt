@@ -15,7 +15,7 @@ fn without_last_feed(text: &[u8]) -> &[u8]
     }
 }
 
-/// The parts of a text between the marks. An `Err` is want of memory.
+/// The parts of a text between the marks. An `Err` is out of memory.
 pub(crate) fn parts<A: Allocator + Copy>(
     alloc: A,
     text: &[u8],
@@ -27,7 +27,7 @@ pub(crate) fn parts<A: Allocator + Copy>(
 }
 
 /// The lines of a text, without their line feeds; the last line feed may be missing. An empty text has none. An `Err`
-/// is want of memory.
+/// is out of memory.
 pub fn lines<A: Allocator + Copy>(alloc: A, text: &[u8]) -> Result<Vec<&[u8], A>, AllocError>
     ensures { IfOk result (λ v. map (λ x. x.now) v.items ≡ lines_of text.now) }
 {

@@ -45,7 +45,7 @@ fn write_frame_fault<B: Allocator>(
 }
 
 /// Appends the line of a descriptor that a link can't have, `fault LINK fixed KIND LENGTH` or `fault LINK long LENGTH`,
-/// the length in bytes of payload. An `Err` is want of memory, and changes nothing.
+/// the length in bytes of payload. An `Err` is out of memory, and changes nothing.
 pub fn push_frame_fault<A: Allocator + Copy, B: Allocator>(
     alloc: A,
     out: &mut Vec<u8, B>,
@@ -77,7 +77,7 @@ pub fn push_greeting_refused<A: Allocator + Copy, B: Allocator>(
     out.extend_from_slice(&text)
 }
 
-/// Appends the line of bytes for a link that has ended, `ended LINK`. An `Err` is want of memory, and changes nothing.
+/// Appends the line of bytes for a link that has ended, `ended LINK`. An `Err` is out of memory, and changes nothing.
 pub fn push_ended<A: Allocator + Copy, B: Allocator>(
     alloc: A,
     out: &mut Vec<u8, B>,

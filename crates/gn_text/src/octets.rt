@@ -1,18 +1,18 @@
 //! Bytes in hex digits of either case.
 
 ghost use Rattle.std.specs.Prelude.{◌≡◌, IfOk, option_map};
-ghost use Rattle.gn_text.specs.Bytes.{bytes_said, guid_of};
+ghost use Rattle.gn_text.specs.Bytes.{bytes_parsed, guid_of};
 
 use gn_wire::Guid;
 use hex::FromHexError;
 use std::alloc::{AllocError, Allocator};
 
-/// The bytes that pairs of hex digits say, or `-` for none; an empty field says nothing. An `Err` is want of memory.
+/// The bytes that pairs of hex digits say, or `-` for none; an empty field says nothing. An `Err` is out of memory.
 pub fn hex_bytes<A: Allocator + Copy>(
     alloc: A,
     field: &[u8],
 ) -> Result<Option<Vec<u8, A>>, AllocError>
-    ensures { IfOk result (λ found. option_map (λ v. v.items) found ≡ bytes_said field.now) }
+    ensures { IfOk result (λ found. option_map (λ v. v.items) found ≡ bytes_parsed field.now) }
 {
     match field {
         [] => Ok(None),

@@ -7,7 +7,7 @@ ghost use Rattle.gn_text.specs.Addresses.{ip_text};
 use itoa::Buffer;
 use std::alloc::{AllocError, Allocator};
 
-/// Appends a number in decimal digits without leading zeros. An `Err` is want of memory.
+/// Appends a number in decimal digits without leading zeros. An `Err` is out of memory.
 pub fn push_number<B: Allocator>(out: &mut Vec<u8, B>, number: u32) -> Result<(), AllocError>
     ensures ok { OnOk result (out.new.items ≡ out.old.items ++ decimal number) }
     ensures err { OnErr result (out.new.items ≡ out.old.items) }
@@ -16,7 +16,7 @@ pub fn push_number<B: Allocator>(out: &mut Vec<u8, B>, number: u32) -> Result<()
     out.extend_from_slice(buffer.format(number).as_bytes())
 }
 
-/// Appends bytes in hex digits of lower case, two for each byte. An `Err` is want of memory.
+/// Appends bytes in hex digits of lower case, two for each byte. An `Err` is out of memory.
 pub fn push_hex<A: Allocator, B: Allocator>(
     alloc: A,
     out: &mut Vec<u8, B>,
@@ -29,7 +29,7 @@ pub fn push_hex<A: Allocator, B: Allocator>(
     out.extend_from_slice(text.as_bytes())
 }
 
-/// Appends an address in dotted decimal. An `Err` is want of memory.
+/// Appends an address in dotted decimal. An `Err` is out of memory.
 pub fn push_ip<A: Allocator, B: Allocator>(
     alloc: A,
     out: &mut Vec<u8, B>,

@@ -6,7 +6,7 @@ ghost use Rattle.gn_text.specs.Refusals.{refusal_text};
 use gn_rules::Refusal;
 use std::alloc::{AllocError, Allocator};
 
-/// Appends the line of a refusal, `refused NAME`. An `Err` is want of memory, and changes nothing.
+/// Appends the line of a refusal, `refused NAME`. An `Err` is out of memory, and changes nothing.
 pub fn push_refusal<B: Allocator>(out: &mut Vec<u8, B>, refusal: Refusal) -> Result<(), AllocError>
     ensures ok { OnOk result (out.new.items ≡ out.old.items ++ refusal_text refusal) }
     ensures err { OnErr result (out.new.items ≡ out.old.items) }

@@ -1,7 +1,7 @@
 //! The lines of a configuration, read and written.
 
 ghost use Rattle.std.specs.Prelude.{◌≡◌, map, option_map, IfOk, ◌++◌, OnOk, OnErr};
-ghost use Rattle.gn_text.specs.Settings.{config_of, numbers_of, numbers_said, numbers_within, own_of, servent_said, config_text, field_text, own_text, settings_text};
+ghost use Rattle.gn_text.specs.Settings.{config_of, numbers_of, numbers_parsed, numbers_within, own_of, servent_parsed, config_text, field_text, own_text, settings_text};
 
 use crate::address::ip;
 use crate::line::is_word;
@@ -31,7 +31,7 @@ fn within(k: u32, n: u32, m: u32, t: u32, w: u32, h: u32) -> Option<Config>
 }
 
 fn read_numbers(fields: &[&[u8]]) -> Option<Config>
-    ensures { option_map numbers_of result ≡ numbers_said (map (λ x. x.now) fields.now) }
+    ensures { option_map numbers_of result ≡ numbers_parsed (map (λ x. x.now) fields.now) }
 {
     match fields {
         [k, n, m, t, w, h] => within(
@@ -58,7 +58,7 @@ pub fn read_config(fields: &[&[u8]]) -> Option<Config>
 }
 
 fn read_servent<A: Allocator + Copy>(alloc: A, fields: &[&[u8]]) -> Result<Option<Own>, AllocError>
-    ensures { IfOk result (λ own. own ≡ servent_said (map (λ x. x.now) fields.now)) }
+    ensures { IfOk result (λ own. own ≡ servent_parsed (map (λ x. x.now) fields.now)) }
 {
     let [servent, address, port, files, kbytes] = fields else {
         return Ok(None);
@@ -87,7 +87,7 @@ fn read_servent<A: Allocator + Copy>(alloc: A, fields: &[&[u8]]) -> Result<Optio
     }))
 }
 
-/// The servent that the fields of a line `own SERVENT IP PORT FILES KBYTES` say. An `Err` is want of memory.
+/// The servent that the fields of a line `own SERVENT IP PORT FILES KBYTES` say. An `Err` is out of memory.
 pub fn read_own<A: Allocator + Copy>(alloc: A, fields: &[&[u8]]) -> Result<Option<Own>, AllocError>
     ensures { IfOk result (λ own. own ≡ own_of (map (λ x. x.now) fields.now)) }
 {

@@ -55,7 +55,7 @@ fn write_counts<B: Allocator>(
     Ok(())
 }
 
-/// Appends the line of the counters: `stats`, then each counter's name and number. An `Err` is want of memory, and
+/// Appends the line of the counters: `stats`, then each counter's name and number. An `Err` is out of memory, and
 /// changes nothing.
 pub fn push_stats<A: Allocator + Copy, B: Allocator>(
     alloc: A,

@@ -28,7 +28,7 @@ fn write_step<A: Allocator + Copy, B: Allocator>(
     out.extend_from_slice(b"\n")
 }
 
-/// Appends the line of the step of these parts. An `Err` is want of memory, and changes nothing.
+/// Appends the line of the step of these parts. An `Err` is out of memory, and changes nothing.
 pub fn push_step_of<A: Allocator + Copy, B: Allocator>(
     alloc: A,
     out: &mut Vec<u8, B>,
@@ -45,7 +45,7 @@ pub fn push_step_of<A: Allocator + Copy, B: Allocator>(
     out.extend_from_slice(&text)
 }
 
-/// Appends the line of a step, `ACTOR EVENT = REPLY`. An `Err` is want of memory, and changes nothing.
+/// Appends the line of a step, `ACTOR EVENT = REPLY`. An `Err` is out of memory, and changes nothing.
 pub fn push_step<A: Allocator + Copy, B: Allocator>(
     alloc: A,
     out: &mut Vec<u8, B>,

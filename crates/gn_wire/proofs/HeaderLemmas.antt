@@ -10,7 +10,7 @@ use Rattle.byteorder.specs.Numbers.{little_number-reads_back}
 use Rattle.gn_wire.specs.declared.header.Header.{Header}
 use Rattle.gn_wire.specs.declared.kind.Kind.{Kind}
 use Rattle.gn_wire.specs.Kinds.{code_of, kind_of, IsStored}
-use Rattle.gn_wire.specs.Spelling.{header_bytes, header_at}
+use Rattle.gn_wire.specs.Encoding.{header_bytes, header_at}
 use Rattle.gn_wire.proofs.KindLemmas.{code_of-kind_of}
 use Rattle.std.proofs.lemmas.Grind.{common_steps}
 use borrow.Rule.Slice.PartMut.{put_mid}
@@ -30,9 +30,9 @@ header_written id c t h w e =
     rw (first, second, third, front, back) (simp (append_assoc, append-nil))
 
 -- the same with what each part is known to be
-pub header_spelled : (id id' : List ℕ) (c c' t h : ℕ) (w w' : List ℕ) → length id ≡ 16 → id ≡ id' → c ≡ c' → w ≡ w'
+pub header_encoded : (id id' : List ℕ) (c c' t h : ℕ) (w w' : List ℕ) → length id ≡ 16 → id ≡ id' → c ≡ c' → w ≡ w'
     → put_mid 19 4 (set (set (set (id ++ 0 ∷ 0 ∷ 0 ∷ 0 ∷ 0 ∷ 0 ∷ 0 ∷ []) 16 c) 17 t) 18 h) w ≡ id' ++ (c' ∷ t ∷ h ∷ w')
-header_spelled id id' c c' t h w w' e id_is c_is w_is =
+header_encoded id id' c c' t h w w' e id_is c_is w_is =
     header_written id c t h w e ∙ rw (id_is, c_is, w_is) refl
 
 -- the parts read one after another
@@ -49,7 +49,7 @@ header_read bs e fits =
     ∙ ap (λ (z : List ℕ). take 16 bs ++ z) (sym at_16)
     ∙ take-append-drop 16 bs
 
--- the bytes are the spelling of the header that they tell
+-- the bytes are the encoding of the header that they tell
 pub header_bytes-header_at : (bs : List ℕ) → length bs ≡ 23 → ((k : ℕ) → get_or bs k 0 < 256) → header_bytes (header_at bs) ≡ bs
 header_bytes-header_at bs e fits =
     ap (λ (x : ℕ). take 16 bs ++ (x ∷ get_or bs 17 0 ∷ get_or bs 18 0 ∷ little_bytes 4 (little_number 4 (drop 19 bs)))) (code_of-kind_of (get_or bs 16 0))
@@ -64,7 +64,7 @@ header_is : (i j : List ℕ) (k l : Kind) (t u a b n m : ℕ) → i ≡ j → k 
     → ◌≡◌ {A = Header} (record { id = record { 0 = i }; kind = k; ttl = t; hops = a; length = n }) (record { id = record { 0 = j }; kind = l; ttl = u; hops = b; length = m })
 header_is i j k l t u a b n m e1 e2 e3 e4 e5 = rw (e1, e2, e3, e4, e5) refl
 
--- the header that a spelling tells
+-- the header that an encoding tells
 pub header_at-header_bytes : (h : Header) → length h.id.0 ≡ 16 → h.length < 2 ^ 32 → IsStored h.kind → header_at (header_bytes h) ≡ h
 header_at-header_bytes h e fits stored =
     let tail = code_of h.kind ∷ h.ttl ∷ h.hops ∷ little_bytes 4 h.length in

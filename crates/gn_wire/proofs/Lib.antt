@@ -3,4 +3,4 @@ pub mod HeaderLemmas
 pub mod KeyLemmas
 pub mod KindLemmas
 pub mod ReturnLemmas
-pub mod SpellingLemmas
+pub mod EncodingLemmas

@@ -4,10 +4,10 @@ use Rattle.std.proofs.lemmas.List.{length-take-le}
 use Rattle.gn_wire.specs.declared.header.FrameFault.{FrameFault}
 use Rattle.gn_wire.specs.declared.header.Header.{Header}
 use Rattle.gn_wire.specs.Lengths.{fault_of, unless_fault}
-use Rattle.gn_wire.specs.Spelling.{IsHeader, HeadersReturn, header_at, header_bytes, reading}
+use Rattle.gn_wire.specs.Encoding.{IsHeader, HeadersReturn, header_at, header_bytes, reading}
 use Rattle.gn_wire.proofs.HeaderLemmas.{header_at-header_bytes, header_bytes-header_at}
 use Rattle.gn_wire.proofs.KindLemmas.{stored-kind_of}
-use Rattle.gn_wire.proofs.SpellingLemmas.{lawful_short}
+use Rattle.gn_wire.proofs.EncodingLemmas.{valid_short}
 
 -- what is read is what the bytes tell
 told_by : (fault : Option FrameFault) (g h : Header) → unless_fault fault g ≡ Ok h → g ≡ h
@@ -17,31 +17,31 @@ told_by (Some fault) g h is = absurd (cc)
 written : (h : Header) → IsHeader h → reading (header_bytes h) ≡ Ok h
 written h is =
     ap (λ (g : Header). unless_fault (fault_of g.kind g.length) g) (header_at-header_bytes h is.id_size is.length_fits is.stored)
-    ∙ ap (λ (f : Option FrameFault). unless_fault f h) is.lawful
+    ∙ ap (λ (f : Option FrameFault). unless_fault f h) is.valid
 
 read : (bytes : List ℕ) (h : Header) → length bytes ≡ 23 → ((k : ℕ) → get_or bytes k 0 < 256) → reading bytes ≡ Ok h → header_bytes h ≡ bytes
 read bytes h e fits is =
     ap header_bytes (sym (told_by (fault_of (header_at bytes).kind (header_at bytes).length) (header_at bytes) h is)) ∙ header_bytes-header_at bytes e fits
 
 -- what is read has no fault
-lawful_by : (fault : Option FrameFault) (g h : Header) → unless_fault fault g ≡ Ok h → fault ≡ None
-lawful_by None g h is = refl
-lawful_by (Some fault) g h is = absurd (cc)
+valid_by : (fault : Option FrameFault) (g h : Header) → unless_fault fault g ≡ Ok h → fault ≡ None
+valid_by None g h is = refl
+valid_by (Some fault) g h is = absurd (cc)
 
--- what 23 bytes tell is a header, where its length is lawful
+-- what 23 bytes tell is a header, where its length is valid
 told_is_header : (bytes : List ℕ) → length bytes ≡ 23 → fault_of (header_at bytes).kind (header_at bytes).length ≡ None → IsHeader (header_at bytes)
-told_is_header bytes e lawful =
+told_is_header bytes e valid =
     record {
       id_size = length-take-le 16 bytes (omega arith);
       stored = stored-kind_of (get_or bytes 16 0);
-      length_fits = lawful_short (header_at bytes).kind (header_at bytes).length lawful;
-      lawful = lawful;
+      length_fits = valid_short (header_at bytes).kind (header_at bytes).length valid;
+      valid = valid;
     }
 
 found : (bytes : List ℕ) (h : Header) → length bytes ≡ 23 → ((k : ℕ) → get_or bytes k 0 < 256) → reading bytes ≡ Ok h → IsHeader h
 found bytes h e fits is =
     let fault = fault_of (header_at bytes).kind (header_at bytes).length in
-    subst IsHeader (told_by fault (header_at bytes) h is) (told_is_header bytes e (lawful_by fault (header_at bytes) h is))
+    subst IsHeader (told_by fault (header_at bytes) h is) (told_is_header bytes e (valid_by fault (header_at bytes) h is))
 
 pub headers_return : HeadersReturn
 headers_return = record { written = written; read = read; found = found }

@@ -1,4 +1,4 @@
--- The payload lengths that are lawful, and the fault of one that isn't.
+-- The payload lengths that are valid, and the fault of one that isn't.
 use Rattle.std.specs.Prelude.{◌≡◌, ◌<◌, ℕ, ◌==◌, nat_le, if◌then◌else◌, length, min, Option, Some, None, Result, Ok, Err}
 use Rattle.gn_wire.specs.declared.kind.Kind.{Kind}
 use Rattle.gn_wire.specs.declared.kind.Kind.TheVariants.{Ping, Pong, Push, Query, QueryHit, Unknown}
@@ -33,10 +33,10 @@ unless_fault (Some fault) x = Err fault
 abbrev pub packet_fault : Packet → Option FrameFault
 packet_fault d = fault_of d.kind (min (length d.payload) 4294967295)
 
--- what every descriptor keeps: a lawful length, the kind that its code names, an ID of 16 bytes, and TTL and Hops that
+-- what every descriptor keeps: a valid length, the kind that its code names, an ID of 16 bytes, and TTL and Hops that
 -- fit a byte
 pub record IsDescriptor (d : Packet) : Type 0 where
-  pub lawful : fault_of d.kind (length d.payload) ≡ None
+  pub valid : fault_of d.kind (length d.payload) ≡ None
   pub stored : IsStored d.kind
   pub id_size : length d.id.0 ≡ 16
   pub ttl_fits : d.ttl < 256

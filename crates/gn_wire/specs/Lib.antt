@@ -4,4 +4,4 @@ pub mod Keys
 pub mod Kinds
 pub mod Lengths
 pub mod Packet
-pub mod Spelling
+pub mod Encoding

@@ -1,4 +1,4 @@
-//! A descriptor: its header's fields and its payload, of a lawful length.
+//! A descriptor: its header's fields and its payload, of a valid length.
 
 ghost use Rattle.std.specs.Prelude.{◌≡◌, ◌<◌, ◌+◌, ◌++◌, length, IsTrue, ◌↔◌, MatchOption, true, false, IfOk, OnOk, OnErr, vec_len, vec_capacity};
 
@@ -37,9 +37,9 @@ impl<A: Allocator> Descriptor<A> {
     ghost use Rattle.gn_wire.specs.Kinds.{code_of, kind_of};
     ghost use Rattle.gn_wire.specs.Lengths.{IsDescriptor, packet_fault, unless_fault};
     ghost use Rattle.gn_wire.specs.Packet.{Packet};
-    ghost use Rattle.gn_wire.specs.Spelling.{bytes_of, header_of};
+    ghost use Rattle.gn_wire.specs.Encoding.{bytes_of, header_of};
 
-    /// A descriptor of these parts, where the payload's length is lawful; else the fault. The kind is kept as the one
+    /// A descriptor of these parts, where the payload's length is valid; else the fault. The kind is kept as the one
     /// that its code names. A payload longer than a u32 can tell is told as 4,294,967,295 bytes.
     pub fn new(
         id: Guid,
@@ -123,7 +123,7 @@ impl<A: Allocator> Descriptor<A> {
             && self.payload.as_slice() == other.payload.as_slice()
     }
 
-    /// The header that its spelling begins with.
+    /// The header that its encoding begins with.
     pub fn header(&self) -> Header
         ensures { result ≡ header_of self.now }
     {
@@ -136,8 +136,8 @@ impl<A: Allocator> Descriptor<A> {
         }
     }
 
-    /// Appends the spelling, 23 bytes and the payload. An `Err` is want of memory: it comes only where the vector has no
-    /// room for the spelling, and changes nothing.
+    /// Appends the encoding, 23 bytes and the payload. An `Err` is out of memory: it comes only where the vector has no
+    /// room for the encoding, and changes nothing.
     pub fn write_to<B: Allocator>(&self, out: &mut Vec<u8, B>) -> Result<(), AllocError>
         ensures ok { OnOk result (out.new.items ≡ out.old.items ++ bytes_of self.now) }
         ensures err { OnErr result (out.new.items ≡ out.old.items) }
@@ -152,7 +152,7 @@ impl<A: Allocator> Descriptor<A> {
         Ok(())
     }
 
-    /// An equal descriptor. An `Err` is want of memory.
+    /// An equal descriptor. An `Err` is out of memory.
     pub fn copy(&self) -> Result<Self, AllocError>
         ensures { IfOk result (λ d. d ≡ self.now) }
     {

@@ -2,7 +2,7 @@
 
 ghost use Rattle.std.specs.Prelude.{◌≡◌, Ok};
 ghost use Rattle.gn_wire.specs.Lengths.{fault_of};
-ghost use Rattle.gn_wire.specs.Spelling.{header_at, header_bytes, reading};
+ghost use Rattle.gn_wire.specs.Encoding.{header_at, header_bytes, reading};
 
 use crate::kind::{Guid, Kind};
 use byteorder::{ByteOrder, LittleEndian};
@@ -73,7 +73,7 @@ fn header_in(bytes: &[u8; 23]) -> Header
     }
 }
 
-/// The header that the bytes tell; where its length isn't lawful, the fault.
+/// The header that the bytes tell; where its length isn't valid, the fault.
 pub fn read_header(bytes: &[u8; 23]) -> Result<Header, FrameFault>
     ensures { result ≡ reading bytes.now }
 {

@@ -1,7 +1,7 @@
-//! Laws of spellings and headers that no one call shows.
+//! Laws of encodings and headers that no one call shows.
 
 ghost use Rattle.gn_wire.specs.Equality.{SameIsEqual};
-ghost use Rattle.gn_wire.specs.Spelling.{HeadersReturn, SpellingsPart};
+ghost use Rattle.gn_wire.specs.Encoding.{HeadersReturn, EncodingsPart};
 
 /// The law that a header is read back from its bytes, that the bytes which a header was read of are its own, and that what
 /// 23 bytes are read as is a header.
@@ -14,7 +14,7 @@ pub fn same_is_equal()
     ensures { SameIsEqual }
 {}
 
-/// The law that no spelling begins another, so that a stream of descriptors is cut in one way.
-pub fn spellings_part()
-    ensures { SpellingsPart }
+/// The law that no encoding begins another, so that a stream of descriptors is cut in one way.
+pub fn encodings_part()
+    ensures { EncodingsPart }
 {}

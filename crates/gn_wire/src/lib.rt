@@ -1,4 +1,4 @@
-//! Descriptors of Gnutella v0.4: their kinds, their header and their spelling.
+//! Descriptors of Gnutella v0.4: their kinds, their header and their encoding.
 #![tactic(auto)]
 
 mod descriptor;
@@ -13,4 +13,4 @@ pub use descriptor::Descriptor;
 pub use header::{FrameFault, Header, length_fault, read_header, write_header};
 pub use key::Key;
 pub use kind::{Guid, Kind};
-pub use laws::{headers_return, same_is_equal, spellings_part};
+pub use laws::{encodings_part, headers_return, same_is_equal};

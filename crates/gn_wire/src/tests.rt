@@ -1,4 +1,4 @@
-//! Spellings byte by byte, the table of kinds, and lengths that no descriptor has.
+//! Encodings byte by byte, the table of kinds, and lengths that no descriptor has.
 
 use crate::{Descriptor, FrameFault, Guid, Kind, read_header};
 use bytes::Bytes;
@@ -31,8 +31,8 @@ fn kinds_have_their_codes(rt: HostRuntime) {
 }
 
 #[test]
-fn a_ping_and_a_query_are_spelled(rt: HostRuntime) -> Result<(), Fail> {
-    let spelled = [
+fn a_ping_and_a_query_are_encoded(rt: HostRuntime) -> Result<(), Fail> {
+    let encoded = [
         (
             Kind::Ping,
             7u8,
@@ -48,10 +48,10 @@ fn a_ping_and_a_query_are_spelled(rt: HostRuntime) -> Result<(), Fail> {
             header_bytes([0x80, 5, 1, 4, 0, 0, 0]),
         ),
     ];
-    for (kind, ttl, hops, payload, header) in &spelled {
+    for (kind, ttl, hops, payload, header) in &encoded {
         let bytes = Bytes::copy_from_slice(rt.alloc(), payload)?;
         let Ok(descriptor) = Descriptor::new(A1, *kind, *ttl, *hops, bytes) else {
-            return Err("a lawful length".into());
+            return Err("a valid length".into());
         };
         let mut whole = header.to_vec(rt.alloc())?;
         whole.extend_from_slice(payload)?;
@@ -82,7 +82,7 @@ fn what_is_expired_is_not_forwarded(rt: HostRuntime) -> Result<(), Fail> {
             hops,
             Bytes::copy_from_slice(rt.alloc(), &[])?,
         ) else {
-            return Err("a lawful length".into());
+            return Err("a valid length".into());
         };
         assert_eq!(rt; ping.forwarded().map(|h| (h.ttl, h.hops)), forward);
     }
@@ -90,7 +90,7 @@ fn what_is_expired_is_not_forwarded(rt: HostRuntime) -> Result<(), Fail> {
 }
 
 #[test]
-fn unlawful_lengths_are_faults(rt: HostRuntime) {
+fn invalid_lengths_are_faults(rt: HostRuntime) {
     let lengths = [
         (
             [0x00, 7, 0, 1, 0, 0, 0],

@@ -1,6 +1,6 @@
 use Rattle.std.proofs.Common.{rules, ◌≡◌, ◌++◌, ◌∙◌, ap, sym, take}
 use Rattle.std.specs.List.{concat}
-use Rattle.gn_wire.specs.Spelling.{bytes_of}
+use Rattle.gn_wire.specs.Encoding.{bytes_of}
 use Rattle.gn_bodies.specs.Events.{packets_of}
 use Rattle.gn_rules.specs.declared.event.Event.TheVariants.{Take}
 use Rattle.gn_rules.specs.declared.reply.Reply.TheVariants.{Taken}

@@ -1,5 +1,5 @@
 use Rattle.std.specs.Prelude.{◌≡◌, ◌++◌, drop, map}
-use Rattle.gn_text.specs.Said.{line_seen}
+use Rattle.gn_text.specs.Parsed.{line_seen}
 use Rattle.gn_capture.specs.Histories.{map_result, steps_from}
 use Rattle.gn_capture.proofs.history.read_steps.Given as goal
 

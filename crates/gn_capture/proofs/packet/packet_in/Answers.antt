@@ -1,5 +1,5 @@
 use Rattle.std.proofs.Common.{rules, sym, ap, ◌∙◌}
-use Rattle.gn_wire.specs.Spelling.{reading}
+use Rattle.gn_wire.specs.Encoding.{reading}
 use Rattle.gn_capture.proofs.PacketLemmas.{packet_made}
 use Rattle.gn_capture.proofs.packet.packet_in.Goals as goal
 

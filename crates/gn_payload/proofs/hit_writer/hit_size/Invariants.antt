@@ -1,5 +1,5 @@
 use Rattle.std.proofs.Common.{◌≡◌, ◌+◌, length, map, take}
-use Rattle.gn_payload.specs.Spelling.{results_bytes}
+use Rattle.gn_payload.specs.Encoding.{results_bytes}
 use Rattle.gn_payload.specs.Views.{result_fields}
 use Rattle.gn_payload.proofs.hit_writer.hit_size.Given as goal
 

@@ -1,6 +1,6 @@
 use Rattle.std.proofs.Common.{◌≡◌, ◌≤◌, ◌+◌, ◌++◌, length, map, take, vec_len, vec_capacity}
 use Rattle.std.specs.List.{AllByRecursion}
-use Rattle.gn_payload.specs.Spelling.{HasNumbers, results_bytes}
+use Rattle.gn_payload.specs.Encoding.{HasNumbers, results_bytes}
 use Rattle.gn_payload.specs.Views.{result_fields}
 use Rattle.gn_payload.proofs.hit_writer.put_results.Given as goal
 

@@ -3,7 +3,7 @@ use Rattle.std.proofs.lemmas.List.{length-map}
 use Rattle.gn_payload.specs.Refusals.{zero_in_result}
 use Rattle.gn_payload.specs.Views.{hit_fields, result_fields}
 use Rattle.gn_payload.proofs.EntryLemmas.{any_mapped}
-use Rattle.gn_payload.proofs.HitSpelled.{hit_length, hit_spelled, hit_appended, zero_refused, many_refused, long_refused, none_refused}
+use Rattle.gn_payload.proofs.HitEncoded.{hit_length, hit_encoded, hit_appended, zero_refused, many_refused, long_refused, none_refused}
 use Rattle.gn_payload.proofs.hit_writer.write_hit.Goals as goal
 
 pub returns-clause-ok : goal.returns-clause-ok
@@ -14,7 +14,7 @@ returns-clause-ok g c =
 pub returns-clause-read : goal.returns-clause-read
 returns-clause-read g c =
     let h = hit_fields c.args.port c.args.ip c.args.speed c.args.results.now c.args.trailer.now c.args.servent in
-    hit_spelled h (omega arith) (omega arith) (omega arith) (omega arith) c.put_results.ensures.numbers (any_mapped zero_in_result c.args.results.now ∙ sym c.any_zero.ensures ∙ c.if-any_zero.false)
+    hit_encoded h (omega arith) (omega arith) (omega arith) (omega arith) c.put_results.ensures.numbers (any_mapped zero_in_result c.args.results.now ∙ sym c.any_zero.ensures ∙ c.if-any_zero.false)
 
 pub returns-clause-refusal : goal.returns-clause-refusal
 returns-clause-refusal g c =

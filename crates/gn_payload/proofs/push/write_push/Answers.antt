@@ -1,6 +1,6 @@
 use Rattle.std.proofs.Common.{arith}
-use Rattle.gn_payload.proofs.Spelled.{push_spelled}
+use Rattle.gn_payload.proofs.Encoded.{push_encoded}
 use Rattle.gn_payload.proofs.push.write_push.Goals as goal
 
 pub returns-clause-read : goal.returns-clause-read
-returns-clause-read g c = push_spelled c.args.push.now (omega arith) (omega arith) (omega arith) (omega arith)
+returns-clause-read g c = push_encoded c.args.push.now (omega arith) (omega arith) (omega arith) (omega arith)

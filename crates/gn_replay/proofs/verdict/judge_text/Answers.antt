@@ -10,7 +10,7 @@ pub returns-clause-told : goal.returns-clause-told
 returns-clause-told g c = record {
   settings = c.in_ok-config.config;
   steps = c.in_ok-config.steps.items;
-  said = c.in_ok-config.ensures;
+  parsed = c.in_ok-config.ensures;
   tells =
       told_of c.in_ok-config.config (g.C.RouterCore.settings c.in_ok-core.core) c.in_ok-config.steps.items c.deref.result.now c.in_ok-legality.legality
       c.in_ok-core.ensures.settings c.deref.ensures.value c.in_ok-legality.ensures;

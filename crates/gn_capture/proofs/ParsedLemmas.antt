@@ -3,7 +3,7 @@ use Rattle.std.proofs.Common.{◌≡◌, ℕ, suc, ◌+◌, ◌<◌, ◌≤◌, 
 use Rattle.std.proofs.lemmas.List.{get_or-map, length-map, drop_all}
 use Rattle.std.proofs.Math.Seq.{drop-cons}
 use Rattle.gn_text.specs.Lines.{fields_of}
-use Rattle.gn_text.specs.Said.{line_seen}
+use Rattle.gn_text.specs.Parsed.{line_seen}
 use Rattle.gn_text.specs.declared.fault.CaptureFault.{CaptureFault}
 use Rattle.gn_text.specs.declared.fault.CaptureRefusal.{CaptureRefusal}
 use Rattle.gn_text.specs.declared.fault.CaptureRefusal.TheVariants.{Fault, NoMemory}
@@ -37,10 +37,10 @@ told : {A : Type 0} (front : List (ℕ × Line A)) (links n : ℕ) (text : List 
 told front links n text more line e = rw e (front_more front (n, line) (lines_from (links_after links line) more))
 
 -- line i is read
-pub said_more : {A : Type 0} (front : List (ℕ × Line A)) (links i : ℕ) (lines : List (ℕ × Bor (List ℕ))) (d : ℕ × Bor (List ℕ)) (line : Line A) → i < length lines
+pub numbered_more : {A : Type 0} (front : List (ℕ × Line A)) (links i : ℕ) (lines : List (ℕ × Bor (List ℕ))) (d : ℕ × Bor (List ℕ)) (line : Line A) → i < length lines
     → numbered (get_or lines i d).0 (line_of links (fields_of (get_or lines i d).1.now)) ≡ Ok line
     → left front links i lines ≡ left (front ++ ((get_or lines i d).0, line) ∷ []) (links_after links line) (i + 1) lines
-said_more front links i lines d line h e =
+numbered_more front links i lines d line h e =
     rw (at_index lines i d h) (told front links (get_or lines i d).0 (get_or lines i d).1.now (drop (i + 1) (map line_seen lines)) line e)
 
 failed : {A : Type 0} (front : List (ℕ × Line A)) (links n : ℕ) (text : List ℕ) (more : List (ℕ × List ℕ)) (fault : CaptureFault)
@@ -66,8 +66,8 @@ links_grow links (Originate d) = omega arith
 links_grow links Stats = omega arith
 
 -- no line is left
-pub all_said : {A : Type 0} (front : List (ℕ × Line A)) (links i : ℕ) (lines : List (ℕ × Bor (List ℕ))) → length lines ≤ i
+pub all_parsed : {A : Type 0} (front : List (ℕ × Line A)) (links i : ℕ) (lines : List (ℕ × Bor (List ℕ))) → length lines ≤ i
     → left front links i lines ≡ Ok front
-all_said front links i lines h =
+all_parsed front links i lines h =
     let k : length (map line_seen lines) ≤ i = simp length-map h in
     rw (drop_all i (map line_seen lines) k, append-nil front) refl

@@ -31,23 +31,23 @@ keeps Push reply = keeps_push (dropped_of reply)
 keeps kind reply = false
 
 -- the key and the source that a route with this reply keeps: the source is the connection that admitted it
-abbrev pub route_sight : {A : Type 0} → Reply A → Admission → Option (Key × ℕ)
-route_sight reply a = if keeps a.packet.kind reply then Some (key_of a.packet, a.origin) else None
+abbrev pub route_entry : {A : Type 0} → Reply A → Admission → Option (Key × ℕ)
+route_entry reply a = if keeps a.packet.kind reply then Some (key_of a.packet, a.origin) else None
 
--- the kept sight that a step makes: of a route, or of the local servent's own descriptor that was sent, whose source is 0
-abbrev pub sight_of : {A : Type 0} → List (Step A) → Event A → Reply A → Option (Key × ℕ)
-sight_of earlier (Route t) reply = option_and_then (route_sight reply) (admission earlier t)
-sight_of earlier (Originate d) reply = if is_sent_reply reply then Some (key_of d, 0) else None
-sight_of earlier event reply = None
+-- the kept entry that a step makes: of a route, or of the local servent's own descriptor that was sent, whose source is 0
+abbrev pub entry_of : {A : Type 0} → List (Step A) → Event A → Reply A → Option (Key × ℕ)
+entry_of earlier (Route t) reply = option_and_then (route_entry reply) (admission earlier t)
+entry_of earlier (Originate d) reply = if is_sent_reply reply then Some (key_of d, 0) else None
+entry_of earlier event reply = None
 
--- the kept sights, the newest first
-abbrev pub sights : {A : Type 0} → List (Step A) → List (Key × ℕ)
-sights [] = []
-sights (step ∷ earlier) = option_to_list (sight_of earlier step.event step.reply) ++ sights earlier
+-- the kept entries, the newest first
+abbrev pub seen_entries : {A : Type 0} → List (Step A) → List (Key × ℕ)
+seen_entries [] = []
+seen_entries (step ∷ earlier) = option_to_list (entry_of earlier step.event step.reply) ++ seen_entries earlier
 
--- the source of a key: that of its last kept sight, where fewer kept sights follow than are remembered
+-- the source of a key: that of its last kept entry, where fewer kept entries follow than are remembered
 abbrev pub source : {A : Type 0} → Config → List (Step A) → Key → Option ℕ
-source s past key = lookup (is_same_key key) (take s.seen (sights past))
+source s past key = lookup (is_same_key key) (take s.seen (seen_entries past))
 
 -- a key is remembered where it has a source
 abbrev pub is_remembered : {A : Type 0} → Config → List (Step A) → Key → Bool

@@ -1,4 +1,4 @@
--- Spellings in a stream of bytes.
+-- Encodings in a stream of bytes.
 use Rattle.std.proofs.Common.{◌≡◌, ℕ, ◌+◌, ◌<◌, ◌^◌, List, [], ◌∷◌, ◌++◌, length, take, drop, None, refl, sym, ap, ◌∙◌, arith, append_assoc, length-append}
 use Rattle.std.proofs.lemmas.Bool.Decides.{nat_tests}
 use Rattle.std.proofs.lemmas.List.{take_at, drop_at, append-nil}
@@ -10,17 +10,17 @@ use Rattle.gn_wire.specs.declared.kind.Guid.{Guid}
 use Rattle.gn_wire.specs.Kinds.{code_of}
 use Rattle.gn_wire.specs.Lengths.{fault_of, IsDescriptor}
 use Rattle.gn_wire.specs.Packet.{Packet}
-use Rattle.gn_wire.specs.Spelling.{header_bytes, header_of, header_at, bytes_of, SpellingsPart}
+use Rattle.gn_wire.specs.Encoding.{header_bytes, header_of, header_at, bytes_of, EncodingsPart}
 use Rattle.gn_wire.proofs.HeaderLemmas.{header_at-header_bytes}
 
--- a lawful payload has a length that a u32 tells
-pub lawful_short : (kind : Kind) (n : ℕ) → fault_of kind n ≡ None → n < 2 ^ 32
-lawful_short Ping n e = grind (arith, nat_tests)
-lawful_short Pong n e = grind (arith, nat_tests)
-lawful_short Push n e = grind (arith, nat_tests)
-lawful_short Query n e = grind (arith, nat_tests)
-lawful_short QueryHit n e = grind (arith, nat_tests)
-lawful_short (Unknown code) n e = grind (arith, nat_tests)
+-- a valid payload has a length that a u32 tells
+pub valid_short : (kind : Kind) (n : ℕ) → fault_of kind n ≡ None → n < 2 ^ 32
+valid_short Ping n e = grind (arith, nat_tests)
+valid_short Pong n e = grind (arith, nat_tests)
+valid_short Push n e = grind (arith, nat_tests)
+valid_short Query n e = grind (arith, nat_tests)
+valid_short QueryHit n e = grind (arith, nat_tests)
+valid_short (Unknown code) n e = grind (arith, nat_tests)
 
 pub length-header_bytes : (h : Header) → length h.id.0 ≡ 16 → length (header_bytes h) ≡ 23
 length-header_bytes h e =
@@ -30,7 +30,7 @@ length-header_bytes h e =
 pub header_at-stream : (d : Packet) (rest : List ℕ) → IsDescriptor d → header_at (take 23 (bytes_of d ++ rest)) ≡ header_of d
 header_at-stream d rest kept =
     ap header_at (ap (take 23) (append_assoc (header_bytes (header_of d)) d.payload rest) ∙ take_at (header_bytes (header_of d)) (d.payload ++ rest) 23 (length-header_bytes (header_of d) kept.id_size))
-    ∙ header_at-header_bytes (header_of d) kept.id_size (lawful_short d.kind (length d.payload) kept.lawful) kept.stored
+    ∙ header_at-header_bytes (header_of d) kept.id_size (valid_short d.kind (length d.payload) kept.valid) kept.stored
 
 -- what a stream that begins with a descriptor has behind its header
 pub drop-stream : (d : Packet) (rest : List ℕ) → IsDescriptor d → drop 23 (bytes_of d ++ rest) ≡ d.payload ++ rest
@@ -49,8 +49,8 @@ nothing_more p q [] same size = (same ∙ append-nil q, refl)
 nothing_more p q (x ∷ rest) same size =
     absurd (omega (arith, ap length same, length-append q (x ∷ rest)))
 
-pub spellings_part : SpellingsPart
-spellings_part d e rest d_kept e_kept same =
+pub encodings_part : EncodingsPart
+encodings_part d e rest d_kept e_kept same =
     let whole : bytes_of e ++ [] ≡ bytes_of d ++ rest = append-nil (bytes_of e) ∙ same in
     let header : header_of e ≡ header_of d =
     sym (header_at-stream e [] e_kept) ∙ ap (λ (xs : List ℕ). header_at (take 23 xs)) whole ∙ header_at-stream d rest d_kept in

@@ -1,4 +1,4 @@
--- A Query Hit that is spelled is read again.
+-- A Query Hit that is encoded is read again.
 use Rattle.std.proofs.Common.{◌≡◌, ℕ, ◌+◌, ◌-◌, ◌<◌, ◌≤◌, ◌^◌, Bool, true, false, nat_lt, if◌then◌else◌, Option, Some, None, ◌||◌, List, [], ◌∷◌, ◌++◌, length, drop, refl, sym, ap, ◌∙◌, subst, arith, append_assoc, length-append}
 use Rattle.std.specs.List.{AllByRecursion, list_any}
 use Rattle.std.proofs.lemmas.Bool.{false≢true}
@@ -11,16 +11,16 @@ use Rattle.gn_payload.specs.Places.{number_at, bytes_at, hit_middle}
 use Rattle.gn_payload.specs.Refusals.{has_zero, zero_in_result, hit_refusal}
 use Rattle.gn_payload.specs.declared.refusal.WriteRefusal.{WriteRefusal}
 use Rattle.gn_payload.specs.declared.refusal.WriteRefusal.TheVariants.{ZeroInText, TooManyHits, TooLong}
-use Rattle.gn_payload.specs.Spelling.{HasNumbers, result_bytes, results_bytes, hit_bytes}
-use Rattle.gn_payload.proofs.Spelled.{number_there, bytes_there, text_clear}
+use Rattle.gn_payload.specs.Encoding.{HasNumbers, result_bytes, results_bytes, hit_bytes}
+use Rattle.gn_payload.proofs.Encoded.{number_there, bytes_there, text_clear}
 
 -- how many bytes a result has
 pub result_length : (r : ResultFields) → length (result_bytes r) ≡ 10 + length r.name + length r.extra
 result_length r = simp length-append (omega arith)
 
 -- a result's bytes and more have the result as their reading
-result_spelled : (r : ResultFields) (rest : List ℕ) → HasNumbers r → IsText r.name → IsText r.extra → IsResult (result_bytes r ++ rest) r rest
-result_spelled r rest fit name extra =
+result_encoded : (r : ResultFields) (rest : List ℕ) → HasNumbers r → IsText r.name → IsText r.extra → IsResult (result_bytes r ++ rest) r rest
+result_encoded r rest fit name extra =
     let file = little_bytes 4 r.file in
     let size = little_bytes 4 r.size in
     let texts = r.name ++ 0 ∷ (r.extra ++ 0 ∷ rest) in
@@ -28,7 +28,7 @@ result_spelled r rest fit name extra =
     record {
       file = number_there 4 0 r.file [] (size ++ texts) refl fit.file ∙ ap (λ (xs : List ℕ). number_at 4 0 xs) whole;
       size = number_there 4 4 r.size file texts refl fit.size ∙ ap (λ (xs : List ℕ). number_at 4 4 xs) whole;
-      texts = (r.extra ++ 0 ∷ rest, record { spelled = ap (λ (xs : List ℕ). drop 8 xs) (sym whole); nonzero = name }, record { spelled = refl; nonzero = extra });
+      texts = (r.extra ++ 0 ∷ rest, record { encoded = ap (λ (xs : List ℕ). drop 8 xs) (sym whole); nonzero = name }, record { encoded = refl; nonzero = extra });
     }
 
 -- no zero byte in either, where a test of both found none
@@ -37,16 +37,16 @@ neither false b e = (refl, e)
 neither true b e = absurd (false≢true (sym e))
 
 -- results' bytes and more have the results as their reading
-pub results_spelled : (rs : List ResultFields) (rest : List ℕ) → AllByRecursion HasNumbers rs → list_any zero_in_result rs ≡ false
+pub results_encoded : (rs : List ResultFields) (rest : List ℕ) → AllByRecursion HasNumbers rs → list_any zero_in_result rs ≡ false
     → AreResults (results_bytes rs ++ rest) rs rest
-results_spelled [] rest fit clear = refl
-results_spelled (r ∷ rs) rest fit clear =
+results_encoded [] rest fit clear = refl
+results_encoded (r ∷ rs) rest fit clear =
     let more = results_bytes rs ++ rest in
     let first = neither (zero_in_result r) (list_any zero_in_result rs) clear in
     let texts = neither (has_zero r.name) (has_zero r.extra) first.0 in
-    let one = result_spelled r more fit.0 (text_clear r.name texts.0) (text_clear r.extra texts.1) in
+    let one = result_encoded r more fit.0 (text_clear r.name texts.0) (text_clear r.extra texts.1) in
     let P : List ℕ → Type 0 = λ bytes. IsResult bytes r more in
-    (more, subst P (sym (append_assoc (result_bytes r) (results_bytes rs) rest)) one, results_spelled rs rest fit.1 first.1)
+    (more, subst P (sym (append_assoc (result_bytes r) (results_bytes rs) rest)) one, results_encoded rs rest fit.1 first.1)
 
 -- how many bytes a Query Hit has
 pub hit_length : (h : HitFields) → length h.ip ≡ 4 → length h.servent.0 ≡ 16 → length (hit_bytes h) ≡ 27 + length (results_bytes h.results) + length h.trailer
@@ -63,9 +63,9 @@ from_fourth : (a b c d e f : List ℕ) → (a ++ b ++ c) ++ ((d ++ e) ++ f) ≡ 
 from_fourth a b c d e f = simp append_assoc
 
 -- a Query Hit's bytes have the Query Hit as their reading
-pub hit_spelled : (h : HitFields) → length h.ip ≡ 4 → length h.servent.0 ≡ 16 → h.port < 2 ^ 16 → h.speed < 2 ^ 32
+pub hit_encoded : (h : HitFields) → length h.ip ≡ 4 → length h.servent.0 ≡ 16 → h.port < 2 ^ 16 → h.speed < 2 ^ 32
     → AllByRecursion HasNumbers h.results → list_any zero_in_result h.results ≡ false → IsHit (hit_bytes h) h
-hit_spelled h four sixteen port_fits speed_fits fit clear =
+hit_encoded h four sixteen port_fits speed_fits fit clear =
     let n = length h.results in
     let port = little_bytes 2 h.port in
     let speed = little_bytes 4 h.speed in
@@ -89,7 +89,7 @@ hit_spelled h four sixteen port_fits speed_fits fit clear =
       port = number_there 2 1 h.port (n ∷ []) (h.ip ++ (speed ++ (rs ++ (h.trailer ++ id)))) refl port_fits ∙ ap (λ (xs : List ℕ). number_at 2 1 xs) whole;
       ip = bytes_there 4 3 (n ∷ port) h.ip (speed ++ (rs ++ (h.trailer ++ id))) refl four ∙ ap (λ (xs : List ℕ). bytes_at 4 3 xs) whole;
       speed = number_there 4 7 h.speed (n ∷ port ++ h.ip) (rs ++ (h.trailer ++ id)) (omega (arith, length-append (n ∷ port) h.ip)) speed_fits ∙ ap (λ (xs : List ℕ). number_at 4 7 xs) third;
-      results = subst P middle (results_spelled h.results h.trailer fit clear);
+      results = subst P middle (results_encoded h.results h.trailer fit clear);
       servent = ap (λ (xs : List ℕ). record { 0 = xs }) last;
     }
 

@@ -1,4 +1,4 @@
--- A descriptor that was read is spelled by the bytes that it was read of.
+-- A descriptor that was read is encoded by the bytes that it was read of.
 use Rattle.std.proofs.Common.{◌≡◌, ℕ, ◌<◌, ◌≤◌, List, ◌++◌, length, get_or, take, drop, Bool, true, false, refl, sym, ap, ◌∙◌, arith, Result, Ok, Err, Option, Some, None, inl, inr}
 use Rattle.std.specs.Prelude.{◌==◌, nat_lt, if◌then◌else◌}
 use Rattle.std.proofs.lemmas.Bool.{cases_lt}
@@ -9,7 +9,7 @@ use Rattle.gn_wire.specs.declared.header.FrameFault.{FrameFault}
 use Rattle.gn_wire.specs.declared.header.Header.{Header}
 use Rattle.gn_wire.specs.Lengths.{fault_of, unless_fault}
 use Rattle.gn_wire.specs.Packet.{Packet}
-use Rattle.gn_wire.specs.Spelling.{bytes_of, header_at, header_bytes, header_of, reading}
+use Rattle.gn_wire.specs.Encoding.{bytes_of, header_at, header_bytes, header_of, reading}
 use Rattle.gn_wire.proofs.HeaderLemmas.{header_bytes-header_at}
 use Rattle.gn_capture.specs.Packets.{packet_at, packet_from, packet_of}
 
@@ -55,6 +55,6 @@ long_enough bs d true fits e m = absurd (cc)
 long_enough bs d false fits e m =
     let long : 23 ≤ length bs = grind (arith, nat_tests) in behind_header bs d (reading (take 23 bs)) long fits refl m
 
-pub read_is_spelled : (bs : List ℕ) (d : Packet) → IsBytes bs → packet_of bs ≡ Some d → bytes_of d ≡ bs
+pub read_is_encoded : (bs : List ℕ) (d : Packet) → IsBytes bs → packet_of bs ≡ Some d → bytes_of d ≡ bs
 unfolding packet_of
-read_is_spelled bs d fits m = long_enough bs d (nat_lt (length bs) 23) fits refl m
+read_is_encoded bs d fits m = long_enough bs d (nat_lt (length bs) 23) fits refl m

@@ -15,7 +15,7 @@ header_bytes h = h.id.0 ++ (code_of h.kind ∷ h.ttl ∷ h.hops ∷ little_bytes
 abbrev pub header_of : Packet → Header
 header_of d = record { id = d.id; kind = d.kind; ttl = d.ttl; hops = d.hops; length = length d.payload }
 
--- the spelling of a descriptor: its header, then its payload
+-- the encoding of a descriptor: its header, then its payload
 abbrev pub bytes_of : Packet → List ℕ
 bytes_of d = header_bytes (header_of d) ++ d.payload
 
@@ -24,16 +24,16 @@ abbrev pub header_at : List ℕ → Header
 header_at bytes =
     record { id = record { 0 = take 16 bytes }; kind = kind_of (slice_index bytes 16); ttl = slice_index bytes 17; hops = slice_index bytes 18; length = little_number 4 (drop 19 bytes) }
 
--- what is read: the header, where its length is lawful, else the fault
+-- what is read: the header, where its length is valid, else the fault
 abbrev pub reading : List ℕ → Result Header FrameFault
 reading bytes = let h = header_at bytes in unless_fault (fault_of h.kind h.length) h
 
--- a header: an ID of 16 bytes, a kind as descriptors store it, and a lawful length that four bytes hold
+-- a header: an ID of 16 bytes, a kind as descriptors store it, and a valid length that four bytes hold
 pub record IsHeader (h : Header) : Type 0 where
   pub id_size : length h.id.0 ≡ 16
   pub stored : IsStored h.kind
   pub length_fits : h.length < 2 ^ 32
-  pub lawful : fault_of h.kind h.length ≡ None
+  pub valid : fault_of h.kind h.length ≡ None
 
 -- what is written is read: the bytes of a header are read as that header; where 23 bytes are read as a header, they are its
 -- bytes; and what 23 bytes are read as is a header
@@ -42,7 +42,7 @@ pub record HeadersReturn : Type 0 where
   pub read : (bytes : List ℕ) (h : Header) → length bytes ≡ 23 → ((k : ℕ) → slice_index bytes k < 256) → reading bytes ≡ Ok h → header_bytes h ≡ bytes
   pub found : (bytes : List ℕ) (h : Header) → length bytes ≡ 23 → ((k : ℕ) → slice_index bytes k < 256) → reading bytes ≡ Ok h → IsHeader h
 
--- no spelling begins another: a stream that begins with two spellings begins with one
-abbrev pub SpellingsPart : Type 0
-SpellingsPart =
+-- no encoding begins another: a stream that begins with two encodings begins with one
+abbrev pub EncodingsPart : Type 0
+EncodingsPart =
     (d e : Packet) (rest : List ℕ) → IsDescriptor d → IsDescriptor e → bytes_of e ≡ bytes_of d ++ rest → (e ≡ d) × (rest ≡ [])

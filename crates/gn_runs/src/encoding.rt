@@ -1,4 +1,4 @@
-//! Texts of runs, spelled out.
+//! Texts of runs, written out in full.
 //!
 //! A run's text is short for the text of a file: lines stand apart by `; `, and what stands between `<` and `>` is the hex
 //! of a descriptor or an ID: `<PING a1 07 00>` is a Ping whose ID is 16 times a1, its TTL 07 and its Hops 00, and `<a1>` is
@@ -66,7 +66,7 @@ fn push_behind_id<A: Allocator>(
 }
 
 /// The hex of what short words stand for: an ID, or a descriptor by its kind, its ID and more fields.
-fn push_spelled<A: Allocator>(text: &mut String<A>, words: &[&str]) -> Result<(), AllocError> {
+fn push_encoded<A: Allocator>(text: &mut String<A>, words: &[&str]) -> Result<(), AllocError> {
     match words {
         [] => Ok(()),
         [id] => push_id(text, id),
@@ -87,14 +87,14 @@ fn push_line<A: Allocator + Copy>(
             text.push_str(piece)?;
         } else {
             let words: Vec<&str, A> = piece.split(' ').collect(alloc)?;
-            push_spelled(text, &words)?;
+            push_encoded(text, &words)?;
         }
     }
     text.push('\n')
 }
 
 /// The text that a short one stands for.
-pub(crate) fn spelled<A: Allocator + Copy>(alloc: A, short: &str) -> Result<String<A>, AllocError> {
+pub(crate) fn encoded<A: Allocator + Copy>(alloc: A, short: &str) -> Result<String<A>, AllocError> {
     let mut text = String::new(alloc);
     if !short.is_empty() {
         for line in short.split("; ") {

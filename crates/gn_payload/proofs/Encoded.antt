@@ -1,4 +1,4 @@
--- What is spelled is read again.
+-- What is encoded is read again.
 use Rattle.std.proofs.Common.{◌≡◌, ℕ, ◌<◌, ◌^◌, false, List, [], ◌∷◌, ◌++◌, length, take, drop, refl, sym, ap, ◌∙◌, arith, append_assoc, length-append}
 use Rattle.std.proofs.lemmas.List.{take_at, drop_at, append-nil}
 use Rattle.std.proofs.lemmas.Bool.Decides.{nat_tests}
@@ -10,7 +10,7 @@ use Rattle.gn_payload.specs.Fields.{QueryFields}
 use Rattle.gn_payload.specs.Grammar.{IsText, IsPong, IsPush, IsQuery}
 use Rattle.gn_payload.specs.Places.{number_at, bytes_at, push_servent}
 use Rattle.gn_payload.specs.Refusals.{has_zero}
-use Rattle.gn_payload.specs.Spelling.{pong_bytes, push_bytes, query_bytes}
+use Rattle.gn_payload.specs.Encoding.{pong_bytes, push_bytes, query_bytes}
 
 -- a number behind other bytes
 pub number_there : (width place n : ℕ) (front rest : List ℕ) → length front ≡ place → n < 256 ^ width
@@ -37,8 +37,8 @@ at_end : (a b : List ℕ) → a ++ (b ++ []) ≡ a ++ b
 at_end a b = simp append-nil
 
 -- a Pong's bytes have the Pong as their reading
-pub pong_spelled : (p : Pong) → length p.ip ≡ 4 → p.port < 2 ^ 16 → p.files < 2 ^ 32 → p.kbytes < 2 ^ 32 → IsPong (pong_bytes p.port p.ip p.files p.kbytes) p
-pong_spelled p four port_fits files_fits kbytes_fits =
+pub pong_encoded : (p : Pong) → length p.ip ≡ 4 → p.port < 2 ^ 16 → p.files < 2 ^ 32 → p.kbytes < 2 ^ 32 → IsPong (pong_bytes p.port p.ip p.files p.kbytes) p
+pong_encoded p four port_fits files_fits kbytes_fits =
     let two = little_bytes 2 p.port in
     let files = little_bytes 4 p.files in
     let kbytes = little_bytes 4 p.kbytes in
@@ -53,8 +53,8 @@ pong_spelled p four port_fits files_fits kbytes_fits =
     }
 
 -- a Push's bytes have the Push as their reading
-pub push_spelled : (p : Push) → length p.servent.0 ≡ 16 → length p.ip ≡ 4 → p.file < 2 ^ 32 → p.port < 2 ^ 16 → IsPush (push_bytes p) p
-push_spelled p sixteen four file_fits port_fits =
+pub push_encoded : (p : Push) → length p.servent.0 ≡ 16 → length p.ip ≡ 4 → p.file < 2 ^ 32 → p.port < 2 ^ 16 → IsPush (push_bytes p) p
+push_encoded p sixteen four file_fits port_fits =
     let id = p.servent.0 in
     let file = little_bytes 4 p.file in
     let port = little_bytes 2 p.port in
@@ -69,11 +69,11 @@ push_spelled p sixteen four file_fits port_fits =
     }
 
 -- a Query's bytes have the Query as their reading
-pub query_spelled : (q : QueryFields) → q.speed < 2 ^ 16 → has_zero q.text ≡ false → IsQuery (query_bytes q) q
-query_spelled q speed_fits clear =
+pub query_encoded : (q : QueryFields) → q.speed < 2 ^ 16 → has_zero q.text ≡ false → IsQuery (query_bytes q) q
+query_encoded q speed_fits clear =
     let two = little_bytes 2 q.speed in
     let whole : two ++ (q.text ++ 0 ∷ q.tail) ≡ query_bytes q = simp append_assoc in
     record {
       speed = number_there 2 0 q.speed [] (q.text ++ 0 ∷ q.tail) refl speed_fits ∙ ap (λ (xs : List ℕ). number_at 2 0 xs) whole;
-      text = record { spelled = ap (λ (xs : List ℕ). drop 2 xs) (sym whole); nonzero = text_clear q.text clear };
+      text = record { encoded = ap (λ (xs : List ℕ). drop 2 xs) (sym whole); nonzero = text_clear q.text clear };
     }
