@@ -30,8 +30,8 @@ fn any_zero(results: &[HitResult<'_>]) -> bool
     results.iter().any(|entry| has_zero_in(entry))
 }
 
-/// What is left of so many bytes behind a result. `None` where it doesn't fit.
-fn room_behind(entry: &HitResult<'_>, room: usize) -> Option<usize>
+/// What is left of so many bytes after a result. `None` where it doesn't fit.
+fn room_after(entry: &HitResult<'_>, room: usize) -> Option<usize>
     ensures { MatchOption result (room < length (result_bytes (result_fields entry.now)))
         (λ left. left + length (result_bytes (result_fields entry.now)) ≡ room) }
 {
@@ -43,12 +43,12 @@ fn room_behind(entry: &HitResult<'_>, room: usize) -> Option<usize>
 /// How many bytes a Query Hit has with these results and this trailer. `None` where they are more than 65,536.
 #[tactic(auto, using(crate::proofs::EntryLemmas::entry_within))]
 fn hit_size(results: &[HitResult<'_>], trailer: &[u8]) -> Option<usize>
-    ensures { MatchOption result (65536 < 27 + length (results_bytes (map result_fields results.now)) + length trailer.now)
-        (λ size. (size ≡ 27 + length (results_bytes (map result_fields results.now)) + length trailer.now) × (size ≤ 65536)) }
+    ensures { let bytes = 27 + length (results_bytes (map result_fields results.now)) + length trailer.now in
+        MatchOption result (65536 < bytes) (λ size. (size ≡ bytes) × (size ≤ 65536)) }
 {
     let mut left = 65_509;
     for entry in results {
-        left = room_behind(entry, left)?;
+        left = room_after(entry, left)?;
     }
     let left = left.checked_sub(trailer.len())?;
     Some(65_536 - left)
