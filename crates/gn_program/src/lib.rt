@@ -4,12 +4,13 @@
 mod commands;
 mod fault;
 mod help;
+mod options;
 mod request;
-#[cfg(test)]
-mod tests;
+mod serves;
 mod text;
+mod unread;
 mod words;
 
 pub use commands::{command, refuse_words};
-pub use request::Request;
+pub use request::{Peer, Request, Serving};
 pub use words::plain_words_are_read;

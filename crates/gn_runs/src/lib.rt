@@ -6,7 +6,11 @@ mod answer_runs;
 #[cfg(test)]
 mod audits;
 #[cfg(test)]
+mod broken;
+#[cfg(test)]
 mod calls;
+#[cfg(test)]
+mod command_line;
 #[cfg(test)]
 mod commands;
 #[cfg(test)]
@@ -19,6 +23,8 @@ mod encoding;
 mod event_lists;
 #[cfg(test)]
 mod link_runs;
+#[cfg(test)]
+mod load_runs;
 #[cfg(test)]
 mod out_of_memory;
 #[cfg(test)]

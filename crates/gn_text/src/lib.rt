@@ -4,19 +4,13 @@
 mod address;
 mod event;
 mod fault;
-#[cfg(test)]
-mod field_tests;
 mod header;
-#[cfg(test)]
-mod header_tests;
 mod line;
 mod link;
 mod numbers;
 mod octets;
 mod packet;
 mod parsed;
-#[cfg(test)]
-mod print_tests;
 mod push;
 mod refusal;
 mod reply;
@@ -27,7 +21,7 @@ mod step;
 pub use address::ip;
 pub use fault::{CaptureFault, CaptureRefusal, Cause};
 pub use header::read_header;
-pub use line::{fields, is_skipped, is_word, lines};
+pub use line::{fields, fields_into, is_skipped, is_word};
 pub use link::{push_ended, push_frame_fault, push_greeting_refused};
 pub use numbers::{number, number_u8, number_u16};
 pub use octets::{guid, hex_bytes};

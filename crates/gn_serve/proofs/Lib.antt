@@ -1,0 +1,2 @@
+pub mod HistoryLemmas
+mod RoleLemmas

@@ -1,0 +1,271 @@
+//! Payloads byte for byte, both ways: each kind's short forms, a Query Hit of two results, and what is refused.
+
+use bytes::Bytes;
+use gn_payload::*;
+use gn_wire::{Descriptor, Guid, Kind};
+use std::alloc::{AllocError, Allocator};
+use std::test::Fail;
+
+const SERVENT: Guid = Guid([0x5e; 16]);
+
+/// A Pong of another servent, and a router's own.
+const PONGS: [([u8; 14], Pong); 2] = [
+    (
+        [1, 0, 127, 0, 0, 2, 1, 0, 0, 0, 2, 0, 0, 0],
+        Pong {
+            port: 1,
+            ip: [127, 0, 0, 2],
+            files: 1,
+            kbytes: 2,
+        },
+    ),
+    (
+        [0xca, 0x18, 127, 0, 0, 1, 5, 0, 0, 0, 0x28, 0, 0, 0],
+        Pong {
+            port: 6346,
+            ip: [127, 0, 0, 1],
+            files: 5,
+            kbytes: 40,
+        },
+    ),
+];
+
+/// The payload of a Push to the servent whose ID is `5e` sixteen times.
+const PUSH: [u8; 26] = [
+    0x5e, 0x5e, 0x5e, 0x5e, 0x5e, 0x5e, 0x5e, 0x5e, 0x5e, 0x5e, 0x5e, 0x5e, 0x5e, 0x5e, 0x5e, 0x5e,
+    1, 0, 0, 0, 127, 0, 0, 1, 0xca, 0x18,
+];
+
+/// Two results, one without extra bytes and one with.
+const RESULTS: [HitResult<'static>; 2] = [
+    HitResult {
+        file: 1,
+        size: 10,
+        name: b"a",
+        extra: b"",
+    },
+    HitResult {
+        file: 2,
+        size: 20,
+        name: b"b",
+        extra: b"z",
+    },
+];
+
+/// The first 11 bytes of a Query Hit with so many results, of 127.0.0.2 at port 6346, of speed 28.
+const fn head(hits: u8) -> [u8; 11] {
+    [hits, 0xca, 0x18, 127, 0, 0, 2, 0x1c, 0, 0, 0]
+}
+
+/// A Query Hit's payload from its head, what stands after it, and its servent.
+fn hit_payload<A: Allocator>(alloc: A, hits: u8, middle: &[u8]) -> Result<Vec<u8, A>, AllocError> {
+    let mut payload = Vec::from_slice(alloc, &head(hits))?;
+    payload.extend_from_slice(middle)?;
+    payload.extend_from_slice(&SERVENT.0)?;
+    Ok(payload)
+}
+
+/// The results of a Query Hit.
+fn listed<'a, A: Allocator>(alloc: A, hit: &QueryHit<'a>) -> Result<Vec<HitResult<'a>, A>, Fail> {
+    let mut results = Vec::new(alloc);
+    for result in hit.results() {
+        results.push(result)?;
+    }
+    Ok(results)
+}
+
+#[test]
+fn pongs(rt: HostRuntime) -> Result<(), Fail> {
+    for (bytes, pong) in PONGS {
+        assert_eq!(rt; read_pong(&bytes), Some(pong));
+        let mut out = Vec::new(rt.alloc());
+        write_pong(&pong, &mut out)?;
+        assert_eq!(rt; out.as_slice(), &bytes[..]);
+        assert_eq!(rt; read_pong(&bytes[..13]), None);
+    }
+    Ok(())
+}
+
+#[test]
+fn pushes(rt: HostRuntime) -> Result<(), Fail> {
+    let push = Push {
+        servent: SERVENT,
+        file: 1,
+        ip: [127, 0, 0, 1],
+        port: 6346,
+    };
+    assert_eq!(rt; read_push(&PUSH), Some(push));
+    assert_eq!(rt; servent_of_push(&PUSH), SERVENT);
+    assert_eq!(rt; read_push(&PUSH[1..]), None);
+    let mut out = Vec::new(rt.alloc());
+    write_push(&push, &mut out)?;
+    assert_eq!(rt; out.as_slice(), &PUSH[..]);
+    Ok(())
+}
+
+#[test]
+fn queries(rt: HostRuntime) -> Result<(), Fail> {
+    let read: [(&[u8], u16, &[u8], &[u8]); 4] = [
+        (b"\0\0x\0", 0, b"x", b""),
+        (b"\0\0abc\0\x1c", 0, b"abc", b"\x1c"),
+        (b"\x02\x01\0", 258, b"", b""),
+        (b"\0\0\0\0", 0, b"", b"\0"),
+    ];
+    for (bytes, speed, text, tail) in read {
+        let Some(query) = read_query(bytes) else {
+            return Err("a reading".into());
+        };
+        assert_eq!(rt; query, Query { speed, text, tail });
+        let mut out = Vec::new(rt.alloc());
+        write_query(speed, text, tail, &mut out).map_err(|_| "nothing against it")?;
+        assert_eq!(rt; out.as_slice(), bytes);
+    }
+    let unread: [&[u8]; 4] = [b"", b"\0", b"\0\0", b"\0\0x"];
+    for bytes in unread {
+        assert!(rt; read_query(bytes).is_none());
+    }
+    Ok(())
+}
+
+#[test]
+fn hits(rt: HostRuntime) -> Result<(), Fail> {
+    let results = RESULTS;
+    let encoded: [(u8, &[u8], &[u8], &[u8]); 2] = [
+        (0, b"", b"", b""),
+        (
+            2,
+            b"\x01\0\0\0\x0a\0\0\0a\0\0\x02\0\0\0\x14\0\0\0b\0z\0LIME",
+            b"\x01\0\0\0\x0a\0\0\0a\0\0\x02\0\0\0\x14\0\0\0b\0z\0",
+            b"LIME",
+        ),
+    ];
+    for (count, middle, result_bytes, trailer) in encoded {
+        let payload = hit_payload(rt.alloc(), count, middle)?;
+        let Some(hit) = read_hit(&payload) else {
+            return Err("a reading".into());
+        };
+        assert_eq!(rt; (hit.hits(), hit.port(), hit.speed()), (count, 6346, 28));
+        assert_eq!(rt; (hit.ip(), hit.servent()), ([127, 0, 0, 2], SERVENT));
+        assert_eq!(rt; servent_of_hit(&payload), SERVENT);
+        assert_eq!(rt; hit.result_bytes(), result_bytes);
+        assert_eq!(rt; hit.trailer(), trailer);
+        let wanted: &[HitResult<'_>] = if count == 0 { &[] } else { &results };
+        assert_eq!(rt; listed(rt.alloc(), &hit)?.as_slice(), wanted);
+        let mut out = Vec::new(rt.alloc());
+        write_hit(6346, [127, 0, 0, 2], 28, wanted, trailer, SERVENT, &mut out).map_err(
+            |_| "nothing against it",
+        )?;
+        assert_eq!(rt; out.as_slice(), payload.as_slice());
+    }
+    Ok(())
+}
+
+#[test]
+fn results_that_do_not_fit(rt: HostRuntime) -> Result<(), Fail> {
+    let least = [0u8; 10];
+    let most = [0u8; 2550];
+    let cases: [(u8, &[u8], bool); 6] = [
+        (1, b"", false),
+        (1, &least[..9], false),
+        (1, &least, true),
+        (2, &least, false),
+        (255, &most, true),
+        (255, &most[1..], false),
+    ];
+    for (count, middle, fits) in cases {
+        let payload = hit_payload(rt.alloc(), count, middle)?;
+        let found = match read_hit(&payload) {
+            Some(hit) => Some((hit.hits(), listed(rt.alloc(), &hit)?.len())),
+            None => None,
+        };
+        assert_eq!(rt; found, fits.then_some((count, usize::from(count))));
+    }
+    assert!(rt; read_hit(&[0; 26]).is_none());
+    Ok(())
+}
+
+#[test]
+fn refused_queries(rt: HostRuntime) -> Result<(), Fail> {
+    let long = [b'x'; 65_534];
+    let cases: [(&[u8], &[u8], Result<(), WriteRefusal>); 5] = [
+        (b"a\0", b"", Err(WriteRefusal::ZeroInText)),
+        (b"a\0", &long, Err(WriteRefusal::ZeroInText)),
+        (&long, b"", Err(WriteRefusal::TooLong)),
+        (b"", &long, Err(WriteRefusal::TooLong)),
+        (&long[1..], b"", Ok(())),
+    ];
+    for (text, tail, wanted) in cases {
+        let mut out = Vec::new(rt.alloc());
+        assert_eq!(rt; write_query(0, text, tail, &mut out), wanted);
+        assert_eq!(rt; out.len(), if wanted.is_ok() { 65_536 } else { 0 });
+    }
+    Ok(())
+}
+
+#[test]
+fn refused_hits(rt: HostRuntime) -> Result<(), Fail> {
+    let result = HitResult {
+        file: 0,
+        size: 0,
+        name: b"",
+        extra: b"",
+    };
+    let in_name = [HitResult {
+        name: b"a\0",
+        ..result
+    }; 256];
+    let in_extra = [HitResult {
+        extra: b"\0",
+        ..result
+    }; 1];
+    let many = [result; 256];
+    let long = [0; 65_510];
+    let cases: [(&[HitResult<'_>], &[u8], Result<(), WriteRefusal>); 6] = [
+        (&in_name, &long, Err(WriteRefusal::ZeroInText)),
+        (&in_extra, b"", Err(WriteRefusal::ZeroInText)),
+        (&many, &long, Err(WriteRefusal::TooManyHits)),
+        (&[], &long, Err(WriteRefusal::TooLong)),
+        (&many[1..], &long[2549..], Err(WriteRefusal::TooLong)),
+        (&many[1..], &long[2551..], Ok(())),
+    ];
+    for (results, trailer, wanted) in cases {
+        let mut out = Vec::new(rt.alloc());
+        assert_eq!(rt;
+            write_hit(0, [0; 4], 0, results, trailer, SERVENT, &mut out),
+            wanted
+        );
+        assert_eq!(rt; out.len(), if wanted.is_ok() { 65_536 } else { 0 });
+    }
+    Ok(())
+}
+
+#[test]
+fn verdicts(rt: HostRuntime) -> Result<(), Fail> {
+    let cases: [(Kind, &[u8], Verdict); 8] = [
+        (Kind::Ping, b"", Verdict::Sound),
+        (Kind::Pong, &PONGS[0].0, Verdict::Sound),
+        (Kind::Push, &PUSH, Verdict::Sound),
+        (Kind::Query, b"\0\0x\0", Verdict::Sound),
+        (Kind::Query, b"\0\0x", Verdict::Malformed),
+        (Kind::QueryHit, &[0; 27], Verdict::Sound),
+        (Kind::QueryHit, &[1; 27], Verdict::Malformed),
+        (Kind::Unknown(0x31), b"\xab\xcd", Verdict::UnknownKind),
+    ];
+    for (kind, payload, verdict) in cases {
+        let bytes = Bytes::copy_from_slice(rt.alloc(), payload)?;
+        let Ok(descriptor) = Descriptor::new(SERVENT, kind, 7, 0, bytes) else {
+            return Err("a valid length".into());
+        };
+        let checked = Checked::new(descriptor);
+        assert_eq!(rt; checked.verdict(), verdict);
+        assert_eq!(rt; checked.descriptor().kind(), kind);
+        assert_eq!(rt; checked.into_descriptor().payload().as_slice(), payload);
+    }
+    Ok(())
+}
+
+#[test]
+fn laws() {
+    one_reading();
+    sound_is_read();
+}
