@@ -1,4 +1,4 @@
-//! Both texts whole: captures, which tell what links deliver and what the local servent does, and histories, written and
+//! Both texts whole: captures, which say what links deliver and what the local servent does, and histories, written and
 //! read.
 #![tactic(auto)]
 
@@ -25,4 +25,4 @@ pub use gn_text::{CaptureFault, CaptureRefusal, Cause};
 pub use history::read_history;
 pub use history_written::write_history;
 pub use laws::{read_is_encoded, written_is_read};
-pub use line::Line;
+pub use line::{Line, LocalRequest, PieceBytes};

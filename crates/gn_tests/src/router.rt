@@ -23,8 +23,8 @@ fn ping() -> Result<Descriptor, Fail> {
 /// Whether these are the own Pong to connection 1 and the forward to connection 2, both queued.
 fn are_wanted(sends: &[Sending]) -> bool {
     let wanted = [(1, Kind::Pong, 1, 0), (2, Kind::Ping, 6, 1)];
-    for (x, told) in sends.iter().zip(&wanted) {
-        if !x.queued || (x.to, x.packet.kind(), x.packet.ttl(), x.packet.hops()) != *told {
+    for (x, known) in sends.iter().zip(&wanted) {
+        if !x.queued || (x.to, x.packet.kind(), x.packet.ttl(), x.packet.hops()) != *known {
             return false;
         }
     }

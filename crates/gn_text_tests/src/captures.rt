@@ -13,10 +13,10 @@ const BEGUN: &[u8] =
 /// A text of two parts.
 fn joined<A: Allocator + Copy>(
     alloc: A,
-    front: &[u8],
+    head: &[u8],
     rest: &[u8],
 ) -> Result<Vec<u8, A>, AllocError> {
-    let mut text = Vec::from_slice(alloc, front)?;
+    let mut text = Vec::from_slice(alloc, head)?;
     text.extend_from_slice(rest)?;
     Ok(text)
 }
@@ -62,9 +62,9 @@ fn second_and_third_lines(rt: HostRuntime) -> Result<(), Fail> {
             Cause::Own,
         ),
     ];
-    for (front, lines, number, cause) in begun {
+    for (head, lines, number, cause) in begun {
         for line in lines.split(|b| *b == b'\n') {
-            let text = joined(rt.alloc(), front, line)?;
+            let text = joined(rt.alloc(), head, line)?;
             assert_eq!(rt;
                 fault(read_capture(rt.alloc(), &text)),
                 Some((number, cause))
@@ -117,10 +117,10 @@ fn faults_after_a_join(rt: HostRuntime) -> Result<(), Fail> {
         ),
         (Cause::Link, b"data 3 00\ndata 0 00\ndata 2 -"),
     ];
-    let front = joined(rt.alloc(), BEGUN, b"join\n")?;
+    let head = joined(rt.alloc(), BEGUN, b"join\n")?;
     for (cause, lines) in faults {
         for line in lines.split(|b| *b == b'\n') {
-            let text = joined(rt.alloc(), &front, line)?;
+            let text = joined(rt.alloc(), &head, line)?;
             assert_eq!(rt; fault(read_capture(rt.alloc(), &text)), Some((5, cause)));
         }
     }
@@ -178,7 +178,7 @@ fn are_each_word<A: Allocator>(lines: &[(u64, Line<A>)]) -> bool {
             let numbers = [*second, *first, *ticket, *taken, *closed];
             numbers == [2, 1, 0, 1, 4_294_967_295]
                 && one.as_slice() == b"\xa1".as_slice()
-                && none.is_empty()
+                && none.as_slice().is_empty()
         }
         _ => false,
     }
@@ -222,9 +222,10 @@ fn requests(rt: HostRuntime) -> Result<(), Fail> {
     for (line, kind, ttl, payload) in parsed {
         let text = joined(rt.alloc(), BEGUN, line)?;
         let capture = read_capture(rt.alloc(), &text).map_err(|_| "refused")?;
-        let [(_, Line::Originate(d))] = capture.lines.as_slice() else {
+        let [(_, Line::Originate(request))] = capture.lines.as_slice() else {
             return Err("no request")?;
         };
+        let d = request.descriptor();
         assert_eq!(rt; (d.id(), d.kind()), (Guid([0xd1; 16]), kind));
         assert_eq!(rt; (d.ttl(), d.hops()), (ttl, 0));
         assert_eq!(rt; d.payload().as_slice(), payload);

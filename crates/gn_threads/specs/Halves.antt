@@ -1,4 +1,4 @@
--- What the two halves of a link tell once their bodies are done, and what each body says of its half.
+-- What the two halves of a link say once their bodies are done, and what each body says of its half.
 use Rattle.std.specs.Prelude.{◌≡◌, ℕ, Bool, true, List, Option}
 use Rattle.gn_wire.specs.Packet.{Packet}
 use Rattle.gn_rules.specs.declared.event.Event.{Event}
@@ -28,16 +28,16 @@ pub record WrittenHalf : Type 0 where
   pub is_stuck : Bool
   pub is_finished : Bool
 
--- a link that isn't read yet: how it begins, and all bytes that its reader is to give, where they are known
-pub record Inbound : Type 0 where
+-- a half of a link, before its body began, and how the link begins
+pub record Half (H : Type 0) : Type 0 where
   pub role : Role
-  pub bytes : List ℕ
+  pub half : H
 
--- a link of this role that this reader is to read
-abbrev pub inbound_of : {Rd : Type 0} → (Rd → List ℕ) → Role → Rd → Inbound
-inbound_of all role reader = record { role = role; bytes = all reader }
+-- this half of a link of this role
+abbrev pub half_of : {H : Type 0} → Role → H → Half H
+half_of role half = record { role = role; half = half }
 
--- what a reading half of this type tells
+-- what a reading half of this type says
 abbrev pub reads_of :
     {Rd : Type 0} → Bool → (Rd → List ℕ) → (Rd → ℕ) → (Rd → ℕ) → (Rd → Bool) → Rd → ReadHalf
 reads_of known bytes failures pieces ended half =
@@ -49,7 +49,7 @@ reads_of known bytes failures pieces ended half =
       has_ended = ended half;
     }
 
--- what a writing half of this type tells
+-- what a writing half of this type says
 abbrev pub writes_of :
     {W : Type 0} → Bool → (W → List ℕ) → (W → ℕ) → (W → Bool) → (W → Bool) → W → WrittenHalf
 writes_of known bytes failures stuck finished half =

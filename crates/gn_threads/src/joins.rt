@@ -3,9 +3,9 @@
 ghost use Rattle.std.specs.Prelude.{◌≡◌, [], ℕ, map, vec_len, if◌then◌else◌, IfErr, IfOk};
 ghost use Rattle.gn_threads.specs.declared.fault.RunFault.TheVariants.{HistoryFull, NoMemory};
 ghost use Rattle.gn_threads.specs.Faults.{IsFaultOf};
-ghost use Rattle.gn_threads.specs.Halves.{inbound_of, reads_of, writes_of};
+ghost use Rattle.gn_threads.specs.Halves.{half_of, reads_of, writes_of};
 ghost use Rattle.gn_threads.specs.Joined.{AreJoined};
-ghost use Rattle.gn_threads.specs.Kept.{EachKeeps, ReaderPromises, WriterKeeps, reader_ended, writer_ended};
+ghost use Rattle.gn_threads.specs.Kept.{EachKeeps, ReaderPromises, WriterPromises, reader_ended, writer_ended};
 
 use crate::done::Done;
 use crate::ended::{Body, any_full};
@@ -25,8 +25,8 @@ use std::thread::{Promise, PromisedHandle, Threads};
 /// What is known of threads that were joined where there was no memory for what they gave back.
 #[derive(Clone, Copy, Drop)]
 struct Lost {
-    /// Whether one of them met a full history.
-    met_full: bool,
+    /// Whether one of them found a full history.
+    found_full: bool,
 }
 
 /// Joins each of these threads, and lets go what it gave back.
@@ -34,27 +34,27 @@ fn join_all<T: Body, P: Promise<T>, A: Allocator, R: Threads>(
     rt: &R,
     handles: Vec<PromisedHandle<T, P>, A>,
 ) -> Lost {
-    let mut met_full = false;
+    let mut found_full = false;
     for handle in handles {
         let done = handle.join(rt);
-        met_full |= done.met_full();
+        found_full |= done.found_full();
     }
-    Lost { met_full }
+    Lost { found_full }
 }
 
-/// Whether one of these bodies met a full history.
-fn met_full<T: Body, A: Allocator>(joined: &Result<Vec<T, A>, Lost>) -> bool {
+/// Whether one of these bodies found a full history.
+fn found_full<T: Body, A: Allocator>(joined: &Result<Vec<T, A>, Lost>) -> bool {
     match joined {
         Ok(done) => any_full(done.as_slice()),
-        Err(lost) => lost.met_full,
+        Err(lost) => lost.found_full,
     }
 }
 
-/// The fault of a run whose bodies can't be had, where one of them met a full history or not.
-fn fault_of(met_full: bool) -> RunFault
-    ensures { result ≡ (if met_full then HistoryFull else NoMemory) }
+/// The fault of a run whose bodies can't be had, where one of them found a full history or not.
+fn fault_of(found_full: bool) -> RunFault
+    ensures { result ≡ (if found_full then HistoryFull else NoMemory) }
 {
-    if met_full {
+    if found_full {
         RunFault::HistoryFull
     } else {
         RunFault::NoMemory
@@ -67,9 +67,10 @@ fn join_readers<Rd: LinkReader, S: Site, L: Ledger, A: Allocator + Copy, R: Thre
     handles: Vec<ReaderHandle<Rd, S, L, A>, A>,
 ) -> Result<Vec<ReaderDone<Rd, S, L, A>, A>, Lost>
     ensures many { IfOk result (λ done. vec_len done ≡ vec_len handles) }
-    ensures kept { IfOk result (λ done. EachKeeps ReaderPromises
-        (map (λ h. inbound_of Rd.all_bytes h.promise.start.value.role h.promise.start.value.reader) handles.items)
-        (map (reader_ended (reads_of Rd.is_known Rd.bytes_read Rd.failures Rd.pieces Rd.has_ended)) done.items)) }
+    ensures kept { IfOk result (λ done. EachKeeps
+        (ReaderPromises (reads_of Rd.is_known Rd.bytes_read Rd.failures Rd.pieces Rd.has_ended) Rd.made_of Rd.gives)
+        (map (λ h. half_of h.promise.start.value.role h.promise.start.value.reader) handles.items)
+        (map reader_ended done.items)) }
 {
     match thread::join_promised(rt, handles) {
         Ok(done) => Ok(done),
@@ -83,8 +84,10 @@ fn join_writers<W: LinkWriter, L: Ledger, A: Allocator + Copy, R: Threads>(
     handles: Vec<WriterHandle<W, L, A>, A>,
 ) -> Result<Vec<WriterDone<W, L, A>, A>, Lost>
     ensures many { IfOk result (λ done. vec_len done ≡ vec_len handles) }
-    ensures kept { IfOk result (λ done. EachKeeps WriterKeeps (map (λ h. h.promise.role) handles.items)
-        (map (writer_ended (writes_of W.is_known W.bytes_written W.failures W.is_stuck W.is_finished)) done.items)) }
+    ensures kept { IfOk result (λ done. EachKeeps
+        (WriterPromises (writes_of W.is_known W.bytes_written W.failures W.is_stuck W.is_finished) W.made_of)
+        (map (λ h. half_of h.promise.start.value.role h.promise.start.value.writer) handles.items)
+        (map writer_ended done.items)) }
 {
     match thread::join_promised(rt, handles) {
         Ok(done) => Ok(done),
@@ -154,18 +157,18 @@ impl<Rd: LinkReader, W: LinkWriter, S: Site, L: Ledger, A: Allocator + Copy> Han
         let readers = join_all(rt, readers);
         let writers = join_all(rt, writers);
         let workers = join_all(rt, workers);
-        fault_of(readers.met_full || writers.met_full || workers.met_full)
+        fault_of(readers.found_full || writers.found_full || workers.found_full)
     }
 
-    /// Joins all threads. Where there is no memory for what they give back, the fault is a full history that one of them met,
+    /// Joins all threads. Where there is no memory for what they give back, the fault is a full history that one of them found,
     /// or else memory.
     pub(crate) fn join<R: Threads>(self, rt: &R) -> Result<Done<Rd, W, S, L, A>, RunFault>
         ensures joined { IfOk result (λ done. AreJoined
-            (reads_of Rd.is_known Rd.bytes_read Rd.failures Rd.pieces Rd.has_ended)
-            (writes_of W.is_known W.bytes_written W.failures W.is_stuck W.is_finished)
-            (map (λ h. inbound_of Rd.all_bytes h.promise.start.value.role h.promise.start.value.reader)
-            self.readers.items)
-            (map (λ h. h.promise.role) self.writers.items) (vec_len self.workers) done) }
+            (ReaderPromises (reads_of Rd.is_known Rd.bytes_read Rd.failures Rd.pieces Rd.has_ended) Rd.made_of Rd.gives)
+            (WriterPromises (writes_of W.is_known W.bytes_written W.failures W.is_stuck W.is_finished) W.made_of)
+            (map (λ h. half_of h.promise.start.value.role h.promise.start.value.reader) self.readers.items)
+            (map (λ h. half_of h.promise.start.value.role h.promise.start.value.writer) self.writers.items)
+            (vec_len self.workers) done) }
         ensures fault { IfErr result (λ fault. (links workers : ℕ) → IsFaultOf links workers fault) }
     {
         let Handles {
@@ -176,7 +179,7 @@ impl<Rd: LinkReader, W: LinkWriter, S: Site, L: Ledger, A: Allocator + Copy> Han
         let readers = join_readers(rt, readers);
         let writers = join_writers(rt, writers);
         let workers = join_workers(rt, workers);
-        let is_full = met_full(&readers) || met_full(&writers) || met_full(&workers);
+        let is_full = found_full(&readers) || found_full(&writers) || found_full(&workers);
         let (Ok(readers), Ok(writers), Ok(workers)) = (readers, writers, workers) else {
             return Err(fault_of(is_full));
         };
