@@ -35,13 +35,16 @@ examples: build
 test:
 	rt ci
 
-# What a call of each table takes, jobs a second through the stage queue, and what replays and audits take, each load three
-# times in a process of its own. Times go to standard error.
+# What a call of each table takes, and jobs a second through the stage queue; then, each load three times in a process of its
+# own, what a step through the lock takes, the flaw of a report beside the audit of its history, and replays and audits.
+# Times go to standard error.
 bench:
 	cd crates/gn_bench && rt run -- tables 1000000
 	crates/gn_bench/out/gn_bench stage 1000000
-	for run in 1 2 3; do for load in 'table 300' 'table 1000' 'table 3000' 'table 10000' 'table 100000' 'comments 100000' \
-		'piece 1000000' 'plain 300' 'plain 1000'; do crates/gn_bench/out/gn_bench replay $$load || exit 1; done; done
+	for run in 1 2 3; do for load in 'hub 1 100000' 'hub 4 100000' 'hub 16 100000' 'flaw 1000000' 'replay table 300' \
+		'replay table 1000' 'replay table 3000' 'replay table 10000' 'replay table 100000' 'replay comments 100000' \
+		'replay piece 1000000' 'replay plain 300' 'replay plain 1000'; do \
+		crates/gn_bench/out/gn_bench $$load || exit 1; done; done
 
 # Each definition that contracts cite, beside the words that stand above it.
 definitions:

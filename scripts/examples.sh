@@ -1,14 +1,22 @@
 #!/bin/sh
-# Replays each capture of examples/ and audits each history with the program that the first argument names, and compares what
-# it prints with the text beside it: NAME.replay, NAME.verdict. Ends with status 1 where one differs.
+# Replays each capture of examples/, audits each history with the program that the first argument names, and explains those that
+# have an explanation; compares what it prints with the text beside it: NAME.replay, NAME.verdict, NAME.explained. Compares
+# them with gn_examples' copy too. Ends with status 1 where one differs.
 gn=${1:?the path of gn}
 failed=0
-for input in examples/*.capture examples/*.history; do
-	case $input in
-	*.capture) command=replay; wanted=${input%.capture}.replay ;;
-	*) command=audit; wanted=${input%.history}.verdict ;;
+# the gate runs a program over its own copy, since it takes no links
+if ! diff -r examples crates/gn_examples/data >&2; then
+	echo 'examples/ and crates/gn_examples/data differ' >&2
+	failed=1
+fi
+for wanted in examples/*.replay examples/*.verdict examples/*.explained; do
+	case $wanted in
+	*.replay) command=replay; input=${wanted%.replay}.capture ;;
+	*.verdict) command=audit; input=${wanted%.verdict}.history ;;
+	*) command='audit --explain'; input=${wanted%.explained}.history ;;
 	esac
-	if "$gn" "$command" < "$input" | cmp -s - "$wanted"; then
+	# shellcheck disable=SC2086 # the command is words
+	if "$gn" $command < "$input" | cmp -s - "$wanted"; then
 		echo "$input: as in $wanted"
 	else
 		echo "$input: not as in $wanted" >&2

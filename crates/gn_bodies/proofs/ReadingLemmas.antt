@@ -1,6 +1,7 @@
 -- A reader's bytes so far.
-use Rattle.std.proofs.Common.{◌≡◌, ℕ, ◌<◌, Bool, true, false, cond, List, [], ◌∷◌, ◌++◌, length, take, drop, Option, Some, None, refl, sym, ap, ◌∙◌, subst, append_assoc}
+use Rattle.std.proofs.Common.{◌≡◌, ℕ, ◌<◌, All, Bool, true, false, cond, List, [], ◌∷◌, ◌++◌, length, take, drop, Option, Some, None, refl, sym, ap, ◌∙◌, subst, append_assoc}
 use Rattle.std.proofs.lemmas.List.{drop_at}
+use Rattle.std.proofs.lemmas.List.Elements.{All-nil}
 use Rattle.gn_wire.specs.declared.header.FrameFault.{FrameFault}
 use Rattle.gn_frames.specs.Frames.{Frames, frames_of, no_frames}
 use Rattle.gn_rules.specs.declared.event.Event.TheVariants.{Connect}
@@ -17,16 +18,20 @@ use Rattle.gn_bodies.specs.declared.piece.Reading.TheVariants as reading
 use Rattle.gn_service.specs.ActorState.{ActorState}
 use Rattle.gn_bodies.specs.Events.{link_events, link_events_in, connection_of, offered_events}
 use Rattle.gn_shake.specs.Roles.{greeting_of}
+use Rattle.gn_links.specs.Halves.{IsNewReader, IsReadOf}
 use Rattle.gn_bodies.specs.Offers.{frames_after, is_done}
 use Rattle.gn_bodies.specs.ReaderRows.{ConnectedRow, SourceRow, WithClose}
 use Rattle.gn_bodies.specs.Reading.{HasConnection, IsOffering, IsReading, ReadRow, OpenRow, reading_connection, end_of_bytes, is_of_bytes, closes}
+
+-- a stream that begins with the greeting has it accepted
+pub accepted : GreetingIsTold → (role : Role) (b s : List ℕ) → b ≡ greeting_of role ++ s → greeting_state (greeting_of role) b ≡ Done
+accepted told role b s whole = sym ((told (greeting_of role) b Done).0 (s, whole))
 
 -- the frames after the greeting, where it is accepted
 pub after_greeting : GreetingIsTold → (role : Role) (b s : List ℕ) → b ≡ greeting_of role ++ s → frames_after role b ≡ frames_of s
 after_greeting told role b s whole =
     let g = greeting_of role in
-    let done : Done ≡ greeting_state g b = (told g b Done).0 (s, whole) in
-    ap (λ (w : ShakeState). cond (is_done w) (frames_of (drop (length g) b)) (no_frames [] None)) (sym done)
+    ap (λ (w : ShakeState). cond (is_done w) (frames_of (drop (length g) b)) (no_frames [] None)) (accepted told role b s whole)
     ∙ ap frames_of (ap (drop (length g)) whole ∙ drop_at g s (length g) refl)
 
 -- a joined link goes on
@@ -37,12 +42,14 @@ pub fault_row : {A : Type 0} → GreetingIsTold → (role : Role) (b s : List �
     → (frames_of s).fault ≡ Some f → link_events me ≡ offered_events c (frames_of s).descriptors → ReadRow role (Fault f) (Some c) (link_events me) b
 fault_row told role b s c f me whole ends events =
     let is = after_greeting told role b s whole in
-    (ap (λ (w : Frames). w.fault) is ∙ ends, events ∙ ap (λ (w : Frames). offered_events c w.descriptors) (sym is))
+    let all = ap (λ (w : Frames). offered_events c w.descriptors) (sym is) in
+    (accepted told role b s whole, (ap (λ (w : Frames). w.fault) is ∙ ends, events ∙ all))
 
 pub not_live_row : {A : Type 0} → GreetingIsTold → (role : Role) (b s : List ℕ) (c : ℕ) (me : ActorState A) → b ≡ greeting_of role ++ s
     → ((n : ℕ) × (n < length (frames_of s).descriptors) × (link_events me ≡ offered_events c (take n (frames_of s).descriptors))) → ReadRow role NotLive (Some c) (link_events me) b
 not_live_row told role b s c me whole part =
-    subst (λ (w : Frames). (n : ℕ) × (n < length w.descriptors) × (link_events me ≡ offered_events c (take n w.descriptors))) (sym (after_greeting told role b s whole)) part
+    let row = subst (λ (w : Frames). (n : ℕ) × (n < length w.descriptors) × (link_events me ≡ offered_events c (take n w.descriptors))) (sym (after_greeting told role b s whole)) part in
+    (accepted told role b s whole, row)
 
 -- a link that just connected
 pub just_joined : {A : Type 0} (c : ℕ) (frames : Option (List ℕ)) (me : ActorState A) → frames ≡ Some [] → link_events me ≡ Connect ∷ [] → IsOffering [] c frames me
@@ -79,20 +86,21 @@ pub failed_row : {A : Type 0} → GreetingIsTold → (role : Role) (r : Reading 
     → ReadRow role ReadFailed (reading_connection r) (link_events me) b
 failed_row told role (reading.Greeting shake) b me (kept, more) has = (more, none_done me has)
 failed_row told role (reading.Joined c frames) b me is has =
-    is.offering.events ∙ ap (λ (w : Frames). offered_events c w.descriptors) (sym (after_greeting told role b is.stream is.whole))
+    (accepted told role b is.stream is.whole, is.offering.events ∙ ap (λ (w : Frames). offered_events c w.descriptors) (sym (after_greeting told role b is.stream is.whole)))
 
 pub turns_row : {A : Type 0} → GreetingIsTold → (role : Role) (r : Reading A) (b : List ℕ) (me : ActorState A) → IsReading role r b me → HasConnection r me
     → ReadRow role Turns (reading_connection r) (link_events me) b
 turns_row told role (reading.Greeting shake) b me (kept, more) has = (more, none_done me has)
 turns_row told role (reading.Joined c frames) b me is has =
-    is.offering.events ∙ ap (λ (w : Frames). offered_events c w.descriptors) (sym (after_greeting told role b is.stream is.whole))
+    (accepted told role b is.stream is.whole, is.offering.events ∙ ap (λ (w : Frames). offered_events c w.descriptors) (sym (after_greeting told role b is.stream is.whole)))
 
 pub ended_row : {A : Type 0} → GreetingIsTold → (role : Role) (r : Reading A) (b : List ℕ) (me : ActorState A) → IsReading role r b me → HasConnection r me
     → ReadRow role (end_of_bytes r) (reading_connection r) (link_events me) b
 ended_row told role (reading.Greeting shake) b me (kept, more) has = (more, none_done me has)
 ended_row told role (reading.Joined c frames) b me is has =
     let same = after_greeting told role b is.stream is.whole in
-    (ap (λ (w : Frames). w.fault) same ∙ is.offering.clean, is.offering.events ∙ ap (λ (w : Frames). offered_events c w.descriptors) (sym same))
+    let all = ap (λ (w : Frames). offered_events c w.descriptors) (sym same) in
+    (accepted told role b is.stream is.whole, (ap (λ (w : Frames). w.fault) same ∙ is.offering.clean, is.offering.events ∙ all))
 
 pub conn_of_reading : {A : Type 0} (r : Reading A) (me : ActorState A) → HasConnection r me → connection_of me ≡ reading_connection r
 conn_of_reading (reading.Greeting shake) me none = ap (λ w. connection_of (record { number = me.number; receipts = w })) none
@@ -130,3 +138,14 @@ open_row role GreetingRefused c es b is row = absurd row
 open_row role GreetingCut c es b is row = absurd row
 open_row role TooMany c es b is row = absurd row
 open_row role NotLive c es b is row = row
+
+-- of a new reader nothing was read
+pub nothing_read : (all bytes : List ℕ) (failures pieces : ℕ) (ended : Bool) → IsNewReader bytes failures pieces ended
+    → IsReadOf all bytes ended
+nothing_read all bytes failures pieces ended (none, _, _, goes) =
+    record {
+      octets = subst (λ b. All (λ n. n < 256) b) (sym none) (All-nil (λ n. n < 256));
+      rest = all;
+      whole = ap (λ b. b ++ all) (sym none);
+      ended = λ e. absurd (cc);
+    }

@@ -3,7 +3,7 @@ use Rattle.std.specs.Prelude.{◌≡◌, ◌<◌, ◌⊎◌, ℕ, Bool, true, Li
 use Rattle.gn_rules.specs.declared.event.Event.{Event}
 use Rattle.gn_rules.specs.declared.event.Event.TheVariants.{Connect, Close}
 use Rattle.gn_shake.specs.declared.role.Role.{Role}
-use Rattle.gn_shake.specs.declared.shake.ShakeState.TheVariants.{More, Refused}
+use Rattle.gn_shake.specs.declared.shake.ShakeState.TheVariants.{More, Done, Refused}
 use Rattle.gn_shake.specs.Greeting.{greeting_state}
 use Rattle.gn_shake.specs.Roles.{greeting_of}
 use Rattle.gn_bodies.specs.declared.ends.ReaderEnd.{ReaderEnd}
@@ -30,12 +30,13 @@ UnconnectedRow role ReadFailed es b = (greeting_state (greeting_of role) b ≡ M
 UnconnectedRow role Turns es b = (greeting_state (greeting_of role) b ≡ More) × (es ≡ [])
 UnconnectedRow role GreetingRefused es b = (greeting_state (greeting_of role) b ≡ Refused) × (es ≡ [])
 UnconnectedRow role GreetingCut es b = (greeting_state (greeting_of role) b ≡ More) × (es ≡ [])
-UnconnectedRow role TooMany es b = es ≡ Connect ∷ []
+UnconnectedRow role TooMany es b = (greeting_state (greeting_of role) b ≡ Done) × (es ≡ Connect ∷ [])
 UnconnectedRow role end es b = ⊥
 
--- what the end says of the connection, the events except the routes, and the bytes that were read
+-- what the end says of the connection, the events except the routes, and the bytes that were read; a reader connects only
+-- where the greeting is accepted
 abbrev pub ReaderRow : {A : Type 0} → Role → ReaderEnd → Option ℕ → List (Event A) → List ℕ → Type 0
-ReaderRow role end (Some c) es b = ConnectedRow role end c es b
+ReaderRow role end (Some c) es b = (greeting_state (greeting_of role) b ≡ Done) × ConnectedRow role end c es b
 ReaderRow role end None es b = UnconnectedRow role end es b
 
 -- what the end says of the link, which was new: its failures, its reads that gave bytes, whether it ended

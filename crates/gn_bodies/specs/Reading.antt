@@ -4,7 +4,7 @@ use Rattle.gn_rules.specs.declared.event.Event.{Event}
 use Rattle.gn_frames.specs.Frames.{frames_of}
 use Rattle.gn_frames.specs.Reassembly.{held_of}
 use Rattle.gn_shake.specs.declared.role.Role.{Role}
-use Rattle.gn_shake.specs.declared.shake.ShakeState.TheVariants.{More}
+use Rattle.gn_shake.specs.declared.shake.ShakeState.TheVariants.{More, Done}
 use Rattle.gn_shake.specs.Greeting.{greeting_state}
 use Rattle.gn_shake.specs.Roles.{greeting_of}
 use Rattle.gn_shake.specs.Shaking.{shake_of}
@@ -32,7 +32,7 @@ OpenRow role end c es b = ⊥
 
 -- a reader's row, before it closes what it closes
 abbrev pub ReadRow : {A : Type 0} → Role → ReaderEnd → Option ℕ → List (Event A) → List ℕ → Type 0
-ReadRow role end (Some c) es b = OpenRow role end c es b
+ReadRow role end (Some c) es b = (greeting_state (greeting_of role) b ≡ Done) × OpenRow role end c es b
 ReadRow role end None es b = UnconnectedRow role end es b
 
 -- whether a connected reader closes its connection at this end

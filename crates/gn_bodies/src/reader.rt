@@ -1,7 +1,7 @@
 //! The body of a reader.
 
 ghost use Rattle.std.specs.Prelude.{◌≡◌, ◌++◌, [], List, None, ℕ, false, true, IfOk, OnOk};
-ghost use Rattle.gn_links.specs.Halves.{IsNewReader};
+ghost use Rattle.gn_links.specs.Halves.{IsNewReader, IsReadOf};
 ghost use Rattle.gn_bodies.specs.Admitting.{HasSameNumbers, StaysSettled};
 ghost use Rattle.gn_bodies.specs.Events.{connection_of, events_of, link_events};
 ghost use Rattle.gn_bodies.specs.Jobs.{jobs_left};
@@ -60,6 +60,7 @@ fn begin<S: Site, C: RouterCore<A> + Drop, L: Ledger, A: Allocator + Copy, R: Wa
 }
 
 /// Reads to the end, and closes nothing.
+#[tactic(auto, using(crate::proofs::ReadingLemmas::nothing_read))]
 fn read_all<
     Rd: LinkReader,
     S: Site,
@@ -85,6 +86,9 @@ fn read_all<
     ensures alone { IfOk result (λ r. r.0 ≡ None → events_of me.new.actor ≡ link_events me.new.actor) }
     ensures row { IfOk result (λ r. Rd.is_known ≡ true
         → ReadRow role r.1 r.0 (link_events me.new.actor) (Rd.bytes_read reader.new)) }
+    ensures all { Rd.all_bytes reader.new ≡ Rd.all_bytes reader.old }
+    ensures prefix { Rd.is_known ≡ true
+        → IsReadOf (Rd.all_bytes reader.new) (Rd.bytes_read reader.new) (Rd.has_ended reader.new) }
     ensures source { IfOk result (λ r. SourceRow r.1 (Rd.failures reader.new) (Rd.pieces reader.new)
         (Rd.has_ended reader.new)) }
     ensures settled { StaysSettled me.old me.new }
@@ -146,6 +150,9 @@ fn read_link<
         → events_of me.new.actor ≡ link_events me.new.actor) }
     ensures row { IfOk result (λ end. Rd.is_known ≡ true
         → ReaderRow role end (connection_of me.new.actor) (link_events me.new.actor) (Rd.bytes_read reader.new)) }
+    ensures all { Rd.all_bytes reader.new ≡ Rd.all_bytes reader.old }
+    ensures prefix { Rd.is_known ≡ true
+        → IsReadOf (Rd.all_bytes reader.new) (Rd.bytes_read reader.new) (Rd.has_ended reader.new) }
     ensures source { IfOk result (λ end. SourceRow end (Rd.failures reader.new) (Rd.pieces reader.new)
         (Rd.has_ended reader.new)) }
     ensures put { IfOk result (λ _. me.old.is_refused ≡ false
@@ -198,6 +205,9 @@ pub fn reader_body<
         → events_of result.actor ≡ link_events result.actor) }
     ensures row { IfOk result.end (λ end. Rd.is_known ≡ true
         → ReaderRow role end (connection_of result.actor) (link_events result.actor) (Rd.bytes_read result.reader)) }
+    ensures all { Rd.all_bytes result.reader ≡ Rd.all_bytes reader }
+    ensures prefix { Rd.is_known ≡ true
+        → IsReadOf (Rd.all_bytes result.reader) (Rd.bytes_read result.reader) (Rd.has_ended result.reader) }
     ensures source { IfOk result.end (λ end. SourceRow end (Rd.failures result.reader) (Rd.pieces result.reader)
         (Rd.has_ended result.reader)) }
     ensures put { OnOk result.end (result.home.jobs ≡ intake.jobs ++ jobs_left result.actor.receipts) }

@@ -106,6 +106,7 @@ pub(crate) fn open<S: Site, C: RouterCore<A> + Drop, L: Ledger, A: Allocator + C
         → IsTaken role result b me.new.actor }
     ensures settled { StaysSettled me.old me.new }
 {
+    gn_shake::greeting_is_told();
     match me.connect(rt, service, link) {
         Err(why) => Piece::Stop(why),
         Ok(None) => Piece::End {

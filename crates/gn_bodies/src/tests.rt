@@ -10,7 +10,8 @@ mod worked;
 
 use crate::{BodyFault, ReaderEnd, WriterDone, WriterEnd, reader_body, worker_body, writer_body};
 use bytes::Bytes;
-use gn_links::{Link, LinkReader, LinkWriter, MemoryLink, MemoryWriter, NoGate};
+use fakes::Doorman;
+use gn_links::{Link, LinkReader, LinkWriter, MemoryLink, MemoryWriter};
 use gn_router::TableRouter;
 use gn_rules::{Config, Own, RouterCore, Step};
 use gn_service::{Actor, Door, Service};
@@ -18,6 +19,7 @@ use gn_shake::Role;
 use gn_stage::{Intake, Job, Outlet, Site, Stage};
 use gn_wire::{Descriptor, Guid, Kind};
 use std::alloc::{Allocator, Global};
+use std::cell::Cell;
 use std::marker::Brand;
 use std::sync::Wait;
 use std::sync::ledger::{Blank, Ledger};
@@ -29,6 +31,9 @@ const OWN: Own = Own {
     files: 5,
     kbytes: 40,
 };
+
+/// The number by which the worker passes the gate.
+const WORKER: u32 = 5;
 
 /// A Ping with TTL 7 and Hops 0.
 const PING: &[u8] =
@@ -86,11 +91,12 @@ fn trio_of<L: Ledger, A: Allocator + Copy>(actors: Vec<Actor<L, A>, A>) -> Optio
     new_trio(reader, writer, worker)
 }
 
-/// What the bodies of one link gave back, and what they left of the run.
+/// What the bodies of one link gave back, who passed the gate last with which ticket, and what they left of the run.
 #[derive(Drop)]
 struct Ran<W: LinkWriter, A: Allocator = Global> {
     read: Result<ReaderEnd, BodyFault>,
     worked: Result<(), BodyFault>,
+    passed: Option<(u32, u32)>,
     wrote: Result<WriterEnd, BodyFault>,
     writer: W,
     history: Vec<Step<A>, A>,
@@ -140,8 +146,11 @@ where
         worker: k,
     } = trio;
     let read = reader_body(rt, alloc, &service, a, 0, role, reader, intake).end;
+    let gate = Doorman {
+        last: Cell::new(None),
+    };
     let worked = match outlet {
-        Some(outlet) => worker_body(rt, &service, k, 0, &NoGate, outlet).end,
+        Some(outlet) => worker_body(rt, &service, k, WORKER, &gate, outlet).end,
         None => Ok(()),
     };
     let WriterDone {
@@ -153,6 +162,7 @@ where
     Ran {
         read,
         worked,
+        passed: gate.last.get(),
         wrote,
         writer,
         door: hub.door(0),

@@ -9,9 +9,9 @@ use Rattle.gn_wire.specs.declared.header.FrameFault.{FrameFault}
 use Rattle.gn_wire.specs.declared.header.Header.{Header}
 use Rattle.gn_wire.specs.Lengths.{fault_of, unless_fault}
 use Rattle.gn_wire.specs.Packet.{Packet}
-use Rattle.gn_wire.specs.Encoding.{bytes_of, header_at, header_bytes, header_of, reading}
+use Rattle.gn_wire.specs.Encoding.{bytes_of, header_at, header_bytes, header_of, packet_from, reading}
 use Rattle.gn_wire.proofs.HeaderLemmas.{header_bytes-header_at}
-use Rattle.gn_capture.specs.Packets.{packet_at, packet_from, packet_of}
+use Rattle.gn_capture.specs.Packets.{packet_at, packet_of}
 
 header_by : (bs : List ℕ) (h : Header) (f : Option FrameFault) → unless_fault f (header_at bs) ≡ Ok h → header_at bs ≡ h
 header_by bs h None e = cc

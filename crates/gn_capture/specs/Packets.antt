@@ -4,12 +4,8 @@ use Rattle.std.specs.Option.{option_and_then}
 use Rattle.gn_wire.specs.declared.header.FrameFault.{FrameFault}
 use Rattle.gn_wire.specs.declared.header.Header.{Header}
 use Rattle.gn_wire.specs.Packet.{Packet}
-use Rattle.gn_wire.specs.Encoding.{reading}
+use Rattle.gn_wire.specs.Encoding.{packet_from, reading}
 use Rattle.gn_text.specs.Bytes.{bytes_parsed}
-
--- the descriptor of this header and payload
-abbrev pub packet_from : Header → List ℕ → Packet
-packet_from h payload = record { id = h.id; kind = h.kind; ttl = h.ttl; hops = h.hops; payload = payload }
 
 -- the descriptor of a header that was read, where its length is the payload's
 abbrev pub packet_at : Result Header FrameFault → List ℕ → Option Packet

@@ -17,7 +17,7 @@ use Rattle.gn_text.specs.Settings.{settings_of}
 use Rattle.gn_capture.specs.Packets.{packet_of}
 use Rattle.gn_capture.specs.Histories.{history_of, history_text}
 
--- the premises say of numbers and lists what each value of the types keeps: a number fits its 32 bits, a byte its 8
+-- what each value of the types keeps: a number fits its 32 bits, a byte its 8
 
 -- a number of 32 bits
 abbrev pub IsNumber : ℕ → Type 0
@@ -71,9 +71,12 @@ pub record IsOwn (own : Own) : Type 0 where
   pub kbytes : IsNumber own.kbytes
 
 -- the text of a configuration and steps says that very configuration and those very steps
+abbrev pub IsReadBack : {A : Type 0} → Config → List (Step A) → Type 0
+IsReadBack s steps = history_of (history_text s steps) ≡ Ok (settings_of s, steps)
+
+-- it does so for each configuration and steps of such numbers and bytes
 abbrev pub WrittenIsRead : (A : Type 0) → Type 0
-WrittenIsRead A = (s : Config) (steps : List (Step A)) → IsOwn s.own → AllByRecursion IsStep steps
-    → history_of (history_text s steps) ≡ Ok (settings_of s, steps)
+WrittenIsRead A = (s : Config) (steps : List (Step A)) → IsOwn s.own → AllByRecursion IsStep steps → IsReadBack s steps
 
 -- a descriptor that bytes are read as is encoded by those very bytes
 abbrev pub ReadIsEncoded : Type 0

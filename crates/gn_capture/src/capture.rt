@@ -20,7 +20,7 @@ pub struct Capture<A: Allocator = Global> {
     pub lines: Vec<(u64, Line<A>), A>,
 }
 
-/// What a capture says; else its first line that has a fault, with that line's first cause. An `Err` is that, or want of
+/// What a capture says; else its first line that has a fault, with that line's first cause. An `Err` is that, or out of
 /// memory.
 pub fn read_capture<A: Allocator + Copy>(
     alloc: A,

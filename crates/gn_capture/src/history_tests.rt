@@ -2,7 +2,6 @@
 
 use super::*;
 use gn_text::{CaptureFault, CaptureRefusal, Cause};
-use std::alloc::Global;
 use std::test::Fail;
 
 const SETTINGS: &str =
@@ -49,6 +48,7 @@ fn again(rt: &HostRuntime, text: &[u8]) -> Result<Vec<u8>, Fail> {
     };
     let mut out = Vec::new(rt.alloc());
     write_history(rt.alloc(), &config, &steps, &mut out)?;
+    written_is_read(&config, &steps);
     Ok(out)
 }
 
@@ -93,7 +93,6 @@ fn faults(rt: HostRuntime) -> Result<(), Fail> {
     assert!(rt;
         matches!(read_history(rt.alloc(), b"gnutella-capture 1\n"), Err(found) if found == refusal)
     );
-    written_is_read::<Global>();
     read_is_encoded();
     Ok(())
 }

@@ -1,18 +1,23 @@
 //! A history as it is written.
 
-ghost use Rattle.std.specs.Prelude.{◌≡◌, ◌++◌, OnOk, OnErr};
+ghost use Rattle.std.specs.Prelude.{◌≡◌, ◌++◌, length, take, OnOk, OnErr};
 ghost use Rattle.gn_capture.specs.Histories.{history_text, steps_text};
+ghost use Rattle.gn_capture.specs.RoundTrip.{IsReadBack};
 
+use crate::laws::written_is_read;
 use gn_rules::{Config, Step};
 use gn_text::{push_settings, push_step};
+use gn_wire::whole_or_none;
 use std::alloc::{AllocError, Allocator};
 
+/// Appends a line for each step. An `Err` is out of memory, and leaves what stood there before in front.
 fn write_steps<A: Allocator + Copy, B: Allocator>(
     alloc: A,
     out: &mut Vec<u8, B>,
     steps: &[Step<A>],
 ) -> Result<(), AllocError>
-    ensures { OnOk result (out.new.items ≡ out.old.items ++ steps_text steps.now) }
+    ensures ok { OnOk result (out.new.items ≡ out.old.items ++ steps_text steps.now) }
+    ensures err { OnErr result (take (length out.old.items) out.new.items ≡ out.old.items) }
 {
     for step in steps {
         push_step(alloc, out, step)?;
@@ -20,8 +25,25 @@ fn write_steps<A: Allocator + Copy, B: Allocator>(
     Ok(())
 }
 
+/// Appends the text of a history. An `Err` is out of memory, and leaves what stood there before in front.
+fn write_text<A: Allocator + Copy, B: Allocator>(
+    alloc: A,
+    config: &Config,
+    steps: &[Step<A>],
+    out: &mut Vec<u8, B>,
+) -> Result<(), AllocError>
+    ensures ok { OnOk result (out.new.items ≡ out.old.items ++ history_text config.now steps.now) }
+    ensures err { OnErr result (take (length out.old.items) out.new.items ≡ out.old.items) }
+{
+    out.extend_from_slice(b"gnutella-history 1\n")?;
+    push_settings(alloc, out, config)?;
+    write_steps(alloc, out, steps)?;
+    out.extend_from_slice(b"end\n")
+}
+
 /// Appends the text of a history: the line `gnutella-history 1`, the `config` and `own` lines, a line for each step, and
-/// the line `end`. An `Err` is out of memory, and changes nothing.
+/// the line `end`. The text is read back as that configuration and those steps. An `Err` is out of memory, and changes
+/// nothing.
 pub fn write_history<A: Allocator + Copy, B: Allocator>(
     alloc: A,
     config: &Config,
@@ -29,12 +51,11 @@ pub fn write_history<A: Allocator + Copy, B: Allocator>(
     out: &mut Vec<u8, B>,
 ) -> Result<(), AllocError>
     ensures ok { OnOk result (out.new.items ≡ out.old.items ++ history_text config.now steps.now) }
+    ensures read { IsReadBack config.now steps.now }
     ensures err { OnErr result (out.new.items ≡ out.old.items) }
 {
-    let mut text = Vec::new(alloc);
-    text.extend_from_slice(b"gnutella-history 1\n")?;
-    push_settings(alloc, &mut text, config)?;
-    write_steps(alloc, &mut text, steps)?;
-    text.extend_from_slice(b"end\n")?;
-    out.extend_from_slice(&text)
+    written_is_read(config, steps);
+    let start = out.len();
+    let written = write_text(alloc, config, steps, out);
+    whole_or_none(out, start, written)
 }

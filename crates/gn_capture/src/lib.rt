@@ -8,6 +8,7 @@ mod capture;
 mod capture_tests;
 mod event;
 mod event_lines;
+mod fitting;
 mod history;
 #[cfg(test)]
 mod history_tests;

@@ -6,9 +6,10 @@ ghost use Rattle.gn_capture.specs.Packets.{packet_of, packet_parsed};
 
 use bytes::Bytes;
 use gn_text::{hex_bytes, number};
-use gn_wire::{Descriptor, read_header};
+use gn_wire::{Descriptor, HEADER_BYTES, read_header};
 use std::alloc::{AllocError, Allocator};
 
+/// The descriptor that bytes encode, from the first to the last.
 #[tactic(auto, unfolding(crate::specs::Packets::packet_of))]
 fn packet_in<A: Allocator + Copy>(
     alloc: A,
@@ -16,20 +17,19 @@ fn packet_in<A: Allocator + Copy>(
 ) -> Result<Option<Descriptor<A>>, AllocError>
     ensures { IfOk result (λ found. found ≡ packet_of bytes.now) }
 {
-    if bytes.len() < 23 {
+    let Some(front) = bytes.first_chunk::<HEADER_BYTES>() else {
         return Ok(None);
-    }
-    let (front, payload) = bytes.split_at(23);
-    let mut head = [0u8; 23];
-    head.copy_from_slice(front);
-    match read_header(&head) {
+    };
+    let payload = &bytes[HEADER_BYTES..];
+    match read_header(front) {
         Err(_) => Ok(None),
+        Ok(header) if header.length as usize != payload.len() => Ok(None),
         Ok(header) => {
-            if header.length as usize != payload.len() {
-                return Ok(None);
-            }
             let payload = Bytes::copy_from_slice(alloc, payload)?;
-            Ok(Descriptor::new(header.id, header.kind, header.ttl, header.hops, payload).ok())
+            match Descriptor::from_header(header, payload) {
+                Ok(descriptor) => Ok(Some(descriptor)),
+                Err(_) => unreachable!(),
+            }
         }
     }
 }

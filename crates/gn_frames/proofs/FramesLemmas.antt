@@ -6,7 +6,8 @@ use Rattle.gn_wire.specs.declared.header.Header.{Header}
 use Rattle.gn_wire.specs.Packet.{Packet}
 use Rattle.gn_frames.specs.declared.front.Front.{Front}
 use Rattle.gn_frames.specs.declared.front.Front.TheVariants.{Open, Faulty, Whole}
-use Rattle.gn_frames.specs.Front.{front_of, packet_of}
+use Rattle.gn_wire.specs.Encoding.{packet_from}
+use Rattle.gn_frames.specs.Front.{front_of}
 use Rattle.gn_frames.specs.Frames.{Frames, no_frames, behind, frames_by, frames_within, frames_of, FramesAreCut}
 use Rattle.gn_frames.proofs.FrontLemmas.{whole, whole_stays, faulty_stays}
 
@@ -15,7 +16,7 @@ by_same : (f g : List ℕ → Frames) (s : List ℕ) (front : Front) → ((h : H
     → frames_by f s front ≡ frames_by g s front
 by_same f g s Open same = refl
 by_same f g s (Faulty fault) same = refl
-by_same f g s (Whole h) same = ap (λ later. behind (packet_of h (take h.length (drop 23 s)) ∷ []) later) (same h)
+by_same f g s (Whole h) same = ap (λ later. behind (packet_from h (take h.length (drop 23 s)) ∷ []) later) (same h)
 
 -- what stands behind a descriptor is shorter
 pub shorter : (s : List ℕ) (n k : ℕ) → length s ≤ suc n → length (drop (23 + k) s) ≤ n
@@ -47,7 +48,7 @@ pub frames_faulty : (s : List ℕ) (fault : FrameFault) → front_of s ≡ Fault
 frames_faulty s fault e = frames_of_front s ∙ ap (frames_by frames_of s) e
 
 pub frames_whole : (s : List ℕ) (h : Header) → front_of s ≡ Whole h
-    → frames_of s ≡ behind (packet_of h (take h.length (drop 23 s)) ∷ []) (frames_of (drop (23 + h.length) s))
+    → frames_of s ≡ behind (packet_from h (take h.length (drop 23 s)) ∷ []) (frames_of (drop (23 + h.length) s))
 frames_whole s h e = frames_of_front s ∙ ap (frames_by frames_of s) e
 
 -- descriptors before descriptors
@@ -62,7 +63,7 @@ goes_on s more n size (Faulty fault) e = rw (frames_faulty s fault e) refl
 goes_on s more zero size (Whole h) e = let fits = (whole s h e).fits in absurd (omega arith)
 goes_on s more (suc n) size (Whole h) e =
     let fits = (whole s h e).fits in
-    let d = packet_of h (take h.length (drop 23 s)) in
+    let d = packet_from h (take h.length (drop 23 s)) in
     let rest = drop (23 + h.length) s in
     let payload : take h.length (drop 23 (s ++ more)) ≡ take h.length (drop 23 s) =
     ap (take h.length) (drop-append-le 23 s more (omega arith)) ∙ take-append-le h.length (drop 23 s) more (rw length-drop (omega arith)) in
@@ -70,7 +71,7 @@ goes_on s more (suc n) size (Whole h) e =
     let here : frames_of s ≡ behind (d ∷ []) (frames_of rest) = frames_whole s h e in
     let there = goes_on rest more n (shorter s n h.length size) (front_of rest) refl in
     frames_whole (s ++ more) h (whole_stays s more h e)
-    ∙ ap (λ xs. behind (packet_of h xs ∷ []) (frames_of (drop (23 + h.length) (s ++ more)))) payload
+    ∙ ap (λ xs. behind (packet_from h xs ∷ []) (frames_of (drop (23 + h.length) (s ++ more)))) payload
     ∙ ap (λ xs. behind (d ∷ []) (frames_of xs)) later
     ∙ ap (behind (d ∷ [])) there
     ∙ ap (λ (f : Frames). behind f.descriptors (frames_of (f.rest ++ more))) (sym here)

@@ -7,9 +7,9 @@ use Rattle.gn_wire.specs.declared.header.FrameFault.{FrameFault}
 use Rattle.gn_wire.specs.declared.header.Header.{Header}
 use Rattle.gn_wire.specs.Lengths.{fault_of}
 use Rattle.gn_wire.specs.Packet.{Packet}
-use Rattle.gn_wire.specs.Encoding.{header_at, reading}
+use Rattle.gn_wire.specs.Encoding.{header_at, packet_from, reading}
 use Rattle.gn_frames.specs.declared.front.Front.TheVariants.{Open, Faulty, Whole}
-use Rattle.gn_frames.specs.Front.{front_of, packet_of}
+use Rattle.gn_frames.specs.Front.{front_of}
 use Rattle.gn_frames.specs.Frames.{Frames, named_length, no_frames, behind, frames_of}
 use Rattle.gn_frames.specs.Held.{IsHeld}
 use Rattle.gn_frames.specs.Pieces.{IsFilled, IsFound, IsTaken, Settled}
@@ -42,17 +42,17 @@ behind_header s = take_all (length s - 23) (drop 23 s) (rw length-drop (omega ar
 
 -- one descriptor more, of a payload and what is later
 pub taken_more : (left : List ℕ) (h : Header) (before after : List Packet) (d : Packet) (payload later : List ℕ) → front_of left ≡ Whole h
-    → after ≡ before ++ d ∷ [] → d ≡ packet_of h payload
+    → after ≡ before ++ d ∷ [] → d ≡ packet_from h payload
     → payload ≡ take h.length (take (length left - 23) (drop 23 left)) → later ≡ drop h.length (take (length left - 23) (drop 23 left))
     → behind after (frames_of later) ≡ behind before (frames_of left)
 taken_more left h before after d payload later front added d_is payload_is later_is =
     let part : payload ≡ take h.length (drop 23 left) = payload_is ∙ ap (take h.length) (behind_header left) in
     let rest : later ≡ drop (23 + h.length) left = later_is ∙ ap (drop h.length) (behind_header left) ∙ drop-drop h.length 23 left in
-    let items : after ≡ before ++ packet_of h (take h.length (drop 23 left)) ∷ [] =
-    added ∙ ap (λ x. before ++ x ∷ []) (d_is ∙ ap (packet_of h) part) in
+    let items : after ≡ before ++ packet_from h (take h.length (drop 23 left)) ∷ [] =
+    added ∙ ap (λ x. before ++ x ∷ []) (d_is ∙ ap (packet_from h) part) in
     ap (λ xs. behind xs (frames_of later)) items
-    ∙ behind_twice before (packet_of h (take h.length (drop 23 left)) ∷ []) (frames_of later)
-    ∙ ap (λ xs. behind before (behind (packet_of h (take h.length (drop 23 left)) ∷ []) (frames_of xs))) rest
+    ∙ behind_twice before (packet_from h (take h.length (drop 23 left)) ∷ []) (frames_of later)
+    ∙ ap (λ xs. behind before (behind (packet_from h (take h.length (drop 23 left)) ∷ []) (frames_of xs))) rest
     ∙ ap (behind before) (sym (frames_whole left h front))
 
 -- a piece that is cut where enough of it was taken
@@ -161,11 +161,11 @@ front_stays (Err e) held piece middle after k middle_is same = rw (same, middle_
 
 -- the frames of a string whose front is just its one descriptor
 complete_frames : (s : List ℕ) (h : Header) → front_of s ≡ Whole h → length s ≡ 23 + h.length
-    → frames_of s ≡ behind (packet_of h (take h.length (drop 23 s)) ∷ []) (no_frames [] None)
+    → frames_of s ≡ behind (packet_from h (take h.length (drop 23 s)) ∷ []) (no_frames [] None)
 complete_frames s h front size =
     frames_whole s h front
-    ∙ ap (λ xs. behind (packet_of h (take h.length (drop 23 s)) ∷ []) (frames_of xs)) (drop_all (23 + h.length) s (omega arith))
-    ∙ ap (behind (packet_of h (take h.length (drop 23 s)) ∷ [])) (frames_open [] refl)
+    ∙ ap (λ xs. behind (packet_from h (take h.length (drop 23 s)) ∷ []) (frames_of xs)) (drop_all (23 + h.length) s (omega arith))
+    ∙ ap (behind (packet_from h (take h.length (drop 23 s)) ∷ [])) (frames_open [] refl)
 
 -- what shows that a held string has a fault or is still open
 pub data Unfinished (left : List ℕ) (found : Option FrameFault) : Type 0 where

@@ -9,13 +9,13 @@ use Rattle.gn_wire.specs.declared.header.Header.{Header}
 use Rattle.gn_wire.specs.Kinds.{IsStored}
 use Rattle.gn_wire.specs.Lengths.{fault_of, IsDescriptor}
 use Rattle.gn_wire.specs.Packet.{Packet}
-use Rattle.gn_wire.specs.Encoding.{header_at, header_bytes, header_of, bytes_of}
+use Rattle.gn_wire.specs.Encoding.{bytes_of, header_at, header_bytes, header_of, packet_from}
 use Rattle.gn_wire.proofs.HeaderLemmas.{header_bytes-header_at}
 use Rattle.gn_wire.proofs.KindLemmas.{stored-kind_of}
 use Rattle.gn_wire.proofs.EncodingLemmas.{header_at-stream, drop-stream, length-header_bytes}
 use Rattle.gn_frames.specs.declared.front.Front.{Front}
 use Rattle.gn_frames.specs.declared.front.Front.TheVariants.{Open, Faulty, Whole}
-use Rattle.gn_frames.specs.Front.{front_of, packet_of}
+use Rattle.gn_frames.specs.Front.{front_of}
 use Rattle.gn_frames.specs.Frames.{no_frames, behind, frames_of, named_length, IsRest, IsFrames, FramesAreOne}
 use Rattle.gn_frames.proofs.FramesLemmas.{frames_open, frames_faulty, frames_whole, shorter}
 use Rattle.gn_frames.proofs.FrontLemmas.{below_or_not, IsWhole, whole, front_whole, front_open, front_faulty, is_open, is_faulty}
@@ -40,7 +40,7 @@ frames_stream d rest kept =
     let later : drop (23 + length d.payload) s ≡ rest =
     sym (drop-drop (length d.payload) 23 s) ∙ ap (drop (length d.payload)) (drop-stream d rest kept) ∙ drop-append_seam d.payload rest in
     frames_whole s (header_of d) (whole_stream d rest kept)
-    ∙ ap (λ xs. behind (packet_of (header_of d) xs ∷ []) (frames_of (drop (23 + length d.payload) s))) payload
+    ∙ ap (λ xs. behind (packet_from (header_of d) xs ∷ []) (frames_of (drop (23 + length d.payload) s))) payload
     ∙ ap (λ xs. behind (d ∷ []) (frames_of xs)) later
 
 -- a reading is the one that the function gives
@@ -69,7 +69,7 @@ payload_size s h is = length-take-le h.length (drop 23 s) (let fits = is.fits in
 
 -- the descriptor of a whole front encodes it
 told_whole : (s : List ℕ) (h : Header) → All (λ b. b < 256) s → IsWhole s h
-    → bytes_of (packet_of h (take h.length (drop 23 s))) ++ drop (23 + h.length) s ≡ s
+    → bytes_of (packet_from h (take h.length (drop 23 s))) ++ drop (23 + h.length) s ≡ s
 told_whole s h bytes is =
     let fits = is.fits in
     let start = take 23 s in
@@ -77,13 +77,13 @@ told_whole s h bytes is =
     let header : header_bytes h ≡ start =
     ap header_bytes (sym is.header)
     ∙ header_bytes-header_at start (length-take-le 23 s (omega arith)) (byte_at start (All-take (λ b. b < 256) 23 s bytes)) in
-    let encoded : bytes_of (packet_of h payload) ≡ take (23 + h.length) s =
+    let encoded : bytes_of (packet_from h payload) ≡ take (23 + h.length) s =
     ap (λ (n : ℕ). header_bytes (record h { length = n }) ++ payload) (payload_size s h is)
     ∙ ap (λ xs. xs ++ payload) header
     ∙ sym (take-add 23 h.length s) in
     ap (λ xs. xs ++ drop (23 + h.length) s) encoded ∙ take-append-drop (23 + h.length) s
 
-told_descriptor : (s : List ℕ) (h : Header) → All (λ b. b < 256) s → IsWhole s h → IsDescriptor (packet_of h (take h.length (drop 23 s)))
+told_descriptor : (s : List ℕ) (h : Header) → All (λ b. b < 256) s → IsWhole s h → IsDescriptor (packet_from h (take h.length (drop 23 s)))
 told_descriptor s h bytes is =
     let fits = is.fits in
     let start = take 23 s in
@@ -106,7 +106,7 @@ told s n size bytes (Faulty fault) e =
 told s zero size bytes (Whole h) e = let fits = (whole s h e).fits in absurd (omega arith)
 told s (suc n) size bytes (Whole h) e =
     let is = whole s h e in
-    let d = packet_of h (take h.length (drop 23 s)) in
+    let d = packet_from h (take h.length (drop 23 s)) in
     let rest = drop (23 + h.length) s in
     let there = told rest n (shorter s n h.length size) (All-drop (λ b. b < 256) (23 + h.length) s bytes) (front_of rest) refl in
     let f = frames_of rest in

@@ -4,10 +4,10 @@ use Rattle.std.specs.List.{flat_map}
 use Rattle.gn_wire.specs.declared.header.FrameFault.{FrameFault}
 use Rattle.gn_wire.specs.Lengths.{fault_of, IsDescriptor}
 use Rattle.gn_wire.specs.Packet.{Packet}
-use Rattle.gn_wire.specs.Encoding.{bytes_of, header_at}
+use Rattle.gn_wire.specs.Encoding.{bytes_of, header_at, packet_from}
 use Rattle.gn_frames.specs.declared.front.Front.{Front}
 use Rattle.gn_frames.specs.declared.front.Front.TheVariants.{Open, Faulty, Whole}
-use Rattle.gn_frames.specs.Front.{front_of, packet_of}
+use Rattle.gn_frames.specs.Front.{front_of}
 
 -- the descriptors of a string, the bytes behind them, and the fault that ends it, where one does
 pub record Frames : Type 0 where
@@ -54,7 +54,7 @@ behind ds f = record { descriptors = ds ++ f.descriptors; rest = f.rest; fault =
 abbrev pub frames_by : (List ℕ → Frames) → List ℕ → Front → Frames
 frames_by later s Open = no_frames s None
 frames_by later s (Faulty fault) = no_frames s (Some fault)
-frames_by later s (Whole h) = behind (packet_of h (take h.length (drop 23 s)) ∷ []) (later (drop (23 + h.length) s))
+frames_by later s (Whole h) = behind (packet_from h (take h.length (drop 23 s)) ∷ []) (later (drop (23 + h.length) s))
 
 -- the frames of a string of at most n bytes
 abbrev pub frames_within : ℕ → List ℕ → Frames

@@ -2,7 +2,6 @@
 use Rattle.std.specs.Prelude.{ℕ, ◌-◌, nat_lt, if◌then◌else◌, List, length, take, Result, Ok, Err}
 use Rattle.gn_wire.specs.declared.header.FrameFault.{FrameFault}
 use Rattle.gn_wire.specs.declared.header.Header.{Header}
-use Rattle.gn_wire.specs.Packet.{Packet}
 use Rattle.gn_wire.specs.Encoding.{reading}
 use Rattle.gn_frames.specs.declared.front.Front.{Front}
 use Rattle.gn_frames.specs.declared.front.Front.TheVariants.{Open, Faulty, Whole}
@@ -15,7 +14,3 @@ front_behind (Ok h) n = if nat_lt n h.length then Open else Whole h
 -- the front: open where bytes are wanting, faulty where the header's length is invalid, else a whole descriptor
 abbrev pub front_of : List ℕ → Front
 front_of s = if nat_lt (length s) 23 then Open else front_behind (reading (take 23 s)) (length s - 23)
-
--- the descriptor of a header and its payload
-abbrev pub packet_of : Header → List ℕ → Packet
-packet_of h payload = record { id = h.id; kind = h.kind; ttl = h.ttl; hops = h.hops; payload = payload }

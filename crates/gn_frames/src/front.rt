@@ -3,14 +3,12 @@
 ghost use Rattle.std.specs.Prelude.{◌≡◌, ◌<◌, ◌≤◌, None, length, IfOk};
 ghost use Rattle.gn_wire.specs.Kinds.{IsStored};
 ghost use Rattle.gn_wire.specs.Lengths.{fault_of};
-ghost use Rattle.gn_frames.specs.Front.{front_of, packet_of};
+ghost use Rattle.gn_wire.specs.Encoding.{packet_from};
+ghost use Rattle.gn_frames.specs.Front.{front_of};
 
 use bytes::Bytes;
-use gn_wire::{Descriptor, FrameFault, Header, read_header};
+use gn_wire::{Descriptor, FrameFault, HEADER_BYTES, Header, read_header};
 use std::alloc::{AllocError, Allocator};
-
-/// The bytes of a header.
-pub(crate) const HEADER_BYTES: usize = 23;
 
 /// What a slice of bytes begins with.
 #[derive(Clone, Copy, Debug, PartialEq, Eq)]
@@ -27,7 +25,7 @@ pub enum Front {
 pub(crate) fn front_of(bytes: &[u8]) -> Front
     ensures { result ≡ front_of bytes.now }
 {
-    let Some(start) = bytes.first_chunk::<23>() else {
+    let Some(start) = bytes.first_chunk::<HEADER_BYTES>() else {
         return Front::Open;
     };
     match read_header(start) {
@@ -46,10 +44,10 @@ pub(crate) fn copied<A: Allocator + Copy>(
     requires valid { fault_of header.kind header.length ≡ None }
     requires stored { IsStored header.kind }
     requires whole { length payload.now ≡ header.length }
-    ensures { IfOk result (λ d. d ≡ packet_of header payload.now) }
+    ensures { IfOk result (λ d. d ≡ packet_from header payload.now) }
 {
     let payload = Bytes::copy_from_slice(alloc, payload)?;
-    match Descriptor::new(header.id, header.kind, header.ttl, header.hops, payload) {
+    match Descriptor::from_header(header, payload) {
         Ok(descriptor) => Ok(descriptor),
         Err(_) => unreachable!(),
     }

@@ -5,12 +5,12 @@ ghost use Rattle.gn_frames.specs.Front.{front_of};
 ghost use Rattle.gn_frames.specs.Frames.{behind, frames_of};
 ghost use Rattle.gn_frames.specs.Pieces.{IsFilled, IsFound, IsTaken};
 
-use crate::front::{Front, HEADER_BYTES, copied, front_of};
+use crate::front::{Front, copied, front_of};
 use crate::reassembler::Fed;
-use gn_wire::{Descriptor, FrameFault, Header, read_header};
+use gn_wire::{Descriptor, FrameFault, HEADER_BYTES, Header, read_header};
 use std::alloc::{AllocError, Allocator};
 
-/// Appends what of the piece is wanted up to the size, in bytes, and gives what stands behind it. An `Err` is want of
+/// Appends what of the piece is wanted up to the size, in bytes, and gives what stands behind it. An `Err` is out of
 /// memory, and changes nothing.
 fn fill_to<'a, A: Allocator>(
     held: &mut Vec<u8, A>,
@@ -26,7 +26,7 @@ fn fill_to<'a, A: Allocator>(
     Ok(&piece[wanted..])
 }
 
-/// Appends what the held beginning of a descriptor wants of the piece, and gives what stands behind it. An `Err` is want
+/// Appends what the held beginning of a descriptor wants of the piece, and gives what stands behind it. An `Err` is out
 /// of memory: what was held stays in front.
 fn fill<'a, A: Allocator>(held: &mut Vec<u8, A>, piece: &'a [u8]) -> Result<&'a [u8], AllocError>
     requires { front_of held.old.items ≡ Front.Open }
@@ -37,7 +37,7 @@ fn fill<'a, A: Allocator>(held: &mut Vec<u8, A>, piece: &'a [u8]) -> Result<&'a 
         return Ok(piece);
     }
     let behind = fill_to(held, HEADER_BYTES, piece)?;
-    let Some(start) = held.first_chunk::<23>() else {
+    let Some(start) = held.first_chunk::<HEADER_BYTES>() else {
         return Ok(behind);
     };
     let Ok(header) = read_header(start) else {
@@ -46,7 +46,7 @@ fn fill<'a, A: Allocator>(held: &mut Vec<u8, A>, piece: &'a [u8]) -> Result<&'a 
     fill_to(held, HEADER_BYTES + header.length as usize, behind)
 }
 
-/// Adds the descriptor with this header that the bytes begin with, and gives the bytes behind it. An `Err` is want of
+/// Adds the descriptor with this header that the bytes begin with, and gives the bytes behind it. An `Err` is out of
 /// memory.
 fn take_one<'a, A: Allocator + Copy>(
     alloc: A,
@@ -83,7 +83,7 @@ fn take_frames<'a, A: Allocator + Copy>(
     }
 }
 
-/// The frames of what is held with the piece behind it; what no descriptor has is held from then on. An `Err` is want of
+/// The frames of what is held with the piece behind it; what no descriptor has is held from then on. An `Err` is out of
 /// memory: what was held stays in front.
 pub(crate) fn take_piece<A: Allocator + Copy>(
     alloc: A,
@@ -91,7 +91,8 @@ pub(crate) fn take_piece<A: Allocator + Copy>(
     piece: &[u8],
 ) -> Result<Fed<A>, AllocError>
     requires { front_of held.old.items ≡ Front.Open }
-    ensures ok { IfOk result (λ fed. IsFound (held.old.items ++ piece.now) fed.descriptors.items fed.fault held.new.items) }
+    ensures ok { IfOk result (λ fed.
+        IsFound (held.old.items ++ piece.now) fed.descriptors.items fed.fault held.new.items) }
     ensures err { OnErr result (take (length held.old.items) held.new.items ≡ held.old.items) }
 {
     let mut descriptors = Vec::new(alloc);

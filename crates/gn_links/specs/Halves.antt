@@ -1,5 +1,5 @@
 -- What the two halves of a link count, and when they are new.
-use Rattle.std.specs.Prelude.{◌≡◌, ◌+◌, ◌-◌, ◌^◌, ◌==◌, ◌&&◌, not, ℕ, Bool, false, if◌then◌else◌, min, List, [], take, Result, Ok, Err}
+use Rattle.std.specs.Prelude.{◌≡◌, ◌+◌, ◌-◌, ◌^◌, ◌<◌, ◌==◌, ◌&&◌, not, ℕ, All, Bool, true, false, if◌then◌else◌, min, List, [], ◌++◌, take, Result, Ok, Err}
 
 -- a count after what may have happened; at the last u64 it stays
 abbrev pub counted : Bool → ℕ → ℕ
@@ -33,6 +33,13 @@ is_stall (Err fault) length = false
 -- a reader that read nothing yet: its bytes, its failures, its reads that gave bytes, whether it ended
 abbrev pub IsNewReader : List ℕ → ℕ → ℕ → Bool → Type 0
 IsNewReader bytes failures pieces has_ended = (bytes ≡ []) × (failures ≡ 0) × (pieces ≡ 0) × (has_ended ≡ false)
+
+-- what a reader read of all its bytes: numbers below 256, a prefix of all, and all of them where it ended
+pub record IsReadOf (all read : List ℕ) (has_ended : Bool) : Type 0 where
+  pub octets : All (λ b. b < 256) read
+  pub rest : List ℕ
+  pub whole : all ≡ read ++ rest
+  pub ended : has_ended ≡ true → rest ≡ []
 
 -- a writer that wrote nothing yet: its bytes, its failures, whether it is stuck, whether it is finished
 abbrev pub IsNewWriter : List ℕ → ℕ → Bool → Bool → Type 0

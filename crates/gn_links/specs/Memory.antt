@@ -1,5 +1,5 @@
 -- A link over memory and its halves.
-use Rattle.std.specs.Prelude.{◌+◌, ◌-◌, ◌^◌, ℕ, Bool, false, nat_le, min, List, [], Option, Some, None}
+use Rattle.std.specs.Prelude.{◌≡◌, ◌+◌, ◌-◌, ◌^◌, ◌<◌, ◌≤◌, ℕ, All, Bool, true, false, nat_le, min, List, [], length, Option, Some, None}
 use Rattle.gn_shake.specs.declared.role.Role.{Role}
 
 -- a link over memory: its role, the bytes that it gives, the most of them at a time, and from which read and which write
@@ -22,6 +22,12 @@ pub record MemoryReading : Type 0 where
   pub failures : ℕ
   pub pieces : ℕ
   pub has_ended : Bool
+
+-- so many of these bytes were given: no more than there are, and all of them where the reader ended; each is below 256
+pub record IsGiving (bytes : List ℕ) (given : ℕ) (has_ended : Bool) : Type 0 where
+  pub octets : All (λ b. b < 256) bytes
+  pub within : given ≤ length bytes
+  pub ended : has_ended ≡ true → given ≡ length bytes
 
 -- its writing half: the bytes that it took, how many it has room for, from which write on it fails, how many were made, how
 -- many failed, and whether it is finished

@@ -2,7 +2,7 @@
 
 ghost use Rattle.std.specs.Prelude.{◌≡◌, ◌++◌, ◌||◌, ◌≤◌, [], ℕ, Bool, List, false, length, true, IfOk, is_err};
 ghost use Rattle.gn_shake.specs.declared.role.Role.{Role};
-ghost use Rattle.gn_links.specs.Halves.{counted, gave_bytes, is_end, is_stall, read_by, written_by, IsNewReader, IsNewWriter};
+ghost use Rattle.gn_links.specs.Halves.{counted, gave_bytes, is_end, is_stall, read_by, written_by, IsNewReader, IsNewWriter, IsReadOf};
 
 use gn_shake::Role;
 use std::sync::Wait;
@@ -15,6 +15,9 @@ pub struct LinkFault;
 pub trait LinkReader: Drop {
     /// Whether its bytes are known.
     ghost is_known: { Bool };
+
+    /// All bytes that it was made to give, where they are known.
+    ghost all_bytes: { Self → List ℕ };
 
     /// The bytes that its reads gave so far, where they are known.
     ghost bytes_read: { Self → List ℕ };
@@ -32,7 +35,9 @@ pub trait LinkReader: Drop {
     /// that there are no more.
     fn read<R: Wait>(&mut self, rt: &R, buffer: &mut [u8]) -> Result<usize, LinkFault>
         ensures within { IfOk result (λ n. n ≤ length buffer.old) }
+        ensures all { all_bytes self.new ≡ all_bytes self.old }
         ensures bytes { is_known ≡ true → bytes_read self.new ≡ bytes_read self.old ++ read_by result buffer.new }
+        ensures prefix { is_known ≡ true → IsReadOf (all_bytes self.new) (bytes_read self.new) (has_ended self.new) }
         ensures failures { failures self.new ≡ counted (is_err result) (failures self.old) }
         ensures pieces { pieces self.new ≡ counted (gave_bytes result) (pieces self.old) }
         ensures has_ended { has_ended self.new ≡ (has_ended self.old || is_end result (length buffer.old)) };
@@ -78,6 +83,9 @@ pub trait Link: Drop {
     /// How it begins.
     ghost role_of: { Self → Role };
 
+    /// All bytes that its reader gives, where they are known.
+    ghost all_bytes: { Self → List ℕ };
+
     /// How it begins.
     fn role(&self) -> Role
         ensures { result ≡ role_of self.now };
@@ -88,6 +96,7 @@ pub trait Link: Drop {
         Self: Sized,
         ensures reader { IfOk result (λ h. IsNewReader
             (Self.Reader.bytes_read h.0) (Self.Reader.failures h.0) (Self.Reader.pieces h.0) (Self.Reader.has_ended h.0)) }
+        ensures all { IfOk result (λ h. Self.Reader.all_bytes h.0 ≡ all_bytes self) }
         ensures writer { IfOk result (λ h. IsNewWriter
             (Self.Writer.bytes_written h.1) (Self.Writer.failures h.1) (Self.Writer.is_stuck h.1) (Self.Writer.is_finished h.1)) };
 }

@@ -81,6 +81,8 @@ impl<A: Allocator + Copy> Link for MemoryLink<A> {
 
     ghost role_of = { λ l. l.role };
 
+    ghost all_bytes = { λ l. l.bytes };
+
     fn role(&self) -> Role {
         self.role
     }
@@ -90,6 +92,7 @@ impl<A: Allocator + Copy> Link for MemoryLink<A> {
         ensures ok { IsOk result }
         ensures halves { IfOk result (λ h. (h.0 ≡ new_reading self) × (h.1 ≡ new_writing self)) }
         ensures reader { IfOk result (λ h. IsNewReader (take h.0.given h.0.bytes) h.0.failures h.0.pieces h.0.has_ended) }
+        ensures all { IfOk result (λ h. h.0.bytes ≡ self.bytes) }
         ensures writer { IfOk result (λ h. IsNewWriter h.1.bytes h.1.failures false h.1.is_finished) }
     {
         let alloc = *self.bytes.allocator();

@@ -1,7 +1,7 @@
 //! The reading half of a link over memory.
 
 ghost use Rattle.std.specs.Prelude.{◌≡◌, ◌++◌, ◌||◌, ◌<◌, ◌≤◌, false, length, take, true, IfOk, is_err};
-ghost use Rattle.gn_links.specs.Halves.{counted, gave_bytes, is_end, read_by};
+ghost use Rattle.gn_links.specs.Halves.{counted, gave_bytes, is_end, read_by, IsReadOf};
 ghost use Rattle.gn_links.specs.Memory.{is_failing, next_call};
 
 use crate::link::{LinkFault, LinkReader};
@@ -23,8 +23,8 @@ pub struct MemoryReader<A: Allocator = Global> {
 }
 
 impl<A: Allocator> Model for MemoryReader<A> {
-    ghost use Rattle.std.specs.Prelude.{◌<◌, ◌≤◌, vec_len};
-    ghost use Rattle.gn_links.specs.Memory.{MemoryReading};
+    ghost use Rattle.std.specs.Prelude.{◌<◌};
+    ghost use Rattle.gn_links.specs.Memory.{MemoryReading, IsGiving};
 
     ghost Value = { MemoryReading };
 
@@ -39,7 +39,7 @@ impl<A: Allocator> Model for MemoryReader<A> {
       has_ended = r.has_ended;
     } };
 
-    ghost invariant = { λ r. (r.given ≤ vec_len r.bytes) × (0 < r.piece) };
+    ghost invariant = { λ r. IsGiving r.bytes.items r.given r.has_ended × (0 < r.piece) };
 }
 
 impl<A: Allocator> MemoryReader<A> {
@@ -72,6 +72,7 @@ impl<A: Allocator> MemoryReader<A> {
     fn give(&mut self, buffer: &mut [u8]) -> usize
         ensures within { (result ≤ length buffer.old) × (result ≤ self.old.piece) }
         ensures bytes { take self.new.given self.new.bytes ≡ take self.old.given self.old.bytes ++ take result buffer.new }
+        ensures prefix { IsReadOf self.new.bytes (take self.new.given self.new.bytes) self.new.has_ended }
         ensures end { result ≡ 0 → 0 < length buffer.old → self.old.given ≡ length self.old.bytes }
         ensures same { self.new ≡ record self.old { given = self.new.given } }
     {
@@ -86,6 +87,8 @@ impl<A: Allocator> MemoryReader<A> {
 impl<A: Allocator> LinkReader for MemoryReader<A> {
     ghost is_known = { true };
 
+    ghost all_bytes = { λ r. r.bytes };
+
     ghost bytes_read = { λ r. take r.given r.bytes };
 
     ghost failures = { λ r. r.failures };
@@ -97,6 +100,7 @@ impl<A: Allocator> LinkReader for MemoryReader<A> {
     fn read<R: Wait>(&mut self, _rt: &R, buffer: &mut [u8]) -> Result<usize, LinkFault>
         ensures within { IfOk result (λ n. (n ≤ length buffer.old) × (n ≤ self.old.piece)) }
         ensures bytes { take self.new.given self.new.bytes ≡ take self.old.given self.old.bytes ++ read_by result buffer.new }
+        ensures prefix { IsReadOf self.new.bytes (take self.new.given self.new.bytes) self.new.has_ended }
         ensures end { IfOk result (λ n. n ≡ 0 → 0 < length buffer.old → self.old.given ≡ length self.old.bytes) }
         ensures fails { is_err result ≡ is_failing self.old.fails_from (next_call self.old.calls) }
         ensures calls { self.new.calls ≡ next_call self.old.calls }

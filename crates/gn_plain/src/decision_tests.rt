@@ -1,23 +1,16 @@
 //! The rules' decisions before any step: what is looked up in an empty history, answered, and compared with other replies.
 
 use crate::Past;
+use crate::tests::OWN;
 use bytes::Bytes;
 use gn_decide::{
     Forwarded, Made, Plan, decide, find, find_checked, is_answered, is_planned, plan_of,
 };
 use gn_payload::{Checked, Verdict};
-use gn_rules::{Config, DropReason, Event, Own, Refusal, Reply, Step};
+use gn_rules::{Config, DropReason, Event, Refusal, Reply, Step};
 use gn_wire::{Descriptor, Guid, Kind};
 use std::alloc::Global;
 use std::test::Fail;
-
-const OWN: Own = Own {
-    servent: Guid([0xee; 16]),
-    ip: [127, 0, 0, 1],
-    port: 6346,
-    files: 5,
-    kbytes: 40,
-};
 
 fn config() -> Result<Config, Fail> {
     Ok(Config::new(4, 8, 4, 8, 8, 100, OWN).map_err(|_| "within the limits")?)

@@ -1,19 +1,12 @@
 //! One short history, judged under several configurations and from several steps on.
 
+use crate::tests::OWN;
 use crate::{PlainRouter, legal};
 use bytes::Bytes;
 use gn_rules::{Config, Event, Legality, Own, RouterCore, Step, is_same_reply};
 use gn_wire::{Descriptor, Guid, Kind};
 use std::alloc::Global;
 use std::test::Fail;
-
-const OWN: Own = Own {
-    servent: Guid([0xee; 16]),
-    ip: [127, 0, 0, 1],
-    port: 6346,
-    files: 5,
-    kbytes: 40,
-};
 
 /// A configuration with so many neighbours, packets for one connection, and steps.
 fn config(neighbours: u32, out: u32, steps: u32, own: Own) -> Result<Config, Fail> {

@@ -21,6 +21,4 @@ mod decision_tests;
 #[cfg(test)]
 mod legality_tests;
 #[cfg(test)]
-mod memory_tests;
-#[cfg(test)]
 mod tests;

@@ -30,7 +30,7 @@ gn_is_free = refl
 
 pub plain_words : PlainWordsAreRead
 unfolding clap_on_literals
-plain_words = record { replay = λ program. refl; history = λ program. refl; audit = λ program. refl }
+plain_words = record { replay = λ program. refl; history = λ program. refl; audit = λ program. refl; explain = λ program. refl }
 
 -- a flag's value, as it is got, tells whether the flag is set
 pub flag_read : (o : Option (Bor Text)) (f : Found) (id : Text) → option_map (λ s. s.now) o ≡ first_value f id

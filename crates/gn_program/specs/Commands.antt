@@ -13,10 +13,11 @@ use Rattle.gn_replay.specs.declared.replays.Exit.{Exit}
 use Rattle.gn_replay.specs.ReplayHistory.{AppendsHistory, HasHistoryStopped}
 use Rattle.gn_capture.specs.Histories.{history_of}
 use Rattle.gn_replay.specs.Audits.{AppendsVerdict, HasStopped as HasAuditStopped}
+use Rattle.gn_replay.specs.Explained.{AppendsExplained, HasExplainedStopped}
 use Rattle.gn_rules.specs.declared.legality.Legality.{Legality}
 use Rattle.gn_rules.specs.declared.legality.Legality.TheVariants.{Legal, WrongAt}
 use Rattle.gn_program.specs.declared.request.Request.{Request}
-use Rattle.gn_program.specs.declared.request.Request.TheVariants.{Replay, History, Audit}
+use Rattle.gn_program.specs.declared.request.Request.TheVariants.{Replay, History, Audit, Explain}
 
 -- a command's input and output: what the input will give, before; what the output has taken, before and after, as far as
 -- they are known; then each count before and after: reads that failed, bytes given, writes that failed, and writes that took
@@ -73,6 +74,15 @@ pub record IsAuditAnswer (s : Streams) (answer : Result Legality ReplayFault) : 
   pub stopped : IfErr answer (λ fault. HasAuditStopped Global fault s.rest s.told s.told_new)
   pub fault : IfErr answer (IsConfirmedBy (history_of {A = Global}) s)
 
+-- what audit_explained answers: as audit, with the lines that explain a wrong step behind the line that tells of it
+pub record IsExplainAnswer (s : Streams) (answer : Result Legality ReplayFault) : Type 0 where
+  pub short : OnOk answer (IfSome s.rest (λ text. length text ≤ input_limit))
+  pub valid : OnOk answer (IfSome s.rest (λ text. IsOk (history_of {A = Global} text)))
+  pub told : IfOk answer (λ legality. IfSome s.rest (λ text. AppendsExplained Global text legality s.told s.told_new))
+  pub unfailed : OnOk answer (IsUnfailed s)
+  pub stopped : IfErr answer (λ fault. HasExplainedStopped Global fault s.rest s.told s.told_new)
+  pub fault : IfErr answer (IsConfirmedBy (history_of {A = Global}) s)
+
 -- the status of a replay: 0 where it was done, else 1
 abbrev pub replay_status : Result Exit ReplayFault → ℕ
 replay_status (Ok exit) = 0
@@ -96,11 +106,16 @@ TellsHistory s status = (answer : Result Exit ReplayFault) × IsHistoryAnswer s 
 abbrev pub Audits : Streams → ℕ → Type 0
 Audits s status = (answer : Result Legality ReplayFault) × IsAuditAnswer s answer × (status ≡ audit_status answer)
 
+-- the streams are as some answer of audit_explained leaves them, and the status is that answer's
+abbrev pub Explains : Streams → ℕ → Type 0
+Explains s status = (answer : Result Legality ReplayFault) × IsExplainAnswer s answer × (status ≡ audit_status answer)
+
 -- the streams and the status are as one of the request's answers says
 abbrev pub Does : Request → Streams → ℕ → Type 0
 Does Replay s status = Replays s status
 Does History s status = TellsHistory s status
 Does Audit s status = Audits s status
+Does Explain s status = Explains s status
 
 -- words that ask for no work: at help and the version the status is 0 or 1 and anything may be written; else nothing is
 -- written, and the status is 1 where memory ran out and 2 at all else

@@ -18,7 +18,7 @@ use crate::words::read_words;
 use clap::Error;
 use clap::error::ErrorKind;
 use gn_io::{Sink, Source};
-use gn_replay::{Exit, ReplayFault, audit, replay, replay_history};
+use gn_replay::{Exit, ReplayFault, audit, audit_explained, replay, replay_history};
 use gn_router::TableRouter;
 use gn_rules::Legality;
 use std::alloc::Global;
@@ -96,6 +96,10 @@ fn obey<S: Source, W: Sink, F: Sink>(
         }
         Request::Audit => {
             let answer = audit::<Global, TableRouter, S, W>(alloc, reader, writer);
+            tell_of_audit(faults, answer)
+        }
+        Request::Explain => {
+            let answer = audit_explained::<Global, TableRouter, S, W>(alloc, reader, writer);
             tell_of_audit(faults, answer)
         }
     }

@@ -9,6 +9,7 @@ pub(crate) const EXAMPLES: &str = "\
 Examples:
   gn replay < examples/first_ping.capture
   gn audit < examples/first_ping.history
+  gn audit --explain < examples/wrong_ticket.history
   gn replay --history < examples/first_ping.capture | gn audit
 
 docs/FORMATS.md has each line of a capture, a history and the printed texts.
@@ -49,12 +50,17 @@ where the first packet is the router's own Pong.";
 pub(crate) const AUDIT: &str = "Reads a history, and tells whether each answer in it is right";
 
 pub(crate) const AUDIT_USAGE: &str =
-    "gn audit < HISTORY   (the history is read from standard input)";
+    "gn audit [--explain] < HISTORY   (the history is read from standard input)";
+
+pub(crate) const EXPLAIN: &str =
+    "Prints also the line of the first wrong step, and what the rules answer there";
 
 pub(crate) const AUDIT_TEXTS: &str = "\
 Standard input is a history: a router's configuration, and each event with its answer.
 Standard output is `legal` and the number of steps, or `wrong` and the index, counted from 0, of
-the first step whose answer isn't the one that the rules give.
+the first step whose answer isn't the one that the rules give. With `--explain` two lines follow
+`wrong`: `line NUMBER: TEXT`, the step's line in the history, and `rules: TEXT`, what the rules
+answer there, or `refused` and why.
 
 Example:
 

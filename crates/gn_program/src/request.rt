@@ -9,4 +9,6 @@ pub enum Request {
     History,
     /// A history is audited.
     Audit,
+    /// A history is audited, and its first wrong step explained.
+    Explain,
 }

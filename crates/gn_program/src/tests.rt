@@ -5,7 +5,7 @@ use gn_io::{ReaderSource, WriterSink};
 use std::io::{self, ErrorKind, Read, Write};
 
 /// Words, the status, and how the output and the told faults begin.
-const ANSWERS: [(&[&str], u8, &str, &str); 10] = [
+const ANSWERS: [(&[&str], u8, &str, &str); 13] = [
     (&["gn", "--version"], 0, "gn 0.1.0\n", ""),
     (&["gn", "--help"], 0, "Tineflax, a packet router", ""),
     (&["gn", "replay", "--help"], 0, "Reads a capture,", ""),
@@ -21,6 +21,24 @@ const ANSWERS: [(&[&str], u8, &str, &str); 10] = [
         "fault: line 1: header\n",
     ),
     (&["gn", "audit", "--"], 1, "", "fault: line 1: header\n"),
+    (
+        &["gn", "audit", "--explain"],
+        1,
+        "",
+        "fault: line 1: header\n",
+    ),
+    (
+        &["gn", "replay", "--explain"],
+        2,
+        "",
+        "error: unexpected argument",
+    ),
+    (
+        &["gn", "audit", "--explain=yes"],
+        2,
+        "",
+        "error: unexpected value",
+    ),
 ];
 
 /// A capture of nothing but its first lines, and one join.

@@ -5,7 +5,7 @@ ghost use Rattle.std.specs.Option.{option_map_or};
 ghost use Rattle.std.specs.Str.{bytes_eq};
 ghost use Rattle.clap.specs.Words.{app_of, fault_of, found_of, new_app, rows_of, rule_of, HasKind};
 ghost use Rattle.clap.specs.declared.builder.command.Command.TheViews.{out-Command as fields_of};
-ghost use Rattle.gn_program.specs.Words.{flag_rule, gn_app, is_set, replay_app, request_named, request_of, PlainWordsAreRead};
+ghost use Rattle.gn_program.specs.Words.{audit_app, flag_rule, gn_app, is_set, replay_app, request_named, request_of, PlainWordsAreRead};
 
 use crate::help;
 use crate::request::Request;
@@ -56,6 +56,20 @@ fn replay_command<'a>(alloc: Global) -> Result<Command<'a>, AllocError>
     .arg(flag(alloc, "history", help::HISTORY))
 }
 
+fn audit_command<'a>(alloc: Global) -> Result<Command<'a>, AllocError>
+    ensures shape { IfOk result (λ command. app_of command ≡ audit_app) }
+    ensures globals { IfOk result (λ command. (fields_of command).has_globals ≡ false) }
+{
+    leaf(
+        alloc,
+        "audit",
+        help::AUDIT,
+        help::AUDIT_USAGE,
+        help::AUDIT_TEXTS,
+    )
+    .arg(flag(alloc, "explain", help::EXPLAIN))
+}
+
 fn gn_command<'a>(alloc: Global) -> Result<Command<'a>, AllocError>
     ensures { IfOk result (λ command. app_of command ≡ gn_app) }
 {
@@ -66,13 +80,7 @@ fn gn_command<'a>(alloc: Global) -> Result<Command<'a>, AllocError>
         .disable_help_subcommand(true)
         .subcommand_required(true)
         .subcommand(replay_command(alloc)?)?
-        .subcommand(leaf(
-            alloc,
-            "audit",
-            help::AUDIT,
-            help::AUDIT_USAGE,
-            help::AUDIT_TEXTS,
-        ))
+        .subcommand(audit_command(alloc)?)
 }
 
 fn is_true(value: Option<&str>) -> bool
@@ -96,6 +104,7 @@ fn request_named(name: &str, options: &ArgMatches<'_>) -> Option<Request>
     match name {
         "replay" if is_set(options, "history") => Some(Request::History),
         "replay" => Some(Request::Replay),
+        "audit" if is_set(options, "explain") => Some(Request::Explain),
         "audit" => Some(Request::Audit),
         _ => None,
     }

@@ -1,9 +1,11 @@
 pub mod AdmitLemmas
 pub mod EventLemmas
+pub mod ExplainedLemmas
 pub mod JudgeLemmas
 pub mod LineLemmas
 pub mod LinkLemmas
 pub mod OneText
 pub mod ReplayLemmas
 pub mod RunLemmas
+pub mod StepLines
 pub mod VerdictLemmas

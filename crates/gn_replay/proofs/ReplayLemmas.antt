@@ -1,7 +1,6 @@
 -- A capture that was read, and played.
-use Rattle.std.proofs.Common.{◌≡◌, ◌≤◌, ◌<◌, ◌==◌, ◌∙◌, ℕ, true, false, List, [], ◌∷◌, ◌++◌, length, reverse, if◌then◌else◌, Option, Some, None, IfSome, IsOk, IfErr, Result, Ok, Err, refl, sym, ap, subst, arith, inr}
+use Rattle.std.proofs.Common.{◌≡◌, ◌≤◌, ◌<◌, ◌∙◌, ℕ, List, [], ◌++◌, length, reverse, Option, Some, None, IfSome, IsOk, IfErr, Result, Ok, Err, refl, sym, ap, subst, arith, inr}
 use Rattle.std.proofs.lemmas.List.{length-reverse, reverse-reverse}
-use Rattle.std.proofs.lemmas.Bool.Decides.{nat_tests}
 use Rattle.std.specs.Result.{IsErrAnd}
 use Rattle.gn_text.specs.declared.fault.CaptureFault.{CaptureFault}
 use Rattle.gn_io.specs.Input.{input_limit}
@@ -11,10 +10,6 @@ use Rattle.gn_replay.specs.declared.fault.ReplayFault.TheVariants as fault
 use Rattle.gn_replay.specs.Faults.{IsReplayFault}
 use Rattle.gn_rules.specs.declared.config.Config.{Config}
 use Rattle.gn_rules.specs.declared.receipt.Step.{Step}
-use Rattle.gn_rules.specs.declared.refusal.Refusal.{Refusal}
-use Rattle.gn_rules.specs.declared.refusal.Refusal.TheVariants.{HistoryFull}
-use Rattle.gn_rules.specs.declared.reply.Reply.{Reply}
-use Rattle.gn_rules.specs.Answer.{event_answer, with_room}
 use Rattle.gn_rules.specs.Legal.{IsLegal}
 use Rattle.gn_rules.proofs.LegalLemmas.{legal_within}
 use Rattle.gn_capture.specs.declared.capture.Capture.{Capture}

@@ -3,7 +3,7 @@ use Rattle.std.proofs.Common.{◌≡◌, ◌<◌, ◌+◌, ◌++◌, ℕ, suc, L
 use Rattle.std.proofs.Math.Seq.{drop-cons}
 use Rattle.std.specs.Io.KnownBytes.{Appends}
 use Rattle.gn_io.specs.Parts.{LeavesToWrite, AppendsPart, WaitsPart}
-use Rattle.gn_io.proofs.StreamLemmas.{leaves_all, leaves_rest, leaves_text, leaves_waits, rest_cut, rest_part, waits_text}
+use Rattle.gn_io.proofs.StreamLemmas.{leaves_all, leaves_rest, leaves_text, leaves_waits, rest_cut, waits_text}
 use Rattle.gn_rules.specs.declared.config.Config.{Config}
 use Rattle.gn_rules.specs.declared.receipt.Step.{Step}
 use Rattle.gn_capture.specs.declared.line.Line.{Line}

@@ -1,23 +1,43 @@
 -- What was told of a history.
-use Rattle.std.proofs.Common.{◌≡◌, ◌<◌, ◌^◌, List, length, reverse, sym, subst, arith}
+use Rattle.std.proofs.Common.{◌≡◌, ◌<◌, ◌^◌, ◌∙◌, ℕ, List, length, reverse, sym, ap, subst, arith}
 use Rattle.std.proofs.lemmas.List.{take_all}
 use Rattle.gn_rules.specs.declared.config.Config.{Config}
+use Rattle.gn_rules.specs.declared.legality.Legality.{Legality}
+use Rattle.gn_rules.specs.declared.legality.Legality.TheVariants as verdict
 use Rattle.gn_rules.specs.declared.receipt.Step.{Step}
 use Rattle.gn_rules.specs.Legal.{IsLegal}
-use Rattle.gn_rules.specs.declared.legality.Legality.{Legality}
-use Rattle.gn_rules.specs.declared.legality.Legality.TheVariants.{Legal, WrongAt}
 use Rattle.gn_rules.specs.Legality.{Tells}
+use Rattle.gn_replay.specs.Audits.{IsAudited, verdict_text}
+use Rattle.gn_replay.specs.Judgements.{IsJudged, IsTrueOf, legality_of}
+use Rattle.gn_replay.specs.declared.judgement.Judgement.{Judgement}
+use Rattle.gn_replay.specs.declared.judgement.Judgement.TheVariants.{Legal, WrongAt}
 use Rattle.gn_replay.proofs.JudgeLemmas.{steps_before}
 
 -- a legal history has few steps
-pub legal_fits : {A : Type 0} (s : Config) (steps : List (Step A)) (legality : Legality) → Tells s steps legality → legality ≡ Legal → length steps < 2 ^ 32
-legal_fits s steps (WrongAt i) told is = absurd (cc)
-legal_fits s steps Legal told is =
+pub legal_fits : {A : Type 0} (s : Config) (steps : List (Step A)) (judgement : Judgement A) → IsTrueOf s steps judgement → legality_of judgement ≡ verdict.Legal → length steps < 2 ^ 32
+legal_fits s steps (WrongAt i rules) judged is = absurd (cc)
+legal_fits s steps Legal judged is =
     let most = s.steps_in_limit.greatest in
-    let whole = subst (λ (xs : List (Step _)). IsLegal s (reverse xs)) (sym (take_all (length steps) steps (omega arith))) told in
+    let whole = subst (λ (xs : List (Step _)). IsLegal s (reverse xs)) (sym (take_all (length steps) steps (omega arith))) judged in
     omega (arith, most, steps_before s steps (length steps) (omega arith) whole)
 
--- what was told of the settings that a router was made with, and of steps as they were lent
-pub told_of : {A : Type 0} (s now : Config) (steps lent : List (Step A)) (legality : Legality) → now ≡ s → lent ≡ steps → Tells now lent legality → Tells s steps legality
-told_of s now steps lent legality same whole told =
-    subst (λ (z : Config). Tells z steps legality) same (subst (λ (xs : List (Step _)). Tells now xs legality) whole told)
+-- what was found with the settings that a router was made with, and of steps as they were lent
+pub judged_of : {A : Type 0} (s now : Config) (steps lent : List (Step A)) (judgement : Judgement A) → now ≡ s → lent ≡ steps → IsTrueOf now lent judgement → IsTrueOf s steps judgement
+judged_of s now steps lent judgement same whole judged =
+    subst (λ (z : Config). IsTrueOf z steps judgement) same (subst (λ (xs : List (Step _)). IsTrueOf now xs judgement) whole judged)
+
+-- what is told is true where the judgement is
+pub tells_of : {A : Type 0} (s : Config) (steps : List (Step A)) (judgement : Judgement A) → IsTrueOf s steps judgement → Tells s steps (legality_of judgement)
+tells_of s steps Legal judged = judged
+tells_of s steps (WrongAt i rules) judged = judged.0
+
+-- the line of what was judged
+pub audited : {A : Type 0} (text : List ℕ) (judgement : Judgement A) (count : ℕ) (legality : Legality) (line : List ℕ) → IsJudged A text judgement count
+    → legality ≡ legality_of judgement → line ≡ verdict_text legality count → IsAudited A text legality line
+audited text judgement count legality line judged is printed = record {
+  settings = judged.settings;
+  steps = judged.steps;
+  parsed = judged.parsed;
+  tells = subst (λ (x : Legality). Tells judged.settings judged.steps x) (sym is) (tells_of judged.settings judged.steps judgement judged.judged);
+  printed = printed ∙ ap (verdict_text legality) judged.counted;
+}

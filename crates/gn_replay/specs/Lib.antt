@@ -1,6 +1,8 @@
 pub mod Audits
 pub mod Events
+pub mod Explained
 pub mod Faults
+pub mod Judgements
 pub mod Links
 pub mod Outcomes
 pub mod Pieces

@@ -1,13 +1,15 @@
-//! A history audited from stream to stream.
+//! A history audited from stream to stream, and explained.
 
 ghost use Rattle.std.specs.Prelude.{◌≡◌, ◌≤◌, length, IfOk, IfErr, IfSome, IsOk, OnOk};
 ghost use Rattle.gn_replay.specs.Faults.{IsReplayFault};
 ghost use Rattle.gn_capture.specs.Histories.{history_of};
 ghost use Rattle.gn_io.specs.Input.{input_limit};
 ghost use Rattle.gn_replay.specs.Audits.{AppendsVerdict, HasStopped};
+ghost use Rattle.gn_replay.specs.Explained.{AppendsExplained, HasExplainedStopped};
 
+use crate::explanation::explained_text;
 use crate::fault::ReplayFault;
-use crate::verdict::judge_text;
+use crate::verdict::audit_text;
 use gn_io::{Sink, Source, read_input, write_all};
 use gn_rules::{Legality, RouterCore};
 use std::alloc::Allocator;
@@ -33,7 +35,34 @@ pub fn audit<A: Allocator + Copy, C: RouterCore<A> + Drop, S: Source, W: Sink>(
         (W.failures sink.old) (W.failures sink.new) (W.stalls sink.old) (W.stalls sink.new)) }
 {
     let input = read_input(alloc, source)?;
-    let (legality, line) = judge_text::<A, C>(alloc, &input)?;
+    let (legality, line) = audit_text::<A, C>(alloc, &input)?;
     write_all(sink, &line)?;
+    Ok(legality)
+}
+
+/// As `audit`; behind `wrong INDEX` it writes two lines more: `line NUMBER: TEXT`, the wrong step's line as it stands in the
+/// history, with its number counted from 1, and `rules: TEXT`, what the rules answer to its event: a reply as behind the `=`
+/// of a step, or `refused NAME`.
+pub fn audit_explained<A: Allocator + Copy, C: RouterCore<A> + Drop, S: Source, W: Sink>(
+    alloc: A,
+    source: &mut S,
+    sink: &mut W,
+) -> Result<Legality, ReplayFault>
+    ensures short { OnOk result (IfSome (S.rest source.old) (λ text. length text ≤ input_limit)) }
+    ensures valid { OnOk result (IfSome (S.rest source.old) (λ text. IsOk (history_of {A = A} text))) }
+    ensures told { IfOk result (λ legality. IfSome (S.rest source.old) (λ text.
+        AppendsExplained A text legality (W.told sink.old) (W.told sink.new))) }
+    ensures reads { OnOk result (S.failures source.new ≡ S.failures source.old) }
+    ensures failures { OnOk result (W.failures sink.new ≡ W.failures sink.old) }
+    ensures stalls { OnOk result (W.stalls sink.new ≡ W.stalls sink.old) }
+    ensures stopped { IfErr result (λ fault. HasExplainedStopped A fault (S.rest source.old)
+        (W.told sink.old) (W.told sink.new)) }
+    ensures fault { IfErr result (λ fault. IsReplayFault fault (history_of {A = A}) (S.rest source.old)
+        (S.failures source.old) (S.failures source.new) (S.given source.old) (S.given source.new)
+        (W.failures sink.old) (W.failures sink.new) (W.stalls sink.old) (W.stalls sink.new)) }
+{
+    let input = read_input(alloc, source)?;
+    let (legality, lines) = explained_text::<A, C>(alloc, &input)?;
+    write_all(sink, &lines)?;
     Ok(legality)
 }

@@ -1,27 +1,34 @@
 //! Steps that a router is asked for again.
 
-ghost use Rattle.std.specs.Prelude.{◌≡◌, ◌↔◌, ◌∷◌, ◌++◌, [], Ok, IsTrue, IfOk, reverse};
-ghost use Rattle.std.specs.Bool.{OnTrue};
+ghost use Rattle.std.specs.Prelude.{◌≡◌, ◌∷◌, ◌++◌, [], IfOk, IfNone, reverse};
 ghost use Rattle.gn_rules.specs.Answer.{answer};
-ghost use Rattle.gn_rules.specs.Legality.{Tells};
+ghost use Rattle.gn_replay.specs.Judgements.{IsOther, IsTrueOf};
 
-use gn_rules::{Legality, Refusal, RouterCore, Step, is_same_reply};
+use crate::judgement::{Answer, Judgement};
+use gn_rules::{Refusal, RouterCore, Step, is_same_reply};
 use std::alloc::{AllocError, Allocator};
 
-/// Whether a router gives a step's reply to its event: then it has made the very step. An `Err` is out of memory.
-fn repeats<A: Allocator + Copy, C: RouterCore<A>>(
+/// What a router answers to a step's event, where that isn't the step's reply; else it has made the very step. An `Err` is
+/// out of memory.
+fn other_answer<A: Allocator + Copy, C: RouterCore<A>>(
     core: &mut C,
     step: &Step<A>,
-) -> Result<bool, AllocError>
-    ensures right { IfOk result (λ same. IsTrue same
-        ↔ (answer (C.settings core.old) (reverse (C.steps core.old)) step.now.event ≡ Ok step.now.reply)) }
-    ensures step { IfOk result (λ same. OnTrue same (C.steps core.new ≡ C.steps core.old ++ step.now ∷ [])) }
+) -> Result<Option<Answer<A>>, AllocError>
+    ensures other { IfOk result (λ other. IsOther other
+        (answer (C.settings core.old) (reverse (C.steps core.old)) step.now.event) step.now.reply) }
+    ensures step { IfOk result (λ other. IfNone other (C.steps core.new ≡ C.steps core.old ++ step.now ∷ [])) }
     ensures settings { C.settings core.new ≡ C.settings core.old }
 {
     match core.apply(step.actor, &step.event) {
-        Ok(receipt) => Ok(is_same_reply(&receipt.reply, &step.reply)),
+        Ok(receipt) => {
+            if is_same_reply(&receipt.reply, &step.reply) {
+                Ok(None)
+            } else {
+                Ok(Some(Ok(receipt.reply)))
+            }
+        }
         Err(Refusal::NoMemory) => Err(AllocError),
-        Err(_) => Ok(false),
+        Err(refusal) => Ok(Some(Err(refusal))),
     }
 }
 
@@ -29,14 +36,14 @@ fn repeats<A: Allocator + Copy, C: RouterCore<A>>(
 pub(crate) fn judge<A: Allocator + Copy, C: RouterCore<A>>(
     core: &mut C,
     steps: &[Step<A>],
-) -> Result<Legality, AllocError>
+) -> Result<Judgement<A>, AllocError>
     requires { C.steps core.old ≡ [] }
-    ensures { IfOk result (λ legality. Tells (C.settings core.old) steps.now legality) }
+    ensures { IfOk result (IsTrueOf (C.settings core.old) steps.now) }
 {
     for (i, step) in steps.iter().enumerate() {
-        if !repeats(core, step)? {
-            return Ok(Legality::WrongAt(i as u32));
+        if let Some(rules) = other_answer(core, step)? {
+            return Ok(Judgement::WrongAt(i as u32, rules));
         }
     }
-    Ok(Legality::Legal)
+    Ok(Judgement::Legal)
 }

@@ -2,11 +2,13 @@
 #![tactic(auto)]
 
 mod audits;
+mod explanation;
 mod fault;
 #[cfg(test)]
 mod fault_tests;
 mod histories;
 mod judge;
+mod judgement;
 mod laws;
 mod line;
 mod link;
@@ -18,7 +20,7 @@ mod replays;
 mod run;
 mod verdict;
 
-pub use audits::audit;
+pub use audits::{audit, audit_explained};
 pub use fault::ReplayFault;
 pub use histories::replay_history;
 pub use laws::replay_text_is_one;

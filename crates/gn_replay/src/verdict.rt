@@ -5,15 +5,17 @@ ghost use Rattle.gn_text.specs.Faults.{IsRefused};
 ghost use Rattle.gn_capture.specs.Histories.{history_of};
 ghost use Rattle.gn_rules.specs.declared.legality.Legality.TheVariants.{Legal};
 ghost use Rattle.gn_replay.specs.Audits.{IsAudited, verdict_text};
+ghost use Rattle.gn_replay.specs.Judgements.{IsJudged, legality_of};
 
 use crate::judge::judge;
+use crate::judgement::Judgement;
 use gn_capture::read_history;
 use gn_rules::{Legality, RouterCore};
 use gn_text::{CaptureRefusal, push_number};
 use std::alloc::{AllocError, Allocator};
 
 /// The line that tells of a history of so many steps.
-fn verdict<A: Allocator>(
+pub(crate) fn verdict<A: Allocator>(
     alloc: A,
     legality: Legality,
     steps: usize,
@@ -36,17 +38,31 @@ fn verdict<A: Allocator>(
     Ok(line)
 }
 
-/// What a new router tells of the history that a text says, and the line of it.
+/// What a new router finds of the history that a text says, and how many steps that has.
 pub(crate) fn judge_text<A: Allocator + Copy, C: RouterCore<A> + Drop>(
+    alloc: A,
+    text: &[u8],
+) -> Result<(Judgement<A>, usize), CaptureRefusal>
+    ensures judged { IfOk result (λ judged. IsJudged A text.now judged.0 judged.1) }
+    ensures few { IfOk result (λ judged. legality_of judged.0 ≡ Legal → judged.1 < 2 ^ 32) }
+    ensures refused { IfErr result (λ refusal. IsRefused refusal (history_of {A = A} text.now)) }
+{
+    let (config, steps) = read_history(alloc, text)?;
+    let mut core = C::make(alloc, &config)?;
+    let judgement = judge(&mut core, &steps)?;
+    Ok((judgement, steps.len()))
+}
+
+/// What a new router tells of the history that a text says, and the line of it.
+pub(crate) fn audit_text<A: Allocator + Copy, C: RouterCore<A> + Drop>(
     alloc: A,
     text: &[u8],
 ) -> Result<(Legality, Vec<u8, A>), CaptureRefusal>
     ensures told { IfOk result (λ told. IsAudited A text.now told.0 told.1.items) }
     ensures refused { IfErr result (λ refusal. IsRefused refusal (history_of {A = A} text.now)) }
 {
-    let (config, steps) = read_history(alloc, text)?;
-    let mut core = C::make(alloc, &config)?;
-    let legality = judge(&mut core, &steps)?;
-    let line = verdict(alloc, legality, steps.len())?;
+    let (judgement, steps) = judge_text::<A, C>(alloc, text)?;
+    let legality = judgement.legality();
+    let line = verdict(alloc, legality, steps)?;
     Ok((legality, line))
 }

@@ -17,9 +17,9 @@ use Rattle.gn_rules.specs.Output.{out, rows}
 use Rattle.gn_rules.proofs.StepLemmas.{is_listed, map_map}
 use Rattle.gn_rules.specs.Statistics.{no_stats}
 use Rattle.gn_tables.specs.Flying.{Flying}
-use Rattle.gn_tables.specs.Lines.{first_of, line_of}
+use Rattle.gn_tables.specs.Outputs.{first_of, output_of}
 use Rattle.gn_router.specs.declared.tables.Tables.{Tables}
-use Rattle.gn_router.specs.Tabled.{IsTabled, lines}
+use Rattle.gn_router.specs.Tabled.{IsTabled, outputs}
 
 -- a search among entries that are made of numbers
 lookup_made : {X : Type 0} (f : ℕ → X) (c : ℕ) (ns : List ℕ)
@@ -31,10 +31,10 @@ lookup_made {X} f c (n ∷ ns) =
       | false ↦ λ e. lookup_made f c ns
     ] refl
 
--- the line of a connection is its output, where it is live
-pub line_is : {A : Type 0} (s : Config) (past : List (Step A)) (c : ℕ)
-    → line_of c (lines s past) ≡ cond (live past c) (Some (out past c)) None
-line_is s past c =
+-- the output queue of a connection is its output, where it is live
+pub output_is : {A : Type 0} (s : Config) (past : List (Step A)) (c : ℕ)
+    → output_of c (outputs s past) ≡ cond (live past c) (Some (out past c)) None
+output_is s past c =
     lookup_made (out past) c (live_connections past) ∙ ap (λ b. cond b (Some (out past c)) None) (is_listed past c)
 
 pub keys_are : {A : Type 0} (past : List (Step A)) → keys_of (rows past) ≡ live_connections past
@@ -74,12 +74,12 @@ item_at xs i found is =
     here xs i ∙ ap (λ x. option_to_list x ++ drop (suc i) xs) (sym is) ∙ ap (λ n. option_to_list found ++ drop n xs) next
 
 module _ {A : Type 0} (s : Config) (past : List (Step A)) (t : Tables A) (are : IsTabled s past t) where
-  line_there : (c : ℕ) → line_of c t.neighbours ≡ cond (live past c) (Some (out past c)) None
-  line_there c = ap (line_of c) are.neighbours_are ∙ line_is s past c
+  output_there : (c : ℕ) → output_of c t.neighbours ≡ cond (live past c) (Some (out past c)) None
+  output_there c = ap (output_of c) are.neighbours_are ∙ output_is s past c
 
-  pub line_told : (c : ℕ) → option_map length (line_of c t.neighbours) ≡ (if live past c then Some (length (out past c)) else None)
-  line_told c =
-      ap (option_map length) (line_there c)
+  pub output_known : (c : ℕ) → option_map length (output_of c t.neighbours) ≡ (if live past c then Some (length (out past c)) else None)
+  output_known c =
+      ap (option_map length) (output_there c)
       ∙ elim (live past c) as (λ b. option_map length (cond b (Some (out past c)) None) ≡ cond b (Some (length (out past c))) None) [ true ↦ refl | false ↦ refl ]
 
   pub count_told : length t.neighbours.rows ≡ length (live_connections past)
@@ -92,7 +92,7 @@ module _ {A : Type 0} (s : Config) (past : List (Step A)) (t : Tables A) (are : 
   pub first_told : (c : ℕ) (r : Option (Bor Packet)) → live past c ≡ true → option_copied r ≡ first_of c t.neighbours
       → option_copied r ≡ slice_get (out past c) 0
   first_told c r alive h =
-      let there : line_of c t.neighbours ≡ Some (out past c) = line_there c ∙ ap (λ b. cond b (Some (out past c)) None) alive in
+      let there : output_of c t.neighbours ≡ Some (out past c) = output_there c ∙ ap (λ b. cond b (Some (out past c)) None) alive in
       h ∙ ap (option_and_then (λ packets. slice_get packets 0)) there
 
 take_nil : {X : Type 0} (n : ℕ) → ◌≡◌ {A = List X} [] (take n [])

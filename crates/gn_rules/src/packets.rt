@@ -49,8 +49,7 @@ pub fn forward_of<A: Allocator>(packet: &Descriptor<A>) -> Result<Option<Descrip
     let Some(header) = packet.forwarded() else {
         return Ok(None);
     };
-    let payload = packet.payload().clone()?;
-    match Descriptor::new(header.id, header.kind, header.ttl, header.hops, payload) {
+    match Descriptor::from_header(header, packet.payload().clone()?) {
         Ok(forward) => Ok(Some(forward)),
         Err(_) => unreachable!(),
     }

@@ -51,7 +51,8 @@ pub trait RouterCore<A: Allocator + Copy> {
         ticket: Ticket,
         checked: &Checked<A>,
     ) -> Result<Receipt<A>, Refusal>
-        ensures answer { Finds (reply_of result) (checked_answer (settings self.old) (reverse (steps self.old)) ticket checked.now) }
+        ensures answer { Finds (reply_of result)
+            (checked_answer (settings self.old) (reverse (steps self.old)) ticket checked.now) }
         ensures step { IfOk result (λ receipt. steps self.new
             ≡ steps self.old ++ record { actor = actor; event = Route ticket; reply = receipt.reply } ∷ []) }
         ensures index { IfOk result (λ receipt. receipt.index ≡ length (steps self.old)) }

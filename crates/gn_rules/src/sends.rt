@@ -21,6 +21,19 @@ pub struct Sends<A: Allocator = Global> {
     items: Vec<Sending<A>, A>,
 }
 
+impl<A: Allocator> Sending<A> {
+    /// An equal one. An `Err` is out of memory.
+    pub fn copy(&self) -> Result<Self, AllocError>
+        ensures { IfOk result (λ s. s ≡ self.now) }
+    {
+        Ok(Sending {
+            to: self.to,
+            packet: self.packet.copy()?,
+            queued: self.queued,
+        })
+    }
+}
+
 impl<A: Allocator> Model for Sends<A> {
     ghost use Rattle.std.specs.Prelude.{List};
     ghost use Rattle.gn_rules.specs.declared.sends.Sending.{Sending};
@@ -31,6 +44,20 @@ impl<A: Allocator> Model for Sends<A> {
 }
 
 impl<A: Allocator> Sends<A> {
+    /// These packets. Takes no memory.
+    pub fn from_vec(items: Vec<Sending<A>, A>) -> Self
+        ensures { result ≡ items.items }
+    {
+        Sends { items }
+    }
+
+    /// The packets, in order, so that each can be moved out. Takes no memory.
+    pub fn into_vec(self) -> Vec<Sending<A>, A>
+        ensures { result.items ≡ self }
+    {
+        self.items
+    }
+
     /// The packets, in order.
     pub fn as_slice(&self) -> &[Sending<A>]
         ensures { result.now ≡ self.now }
@@ -61,17 +88,20 @@ impl<A: Allocator + Copy> Sends<A> {
     }
 
     /// Equal packets. An `Err` is out of memory.
+    pub fn copied(alloc: A, sends: &[Sending<A>]) -> Result<Self, AllocError>
+        ensures { IfOk result (λ s. s ≡ sends.now) }
+    {
+        let mut items = Vec::new(alloc);
+        for sending in sends {
+            items.push(sending.copy()?)?;
+        }
+        Ok(Sends { items })
+    }
+
+    /// Equal packets. An `Err` is out of memory.
     pub fn copy(&self, alloc: A) -> Result<Self, AllocError>
         ensures { IfOk result (λ s. s ≡ self.now) }
     {
-        let mut items = Vec::new(alloc);
-        for sending in &self.items {
-            items.push(Sending {
-                to: sending.to,
-                packet: sending.packet.copy()?,
-                queued: sending.queued,
-            })?;
-        }
-        Ok(Sends { items })
+        Sends::copied(alloc, self.as_slice())
     }
 }

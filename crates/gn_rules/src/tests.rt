@@ -64,6 +64,7 @@ fn steps_are_copied_and_counted(rt: HostRuntime) -> Result<(), Fail> {
         packet: ping(rt.alloc(), 6, 1)?,
         queued: true,
     })?;
+    let sends = Sends::from_vec(sends.into_vec());
     let reply = Reply::Routed { sends, local: true };
     assert!(rt; reply.is_routed() && !reply.is_sent() && reply.connected().is_none());
     assert!(rt; reply.admitted().is_none() && reply.dropped().is_none());

@@ -99,7 +99,7 @@ conns_of : {Rd W A : Type 0} → Report Rd W A → List (Option ℕ)
 conns_of report = map (λ link. link.conn) report.links.items
 
 -- a report without a flaw is compared as the laws of owners ask it
-compared : {Rd W A : Type 0} (settled : ℕ → Bool) (roles : List Role) (report : Report Rd W A) → AllConfirmed settled roles report
+pub compared : {Rd W A : Type 0} (settled : ℕ → Bool) (roles : List Role) (report : Report Rd W A) → AllConfirmed settled roles report
     → AreCompared report.history.items (map (λ link. link.conn) report.links.items)
 compared {Rd} {W} {A} settled roles report all =
     let links = report.links.items in

@@ -11,4 +11,5 @@ mod survey;
 #[cfg(test)]
 mod tests;
 
+pub use events::conn_of;
 pub use report::{LinkReport, Report};

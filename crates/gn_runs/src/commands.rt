@@ -1,4 +1,4 @@
-//! The first run, captures with a fault, and audits, through the command line.
+//! The first run, captures with a fault, and audits with what explains them, through the command line.
 
 use crate::compare::same;
 use crate::encoding::encoded;
@@ -98,10 +98,46 @@ const AUDITED: [Case; 5] = [
     ),
 ];
 
+/// Histories whose first wrong step is explained: a wrong ticket behind a comment and an empty line, a route of a Ping that
+/// nobody else could get, a Close of what was never connected, and a right one.
+const EXPLAINED: [Case; 4] = [
+    (
+        "# the first ticket is 0; gnutella-history 1; ; config 4 8 4 8 8 100; own <ee> 127.0.0.1 6346 5 40; \
+        0 connect = connected 1; 0 connect = connected 2; 00 admit 1 <PING a1 07 00> = admitted 1; \
+        0 route 0 = routed local 1+<OWN a1 01> 2+<PING a1 06 01>; end",
+        1,
+        "wrong 2; line 8: 00 admit 1 <PING a1 07 00> = admitted 1; rules: admitted 0",
+        "",
+    ),
+    (
+        "gnutella-history 1; config 4 8 4 8 8 100; own <ee> 127.0.0.1 6346 5 40; \
+        0 connect = connected 1; 0 admit 1 <PING a1 07 00> = admitted 0; \
+        3 route 0 = routed local 1+<OWN a1 01> 2+<PING a1 06 01>; end",
+        1,
+        "wrong 2; line 6: 3 route 0 = routed local 1+<OWN a1 01> 2+<PING a1 06 01>; \
+        rules: routed local 1+<OWN a1 01>",
+        "",
+    ),
+    (
+        "gnutella-history 1; config 4 8 4 8 8 100; own <ee> 127.0.0.1 6346 5 40; \
+        0 close 7 = closed 0; end",
+        1,
+        "wrong 0; line 4: 0 close 7 = closed 0; rules: refused NotLive",
+        "",
+    ),
+    (
+        "gnutella-history 1; config 4 8 4 8 8 100; own <ee> 127.0.0.1 6346 5 40; \
+        0 connect = connected 1; end",
+        0,
+        "legal 1",
+        "",
+    ),
+];
+
 /// Gives the text of a case to a command, and compares its answer.
 fn answers<R: Abort + AllocGlobal>(
     rt: &R,
-    word: &str,
+    words: &[&str],
     text: &str,
     case: &Case,
 ) -> Result<(), Fail> {
@@ -110,8 +146,7 @@ fn answers<R: Abort + AllocGlobal>(
     let mut reader = ReaderSource::new(text.as_bytes());
     let mut writer = WriterSink::new(Vec::new(alloc));
     let mut faults = WriterSink::new(Vec::new(alloc));
-    let words = ["gn", word];
-    let found = command(alloc, &words, &mut reader, &mut writer, &mut faults);
+    let found = command(alloc, words, &mut reader, &mut writer, &mut faults);
     assert!(rt; found == status, "{short}: status {found}");
     for (sink, told) in [(writer, printed), (faults, fault)] {
         same(
@@ -124,9 +159,9 @@ fn answers<R: Abort + AllocGlobal>(
     Ok(())
 }
 
-fn all_answer<R: Abort + AllocGlobal>(rt: &R, word: &str, cases: &[Case]) -> Result<(), Fail> {
+fn all_answer<R: Abort + AllocGlobal>(rt: &R, words: &[&str], cases: &[Case]) -> Result<(), Fail> {
     for case in cases {
-        answers(rt, word, &encoded(rt.alloc(), case.0)?, case)?;
+        answers(rt, words, &encoded(rt.alloc(), case.0)?, case)?;
     }
     Ok(())
 }
@@ -135,17 +170,25 @@ fn all_answer<R: Abort + AllocGlobal>(rt: &R, word: &str, cases: &[Case]) -> Res
 fn first_ping(rt: HostRuntime) -> Result<(), Fail> {
     let run = request_run("first_ping")?;
     let text = capture_text(rt.alloc(), run.numbers, run.capture)?;
-    answers(&rt, "replay", &text, &(run.capture, 0, run.printed, ""))
+    let printed = (run.capture, 0, run.printed, "");
+    answers(&rt, &["gn", "replay"], &text, &printed)?;
+    let history = (run.capture, 0, AUDITED[0].0, "");
+    answers(&rt, &["gn", "replay", "--history"], &text, &history)
 }
 
 #[test]
 fn capture_faults(rt: HostRuntime) -> Result<(), Fail> {
-    all_answer(&rt, "replay", &FAULTY)
+    all_answer(&rt, &["gn", "replay"], &FAULTY)
 }
 
 #[test]
 fn audits(rt: HostRuntime) -> Result<(), Fail> {
-    all_answer(&rt, "audit", &AUDITED)
+    all_answer(&rt, &["gn", "audit"], &AUDITED)
+}
+
+#[test]
+fn explained_audits(rt: HostRuntime) -> Result<(), Fail> {
+    all_answer(&rt, &["gn", "audit", "--explain"], &EXPLAINED)
 }
 
 #[test]

@@ -20,6 +20,8 @@ mod event_lists;
 #[cfg(test)]
 mod link_runs;
 #[cfg(test)]
+mod out_of_memory;
+#[cfg(test)]
 mod played;
 #[cfg(test)]
 mod replays;
@@ -27,5 +29,3 @@ mod replays;
 mod request_runs;
 #[cfg(test)]
 mod run;
-#[cfg(test)]
-mod want_of_memory;

@@ -1,5 +1,5 @@
 pub mod KeyLists
-pub mod LineLemmas
 pub mod MapLemmas
+pub mod OutputLemmas
 pub mod SeenLemmas
 pub mod ServentLemmas

@@ -1,4 +1,4 @@
 pub mod Flying
-pub mod Lines
+pub mod Outputs
 pub mod Remembered
 pub mod Servents

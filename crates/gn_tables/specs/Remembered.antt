@@ -1,5 +1,5 @@
 -- The descriptors that a router remembers.
-use Rattle.std.specs.Prelude.{◌≡◌, ◌<◌, ◌≤◌, ℕ, List, ◌∷◌, length, take, Option, cond, None, if◌then◌else◌, is_some}
+use Rattle.std.specs.Prelude.{◌≡◌, ◌<◌, ◌≤◌, ℕ, List, ◌∷◌, length, take, Option, cond, None}
 use Rattle.std.specs.List.{IsDistinct}
 use Rattle.std.specs.Map.{lookup, keys_of}
 use Rattle.std.specs.Option.{option_map_or}
@@ -14,10 +14,6 @@ pub record Remembered : Type 0 where
 -- the table with one more seen entry in front; where it was full, the last one is forgotten
 abbrev pub with_entry : Key → ℕ → Remembered → Remembered
 with_entry key from t = record t { seen_entries = take t.most ((key, from) ∷ t.seen_entries) }
-
--- the table after a key was met: a new one is put in front, and one that stands there stays where it is
-abbrev pub met : Key → ℕ → Remembered → Remembered
-met key from t = if is_some (lookup (is_same_key key) t.seen_entries) then t else with_entry key from t
 
 -- what every table keeps: it isn't too long, and no key stands in it twice
 pub record IsRemembered (t : Remembered) : Type 0 where

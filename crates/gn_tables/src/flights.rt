@@ -81,7 +81,8 @@ impl<A: Allocator + Copy> Flights<A> {
     ) -> Result<(), AllocError>
         requires few { map.len self.old.flights < self.old.most }
         requires fresh { map.get self.old.flights ticket ≡ None }
-        ensures ok { OnOk result (self.new ≡ with_flight ticket (record { from = from; descriptor = descriptor }) self.old) }
+        ensures ok { OnOk result (self.new
+            ≡ with_flight ticket (record { from = from; descriptor = descriptor }) self.old) }
         ensures err { OnErr result (self.new ≡ self.old) }
     {
         self.flights.insert(ticket, Flight { from, descriptor })?;

@@ -4,7 +4,7 @@ ghost use Rattle.std.specs.Prelude.{◌≡◌, ◌<◌, ◌≤◌, [], length, t
 ghost use Rattle.std.specs.List.{All};
 ghost use Rattle.std.specs.Map.{keys_of};
 ghost use Rattle.std.specs.Option.{option_copied, option_map};
-ghost use Rattle.gn_tables.specs.Lines.{AreLines, first_of, has_room, joined, left, line_of, popped, pushed};
+ghost use Rattle.gn_tables.specs.Outputs.{AreOutputs, first_of, has_room, joined, left, output_of, popped, pushed};
 
 use circular_buffer::HeapCircularBuffer;
 use gn_wire::Descriptor;
@@ -32,17 +32,17 @@ pub struct Neighbours<A: Allocator + Copy = Global> {
 }
 
 impl<A: Allocator + Copy> Model for Neighbours<A> {
-    ghost use Rattle.gn_tables.specs.Lines.{AreRings, Lines, lines_of};
+    ghost use Rattle.gn_tables.specs.Outputs.{AreRings, Outputs, outputs_of};
 
-    ghost Value = { Lines };
+    ghost Value = { Outputs };
 
-    ghost view = { λ n. lines_of n.most n.room n.rows.entries };
+    ghost view = { λ n. outputs_of n.most n.room n.rows.entries };
 
     ghost invariant = { λ n. AreRings n.rows.entries n.most n.room };
 }
 
 impl<A: Allocator + Copy> Neighbours<A> {
-    /// No neighbours yet; at most `most` of them, 1 to 64, and `room` packets for each, 1 to 4,096. An `Err` is want of
+    /// No neighbours yet; at most `most` of them, 1 to 64, and `room` packets for each, 1 to 4,096. An `Err` is out of
     /// memory.
     pub fn new(alloc: A, most: u32, room: u32) -> Result<Self, AllocError>
         requires some { 0 < most }
@@ -62,7 +62,7 @@ impl<A: Allocator + Copy> Neighbours<A> {
     /// How many neighbours there are. What every table keeps is told here too.
     pub fn len(&self) -> u32
         ensures value { result ≡ length self.now.rows }
-        ensures kept { AreLines self.now }
+        ensures kept { AreOutputs self.now }
     {
         self.rows.len() as u32
     }
@@ -77,7 +77,7 @@ impl<A: Allocator + Copy> Neighbours<A> {
 
     /// How many packets wait for the connection. `None` where it isn't there.
     pub fn waiting(&self, connection: u32) -> Option<u32>
-        ensures { result ≡ option_map length (line_of connection self.now) }
+        ensures { result ≡ option_map length (output_of connection self.now) }
     {
         let row = self.rows.get(&connection)?;
         Some(row.len() as u32)
@@ -93,7 +93,7 @@ impl<A: Allocator + Copy> Neighbours<A> {
         }
     }
 
-    /// Adds a connection that is greater than all there, and makes the room that its packets fill. An `Err` is want of
+    /// Adds a connection that is greater than all there, and makes the room that its packets fill. An `Err` is out of
     /// memory, and changes nothing.
     pub fn add(&mut self, connection: u32) -> Result<(), AllocError>
         requires greater { All (λ r. r.0 < connection) self.old.rows }
@@ -108,18 +108,20 @@ impl<A: Allocator + Copy> Neighbours<A> {
 
     /// Takes the connection out, and tells how many packets were discarded with it. `None` where it isn't there.
     pub fn remove(&mut self, connection: u32) -> Option<u32>
-        ensures value { result ≡ option_map length (line_of connection self.old) }
+        ensures value { result ≡ option_map length (output_of connection self.old) }
         ensures rest { self.new ≡ left connection self.old }
     {
         let row = self.rows.shift_remove(&connection)?;
         Some(row.len() as u32)
     }
 
-    /// Puts a packet behind the others of the connection. An `Err` hands it back: the connection isn't there, or its line
-    /// is full. It changes nothing.
+    /// Puts a packet behind the others of the connection. An `Err` hands it back: the connection isn't there, or its output
+    /// queue is full. It changes nothing.
     pub fn push(&mut self, connection: u32, packet: Descriptor<A>) -> Result<(), Descriptor<A>>
-        ensures ok { OnOk result ((has_room connection self.old ≡ true) × (self.new ≡ pushed connection packet self.old)) }
-        ensures err { IfErr result (λ d. (has_room connection self.old ≡ false) × (d ≡ packet) × (self.new ≡ self.old)) }
+        ensures ok { OnOk result
+            ((has_room connection self.old ≡ true) × (self.new ≡ pushed connection packet self.old)) }
+        ensures err { IfErr result (λ d.
+            (has_room connection self.old ≡ false) × (d ≡ packet) × (self.new ≡ self.old)) }
     {
         let Some(row) = self.rows.get_mut(&connection) else {
             return Err(packet);

@@ -1,11 +1,11 @@
 //! The last descriptors that were remembered, and where each came from.
 
-ghost use Rattle.std.specs.Prelude.{◌≡◌, ◌<◌, ◌≤◌, [], None, IfErr, IfOk, OnErr, OnOk, is_some, not};
+ghost use Rattle.std.specs.Prelude.{◌≡◌, ◌<◌, ◌≤◌, [], None, IfOk, OnErr, OnOk};
 ghost use Rattle.std.specs.Map.{lookup};
 ghost use Rattle.indexmap.specs.IndexMap.{spare};
 ghost use Rattle.gn_wire.specs.declared.key.Key.{Key};
 ghost use Rattle.gn_wire.specs.Keys.{is_same_key};
-ghost use Rattle.gn_tables.specs.Remembered.{IsRemembered, forgotten, met, with_entry};
+ghost use Rattle.gn_tables.specs.Remembered.{IsRemembered, forgotten, with_entry};
 
 use circular_buffer::HeapCircularBuffer;
 use gn_wire::{Guid, Key, Kind};
@@ -71,26 +71,12 @@ impl<A: Allocator + Copy> SeenTable<A> {
             Err(_) => unreachable!(),
         }
     }
-
-    /// Keeps a key where it is new, and tells whether it was. A duplicate keeps its place and its source. An `Err` is want
-    /// of memory for a new key, and changes nothing.
-    pub fn keep_new(&mut self, kind: Kind, id: Guid, from: u32) -> Result<bool, AllocError>
-        ensures ok { OnOk result (self.new ≡ met (record { kind = kind; id = id }) from self.old) }
-        ensures new { IfOk result (λ new. new ≡ not (is_some (lookup (is_same_key (record { kind = kind; id = id })) self.old.seen_entries))) }
-        ensures err { OnErr result (self.new ≡ self.old) }
-        ensures wanted { IfErr result (λ _. lookup (is_same_key (record { kind = kind; id = id })) self.old.seen_entries ≡ None) }
-    {
-        if self.source(kind, &id).is_some() {
-            return Ok(false);
-        }
-        self.keep(kind, id, from)?;
-        Ok(true)
-    }
 }
 
 /// Forgets the source of the key that fell out of the ring.
 fn forget<A: Allocator + Copy>(sources: &mut Sources<A>, fallen: Option<(Key, u32)>)
-    ensures entries { (q : Key) → lookup (is_same_key q) sources.new.entries ≡ forgotten fallen q (lookup (is_same_key q) sources.old.entries) }
+    ensures entries { (q : Key) → lookup (is_same_key q) sources.new.entries
+        ≡ forgotten fallen q (lookup (is_same_key q) sources.old.entries) }
     ensures room { spare sources.old ≤ spare sources.new }
 {
     if let Some((key, _)) = fallen {

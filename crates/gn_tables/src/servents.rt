@@ -26,7 +26,8 @@ impl<A: Allocator + Copy> Model for ServentTable<A> {
 
     ghost view = { λ t. record { routes = t.routes.entries; most = t.routes.cap } };
 
-    ghost invariant = { λ t. (0 < t.routes.cap) × AreServents (record { routes = t.routes.entries; most = t.routes.cap }) };
+    ghost invariant = { λ t. (0 < t.routes.cap)
+        × AreServents (record { routes = t.routes.entries; most = t.routes.cap }) };
 }
 
 impl<A: Allocator + Copy> ServentTable<A> {
@@ -53,7 +54,7 @@ impl<A: Allocator + Copy> ServentTable<A> {
         self.routes.peek(servent).copied()
     }
 
-    /// Puts the servent in front, with its new source; above the table's size the last one is forgotten. An `Err` is want
+    /// Puts the servent in front, with its new source; above the table's size the last one is forgotten. An `Err` is out
     /// of memory, comes only for a servent that wasn't known, and changes nothing.
     pub fn learn(&mut self, servent: Guid, from: u32) -> Result<(), AllocError>
         ensures ok { OnOk result (self.new ≡ learned servent from self.old) }

@@ -18,6 +18,18 @@ fn ping<A: Allocator>(byte: u8) -> Result<Descriptor<A>, &'static str> {
     Descriptor::new(id(byte), Kind::Ping, 6, 1, Bytes::new()).map_err(|_| "length")
 }
 
+/// Keeps a Ping's key where it is new, as a router does, and says whether it was.
+fn keep_new<A: Allocator + Copy>(
+    seen: &mut SeenTable<A>,
+    id: Guid,
+    from: u32,
+) -> Result<bool, AllocError> {
+    match seen.source(Kind::Ping, &id) {
+        Some(_) => Ok(false),
+        None => seen.keep(Kind::Ping, id, from).map(|()| true),
+    }
+}
+
 #[test]
 fn remembered_and_forgotten(rt: HostRuntime) -> Result<(), Fail> {
     let mut two = SeenTable::new(rt.alloc(), 2)?;
@@ -28,7 +40,7 @@ fn remembered_and_forgotten(rt: HostRuntime) -> Result<(), Fail> {
         (0xa3, true),
         (0xa1, true),
     ] {
-        assert_eq!(rt; two.keep_new(Kind::Ping, id(byte), 7)?, new, "at {byte}");
+        assert_eq!(rt; keep_new(&mut two, id(byte), 7)?, new, "at {byte}");
     }
     assert_eq!(rt; two.source(Kind::Ping, &id(0xa1)), Some(7));
     assert_eq!(rt; two.source(Kind::Ping, &id(0xa2)), None);
@@ -36,8 +48,8 @@ fn remembered_and_forgotten(rt: HostRuntime) -> Result<(), Fail> {
     assert_eq!(rt; two.source(Kind::Query, &id(0xa3)), None);
 
     let mut one = SeenTable::new(rt.alloc(), 1)?;
-    assert!(rt; one.keep_new(Kind::Ping, id(0xa1), 1)?);
-    assert!(rt; one.keep_new(Kind::Ping, id(0xa2), 2)?);
+    assert!(rt; keep_new(&mut one, id(0xa1), 1)?);
+    assert!(rt; keep_new(&mut one, id(0xa2), 2)?);
     assert_eq!(rt; one.source(Kind::Ping, &id(0xa1)), None);
     assert_eq!(rt; one.source(Kind::Ping, &id(0xa2)), Some(2));
     Ok(())
@@ -55,7 +67,7 @@ fn as_many_as_there_may_be(rt: HostRuntime) -> Result<(), Fail> {
     let mut seen = SeenTable::new(rt.alloc(), 65_536)?;
     let mut servents = ServentTable::new(rt.alloc(), 65_536)?;
     for number in 0..65_537u32 {
-        assert!(rt; seen.keep_new(Kind::Ping, numbered(number), number)?);
+        assert!(rt; keep_new(&mut seen, numbered(number), number)?);
         servents.learn(numbered(number), number)?;
     }
     for (number, found) in [(0, None), (1, Some(1)), (65_536, Some(65_536))] {
@@ -201,16 +213,16 @@ fn no_memory_for_a_key(rt: HostRuntime) -> Result<(), Fail> {
     let mut seen = SeenTable::new(&heap, 1)?;
     let rest = rest_of(&heap)?;
     assert!(rt; seen.keep(Kind::Ping, id(0xa1), 7).is_err());
-    assert!(rt; seen.keep_new(Kind::Ping, id(0xa2), 8).is_err());
+    assert!(rt; keep_new(&mut seen, id(0xa2), 8).is_err());
     for byte in [0xa1, 0xa2] {
         assert_eq!(rt; seen.source(Kind::Ping, &id(byte)), None);
     }
     drop(rest);
-    seen.keep(Kind::Ping, id(0xa1), 7)?;
+    assert!(rt; keep_new(&mut seen, id(0xa1), 7)?);
     assert_eq!(rt; seen.source(Kind::Ping, &id(0xa1)), Some(7));
-    assert!(rt; seen.keep_new(Kind::Ping, id(0xa2), 8)?);
+    assert!(rt; keep_new(&mut seen, id(0xa2), 8)?);
     let rest = rest_of(&heap)?;
-    assert!(rt; !seen.keep_new(Kind::Ping, id(0xa2), 9)?);
+    assert!(rt; !keep_new(&mut seen, id(0xa2), 9)?);
     drop(rest);
     assert_eq!(rt; seen.source(Kind::Ping, &id(0xa2)), Some(8));
     Ok(())

@@ -34,6 +34,7 @@ pub use octets::{guid, hex_bytes};
 pub use parsed::{NumberedLine, NumberedLines, numbered_lines};
 pub use push::{push_hex, push_ip, push_number};
 pub use refusal::push_refusal;
+pub use reply::push_reply;
 pub use settings::{push_settings, read_config, read_own};
 pub use statistics::push_stats;
 pub use step::{push_step, push_step_of};

@@ -6,6 +6,7 @@ use gn_rules::{
     Config, Counter, DropReason, Event, Own, Refusal, Reply, Sending, Sends, Stats, Step,
 };
 use gn_wire::{Descriptor, FrameFault, Guid, Kind};
+use std::alloc::Global;
 use std::test::Fail;
 
 fn ping(rt: &HostRuntime, byte: u8, ttl: u8, hops: u8) -> Result<Descriptor, Fail> {
@@ -141,11 +142,12 @@ fn other_lines(rt: HostRuntime) -> Result<(), Fail> {
     };
     push_settings(alloc, &mut out, &config)?;
     push_step_of(alloc, &mut out, 7, &Event::Connect, &Reply::TooMany)?;
+    push_reply(alloc, &mut out, &Reply::<Global>::Admitted(12))?;
     assert_eq!(rt;
         out.as_slice(),
         b"refused NothingWaiting\nfault 1 fixed ping 1\nfault 3 long 65537\n\
         greeting 2 refused\nended 2\nconfig 4 8 4 8 8 100\n\
-        own eeeeeeeeeeeeeeeeeeeeeeeeeeeeeeee 127.0.0.1 6346 5 40\n7 connect = toomany\n"
+        own eeeeeeeeeeeeeeeeeeeeeeeeeeeeeeee 127.0.0.1 6346 5 40\n7 connect = toomany\nadmitted 12"
             .as_slice()
     );
     Ok(())

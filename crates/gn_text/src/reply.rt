@@ -1,6 +1,6 @@
 //! Replies.
 
-ghost use Rattle.std.specs.Prelude.{◌≡◌, ◌++◌, OnOk};
+ghost use Rattle.std.specs.Prelude.{◌≡◌, ◌++◌, OnOk, OnErr};
 ghost use Rattle.gn_text.specs.Steps.{place_text, reason_text, reply_text};
 
 use crate::packet::{write_packet, write_sends};
@@ -61,4 +61,18 @@ pub(crate) fn write_reply<A: Allocator + Copy, B: Allocator>(
             write_sends(alloc, out, sends.as_slice())
         }
     }
+}
+
+/// Appends a reply as it stands behind the `=` of a step's line. An `Err` is out of memory, and changes nothing.
+pub fn push_reply<A: Allocator + Copy, B: Allocator>(
+    alloc: A,
+    out: &mut Vec<u8, B>,
+    reply: &Reply<A>,
+) -> Result<(), AllocError>
+    ensures ok { OnOk result (out.new.items ≡ out.old.items ++ reply_text reply.now) }
+    ensures err { OnErr result (out.new.items ≡ out.old.items) }
+{
+    let mut text = Vec::new(alloc);
+    write_reply(alloc, &mut text, reply)?;
+    out.extend_from_slice(&text)
 }

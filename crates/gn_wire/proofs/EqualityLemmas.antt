@@ -1,5 +1,5 @@
 -- IDs, keys and descriptors that are the same are equal.
-use Rattle.std.proofs.Common.{◌≡◌, ◌↔◌, ℕ, ◌==◌, Bool, true, false, ◌&&◌, if◌then◌else◌, nat_eq, List, [], ◌∷◌, ◌++◌, refl, sym, ap, ◌∙◌, subst}
+use Rattle.std.proofs.Common.{◌≡◌, ℕ, ◌==◌, Bool, true, false, ◌&&◌, if◌then◌else◌, nat_eq, List, [], ◌∷◌, ◌++◌, refl, sym, ap, ◌∙◌, subst}
 use lib.Pointwise.{pointwise, bytes_decides}
 use Rattle.std.proofs.lemmas.Bool.{eq-eqb}
 use Rattle.std.proofs.lemmas.Map.Views.{exact_unsigned_eq}
@@ -8,7 +8,7 @@ use Rattle.gn_wire.specs.declared.kind.Guid.{Guid}
 use Rattle.gn_wire.specs.declared.kind.Kind.{Kind}
 use Rattle.gn_wire.specs.declared.kind.Kind.TheVariants.{Ping, Pong, Push, Query, QueryHit, Unknown}
 use Rattle.gn_wire.specs.Equality.{SameIsEqual}
-use Rattle.gn_wire.specs.Keys.{is_same_id, is_same_key, is_same_packet, key_numbers, key_of, kind_numbers}
+use Rattle.gn_wire.specs.Keys.{is_same_key, is_same_packet, key_numbers, key_of, kind_numbers}
 use Rattle.gn_wire.specs.Packet.{Packet}
 
 both : (a b : Bool) → (a && b) ≡ true → (a ≡ true) × (b ≡ true)

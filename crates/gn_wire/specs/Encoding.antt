@@ -15,6 +15,10 @@ header_bytes h = h.id.0 ++ (code_of h.kind ∷ h.ttl ∷ h.hops ∷ little_bytes
 abbrev pub header_of : Packet → Header
 header_of d = record { id = d.id; kind = d.kind; ttl = d.ttl; hops = d.hops; length = length d.payload }
 
+-- the descriptor of a header and its payload
+abbrev pub packet_from : Header → List ℕ → Packet
+packet_from h payload = record { id = h.id; kind = h.kind; ttl = h.ttl; hops = h.hops; payload = payload }
+
 -- the encoding of a descriptor: its header, then its payload
 abbrev pub bytes_of : Packet → List ℕ
 bytes_of d = header_bytes (header_of d) ++ d.payload

@@ -1,7 +1,8 @@
 //! A descriptor: its header's fields and its payload, of a valid length.
 
-ghost use Rattle.std.specs.Prelude.{◌≡◌, ◌<◌, ◌+◌, ◌++◌, length, IsTrue, ◌↔◌, MatchOption, true, false, IfOk, OnOk, OnErr, vec_len, vec_capacity};
+ghost use Rattle.std.specs.Prelude.{◌≡◌, ◌<◌, ◌+◌, ◌++◌, length, take, None, IsTrue, ◌↔◌, MatchOption, true, false, IfOk, OnOk, OnErr, vec_len, vec_capacity};
 
+use crate::append::whole_or_none;
 use crate::header::{FrameFault, Header, length_fault, write_header};
 use crate::key::Key;
 use crate::kind::{Guid, Kind};
@@ -28,16 +29,17 @@ impl<A: Allocator> Model for Descriptor<A> {
 
     ghost view = { λ d. record { id = d.id; kind = d.kind; ttl = d.ttl; hops = d.hops; payload = d.payload } };
 
-    ghost invariant = { λ d. IsDescriptor (record { id = d.id; kind = d.kind; ttl = d.ttl; hops = d.hops; payload = d.payload }) };
+    ghost invariant = { λ d.
+        IsDescriptor (record { id = d.id; kind = d.kind; ttl = d.ttl; hops = d.hops; payload = d.payload }) };
 }
 
 impl<A: Allocator> Descriptor<A> {
     ghost use Rattle.gn_wire.specs.Forward.{forward_of, is_expired};
     ghost use Rattle.gn_wire.specs.Keys.{is_same_packet, key_of};
-    ghost use Rattle.gn_wire.specs.Kinds.{code_of, kind_of};
-    ghost use Rattle.gn_wire.specs.Lengths.{IsDescriptor, packet_fault, unless_fault};
+    ghost use Rattle.gn_wire.specs.Kinds.{IsStored, code_of, kind_of};
+    ghost use Rattle.gn_wire.specs.Lengths.{IsDescriptor, fault_of, packet_fault, unless_fault};
     ghost use Rattle.gn_wire.specs.Packet.{Packet};
-    ghost use Rattle.gn_wire.specs.Encoding.{bytes_of, header_of};
+    ghost use Rattle.gn_wire.specs.Encoding.{bytes_of, header_of, packet_from};
 
     /// A descriptor of these parts, where the payload's length is valid; else the fault. The kind is kept as the one
     /// that its code names. A payload longer than a u32 can tell is told as 4,294,967,295 bytes.
@@ -48,7 +50,8 @@ impl<A: Allocator> Descriptor<A> {
         hops: u8,
         payload: Bytes<A>,
     ) -> Result<Self, FrameFault>
-        ensures { let d : Packet = record { id = id; kind = kind_of (code_of kind); ttl = ttl; hops = hops; payload = payload } in
+        ensures { let kind = kind_of (code_of kind) in
+            let d : Packet = record { id = id; kind = kind; ttl = ttl; hops = hops; payload = payload } in
             result ≡ unless_fault (packet_fault d) d }
     {
         let kind = Kind::of(kind.code());
@@ -63,6 +66,15 @@ impl<A: Allocator> Descriptor<A> {
                 payload,
             }),
         }
+    }
+
+    /// The descriptor of a header's fields and a payload, where the payload's length is valid; else the fault. The length that
+    /// the header tells isn't looked at.
+    pub fn from_header(header: Header, payload: Bytes<A>) -> Result<Self, FrameFault>
+        ensures { let d = packet_from (record header { kind = kind_of (code_of header.kind) }) payload in
+            result ≡ unless_fault (packet_fault d) d }
+    {
+        Descriptor::new(header.id, header.kind, header.ttl, header.hops, payload)
     }
 
     /// The ID that its sender gave it.
@@ -144,12 +156,18 @@ impl<A: Allocator> Descriptor<A> {
         ensures full { OnErr result (vec_capacity out.old < vec_len out.old + length (bytes_of self.now)) }
     {
         let start = out.len();
+        let appended = self.append_to(out);
+        whole_or_none(out, start, appended)
+    }
+
+    /// Appends the header and then the payload. An `Err` is out of memory, and leaves what stood there before in front.
+    fn append_to<B: Allocator>(&self, out: &mut Vec<u8, B>) -> Result<(), AllocError>
+        ensures ok { OnOk result (out.new.items ≡ out.old.items ++ bytes_of self.now) }
+        ensures err { OnErr result (take (length out.old.items) out.new.items ≡ out.old.items) }
+        ensures full { OnErr result (vec_capacity out.old < vec_len out.old + length (bytes_of self.now)) }
+    {
         out.extend_from_slice(&write_header(&self.header()))?;
-        if out.extend_from_slice(self.payload.as_slice()).is_err() {
-            out.truncate(start);
-            return Err(AllocError);
-        }
-        Ok(())
+        out.extend_from_slice(self.payload.as_slice())
     }
 
     /// An equal descriptor. An `Err` is out of memory.

@@ -1,11 +1,14 @@
 //! The 23 bytes that a descriptor begins with.
 
-ghost use Rattle.std.specs.Prelude.{◌≡◌, Ok};
+ghost use Rattle.std.specs.Prelude.{◌≡◌, IfOk};
 ghost use Rattle.gn_wire.specs.Lengths.{fault_of};
-ghost use Rattle.gn_wire.specs.Encoding.{header_at, header_bytes, reading};
+ghost use Rattle.gn_wire.specs.Encoding.{IsHeader, header_at, header_bytes, reading};
 
 use crate::kind::{Guid, Kind};
 use byteorder::{ByteOrder, LittleEndian};
+
+/// The bytes of a header.
+pub const HEADER_BYTES: usize = 23;
 
 /// What a descriptor's first 23 bytes tell (Gnutella v0.4, "Descriptor header").
 #[derive(Clone, Copy, Debug, PartialEq, Eq)]
@@ -44,10 +47,10 @@ pub fn length_fault(kind: Kind, length: u32) -> Option<FrameFault>
 }
 
 /// The 23 bytes of a header, its length little endian.
-pub fn write_header(header: &Header) -> [u8; 23]
+pub fn write_header(header: &Header) -> [u8; HEADER_BYTES]
     ensures { result ≡ header_bytes header.now }
 {
-    let mut bytes = [0u8; 23];
+    let mut bytes = [0u8; HEADER_BYTES];
     bytes[..16].copy_from_slice(&header.id.0);
     bytes[16] = header.kind.code();
     bytes[17] = header.ttl;
@@ -59,7 +62,7 @@ pub fn write_header(header: &Header) -> [u8; 23]
 }
 
 /// The header that the bytes tell, whatever its length.
-fn header_in(bytes: &[u8; 23]) -> Header
+fn header_in(bytes: &[u8; HEADER_BYTES]) -> Header
     ensures { result ≡ header_at bytes.now }
 {
     let mut id = [0u8; 16];
@@ -74,8 +77,9 @@ fn header_in(bytes: &[u8; 23]) -> Header
 }
 
 /// The header that the bytes tell; where its length isn't valid, the fault.
-pub fn read_header(bytes: &[u8; 23]) -> Result<Header, FrameFault>
-    ensures { result ≡ reading bytes.now }
+pub fn read_header(bytes: &[u8; HEADER_BYTES]) -> Result<Header, FrameFault>
+    ensures value { result ≡ reading bytes.now }
+    ensures header { IfOk result IsHeader }
 {
     let header = header_in(bytes);
     match length_fault(header.kind, header.length) {

@@ -1,6 +1,7 @@
 //! Descriptors of Gnutella v0.4: their kinds, their header and their encoding.
 #![tactic(auto)]
 
+mod append;
 mod descriptor;
 mod header;
 mod key;
@@ -9,8 +10,9 @@ mod laws;
 #[cfg(test)]
 mod tests;
 
+pub use append::whole_or_none;
 pub use descriptor::Descriptor;
-pub use header::{FrameFault, Header, length_fault, read_header, write_header};
+pub use header::{FrameFault, HEADER_BYTES, Header, length_fault, read_header, write_header};
 pub use key::Key;
 pub use kind::{Guid, Kind};
 pub use laws::{encodings_part, headers_return, same_is_equal};

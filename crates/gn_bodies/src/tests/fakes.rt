@@ -1,6 +1,7 @@
-//! The half of a link that never ends.
+//! The half of a link that never ends, and a gate that knows who passed.
 
-use gn_links::{LinkFault, LinkReader};
+use gn_links::{Gate, LinkFault, LinkReader};
+use std::cell::Cell;
 use std::sync::Wait;
 
 /// Gives a zero byte per read, without end.
@@ -13,6 +14,8 @@ impl LinkReader for EndlessReader {
     ghost use Rattle.std.specs.Prelude.{[], false};
 
     ghost is_known = { false };
+
+    ghost all_bytes = { λ _. [] };
 
     ghost bytes_read = { λ _. [] };
 
@@ -29,5 +32,17 @@ impl LinkReader for EndlessReader {
         buffer[0] = 0;
         self.pieces = self.pieces.saturating_add(1);
         Ok(1)
+    }
+}
+
+/// Keeps which worker passed it last, and with which ticket.
+#[derive(Drop)]
+pub(super) struct Doorman {
+    pub(super) last: Cell<Option<(u32, u32)>>,
+}
+
+impl Gate for Doorman {
+    fn enter<R: Wait>(&self, _rt: &R, worker: u32, ticket: u32) {
+        self.last.set(Some((worker, ticket)));
     }
 }

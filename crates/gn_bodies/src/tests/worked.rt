@@ -1,6 +1,6 @@
 //! The worked runs of one link.
 
-use super::{OWN_PONG, PING, Ran, USUAL, run_link};
+use super::{OWN_PONG, PING, Ran, USUAL, WORKER, run_link};
 use crate::{BodyFault, ReaderEnd, WriterEnd};
 use gn_links::{MemoryLink, MemoryWriter};
 use gn_rules::{Event, Reply, Step};
@@ -111,7 +111,7 @@ fn a_link_of_one_ping(rt: HostRuntime) -> Result<(), Fail> {
                 OWN_PONG
             )
         );
-        assert!(rt; is_one_ping(alloc, ran.history.as_slice()));
+        assert!(rt; is_one_ping(alloc, ran.history.as_slice()) && ran.passed == Some((WORKER, 0)));
     }
     Ok(())
 }
@@ -137,7 +137,7 @@ fn a_link_that_never_opens(rt: HostRuntime) -> Result<(), Fail> {
         let link = MemoryLink::new(role, bytes.to_vec(alloc)?, 4096);
         let ran = run_link(&rt, alloc, USUAL, link).ok_or("memory")?;
         assert!(rt; has_written(&ran, read, WriterEnd::NeverOpened, written, b""));
-        assert!(rt; ran.history.is_empty() && ran.door == Door::Shut);
+        assert!(rt; ran.history.is_empty() && ran.door == Door::Shut && ran.passed.is_none());
     }
     Ok(())
 }

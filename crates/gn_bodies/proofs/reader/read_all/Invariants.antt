@@ -1,4 +1,5 @@
 use Rattle.std.proofs.Common.{◌≡◌, true}
+use Rattle.gn_links.specs.Halves.{IsReadOf}
 use Rattle.gn_bodies.specs.Admitting.{HasSameNumbers, StaysSettled}
 use Rattle.gn_bodies.specs.Reading.{HasConnection, IsReading}
 use Rattle.gn_bodies.proofs.reader.read_all.Given as goal
@@ -8,6 +9,8 @@ invariant-loop g l = record {
   numbers : HasSameNumbers l.initial.me l.me;
   has : HasConnection l.reading l.me.actor;
   is : g.Rd.LinkReader.is_known ≡ true → IsReading l.fn.role l.reading (g.Rd.LinkReader.bytes_read l.reader) l.me.actor;
+  all : g.Rd.LinkReader.all_bytes l.reader ≡ g.Rd.LinkReader.all_bytes l.initial.reader;
+  prefix : g.Rd.LinkReader.is_known ≡ true → IsReadOf (g.Rd.LinkReader.all_bytes l.reader) (g.Rd.LinkReader.bytes_read l.reader) (g.Rd.LinkReader.has_ended l.reader);
   pieces : g.Rd.LinkReader.pieces l.reader ≡ l.counter;
   failures : g.Rd.LinkReader.failures l.reader ≡ 0;
   settled : StaysSettled l.initial.me l.me;

@@ -1,9 +1,16 @@
-use Rattle.std.proofs.Common.{rules, sym, ap, ◌∙◌}
-use Rattle.gn_wire.specs.Encoding.{reading}
-use Rattle.gn_capture.proofs.PacketLemmas.{packet_made}
+use Rattle.std.proofs.Common.{sym, ◌∙◌}
+use Rattle.gn_capture.proofs.PacketLemmas.{made_from, other_length, packet_made}
 use Rattle.gn_capture.proofs.packet.packet_in.Goals as goal
 
-pub returns-in_ok-payload-in-Ok : goal.returns-in_ok-payload-in-Ok
-returns-in_ok-payload-in-Ok g c =
-    c.ok.ensures.value ∙ packet_made c.args.bytes.now c.in-Ok.header c.in_ok-payload-in-Ok.payload c.new.result (search rules) (c.in_ok-payload-in-Ok.ensures ∙ c.split_at.ensures.back)
-    (sym (ap reading (c.copy_from_slice.ensures.after ∙ c.split_at.ensures.front)) ∙ sym c.in-Ok.ensures) (search rules) c.new.ensures
+pub returns-in-Ok : goal.returns-in-Ok
+returns-in-Ok g c =
+    other_length c.args.bytes.now c.in-Some.front.now c.in-Ok.header c.in-Some.ensures.cases.enough c.in-Some.ensures.cases.same
+    (sym c.read_header.ensures.value ∙ c.in-Ok.is) c.if-header-payload.true
+
+pub returns-in-Ok-from_header : goal.returns-in-Ok-from_header
+returns-in-Ok-from_header g c =
+    let made = made_from c.in-Ok.header c.in_ok-payload-in-Ok-2.payload c.in-Ok-from_header.descriptor c.in-Ok.ensures.header.stored
+    (sym c.from_header.ensures ∙ c.in-Ok-from_header.is) in
+    packet_made c.args.bytes.now c.in-Some.front.now c.in-Ok.header c.in_ok-payload-in-Ok-2.payload c.in-Ok-from_header.descriptor
+    c.in-Some.ensures.cases.enough c.in-Some.ensures.cases.same (sym c.read_header.ensures.value ∙ c.in-Ok.is) c.if-header-payload.false
+    c.in_ok-payload-in-Ok-2.ensures made

@@ -1,4 +1,4 @@
-use Rattle.std.proofs.Common.{ap, sym, refl, ◌∙◌, ◌++◌}
+use Rattle.std.proofs.Common.{ap, refl, ◌∙◌}
 use Rattle.gn_replay.specs.Playing.{Playing}
 use Rattle.gn_replay.proofs.RunLemmas.{on_err, part_written, still_waits, written}
 use Rattle.gn_replay.proofs.playing.Play.write_line.Goals as goal

@@ -1,7 +1,7 @@
 use Rattle.std.proofs.Common.{subst}
-use Rattle.gn_tables.specs.Lines.{AreLines}
-use Rattle.gn_tables.proofs.LineLemmas.{lines_are}
+use Rattle.gn_tables.specs.Outputs.{AreOutputs}
+use Rattle.gn_tables.proofs.OutputLemmas.{outputs_are}
 use Rattle.gn_tables.proofs.neighbours.Neighbours.len.Goals as goal
 
 pub returns-clause-kept : goal.returns-clause-kept
-returns-clause-kept g c = subst AreLines c.self.view_is (lines_are c.self.inside.most c.self.inside.room c.self.inside.rows.entries c.self.invariant)
+returns-clause-kept g c = subst AreOutputs c.self.view_is (outputs_are c.self.inside.most c.self.inside.room c.self.inside.rows.entries c.self.invariant)

@@ -1,5 +1,5 @@
 use Rattle.std.proofs.Common.{refl}
-use Rattle.gn_tables.proofs.LineLemmas.{number_is}
+use Rattle.gn_tables.proofs.OutputLemmas.{number_is}
 use Rattle.gn_tables.proofs.neighbours.Neighbours.number.Goals as goal
 
 pub returns : goal.returns

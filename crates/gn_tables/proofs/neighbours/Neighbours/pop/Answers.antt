@@ -1,5 +1,5 @@
 use Rattle.std.proofs.Common.{drop, refl, sym}
-use Rattle.gn_tables.proofs.LineLemmas.{popped_row, none_changed, lookup_rows}
+use Rattle.gn_tables.proofs.OutputLemmas.{popped_row, none_changed, lookup_rows}
 use Rattle.gn_tables.proofs.neighbours.Neighbours.pop.Goals as goal
 
 pub returns-in_err-row-clause-first : goal.returns-in_err-row-clause-first

@@ -1,5 +1,5 @@
 use Rattle.std.proofs.Common.{refl, sym}
-use Rattle.gn_tables.proofs.LineLemmas.{pushed_row, lookup_rows}
+use Rattle.gn_tables.proofs.OutputLemmas.{pushed_row, lookup_rows}
 use Rattle.gn_tables.proofs.neighbours.Neighbours.push.Goals as goal
 
 pub returns-in_default-clause-err : goal.returns-in_default-clause-err

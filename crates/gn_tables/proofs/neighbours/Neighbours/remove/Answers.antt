@@ -1,6 +1,6 @@
 use Rattle.std.proofs.Common.{arith, refl, sym}
-use Rattle.gn_tables.specs.Lines.{IsRing}
-use Rattle.gn_tables.proofs.LineLemmas.{removed, found_ring, lookup_rows}
+use Rattle.gn_tables.specs.Outputs.{IsRing}
+use Rattle.gn_tables.proofs.OutputLemmas.{removed, found_ring, lookup_rows}
 use Rattle.gn_tables.proofs.neighbours.Neighbours.remove.Goals as goal
 
 pub returns-in_err-row-clause-value : goal.returns-in_err-row-clause-value

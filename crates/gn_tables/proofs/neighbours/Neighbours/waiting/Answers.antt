@@ -1,5 +1,5 @@
 use Rattle.std.proofs.Common.{refl}
-use Rattle.gn_tables.proofs.LineLemmas.{lookup_rows}
+use Rattle.gn_tables.proofs.OutputLemmas.{lookup_rows}
 use Rattle.gn_tables.proofs.neighbours.Neighbours.waiting.Goals as goal
 
 pub returns-in_err-row : goal.returns-in_err-row

@@ -1,0 +1,4 @@
+use Rattle.gn_bench.proofs.hub.play_on_tables.Given as goal
+
+abbrev pub ghosts-play : goal.ghosts-play
+ghosts-play g a = record { name = a.blank.name; parts = a.blank.parts }

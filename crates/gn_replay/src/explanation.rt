@@ -1,0 +1,85 @@
+//! What is told of a history's text, with what explains its first wrong step.
+
+ghost use Rattle.std.specs.Prelude.{◌≡◌, ◌<◌, ◌+◌, ◌++◌, Some, length, IfOk, IfErr, OnOk};
+ghost use Rattle.gn_text.specs.Faults.{IsRefused};
+ghost use Rattle.gn_text.specs.Parsed.{line_seen, parsed_of};
+ghost use Rattle.gn_capture.specs.Histories.{history_of};
+ghost use Rattle.gn_replay.specs.Explained.{IsAuditExplained, answer_line, explanation_text, lines_before, step_line_at};
+
+use crate::judgement::{Answer, Judgement};
+use crate::verdict::{judge_text, verdict};
+use gn_rules::{Legality, RouterCore};
+use gn_text::{CaptureRefusal, NumberedLine, numbered_lines, push_refusal, push_reply};
+use std::alloc::{AllocError, Allocator};
+
+/// How many lines of a history that aren't skipped stand before its steps.
+const LINES_BEFORE: usize = 3;
+
+fn write_answer<A: Allocator + Copy>(
+    alloc: A,
+    out: &mut Vec<u8, A>,
+    rules: &Answer<A>,
+) -> Result<(), AllocError>
+    ensures { OnOk result (out.new.items ≡ out.old.items ++ answer_line rules.now) }
+{
+    match rules {
+        Ok(reply) => {
+            push_reply(alloc, out, reply)?;
+            out.extend_from_slice(b"\n")
+        }
+        Err(refusal) => push_refusal(out, *refusal),
+    }
+}
+
+fn write_explanation<A: Allocator + Copy>(
+    alloc: A,
+    out: &mut Vec<u8, A>,
+    line: &NumberedLine,
+    rules: &Answer<A>,
+) -> Result<(), AllocError>
+    ensures { OnOk result (out.new.items ≡ out.old.items ++ explanation_text (line_seen line.now) rules.now) }
+{
+    let (number, text) = *line;
+    let head = format!(in alloc; "line {number}: ")?;
+    out.extend_from_slice(head.as_bytes())?;
+    out.extend_from_slice(text)?;
+    out.extend_from_slice(b"\nrules: ")?;
+    write_answer(alloc, out, rules)
+}
+
+/// Appends what explains the wrong step at an index, which stands in a line of the text.
+fn explain<A: Allocator + Copy>(
+    alloc: A,
+    out: &mut Vec<u8, A>,
+    text: &[u8],
+    index: u32,
+    rules: &Answer<A>,
+) -> Result<(), AllocError>
+    requires { lines_before + index < length (parsed_of text.now) }
+    ensures { OnOk result ((line : _) × (step_line_at text.now index ≡ Some line)
+        × (out.new.items ≡ out.old.items ++ explanation_text line rules.now)) }
+{
+    let parsed = numbered_lines(alloc, text)?;
+    match parsed.lines.get(LINES_BEFORE + index as usize) {
+        Some(line) => write_explanation(alloc, out, line, rules),
+        None => unreachable!(),
+    }
+}
+
+/// What a new router tells of the history that a text says, and the lines that tell and explain it.
+pub(crate) fn explained_text<A: Allocator + Copy, C: RouterCore<A> + Drop>(
+    alloc: A,
+    text: &[u8],
+) -> Result<(Legality, Vec<u8, A>), CaptureRefusal>
+    ensures told { IfOk result (λ told. IsAuditExplained A text.now told.0 told.1.items) }
+    ensures refused { IfErr result (λ refusal. IsRefused refusal (history_of {A = A} text.now)) }
+{
+    let (judgement, steps) = judge_text::<A, C>(alloc, text)?;
+    let legality = judgement.legality();
+    let mut lines = verdict(alloc, legality, steps)?;
+    match &judgement {
+        Judgement::Legal => {}
+        Judgement::WrongAt(index, rules) => explain(alloc, &mut lines, text, *index, rules)?,
+    }
+    Ok((legality, lines))
+}

@@ -1,0 +1,23 @@
+-- A link over TCP: its halves, and whom it calls.
+use Rattle.std.specs.Prelude.{ℕ, Bool}
+use Rattle.std.specs.declared.net.socket_addr.SocketAddr.{SocketAddr}
+use Rattle.std.specs.Net.Addr.{IsLoopbackV4, IsLoopbackV6, MatchIp}
+use Rattle.std.specs.Net.Socket.{socket_ip}
+
+-- the half that is read: whether it still has its handle of the socket, how many reads failed, how many gave bytes, and
+-- whether the bytes ended
+pub record TcpReading : Type 0 where
+  pub is_open : Bool
+  pub failures : ℕ
+  pub pieces : ℕ
+  pub has_ended : Bool
+
+-- the half that is written: whether it was finished, how many writes failed, and whether one took nothing
+pub record TcpWriting : Type 0 where
+  pub is_finished : Bool
+  pub failures : ℕ
+  pub is_stuck : Bool
+
+-- an address of this machine that no other machine can call
+abbrev pub IsLoopback : SocketAddr → Type 0
+IsLoopback addr = MatchIp (socket_ip addr) IsLoopbackV4 IsLoopbackV6

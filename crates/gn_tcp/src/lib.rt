@@ -1,0 +1,12 @@
+//! Links over TCP, on the loopback address alone.
+#![tactic(auto)]
+
+mod link;
+mod reader;
+#[cfg(test)]
+mod tests;
+mod writer;
+
+pub use link::{TcpLink, listen};
+pub use reader::TcpReader;
+pub use writer::TcpWriter;

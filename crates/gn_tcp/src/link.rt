@@ -1,0 +1,112 @@
+//! A link over TCP: accepted or called, and split into its halves.
+
+ghost use Rattle.std.specs.Prelude.{◌≡◌, [], IfOk, OnOk};
+ghost use Rattle.gn_shake.specs.declared.role.Role.TheVariants.{Accepting, Calling};
+ghost use Rattle.gn_tcp.specs.Tcp.{IsLoopback};
+
+use crate::reader::TcpReader;
+use crate::writer::TcpWriter;
+use gn_links::{Link, LinkFault};
+use gn_shake::Role;
+use std::marker::Model;
+use std::net::{Ipv4Addr, Net, SocketAddr, TcpListener, TcpStream};
+use std::time::Duration;
+
+/// Listens on this port of 127.0.0.1; on one that the system picks where the port is 0.
+pub fn listen<N: Net<Listener = TcpListener, Stream = TcpStream>>(
+    net: &N,
+    port: u16,
+) -> Result<TcpListener, LinkFault> {
+    match net.bind(SocketAddr::from((Ipv4Addr::LOCALHOST, port))) {
+        Ok(listener) => Ok(listener),
+        Err(_) => Err(LinkFault),
+    }
+}
+
+/// A connected socket, and how the link over it begins. No clause says which bytes go over it.
+#[derive(Drop)]
+pub struct TcpLink {
+    stream: TcpStream,
+    role: Role,
+    idle: Option<Duration>,
+}
+
+impl Model for TcpLink {
+    ghost use Rattle.gn_shake.specs.declared.role.Role.{Role};
+
+    ghost Value = { Role };
+
+    ghost view = { λ l. l.role };
+}
+
+impl TcpLink {
+    /// Waits for the next peer that calls, without a time limit.
+    pub fn accept(listener: &TcpListener) -> Result<TcpLink, LinkFault>
+        ensures { IfOk result (λ link. link ≡ Accepting) }
+    {
+        match listener.accept() {
+            Ok((stream, _)) => Ok(TcpLink {
+                stream,
+                role: Role::Accepting,
+                idle: None,
+            }),
+            Err(_) => Err(LinkFault),
+        }
+    }
+
+    /// Calls a peer. A peer on another machine isn't called.
+    pub fn call<N: Net<Listener = TcpListener, Stream = TcpStream>>(
+        net: &N,
+        peer: SocketAddr,
+    ) -> Result<TcpLink, LinkFault>
+        ensures role { IfOk result (λ link. link ≡ Calling) }
+        ensures near { OnOk result (IsLoopback peer) }
+    {
+        if !peer.ip().is_loopback() {
+            return Err(LinkFault);
+        }
+        match net.connect(peer) {
+            Ok(stream) => Ok(TcpLink {
+                stream,
+                role: Role::Calling,
+                idle: None,
+            }),
+            Err(_) => Err(LinkFault),
+        }
+    }
+
+    /// The link, whose reads and writes fail where they wait for longer than this; `None`: they wait for ever. `split` fails
+    /// where the limit is zero.
+    pub fn with_idle(self, idle: Option<Duration>) -> TcpLink
+        ensures { result ≡ self }
+    {
+        let TcpLink { stream, role, .. } = self;
+        TcpLink { stream, role, idle }
+    }
+}
+
+impl Link for TcpLink {
+    type Reader = TcpReader;
+
+    type Writer = TcpWriter;
+
+    ghost role_of = { λ l. l };
+
+    ghost all_bytes = { λ _. [] };
+
+    fn role(&self) -> Role {
+        self.role
+    }
+
+    /// Fails where the system gives no second handle of the socket, or doesn't take the time limit.
+    fn split(self) -> Result<(TcpReader, TcpWriter), LinkFault> {
+        let TcpLink { stream, idle, .. } = self;
+        if stream.set_read_timeout(idle).is_err() || stream.set_write_timeout(idle).is_err() {
+            return Err(LinkFault);
+        }
+        match stream.try_clone() {
+            Ok(other) => Ok((TcpReader::new(stream), TcpWriter::new(other))),
+            Err(_) => Err(LinkFault),
+        }
+    }
+}

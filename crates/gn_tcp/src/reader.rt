@@ -1,0 +1,105 @@
+//! The half of a link over TCP that is read.
+
+ghost use Rattle.std.specs.Prelude.{◌≡◌, ◌≤◌, [], false, true, length, IfOk};
+
+use gn_links::{LinkFault, LinkReader};
+use std::io::{ErrorKind, Read};
+use std::marker::Model;
+use std::net::TcpStream;
+use std::sync::Wait;
+
+/// Reads from a socket. It gives its handle of the socket up at the end of the bytes, at a read that fails, and where it is
+/// finished: once both halves have, the peer is let go.
+#[derive(Drop)]
+pub struct TcpReader {
+    stream: Option<TcpStream>,
+    failures: u64,
+    pieces: u64,
+    has_ended: bool,
+}
+
+impl Model for TcpReader {
+    ghost use Rattle.std.specs.Prelude.{is_some};
+    ghost use Rattle.gn_tcp.specs.Tcp.{TcpReading};
+
+    ghost Value = { TcpReading };
+
+    ghost view = { λ r. record {
+      is_open = is_some r.stream;
+      failures = r.failures;
+      pieces = r.pieces;
+      has_ended = r.has_ended;
+    } };
+}
+
+impl TcpReader {
+    pub(crate) fn new(stream: TcpStream) -> Self
+        ensures { result ≡ record { is_open = true; failures = 0; pieces = 0; has_ended = false } }
+    {
+        TcpReader {
+            stream: Some(stream),
+            failures: 0,
+            pieces: 0,
+            has_ended: false,
+        }
+    }
+
+    /// There is nothing more to read. What the peer sends from now on, once the writer is finished too, is refused by the
+    /// system.
+    pub fn finish<R: Wait>(&mut self, _rt: &R)
+        ensures { self.new ≡ record self.old { is_open = false } }
+    {
+        self.stream = None;
+    }
+}
+
+/// Waits for bytes, again where a signal cut the call short.
+fn read_some<R: Wait>(rt: &R, stream: &mut TcpStream, buffer: &mut [u8]) -> Result<usize, LinkFault>
+    ensures { IfOk result (λ n. n ≤ length buffer.old) }
+{
+    for _ in rt.forever() {
+        match stream.read(buffer) {
+            Ok(n) => return Ok(n),
+            Err(why) if why.kind() == ErrorKind::Interrupted => {}
+            Err(_) => break,
+        }
+    }
+    Err(LinkFault)
+}
+
+impl LinkReader for TcpReader {
+    ghost is_known = { false };
+
+    ghost all_bytes = { λ _. [] };
+
+    ghost bytes_read = { λ _. [] };
+
+    ghost failures = { λ r. r.failures };
+
+    ghost pieces = { λ r. r.pieces };
+
+    ghost has_ended = { λ r. r.has_ended };
+
+    /// Fails too where it waits for longer than the link's time limit, and where it failed before or was finished.
+    fn read<R: Wait>(&mut self, rt: &R, buffer: &mut [u8]) -> Result<usize, LinkFault> {
+        let answer = match &mut self.stream {
+            Some(stream) => read_some(rt, stream, buffer),
+            None if self.has_ended => Ok(0),
+            None => Err(LinkFault),
+        };
+        match answer {
+            Ok(n) if n > 0 => self.pieces = self.pieces.saturating_add(1),
+            Ok(_) => {
+                if !buffer.is_empty() {
+                    self.has_ended = true;
+                    self.stream = None;
+                }
+            }
+            Err(_) => {
+                self.failures = self.failures.saturating_add(1);
+                self.stream = None;
+            }
+        }
+        answer
+    }
+}

@@ -1,0 +1,94 @@
+//! The half of a link over TCP that is written.
+
+ghost use Rattle.std.specs.Prelude.{◌≡◌, ◌≤◌, [], false, true, length, IfOk};
+
+use gn_links::{LinkFault, LinkWriter};
+use std::io::{ErrorKind, Write};
+use std::marker::Model;
+use std::net::{Shutdown, TcpStream};
+use std::sync::Wait;
+
+/// Writes to a socket. It gives its handle of the socket up where it is finished: once both halves have, the peer is let go.
+#[derive(Drop)]
+pub struct TcpWriter {
+    stream: Option<TcpStream>,
+    failures: u64,
+    is_stuck: bool,
+}
+
+impl Model for TcpWriter {
+    ghost use Rattle.std.specs.Prelude.{is_none};
+    ghost use Rattle.gn_tcp.specs.Tcp.{TcpWriting};
+
+    ghost Value = { TcpWriting };
+
+    ghost view = { λ w. record {
+      is_finished = is_none w.stream;
+      failures = w.failures;
+      is_stuck = w.is_stuck;
+    } };
+}
+
+impl TcpWriter {
+    pub(crate) fn new(stream: TcpStream) -> Self
+        ensures { result ≡ record { is_finished = false; failures = 0; is_stuck = false } }
+    {
+        TcpWriter {
+            stream: Some(stream),
+            failures: 0,
+            is_stuck: false,
+        }
+    }
+}
+
+/// Waits until the socket takes bytes, again where a signal cut the call short.
+fn write_some<R: Wait>(rt: &R, stream: &mut TcpStream, piece: &[u8]) -> Result<usize, LinkFault>
+    ensures { IfOk result (λ n. n ≤ length piece.now) }
+{
+    for _ in rt.forever() {
+        match stream.write(piece) {
+            Ok(n) => return Ok(n),
+            Err(why) if why.kind() == ErrorKind::Interrupted => {}
+            Err(_) => break,
+        }
+    }
+    Err(LinkFault)
+}
+
+impl LinkWriter for TcpWriter {
+    ghost is_known = { false };
+
+    ghost bytes_written = { λ _. [] };
+
+    ghost failures = { λ w. w.failures };
+
+    ghost is_stuck = { λ w. w.is_stuck };
+
+    ghost is_finished = { λ w. w.is_finished };
+
+    /// Fails too where it waits for longer than the link's time limit, and where it was finished.
+    fn write<R: Wait>(&mut self, rt: &R, piece: &[u8]) -> Result<usize, LinkFault> {
+        let answer = match &mut self.stream {
+            Some(stream) => write_some(rt, stream, piece),
+            None => Err(LinkFault),
+        };
+        match answer {
+            Ok(n) => {
+                if n == 0 && !piece.is_empty() {
+                    self.is_stuck = true;
+                }
+            }
+            Err(_) => self.failures = self.failures.saturating_add(1),
+        }
+        answer
+    }
+
+    /// Says to the peer that no more bytes come.
+    fn finish<R: Wait>(&mut self, _rt: &R) {
+        if let Some(stream) = &self.stream {
+            // It fails where the peer is gone, who needs no word then.
+            let _ = stream.shutdown(Shutdown::Write);
+        }
+        self.stream = None;
+    }
+}

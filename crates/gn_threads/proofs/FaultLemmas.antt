@@ -1,0 +1,48 @@
+-- Faults that a run may meet.
+use Rattle.std.proofs.Common.{◌≡◌, ◌⊎◌, ◌<◌, ◌≤◌, ◌+◌, ℕ, Bool, true, false, Option, Some, None, Result, Ok, Err, if◌then◌else◌, refl, sym, subst, inl, inr, arith}
+use Rattle.std.specs.Prelude.{IfErr, IfSome, IsErrAnd}
+use Rattle.std.proofs.lemmas.Result.{err_from_is_err_and}
+use Rattle.std.proofs.lemmas.Grind.{common_steps}
+use Rattle.gn_threads.specs.declared.fault.RunFault.{RunFault}
+use Rattle.gn_threads.specs.declared.fault.RunFault.TheVariants.{BadWorkers, HistoryFull, NoMemory}
+use Rattle.gn_threads.specs.Faults.{IsFaultOf, stop_of}
+
+-- where a `?` hands a fault on, what is said of the fault is said of the result
+pub handed_on : {T : Type 0} (P : RunFault → Type 0) (r : Result T RunFault) (fault : RunFault) → IsErrAnd r (λ e. e ≡ fault) → P fault → IfErr r P
+handed_on P r fault at holds = let p = err_from_is_err_and r at in subst (λ x. IfErr x P) (sym p.1) (subst P (sym p.2) holds)
+
+-- the fault of a run whose bodies can't be had
+pub of_lost : (met_full : Bool) (fault : RunFault) → fault ≡ (if met_full then HistoryFull else NoMemory) → (links workers : ℕ) → IsFaultOf links workers fault
+of_lost true fault is links workers = subst (λ x. IsFaultOf links workers x) (sym is) tt
+of_lost false fault is links workers = subst (λ x. IsFaultOf links workers x) (sym is) tt
+
+-- the fault of a run of which a body was stopped
+pub of_stop : (full out : Bool) (fault : RunFault) → Some fault ≡ stop_of full out → (links workers : ℕ) → IsFaultOf links workers fault
+of_stop true out fault is links workers = let same : fault ≡ HistoryFull = cc in subst (λ x. IsFaultOf links workers x) (sym same) tt
+of_stop false true fault is links workers = let same : fault ≡ NoMemory = cc in subst (λ x. IsFaultOf links workers x) (sym same) tt
+of_stop false false fault is links workers = cc
+
+-- such a fault isn't that there are too few or too many workers
+pub not_bad_workers : (links workers : ℕ) (fault : RunFault) → IsFaultOf links workers fault → ¬ (fault ≡ BadWorkers)
+not_bad_workers links workers fault holds is = subst (λ x. IsFaultOf links workers x) is holds
+
+-- the least of two actors is below what both are below
+pub least_below : (a b : Option ℕ) (k n : ℕ) → IfSome a (λ i. i < n) → IfSome b (λ i. i < n) → (a ≡ Some k) ⊎ (b ≡ Some k) → k < n
+least_below a b k n low high either = elim either as (λ _. k < n) [
+  | inl is ↦ subst (λ o. IfSome o (λ i. i < n)) is low
+  | inr is ↦ subst (λ o. IfSome o (λ i. i < n)) is high
+]
+
+-- so is the one that is answered
+pub answer_below : (a b r : Option ℕ) (n : ℕ) → IfSome a (λ i. i < n) → IfSome b (λ i. i < n) → IfSome r (λ k. (a ≡ Some k) ⊎ (b ≡ Some k)) → IfSome r (λ k. k < n)
+answer_below a b None n low high either = tt
+answer_below a b (Some k) n low high either = least_below a b k n low high either
+
+-- an actor of this number is below
+pub number_below : (a : Option ℕ) (number n : ℕ) → number < n → IfSome a (λ i. i ≡ number) → IfSome a (λ i. i < n)
+number_below None number n below is = tt
+number_below (Some k) number n below is = omega (arith, below, is)
+
+pub below_more : (o : Option ℕ) (m n : ℕ) → m ≤ n → IfSome o (λ a. a < m) → IfSome o (λ a. a < n)
+below_more None m n more low = tt
+below_more (Some a) m n more low = omega (arith, more, low)

@@ -1,0 +1,116 @@
+-- From what each body keeps and what is compared of a report to the headline.
+use Rattle.std.proofs.Common.{◌≡◌, ◌==◌, ◌<◌, ◌+◌, ℕ, Bool, true, List, length, map, get_or, reverse, take, Option, Some, None, refl, sym, ap, ◌∙◌, subst, arith}
+use Rattle.std.specs.List.{list_all, sum_by}
+use Rattle.std.specs.Prelude.{IfSome}
+use Rattle.std.proofs.Math.Seq.{take-length}
+use Rattle.std.proofs.lemmas.Bool.{eqb-true}
+use Rattle.std.proofs.lemmas.List.{get_or-map, length-map}
+use Rattle.gn_rules.specs.declared.config.Config.{Config}
+use Rattle.gn_rules.specs.declared.receipt.Receipt.{Receipt}
+use Rattle.gn_rules.specs.declared.receipt.Step.{Step}
+use Rattle.gn_rules.specs.Legal.{IsLegal}
+use Rattle.gn_rules.specs.Mine.{mine}
+use Rattle.gn_shake.specs.declared.role.Role.{Role}
+use Rattle.gn_shake.specs.declared.role.Role.TheVariants.{Plain}
+use Rattle.gn_bodies.specs.Events.{connection_from, link_events_in, packets_in}
+use Rattle.gn_laws.specs.Owners.{LinkIsTold, packets_of, told_conn}
+use Rattle.gn_laws.specs.Tickets.{admitted, routed}
+use Rattle.gn_laws.specs.Runs.{RoutesAll}
+use Rattle.gn_laws.proofs.OwnerLemmas.{links_are_told}
+use Rattle.gn_laws.proofs.RunLemmas.{equal_counts_route_all}
+use Rattle.gn_run.specs.declared.report.LinkReport.{LinkReport}
+use Rattle.gn_run.specs.declared.report.Report.{Report}
+use Rattle.gn_run.specs.Actors.{actors}
+use Rattle.gn_run.specs.Ends.{is_balanced, is_settled}
+use Rattle.gn_run.specs.Flaw.{IsFlaw}
+use Rattle.gn_run.proofs.ConfirmedLemmas.{compared, house_at, reader_at, took_all, worker_at, writer_at}
+use Rattle.gn_threads.specs.Halves.{ReadsAs, WrittenHalf, ReadHalf, WritesAs}
+use Rattle.gn_threads.specs.Headline.{HasOwnSteps, LinkHolds, LinksHold, OthersRoute, RoutesEachOnce}
+use Rattle.gn_threads.specs.Kept.{EachKeeps, ReaderKeeps, WriterKeeps}
+use Rattle.gn_threads.specs.Gathered.{reader_reported, writer_reported}
+use Rattle.gn_threads.proofs.ReceiptLemmas.{connection_is_told, packets_are_told}
+
+-- the actor of a flaw is one of the run's
+pub flaw_below : {Rd W A : Type 0} (settled : ℕ → Bool) (roles : List Role) (report : Report Rd W A) (flaw : Option ℕ) → IsFlaw settled roles report flaw → IfSome flaw (λ a. a < actors report)
+flaw_below settled roles report None is = tt
+flaw_below settled roles report (Some a) is = is.0
+
+-- each actor's receipts are its own steps, and there are no others
+pub own_steps : {Rd W A : Type 0} (settled : ℕ → Bool) (roles : List Role) (report : Report Rd W A) → IsFlaw settled roles report None → HasOwnSteps report
+own_steps settled roles report all = record {
+  own = record {
+    reader = λ k d below. (reader_at settled roles report all k Plain d below).own;
+    writer = λ k d below. (writer_at settled roles report all k Plain d below).own;
+    worker = λ j d below. (worker_at settled roles report all j d below).own;
+    house = (house_at settled roles report all).own;
+  };
+  only = (house_at settled roles report all).only;
+}
+
+-- workers and the house are confirmed
+pub others_route : {Rd W A : Type 0} (roles : List Role) (report : Report Rd W A) → IsFlaw (is_settled report.history.items) roles report None → OthersRoute report
+others_route roles report all = record {
+  workers = λ j d below. worker_at (is_settled report.history.items) roles report all j d below;
+  house = house_at (is_settled report.history.items) roles report all;
+}
+
+-- each admitted ticket is routed once
+pub routes_each_once : {Rd W A : Type 0} (s : Config) (roles : List Role) (report : Report Rd W A) → IsLegal s (reverse report.history.items) → IsFlaw (is_balanced report.history.items) roles report None
+    → RoutesEachOnce report
+routes_each_once {Rd} {W} {A} s roles report legal all =
+    let steps = report.history.items in
+    let house = house_at (is_balanced steps) roles report all in
+    let counts : admitted (take (length steps) steps) ≡ routed (take (length steps) steps) = eqb-true (admitted (take (length steps) steps)) (routed (take (length steps) steps)) house.tickets in
+    equal_counts_route_all A s steps legal (subst (λ (x : List (Step A)). admitted x ≡ routed x) (take-length steps) counts)
+
+-- what the reader of a link kept, in the words of its report
+read_holds : {Rd W A : Type 0} (reads : Rd → ReadHalf) (roles : List Role) (links : List (LinkReport Rd W A)) → EachKeeps ReaderKeeps roles (map (reader_reported reads) links)
+    → (k : ℕ) (role : Role) (link : LinkReport Rd W A) → k < length links → (get_or links k link).conn ≡ told_conn (get_or links k link).reader_receipts.items
+    → ReadsAs (get_or roles k role) (get_or links k link).reader_end (get_or links k link).conn (link_events_in (get_or links k link).reader_receipts.items) (reads (get_or links k link).reader)
+read_holds {Rd} {W} {A} reads roles links kept k role link below conn =
+    let it = get_or links k link in
+    let there = get_or-map (reader_reported reads) links k link (reader_reported reads link) below in
+    let keeps : ReaderKeeps (get_or roles k role) (reader_reported reads it) = subst (λ body. ReaderKeeps (get_or roles k role) body) there (kept k role (reader_reported reads link) (omega (arith, below, length-map links (reader_reported reads)))) in
+    subst (λ o. ReadsAs (get_or roles k role) it.reader_end o (link_events_in it.reader_receipts.items) (reads it.reader)) (connection_is_told it.reader_receipts.items ∙ sym conn)
+    (record { row = keeps.0; counts = keeps.1 })
+
+-- the same of its writer
+written_holds : {Rd W A : Type 0} (writes : W → WrittenHalf) (roles : List Role) (links : List (LinkReport Rd W A)) → EachKeeps WriterKeeps roles (map (writer_reported writes) links)
+    → (k : ℕ) (role : Role) (link : LinkReport Rd W A) → k < length links
+    → WritesAs (get_or roles k role) (get_or links k link).writer_end (packets_of (get_or links k link).writer_receipts.items) (writes (get_or links k link).writer)
+written_holds {Rd} {W} {A} writes roles links kept k role link below =
+    let it = get_or links k link in
+    let there = get_or-map (writer_reported writes) links k link (writer_reported writes link) below in
+    let keeps : WriterKeeps (get_or roles k role) (writer_reported writes it) = subst (λ body. WriterKeeps (get_or roles k role) body) there (kept k role (writer_reported writes link) (omega (arith, below, length-map links (writer_reported writes)))) in
+    subst (λ ps. WritesAs (get_or roles k role) it.writer_end ps (writes it.writer)) (packets_are_told it.writer_receipts.items)
+    (record { row = keeps.0; hurt = keeps.1; finished = keeps.2 })
+
+-- a link's two bodies have receipts of all that the history says of its connection
+link_told : {Rd W A : Type 0} (s : Config) (settled : ℕ → Bool) (roles : List Role) (report : Report Rd W A) → IsLegal s (reverse report.history.items) → IsFlaw settled roles report None
+    → (k : ℕ) (link : LinkReport Rd W A) (c : ℕ) → k < length report.links.items → (get_or report.links.items k link).conn ≡ Some c
+    → LinkIsTold report.history.items k (length report.links.items + k) c
+link_told {Rd} {W} {A} s settled roles report legal all k link c below is =
+    let links = report.links.items in
+    let conns : List (Option ℕ) = map (λ (l : LinkReport Rd W A). l.conn) links in
+    let many : length conns ≡ length links = length-map links (λ (l : LinkReport Rd W A). l.conn) in
+    let conn : get_or conns k None ≡ Some c = get_or-map (λ (l : LinkReport Rd W A). l.conn) links k link None below ∙ is in
+    let told = links_are_told A s report.history.items conns k c legal (compared settled roles report all) (omega (arith, many, below)) conn in
+    let at : length conns + k ≡ length links + k = omega (arith, many) in
+    subst (λ w. LinkIsTold report.history.items k w c) at told
+
+pub links_hold : {Rd W A : Type 0} (s : Config) (reads : Rd → ReadHalf) (writes : W → WrittenHalf) (roles : List Role) (report : Report Rd W A) → IsLegal s (reverse report.history.items)
+    → IsFlaw (is_settled report.history.items) roles report None
+    → EachKeeps ReaderKeeps roles (map (reader_reported reads) report.links.items)
+    → EachKeeps WriterKeeps roles (map (writer_reported writes) report.links.items)
+    → LinksHold reads writes roles report
+links_hold {Rd} {W} {A} s reads writes roles report legal all readers writers = λ k role link below.
+    let settled = is_settled report.history.items in
+    let reader = reader_at settled roles report all k role link below in
+    record {
+      read = read_holds reads roles report.links.items readers k role link below reader.conn;
+      reader = reader;
+      written = written_holds writes roles report.links.items writers k role link below;
+      writer = writer_at settled roles report all k role link below;
+      told = λ c is. link_told s settled roles report legal all k link c below is;
+      took = λ c drained is. took_all s settled roles report legal all k below link c drained is;
+    }

@@ -1,0 +1,6 @@
+pub mod ConfigLemmas
+pub mod FaultLemmas
+pub mod WaitingLemmas
+pub mod KeptLemmas
+pub mod ReceiptLemmas
+pub mod HoldsLemmas

@@ -1,0 +1,73 @@
+-- Two words for the connection and for the packets of receipts, and the receipts of all actors, counted.
+use Rattle.std.proofs.Common.{◌≡◌, ◌+◌, ◌++◌, ℕ, List, [], ◌∷◌, length, map, Vec, Option, Some, None, refl, sym, ap, ◌∙◌, arith}
+use Rattle.std.specs.List.{filter_map, sum_by}
+use Rattle.std.specs.Option.{option_or}
+use Rattle.std.proofs.lemmas.List.Sums.{sum_by-append, sum_by-cons}
+use Rattle.gn_rules.specs.declared.receipt.Receipt.{Receipt}
+use Rattle.gn_rules.specs.declared.reply.Reply.{Reply}
+use Rattle.gn_rules.specs.declared.reply.Reply.TheVariants.{Connected, TooMany, Closed, Admitted, Busy, Routed, Dropped, Taken, Sent}
+use Rattle.gn_rules.specs.History.{connected_of, taken_of}
+use Rattle.gn_bodies.specs.Events.{connection_after, connection_from, packet_of, packets_in}
+use Rattle.gn_laws.specs.Owners.{packets_of, told_conn}
+use Rattle.gn_run.specs.declared.report.LinkReport.{LinkReport}
+use Rattle.gn_threads.specs.Gathered.{link_receipts, worker_receipts}
+
+stays : {A : Type 0} (c : ℕ) (receipts : List (Receipt A)) → connection_from (Some c) receipts ≡ Some c
+stays c [] = refl
+stays c (r ∷ receipts) = stays c receipts
+
+made_or_later : {A : Type 0} (made : Option ℕ) (receipts : List (Receipt A)) → connection_from None receipts ≡ told_conn receipts → connection_from made receipts ≡ option_or made (told_conn receipts)
+made_or_later None receipts later = later
+made_or_later (Some c) receipts later = stays c receipts
+
+-- the connection that the bodies speak of is the one that is compared
+pub connection_is_told : {A : Type 0} (receipts : List (Receipt A)) → connection_from None receipts ≡ told_conn receipts
+connection_is_told [] = refl
+connection_is_told (r ∷ receipts) = made_or_later (connected_of r.reply) receipts (connection_is_told receipts)
+
+taken_alone : {A : Type 0} (reply : Reply A) (receipts : List (Receipt A)) (r : Receipt A) → r.reply ≡ reply → packets_in receipts ≡ packets_of receipts → packets_in (r ∷ receipts) ≡ packets_of (r ∷ receipts)
+taken_alone (Connected c) receipts r is same = rw is same
+taken_alone TooMany receipts r is same = rw is same
+taken_alone (Closed n) receipts r is same = rw is same
+taken_alone (Admitted t) receipts r is same = rw is same
+taken_alone Busy receipts r is same = rw is same
+taken_alone (Routed sends local) receipts r is same = rw is same
+taken_alone (Dropped why) receipts r is same = rw is same
+taken_alone (Taken p) receipts r is same = rw is (ap (λ ps. p ∷ ps) same)
+taken_alone (Sent sends) receipts r is same = rw is same
+
+-- the packets that the bodies speak of are those that are compared
+pub packets_are_told : {A : Type 0} (receipts : List (Receipt A)) → packets_in receipts ≡ packets_of receipts
+packets_are_told [] = refl
+packets_are_told (r ∷ receipts) = taken_alone r.reply receipts r refl (packets_are_told receipts)
+
+sum_along : {X Y : Type 0} (f : Y → ℕ) (g : X → Y) (xs : List X) → sum_by f (map g xs) ≡ sum_by (λ x. f (g x)) xs
+sum_along f g [] = refl
+sum_along f g (x ∷ xs) = let a = sum_by-cons f (g x) (map g xs) in let b = sum_by-cons (λ y. f (g y)) x xs in let h = sum_along f g xs in omega (arith, a, b, h)
+
+sum_both : {X : Type 0} (f g : X → ℕ) (xs : List X) → sum_by f xs + sum_by g xs ≡ sum_by (λ x. f x + g x) xs
+sum_both f g [] = refl
+sum_both f g (x ∷ xs) =
+    let a = sum_by-cons f x xs in let b = sum_by-cons g x xs in let c = sum_by-cons (λ y. f y + g y) x xs in let h = sum_both f g xs in omega (arith, a, b, c, h)
+
+-- the receipts of all actors, counted by links, workers and the house
+pub receipts_counted : {Rd W A : Type 0} (links : List (LinkReport Rd W A)) (workers : List (Vec (Receipt A) A)) (house : List (Receipt A))
+    → sum_by (λ receipts. length receipts) (map (λ link. link.reader_receipts.items) links ++ (map (λ link. link.writer_receipts.items) links ++ (map (λ worker. worker.items) workers ++ house ∷ [])))
+    ≡ link_receipts links + worker_receipts workers + length house
+receipts_counted {Rd} {W} {A} links workers house =
+    let count : List (Receipt A) → ℕ = λ receipts. length receipts in
+    let reads : LinkReport Rd W A → List (Receipt A) = λ link. link.reader_receipts.items in
+    let writes : LinkReport Rd W A → List (Receipt A) = λ link. link.writer_receipts.items in
+    let works : Vec (Receipt A) A → List (Receipt A) = λ worker. worker.items in
+    let rs = map reads links in
+    let ws = map writes links in
+    let vs = map works workers in
+    let last : List (List (Receipt A)) = house ∷ [] in
+    let a = sum_by-append count rs (ws ++ (vs ++ last)) in
+    let b = sum_by-append count ws (vs ++ last) in
+    let c = sum_by-append count vs last in
+    let d = sum_along count reads links in
+    let e = sum_along count writes links in
+    let f = sum_along count works workers in
+    let g = sum_both (λ (link : LinkReport Rd W A). count (reads link)) (λ (link : LinkReport Rd W A). count (writes link)) links in
+    omega (arith, a, b, c, d, e, f, g)

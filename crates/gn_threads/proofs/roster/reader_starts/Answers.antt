@@ -1,0 +1,7 @@
+use Rattle.std.proofs.Common.{arith}
+use Rattle.std.specs.Vec.Iter.{into_iter_items}
+use Rattle.gn_threads.proofs.KeptLemmas.{all_started}
+use Rattle.gn_threads.proofs.roster.reader_starts.Goals as goal
+
+pub returns-clause-roles : goal.returns-clause-roles
+returns-clause-roles g c = all_started (λ s. s.role) (λ h. h.role) c.loop-half.starts.items (into_iter_items c.loop-half.half-iterator) _ (omega (arith, c.loop-half.half-iterator.rest.ok, c.in-None.ensures.steps)) c.loop-half.invariant.roles

@@ -1,0 +1,32 @@
+-- What a fault of a run says.
+use Rattle.std.specs.Prelude.{ℕ, ◌+◌, ◌<◌, ⊤, Bool, true, false, Option, Some, None, Result, Ok, Err}
+use Rattle.gn_bodies.specs.declared.ends.BodyFault.{BodyFault}
+use Rattle.gn_bodies.specs.declared.ends.BodyFault.TheVariants as body
+use Rattle.gn_threads.specs.declared.fault.RunFault.{RunFault}
+use Rattle.gn_threads.specs.declared.fault.RunFault.TheVariants.{BadWorkers, Link, HistoryFull, NoMemory, Stage, Audit}
+
+-- what a fault may be in a run of so many links and workers, where there are 1 to 16 workers: it isn't BadWorkers, and the link or
+-- the actor that it names is one of the run's
+abbrev pub IsFaultOf : ℕ → ℕ → RunFault → Type 0
+IsFaultOf links workers BadWorkers = ⊥
+IsFaultOf links workers (Link k) = k < links
+IsFaultOf links workers HistoryFull = ⊤
+IsFaultOf links workers NoMemory = ⊤
+IsFaultOf links workers (Stage fault) = ⊤
+IsFaultOf links workers (Audit a) = a < links + links + workers + 1
+
+-- whether a body ended because the history was full
+abbrev pub is_full : {E : Type 0} → Result E BodyFault → Bool
+is_full (Err body.HistoryFull) = true
+is_full end = false
+
+-- whether a body ended out of memory
+abbrev pub is_out_of_memory : {E : Type 0} → Result E BodyFault → Bool
+is_out_of_memory (Err body.NoMemory) = true
+is_out_of_memory end = false
+
+-- the fault of a run in which a body ended with a full history, or not, and a body ended out of memory, or not
+abbrev pub stop_of : Bool → Bool → Option RunFault
+stop_of true out_of_memory = Some HistoryFull
+stop_of false true = Some NoMemory
+stop_of false false = None

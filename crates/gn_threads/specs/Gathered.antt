@@ -1,0 +1,29 @@
+-- What is gathered of the bodies: links' reports and receipts.
+use Rattle.std.specs.Prelude.{ℕ, ◌+◌, List, length, Ok, Vec}
+use Rattle.std.specs.List.{sum_by}
+use Rattle.gn_rules.specs.declared.receipt.Receipt.{Receipt}
+use Rattle.gn_bodies.specs.declared.ends.ReaderEnd.{ReaderEnd}
+use Rattle.gn_bodies.specs.declared.ends.WriterEnd.{WriterEnd}
+use Rattle.gn_run.specs.declared.report.LinkReport.{LinkReport}
+use Rattle.gn_threads.specs.Halves.{WrittenHalf, ReadHalf}
+use Rattle.gn_threads.specs.Kept.{Ended}
+
+-- the body of a link's reader, as the link's report has it
+abbrev pub reader_reported : {Rd W A : Type 0} → (Rd → ReadHalf) → LinkReport Rd W A → Ended A ReaderEnd ReadHalf
+reader_reported reads link = record { receipts = link.reader_receipts.items; half = reads link.reader; end = Ok link.reader_end }
+
+-- the body of its writer
+abbrev pub writer_reported : {Rd W A : Type 0} → (W → WrittenHalf) → LinkReport Rd W A → Ended A WriterEnd WrittenHalf
+writer_reported writes link = record { receipts = link.writer_receipts.items; half = writes link.writer; end = Ok link.writer_end }
+
+-- how many receipts the two actors of a link have
+abbrev pub receipts_at : {Rd W A : Type 0} → LinkReport Rd W A → ℕ
+receipts_at link = length link.reader_receipts.items + length link.writer_receipts.items
+
+-- how many receipts the actors of these links have
+abbrev pub link_receipts : {Rd W A : Type 0} → List (LinkReport Rd W A) → ℕ
+link_receipts links = sum_by receipts_at links
+
+-- how many receipts these workers have
+abbrev pub worker_receipts : {A : Type 0} → List (Vec (Receipt A) A) → ℕ
+worker_receipts workers = sum_by (λ worker. length worker.items) workers

@@ -1,0 +1,68 @@
+-- What the two halves of a link tell once their bodies are done, and what each body says of its half.
+use Rattle.std.specs.Prelude.{◌≡◌, ℕ, Bool, true, List, Option}
+use Rattle.gn_wire.specs.Packet.{Packet}
+use Rattle.gn_rules.specs.declared.event.Event.{Event}
+use Rattle.gn_shake.specs.declared.role.Role.{Role}
+use Rattle.gn_bodies.specs.declared.ends.ReaderEnd.{ReaderEnd}
+use Rattle.gn_bodies.specs.declared.ends.WriterEnd.{WriterEnd}
+use Rattle.gn_bodies.specs.declared.ends.WriterEnd.TheVariants.{WriteFailed}
+use Rattle.gn_bodies.specs.ReaderRows.{ReaderRow, SourceRow}
+use Rattle.gn_bodies.specs.Written.{IsHurt, WriterRow}
+
+-- a half that was read: whether its bytes are known, and then these bytes, how many reads failed, how many gave bytes, and
+-- whether it ended
+pub record ReadHalf : Type 0 where
+  pub is_known : Bool
+  pub bytes : List ℕ
+  pub failures : ℕ
+  pub pieces : ℕ
+  pub has_ended : Bool
+
+-- a half that was written: whether its bytes are known, and then these bytes, how many writes failed, whether it is stuck,
+-- and whether it is finished
+pub record WrittenHalf : Type 0 where
+  pub is_known : Bool
+  pub bytes : List ℕ
+  pub failures : ℕ
+  pub is_stuck : Bool
+  pub is_finished : Bool
+
+-- what a reading half of this type tells
+abbrev pub reads_of :
+    {Rd : Type 0} → Bool → (Rd → List ℕ) → (Rd → ℕ) → (Rd → ℕ) → (Rd → Bool) → Rd → ReadHalf
+reads_of known bytes failures pieces ended half =
+    record {
+      is_known = known;
+      bytes = bytes half;
+      failures = failures half;
+      pieces = pieces half;
+      has_ended = ended half;
+    }
+
+-- what a writing half of this type tells
+abbrev pub writes_of :
+    {W : Type 0} → Bool → (W → List ℕ) → (W → ℕ) → (W → Bool) → (W → Bool) → W → WrittenHalf
+writes_of known bytes failures stuck finished half =
+    record {
+      is_known = known;
+      bytes = bytes half;
+      failures = failures half;
+      is_stuck = stuck half;
+      is_finished = finished half;
+    }
+
+-- what a reader's end says of the connection, of the events except the routes, and of the half that was read
+pub record ReadsAs {A : Type 0} (role : Role) (end : ReaderEnd) (conn : Option ℕ) (events : List (Event A)) (half : ReadHalf) : Type 0 where
+  -- its events and its bytes are as the table of ends says, where the bytes are known
+  pub row : half.is_known ≡ true → ReaderRow role end conn events half.bytes
+  -- the half ended, failed, or gave bytes as often as may be, where the end says so
+  pub counts : SourceRow end half.failures half.pieces half.has_ended
+
+-- what a writer's end says of the packets that were taken, and of the half that was written
+pub record WritesAs (role : Role) (end : WriterEnd) (packets : List Packet) (half : WrittenHalf) : Type 0 where
+  -- what was written are the opening text and the packets, all or up to where a write failed, where the bytes are known
+  pub row : half.is_known ≡ true → WriterRow end role packets half.bytes
+  -- a write failed, or took nothing, where the end says so
+  pub hurt : end ≡ WriteFailed → IsHurt half.failures half.is_stuck
+  -- it was finished
+  pub finished : half.is_finished ≡ true

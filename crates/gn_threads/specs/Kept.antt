@@ -1,0 +1,53 @@
+-- What the body of a thread promises of what it gives back.
+use Rattle.std.specs.Prelude.{◌≡◌, ◌<◌, ℕ, true, List, length, slice_index_or, IfOk, Result, None}
+use Rattle.gn_rules.specs.declared.receipt.Receipt.{Receipt}
+use Rattle.gn_shake.specs.declared.role.Role.{Role}
+use Rattle.gn_bodies.specs.declared.ends.BodyFault.{BodyFault}
+use Rattle.gn_bodies.specs.declared.ends.ReaderEnd.{ReaderEnd}
+use Rattle.gn_bodies.specs.declared.ends.WriterEnd.{WriterEnd}
+use Rattle.gn_bodies.specs.declared.reader.ReaderDone.{ReaderDone}
+use Rattle.gn_bodies.specs.declared.writer.WriterDone.{WriterDone}
+use Rattle.gn_bodies.specs.declared.ends.WriterEnd.TheVariants.{WriteFailed}
+use Rattle.gn_bodies.specs.ReaderRows.{ReaderRow, SourceRow}
+use Rattle.gn_bodies.specs.Written.{IsHurt, WriterRow}
+use Rattle.gn_bodies.specs.Events.{connection_from, link_events_in, packets_in}
+use Rattle.gn_threads.specs.declared.gather.HomedReader.{HomedReader}
+use Rattle.gn_threads.specs.Halves.{ReadHalf, WrittenHalf}
+
+-- a body as it ended: its receipts, what its half tells, and its end
+pub record Ended (A E H : Type 0) : Type 0 where
+  pub receipts : List (Receipt A)
+  pub half : H
+  pub end : Result E BodyFault
+
+-- what the body of a reader keeps: its events and bytes are as the table of ends says, and its half as the end says
+abbrev pub ReaderKeeps : {A : Type 0} → Role → Ended A ReaderEnd ReadHalf → Type 0
+ReaderKeeps role body =
+    IfOk body.end (λ end. body.half.is_known ≡ true
+    → ReaderRow role end (connection_from None body.receipts) (link_events_in body.receipts) body.half.bytes)
+    × IfOk body.end (λ end. SourceRow end body.half.failures body.half.pieces body.half.has_ended)
+
+-- what the body of a writer keeps: what was written is as the end says, and so is its half, which is finished
+abbrev pub WriterKeeps : {A : Type 0} → Role → Ended A WriterEnd WrittenHalf → Type 0
+WriterKeeps role body =
+    IfOk body.end (λ end. body.half.is_known ≡ true → WriterRow end role (packets_in body.receipts) body.half.bytes)
+    × IfOk body.end (λ end. end ≡ WriteFailed → IsHurt body.half.failures body.half.is_stuck)
+    × (body.half.is_finished ≡ true)
+
+-- each body keeps what it promises, with the role at its place
+abbrev pub EachKeeps : {B : Type 0} → (Role → B → Type 0) → List Role → List B → Type 0
+EachKeeps {B} keeps roles bodies =
+    (k : ℕ) (role : Role) (body : B) → k < length bodies
+    → keeps (slice_index_or roles k role) (slice_index_or bodies k body)
+
+-- a reader's body as it ended
+abbrev pub reader_ended : {Rd S L A : Type 0} → (Rd → ReadHalf) → ReaderDone Rd S L A → Ended A ReaderEnd ReadHalf
+reader_ended reads done = record { receipts = done.actor.receipts; half = reads done.reader; end = done.end }
+
+-- the same once its half of the stage went home
+abbrev pub reader_homed : {Rd L A : Type 0} → (Rd → ReadHalf) → HomedReader Rd L A → Ended A ReaderEnd ReadHalf
+reader_homed reads left = record { receipts = left.actor.receipts; half = reads left.reader; end = left.end }
+
+-- a writer's body as it ended
+abbrev pub writer_ended : {W L A : Type 0} → (W → WrittenHalf) → WriterDone W L A → Ended A WriterEnd WrittenHalf
+writer_ended writes done = record { receipts = done.actor.receipts; half = writes done.writer; end = done.end }

@@ -1,0 +1,10 @@
+pub mod Faults
+pub mod Halves
+pub mod Kept
+pub mod Joined
+pub mod Waiting
+pub mod Shares
+pub mod House
+pub mod Same
+pub mod Gathered
+pub mod Headline

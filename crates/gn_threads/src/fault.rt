@@ -1,0 +1,61 @@
+//! Why a run has no report.
+
+use gn_bodies::BodyFault;
+use gn_stage::StageFault;
+use std::alloc::{AllocError, AllocFailed};
+
+/// Why a run has no report: the first of this list that was met.
+#[derive(Clone, Copy, Debug, PartialEq, Eq)]
+pub enum RunFault {
+    /// Not 1 to 16 workers.
+    BadWorkers,
+    /// A link couldn't be split: its number, from 0 on.
+    Link(u32),
+    /// The history has as many steps as it may have.
+    HistoryFull,
+    /// Out of memory, or a thread couldn't be started.
+    NoMemory,
+    /// The stage queue couldn't be settled.
+    Stage(StageFault),
+    /// The least actor of which something isn't confirmed: by the history, by the configuration of the call, or by its own
+    /// body, which was refused what the rules don't refuse it.
+    Audit(u32),
+}
+
+impl From<AllocError> for RunFault {
+    ghost use Rattle.std.specs.Prelude.{◌≡◌};
+    ghost use Rattle.gn_threads.specs.declared.fault.RunFault.TheVariants.{NoMemory};
+
+    ghost from_gives = { λ _ e. e ≡ NoMemory };
+
+    fn from(_e: AllocError) -> RunFault {
+        RunFault::NoMemory
+    }
+}
+
+impl<T: Drop> From<AllocFailed<T>> for RunFault {
+    ghost use Rattle.std.specs.Prelude.{◌≡◌};
+    ghost use Rattle.gn_threads.specs.declared.fault.RunFault.TheVariants.{NoMemory};
+
+    ghost from_gives = { λ _ e. e ≡ NoMemory };
+
+    fn from(_e: AllocFailed<T>) -> RunFault {
+        RunFault::NoMemory
+    }
+}
+
+impl RunFault {
+    ghost use Rattle.std.specs.Prelude.{◌+◌, ◌<◌, ℕ};
+    ghost use Rattle.gn_threads.specs.Faults.{IsFaultOf};
+
+    /// The fault of a run in which the body of this actor ended so.
+    pub(crate) fn of_body(fault: BodyFault, actor: u32) -> RunFault
+        ensures { (links workers : ℕ) → actor < links + links + workers + 1 → IsFaultOf links workers result }
+    {
+        match fault {
+            BodyFault::HistoryFull => RunFault::HistoryFull,
+            BodyFault::NoMemory => RunFault::NoMemory,
+            BodyFault::Refused => RunFault::Audit(actor),
+        }
+    }
+}

@@ -1,0 +1,163 @@
+//! What is left of a run once its threads are joined.
+
+ghost use Rattle.std.specs.Prelude.{
+  ◌≡◌,
+  ◌+◌,
+  ◌*◌,
+  ◌≤◌,
+  ◌<◌,
+  ℕ,
+  None,
+  length,
+  map,
+  slice_index_or,
+  vec_len,
+  IfErr,
+  IfOk,
+  IfSome,
+  IsOk,
+};
+ghost use Rattle.gn_bodies.specs.declared.worker.WorkerDone.{WorkerDone};
+ghost use Rattle.gn_threads.specs.Faults.{IsFaultOf};
+ghost use Rattle.gn_threads.specs.Halves.{reads_of, writes_of};
+ghost use Rattle.gn_threads.specs.Headline.{Holds};
+ghost use Rattle.gn_threads.specs.Kept.{EachKeeps, ReaderKeeps, WriterKeeps, reader_ended, reader_homed, writer_ended};
+ghost use Rattle.gn_threads.specs.Shares.{parts_of};
+
+use crate::confirming::{least, report};
+use crate::done::{Done, first_refused};
+use crate::fault::RunFault;
+use crate::gather::{HomedReader, Worked, gather_links, gather_workers, send_home};
+use crate::house::route_all;
+use gn_bodies::{BodyFault, WriterDone};
+use gn_links::{LinkReader, LinkWriter};
+use gn_rules::{Config, RouterCore};
+use gn_run::Report;
+use gn_service::{Actor, Hub};
+use gn_shake::Role;
+use gn_stage::{Desk, IntakeHome, OutletHome, Site};
+use std::alloc::Allocator;
+use std::sync::Wait;
+use std::sync::ledger::Ledger;
+
+/// Settles the stage of a run whose threads are joined, has the house route the rest, and reports.
+pub(crate) fn finish<
+    L: Ledger,
+    S: Site,
+    C: RouterCore<A> + Drop,
+    Rd: LinkReader,
+    W: LinkWriter,
+    A: Allocator + Copy,
+    R: Wait,
+>(
+    rt: &R,
+    alloc: A,
+    config: &Config,
+    roles: &[Role],
+    hub: Hub<C, L, A>,
+    desk: Desk<S, A>,
+    done: Done<Rd, W, S, L, A>,
+    house: Actor<L, A>,
+) -> Result<Report<Rd, W, A>, RunFault>
+    requires parts { L.parts ≡ 2 * length roles.now + vec_len done.workers + 1 }
+    requires few { (length roles.now ≤ 256) × (vec_len done.workers ≤ 16) }
+    requires many { (vec_len done.readers ≡ length roles.now) × (vec_len done.writers ≡ length roles.now) }
+    requires readers { EachKeeps ReaderKeeps roles.now
+        (map (reader_ended (reads_of Rd.is_known Rd.bytes_read Rd.failures Rd.pieces Rd.has_ended))
+        done.readers.items) }
+    requires writers { EachKeeps WriterKeeps roles.now
+        (map (writer_ended (writes_of W.is_known W.bytes_written W.failures W.is_stuck W.is_finished))
+        done.writers.items) }
+    ensures fault { IfErr result (λ fault. IsFaultOf (length roles.now) (vec_len done.workers) fault) }
+    ensures holds { IfOk result (λ report. Holds
+        (reads_of Rd.is_known Rd.bytes_read Rd.failures Rd.pieces Rd.has_ended)
+        (writes_of W.is_known W.bytes_written W.failures W.is_stuck W.is_finished)
+        config.now roles.now report) }
+    ensures workers { IfOk result (λ report. vec_len report.workers ≡ vec_len done.workers) }
+    ensures clean { IfOk result (λ _. (k : ℕ) (d : WorkerDone S L A) → k < vec_len done.workers
+        → IsOk (slice_index_or done.workers.items k d).end) }
+{
+    if let Some(fault) = done.stop() {
+        return Err(fault);
+    }
+    let Done {
+        readers,
+        writers,
+        workers,
+    } = done;
+    let first = 2 * roles.len() as u32;
+    let number = first + workers.len() as u32;
+    let worker = first_refused(workers.as_slice(), first);
+    let (readers, intakes) = send_home(alloc, readers)?;
+    let (worked, outlets) = gather_workers(alloc, workers)?;
+    let (mut hub, mut house) = (hub, house);
+    let idle = settle(
+        rt, alloc, &mut hub, &mut house, desk, intakes, outlets, number,
+    )?;
+    let suspect = least(worker, idle);
+    assemble(
+        alloc, config, roles, hub, house, readers, writers, worked, suspect,
+    )
+}
+
+/// Settles the stage, and routes as the house, which is this actor, what it had left. The house's number, where it was refused
+/// a route.
+fn settle<L: Ledger, S: Site, C: RouterCore<A>, A: Allocator + Copy, R: Wait>(
+    rt: &R,
+    alloc: A,
+    hub: &mut Hub<C, L, A>,
+    house: &mut Actor<L, A>,
+    desk: Desk<S, A>,
+    intakes: Vec<IntakeHome<S, A>, A>,
+    outlets: Vec<OutletHome<S, A>, A>,
+    number: u32,
+) -> Result<Option<u32>, RunFault>
+    ensures house { IfOk result (λ refused. IfSome refused (λ a. a ≡ number)) }
+    ensures fault { IfErr result (λ fault. (links workers : ℕ)
+        → number < links + links + workers + 1 → IsFaultOf links workers fault) }
+{
+    match desk.settle(rt, alloc, intakes, outlets) {
+        Err(unsettled) => Err(RunFault::Stage(unsettled.fault)),
+        Ok(settled) => match route_all(hub, house, settled.drained) {
+            Ok(()) => Ok(None),
+            Err(BodyFault::Refused) => Ok(Some(number)),
+            Err(fault) => Err(RunFault::of_body(fault, number)),
+        },
+    }
+}
+
+/// The report of a run whose house is done. `suspect` is a worker or the house, where one was refused a route.
+///
+/// A reader that was refused one has no end that could be reported, so it is named here, whatever else isn't confirmed.
+fn assemble<L: Ledger, C: RouterCore<A> + Drop, Rd: LinkReader, W: LinkWriter, A: Allocator + Copy>(
+    alloc: A,
+    config: &Config,
+    roles: &[Role],
+    hub: Hub<C, L, A>,
+    house: Actor<L, A>,
+    readers: Vec<HomedReader<Rd, L, A>, A>,
+    writers: Vec<WriterDone<W, L, A>, A>,
+    worked: Worked<L, A>,
+    suspect: Option<u32>,
+) -> Result<Report<Rd, W, A>, RunFault>
+    requires parts { L.parts ≡ 2 * length roles.now + vec_len worked.receipts + 1 }
+    requires few { (length roles.now ≤ 256) × (vec_len worked.receipts ≤ 16) }
+    requires many { (vec_len readers ≡ length roles.now) × (vec_len writers ≡ length roles.now) }
+    requires readers { EachKeeps ReaderKeeps roles.now
+        (map (reader_homed (reads_of Rd.is_known Rd.bytes_read Rd.failures Rd.pieces Rd.has_ended))
+        readers.items) }
+    requires writers { EachKeeps WriterKeeps roles.now
+        (map (writer_ended (writes_of W.is_known W.bytes_written W.failures W.is_stuck W.is_finished))
+        writers.items) }
+    requires suspect { IfSome suspect (λ a. a < length roles.now + length roles.now + vec_len worked.receipts + 1) }
+    ensures fault { IfErr result (λ fault. IsFaultOf (length roles.now) (vec_len worked.receipts) fault) }
+    ensures holds { IfOk result (λ report. Holds
+        (reads_of Rd.is_known Rd.bytes_read Rd.failures Rd.pieces Rd.has_ended)
+        (writes_of W.is_known W.bytes_written W.failures W.is_stuck W.is_finished)
+        config.now roles.now report) }
+    ensures workers { IfOk result (λ report. vec_len report.workers ≡ vec_len worked.receipts) }
+    ensures clean { IfOk result (λ _. suspect ≡ None) }
+{
+    let linked = gather_links(alloc, readers, writers)?;
+    report(config, roles, hub, linked, worked, house, suspect)
+}

@@ -1,0 +1,187 @@
+//! The threads of a run that have started, and how they are joined.
+
+ghost use Rattle.std.specs.Prelude.{◌≡◌, [], ℕ, map, vec_len, if◌then◌else◌, IfErr, IfOk};
+ghost use Rattle.gn_threads.specs.declared.fault.RunFault.TheVariants.{HistoryFull, NoMemory};
+ghost use Rattle.gn_threads.specs.Faults.{IsFaultOf};
+ghost use Rattle.gn_threads.specs.Halves.{reads_of, writes_of};
+ghost use Rattle.gn_threads.specs.Joined.{AreJoined};
+ghost use Rattle.gn_threads.specs.Kept.{EachKeeps, ReaderKeeps, WriterKeeps, reader_ended, writer_ended};
+
+use crate::done::Done;
+use crate::ended::{Body, any_full};
+use crate::fault::RunFault;
+use crate::start::{ReaderHandle, WorkerHandle, WriterHandle};
+use gn_bodies::{ReaderDone, WorkerDone, WriterDone};
+use gn_links::{LinkReader, LinkWriter};
+use gn_rules::RouterCore;
+use gn_service::Service;
+use gn_stage::Site;
+use std::alloc::{Allocator, Global};
+use std::sync::Wait;
+use std::sync::ledger::Ledger;
+use std::thread;
+use std::thread::{Promise, PromisedHandle, Threads};
+
+/// What is known of threads that were joined where there was no memory for what they gave back.
+#[derive(Clone, Copy, Drop)]
+struct Lost {
+    /// Whether one of them met a full history.
+    met_full: bool,
+}
+
+/// Joins each of these threads, and lets go what it gave back.
+fn join_all<T: Body, P: Promise<T>, A: Allocator, R: Threads>(
+    rt: &R,
+    handles: Vec<PromisedHandle<T, P>, A>,
+) -> Lost {
+    let mut met_full = false;
+    for handle in handles {
+        let done = handle.join(rt);
+        met_full |= done.met_full();
+    }
+    Lost { met_full }
+}
+
+/// Whether one of these bodies met a full history.
+fn met_full<T: Body, A: Allocator>(joined: &Result<Vec<T, A>, Lost>) -> bool {
+    match joined {
+        Ok(done) => any_full(done.as_slice()),
+        Err(lost) => lost.met_full,
+    }
+}
+
+/// The fault of a run whose bodies can't be had, where one of them met a full history or not.
+fn fault_of(met_full: bool) -> RunFault
+    ensures { result ≡ (if met_full then HistoryFull else NoMemory) }
+{
+    if met_full {
+        RunFault::HistoryFull
+    } else {
+        RunFault::NoMemory
+    }
+}
+
+/// Joins the readers, also where there is no memory for what they give back.
+fn join_readers<Rd: LinkReader, S: Site, L: Ledger, A: Allocator + Copy, R: Threads>(
+    rt: &R,
+    handles: Vec<ReaderHandle<Rd, S, L, A>, A>,
+) -> Result<Vec<ReaderDone<Rd, S, L, A>, A>, Lost>
+    ensures many { IfOk result (λ done. vec_len done ≡ vec_len handles) }
+    ensures kept { IfOk result (λ done. EachKeeps ReaderKeeps (map (λ h. h.promise.role) handles.items)
+        (map (reader_ended (reads_of Rd.is_known Rd.bytes_read Rd.failures Rd.pieces Rd.has_ended)) done.items)) }
+{
+    match thread::join_promised(rt, handles) {
+        Ok(done) => Ok(done),
+        Err(refused) => Err(join_all(rt, refused.value)),
+    }
+}
+
+/// Joins the writers, also where there is no memory for what they give back.
+fn join_writers<W: LinkWriter, L: Ledger, A: Allocator + Copy, R: Threads>(
+    rt: &R,
+    handles: Vec<WriterHandle<W, L, A>, A>,
+) -> Result<Vec<WriterDone<W, L, A>, A>, Lost>
+    ensures many { IfOk result (λ done. vec_len done ≡ vec_len handles) }
+    ensures kept { IfOk result (λ done. EachKeeps WriterKeeps (map (λ h. h.promise.role) handles.items)
+        (map (writer_ended (writes_of W.is_known W.bytes_written W.failures W.is_stuck W.is_finished)) done.items)) }
+{
+    match thread::join_promised(rt, handles) {
+        Ok(done) => Ok(done),
+        Err(refused) => Err(join_all(rt, refused.value)),
+    }
+}
+
+/// Joins the workers, also where there is no memory for what they give back.
+fn join_workers<S: Site, L: Ledger, A: Allocator + Copy, R: Threads>(
+    rt: &R,
+    handles: Vec<WorkerHandle<S, L, A>, A>,
+) -> Result<Vec<WorkerDone<S, L, A>, A>, Lost>
+    ensures many { IfOk result (λ done. vec_len done ≡ vec_len handles) }
+{
+    match thread::join_promised(rt, handles) {
+        Ok(done) => Ok(done),
+        Err(refused) => Err(join_all(rt, refused.value)),
+    }
+}
+
+/// The threads of a run that have started.
+#[derive(Drop)]
+pub(crate) struct Handles<
+    Rd: LinkReader,
+    W: LinkWriter,
+    S: Site,
+    L: Ledger,
+    A: Allocator = Global,
+> {
+    pub readers: Vec<ReaderHandle<Rd, S, L, A>, A>,
+    pub writers: Vec<WriterHandle<W, L, A>, A>,
+    pub workers: Vec<WorkerHandle<S, L, A>, A>,
+}
+
+impl<Rd: LinkReader, W: LinkWriter, S: Site, L: Ledger, A: Allocator + Copy> Handles<
+    Rd,
+    W,
+    S,
+    L,
+    A,
+> {
+    /// No threads.
+    pub(crate) fn new(alloc: A) -> Self
+        ensures { (result.readers.items ≡ []) × (result.writers.items ≡ []) × (result.workers.items ≡ []) }
+    {
+        Handles {
+            readers: Vec::new(alloc),
+            writers: Vec::new(alloc),
+            workers: Vec::new(alloc),
+        }
+    }
+
+    /// Ends a run whose threads haven't all started: it has failed, and those that have are joined.
+    pub(crate) fn give_up<C: RouterCore<A> + Drop, R: Threads + Wait>(
+        self,
+        rt: &R,
+        service: &Service<C, L, A>,
+    ) -> RunFault
+        ensures { (links workers : ℕ) → IsFaultOf links workers result }
+    {
+        let Handles {
+            readers,
+            writers,
+            workers,
+        } = self;
+        service.fail(rt);
+        let readers = join_all(rt, readers);
+        let writers = join_all(rt, writers);
+        let workers = join_all(rt, workers);
+        fault_of(readers.met_full || writers.met_full || workers.met_full)
+    }
+
+    /// Joins all threads. Where there is no memory for what they give back, the fault is a full history that one of them met,
+    /// or else memory.
+    pub(crate) fn join<R: Threads>(self, rt: &R) -> Result<Done<Rd, W, S, L, A>, RunFault>
+        ensures joined { IfOk result (λ done. AreJoined
+            (reads_of Rd.is_known Rd.bytes_read Rd.failures Rd.pieces Rd.has_ended)
+            (writes_of W.is_known W.bytes_written W.failures W.is_stuck W.is_finished)
+            (map (λ h. h.promise.role) self.readers.items) (map (λ h. h.promise.role) self.writers.items)
+            (vec_len self.workers) done) }
+        ensures fault { IfErr result (λ fault. (links workers : ℕ) → IsFaultOf links workers fault) }
+    {
+        let Handles {
+            readers,
+            writers,
+            workers,
+        } = self;
+        let readers = join_readers(rt, readers);
+        let writers = join_writers(rt, writers);
+        let workers = join_workers(rt, workers);
+        let is_full = met_full(&readers) || met_full(&writers) || met_full(&workers);
+        let (Ok(readers), Ok(writers), Ok(workers)) = (readers, writers, workers) else {
+            return Err(fault_of(is_full));
+        };
+        Ok(Done {
+            readers,
+            writers,
+            workers,
+        })
+    }
+}

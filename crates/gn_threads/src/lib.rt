@@ -1,0 +1,24 @@
+//! The run: a thread for the reader and the writer of each link and for each worker, until all links are done; and its report.
+#![tactic(auto)]
+
+mod confirming;
+mod crew;
+mod done;
+mod ended;
+mod fault;
+mod finishing;
+mod gather;
+mod halves;
+mod house;
+mod joins;
+mod roster;
+mod runs;
+mod same;
+mod start;
+mod tally;
+#[cfg(test)]
+mod tests;
+mod waiting;
+
+pub use fault::RunFault;
+pub use runs::run;

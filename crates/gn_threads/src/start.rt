@@ -1,0 +1,336 @@
+//! How the threads of a run are started, and what each promises.
+
+ghost use Rattle.std.specs.Prelude.{◌≡◌, ◌+◌, ◌++◌, ◌∷◌, [], true, map, vec_len};
+ghost use Rattle.gn_links.specs.Halves.{IsNewReader, IsNewWriter};
+ghost use Rattle.gn_threads.specs.Halves.{reads_of, writes_of};
+ghost use Rattle.gn_threads.specs.Kept.{ReaderKeeps, WriterKeeps, reader_ended, writer_ended};
+
+use gn_bodies::{ReaderDone, WorkerDone, WriterDone, reader_body, worker_body, writer_body};
+use gn_links::{Gate, LinkReader, LinkWriter};
+use gn_rules::RouterCore;
+use gn_service::{Actor, Service};
+use gn_shake::Role;
+use gn_stage::{Intake, Outlet, Site};
+use std::alloc::{Allocator, Global};
+use std::sync::Wait;
+use std::sync::ledger::Ledger;
+use std::thread::{Promise, PromisedHandle, Scope, Threads};
+
+/// What the body of a reader starts from.
+#[derive(Drop)]
+pub(crate) struct ReaderStart<Rd: LinkReader, S: Site, L: Ledger, A: Allocator = Global> {
+    pub actor: Actor<L, A>,
+    pub link: u32,
+    pub role: Role,
+    pub reader: Rd,
+    pub intake: Intake<S, A>,
+    pub ghost new: { IsNewReader (Rd.bytes_read reader) (Rd.failures reader) (Rd.pieces reader) (Rd.has_ended reader) },
+    pub ghost number: { actor.number ≡ link },
+    pub ghost none: { actor.receipts ≡ [] },
+}
+
+/// What the body of a writer starts from.
+#[derive(Drop)]
+pub(crate) struct WriterStart<W: LinkWriter, L: Ledger, A: Allocator = Global> {
+    pub actor: Actor<L, A>,
+    pub link: u32,
+    pub role: Role,
+    pub writer: W,
+    pub ghost new: { IsNewWriter (W.bytes_written writer) (W.failures writer) (W.is_stuck writer) (W.is_finished writer) },
+    pub ghost none: { actor.receipts ≡ [] },
+}
+
+/// What the body of a worker starts from.
+#[derive(Drop)]
+pub(crate) struct WorkerStart<S: Site, L: Ledger, A: Allocator = Global> {
+    pub actor: Actor<L, A>,
+    pub worker: u32,
+    pub outlet: Outlet<S, A>,
+    pub ghost none: { actor.receipts ≡ [] },
+}
+
+/// The promise of a reader's thread: what its body keeps, on a link of this role.
+#[derive(Clone, Copy)]
+pub(crate) struct Reads {
+    pub role: Role,
+}
+
+impl<Rd: LinkReader, S: Site, L: Ledger, A: Allocator> Promise<ReaderDone<Rd, S, L, A>> for Reads {
+    ghost use Rattle.gn_threads.specs.Halves.{reads_of};
+    ghost use Rattle.gn_threads.specs.Kept.{ReaderKeeps, reader_ended};
+
+    ghost kept_by = { λ p r. ReaderKeeps p.role
+        (reader_ended (reads_of Rd.is_known Rd.bytes_read Rd.failures Rd.pieces Rd.has_ended) r) };
+}
+
+/// The promise of a writer's thread: what its body keeps, on a link of this role.
+#[derive(Clone, Copy)]
+pub(crate) struct Writes {
+    pub role: Role,
+}
+
+impl<W: LinkWriter, L: Ledger, A: Allocator> Promise<WriterDone<W, L, A>> for Writes {
+    ghost use Rattle.gn_threads.specs.Halves.{writes_of};
+    ghost use Rattle.gn_threads.specs.Kept.{WriterKeeps, writer_ended};
+
+    ghost kept_by = { λ p r. WriterKeeps p.role
+        (writer_ended (writes_of W.is_known W.bytes_written W.failures W.is_stuck W.is_finished) r) };
+}
+
+/// The promise of a worker's thread: it made no event but routes.
+#[derive(Clone, Copy)]
+pub(crate) struct Works;
+
+impl<S: Site, L: Ledger, A: Allocator> Promise<WorkerDone<S, L, A>> for Works {
+    ghost use Rattle.std.specs.Prelude.{◌≡◌, []};
+    ghost use Rattle.gn_bodies.specs.Events.{link_events};
+
+    ghost kept_by = { λ p r. link_events r.actor ≡ [] };
+}
+
+pub(crate) type ReaderHandle<Rd, S, L, A> = PromisedHandle<ReaderDone<Rd, S, L, A>, Reads>;
+
+pub(crate) type WriterHandle<W, L, A> = PromisedHandle<WriterDone<W, L, A>, Writes>;
+
+pub(crate) type WorkerHandle<S, L, A> = PromisedHandle<WorkerDone<S, L, A>, Works>;
+
+/// The body of a reader, from its start.
+fn read_link<
+    Rd: LinkReader,
+    S: Site,
+    C: RouterCore<A> + Drop,
+    L: Ledger,
+    A: Allocator + Copy,
+    R: Wait,
+>(
+    rt: &R,
+    alloc: A,
+    service: &Service<C, L, A>,
+    start: ReaderStart<Rd, S, L, A>,
+) -> ReaderDone<Rd, S, L, A>
+    ensures { ReaderKeeps start.role
+        (reader_ended (reads_of Rd.is_known Rd.bytes_read Rd.failures Rd.pieces Rd.has_ended) result) }
+{
+    let ReaderStart {
+        actor,
+        link,
+        role,
+        reader,
+        intake,
+    } = start;
+    reader_body(rt, alloc, service, actor, link, role, reader, intake)
+}
+
+/// Starts a reader. False where no thread can be made.
+fn start_reader<
+    's,
+    E: 's,
+    Rd: LinkReader + Send + 's,
+    S: Site + Send + 's,
+    C: RouterCore<A> + Drop + Send + 's,
+    L: Ledger + Send + Sync + 's,
+    A: Allocator + Copy + Send + Sync + 's,
+    R: Threads + Wait + Sync + 's,
+>(
+    rt: &'s R,
+    alloc: A,
+    scope: &'s Scope<'s, E>,
+    service: &'s Service<C, L, A>,
+    start: ReaderStart<Rd, S, L, A>,
+    handles: &mut Vec<ReaderHandle<Rd, S, L, A>, A>,
+) -> bool
+    ensures { result ≡ true → map (λ h. h.promise.role) handles.new.items
+        ≡ map (λ h. h.promise.role) handles.old.items ++ start.role ∷ [] }
+{
+    if handles.reserve(1).is_err() {
+        return false;
+    }
+    let role = start.role;
+    match scope.spawn_with(Reads { role }, move || read_link(rt, alloc, service, start)) {
+        Ok(handle) => {
+            handles.push_reserved(handle);
+            true
+        }
+        Err(_) => false,
+    }
+}
+
+/// Starts all readers, in order. False where a thread can't be made: then those before it have started.
+pub(crate) fn start_readers<
+    's,
+    E: 's,
+    Rd: LinkReader + Send + 's,
+    S: Site + Send + 's,
+    C: RouterCore<A> + Drop + Send + 's,
+    L: Ledger + Send + Sync + 's,
+    A: Allocator + Copy + Send + Sync + 's,
+    R: Threads + Wait + Sync + 's,
+>(
+    rt: &'s R,
+    alloc: A,
+    scope: &'s Scope<'s, E>,
+    service: &'s Service<C, L, A>,
+    starts: Vec<ReaderStart<Rd, S, L, A>, A>,
+    handles: &mut Vec<ReaderHandle<Rd, S, L, A>, A>,
+) -> bool
+    requires none { handles.old.items ≡ [] }
+    ensures { result ≡ true → map (λ h. h.promise.role) handles.new.items ≡ map (λ s. s.role) starts.items }
+{
+    for start in starts {
+        if !start_reader(rt, alloc, scope, service, start, handles) {
+            return false;
+        }
+    }
+    true
+}
+
+/// The body of a writer, from its start.
+fn write_link<W: LinkWriter, C: RouterCore<A> + Drop, L: Ledger, A: Allocator + Copy, R: Wait>(
+    rt: &R,
+    alloc: A,
+    service: &Service<C, L, A>,
+    start: WriterStart<W, L, A>,
+) -> WriterDone<W, L, A>
+    ensures { WriterKeeps start.role
+        (writer_ended (writes_of W.is_known W.bytes_written W.failures W.is_stuck W.is_finished) result) }
+{
+    let WriterStart {
+        actor,
+        link,
+        role,
+        writer,
+    } = start;
+    writer_body(rt, alloc, service, actor, link, role, writer)
+}
+
+/// Starts a writer. False where no thread can be made.
+fn start_writer<
+    's,
+    E: 's,
+    W: LinkWriter + Send + 's,
+    C: RouterCore<A> + Drop + Send + 's,
+    L: Ledger + Send + Sync + 's,
+    A: Allocator + Copy + Send + Sync + 's,
+    R: Threads + Wait + Sync + 's,
+>(
+    rt: &'s R,
+    alloc: A,
+    scope: &'s Scope<'s, E>,
+    service: &'s Service<C, L, A>,
+    start: WriterStart<W, L, A>,
+    handles: &mut Vec<WriterHandle<W, L, A>, A>,
+) -> bool
+    ensures { result ≡ true → map (λ h. h.promise.role) handles.new.items
+        ≡ map (λ h. h.promise.role) handles.old.items ++ start.role ∷ [] }
+{
+    if handles.reserve(1).is_err() {
+        return false;
+    }
+    let role = start.role;
+    match scope.spawn_with(
+        Writes { role },
+        move || write_link(rt, alloc, service, start),
+    ) {
+        Ok(handle) => {
+            handles.push_reserved(handle);
+            true
+        }
+        Err(_) => false,
+    }
+}
+
+/// Starts all writers, in order. False where a thread can't be made: then those before it have started.
+pub(crate) fn start_writers<
+    's,
+    E: 's,
+    W: LinkWriter + Send + 's,
+    C: RouterCore<A> + Drop + Send + 's,
+    L: Ledger + Send + Sync + 's,
+    A: Allocator + Copy + Send + Sync + 's,
+    R: Threads + Wait + Sync + 's,
+>(
+    rt: &'s R,
+    alloc: A,
+    scope: &'s Scope<'s, E>,
+    service: &'s Service<C, L, A>,
+    starts: Vec<WriterStart<W, L, A>, A>,
+    handles: &mut Vec<WriterHandle<W, L, A>, A>,
+) -> bool
+    requires none { handles.old.items ≡ [] }
+    ensures { result ≡ true → map (λ h. h.promise.role) handles.new.items ≡ map (λ s. s.role) starts.items }
+{
+    for start in starts {
+        if !start_writer(rt, alloc, scope, service, start, handles) {
+            return false;
+        }
+    }
+    true
+}
+
+/// Starts a worker. False where no thread can be made.
+fn start_worker<
+    's,
+    E: 's,
+    S: Site + Send + 's,
+    C: RouterCore<A> + Drop + Send + 's,
+    L: Ledger + Send + Sync + 's,
+    G: Gate + Sync + 's,
+    A: Allocator + Copy + Send + Sync + 's,
+    R: Threads + Wait + Sync + 's,
+>(
+    rt: &'s R,
+    scope: &'s Scope<'s, E>,
+    service: &'s Service<C, L, A>,
+    gate: &'s G,
+    start: WorkerStart<S, L, A>,
+    handles: &mut Vec<WorkerHandle<S, L, A>, A>,
+) -> bool
+    ensures { result ≡ true → vec_len handles.new ≡ vec_len handles.old + 1 }
+{
+    if handles.reserve(1).is_err() {
+        return false;
+    }
+    let WorkerStart {
+        actor,
+        worker,
+        outlet,
+    } = start;
+    match scope.spawn_with(Works, move || {
+        worker_body(rt, service, actor, worker, gate, outlet)
+    }) {
+        Ok(handle) => {
+            handles.push_reserved(handle);
+            true
+        }
+        Err(_) => false,
+    }
+}
+
+/// Starts all workers, in order. False where a thread can't be made: then those before it have started.
+pub(crate) fn start_workers<
+    's,
+    E: 's,
+    S: Site + Send + 's,
+    C: RouterCore<A> + Drop + Send + 's,
+    L: Ledger + Send + Sync + 's,
+    G: Gate + Sync + 's,
+    A: Allocator + Copy + Send + Sync + 's,
+    R: Threads + Wait + Sync + 's,
+>(
+    rt: &'s R,
+    scope: &'s Scope<'s, E>,
+    service: &'s Service<C, L, A>,
+    gate: &'s G,
+    starts: Vec<WorkerStart<S, L, A>, A>,
+    handles: &mut Vec<WorkerHandle<S, L, A>, A>,
+) -> bool
+    requires none { handles.old.items ≡ [] }
+    ensures { result ≡ true → vec_len handles.new ≡ vec_len starts }
+{
+    for start in starts {
+        if !start_worker(rt, scope, service, gate, start, handles) {
+            return false;
+        }
+    }
+    true
+}

@@ -1,0 +1,123 @@
+//! Small runs over memory links.
+
+use crate::*;
+use bytes::Bytes;
+use gn_bodies::{ReaderEnd, WriterEnd};
+use gn_links::{Gate, MemoryLink, MemoryReader, MemoryWriter, NoGate};
+use gn_router::TableRouter;
+use gn_rules::{Config, Own};
+use gn_run::Report;
+use gn_shake::Role;
+use gn_wire::{Descriptor, Guid, Kind};
+use std::alloc::Global;
+use std::sync::{Barrier, Wait};
+use std::test::Fail;
+use std::thread::Threads;
+
+const OWN: Own = Own {
+    servent: Guid([0xee; 16]),
+    ip: [127, 0, 0, 1],
+    port: 6346,
+    files: 5,
+    kbytes: 40,
+};
+
+/// Pings with these numbers in their IDs, TTL 7 and Hops 0, one after another.
+fn pings(alloc: Global, link: u8, count: u8) -> Result<Vec<u8>, Fail> {
+    let mut bytes = Vec::new(alloc);
+    for number in 0..count {
+        let mut id = [0xa1; 16];
+        id[0] = link;
+        id[1] = number;
+        let payload = Bytes::copy_from_slice(alloc, &[])?;
+        let ping = Descriptor::new(Guid(id), Kind::Ping, 7, 0, payload).map_err(|_| "a Ping")?;
+        ping.write_to(&mut bytes)?;
+    }
+    Ok(bytes)
+}
+
+/// Plain links of so many Pings each.
+fn links_of(alloc: Global, links: u8, count: u8) -> Result<Vec<MemoryLink>, Fail> {
+    let mut all = Vec::new(alloc);
+    for link in 0..links {
+        all.push(MemoryLink::new(Role::Plain, pings(alloc, link, count)?, 4096))?;
+    }
+    Ok(all)
+}
+
+/// A gate that lets workers through where two of them are inside at once.
+#[derive(Drop)]
+struct Pairs {
+    barrier: Barrier,
+}
+
+impl Gate for Pairs {
+    fn enter<R: Wait>(&self, rt: &R, _worker: u32, _ticket: u32) {
+        self.barrier.wait(rt);
+    }
+}
+
+/// What a run over the table router gives.
+fn table_run<G: Gate + Sync, R: Threads + Wait + Sync>(
+    rt: &R,
+    alloc: Global,
+    links: Vec<MemoryLink>,
+    workers: u32,
+    gate: &G,
+) -> Result<Report<MemoryReader, MemoryWriter>, RunFault> {
+    let Ok(config) = Config::new(8, 1024, 64, 1024, 1024, 100_000, OWN) else {
+        return Err(RunFault::NoMemory);
+    };
+    if links.len() > 256 {
+        return Err(RunFault::NoMemory);
+    }
+    run::<TableRouter, _, _, _, _>(rt, alloc, &config, links, workers, gate)
+}
+
+#[test]
+fn one_link_and_one_worker(rt: HostRuntime) -> Result<(), Fail> {
+    let links = links_of(rt.alloc(), 1, 1)?;
+    let report = table_run(&rt, rt.alloc(), links, 1, &NoGate).map_err(|_| "a report")?;
+    assert_eq!(rt; report.history.len(), 5);
+    assert_eq!(rt; report.links.len(), 1);
+    for link in &report.links {
+        assert_eq!(rt; link.conn, Some(1));
+        assert_eq!(rt; link.reader_end, ReaderEnd::Bytes);
+        assert_eq!(rt; link.writer_end, WriterEnd::Drained);
+    }
+    Ok(())
+}
+
+#[test]
+fn six_links_of_a_hundred_pings(rt: HostRuntime) -> Result<(), Fail> {
+    let links = links_of(rt.alloc(), 6, 100)?;
+    let report = table_run(&rt, rt.alloc(), links, 4, &NoGate).map_err(|_| "a report")?;
+    assert_eq!(rt; report.stats.connected, 6);
+    assert_eq!(rt; report.stats.admitted, 600);
+    assert_eq!(rt; report.stats.routed, 600);
+    assert_eq!(rt; report.stats.closed, 6);
+    Ok(())
+}
+
+#[test]
+fn two_workers_meet(rt: HostRuntime) -> Result<(), Fail> {
+    let gate = Pairs {
+        barrier: Barrier::new(2),
+    };
+    let links = links_of(rt.alloc(), 1, 2)?;
+    let report = table_run(&rt, rt.alloc(), links, 2, &gate).map_err(|_| "a report")?;
+    assert_eq!(rt; report.workers.len(), 2);
+    for receipts in &report.workers {
+        assert_eq!(rt; receipts.len(), 1);
+    }
+    Ok(())
+}
+
+#[test]
+fn none_and_seventeen_workers(rt: HostRuntime) -> Result<(), Fail> {
+    for workers in [0, 17] {
+        let ran = table_run(&rt, rt.alloc(), Vec::new(rt.alloc()), workers, &NoGate);
+        assert!(rt; matches!(ran, Err(RunFault::BadWorkers)));
+    }
+    Ok(())
+}
