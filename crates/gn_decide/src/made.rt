@@ -5,7 +5,7 @@ ghost use Rattle.gn_wire.specs.Keys.{is_same_packet};
 ghost use Rattle.gn_rules.specs.Sending as sending;
 
 use gn_payload::{Pong, encode_pong};
-use gn_rules::{Own, forward_of, own_pong};
+use gn_rules::{Own, own_pong};
 use gn_wire::{Descriptor, Header, Key, Kind};
 use std::alloc::{AllocError, Allocator};
 use std::marker::Model;
@@ -58,9 +58,9 @@ impl<'a, A: Allocator> Forwarded<'a, A> {
     fn make(&self) -> Result<Descriptor<A>, AllocError>
         ensures { IfOk result (λ packet. packet ≡ self.now) }
     {
-        match forward_of(self.packet)? {
-            Some(forward) => Ok(forward),
-            None => unreachable!(),
+        match Descriptor::from_header(self.header, self.packet.payload().clone()?) {
+            Ok(forward) => Ok(forward),
+            Err(_) => unreachable!(),
         }
     }
 }

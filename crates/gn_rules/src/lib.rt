@@ -24,7 +24,7 @@ pub use laws::{
     output_is_untaken, runs_agree, runs_agree_so_far, runs_stay_legal, servent_route_is_last,
 };
 pub use legality::Legality;
-pub use packets::{forward_of, may_originate, own_pong};
+pub use packets::{may_originate, own_pong};
 pub use receipt::{Receipt, Step};
 pub use refusal::Refusal;
 pub use reply::{Decision, DropReason, Reply};

@@ -1,7 +1,6 @@
-//! The packets that a router makes of a descriptor that it routes.
+//! The own Pong to a Ping, and what the local servent may send.
 
-ghost use Rattle.std.specs.Prelude.{◌≡◌, true, false, IfOk, MatchOption};
-ghost use Rattle.gn_wire.specs.Forward as wire;
+ghost use Rattle.std.specs.Prelude.{◌≡◌, IfOk};
 ghost use Rattle.gn_rules.specs.Answer as answer;
 ghost use Rattle.gn_rules.specs.Sending as sending;
 
@@ -37,20 +36,6 @@ pub fn own_pong<A: Allocator + Copy>(
         Bytes::copy_from_slice(alloc, &payload)?,
     ) {
         Ok(pong) => Ok(pong),
-        Err(_) => unreachable!(),
-    }
-}
-
-/// The descriptor as it is forwarded, or `None` where it is expired. An `Err` is out of memory.
-pub fn forward_of<A: Allocator>(packet: &Descriptor<A>) -> Result<Option<Descriptor<A>>, AllocError>
-    ensures { IfOk result (λ forward. MatchOption forward (wire.is_expired packet.now ≡ true)
-        (λ d. (wire.is_expired packet.now ≡ false) × (d ≡ wire.forward_of packet.now))) }
-{
-    let Some(header) = packet.forwarded() else {
-        return Ok(None);
-    };
-    match Descriptor::from_header(header, packet.payload().clone()?) {
-        Ok(forward) => Ok(Some(forward)),
         Err(_) => unreachable!(),
     }
 }
