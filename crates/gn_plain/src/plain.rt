@@ -5,7 +5,7 @@ ghost use Rattle.gn_rules.specs.declared.config.Config.{Config};
 ghost use Rattle.gn_plain.specs.Kept.{IsKept};
 
 use crate::counting::stats_in;
-use crate::flying::{follow, push_reserved};
+use crate::flying::follow;
 use crate::live;
 use crate::past::Past;
 use gn_decide::{Lookup, find, find_checked};
@@ -71,7 +71,7 @@ impl<A: Allocator + Copy> PlainRouter<A> {
         self.history.reserve(1)?;
         self.flying.reserve(1)?;
         follow(&mut self.flying, event, &receipt.reply);
-        push_reserved(&mut self.history, step);
+        self.history.push_reserved(step);
         Ok(receipt)
     }
 }

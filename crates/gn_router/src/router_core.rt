@@ -1,6 +1,6 @@
 //! The table router keeps what every router promises.
 
-ghost use Rattle.std.specs.Prelude.{◌≡◌, ◌<◌, ◌∷◌, ◌++◌, [], Ok, length, vec_capacity, vec_len, IfOk, OnErr};
+ghost use Rattle.std.specs.Prelude.{◌≡◌, ◌∷◌, ◌++◌, [], Ok, length, IfOk, OnErr};
 ghost use Rattle.gn_rules.specs.Answer.{answer};
 ghost use Rattle.gn_router.specs.Tabled.{past_of};
 
@@ -31,19 +31,8 @@ impl<A: Allocator + Copy> TableRouter<A> {
         let (step, receipt) = Step::with_receipt(self.alloc, index, actor, event, reply)?;
         self.history.reserve(1)?;
         self.tables.follow(self.alloc, event, &receipt.reply)?;
-        push_reserved(&mut self.history, step);
+        self.history.push_reserved(step);
         Ok(receipt)
-    }
-}
-
-/// Puts an item at the end, where there is room.
-fn push_reserved<T: Drop, A: Allocator>(items: &mut Vec<T, A>, item: T)
-    requires { vec_len items.old < vec_capacity items.old }
-    ensures { items.new.items ≡ items.old.items ++ item ∷ [] }
-{
-    match items.push(item) {
-        Ok(()) => {}
-        Err(_) => unreachable!(),
     }
 }
 
