@@ -1,6 +1,7 @@
 //! Events.
+#![tactic(auto, using(crate::proofs::KeptLemmas::kept))]
 
-ghost use Rattle.std.specs.Prelude.{◌≡◌, ◌++◌, OnOk};
+ghost use Rattle.std.specs.Prelude.{◌≡◌, ◌++◌, length, take, OnOk, OnErr};
 ghost use Rattle.gn_text.specs.Steps.{event_text};
 
 use crate::packet::write_packet;
@@ -13,7 +14,8 @@ pub(crate) fn write_event<A: Allocator + Copy, B: Allocator>(
     out: &mut Vec<u8, B>,
     event: &Event<A>,
 ) -> Result<(), AllocError>
-    ensures { OnOk result (out.new.items ≡ out.old.items ++ event_text event.now) }
+    ensures ok { OnOk result (out.new.items ≡ out.old.items ++ event_text event.now) }
+    ensures err { OnErr result (take (length out.old.items) out.new.items ≡ out.old.items) }
 {
     match event {
         Event::Connect => out.extend_from_slice(b"connect"),

@@ -1,6 +1,7 @@
 //! Descriptors in hex, and the packets that a reply sends.
+#![tactic(auto, using(crate::proofs::KeptLemmas::kept))]
 
-ghost use Rattle.std.specs.Prelude.{◌≡◌, ◌++◌, OnOk};
+ghost use Rattle.std.specs.Prelude.{◌≡◌, ◌++◌, length, take, OnOk, OnErr};
 ghost use Rattle.gn_text.specs.Steps.{packet_text, sends_text};
 
 use crate::push::{push_hex, push_number};
@@ -13,7 +14,8 @@ pub(crate) fn write_packet<A: Allocator + Copy, B: Allocator>(
     out: &mut Vec<u8, B>,
     packet: &Descriptor<A>,
 ) -> Result<(), AllocError>
-    ensures { OnOk result (out.new.items ≡ out.old.items ++ packet_text packet.now) }
+    ensures ok { OnOk result (out.new.items ≡ out.old.items ++ packet_text packet.now) }
+    ensures err { OnErr result (out.new.items ≡ out.old.items) }
 {
     let mut bytes = Vec::new(alloc);
     packet.write_to(&mut bytes)?;
@@ -25,7 +27,8 @@ pub(crate) fn write_sends<A: Allocator + Copy, B: Allocator>(
     out: &mut Vec<u8, B>,
     sends: &[Sending<A>],
 ) -> Result<(), AllocError>
-    ensures { OnOk result (out.new.items ≡ out.old.items ++ sends_text sends.now) }
+    ensures ok { OnOk result (out.new.items ≡ out.old.items ++ sends_text sends.now) }
+    ensures err { OnErr result (take (length out.old.items) out.new.items ≡ out.old.items) }
 {
     for sending in sends {
         out.extend_from_slice(b" ")?;

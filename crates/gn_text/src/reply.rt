@@ -1,12 +1,14 @@
 //! Replies.
+#![tactic(auto, using(crate::proofs::KeptLemmas::kept))]
 
-ghost use Rattle.std.specs.Prelude.{◌≡◌, ◌++◌, OnOk, OnErr};
+ghost use Rattle.std.specs.Prelude.{◌≡◌, ◌++◌, length, take, OnOk, OnErr};
 ghost use Rattle.gn_text.specs.Steps.{place_text, reason_text, reply_text};
 
 use crate::packet::{write_packet, write_sends};
 use crate::push::push_number;
 use crate::statistics::counter_name;
 use gn_rules::{Counter, DropReason, Reply};
+use gn_wire::whole_or_none;
 use std::alloc::{AllocError, Allocator};
 
 fn reason_name(reason: DropReason) -> &'static [u8]
@@ -21,12 +23,13 @@ fn place_name(local: bool) -> &'static [u8]
     if local { b"local" } else { b"away" }
 }
 
-pub(crate) fn write_reply<A: Allocator + Copy, B: Allocator>(
+fn write_reply<A: Allocator + Copy, B: Allocator>(
     alloc: A,
     out: &mut Vec<u8, B>,
     reply: &Reply<A>,
 ) -> Result<(), AllocError>
-    ensures { OnOk result (out.new.items ≡ out.old.items ++ reply_text reply.now) }
+    ensures ok { OnOk result (out.new.items ≡ out.old.items ++ reply_text reply.now) }
+    ensures err { OnErr result (take (length out.old.items) out.new.items ≡ out.old.items) }
 {
     match reply {
         Reply::Connected(c) => {
@@ -72,7 +75,7 @@ pub fn push_reply<A: Allocator + Copy, B: Allocator>(
     ensures ok { OnOk result (out.new.items ≡ out.old.items ++ reply_text reply.now) }
     ensures err { OnErr result (out.new.items ≡ out.old.items) }
 {
-    let mut text = Vec::new(alloc);
-    write_reply(alloc, &mut text, reply)?;
-    out.extend_from_slice(&text)
+    let start = out.len();
+    let written = write_reply(alloc, out, reply);
+    whole_or_none(out, start, written)
 }

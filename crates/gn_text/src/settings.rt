@@ -1,6 +1,7 @@
 //! The lines of a configuration, read and written.
+#![tactic(auto, using(crate::proofs::KeptLemmas::kept))]
 
-ghost use Rattle.std.specs.Prelude.{◌≡◌, map, option_map, IfOk, ◌++◌, OnOk, OnErr};
+ghost use Rattle.std.specs.Prelude.{◌≡◌, length, map, option_map, take, IfOk, ◌++◌, OnOk, OnErr};
 ghost use Rattle.gn_text.specs.Settings.{config_of, numbers_of, numbers_parsed, numbers_within, own_of, servent_parsed, config_text, field_text, own_text, settings_text};
 
 use crate::address::ip;
@@ -9,7 +10,7 @@ use crate::numbers::{number, number_u16};
 use crate::octets::guid;
 use crate::push::{push_hex, push_ip, push_number};
 use gn_rules::{Config, Own};
-use gn_wire::Guid;
+use gn_wire::{Guid, whole_or_none};
 use std::alloc::{AllocError, Allocator};
 
 /// A servent of which nothing is known yet.
@@ -98,14 +99,18 @@ pub fn read_own<A: Allocator + Copy>(alloc: A, fields: &[&[u8]]) -> Result<Optio
 }
 
 fn write_field<B: Allocator>(out: &mut Vec<u8, B>, number: u32) -> Result<(), AllocError>
-    ensures { OnOk result (out.new.items ≡ out.old.items ++ field_text number) }
+    ensures ok { OnOk result (out.new.items ≡ out.old.items ++ field_text number) }
+    ensures err { OnErr result (out.new.items ≡ out.old.items) }
 {
+    let start = out.len();
     out.extend_from_slice(b" ")?;
-    push_number(out, number)
+    let written = push_number(out, number);
+    whole_or_none(out, start, written)
 }
 
 fn write_config<B: Allocator>(out: &mut Vec<u8, B>, config: &Config) -> Result<(), AllocError>
-    ensures { OnOk result (out.new.items ≡ out.old.items ++ config_text config.now) }
+    ensures ok { OnOk result (out.new.items ≡ out.old.items ++ config_text config.now) }
+    ensures err { OnErr result (take (length out.old.items) out.new.items ≡ out.old.items) }
 {
     out.extend_from_slice(b"config")?;
     write_field(out, config.neighbours)?;
@@ -122,7 +127,8 @@ fn write_own<A: Allocator + Copy, B: Allocator>(
     out: &mut Vec<u8, B>,
     own: &Own,
 ) -> Result<(), AllocError>
-    ensures { OnOk result (out.new.items ≡ out.old.items ++ own_text own.now) }
+    ensures ok { OnOk result (out.new.items ≡ out.old.items ++ own_text own.now) }
+    ensures err { OnErr result (take (length out.old.items) out.new.items ≡ out.old.items) }
 {
     out.extend_from_slice(b"own ")?;
     push_hex(alloc, out, &own.servent.0)?;
@@ -132,6 +138,18 @@ fn write_own<A: Allocator + Copy, B: Allocator>(
     write_field(out, own.files)?;
     write_field(out, own.kbytes)?;
     out.extend_from_slice(b"\n")
+}
+
+fn write_settings<A: Allocator + Copy, B: Allocator>(
+    alloc: A,
+    out: &mut Vec<u8, B>,
+    config: &Config,
+) -> Result<(), AllocError>
+    ensures ok { OnOk result (out.new.items ≡ out.old.items ++ settings_text config.now) }
+    ensures err { OnErr result (take (length out.old.items) out.new.items ≡ out.old.items) }
+{
+    write_config(out, config)?;
+    write_own(alloc, out, &config.own)
 }
 
 /// Appends the two lines of a configuration, `config K N M T W H` and `own SERVENT IP PORT FILES KBYTES`. An `Err` is want
@@ -144,8 +162,7 @@ pub fn push_settings<A: Allocator + Copy, B: Allocator>(
     ensures ok { OnOk result (out.new.items ≡ out.old.items ++ settings_text config.now) }
     ensures err { OnErr result (out.new.items ≡ out.old.items) }
 {
-    let mut text = Vec::new(alloc);
-    write_config(&mut text, config)?;
-    write_own(alloc, &mut text, &config.own)?;
-    out.extend_from_slice(&text)
+    let start = out.len();
+    let written = write_settings(alloc, out, config);
+    whole_or_none(out, start, written)
 }

@@ -1,13 +1,15 @@
 //! The line of a step.
+#![tactic(auto, using(crate::proofs::KeptLemmas::kept))]
 
-ghost use Rattle.std.specs.Prelude.{◌≡◌, ◌++◌, OnOk, OnErr};
+ghost use Rattle.std.specs.Prelude.{◌≡◌, ◌++◌, length, take, OnOk, OnErr};
 ghost use Rattle.gn_rules.specs.declared.receipt.Step.{Step};
 ghost use Rattle.gn_text.specs.Steps.{step_text};
 
 use crate::event::write_event;
 use crate::push::push_number;
-use crate::reply::write_reply;
+use crate::reply::push_reply;
 use gn_rules::{Event, Reply, Step};
+use gn_wire::whole_or_none;
 use std::alloc::{AllocError, Allocator};
 
 fn write_step<A: Allocator + Copy, B: Allocator>(
@@ -17,14 +19,15 @@ fn write_step<A: Allocator + Copy, B: Allocator>(
     event: &Event<A>,
     reply: &Reply<A>,
 ) -> Result<(), AllocError>
-    ensures { let step : Step A = record { actor = actor; event = event.now; reply = reply.now } in
+    ensures ok { let step : Step A = record { actor = actor; event = event.now; reply = reply.now } in
         OnOk result (out.new.items ≡ out.old.items ++ step_text step) }
+    ensures err { OnErr result (take (length out.old.items) out.new.items ≡ out.old.items) }
 {
     push_number(out, actor)?;
     out.extend_from_slice(b" ")?;
     write_event(alloc, out, event)?;
     out.extend_from_slice(b" = ")?;
-    write_reply(alloc, out, reply)?;
+    push_reply(alloc, out, reply)?;
     out.extend_from_slice(b"\n")
 }
 
@@ -40,9 +43,9 @@ pub fn push_step_of<A: Allocator + Copy, B: Allocator>(
         OnOk result (out.new.items ≡ out.old.items ++ step_text step) }
     ensures err { OnErr result (out.new.items ≡ out.old.items) }
 {
-    let mut text = Vec::new(alloc);
-    write_step(alloc, &mut text, actor, event, reply)?;
-    out.extend_from_slice(&text)
+    let start = out.len();
+    let written = write_step(alloc, out, actor, event, reply);
+    whole_or_none(out, start, written)
 }
 
 /// Appends the line of a step, `ACTOR EVENT = REPLY`. An `Err` is out of memory, and changes nothing.
