@@ -43,8 +43,8 @@ fn room_behind(entry: &HitResult<'_>, room: usize) -> Option<usize>
 /// How many bytes a Query Hit has with these results and this trailer. `None` where they are more than 65,536.
 #[tactic(auto, using(crate::proofs::EntryLemmas::entry_within))]
 fn hit_size(results: &[HitResult<'_>], trailer: &[u8]) -> Option<usize>
-    ensures { MatchOption result (65536 < 27 + length (results_bytes (map result_fields results.now)) + length trailer.now)
-        (λ size. (size ≡ 27 + length (results_bytes (map result_fields results.now)) + length trailer.now) × (size ≤ 65536)) }
+    ensures { let bytes = 27 + length (results_bytes (map result_fields results.now)) + length trailer.now in
+        MatchOption result (65536 < bytes) (λ size. (size ≡ bytes) × (size ≤ 65536)) }
 {
     let mut left = 65_509;
     for entry in results {

@@ -56,7 +56,8 @@ pub fn encode_pong(pong: &Pong) -> [u8; 14]
 /// Appends the 14 bytes of a Pong. An `Err` is out of memory: it comes only where the vector has no room for them, and
 /// changes nothing.
 pub fn write_pong<B: Allocator>(pong: &Pong, out: &mut Vec<u8, B>) -> Result<(), AllocError>
-    ensures ok { OnOk result (out.new.items ≡ out.old.items ++ pong_bytes pong.now.port pong.now.ip pong.now.files pong.now.kbytes) }
+    ensures ok { OnOk result (out.new.items
+        ≡ out.old.items ++ pong_bytes pong.now.port pong.now.ip pong.now.files pong.now.kbytes) }
     ensures read { OnOk result (IsPong (pong_bytes pong.now.port pong.now.ip pong.now.files pong.now.kbytes) pong.now) }
     ensures err { OnErr result (out.new.items ≡ out.old.items) }
     ensures full { OnErr result (vec_capacity out.old < vec_len out.old + 14) }

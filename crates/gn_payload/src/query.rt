@@ -74,7 +74,8 @@ pub fn write_query<B: Allocator>(
         OnOk result (IsQuery (query_bytes q) q) }
     ensures refusal { Refuses result (query_refusal (record { speed = speed; text = text.now; tail = tail.now })) }
     ensures err { OnErr result (out.new.items ≡ out.old.items) }
-    ensures full { IfErr result (λ e. e ≡ NoMemory → vec_capacity out.old < vec_len out.old + (3 + length text.now + length tail.now)) }
+    ensures full { IfErr result (λ e. e ≡ NoMemory
+        → vec_capacity out.old < vec_len out.old + (3 + length text.now + length tail.now)) }
 {
     if has_zero(text) {
         return Err(WriteRefusal::ZeroInText);
