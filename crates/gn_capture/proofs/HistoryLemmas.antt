@@ -1,9 +1,8 @@
 -- A text put together, and one that was read in parts.
-use Rattle.std.proofs.Common.{◌≡◌, ℕ, List, ◌++◌, length, take, drop, refl, sym, ap, ◌∙◌, append_assoc, Result, Ok, Err}
+use Rattle.std.proofs.Common.{◌≡◌, ℕ, List, ◌++◌, length, take, refl, sym, ap, ◌∙◌, append_assoc, Result, Ok, Err}
 use Rattle.std.specs.Prelude.{if◌then◌else◌, OnErr, OnOk}
 use Rattle.std.specs.Result.{is_ok}
 use Rattle.std.proofs.Math.Seq.{take-append_seam}
-use Rattle.std.proofs.lemmas.List.{take-append-drop}
 use Rattle.gn_rules.specs.declared.config.Own.{Own}
 use Rattle.gn_rules.specs.declared.receipt.Step.{Step}
 use Rattle.gn_text.specs.Header.{header_of}
@@ -15,17 +14,12 @@ use Rattle.gn_capture.specs.Histories.{history_of, steps_from, title}
 begins : (old more new : List ℕ) → new ≡ old ++ more → take (length old) new ≡ old
 begins old more new is = rw is (take-append_seam old more)
 
-pub error_begins : {X E : Type 0} (r : Result X E) (old more new : List ℕ) → new ≡ old ++ more → OnErr r (take (length old) new ≡ old)
-error_begins (Ok x) old more new is = _
-error_begins (Err e) old more new is = begins old more new is
+pub on_error : {X E P : Type 0} (r : Result X E) → P → OnErr r P
+on_error (Ok x) p = _
+on_error (Err e) p = p
 
--- so does what was appended to that
-error_later : {X E : Type 0} (r : Result X E) (old more mid new : List ℕ) → mid ≡ old ++ more → take (length mid) new ≡ mid → OnErr r (take (length old) new ≡ old)
-error_later r old more mid new is front =
-    error_begins r old (more ++ drop (length mid) new) new
-    (sym (take-append-drop (length mid) new) ∙ ap (λ xs. xs ++ drop (length mid) new) (front ∙ is) ∙ append_assoc old more (drop (length mid) new))
-
-two_parts : (old t1 t2 a b : List ℕ) → t1 ≡ old ++ a → t2 ≡ t1 ++ b → t2 ≡ old ++ (a ++ b)
+-- two parts, one appended after the other
+pub two_parts : (old t1 t2 a b : List ℕ) → t1 ≡ old ++ a → t2 ≡ t1 ++ b → t2 ≡ old ++ (a ++ b)
 two_parts old t1 t2 a b first second = second ∙ ap (λ xs. xs ++ b) first ∙ append_assoc old a b
 
 -- parts that were appended one after the other, the last one only where all is well
@@ -40,11 +34,6 @@ pub part_of_text : {X E : Type 0} (r : Result X E) (old t1 t2 t3 new a b c d : L
 part_of_text (Ok x) old t1 t2 t3 new a b c d first second third last = _
 part_of_text (Err e) old t1 t2 t3 new a b c d first second third last =
     let three = two_parts old t2 t3 (a ++ b) c (two_parts old t1 t2 a b first second) third in begins old ((a ++ b) ++ c) new (last ∙ three)
-
--- a text that goes on behind two parts
-pub behind_two : {X E : Type 0} (r : Result X E) (old t1 t2 new a b : List ℕ) → t1 ≡ old ++ a → t2 ≡ t1 ++ b → take (length t2) new ≡ t2
-    → OnErr r (take (length old) new ≡ old)
-behind_two r old t1 t2 new a b first second front = error_later r old (a ++ b) t2 new (two_parts old t1 t2 a b first second) front
 
 -- a history is its header and the steps behind it
 pub history_read : {A : Type 0} (text : List ℕ) (lines : List (ℕ × List ℕ)) (behind : ℕ) (settings : Numbers × Own) (more : List (ℕ × List ℕ)) (steps : List (Step A))

@@ -1,3 +1,4 @@
+pub mod AloneLemmas
 pub mod ConfigLemmas
 pub mod DescriptorsAgain
 pub mod EncodedLemmas

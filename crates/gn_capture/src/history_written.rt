@@ -1,4 +1,5 @@
 //! A history as it is written.
+#![tactic(auto, using(gn_text::proofs::KeptLemmas::kept))]
 
 ghost use Rattle.std.specs.Prelude.{◌≡◌, ◌++◌, length, take, OnOk, OnErr};
 ghost use Rattle.gn_capture.specs.Histories.{history_text, steps_text};

@@ -1,14 +1,14 @@
 //! The reply of a step line.
 
 ghost use Rattle.std.specs.Prelude.{◌≡◌, IfOk, map};
-ghost use Rattle.gn_text.specs.Numbers.{number_of};
 ghost use Rattle.gn_capture.specs.Packets.{packet_parsed};
 ghost use Rattle.gn_capture.specs.Replies.{alone, packets_parsed, place_named, reason_named, reply_parsed, routed_parsed, unnumbered_parsed};
 
+use crate::event_lines::number_alone;
 use crate::packet::read_packet;
 use crate::sends::read_sends;
 use gn_rules::{DropReason, Reply};
-use gn_text::{is_word, number};
+use gn_text::is_word;
 use gn_wire::Descriptor;
 use std::alloc::{AllocError, Allocator};
 
@@ -43,15 +43,6 @@ fn place_named(field: &[u8]) -> Option<bool>
         Some(false)
     } else {
         None
-    }
-}
-
-fn number_alone(fields: &[&[u8]]) -> Option<u32>
-    ensures { result ≡ alone number_of (map (λ x. x.now) fields.now) }
-{
-    match fields {
-        [field] => number(field),
-        _ => None,
     }
 }
 
@@ -150,6 +141,7 @@ fn read_unnumbered<A: Allocator + Copy>(
 }
 
 /// The reply that fields say. An `Err` is out of memory.
+#[tactic(auto, using(crate::proofs::AloneLemmas::number_found))]
 pub(crate) fn read_reply<A: Allocator + Copy>(
     alloc: A,
     fields: &[&[u8]],
@@ -160,22 +152,13 @@ pub(crate) fn read_reply<A: Allocator + Copy>(
         return Ok(None);
     };
     if is_word(word, b"connected") {
-        return Ok(match number_alone(more) {
-            Some(c) => Some(Reply::Connected(c)),
-            None => None,
-        });
+        return Ok(number_alone(more).ok().map(|c| Reply::Connected(c)));
     }
     if is_word(word, b"closed") {
-        return Ok(match number_alone(more) {
-            Some(count) => Some(Reply::Closed(count)),
-            None => None,
-        });
+        return Ok(number_alone(more).ok().map(|count| Reply::Closed(count)));
     }
     if is_word(word, b"admitted") {
-        return Ok(match number_alone(more) {
-            Some(t) => Some(Reply::Admitted(t)),
-            None => None,
-        });
+        return Ok(number_alone(more).ok().map(|t| Reply::Admitted(t)));
     }
     read_unnumbered(alloc, word, more)
 }

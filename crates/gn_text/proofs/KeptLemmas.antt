@@ -1,6 +1,5 @@
 -- What stood in a text before it was appended to.
-use Rattle.std.proofs.Common.{◌≡◌, ℕ, List, ◌++◌, length, take, drop, sym, ap, ◌∙◌, append_assoc, Result, Ok, Err}
-use Rattle.std.specs.Prelude.{OnErr}
+use Rattle.std.proofs.Common.{◌≡◌, ℕ, List, ◌++◌, length, take, drop, sym, ap, ◌∙◌, append_assoc}
 use Rattle.std.proofs.Math.Seq.{take-append_seam, take-length}
 use Rattle.std.proofs.lemmas.List.{take-append-drop}
 
@@ -8,10 +7,8 @@ use Rattle.std.proofs.lemmas.List.{take-append-drop}
 pub ruleset kept = (append_assoc, take-append_seam, take-append-drop, take-length)
 
 -- what begins with a longer text begins with what that was made of
-pub kept_before : {X E : Type 0} (r : Result X E) (old more longer new : List ℕ) → longer ≡ old ++ more → OnErr r (take (length longer) new ≡ longer)
-    → OnErr r (take (length old) new ≡ old)
-kept_before (Ok x) old more longer new is begins = _
-kept_before (Err e) old more longer new is begins =
+pub kept_before : (old more longer new : List ℕ) → longer ≡ old ++ more → take (length longer) new ≡ longer → take (length old) new ≡ old
+kept_before old more longer new is begins =
     let rest = drop (length longer) new in
     let parts : new ≡ old ++ (more ++ rest) = sym (take-append-drop (length longer) new) ∙ ap (λ xs. xs ++ rest) (begins ∙ is) ∙ append_assoc old more rest in
     rw parts (take-append_seam old (more ++ rest))

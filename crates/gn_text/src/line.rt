@@ -37,7 +37,7 @@ pub fn lines<A: Allocator + Copy>(alloc: A, text: &[u8]) -> Result<Vec<&[u8], A>
     parts(alloc, without_last_feed(text), b'\n')
 }
 
-/// The fields of a line: what single spaces separate, so that a doubled one has an empty field in it. An `Err` is want
+/// The fields of a line: what single spaces separate, so that a doubled one has an empty field in it. An `Err` is out
 /// of memory.
 pub fn fields<A: Allocator + Copy>(alloc: A, line: &[u8]) -> Result<Vec<&[u8], A>, AllocError>
     ensures { IfOk result (λ v. map (λ x. x.now) v.items ≡ fields_of line.now) }

@@ -152,7 +152,7 @@ fn write_settings<A: Allocator + Copy, B: Allocator>(
     write_own(alloc, out, &config.own)
 }
 
-/// Appends the two lines of a configuration, `config K N M T W H` and `own SERVENT IP PORT FILES KBYTES`. An `Err` is want
+/// Appends the two lines of a configuration, `config K N M T W H` and `own SERVENT IP PORT FILES KBYTES`. An `Err` is out
 /// of memory, and changes nothing.
 pub fn push_settings<A: Allocator + Copy, B: Allocator>(
     alloc: A,
