@@ -60,7 +60,7 @@ pub fn push_frame_fault<A: Allocator + Copy, B: Allocator>(
     out.extend_from_slice(&text)
 }
 
-/// Appends the line of a link whose greeting isn't the one that is due, `greeting LINK refused`. An `Err` is want of
+/// Appends the line of a link whose greeting isn't the one that is due, `greeting LINK refused`. An `Err` is out of
 /// memory, and changes nothing.
 pub fn push_greeting_refused<A: Allocator + Copy, B: Allocator>(
     alloc: A,
