@@ -72,17 +72,10 @@ fn obey<S: Source, W: Sink, F: Sink>(
     faults: &mut F,
 ) -> u8
     ensures { Does request (record {
-      rest = S.rest reader.old;
-      told = W.told writer.old;
-      told_new = W.told writer.new;
-      failures = S.failures reader.old;
-      failures_new = S.failures reader.new;
-      given = S.given reader.old;
-      given_new = S.given reader.new;
-      unwritten = W.failures writer.old;
-      unwritten_new = W.failures writer.new;
-      stalls = W.stalls writer.old;
-      stalls_new = W.stalls writer.new;
+      source = S.state reader.old;
+      source_new = S.state reader.new;
+      sink = W.state writer.old;
+      sink_new = W.state writer.new;
     }) result }
 {
     match request {
@@ -135,17 +128,10 @@ pub fn command<T: AsStr, S: Source, W: Sink, F: Sink>(
 ) -> u8
     ensures asked { (request : Asked) → request_of (map T.text words.now) ≡ Some request
         → IsUnread reader.old reader.new writer.old writer.new result ⊎ Does request (record {
-          rest = S.rest reader.old;
-          told = W.told writer.old;
-          told_new = W.told writer.new;
-          failures = S.failures reader.old;
-          failures_new = S.failures reader.new;
-          given = S.given reader.old;
-          given_new = S.given reader.new;
-          unwritten = W.failures writer.old;
-          unwritten_new = W.failures writer.new;
-          stalls = W.stalls writer.old;
-          stalls_new = W.stalls writer.new;
+          source = S.state reader.old;
+          source_new = S.state reader.new;
+          sink = W.state writer.old;
+          sink_new = W.state writer.new;
         }) result }
     ensures neither { request_of (map T.text words.now) ≡ None → (kind : Kind)
         × ((kind ≡ OutOfMemory) ⊎ IsAmong kind (fault_of gn_app (map T.text words.now)))

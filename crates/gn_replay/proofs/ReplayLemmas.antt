@@ -5,9 +5,10 @@ use Rattle.std.specs.Result.{IsErrAnd}
 use Rattle.gn_text.specs.declared.fault.CaptureFault.{CaptureFault}
 use Rattle.gn_io.specs.Input.{input_limit}
 use Rattle.gn_io.specs.Parts.{AppendsPart}
+use Rattle.gn_io.specs.Streams.{SinkState, SourceState}
 use Rattle.gn_replay.specs.declared.fault.ReplayFault.{ReplayFault}
 use Rattle.gn_replay.specs.declared.fault.ReplayFault.TheVariants as fault
-use Rattle.gn_replay.specs.Faults.{IsReplayFault}
+use Rattle.gn_replay.specs.Faults.{IsReplayFault, input_of}
 use Rattle.gn_rules.specs.declared.config.Config.{Config}
 use Rattle.gn_rules.specs.declared.receipt.Step.{Step}
 use Rattle.gn_rules.specs.Legal.{IsLegal}
@@ -76,17 +77,18 @@ stopped {A} (Err e) f text capture old new short is read part =
     let all : AppendsReplayPart A text old new = (played.text, (played, is_replay text capture read, refl), part) in
     subst (λ (e : ReplayFault). HasStopped A e (Some text) old new) (sym is) (stopped_so f text old new short all)
 
+-- what is known of a text is known of the input that it is
+of_input_that : (Says : List ℕ → Type 0) (text : List ℕ) (rest : Option (List ℕ)) → IfSome rest (λ bytes. text ≡ bytes)
+    → (length text ≤ input_limit) × Says text → IfSome rest (λ bytes. (length bytes ≤ input_limit) × Says bytes)
+of_input_that Says text None is h = tt
+of_input_that Says text (Some bytes) is h = subst (λ (z : List ℕ). (length z ≤ input_limit) × Says z) is h
+
 -- what was done with a text was done with the input that it is
-pub fault_of_input : {X : Type 0} (f : ReplayFault) (parsed : List ℕ → Result X CaptureFault) (text : List ℕ) (rest : Option (List ℕ))
-    (failures failures_new given given_new unwritten unwritten_new stalls stalls_new : ℕ)
-    → IfSome rest (λ bytes. text ≡ bytes) → IsReplayFault f parsed (Some text) 0 0 0 0 unwritten unwritten_new stalls stalls_new
-    → IsReplayFault f parsed rest failures failures_new given given_new unwritten unwritten_new stalls stalls_new
-fault_of_input fault.Read parsed text rest failures failures_new given given_new unwritten unwritten_new stalls stalls_new is h = absurd (grind (arith, h))
-fault_of_input fault.TooLarge parsed text rest failures failures_new given given_new unwritten unwritten_new stalls stalls_new is h = absurd (grind (arith, h.given))
-fault_of_input (fault.Capture c) parsed text None failures failures_new given given_new unwritten unwritten_new stalls stalls_new is h = tt
-fault_of_input (fault.Capture c) parsed text (Some bytes) failures failures_new given given_new unwritten unwritten_new stalls stalls_new is h =
-    subst (λ (z : List ℕ). (length z ≤ input_limit) × (parsed z ≡ Err c)) is h
-fault_of_input fault.Write parsed text None failures failures_new given given_new unwritten unwritten_new stalls stalls_new is h = (tt, h.1)
-fault_of_input fault.Write parsed text (Some bytes) failures failures_new given given_new unwritten unwritten_new stalls stalls_new is h =
-    (subst (λ (z : List ℕ). (length z ≤ input_limit) × IsOk (parsed z)) is h.0, h.1)
-fault_of_input fault.NoMemory parsed text rest failures failures_new given given_new unwritten unwritten_new stalls stalls_new is h = tt
+pub fault_of_input : {X : Type 0} (f : ReplayFault) (parsed : List ℕ → Result X CaptureFault) (text : List ℕ) (source source_new : SourceState) (sink sink_new : SinkState)
+    → IfSome source.rest (λ bytes. text ≡ bytes) → IsReplayFault f parsed (input_of text) (input_of text) sink sink_new
+    → IsReplayFault f parsed source source_new sink sink_new
+fault_of_input fault.Read parsed text source source_new sink sink_new is h = absurd (grind (arith, h))
+fault_of_input fault.TooLarge parsed text source source_new sink sink_new is h = absurd (grind (arith, h.given))
+fault_of_input (fault.Capture c) parsed text source source_new sink sink_new is h = of_input_that (λ z. parsed z ≡ Err c) text source.rest is h
+fault_of_input fault.Write parsed text source source_new sink sink_new is h = (of_input_that (λ z. IsOk (parsed z)) text source.rest is h.0, h.1)
+fault_of_input fault.NoMemory parsed text source source_new sink sink_new is h = tt

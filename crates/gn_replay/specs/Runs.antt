@@ -1,10 +1,10 @@
 -- Lines that were played on a router, with what was written of their text.
-use Rattle.std.specs.Prelude.{◌≡◌, ◌⊎◌, ◌++◌, ℕ, List, [], Option}
+use Rattle.std.specs.Prelude.{◌≡◌, ◌++◌, ℕ, List, [], Option}
 use Rattle.std.specs.Io.KnownBytes.{Appends}
 use Rattle.gn_replay.specs.declared.fault.ReplayFault.{ReplayFault}
 use Rattle.gn_replay.specs.declared.fault.ReplayFault.TheVariants as replay
-use Rattle.gn_io.specs.Counts.{Rises}
 use Rattle.gn_io.specs.Parts.{LeavesToWrite}
+use Rattle.gn_io.specs.Streams.{HasWriteFailed, NoWriteFailed, SinkState}
 use Rattle.gn_rules.specs.declared.receipt.Step.{Step}
 use Rattle.gn_replay.specs.declared.play_fault.PlayFault.{PlayFault}
 use Rattle.gn_replay.specs.declared.play_fault.PlayFault.TheVariants.{Write, NoMemory}
@@ -39,11 +39,11 @@ pub record HasWritten {A : Type 0} (before after : Playing A) (old new : Option 
   pub links : AreLinks after.links done.links
   pub text : LeavesToWrite old new waiting (waited ++ done.played.text)
 
--- when playing stops: Write where a write failed or took nothing, as the sink counts them; memory may run out at any time,
+-- when playing stops: Write where a write failed or took nothing; memory may run out at any time,
 -- and then no write did
-abbrev pub IsPlayFault : PlayFault → ℕ → ℕ → ℕ → ℕ → Type 0
-IsPlayFault Write failures_old failures_new stalls_old stalls_new = Rises failures_old failures_new ⊎ Rises stalls_old stalls_new
-IsPlayFault NoMemory failures_old failures_new stalls_old stalls_new = (failures_new ≡ failures_old) × (stalls_new ≡ stalls_old)
+abbrev pub IsPlayFault : PlayFault → SinkState → SinkState → Type 0
+IsPlayFault Write old new = HasWriteFailed old new
+IsPlayFault NoMemory old new = NoWriteFailed old new
 
 -- the fault of a replay whose lines weren't played to the end
 abbrev pub of_playing : PlayFault → ReplayFault

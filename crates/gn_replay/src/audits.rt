@@ -4,6 +4,7 @@ ghost use Rattle.std.specs.Prelude.{◌≡◌, ◌≤◌, length, IfOk, IfErr, I
 ghost use Rattle.gn_replay.specs.Faults.{IsReplayFault};
 ghost use Rattle.gn_capture.specs.Histories.{history_of};
 ghost use Rattle.gn_io.specs.Input.{input_limit};
+ghost use Rattle.gn_io.specs.Streams.{NoReadFailed, NoWriteFailed};
 ghost use Rattle.gn_replay.specs.Audits.{AppendsVerdict, HasStopped};
 ghost use Rattle.gn_replay.specs.Explained.{AppendsExplained, HasExplainedStopped};
 
@@ -22,17 +23,16 @@ pub fn audit<A: Allocator + Copy, C: RouterCore<A> + Drop, S: Source, W: Sink>(
     source: &mut S,
     sink: &mut W,
 ) -> Result<Legality, ReplayFault>
-    ensures short { OnOk result (IfSome (S.rest source.old) (λ text. length text ≤ input_limit)) }
-    ensures valid { OnOk result (IfSome (S.rest source.old) (λ text. IsOk (history_of {A = A} text))) }
-    ensures told { IfOk result (λ legality. IfSome (S.rest source.old) (λ text.
-        AppendsVerdict A text legality (W.told sink.old) (W.told sink.new))) }
-    ensures reads { OnOk result (S.failures source.new ≡ S.failures source.old) }
-    ensures failures { OnOk result (W.failures sink.new ≡ W.failures sink.old) }
-    ensures stalls { OnOk result (W.stalls sink.new ≡ W.stalls sink.old) }
-    ensures stopped { IfErr result (λ fault. HasStopped A fault (S.rest source.old) (W.told sink.old) (W.told sink.new)) }
-    ensures fault { IfErr result (λ fault. IsReplayFault fault (history_of {A = A}) (S.rest source.old)
-        (S.failures source.old) (S.failures source.new) (S.given source.old) (S.given source.new)
-        (W.failures sink.old) (W.failures sink.new) (W.stalls sink.old) (W.stalls sink.new)) }
+    ensures short { OnOk result (IfSome (S.state source.old).rest (λ text. length text ≤ input_limit)) }
+    ensures valid { OnOk result (IfSome (S.state source.old).rest (λ text. IsOk (history_of {A = A} text))) }
+    ensures told { IfOk result (λ legality. IfSome (S.state source.old).rest (λ text.
+        AppendsVerdict A text legality (W.state sink.old).written (W.state sink.new).written)) }
+    ensures reads { OnOk result (NoReadFailed (S.state source.old) (S.state source.new)) }
+    ensures writes { OnOk result (NoWriteFailed (W.state sink.old) (W.state sink.new)) }
+    ensures stopped { IfErr result (λ fault. HasStopped A fault (S.state source.old).rest
+        (W.state sink.old).written (W.state sink.new).written) }
+    ensures fault { IfErr result (λ fault. IsReplayFault fault (history_of {A = A})
+        (S.state source.old) (S.state source.new) (W.state sink.old) (W.state sink.new)) }
 {
     let input = read_input(alloc, source)?;
     let (legality, line) = audit_text::<A, C>(alloc, &input)?;
@@ -48,18 +48,16 @@ pub fn audit_explained<A: Allocator + Copy, C: RouterCore<A> + Drop, S: Source, 
     source: &mut S,
     sink: &mut W,
 ) -> Result<Legality, ReplayFault>
-    ensures short { OnOk result (IfSome (S.rest source.old) (λ text. length text ≤ input_limit)) }
-    ensures valid { OnOk result (IfSome (S.rest source.old) (λ text. IsOk (history_of {A = A} text))) }
-    ensures told { IfOk result (λ legality. IfSome (S.rest source.old) (λ text.
-        AppendsExplained A text legality (W.told sink.old) (W.told sink.new))) }
-    ensures reads { OnOk result (S.failures source.new ≡ S.failures source.old) }
-    ensures failures { OnOk result (W.failures sink.new ≡ W.failures sink.old) }
-    ensures stalls { OnOk result (W.stalls sink.new ≡ W.stalls sink.old) }
-    ensures stopped { IfErr result (λ fault. HasExplainedStopped A fault (S.rest source.old)
-        (W.told sink.old) (W.told sink.new)) }
-    ensures fault { IfErr result (λ fault. IsReplayFault fault (history_of {A = A}) (S.rest source.old)
-        (S.failures source.old) (S.failures source.new) (S.given source.old) (S.given source.new)
-        (W.failures sink.old) (W.failures sink.new) (W.stalls sink.old) (W.stalls sink.new)) }
+    ensures short { OnOk result (IfSome (S.state source.old).rest (λ text. length text ≤ input_limit)) }
+    ensures valid { OnOk result (IfSome (S.state source.old).rest (λ text. IsOk (history_of {A = A} text))) }
+    ensures told { IfOk result (λ legality. IfSome (S.state source.old).rest (λ text.
+        AppendsExplained A text legality (W.state sink.old).written (W.state sink.new).written)) }
+    ensures reads { OnOk result (NoReadFailed (S.state source.old) (S.state source.new)) }
+    ensures writes { OnOk result (NoWriteFailed (W.state sink.old) (W.state sink.new)) }
+    ensures stopped { IfErr result (λ fault. HasExplainedStopped A fault (S.state source.old).rest
+        (W.state sink.old).written (W.state sink.new).written) }
+    ensures fault { IfErr result (λ fault. IsReplayFault fault (history_of {A = A})
+        (S.state source.old) (S.state source.new) (W.state sink.old) (W.state sink.new)) }
 {
     let input = read_input(alloc, source)?;
     let (legality, lines) = explained_text::<A, C>(alloc, &input)?;

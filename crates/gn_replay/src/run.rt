@@ -2,6 +2,7 @@
 
 ghost use Rattle.std.specs.Prelude.{◌≡◌, ◌++◌, [], List, reverse, IfOk, IfErr, OnOk, OnErr};
 ghost use Rattle.gn_io.specs.Parts.{AppendsPart, LeavesToWrite, WaitsPart};
+ghost use Rattle.gn_io.specs.Streams.{NoWriteFailed};
 ghost use Rattle.gn_replay.specs.Links.{AreLinks, LinkState};
 ghost use Rattle.gn_replay.specs.ReplayText.{capture_plays, plays};
 ghost use Rattle.gn_replay.specs.Runs.{HasPassed, HasRun, HasWritten, IsNew, IsPlayFault};
@@ -37,15 +38,13 @@ impl<A: Allocator + Copy, C: RouterCore<A>> Play<A, C> {
         sink: &mut W,
     ) -> Result<(), PlayFault>
         ensures ok { OnOk result ((states : List LinkState) → AreLinks self.old.links states
-            → HasWritten self.old self.new (W.told sink.old) (W.told sink.new) block.old block.new
+            → HasWritten self.old self.new (W.state sink.old).written (W.state sink.new).written block.old block.new
             (plays self.old.settings self.old.past states line.now)) }
         ensures err { OnErr result ((states : List LinkState) → AreLinks self.old.links states
-            → WaitsPart (W.told sink.old) (W.told sink.new) block.new
+            → WaitsPart (W.state sink.old).written (W.state sink.new).written block.new
             (block.old ++ (plays self.old.settings self.old.past states line.now).played.text)) }
-        ensures cause { IfErr result (λ fault. IsPlayFault fault (W.failures sink.old) (W.failures sink.new)
-            (W.stalls sink.old) (W.stalls sink.new)) }
-        ensures failures { OnOk result (W.failures sink.new ≡ W.failures sink.old) }
-        ensures stalls { OnOk result (W.stalls sink.new ≡ W.stalls sink.old) }
+        ensures cause { IfErr result (λ fault. IsPlayFault fault (W.state sink.old) (W.state sink.new)) }
+        ensures writes { OnOk result (NoWriteFailed (W.state sink.old) (W.state sink.new)) }
     {
         self.clear_out();
         self.play_line(line)?;
@@ -64,14 +63,12 @@ impl<A: Allocator + Copy, C: RouterCore<A>> Play<A, C> {
         requires new { IsNew self.old }
         requires empty { block.old ≡ [] }
         ensures ok { OnOk result (HasPassed (capture_plays self.old.settings lines.now) self.new.past self.new.refusals
-            (W.told sink.old) (W.told sink.new) block.new) }
-        ensures err { OnErr result (WaitsPart (W.told sink.old) (W.told sink.new) block.new
+            (W.state sink.old).written (W.state sink.new).written block.new) }
+        ensures err { OnErr result (WaitsPart (W.state sink.old).written (W.state sink.new).written block.new
             (capture_plays self.old.settings lines.now).text) }
         ensures settings { OnOk result (self.new.settings ≡ self.old.settings) }
-        ensures cause { IfErr result (λ fault. IsPlayFault fault (W.failures sink.old) (W.failures sink.new)
-            (W.stalls sink.old) (W.stalls sink.new)) }
-        ensures failures { OnOk result (W.failures sink.new ≡ W.failures sink.old) }
-        ensures stalls { OnOk result (W.stalls sink.new ≡ W.stalls sink.old) }
+        ensures cause { IfErr result (λ fault. IsPlayFault fault (W.state sink.old) (W.state sink.new)) }
+        ensures writes { OnOk result (NoWriteFailed (W.state sink.old) (W.state sink.new)) }
     {
         for (_, line) in lines {
             self.write_line(line, block, sink)?;
@@ -88,14 +85,12 @@ impl<A: Allocator + Copy, C: RouterCore<A>> Play<A, C> {
     ) -> Result<(), PlayFault>
         requires { IsNew self.old }
         ensures ok { OnOk result (HasRun (capture_plays self.old.settings lines.now) self.new.past self.new.refusals
-            (W.told sink.old) (W.told sink.new)) }
-        ensures err { OnErr result (AppendsPart (W.told sink.old) (W.told sink.new)
+            (W.state sink.old).written (W.state sink.new).written) }
+        ensures err { OnErr result (AppendsPart (W.state sink.old).written (W.state sink.new).written
             (capture_plays self.old.settings lines.now).text) }
         ensures settings { OnOk result (self.new.settings ≡ self.old.settings) }
-        ensures cause { IfErr result (λ fault. IsPlayFault fault (W.failures sink.old) (W.failures sink.new)
-            (W.stalls sink.old) (W.stalls sink.new)) }
-        ensures failures { OnOk result (W.failures sink.new ≡ W.failures sink.old) }
-        ensures stalls { OnOk result (W.stalls sink.new ≡ W.stalls sink.old) }
+        ensures cause { IfErr result (λ fault. IsPlayFault fault (W.state sink.old) (W.state sink.new)) }
+        ensures writes { OnOk result (NoWriteFailed (W.state sink.old) (W.state sink.new)) }
     {
         let mut block = Block::new(self.alloc);
         match self.pass_lines(lines, &mut block, sink) {
@@ -122,13 +117,11 @@ pub fn play<A: Allocator + Copy, C: RouterCore<A> + Drop, W: Sink>(
 ) -> Result<Replayed<C>, PlayFault>
     ensures settings { IfOk result (λ replayed. C.settings replayed.core ≡ capture.now.config) }
     ensures played { IfOk result (λ replayed. HasRun (capture_plays capture.now.config capture.now.lines.items)
-        (reverse (C.steps replayed.core)) replayed.refusals (W.told sink.old) (W.told sink.new)) }
-    ensures err { OnErr result (AppendsPart (W.told sink.old) (W.told sink.new)
+        (reverse (C.steps replayed.core)) replayed.refusals (W.state sink.old).written (W.state sink.new).written) }
+    ensures err { OnErr result (AppendsPart (W.state sink.old).written (W.state sink.new).written
         (capture_plays capture.now.config capture.now.lines.items).text) }
-    ensures failures { OnOk result (W.failures sink.new ≡ W.failures sink.old) }
-    ensures stalls { OnOk result (W.stalls sink.new ≡ W.stalls sink.old) }
-    ensures cause { IfErr result (λ fault. IsPlayFault fault (W.failures sink.old) (W.failures sink.new)
-        (W.stalls sink.old) (W.stalls sink.new)) }
+    ensures writes { OnOk result (NoWriteFailed (W.state sink.old) (W.state sink.new)) }
+    ensures cause { IfErr result (λ fault. IsPlayFault fault (W.state sink.old) (W.state sink.new)) }
 {
     let mut play = Play {
         alloc,

@@ -5,8 +5,10 @@ pub loop-done-preserved : goal.loop-done-preserved
 loop-done-preserved g c = record {
   within = within_more c.args.bytes.now c.loop-done.done c.in-Ok.n c.loop-done.invariant.within c.in-Ok.ensures.bound;
   written = appends_more (g.S.Sink.state c.args.sink.now).written (g.S.Sink.state c.loop-done.sink).written (g.S.Sink.state c.write.new.self).written c.args.bytes.now c.loop-done.done c.in-Ok.n c.loop-done.invariant.written c.in-Ok.ensures.bytes;
-  failures = rw c.in-Ok.ensures.failures c.loop-done.invariant.failures;
-  stalls = rw (c.in-Ok.ensures.stalls, stalls_same c.in-Ok.n (g.S.Sink.state c.loop-done.sink).stalls _ c.in-Ok.n-test.1) c.loop-done.invariant.stalls;
+  unfailed = (
+    rw c.in-Ok.ensures.failures c.loop-done.invariant.unfailed.0,
+    rw (c.in-Ok.ensures.stalls, stalls_same c.in-Ok.n (g.S.Sink.state c.loop-done.sink).stalls _ c.in-Ok.n-test.1) c.loop-done.invariant.unfailed.1,
+  );
 }
 
 pub returns-in-Err-clause-err : goal.returns-in-Err-clause-err
