@@ -27,6 +27,11 @@ pub record Streams : Type 0 where
   pub sink : SinkState
   pub sink_new : SinkState
 
+-- these, as streams
+abbrev pub streams : SourceState → SourceState → SinkState → SinkState → Streams
+streams source source_new sink sink_new =
+    record { source = source; source_new = source_new; sink = sink; sink_new = sink_new }
+
 -- no read and no write failed, and no write took nothing
 abbrev pub IsUnfailed : Streams → Type 0
 IsUnfailed s = NoReadFailed s.source s.source_new × NoWriteFailed s.sink s.sink_new

@@ -7,7 +7,7 @@ ghost use Rattle.clap.specs.Kinds.{IsAmong};
 ghost use Rattle.clap.specs.Words.{fault_of, kind_of};
 ghost use Rattle.clap.specs.declared.error.kind.ErrorKind.{ErrorKind as Kind};
 ghost use Rattle.clap.specs.declared.error.kind.ErrorKind.TheVariants.{OutOfMemory};
-ghost use Rattle.gn_program.specs.Commands.{Does, IsTurnedAway, IsUnread, Streams, audit_status, replay_status};
+ghost use Rattle.gn_program.specs.Commands.{Does, IsTurnedAway, IsUnread, audit_status, replay_status, streams};
 ghost use Rattle.gn_program.specs.Words.{gn_app, request_of};
 ghost use Rattle.gn_program.specs.declared.request.Request.{Request as Asked};
 
@@ -71,12 +71,8 @@ fn obey<S: Source, W: Sink, F: Sink>(
     writer: &mut W,
     faults: &mut F,
 ) -> u8
-    ensures { Does request (record {
-      source = S.state reader.old;
-      source_new = S.state reader.new;
-      sink = W.state writer.old;
-      sink_new = W.state writer.new;
-    }) result }
+    ensures { Does request
+        (streams (S.state reader.old) (S.state reader.new) (W.state writer.old) (W.state writer.new)) result }
 {
     match request {
         Request::Replay => {
@@ -127,12 +123,8 @@ pub fn command<T: AsStr, S: Source, W: Sink, F: Sink>(
     faults: &mut F,
 ) -> u8
     ensures asked { (request : Asked) → request_of (map T.text words.now) ≡ Some request
-        → IsUnread reader.old reader.new writer.old writer.new result ⊎ Does request (record {
-          source = S.state reader.old;
-          source_new = S.state reader.new;
-          sink = W.state writer.old;
-          sink_new = W.state writer.new;
-        }) result }
+        → IsUnread reader.old reader.new writer.old writer.new result ⊎ Does request
+        (streams (S.state reader.old) (S.state reader.new) (W.state writer.old) (W.state writer.new)) result }
     ensures neither { request_of (map T.text words.now) ≡ None → (kind : Kind)
         × ((kind ≡ OutOfMemory) ⊎ IsAmong kind (fault_of gn_app (map T.text words.now)))
         × IsTurnedAway kind writer.old writer.new result }
