@@ -9,7 +9,7 @@ use Rattle.gn_replay.specs.declared.link.Link.{Link}
 use Rattle.gn_replay.specs.declared.link.Link.TheVariants as link
 
 -- a link: ended; awaiting its greeting, with all its bytes so far; or joined to a connection, with all its bytes so far
--- behind the greeting
+-- after the greeting
 pub data LinkState : Type 0 where
   ended : LinkState
   greeting : List ℕ → LinkState

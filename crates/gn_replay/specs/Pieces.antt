@@ -37,7 +37,7 @@ admits s past c (d ∷ ds) =
 abbrev pub fault_plays : {A : Type 0} → Config → List (Step A) → ℕ → ℕ → FrameFault → Played A
 fault_plays s past i c fault = followed (prints past (frame_fault_text i fault)) (happens s past (Close c))
 
--- behind the descriptors: without a fault the link goes on with its bytes, with one it is ended
+-- after the descriptors: without a fault the link goes on with its bytes, with one it is ended
 abbrev pub fault_ends : {A : Type 0} → Config → ℕ → ℕ → List ℕ → Played A → Option FrameFault → Linked A
 fault_ends s i c bytes before None = record { played = before; state = joined c bytes }
 fault_ends s i c bytes before (Some fault) =
@@ -53,7 +53,7 @@ delivers_these s past i c bytes packets fault =
 abbrev pub completed : List ℕ → List ℕ → List Packet
 completed bytes piece = drop (length (frames_of bytes).descriptors) (frames_of (bytes ++ piece)).descriptors
 
--- a piece of a joined link, behind these bytes
+-- a piece of a joined link, after these bytes
 abbrev pub delivers : {A : Type 0} → Config → List (Step A) → ℕ → ℕ → List ℕ → List ℕ → Linked A
 delivers s past i c bytes piece =
     delivers_these s past i c (bytes ++ piece) (completed bytes piece) (frames_of (bytes ++ piece)).fault
@@ -72,14 +72,14 @@ abbrev pub awaits : {A : Type 0} → List (Step A) → Linked A
 awaits past = record { played = nothing past; state = greeting [] }
 
 -- these bytes come on a new connection, where the Connect made one; else the link is ended and they are ignored
-abbrev pub delivers_on : {A : Type 0} → Config → ℕ → Played A → List ℕ → Option ℕ → Linked A
-delivers_on s i before piece None = record { played = before; state = ended }
-delivers_on s i before piece (Some c) =
+abbrev pub delivers_if_connected : {A : Type 0} → Config → ℕ → Played A → List ℕ → Option ℕ → Linked A
+delivers_if_connected s i before piece None = record { played = before; state = ended }
+delivers_if_connected s i before piece (Some c) =
     let later = delivers s before.past i c [] piece in record { played = followed before later.played; state = later.state }
 
--- a Connect, and these bytes behind it
+-- a Connect, and these bytes after it
 abbrev pub connects : {A : Type 0} → Config → List (Step A) → ℕ → List ℕ → Linked A
-connects s past i piece = delivers_on s i (happens s past Connect) piece (connection_of (answer s past Connect))
+connects s past i piece = delivers_if_connected s i (happens s past Connect) piece (connection_of (answer s past Connect))
 
 -- a link that awaits its greeting, with all bytes so far, by the state of its greeting
 abbrev pub greets : {A : Type 0} → Config → List (Step A) → ℕ → List ℕ → ShakeState → Linked A

@@ -26,10 +26,10 @@ abbrev pub refused_more : ℕ → ℕ → ℕ
 refused_more n count = if n == 0 then count else count_more n count
 
 -- the replay after an event's answer was printed, and counted where it is a refusal
-abbrev pub shows : {A : Type 0} → Playing A → Event A → Result (Reply A) Refusal → Playing A
-shows v event answer = record v { out = v.out ++ answer_text event answer; refusals = refused_more (refusals_in answer) v.refusals }
+abbrev pub after_printing : {A : Type 0} → Playing A → Event A → Result (Reply A) Refusal → Playing A
+after_printing v event answer = record v { out = v.out ++ answer_text event answer; refusals = refused_more (refusals_in answer) v.refusals }
 
--- the replay after something was played: its steps stand then, its text is behind what was printed, its refusals are counted;
+-- the replay after something was played: its steps stand then, its text is after what was printed, its refusals are counted;
 -- the links are as they were
 abbrev pub after_playing : {A : Type 0} → Playing A → Played A → Playing A
 after_playing v p = record v { past = p.past; out = v.out ++ p.text; refusals = refused_more p.refusals v.refusals }
@@ -37,7 +37,7 @@ after_playing v p = record v { past = p.past; out = v.out ++ p.text; refusals = 
 -- descriptors were admitted, and the connection was found closed or not
 pub record HasAdmitted {A : Type 0} (closed : Bool) (before after : Playing A) (came : Admits A) : Type 0 where
   pub played : after ≡ after_playing before came.played
-  pub told : closed ≡ came.closed
+  pub found : closed ≡ came.closed
 
 -- the replay with these links
 abbrev pub with_links : {A : Type 0} → Playing A → List (Link A) → Playing A

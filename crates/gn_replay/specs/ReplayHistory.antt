@@ -11,7 +11,7 @@ use Rattle.gn_replay.specs.declared.fault.ReplayFault.{ReplayFault}
 use Rattle.gn_replay.specs.declared.fault.ReplayFault.TheVariants.{Write}
 use Rattle.gn_replay.specs.ReplayText.{capture_plays}
 
--- the history text of what was read of an input: none where that is no capture, else the configuration that it tells, and
+-- the history text of what was read of an input: none where that is no capture, else the configuration that it states, and
 -- the steps that its lines make, the oldest first
 abbrev pub IsHistoryOf : (A : Type 0) → Result (Parsed A) CaptureFault → List ℕ → Type 0
 IsHistoryOf A (Err fault) text = text ≡ []

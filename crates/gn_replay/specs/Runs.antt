@@ -2,12 +2,10 @@
 use Rattle.std.specs.Prelude.{◌≡◌, ◌++◌, ℕ, List, [], Option}
 use Rattle.std.specs.Io.KnownBytes.{Appends}
 use Rattle.gn_replay.specs.declared.fault.ReplayFault.{ReplayFault}
-use Rattle.gn_replay.specs.declared.fault.ReplayFault.TheVariants as replay
+use Rattle.gn_replay.specs.declared.fault.ReplayFault.TheVariants.{Write, NoMemory}
 use Rattle.gn_io.specs.Parts.{LeavesToWrite}
 use Rattle.gn_io.specs.Streams.{HasWriteFailed, NoWriteFailed, SinkState}
 use Rattle.gn_rules.specs.declared.receipt.Step.{Step}
-use Rattle.gn_replay.specs.declared.play_fault.PlayFault.{PlayFault}
-use Rattle.gn_replay.specs.declared.play_fault.PlayFault.TheVariants.{Write, NoMemory}
 use Rattle.gn_replay.specs.Events.{Played}
 use Rattle.gn_replay.specs.Links.{AreLinks}
 use Rattle.gn_replay.specs.Playing.{Playing, refused_more}
@@ -23,7 +21,7 @@ pub record HasRun {A : Type 0} (played : Played A) (steps : List (Step A)) (coun
 pub record HasPassed {A : Type 0} (played : Played A) (steps : List (Step A)) (count : ℕ) (old new : Option (List ℕ)) (waiting : List ℕ) : Type 0 where
   pub past : steps ≡ played.past
   pub refusals : count ≡ refused_more played.refusals 0
-  pub owed : LeavesToWrite old new waiting played.text
+  pub leaves : LeavesToWrite old new waiting played.text
 
 -- a replay that has nothing yet
 pub record IsNew {A : Type 0} (v : Playing A) : Type 0 where
@@ -39,13 +37,9 @@ pub record HasWritten {A : Type 0} (before after : Playing A) (old new : Option 
   pub links : AreLinks after.links done.links
   pub text : LeavesToWrite old new waiting (waited ++ done.played.text)
 
--- when playing stops: Write where a write failed or took nothing; memory may run out at any time,
--- and then no write did
-abbrev pub IsPlayFault : PlayFault → SinkState → SinkState → Type 0
+-- when playing stops: Write where a write failed or took nothing; memory may run out at any time, and then no write did;
+-- and for no other reason
+abbrev pub IsPlayFault : ReplayFault → SinkState → SinkState → Type 0
 IsPlayFault Write old new = HasWriteFailed old new
 IsPlayFault NoMemory old new = NoWriteFailed old new
-
--- the fault of a replay whose lines weren't played to the end
-abbrev pub of_playing : PlayFault → ReplayFault
-of_playing Write = replay.Write
-of_playing NoMemory = replay.NoMemory
+IsPlayFault fault old new = ⊥

@@ -25,7 +25,7 @@ pub fn audit<A: Allocator + Copy, C: RouterCore<A> + Drop, S: Source, W: Sink>(
 ) -> Result<Legality, ReplayFault>
     ensures short { OnOk result (IfSome (S.state source.old).rest (λ text. length text ≤ input_limit)) }
     ensures valid { OnOk result (IfSome (S.state source.old).rest (λ text. IsOk (history_of {A = A} text))) }
-    ensures told { IfOk result (λ legality. IfSome (S.state source.old).rest (λ text.
+    ensures written { IfOk result (λ legality. IfSome (S.state source.old).rest (λ text.
         AppendsVerdict A text legality (W.state sink.old).written (W.state sink.new).written)) }
     ensures reads { OnOk result (NoReadFailed (S.state source.old) (S.state source.new)) }
     ensures writes { OnOk result (NoWriteFailed (W.state sink.old) (W.state sink.new)) }
@@ -40,8 +40,8 @@ pub fn audit<A: Allocator + Copy, C: RouterCore<A> + Drop, S: Source, W: Sink>(
     Ok(legality)
 }
 
-/// As `audit`; behind `wrong INDEX` it writes two lines more: `line NUMBER: TEXT`, the wrong step's line as it stands in the
-/// history, with its number counted from 1, and `rules: TEXT`, what the rules answer to its event: a reply as behind the `=`
+/// As `audit`; after `wrong INDEX` it writes two lines more: `line NUMBER: TEXT`, the wrong step's line as it stands in the
+/// history, with its number counted from 1, and `rules: TEXT`, what the rules answer to its event: a reply as after the `=`
 /// of a step, or `refused NAME`.
 pub fn audit_explained<A: Allocator + Copy, C: RouterCore<A> + Drop, S: Source, W: Sink>(
     alloc: A,
@@ -50,7 +50,7 @@ pub fn audit_explained<A: Allocator + Copy, C: RouterCore<A> + Drop, S: Source, 
 ) -> Result<Legality, ReplayFault>
     ensures short { OnOk result (IfSome (S.state source.old).rest (λ text. length text ≤ input_limit)) }
     ensures valid { OnOk result (IfSome (S.state source.old).rest (λ text. IsOk (history_of {A = A} text))) }
-    ensures told { IfOk result (λ legality. IfSome (S.state source.old).rest (λ text.
+    ensures written { IfOk result (λ legality. IfSome (S.state source.old).rest (λ text.
         AppendsExplained A text legality (W.state sink.old).written (W.state sink.new).written)) }
     ensures reads { OnOk result (NoReadFailed (S.state source.old) (S.state source.new)) }
     ensures writes { OnOk result (NoWriteFailed (W.state sink.old) (W.state sink.new)) }

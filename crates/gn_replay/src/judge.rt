@@ -32,7 +32,7 @@ fn other_answer<A: Allocator + Copy, C: RouterCore<A>>(
     }
 }
 
-/// What a new router tells of steps, by answering their events itself. An `Err` is out of memory.
+/// The judgement of a new router on steps, by answering their events itself. An `Err` is out of memory.
 pub(crate) fn judge<A: Allocator + Copy, C: RouterCore<A>>(
     core: &mut C,
     steps: &[Step<A>],

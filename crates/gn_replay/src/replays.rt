@@ -46,7 +46,8 @@ fn replay_text<A: Allocator + Copy, C: RouterCore<A> + Drop, W: Sink>(
     ensures written { OnOk result (AppendsReplay A text.now (W.state sink.old).written (W.state sink.new).written) }
     ensures counted { IfOk result (λ exit. IsCounted A text.now exit) }
     ensures writes { OnOk result (NoWriteFailed (W.state sink.old) (W.state sink.new)) }
-    ensures stopped { IfErr result (λ fault. HasStopped A fault (Some text.now) (W.state sink.old).written (W.state sink.new).written) }
+    ensures stopped { IfErr result (λ fault. HasStopped A fault (Some text.now)
+        (W.state sink.old).written (W.state sink.new).written) }
     ensures fault { IfErr result (λ fault. IsReplayFault fault (capture_of {A = A})
         (input_of text.now) (input_of text.now) (W.state sink.old) (W.state sink.new)) }
 {

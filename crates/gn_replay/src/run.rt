@@ -7,7 +7,7 @@ ghost use Rattle.gn_replay.specs.Links.{AreLinks, LinkState};
 ghost use Rattle.gn_replay.specs.ReplayText.{capture_plays, plays};
 ghost use Rattle.gn_replay.specs.Runs.{HasPassed, HasRun, HasWritten, IsNew, IsPlayFault};
 
-use crate::play_fault::PlayFault;
+use crate::fault::ReplayFault;
 use crate::playing::Play;
 use gn_capture::{Capture, Line};
 use gn_io::{Block, Sink};
@@ -30,13 +30,13 @@ impl<A: Allocator + Copy, C: RouterCore<A>> Play<A, C> {
         self.out.clear();
     }
 
-    /// Plays one line. Its text waits behind what waited, and is written once that is a block.
+    /// Plays one line. Its text waits after what waited, and is written once that is a block.
     fn write_line<W: Sink>(
         &mut self,
         line: &Line<A>,
         block: &mut Block<A>,
         sink: &mut W,
-    ) -> Result<(), PlayFault>
+    ) -> Result<(), ReplayFault>
         ensures ok { OnOk result ((states : List LinkState) → AreLinks self.old.links states
             → HasWritten self.old self.new (W.state sink.old).written (W.state sink.new).written block.old block.new
             (plays self.old.settings self.old.past states line.now)) }
@@ -59,7 +59,7 @@ impl<A: Allocator + Copy, C: RouterCore<A>> Play<A, C> {
         lines: &[(u64, Line<A>)],
         block: &mut Block<A>,
         sink: &mut W,
-    ) -> Result<(), PlayFault>
+    ) -> Result<(), ReplayFault>
         requires new { IsNew self.old }
         requires empty { block.old ≡ [] }
         ensures ok { OnOk result (HasPassed (capture_plays self.old.settings lines.now) self.new.past self.new.refusals
@@ -82,7 +82,7 @@ impl<A: Allocator + Copy, C: RouterCore<A>> Play<A, C> {
         &mut self,
         lines: &[(u64, Line<A>)],
         sink: &mut W,
-    ) -> Result<(), PlayFault>
+    ) -> Result<(), ReplayFault>
         requires { IsNew self.old }
         ensures ok { OnOk result (HasRun (capture_plays self.old.settings lines.now) self.new.past self.new.refusals
             (W.state sink.old).written (W.state sink.new).written) }
@@ -98,11 +98,11 @@ impl<A: Allocator + Copy, C: RouterCore<A>> Play<A, C> {
                 block.write_rest(sink)?;
                 Ok(())
             }
-            Err(PlayFault::NoMemory) => {
+            Err(ReplayFault::NoMemory) => {
                 block.write_rest(sink)?;
-                Err(PlayFault::NoMemory)
+                Err(ReplayFault::NoMemory)
             }
-            Err(PlayFault::Write) => Err(PlayFault::Write),
+            Err(fault) => Err(fault),
         }
     }
 }
@@ -114,7 +114,7 @@ pub fn play<A: Allocator + Copy, C: RouterCore<A> + Drop, W: Sink>(
     alloc: A,
     capture: &Capture<A>,
     sink: &mut W,
-) -> Result<Replayed<C>, PlayFault>
+) -> Result<Replayed<C>, ReplayFault>
     ensures settings { IfOk result (λ replayed. C.settings replayed.core ≡ capture.now.config) }
     ensures played { IfOk result (λ replayed. HasRun (capture_plays capture.now.config capture.now.lines.items)
         (reverse (C.steps replayed.core)) replayed.refusals (W.state sink.old).written (W.state sink.new).written) }
