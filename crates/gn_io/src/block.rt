@@ -46,7 +46,8 @@ impl<A: Allocator> Block<A> {
         self.waiting.extend_from_slice(bytes)
     }
 
-    /// Writes all that waits. An `Err` is a write that failed, or one that took none: then what wasn't written is given up.
+    /// Writes all that waits. An `Err` is a write that failed, or one that took none: then what wasn't written is given
+    /// up.
     pub fn write_rest<S: Sink>(&mut self, sink: &mut S) -> Result<(), IoFault>
         ensures ok { OnOk result (Appends (S.state sink.old).written (S.state sink.new).written self.old) }
         ensures err { OnErr result (AppendsPart (S.state sink.old).written (S.state sink.new).written self.old) }
@@ -61,7 +62,8 @@ impl<A: Allocator> Block<A> {
 
     /// Writes all that waits where that is 32,768 bytes or more, and nothing else. An `Err` is as in `write_rest`.
     pub fn write_full<S: Sink>(&mut self, sink: &mut S) -> Result<(), IoFault>
-        ensures ok { OnOk result (LeavesToWrite (S.state sink.old).written (S.state sink.new).written self.new self.old) }
+        ensures ok { OnOk result
+            (LeavesToWrite (S.state sink.old).written (S.state sink.new).written self.new self.old) }
         ensures small { length self.new < block_size }
         ensures err { OnErr result (AppendsPart (S.state sink.old).written (S.state sink.new).written self.old) }
         ensures empty { OnErr result (self.new ≡ []) }

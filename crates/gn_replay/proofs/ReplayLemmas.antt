@@ -5,7 +5,7 @@ use Rattle.std.specs.Result.{IsErrAnd}
 use Rattle.gn_text.specs.declared.fault.CaptureFault.{CaptureFault}
 use Rattle.gn_io.specs.Input.{input_limit}
 use Rattle.gn_io.specs.Parts.{AppendsPart}
-use Rattle.gn_io.specs.Streams.{SinkState, SourceState}
+use Rattle.gn_io.specs.Streams.{SinkState, SourceState, streams}
 use Rattle.gn_replay.specs.declared.fault.ReplayFault.{ReplayFault}
 use Rattle.gn_replay.specs.declared.fault.ReplayFault.TheVariants as fault
 use Rattle.gn_replay.specs.Faults.{IsReplayFault, input_of}
@@ -88,8 +88,8 @@ of_input_that Says text (Some bytes) is h = subst (λ (z : List ℕ). (length z 
 
 -- what was done with a text was done with the input that it is
 pub fault_of_input : {X : Type 0} (f : ReplayFault) (parsed : List ℕ → Result X CaptureFault) (text : List ℕ) (source source_new : SourceState) (sink sink_new : SinkState)
-    → IfSome source.rest (λ bytes. text ≡ bytes) → IsReplayFault f parsed (input_of text) (input_of text) sink sink_new
-    → IsReplayFault f parsed source source_new sink sink_new
+    → IfSome source.rest (λ bytes. text ≡ bytes) → IsReplayFault f parsed (streams (input_of text) (input_of text) sink sink_new)
+    → IsReplayFault f parsed (streams source source_new sink sink_new)
 fault_of_input fault.Read parsed text source source_new sink sink_new is h = absurd (grind (arith, h))
 fault_of_input fault.TooLarge parsed text source source_new sink sink_new is h = absurd (grind (arith, h.given))
 fault_of_input (fault.Capture c) parsed text source source_new sink sink_new is h = of_input_that (λ z. parsed z ≡ Err c) text source.rest is h

@@ -31,10 +31,11 @@ AppendsVerdict A text legality old new = (line : List ℕ) × IsAudited A text l
 
 -- known bytes grew by a prefix of the line of the verdict on the history that a text says
 abbrev pub AppendsVerdictPart : (A : Type 0) → List ℕ → Option (List ℕ) → Option (List ℕ) → Type 0
-AppendsVerdictPart A text old new = (legality : Legality) × (line : List ℕ) × IsAudited A text legality line × AppendsPart old new line
+AppendsVerdictPart A text old new =
+    (legality : Legality) × (line : List ℕ) × IsAudited A text legality line × AppendsPart old new line
 
--- what was written where an audit stopped: a prefix of the line at Write, where a write failed or took nothing; at any other
--- fault nothing
+-- what was written where an audit stopped: a prefix of the line at Write, where a write failed or took nothing; at any
+-- other fault nothing
 abbrev pub HasStopped : (A : Type 0) → ReplayFault → Option (List ℕ) → Option (List ℕ) → Option (List ℕ) → Type 0
 HasStopped A Write rest old new = IfSome rest (λ text. AppendsVerdictPart A text old new)
 HasStopped A fault rest old new = Keeps old new

@@ -40,9 +40,10 @@ abbrev pub explanation_text : {A : Type 0} → ℕ × List ℕ → Result (Reply
 explanation_text line rules =
     codes "line " ++ decimal line.0 ++ codes ": " ++ line.1 ++ codes "\nrules: " ++ answer_line rules
 
--- the step at the index stands in this line of the text, which says it, and this is that line and what the rules answer to
--- the step's event after the steps before it
-pub record IsExplained {A : Type 0} (s : Config) (steps : List (Step A)) (text : List ℕ) (i : ℕ) (explanation : List ℕ) : Type 0 where
+-- the step at the index stands in this line of the text, which says it, and this is that line and what the rules answer
+-- to the step's event after the steps before it
+pub record IsExplained {A : Type 0} (s : Config) (steps : List (Step A)) (text : List ℕ) (i : ℕ) (explanation : List ℕ)
+    : Type 0 where
   pub step : Step A
   pub line : ℕ × List ℕ
   pub at : slice_get steps i ≡ Some step
@@ -67,14 +68,17 @@ pub record IsAuditExplained (A : Type 0) (text : List ℕ) (legality : Legality)
 
 -- known bytes grew by the verdict on the history that a text says, with what explains it
 abbrev pub AppendsExplained : (A : Type 0) → List ℕ → Legality → Option (List ℕ) → Option (List ℕ) → Type 0
-AppendsExplained A text legality old new = (lines : List ℕ) × IsAuditExplained A text legality lines × Appends old new lines
+AppendsExplained A text legality old new =
+    (lines : List ℕ) × IsAuditExplained A text legality lines × Appends old new lines
 
 -- known bytes grew by a prefix of the verdict on the history that a text says, with what explains it
 abbrev pub AppendsExplainedPart : (A : Type 0) → List ℕ → Option (List ℕ) → Option (List ℕ) → Type 0
-AppendsExplainedPart A text old new = (legality : Legality) × (lines : List ℕ) × IsAuditExplained A text legality lines × AppendsPart old new lines
+AppendsExplainedPart A text old new =
+    (legality : Legality) × (lines : List ℕ) × IsAuditExplained A text legality lines × AppendsPart old new lines
 
--- what was written where an explained audit stopped: a prefix of its lines at Write, where a write failed or took nothing;
--- at any other fault nothing
-abbrev pub HasExplainedStopped : (A : Type 0) → ReplayFault → Option (List ℕ) → Option (List ℕ) → Option (List ℕ) → Type 0
+-- what was written where an explained audit stopped: a prefix of its lines at Write, where a write failed or took
+-- nothing; at any other fault nothing
+abbrev pub HasExplainedStopped : (A : Type 0) → ReplayFault → Option (List ℕ) → Option (List ℕ) → Option (List ℕ)
+    → Type 0
 HasExplainedStopped A Write rest old new = IfSome rest (λ text. AppendsExplainedPart A text old new)
 HasExplainedStopped A fault rest old new = Keeps old new

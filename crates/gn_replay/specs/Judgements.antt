@@ -20,14 +20,15 @@ abbrev pub legality_of : {A : Type 0} → Judgement A → Legality
 legality_of Legal = verdict.Legal
 legality_of (WrongAt i rules) = verdict.WrongAt i
 
--- what a router answered to a step's event: nothing else than the step's reply where that is the rules' answer; where it
--- isn't, the rules' answer
+-- what a router answered to a step's event: nothing else than the step's reply where that is the rules' answer; where
+-- it isn't, the rules' answer
 abbrev pub IsOther : {A : Type 0} → Option (Result (Reply A) Refusal) → Result (Reply A) Refusal → Reply A → Type 0
 IsOther None rules reply = rules ≡ Ok reply
 IsOther (Some other) rules reply = (rules ≡ other) × (other ≢ Ok reply)
 
 -- the step at the index, and what the rules answer to its event after the steps before it
-pub record IsAnsweredAt {A : Type 0} (s : Config) (steps : List (Step A)) (i : ℕ) (rules : Result (Reply A) Refusal) : Type 0 where
+pub record IsAnsweredAt {A : Type 0} (s : Config) (steps : List (Step A)) (i : ℕ) (rules : Result (Reply A) Refusal)
+    : Type 0 where
   pub step : Step A
   pub at : slice_get steps i ≡ Some step
   pub answered : answer s (reverse (take i steps)) step.event ≡ rules

@@ -44,7 +44,8 @@ fault_ends s i c bytes before (Some fault) =
     record { played = followed before (fault_plays s before.past i c fault); state = ended }
 
 -- these descriptors and this fault come on a joined link, which has these bytes then
-abbrev pub delivers_these : {A : Type 0} → Config → List (Step A) → ℕ → ℕ → List ℕ → List Packet → Option FrameFault → Linked A
+abbrev pub delivers_these : {A : Type 0} → Config → List (Step A) → ℕ → ℕ → List ℕ → List Packet
+    → Option FrameFault → Linked A
 delivers_these s past i c bytes packets fault =
     let came = admits s past c packets in
     if came.closed then record { played = came.played; state = ended } else fault_ends s i c bytes came.played fault
@@ -75,11 +76,13 @@ awaits past = record { played = nothing past; state = greeting [] }
 abbrev pub delivers_if_connected : {A : Type 0} → Config → ℕ → Played A → List ℕ → Option ℕ → Linked A
 delivers_if_connected s i before piece None = record { played = before; state = ended }
 delivers_if_connected s i before piece (Some c) =
-    let later = delivers s before.past i c [] piece in record { played = followed before later.played; state = later.state }
+    let later = delivers s before.past i c [] piece in
+    record { played = followed before later.played; state = later.state }
 
 -- a Connect, and these bytes after it
 abbrev pub connects : {A : Type 0} → Config → List (Step A) → ℕ → List ℕ → Linked A
-connects s past i piece = delivers_if_connected s i (happens s past Connect) piece (connection_of (answer s past Connect))
+connects s past i piece =
+    delivers_if_connected s i (happens s past Connect) piece (connection_of (answer s past Connect))
 
 -- a link that awaits its greeting, with all bytes so far, by the state of its greeting
 abbrev pub greets : {A : Type 0} → Config → List (Step A) → ℕ → List ℕ → ShakeState → Linked A
@@ -90,5 +93,6 @@ greets s past i bytes Done = connects s past i (drop (length request_text) bytes
 -- a piece of link i, as the link stands
 abbrev pub takes_piece : {A : Type 0} → Config → List (Step A) → ℕ → List ℕ → LinkState → Linked A
 takes_piece s past i piece ended = record { played = prints past (ended_text i); state = ended }
-takes_piece s past i piece (greeting bytes) = greets s past i (bytes ++ piece) (greeting_state request_text (bytes ++ piece))
+takes_piece s past i piece (greeting bytes) =
+    greets s past i (bytes ++ piece) (greeting_state request_text (bytes ++ piece))
 takes_piece s past i piece (joined c bytes) = delivers s past i c bytes piece

@@ -67,8 +67,8 @@ play_lines s past links ((n, line) ∷ more) =
 abbrev pub capture_plays : {A : Type 0} → Config → List (ℕ × Line A) → Played A
 capture_plays s lines = play_lines s [] [] lines
 
--- what replay does with what was read of its input: nothing where that is no capture, else what its lines do on a router of
--- the configuration that it states
+-- what replay does with what was read of its input: nothing where that is no capture, else what its lines do on a
+-- router of the configuration that it states
 abbrev pub IsReplayOf : (A : Type 0) → Result (Parsed A) CaptureFault → Played A → Type 0
 IsReplayOf A (Err fault) played = played ≡ nothing []
 IsReplayOf A (Ok parsed) played =

@@ -12,13 +12,15 @@ use Rattle.gn_replay.specs.Playing.{Playing, refused_more}
 use Rattle.gn_replay.specs.ReplayText.{After}
 
 -- this was played on a new router: its steps, the newest first, the count of refusals, and all of its text was written
-pub record HasRun {A : Type 0} (played : Played A) (steps : List (Step A)) (count : ℕ) (old new : Option (List ℕ)) : Type 0 where
+pub record HasRun {A : Type 0} (played : Played A) (steps : List (Step A)) (count : ℕ) (old new : Option (List ℕ))
+    : Type 0 where
   pub past : steps ≡ played.past
   pub refusals : count ≡ refused_more played.refusals 0
   pub text : Appends old new played.text
 
 -- this was played on a new router, and of its text all was written but what waits
-pub record HasPassed {A : Type 0} (played : Played A) (steps : List (Step A)) (count : ℕ) (old new : Option (List ℕ)) (waiting : List ℕ) : Type 0 where
+pub record HasPassed {A : Type 0} (played : Played A) (steps : List (Step A)) (count : ℕ) (old new : Option (List ℕ))
+    (waiting : List ℕ) : Type 0 where
   pub past : steps ≡ played.past
   pub refusals : count ≡ refused_more played.refusals 0
   pub leaves : LeavesToWrite old new waiting played.text
@@ -30,15 +32,16 @@ pub record IsNew {A : Type 0} (v : Playing A) : Type 0 where
   pub refusals : v.refusals ≡ 0
 
 -- a line was played, and of what waited and its text all was written but what waits then
-pub record HasWritten {A : Type 0} (before after : Playing A) (old new : Option (List ℕ)) (waited waiting : List ℕ) (done : After A) : Type 0 where
+pub record HasWritten {A : Type 0} (before after : Playing A) (old new : Option (List ℕ)) (waited waiting : List ℕ)
+    (done : After A) : Type 0 where
   pub settings : after.settings ≡ before.settings
   pub past : after.past ≡ done.played.past
   pub refusals : after.refusals ≡ refused_more done.played.refusals before.refusals
   pub links : AreLinks after.links done.links
   pub text : LeavesToWrite old new waiting (waited ++ done.played.text)
 
--- when playing stops: Write where a write failed or took nothing; memory may run out at any time, and then no write did;
--- and for no other reason
+-- when playing stops: Write where a write failed or took nothing; memory may run out at any time, and then no write
+-- did; and for no other reason
 abbrev pub IsPlayFault : ReplayFault → SinkState → SinkState → Type 0
 IsPlayFault Write old new = HasWriteFailed old new
 IsPlayFault NoMemory old new = NoWriteFailed old new

@@ -8,8 +8,8 @@ use crate::judgement::{Answer, Judgement};
 use gn_rules::{Refusal, RouterCore, Step, is_same_reply};
 use std::alloc::{AllocError, Allocator};
 
-/// What a router answers to a step's event, where that isn't the step's reply; else it has made the very step. An `Err` is
-/// out of memory.
+/// What a router answers to a step's event, where that isn't the step's reply; else it has made the very step. An `Err`
+/// is out of memory.
 fn other_answer<A: Allocator + Copy, C: RouterCore<A>>(
     core: &mut C,
     step: &Step<A>,

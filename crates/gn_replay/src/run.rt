@@ -76,8 +76,8 @@ impl<A: Allocator + Copy, C: RouterCore<A>> Play<A, C> {
         Ok(())
     }
 
-    /// Plays lines in order, and writes their text in blocks, what is over at the end. Where memory runs out, the text of
-    /// all lines before that is written too.
+    /// Plays lines in order, and writes their text in blocks, what is over at the end. Where memory runs out, the text
+    /// of all lines before that is written too.
     fn write_lines<W: Sink>(
         &mut self,
         lines: &[(u64, Line<A>)],
@@ -108,8 +108,8 @@ impl<A: Allocator + Copy, C: RouterCore<A>> Play<A, C> {
 }
 
 /// Makes a router as the capture's first lines say, plays its lines on it, and writes what they print in blocks of at
-/// least 32,768 bytes, the last one shorter. An `Err` is a write that failed or took nothing, or out of memory: a prefix of
-/// that text was written.
+/// least 32,768 bytes, the last one shorter. An `Err` is a write that failed or took nothing, or out of memory: a
+/// prefix of that text was written.
 pub fn play<A: Allocator + Copy, C: RouterCore<A> + Drop, W: Sink>(
     alloc: A,
     capture: &Capture<A>,
