@@ -65,7 +65,7 @@ const AUDITS: [Audit; 4] = [
     ),
 ];
 
-/// What a command printed, where it ended with this status and told no fault.
+/// What a command printed, where it ended with this status and wrote no fault.
 fn printed(alloc: Global, words: &[&str], input: &[u8], status: u8) -> Option<Vec<u8>> {
     let mut reader = ReaderSource::new(input);
     let mut writer = WriterSink::new(Vec::new(alloc));
@@ -99,13 +99,13 @@ fn replay_all<R: Files + Print + AllocGlobal>(rt: &R) -> io::Result<()> {
         let capture = fs::read(rt, &format!(in alloc; "{name}.capture")?)?;
         let wanted = fs::read(rt, &format!(in alloc; "{name}.replay")?)?;
         let same = prints(alloc, &["gn", "replay"], &capture, 0, &wanted);
-        let told = if same { "as in" } else { "not as in" };
+        let compared = if same { "as in" } else { "not as in" };
         let legal = if is_legal(alloc, &capture) {
             "legal"
         } else {
             "not legal"
         };
-        println!(rt; "{name}.capture: replayed {told} {name}.replay, its history is {legal}")?;
+        println!(rt; "{name}.capture: replayed {compared} {name}.replay, its history is {legal}")?;
     }
     Ok(())
 }
@@ -115,8 +115,8 @@ fn audit_all<R: Files + Print + AllocGlobal>(rt: &R) -> io::Result<()> {
     for (name, words, input, status, wanted) in AUDITS {
         let history = fs::read(rt, input)?;
         let same = prints(alloc, words, &history, status, &fs::read(rt, wanted)?);
-        let told = if same { "as in" } else { "not as in" };
-        println!(rt; "{input}: {name} {told} {wanted}")?;
+        let compared = if same { "as in" } else { "not as in" };
+        println!(rt; "{input}: {name} {compared} {wanted}")?;
     }
     Ok(())
 }

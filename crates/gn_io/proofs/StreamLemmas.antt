@@ -80,14 +80,14 @@ rest_part old mid new waiting all h k = (h.0, leaves_step old mid new waiting h.
 pub rest_cut : (old mid new : Option (List ℕ)) (waiting all : List ℕ) → WaitsPart old mid waiting all → AppendsPart mid new waiting → AppendsPart old new all
 rest_cut old mid new waiting all h k = leaves_part old mid new waiting h.0 all h.1 k
 
--- a prefix of what was owed was written, and what waits is owed first
+-- a prefix of what was left to write was written, and what waits is first of the rest
 pub leaves_after : (old mid new : Option (List ℕ)) (x rest waiting all : List ℕ) → LeavesToWrite old mid (x ++ rest) all → LeavesToWrite mid new waiting x → LeavesToWrite old new (waiting ++ rest) all
 leaves_after old mid new x rest waiting all h k =
     let e : (h.0 ++ k.0) ++ (waiting ++ rest) ≡ all =
     append_assoc h.0 k.0 (waiting ++ rest) ∙ (ap (λ r. h.0 ++ r) (sym (append_assoc k.0 waiting rest) ∙ ap (λ r. r ++ rest) k.2) ∙ h.2) in
     (h.0 ++ k.0, appends_after old mid new h.0 k.0 h.1 k.1, e)
 
--- a text was added behind what waited, and what is over was written
+-- a text was added after what waited, and what is over was written
 pub leaves_text : (old mid new : Option (List ℕ)) (waited text rest waiting all : List ℕ) → LeavesToWrite old mid (waited ++ (text ++ rest)) all → LeavesToWrite mid new waiting (waited ++ text)
     → LeavesToWrite old new (waiting ++ rest) all
 leaves_text old mid new waited text rest waiting all h k =
@@ -98,7 +98,7 @@ pub waits_text : (old mid new : Option (List ℕ)) (waited text rest waiting all
 waits_text old mid new waited text rest waiting all h k =
     (k.0 ++ rest, subst (λ (xs : List ℕ). LeavesToWrite old new xs all) (append_assoc waiting k.0 rest) (leaves_text old mid new waited text rest (waiting ++ k.0) all h k.1))
 
--- what is owed waits, and nothing else
+-- what is left to write waits, and nothing else
 pub leaves_waits : (old new : Option (List ℕ)) (waiting all : List ℕ) → LeavesToWrite old new waiting all → WaitsPart old new waiting all
 leaves_waits old new waiting all h = ([], subst (λ (xs : List ℕ). LeavesToWrite old new xs all) (sym (append-nil waiting)) h)
 

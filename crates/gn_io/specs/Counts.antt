@@ -23,10 +23,10 @@ abbrev pub took_none : {E : Type 0} → Result ℕ E → List ℕ → Bool
 took_none (Ok n) piece = (n == 0) && not (length piece == 0)
 took_none (Err fault) piece = false
 
--- a count tells that there were more than n: it has risen by more, or is at its last value
+-- a count says that there were more than n: it has risen by more, or is at its last value
 abbrev pub RisesBeyond : ℕ → ℕ → ℕ → Type 0
 RisesBeyond n old new = (old + n < new) ⊎ (last_count ≤ new)
 
--- a count tells that it happened
+-- a count says that it happened
 abbrev pub Rises : ℕ → ℕ → Type 0
 Rises old new = RisesBeyond 0 old new

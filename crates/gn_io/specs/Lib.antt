@@ -1,3 +1,4 @@
 pub mod Counts
 pub mod Input
 pub mod Parts
+pub mod Streams

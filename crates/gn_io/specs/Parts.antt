@@ -1,4 +1,4 @@
--- Bytes of which a front was written.
+-- Bytes of which a prefix was written.
 use Rattle.std.specs.Prelude.{◌≡◌, ℕ, List, ◌++◌, Option}
 use Rattle.std.specs.Io.KnownBytes.{Appends}
 

@@ -1,9 +1,9 @@
 //! Output that is written in blocks.
 
-ghost use Rattle.std.specs.Prelude.{◌≡◌, ◌<◌, ◌++◌, ◌⊎◌, [], length, OnOk, OnErr};
+ghost use Rattle.std.specs.Prelude.{◌≡◌, ◌<◌, ◌++◌, [], length, OnOk, OnErr};
 ghost use Rattle.std.specs.Io.KnownBytes.{Appends};
-ghost use Rattle.gn_io.specs.Counts.{Rises};
 ghost use Rattle.gn_io.specs.Parts.{AppendsPart, LeavesToWrite, block_size};
+ghost use Rattle.gn_io.specs.Streams.{HasWriteFailed, NoWriteFailed};
 
 use crate::fault::IoFault;
 use crate::sink::Sink;
@@ -46,15 +46,14 @@ impl<A: Allocator> Block<A> {
         self.waiting.extend_from_slice(bytes)
     }
 
-    /// Writes all that waits. An `Err` is a write that failed, or one that took none: then what wasn't written is given up.
+    /// Writes all that waits. An `Err` is a write that failed, or one that took none: then what wasn't written is given
+    /// up.
     pub fn write_rest<S: Sink>(&mut self, sink: &mut S) -> Result<(), IoFault>
-        ensures ok { OnOk result (Appends (S.told sink.old) (S.told sink.new) self.old) }
-        ensures err { OnErr result (AppendsPart (S.told sink.old) (S.told sink.new) self.old) }
+        ensures ok { OnOk result (Appends (S.state sink.old).written (S.state sink.new).written self.old) }
+        ensures err { OnErr result (AppendsPart (S.state sink.old).written (S.state sink.new).written self.old) }
         ensures empty { self.new ≡ [] }
-        ensures cause { OnErr result (Rises (S.failures sink.old) (S.failures sink.new)
-            ⊎ Rises (S.stalls sink.old) (S.stalls sink.new)) }
-        ensures failures { OnOk result (S.failures sink.new ≡ S.failures sink.old) }
-        ensures stalls { OnOk result (S.stalls sink.new ≡ S.stalls sink.old) }
+        ensures cause { OnErr result (HasWriteFailed (S.state sink.old) (S.state sink.new)) }
+        ensures unfailed { OnOk result (NoWriteFailed (S.state sink.old) (S.state sink.new)) }
     {
         let written = write_all(sink, &self.waiting);
         self.waiting.clear();
@@ -63,14 +62,13 @@ impl<A: Allocator> Block<A> {
 
     /// Writes all that waits where that is 32,768 bytes or more, and nothing else. An `Err` is as in `write_rest`.
     pub fn write_full<S: Sink>(&mut self, sink: &mut S) -> Result<(), IoFault>
-        ensures ok { OnOk result (LeavesToWrite (S.told sink.old) (S.told sink.new) self.new self.old) }
+        ensures ok { OnOk result
+            (LeavesToWrite (S.state sink.old).written (S.state sink.new).written self.new self.old) }
         ensures small { length self.new < block_size }
-        ensures err { OnErr result (AppendsPart (S.told sink.old) (S.told sink.new) self.old) }
+        ensures err { OnErr result (AppendsPart (S.state sink.old).written (S.state sink.new).written self.old) }
         ensures empty { OnErr result (self.new ≡ []) }
-        ensures cause { OnErr result (Rises (S.failures sink.old) (S.failures sink.new)
-            ⊎ Rises (S.stalls sink.old) (S.stalls sink.new)) }
-        ensures failures { OnOk result (S.failures sink.new ≡ S.failures sink.old) }
-        ensures stalls { OnOk result (S.stalls sink.new ≡ S.stalls sink.old) }
+        ensures cause { OnErr result (HasWriteFailed (S.state sink.old) (S.state sink.new)) }
+        ensures unfailed { OnOk result (NoWriteFailed (S.state sink.old) (S.state sink.new)) }
     {
         if self.waiting.len() < BLOCK {
             return Ok(());

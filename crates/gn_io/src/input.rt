@@ -2,6 +2,7 @@
 
 ghost use Rattle.std.specs.Prelude.{◌≡◌, ◌≤◌, length, IfOk, IfErr, IfSome, OnOk};
 ghost use Rattle.gn_io.specs.Input.{input_limit, IsInputFault};
+ghost use Rattle.gn_io.specs.Streams.{NoReadFailed};
 
 use crate::source::Source;
 use std::alloc::Allocator;
@@ -13,7 +14,7 @@ pub enum InputFault {
     Read,
     /// There are more than 67,108,864 bytes.
     TooLarge,
-    /// Want of memory.
+    /// Out of memory.
     NoMemory,
 }
 
@@ -26,11 +27,10 @@ pub fn read_input<A: Allocator, S: Source>(
     alloc: A,
     source: &mut S,
 ) -> Result<Vec<u8, A>, InputFault>
-    ensures all { IfOk result (λ input. IfSome (S.rest source.old) (λ bytes. input.items ≡ bytes)) }
+    ensures all { IfOk result (λ input. IfSome (S.state source.old).rest (λ bytes. input.items ≡ bytes)) }
     ensures short { IfOk result (λ input. length input.items ≤ input_limit) }
-    ensures failures { OnOk result (S.failures source.new ≡ S.failures source.old) }
-    ensures fault { IfErr result (λ fault. IsInputFault fault (S.rest source.old)
-        (S.failures source.old) (S.failures source.new) (S.given source.old) (S.given source.new)) }
+    ensures unfailed { OnOk result (NoReadFailed (S.state source.old) (S.state source.new)) }
+    ensures fault { IfErr result (λ fault. IsInputFault fault (S.state source.old) (S.state source.new)) }
 {
     let mut input = Vec::new(alloc);
     let mut room = [0u8; 4096];

@@ -1,4 +1,4 @@
-//! Streams of bytes: where input comes from, where output goes, and what each tells of both.
+//! Streams of bytes: where input comes from, where output goes, and what is known of both.
 #![tactic(auto)]
 
 mod block;

@@ -10,11 +10,7 @@ pub struct Nowhere;
 impl Sink for Nowhere {
     ghost use Rattle.std.specs.Prelude.{None};
 
-    ghost told = { λ _. None };
-
-    ghost failures = { λ _. 0 };
-
-    ghost stalls = { λ _. 0 };
+    ghost state = { λ _. record { written = None; failures = 0; stalls = 0 } };
 
     fn write(&mut self, piece: &[u8]) -> Result<usize, IoFault> {
         Ok(piece.len())

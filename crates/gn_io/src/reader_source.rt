@@ -30,11 +30,7 @@ impl<R: Read> ReaderSource<R> {
 }
 
 impl<R: Read> Source for ReaderSource<R> {
-    ghost rest = { λ s. R.remaining s.reader };
-
-    ghost failures = { λ s. s.failures };
-
-    ghost given = { λ s. s.given };
+    ghost state = { λ s. record { rest = R.remaining s.reader; failures = s.failures; given = s.given } };
 
     fn read(&mut self, room: &mut [u8]) -> Result<usize, IoFault> {
         match self.reader.read(room) {

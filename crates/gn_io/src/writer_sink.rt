@@ -37,11 +37,7 @@ impl<W: Write> WriterSink<W> {
 }
 
 impl<W: Write> Sink for WriterSink<W> {
-    ghost told = { λ s. W.contents s.writer };
-
-    ghost failures = { λ s. s.failures };
-
-    ghost stalls = { λ s. s.stalls };
+    ghost state = { λ s. record { written = W.contents s.writer; failures = s.failures; stalls = s.stalls } };
 
     fn write(&mut self, piece: &[u8]) -> Result<usize, IoFault> {
         match self.writer.write(piece) {

@@ -32,7 +32,7 @@ pub plain_words : PlainWordsAreRead
 unfolding clap_on_literals
 plain_words = record { replay = λ program. refl; history = λ program. refl; audit = λ program. refl; explain = λ program. refl }
 
--- a flag's value, as it is got, tells whether the flag is set
+-- a flag's value, as it is got, says whether the flag is set
 pub flag_read : (o : Option (Bor Text)) (f : Found) (id : Text) → option_map (λ s. s.now) o ≡ first_value f id
     → option_map_or (λ s. bytes_eq s.now (codes "true")) o false ≡ is_set id (rows_of f)
 flag_read None f id e = ap (λ (v : Option Text). option_map_or (λ t. bytes_eq t (codes "true")) v false) (e ∙ first_value-rows f id)

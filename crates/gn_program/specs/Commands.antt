@@ -1,12 +1,11 @@
--- What a command does: what replay or audit answers to its input and output, and the status that tells of it.
-use Rattle.std.specs.Prelude.{◌≡◌, ◌≢◌, ◌⊎◌, ◌≤◌, ℕ, List, length, Option, IfSome, Result, Ok, Err, IfOk, IfErr, OnOk, IsOk}
+-- What a command does: what replay or audit answers to its input and output, and the status that stands for it.
+use Rattle.std.specs.Prelude.{◌≡◌, ◌≢◌, ◌⊎◌, ◌≤◌, ℕ, IfSome, Result, Ok, Err, IfOk, IfErr, OnOk}
 use Rattle.std.specs.declared.alloc.Global.{Global}
 use Rattle.clap.specs.declared.error.kind.ErrorKind.{ErrorKind}
 use Rattle.clap.specs.declared.error.kind.ErrorKind.TheVariants.{DisplayHelp, DisplayVersion, OutOfMemory}
-use Rattle.gn_replay.specs.Faults.{IsReplayFault}
+use Rattle.gn_replay.specs.Faults.{IsAnswerOn}
 use Rattle.gn_replay.specs.declared.fault.ReplayFault.{ReplayFault}
-use Rattle.gn_text.specs.declared.fault.CaptureFault.{CaptureFault}
-use Rattle.gn_io.specs.Input.{input_limit}
+use Rattle.gn_io.specs.Streams.{Streams}
 use Rattle.gn_capture.specs.Captures.{capture_of}
 use Rattle.gn_replay.specs.Replays.{AppendsReplay, HasStopped, IsCounted}
 use Rattle.gn_replay.specs.declared.replays.Exit.{Exit}
@@ -19,69 +18,38 @@ use Rattle.gn_rules.specs.declared.legality.Legality.TheVariants.{Legal, WrongAt
 use Rattle.gn_program.specs.declared.request.Request.{Request}
 use Rattle.gn_program.specs.declared.request.Request.TheVariants.{Replay, History, Audit, Explain}
 
--- a command's input and output: what the input will give, before; what the output has taken, before and after, as far as
--- they are known; then each count before and after: reads that failed, bytes given, writes that failed, and writes that took
--- nothing
-pub record Streams : Type 0 where
-  pub rest : Option (List ℕ)
-  pub told : Option (List ℕ)
-  pub told_new : Option (List ℕ)
-  pub failures : ℕ
-  pub failures_new : ℕ
-  pub given : ℕ
-  pub given_new : ℕ
-  pub unwritten : ℕ
-  pub unwritten_new : ℕ
-  pub stalls : ℕ
-  pub stalls_new : ℕ
-
--- no read and no write failed, and no write took nothing
-abbrev pub IsUnfailed : Streams → Type 0
-IsUnfailed s = (s.failures_new ≡ s.failures) × (s.unwritten_new ≡ s.unwritten) × (s.stalls_new ≡ s.stalls)
-
--- the streams confirm the fault, where `parsed` is what a text says
-abbrev pub IsConfirmedBy : {X : Type 0} → (List ℕ → Result X CaptureFault) → Streams → ReplayFault → Type 0
-IsConfirmedBy parsed s fault = IsReplayFault fault parsed s.rest s.failures s.failures_new s.given s.given_new s.unwritten s.unwritten_new s.stalls s.stalls_new
-
--- what replay answers: the input was a capture, no longer than it may be, and its replay text was written, its steps and
--- refusals counted; or it stopped, at a fault that the streams confirm, and what was written then is a prefix of the text
+-- what replay answers: the input was a capture, no longer than it may be, and its replay text was written, its steps
+-- and refusals counted; or it stopped, at a fault that the streams confirm, and what was written then is a prefix of
+-- the text
 pub record IsReplayAnswer (s : Streams) (answer : Result Exit ReplayFault) : Type 0 where
-  pub short : OnOk answer (IfSome s.rest (λ text. length text ≤ input_limit))
-  pub valid : OnOk answer (IfSome s.rest (λ text. IsOk (capture_of {A = Global} text)))
-  pub written : OnOk answer (IfSome s.rest (λ text. AppendsReplay Global text s.told s.told_new))
-  pub counted : IfOk answer (λ exit. IfSome s.rest (λ text. IsCounted Global text exit))
-  pub unfailed : OnOk answer (IsUnfailed s)
-  pub stopped : IfErr answer (λ fault. HasStopped Global fault s.rest s.told s.told_new)
-  pub fault : IfErr answer (IsConfirmedBy (capture_of {A = Global}) s)
+  pub answered : IsAnswerOn (capture_of {A = Global}) s answer
+  pub written : OnOk answer (IfSome s.source.rest (λ text.
+      AppendsReplay Global text s.sink.written s.sink_new.written))
+  pub counted : IfOk answer (λ exit. IfSome s.source.rest (λ text. IsCounted Global text exit))
+  pub stopped : IfErr answer (λ fault. HasStopped Global fault s.source.rest s.sink.written s.sink_new.written)
 
 -- what replay_history answers: as replay, with the history text of the input in place of its replay text
 pub record IsHistoryAnswer (s : Streams) (answer : Result Exit ReplayFault) : Type 0 where
-  pub short : OnOk answer (IfSome s.rest (λ text. length text ≤ input_limit))
-  pub valid : OnOk answer (IfSome s.rest (λ text. IsOk (capture_of {A = Global} text)))
-  pub written : OnOk answer (IfSome s.rest (λ text. AppendsHistory Global text s.told s.told_new))
-  pub counted : IfOk answer (λ exit. IfSome s.rest (λ text. IsCounted Global text exit))
-  pub unfailed : OnOk answer (IsUnfailed s)
-  pub stopped : IfErr answer (λ fault. HasHistoryStopped Global fault s.rest s.told s.told_new)
-  pub fault : IfErr answer (IsConfirmedBy (capture_of {A = Global}) s)
+  pub answered : IsAnswerOn (capture_of {A = Global}) s answer
+  pub written : OnOk answer (IfSome s.source.rest (λ text.
+      AppendsHistory Global text s.sink.written s.sink_new.written))
+  pub counted : IfOk answer (λ exit. IfSome s.source.rest (λ text. IsCounted Global text exit))
+  pub stopped : IfErr answer (λ fault. HasHistoryStopped Global fault s.source.rest s.sink.written s.sink_new.written)
 
--- what audit answers: the input was a history, no longer than it may be, and the line that tells of it was written; or it
--- stopped, at a fault that the streams confirm, and what was written then, of the line, is a prefix of it
+-- what audit answers: the input was a history, no longer than it may be, and the line of its verdict was written; or it
+-- stopped, at a fault that the streams confirm, and what was written then is a prefix of the line
 pub record IsAuditAnswer (s : Streams) (answer : Result Legality ReplayFault) : Type 0 where
-  pub short : OnOk answer (IfSome s.rest (λ text. length text ≤ input_limit))
-  pub valid : OnOk answer (IfSome s.rest (λ text. IsOk (history_of {A = Global} text)))
-  pub told : IfOk answer (λ legality. IfSome s.rest (λ text. AppendsVerdict Global text legality s.told s.told_new))
-  pub unfailed : OnOk answer (IsUnfailed s)
-  pub stopped : IfErr answer (λ fault. HasAuditStopped Global fault s.rest s.told s.told_new)
-  pub fault : IfErr answer (IsConfirmedBy (history_of {A = Global}) s)
+  pub answered : IsAnswerOn (history_of {A = Global}) s answer
+  pub written : IfOk answer (λ legality. IfSome s.source.rest (λ text.
+      AppendsVerdict Global text legality s.sink.written s.sink_new.written))
+  pub stopped : IfErr answer (λ fault. HasAuditStopped Global fault s.source.rest s.sink.written s.sink_new.written)
 
--- what audit_explained answers: as audit, with the lines that explain a wrong step behind the line that tells of it
+-- what audit_explained answers: as audit, with the lines that explain a wrong step after the line of the verdict
 pub record IsExplainAnswer (s : Streams) (answer : Result Legality ReplayFault) : Type 0 where
-  pub short : OnOk answer (IfSome s.rest (λ text. length text ≤ input_limit))
-  pub valid : OnOk answer (IfSome s.rest (λ text. IsOk (history_of {A = Global} text)))
-  pub told : IfOk answer (λ legality. IfSome s.rest (λ text. AppendsExplained Global text legality s.told s.told_new))
-  pub unfailed : OnOk answer (IsUnfailed s)
-  pub stopped : IfErr answer (λ fault. HasExplainedStopped Global fault s.rest s.told s.told_new)
-  pub fault : IfErr answer (IsConfirmedBy (history_of {A = Global}) s)
+  pub answered : IsAnswerOn (history_of {A = Global}) s answer
+  pub written : IfOk answer (λ legality. IfSome s.source.rest (λ text.
+      AppendsExplained Global text legality s.sink.written s.sink_new.written))
+  pub stopped : IfErr answer (λ fault. HasExplainedStopped Global fault s.source.rest s.sink.written s.sink_new.written)
 
 -- the status of a replay: 0 where it was done, else 1
 abbrev pub replay_status : Result Exit ReplayFault → ℕ
@@ -99,8 +67,9 @@ abbrev pub Replays : Streams → ℕ → Type 0
 Replays s status = (answer : Result Exit ReplayFault) × IsReplayAnswer s answer × (status ≡ replay_status answer)
 
 -- the streams are as some answer of replay_history leaves them, and the status is that answer's
-abbrev pub TellsHistory : Streams → ℕ → Type 0
-TellsHistory s status = (answer : Result Exit ReplayFault) × IsHistoryAnswer s answer × (status ≡ replay_status answer)
+abbrev pub ReplaysHistory : Streams → ℕ → Type 0
+ReplaysHistory s status =
+    (answer : Result Exit ReplayFault) × IsHistoryAnswer s answer × (status ≡ replay_status answer)
 
 -- the streams are as some answer of audit leaves them, and the status is that answer's
 abbrev pub Audits : Streams → ℕ → Type 0
@@ -113,14 +82,14 @@ Explains s status = (answer : Result Legality ReplayFault) × IsExplainAnswer s 
 -- the streams and the status are as one of the request's answers says
 abbrev pub Does : Request → Streams → ℕ → Type 0
 Does Replay s status = Replays s status
-Does History s status = TellsHistory s status
+Does History s status = ReplaysHistory s status
 Does Audit s status = Audits s status
 Does Explain s status = Explains s status
 
 -- words that ask for no work: at help and the version the status is 0 or 1 and anything may be written; else nothing is
 -- written, and the status is 1 where memory ran out and 2 at all else
 pub record IsTurnedAway {W : Type 0} (kind : ErrorKind) (writer writer_new : W) (status : ℕ) : Type 0 where
-  pub shown : (kind ≡ DisplayHelp) ⊎ (kind ≡ DisplayVersion) → status ≤ 1
+  pub printed : (kind ≡ DisplayHelp) ⊎ (kind ≡ DisplayVersion) → status ≤ 1
   pub memory : kind ≡ OutOfMemory → status ≡ 1
   pub mistake : kind ≢ DisplayHelp → kind ≢ DisplayVersion → kind ≢ OutOfMemory → status ≡ 2
   pub unwritten : kind ≢ DisplayHelp → kind ≢ DisplayVersion → writer_new ≡ writer

@@ -20,8 +20,8 @@ replay_app = with_rule (new_app (codes "replay")) (flag_rule (codes "history"))
 abbrev pub audit_app : App
 audit_app = with_rule (new_app (codes "audit")) (flag_rule (codes "explain"))
 
--- the command `gn`: it has a version, and one of its subcommands has to be named; `help` is none of them, and none takes
--- more than its flags
+-- the command `gn`: it has a version, and one of its subcommands has to be named; `help` is none of them, and none
+-- takes more than its flags
 abbrev pub gn_app : App
 gn_app =
     let gn = new_app (codes "gn") in
@@ -36,16 +36,18 @@ is_set flag rows = option_map_or (λ value. bytes_eq value (codes "true")) (firs
 abbrev pub request_named : Text → List Row → Option Request
 request_named name rows =
     if bytes_eq name (codes "replay") then Some (if is_set (codes "history") rows then History else Replay)
-    else (if bytes_eq name (codes "audit") then Some (if is_set (codes "explain") rows then Explain else Audit) else None)
+    else (if bytes_eq name (codes "audit") then Some (if is_set (codes "explain") rows then Explain else Audit)
+    else None)
 
--- what the words ask for, by what is wrong with them and by the subcommand that they name; nothing, where something is wrong
+-- what the words ask for, by what is wrong with them and by the subcommand that they name; nothing, where something is
+-- wrong
 abbrev pub request_by : Kinds → Option (Text × List Row) → Option Request
 request_by [] (Some (name, rows)) = request_named name rows
 request_by [] None = None
 request_by (fault ∷ faults) named = None
 
--- what the words ask for, the first of them the program's name; nothing where they ask for help or the version, or something
--- is wrong with them
+-- what the words ask for, the first of them the program's name; nothing where they ask for help or the version, or
+-- something is wrong with them
 abbrev pub request_of : List Text → Option Request
 request_of words = request_by (fault_of gn_app words) (subcommand_of gn_app words)
 

@@ -7,13 +7,14 @@ ghost use Rattle.clap.specs.Kinds.{IsAmong};
 ghost use Rattle.clap.specs.Words.{fault_of, kind_of};
 ghost use Rattle.clap.specs.declared.error.kind.ErrorKind.{ErrorKind as Kind};
 ghost use Rattle.clap.specs.declared.error.kind.ErrorKind.TheVariants.{OutOfMemory};
-ghost use Rattle.gn_program.specs.Commands.{Does, IsTurnedAway, IsUnread, Streams, audit_status, replay_status};
+ghost use Rattle.gn_program.specs.Commands.{Does, IsTurnedAway, IsUnread, audit_status, replay_status};
+ghost use Rattle.gn_io.specs.Streams.{streams};
 ghost use Rattle.gn_program.specs.Words.{gn_app, request_of};
 ghost use Rattle.gn_program.specs.declared.request.Request.{Request as Asked};
 
 use crate::fault::Fault;
 use crate::request::Request;
-use crate::tell::tell;
+use crate::text::write_text;
 use crate::words::read_words;
 use clap::Error;
 use clap::error::ErrorKind;
@@ -34,32 +35,32 @@ const FAULT: u8 = 1;
 /// The words can't be read.
 const USAGE: u8 = 2;
 
-/// Tells a fault, on a line of its own. That it can't be told changes no status.
-fn fault_told<F: Sink>(faults: &mut F, fault: Fault) -> u8
+/// Writes a fault, on a line of its own. That it can't be written changes no status.
+fn write_fault<F: Sink>(faults: &mut F, fault: Fault) -> u8
     ensures { result ≡ 1 }
 {
-    let _ = tell(faults, fault);
+    let _ = write_text(faults, fault);
     FAULT
 }
 
-/// The status after a replay, whose fault is told.
-fn tell_of_replay<F: Sink>(faults: &mut F, answer: Result<Exit, ReplayFault>) -> u8
+/// The status after a replay, whose fault is written.
+fn end_replay<F: Sink>(faults: &mut F, answer: Result<Exit, ReplayFault>) -> u8
     ensures { result ≡ replay_status answer }
 {
     match answer {
         Ok(_) => DONE,
-        Err(fault) => fault_told(faults, Fault::from(fault)),
+        Err(fault) => write_fault(faults, Fault::from(fault)),
     }
 }
 
-/// The status after an audit, whose fault is told.
-fn tell_of_audit<F: Sink>(faults: &mut F, answer: Result<Legality, ReplayFault>) -> u8
+/// The status after an audit, whose fault is written.
+fn end_audit<F: Sink>(faults: &mut F, answer: Result<Legality, ReplayFault>) -> u8
     ensures { result ≡ audit_status answer }
 {
     match answer {
         Ok(Legality::Legal) => DONE,
         Ok(Legality::WrongAt(_)) => FAULT,
-        Err(fault) => fault_told(faults, Fault::from(fault)),
+        Err(fault) => write_fault(faults, Fault::from(fault)),
     }
 }
 
@@ -71,61 +72,50 @@ fn obey<S: Source, W: Sink, F: Sink>(
     writer: &mut W,
     faults: &mut F,
 ) -> u8
-    ensures { Does request (record {
-      rest = S.rest reader.old;
-      told = W.told writer.old;
-      told_new = W.told writer.new;
-      failures = S.failures reader.old;
-      failures_new = S.failures reader.new;
-      given = S.given reader.old;
-      given_new = S.given reader.new;
-      unwritten = W.failures writer.old;
-      unwritten_new = W.failures writer.new;
-      stalls = W.stalls writer.old;
-      stalls_new = W.stalls writer.new;
-    }) result }
+    ensures { Does request
+        (streams (S.state reader.old) (S.state reader.new) (W.state writer.old) (W.state writer.new)) result }
 {
     match request {
         Request::Replay => {
             let answer = replay::<Global, TableRouter, S, W>(alloc, reader, writer);
-            tell_of_replay(faults, answer)
+            end_replay(faults, answer)
         }
         Request::History => {
             let answer = replay_history::<Global, TableRouter, S, W>(alloc, reader, writer);
-            tell_of_replay(faults, answer)
+            end_replay(faults, answer)
         }
         Request::Audit => {
             let answer = audit::<Global, TableRouter, S, W>(alloc, reader, writer);
-            tell_of_audit(faults, answer)
+            end_audit(faults, answer)
         }
         Request::Explain => {
             let answer = audit_explained::<Global, TableRouter, S, W>(alloc, reader, writer);
-            tell_of_audit(faults, answer)
+            end_audit(faults, answer)
         }
     }
 }
 
-/// Answers words that ask for no work: help and the version are written, all else is told with the faults.
+/// Answers words that ask for no work: help and the version are output, all else is written with the faults.
 fn turn_away<W: Sink, F: Sink>(error: Error, writer: &mut W, faults: &mut F) -> u8
     ensures { IsTurnedAway (kind_of error) writer.old writer.new result }
 {
     if error.kind() == ErrorKind::OutOfMemory {
-        return fault_told(faults, Fault::NoMemory);
+        return write_fault(faults, Fault::NoMemory);
     }
     if error.use_stderr() {
-        let _ = tell(faults, error);
+        let _ = write_text(faults, error);
         return USAGE;
     }
-    match tell(writer, error) {
+    match write_text(writer, error) {
         Ok(()) => DONE,
-        Err(_) => fault_told(faults, Fault::Output),
+        Err(_) => write_fault(faults, Fault::Output),
     }
 }
 
-/// Does what the words ask for, of which the first is the program's name, and gives the status to end with: 0 where it is
-/// done or the history is legal, 1 at a fault or a wrong history, 2 where the words can't be read. What is asked for is read
-/// from `reader` and written to `writer`; at help, the version and mistakes nothing is read, and help and the version are
-/// written to `writer` too. A fault is one line on `faults`, where a failed write changes nothing.
+/// Does what the words ask for, of which the first is the program's name, and gives the status to end with: 0 where it
+/// is done or the history is legal, 1 at a fault or a wrong history, 2 where the words can't be read. What is asked for
+/// is read from `reader` and written to `writer`; at help, the version and mistakes nothing is read, and help and the
+/// version are written to `writer` too. A fault is one line on `faults`, where a failed write changes nothing.
 pub fn command<T: AsStr, S: Source, W: Sink, F: Sink>(
     alloc: Global,
     words: &[T],
@@ -134,19 +124,8 @@ pub fn command<T: AsStr, S: Source, W: Sink, F: Sink>(
     faults: &mut F,
 ) -> u8
     ensures asked { (request : Asked) → request_of (map T.text words.now) ≡ Some request
-        → IsUnread reader.old reader.new writer.old writer.new result ⊎ Does request (record {
-          rest = S.rest reader.old;
-          told = W.told writer.old;
-          told_new = W.told writer.new;
-          failures = S.failures reader.old;
-          failures_new = S.failures reader.new;
-          given = S.given reader.old;
-          given_new = S.given reader.new;
-          unwritten = W.failures writer.old;
-          unwritten_new = W.failures writer.new;
-          stalls = W.stalls writer.old;
-          stalls_new = W.stalls writer.new;
-        }) result }
+        → IsUnread reader.old reader.new writer.old writer.new result ⊎ Does request
+        (streams (S.state reader.old) (S.state reader.new) (W.state writer.old) (W.state writer.new)) result }
     ensures neither { request_of (map T.text words.now) ≡ None → (kind : Kind)
         × ((kind ≡ OutOfMemory) ⊎ IsAmong kind (fault_of gn_app (map T.text words.now)))
         × IsTurnedAway kind writer.old writer.new result }
@@ -158,14 +137,14 @@ pub fn command<T: AsStr, S: Source, W: Sink, F: Sink>(
     }
 }
 
-/// Answers words that couldn't be had, and gives the status: one of them isn't text, or memory was wanting.
+/// Answers words that couldn't be had, and gives the status: one of them isn't text, or memory ran out.
 pub fn refuse_words<F: Sink>(error: &io::Error, faults: &mut F) -> u8
     ensures memory { error_kind error.now ≡ NoneLeft → result ≡ 1 }
     ensures text { error_kind error.now ≢ NoneLeft → result ≡ 2 }
 {
     if error.kind() == io::ErrorKind::OutOfMemory {
-        return fault_told(faults, Fault::NoMemory);
+        return write_fault(faults, Fault::NoMemory);
     }
-    let _ = tell(faults, "error: an argument isn't text\n");
+    let _ = write_text(faults, "error: an argument isn't text\n");
     USAGE
 }

@@ -25,7 +25,7 @@ pub(crate) const REPLAY_USAGE: &str =
 pub(crate) const HISTORY: &str = "Prints the history of the router instead, which `gn audit` reads";
 
 pub(crate) const REPLAY_TEXTS: &str = "\
-Standard input is a capture: what links deliver to a router, and what its servent does. Behind
+Standard input is a capture: what links deliver to a router, and what its servent does. After
 its three first lines stand `join`, `open`, `data LINK HEX`, `route TICKET`, `take CONNECTION`,
 `close CONNECTION`, `ping ID TTL`, `query ID TTL SPEED HEX` and `stats`, each on a line.
 Standard output is a line for each answer, or the history with `--history`. A capture with a fault
@@ -47,7 +47,7 @@ prints, after the two joins and the Ping's admission,
 
 where the first packet is the router's own Pong.";
 
-pub(crate) const AUDIT: &str = "Reads a history, and tells whether each answer in it is right";
+pub(crate) const AUDIT: &str = "Reads a history, and says whether each answer in it is right";
 
 pub(crate) const AUDIT_USAGE: &str =
     "gn audit [--explain] < HISTORY   (the history is read from standard input)";

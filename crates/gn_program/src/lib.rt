@@ -5,9 +5,9 @@ mod commands;
 mod fault;
 mod help;
 mod request;
-mod tell;
 #[cfg(test)]
 mod tests;
+mod text;
 mod words;
 
 pub use commands::{command, refuse_words};

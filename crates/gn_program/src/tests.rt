@@ -4,7 +4,7 @@ use super::*;
 use gn_io::{ReaderSource, WriterSink};
 use std::io::{self, ErrorKind, Read, Write};
 
-/// Words, the status, and how the output and the told faults begin.
+/// Words, the status, and how the output and the written faults begin.
 const ANSWERS: [(&[&str], u8, &str, &str); 13] = [
     (&["gn", "--version"], 0, "gn 0.1.0\n", ""),
     (&["gn", "--help"], 0, "Tineflax, a packet router", ""),
@@ -52,14 +52,14 @@ fn begins(text: &[u8], wanted: &str) -> bool {
 
 #[test]
 fn words(rt: HostRuntime) {
-    for (words, status, printed, told) in ANSWERS {
+    for (words, status, printed, faulted) in ANSWERS {
         let mut reader = ReaderSource::new(b"".as_slice());
         let mut writer = WriterSink::new(Vec::new(rt.alloc()));
         let mut faults = WriterSink::new(Vec::new(rt.alloc()));
         let found = command(rt.alloc(), words, &mut reader, &mut writer, &mut faults);
         assert_eq!(rt; found, status, "{words:?}");
         assert!(rt; begins(&writer.into_inner(), printed), "{words:?}");
-        assert!(rt; begins(&faults.into_inner(), told), "{words:?}");
+        assert!(rt; begins(&faults.into_inner(), faulted), "{words:?}");
     }
 }
 
@@ -127,7 +127,7 @@ fn faults_cant_be_told(rt: HostRuntime) {
 
 #[test]
 fn words_that_arent_had(rt: HostRuntime) {
-    for (kind, status, told) in [
+    for (kind, status, faulted) in [
         (ErrorKind::OutOfMemory, 1, b"fault: no memory\n".as_slice()),
         (
             ErrorKind::InvalidData,
@@ -137,6 +137,6 @@ fn words_that_arent_had(rt: HostRuntime) {
     ] {
         let mut faults = WriterSink::new(Vec::new(rt.alloc()));
         assert_eq!(rt; refuse_words(&io::Error::from(kind), &mut faults), status);
-        assert_eq!(rt; faults.into_inner().as_slice(), told);
+        assert_eq!(rt; faults.into_inner().as_slice(), faulted);
     }
 }

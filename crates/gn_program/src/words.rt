@@ -13,7 +13,7 @@ use clap::{Arg, ArgAction, ArgMatches, Command, Error};
 use std::alloc::{AllocError, Global};
 use std::convert::AsStr;
 
-/// The version that is told.
+/// The version that is printed.
 const VERSION: &str = "0.1.0";
 
 fn flag<'a>(alloc: Global, name: &'a str, text: &'a str) -> Arg<'a>
@@ -110,8 +110,8 @@ fn request_named(name: &str, options: &ArgMatches<'_>) -> Option<Request>
     }
 }
 
-/// What the words ask for, the first of them the program's name. An `Err` is clap's: help, the version, a mistake in the
-/// words, or out of memory.
+/// What the words ask for, the first of them the program's name. An `Err` is clap's: help, the version, a mistake in
+/// the words, or out of memory.
 pub(crate) fn read_words<'a, T: AsStr>(alloc: Global, words: &'a [T]) -> Result<Request, Error>
     ensures ok { IfOk result (λ request. request_of (map T.text words.entry.now) ≡ Some request) }
     ensures err { IfErr result (HasKind (fault_of gn_app (map T.text words.entry.now))) }

@@ -50,10 +50,10 @@ admitting_closed before now c d left all gone so_far =
     let both : admits now.settings now.past c (d ∷ left) ≡ record { played = here; closed = true } = rw gone refl in
     record {
       played = ap (λ (a : Admits _). after_playing now a.played) (sym both) ∙ so_far.played;
-      told = ap (λ (a : Admits _). a.closed) (sym both) ∙ so_far.closed;
+      found = ap (λ (a : Admits _). a.closed) (sym both) ∙ so_far.closed;
     }
 
 -- none is left
 pub admitting_all : {A : Type 0} (before now : Playing A) (c : ℕ) (all : List Packet) → IsAdmitting before now c [] all
     → HasAdmitted false before now (admits before.settings before.past c all)
-admitting_all before now c all so_far = record { played = sym (after_playing_nothing now) ∙ so_far.played; told = so_far.closed }
+admitting_all before now c all so_far = record { played = sym (after_playing_nothing now) ∙ so_far.played; found = so_far.closed }

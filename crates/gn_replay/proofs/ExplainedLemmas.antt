@@ -30,10 +30,10 @@ use Rattle.gn_replay.proofs.StepLines.{step_stands}
 use Rattle.gn_replay.proofs.VerdictLemmas.{audited, tells_of}
 
 -- what explains a judgement: nothing of a legal history, the lines of the wrong step of another
-explained_by : {A : Type 0} (s : Config) (steps : List (Step A)) (text : List ℕ) (i : ℕ) (rules : Result (Reply A) Refusal) (line : ℕ × List ℕ) (told : List ℕ)
-    → history_of text ≡ Ok (settings_of s, steps) → IsAnsweredAt s steps i rules → step_line_at text i ≡ Some line → told ≡ explanation_text line rules
-    → IsExplained s steps text i told
-explained_by s steps text i rules line told parsed answered stands explained =
+explained_by : {A : Type 0} (s : Config) (steps : List (Step A)) (text : List ℕ) (i : ℕ) (rules : Result (Reply A) Refusal) (line : ℕ × List ℕ) (explanation : List ℕ)
+    → history_of text ≡ Ok (settings_of s, steps) → IsAnsweredAt s steps i rules → step_line_at text i ≡ Some line → explanation ≡ explanation_text line rules
+    → IsExplained s steps text i explanation
+explained_by s steps text i rules line explanation parsed answered stands explained =
     let found = step_stands text (settings_of s) steps i answered.step parsed answered.at in
     let same : found.0 ≡ line = cc in
     record {
@@ -57,16 +57,16 @@ wrong_in_text text judgement count i rules judged is =
 -- nothing explains a legal history
 pub explained_legal : {A : Type 0} (text : List ℕ) (judgement : Judgement A) (count : ℕ) (legality : Legality) (line lines : List ℕ) → IsJudged A text judgement count
     → legality ≡ legality_of judgement → line ≡ verdict_text legality count → lines ≡ line → judgement ≡ Legal → IsAuditExplained A text legality lines
-explained_legal text judgement count legality line lines judged told printed same is =
-    let told_so : legality ≡ verdict.Legal = told ∙ ap legality_of is in
-    let line_of = audited text judgement count legality line judged told printed in
+explained_legal text judgement count legality line lines judged found printed same is =
+    let legality_is : legality ≡ verdict.Legal = found ∙ ap legality_of is in
+    let line_of = audited text judgement count legality line judged found printed in
     record {
       settings = line_of.settings;
       steps = line_of.steps;
-      told = [];
+      explanation = [];
       parsed = line_of.parsed;
       tells = line_of.tells;
-      explains = subst (λ (x : Legality). Explains line_of.settings line_of.steps text x []) (sym told_so) refl;
+      explains = subst (λ (x : Legality). Explains line_of.settings line_of.steps text x []) (sym legality_is) refl;
       printed = same ∙ line_of.printed ∙ sym (append-nil (verdict_text legality (length line_of.steps)));
     }
 
@@ -74,42 +74,42 @@ explained_legal text judgement count legality line lines judged told printed sam
 pub explained_wrong : {A : Type 0} (text : List ℕ) (judgement : Judgement A) (count : ℕ) (legality : Legality) (line lines : List ℕ) (i : ℕ) (rules : Result (Reply A) Refusal) → IsJudged A text judgement count
     → legality ≡ legality_of judgement → line ≡ verdict_text legality count → judgement ≡ WrongAt i rules
     → (at : ℕ × List ℕ) × (step_line_at text i ≡ Some at) × (lines ≡ line ++ explanation_text at rules) → IsAuditExplained A text legality lines
-explained_wrong text judgement count legality line lines i rules judged told printed is explained =
-    let told_so : legality ≡ verdict.WrongAt i = told ∙ ap legality_of is in
+explained_wrong text judgement count legality line lines i rules judged found printed is explained =
+    let legality_is : legality ≡ verdict.WrongAt i = found ∙ ap legality_of is in
     let true_of : IsTrueOf judged.settings judged.steps (WrongAt i rules) =
     subst (λ (x : Judgement _). IsTrueOf judged.settings judged.steps x) is judged.judged in
     let more = explained_by judged.settings judged.steps text i rules explained.0 (explanation_text explained.0 rules) judged.parsed true_of.1 explained.1 refl in
     record {
       settings = judged.settings;
       steps = judged.steps;
-      told = explanation_text explained.0 rules;
+      explanation = explanation_text explained.0 rules;
       parsed = judged.parsed;
-      tells = subst (λ (x : Legality). Tells judged.settings judged.steps x) (sym told) (tells_of judged.settings judged.steps judgement judged.judged);
-      explains = subst (λ (x : Legality). Explains judged.settings judged.steps text x (explanation_text explained.0 rules)) (sym told_so) more;
-      printed = explained.2 ∙ ap (λ front. front ++ explanation_text explained.0 rules) (printed ∙ ap (verdict_text legality) judged.counted);
+      tells = subst (λ (x : Legality). Tells judged.settings judged.steps x) (sym found) (tells_of judged.settings judged.steps judgement judged.judged);
+      explains = subst (λ (x : Legality). Explains judged.settings judged.steps text x (explanation_text explained.0 rules)) (sym legality_is) more;
+      printed = explained.2 ∙ ap (λ head. head ++ explanation_text explained.0 rules) (printed ∙ ap (verdict_text legality) judged.counted);
     }
 
--- what was appended tells of the line at its place
-pub line_told : {A X E : Type 0} (r : Result X E) (text : List ℕ) (i : ℕ) (items : List (ℕ × Bor (List ℕ))) (line : ℕ × Bor (List ℕ)) (out new : List ℕ) (rules : Result (Reply A) Refusal)
+-- what was appended explains the line at its place
+pub line_explained : {A X E : Type 0} (r : Result X E) (text : List ℕ) (i : ℕ) (items : List (ℕ × Bor (List ℕ))) (line : ℕ × Bor (List ℕ)) (out new : List ℕ) (rules : Result (Reply A) Refusal)
     → map line_seen items ≡ parsed_of text → lines_before + i < length items → line ≡ get_or items (lines_before + i) line
     → OnOk r (new ≡ out ++ explanation_text (line_seen line) rules)
     → OnOk r ((at : ℕ × List ℕ) × (step_line_at text i ≡ Some at) × (new ≡ out ++ explanation_text at rules))
-line_told (Err e) text i items line out new rules all within is appended = _
-line_told (Ok x) text i items line out new rules all within is appended =
+line_explained (Err e) text i items line out new rules all within is appended = _
+line_explained (Ok x) text i items line out new rules all within is appended =
     let place : slice_get (parsed_of text) (lines_before + i) ≡ Some (line_seen line) =
     ap (λ xs. slice_get xs (lines_before + i)) (sym all)
     ∙ slice_get-map line_seen items (lines_before + i)
     ∙ ap (option_map line_seen) (slice_get_read items (length items) (lines_before + i) line refl within is) in
     (line_seen line, place, appended)
 
--- all that tells of the input was written
+-- the verdict on the input was written, with what explains it
 pub explained_written : {A : Type 0} (rest : Option (List ℕ)) (input text bytes lines : List ℕ) (legality : Legality) (old new : Option (List ℕ))
     → IfSome rest (λ all. input ≡ all) → text ≡ input → IsAuditExplained A text legality lines → bytes ≡ lines → Appends old new bytes
     → IfSome rest (λ all. AppendsExplained A all legality old new)
-explained_written None input text bytes lines legality old new whole is told same wrote = _
-explained_written {A} (Some all) input text bytes lines legality old new whole is told same wrote = (
+explained_written None input text bytes lines legality old new whole is explained same wrote = _
+explained_written {A} (Some all) input text bytes lines legality old new whole is explained same wrote = (
   lines,
-  subst (λ (x : List ℕ). IsAuditExplained A x legality lines) (is ∙ whole) told,
+  subst (λ (x : List ℕ). IsAuditExplained A x legality lines) (is ∙ whole) explained,
   subst (λ (x : List ℕ). Appends old new x) same wrote,
 )
 
@@ -117,17 +117,17 @@ explained_written {A} (Some all) input text bytes lines legality old new whole i
 part_of : {A : Type 0} (rest : Option (List ℕ)) (input text bytes lines : List ℕ) (legality : Legality) (old new : Option (List ℕ))
     → IfSome rest (λ all. input ≡ all) → text ≡ input → IsAuditExplained A text legality lines → bytes ≡ lines → AppendsPart old new bytes
     → IfSome rest (λ all. AppendsExplainedPart A all old new)
-part_of None input text bytes lines legality old new whole is told same wrote = _
-part_of {A} (Some all) input text bytes lines legality old new whole is told same wrote = (
+part_of None input text bytes lines legality old new whole is explained same wrote = _
+part_of {A} (Some all) input text bytes lines legality old new whole is explained same wrote = (
   legality,
   lines,
-  subst (λ (x : List ℕ). IsAuditExplained A x legality lines) (is ∙ whole) told,
+  subst (λ (x : List ℕ). IsAuditExplained A x legality lines) (is ∙ whole) explained,
   subst (λ (x : List ℕ). AppendsPart old new x) same wrote,
 )
 
 pub explained_in_part : {A T : Type 0} (r : Result T ReplayFault) (rest : Option (List ℕ)) (input text bytes lines : List ℕ) (legality : Legality) (old new : Option (List ℕ))
     → IsErrAnd r (λ e. e ≡ Write) → IfSome rest (λ all. input ≡ all) → text ≡ input → IsAuditExplained A text legality lines → bytes ≡ lines
     → AppendsPart old new bytes → IfErr r (λ fault. HasExplainedStopped A fault rest old new)
-explained_in_part (Ok x) rest input text bytes lines legality old new failed whole is told same wrote = _
-explained_in_part {A} (Err e) rest input text bytes lines legality old new failed whole is told same wrote =
-    subst (λ (fault : ReplayFault). HasExplainedStopped A fault rest old new) (sym failed) (part_of rest input text bytes lines legality old new whole is told same wrote)
+explained_in_part (Ok x) rest input text bytes lines legality old new failed whole is explained same wrote = _
+explained_in_part {A} (Err e) rest input text bytes lines legality old new failed whole is explained same wrote =
+    subst (λ (fault : ReplayFault). HasExplainedStopped A fault rest old new) (sym failed) (part_of rest input text bytes lines legality old new whole is explained same wrote)

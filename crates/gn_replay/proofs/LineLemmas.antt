@@ -54,7 +54,7 @@ set_again [] i x y = refl
 set_again (z ∷ zs) zero x y = refl
 set_again (z ∷ zs) (suc i) x y = ap (λ ys. z ∷ ys) (set_again zs i x y)
 
--- a place behind the last
+-- a place after the last
 set_past : {X : Type 0} (xs : List X) (i : ℕ) (x : X) → length xs ≤ i → set xs i x ≡ xs
 set_past [] i x beyond = refl
 set_past (z ∷ zs) zero x beyond = absurd (omega (arith, beyond))
@@ -110,7 +110,7 @@ played_piece {A} v taken fed after i at piece link kept states place inside ther
     let next : i ≡ suc at = omega (arith, place) in
     subst (λ (n : ℕ). HasPlayed v after (link_at_given v i n piece states)) (sym next) all
 
--- no link is at a place behind the last, nor at 0
+-- no link is at a place after the last, nor at 0
 none_at : (states : List LinkState) (i : ℕ) → (1 ≤ i → length states < i) → (state_of states i ≡ ended) × (with_state states i ended ≡ states)
 none_at states zero outside = (refl, refl)
 none_at states (suc at) outside =
@@ -134,9 +134,9 @@ pub awaiting : {A : Type 0} (v : Playing A) (shake : Shaking) → shake ≡ shak
 awaiting v shake new = record { played = sym (after_playing_nothing v); state = (new, refl) }
 
 -- the counters are printed
-pub counters_printed : {A U E : Type 0} (r : Result U E) (v : Playing A) (now : List ℕ) (told : Stats) → OnOk r (now ≡ v.out ++ stats_text told) → told ≡ stats_of v.past
+pub counters_printed : {A U E : Type 0} (r : Result U E) (v : Playing A) (now : List ℕ) (stats : Stats) → OnOk r (now ≡ v.out ++ stats_text stats) → stats ≡ stats_of v.past
     → OnOk r (record v { out = now } ≡ after_playing v (prints v.past (stats_text (stats_of v.past))))
-counters_printed (Err e) v now told printed is = tt
-counters_printed (Ok u) v now told printed is =
+counters_printed (Err e) v now stats printed is = tt
+counters_printed (Ok u) v now stats printed is =
     let text : now ≡ v.out ++ stats_text (stats_of v.past) = printed ∙ ap (λ (s : Stats). v.out ++ stats_text s) is in
     ap (λ (bytes : List ℕ). record v { out = bytes }) text

@@ -17,7 +17,7 @@ use Rattle.gn_replay.specs.declared.link.Link.{Link}
 use Rattle.gn_replay.specs.declared.link.Link.TheVariants as keep
 use Rattle.gn_replay.specs.Events.{prints, happens, connection_of}
 use Rattle.gn_replay.specs.Links.{greeting, joined, IsLink}
-use Rattle.gn_replay.specs.Pieces.{admits, completed, delivers, delivers_these, fault_plays, joins, joined_to, connects, delivers_on, greets}
+use Rattle.gn_replay.specs.Pieces.{admits, completed, delivers, delivers_these, fault_plays, joins, joined_to, connects, delivers_if_connected, greets}
 use Rattle.gn_replay.specs.Playing.{Playing, HasAdmitted, HasLinked, after_playing}
 use Rattle.gn_replay.proofs.AdmitLemmas.{after_playing_both, after_playing_nothing}
 
@@ -31,16 +31,16 @@ pub finished_closed : {A : Type 0} (v after : Playing A) (i c : ℕ) (bytes : Li
     → HasAdmitted true v after (admits v.settings v.past c packets)
     → HasLinked keep.Ended v after (delivers_these v.settings v.past i c bytes packets fault)
 finished_closed v after i c bytes packets fault done =
-    rw (← done.told) (record { played = done.played; state = tt })
+    rw (← done.found) (record { played = done.played; state = tt })
 
--- no fault stands behind the descriptors
+-- no fault stands after the descriptors
 pub finished_well : {A : Type 0} (v after : Playing A) (i c : ℕ) (bytes : List ℕ) (packets : List Packet) (kept : Link A)
     → HasAdmitted false v after (admits v.settings v.past c packets) → IsLink kept (joined c bytes)
     → HasLinked kept v after (delivers_these v.settings v.past i c bytes packets None)
 finished_well v after i c bytes packets kept done held =
-    rw (← done.told) (record { played = done.played; state = held })
+    rw (← done.found) (record { played = done.played; state = held })
 
--- a fault stands behind them
+-- a fault stands after them
 pub finished_badly : {A : Type 0} (v between after : Playing A) (i c : ℕ) (bytes : List ℕ) (packets : List Packet) (fault : FrameFault)
     → HasAdmitted false v between (admits v.settings v.past c packets)
     → after ≡ after_playing between (fault_plays between.settings between.past i c fault)
@@ -49,7 +49,7 @@ finished_badly v between after i c bytes packets fault done more =
     let came = (admits v.settings v.past c packets).played in
     let last : after_playing between (fault_plays between.settings between.past i c fault) ≡ after_playing (after_playing v came) (fault_plays v.settings came.past i c fault) =
     ap (λ (w : Playing _). after_playing w (fault_plays w.settings w.past i c fault)) done.played in
-    rw (← done.told) (record { played = more ∙ last ∙ after_playing_both v came (fault_plays v.settings came.past i c fault); state = tt })
+    rw (← done.found) (record { played = more ∙ last ∙ after_playing_both v came (fault_plays v.settings came.past i c fault); state = tt })
 
 -- what a reassembler gave of a piece is what the piece completes
 pub record IsGiven (bytes piece : List ℕ) (packets : List Packet) (fault : Option FrameFault) (after : Option (List ℕ)) : Type 0 where
@@ -91,35 +91,35 @@ delivered {A} v after i c piece before later packets fault (Ok kept) cut answere
     let done = have (bytes ++ piece) (λ none. goes_on A c bytes piece packets fault later is none) in
     rw (is.all, is.ends) at done
 
--- a link was connected, and the bytes behind its greeting delivered
-pub connected : {A E : Type 0} (v between after : Playing A) (i c : ℕ) (piece : List ℕ) (frames : Option (List ℕ)) (told : Option ℕ) (r : Result (Link A) E)
-    → between ≡ after_playing v (happens v.settings v.past Connect) → told ≡ connection_of (answer v.settings v.past Connect) → told ≡ Some c → frames ≡ Some []
+-- a link was connected, and the bytes after its greeting delivered
+pub connected : {A E : Type 0} (v between after : Playing A) (i c : ℕ) (piece : List ℕ) (frames : Option (List ℕ)) (outcome : Option ℕ) (r : Result (Link A) E)
+    → between ≡ after_playing v (happens v.settings v.past Connect) → outcome ≡ connection_of (answer v.settings v.past Connect) → outcome ≡ Some c → frames ≡ Some []
     → IfOk r (λ link. (bytes : List ℕ) → IsLink {A = A} (keep.Joined c frames) (joined c bytes)
     → HasLinked link between after (delivers between.settings between.past i c bytes piece))
     → IfOk r (λ link. HasLinked link v after (connects v.settings v.past i piece))
-connected v between after i c piece frames told (Err e) after_playing_is told_is some none have = have
-connected {A} v between after i c piece frames told (Ok kept) after_playing_is told_is some none have =
+connected v between after i c piece frames outcome (Err e) after_playing_is outcome_is some none have = have
+connected {A} v between after i c piece frames outcome (Ok kept) after_playing_is outcome_is some none have =
     let p = happens v.settings v.past Connect in
     let start : IsLink {A = A} (keep.Joined c frames) (joined c []) = subst (λ (f : Option (List ℕ)). IsLink {A = A} (keep.Joined c f) (joined c [])) (sym none) (new_link A c) in
     let done : HasLinked kept (after_playing v p) after (delivers v.settings p.past i c [] piece) =
     subst (λ (w : Playing A). HasLinked kept w after (delivers w.settings w.past i c [] piece)) after_playing_is (have [] start) in
-    let made : connection_of (answer v.settings v.past Connect) ≡ Some c = sym told_is ∙ some in
-    let all : HasLinked kept v after (delivers_on v.settings i p piece (Some c)) =
+    let made : connection_of (answer v.settings v.past Connect) ≡ Some c = sym outcome_is ∙ some in
+    let all : HasLinked kept v after (delivers_if_connected v.settings i p piece (Some c)) =
     record { played = done.played ∙ after_playing_both v p (delivers v.settings p.past i c [] piece).played; state = done.state } in
-    subst (λ (o : Option ℕ). HasLinked kept v after (delivers_on v.settings i p piece o)) (sym made) all
+    subst (λ (o : Option ℕ). HasLinked kept v after (delivers_if_connected v.settings i p piece o)) (sym made) all
 
 -- a link that needs no greeting was connected
-pub was_joined : {A : Type 0} (v after : Playing A) (c : ℕ) (frames : Option (List ℕ)) (told : Option ℕ)
-    → after ≡ after_playing v (happens v.settings v.past Connect) → told ≡ connection_of (answer v.settings v.past Connect) → told ≡ Some c → frames ≡ Some []
+pub was_joined : {A : Type 0} (v after : Playing A) (c : ℕ) (frames : Option (List ℕ)) (outcome : Option ℕ)
+    → after ≡ after_playing v (happens v.settings v.past Connect) → outcome ≡ connection_of (answer v.settings v.past Connect) → outcome ≡ Some c → frames ≡ Some []
     → HasLinked {A = A} (keep.Joined c frames) v after (joins v.settings v.past)
-was_joined {A} v after c frames told after_playing_is told_is some none =
-    let made : connection_of (answer v.settings v.past Connect) ≡ Some c = sym told_is ∙ some in
+was_joined {A} v after c frames outcome after_playing_is outcome_is some none =
+    let made : connection_of (answer v.settings v.past Connect) ≡ Some c = sym outcome_is ∙ some in
     let start : IsLink {A = A} (keep.Joined c frames) (joined c []) = subst (λ (f : Option (List ℕ)). IsLink {A = A} (keep.Joined c f) (joined c [])) (sym none) (new_link A c) in
     record { played = after_playing_is; state = subst (λ (o : Option ℕ). IsLink {A = A} (keep.Joined c frames) (joined_to o)) (sym made) start }
 
 -- a piece of a greeting was answered with the state of all bytes so far
-pub record IsGreeted (bytes piece : List ℕ) (after : Shaking) (told : ShakeState) : Type 0 where
-  pub state : greeting_state request_text (bytes ++ piece) ≡ told
+pub record IsGreeted (bytes piece : List ℕ) (after : Shaking) (answered : ShakeState) : Type 0 where
+  pub state : greeting_state request_text (bytes ++ piece) ≡ answered
   pub kept : after ≡ shake_of request_text (bytes ++ piece)
 
 pub greeted : (before after : Shaking) (bytes piece : List ℕ) (state : ShakeState) → PiecesAreOneStream → before ≡ shake_of request_text bytes
@@ -157,8 +157,8 @@ greets_done {A} v later i used before after piece rest state (Ok kept) one answe
     λ bytes start.
     let is = greeted before after bytes piece state one start.0 answered then_kept in
     let here : greeting_state request_text (bytes ++ piece) ≡ Done = is.state ∙ done in
-    let behind_it : rest ≡ drop (length request_text) (bytes ++ piece) =
+    let after_it : rest ≡ drop (length request_text) (bytes ++ piece) =
     rest_is ∙ ap (λ (n : ℕ). drop n piece) (used_is ∙ ap (λ (k : Shaking). used_of k piece) start.0) ∙ (one request_text bytes piece).behind start.1 here in
     let all : HasLinked kept v later (connects v.settings v.past i (drop (length request_text) (bytes ++ piece))) =
-    subst (λ (b : List ℕ). HasLinked kept v later (connects v.settings v.past i b)) behind_it have in
+    subst (λ (b : List ℕ). HasLinked kept v later (connects v.settings v.past i b)) after_it have in
     rw here all

@@ -20,17 +20,17 @@ within_is_one {n} {most} a b =
 
 -- a configuration is the one that these settings make
 abbrev IsMade : Config → Numbers × Own → Type 0
-IsMade s told =
-    (a : IsWithin told.0.neighbours 64) (b : IsWithin told.0.seen 65536) (c : IsWithin told.0.servents 65536) (d : IsWithin told.0.stage 4096) (e : IsWithin told.0.out 4096)
-    (f : IsWithin told.0.steps 1000000)
+IsMade s settings =
+    (a : IsWithin settings.0.neighbours 64) (b : IsWithin settings.0.seen 65536) (c : IsWithin settings.0.servents 65536) (d : IsWithin settings.0.stage 4096) (e : IsWithin settings.0.out 4096)
+    (f : IsWithin settings.0.steps 1000000)
     → s ≡ record {
-      neighbours = told.0.neighbours;
-      seen = told.0.seen;
-      servents = told.0.servents;
-      stage = told.0.stage;
-      out = told.0.out;
-      steps = told.0.steps;
-      own = told.1;
+      neighbours = settings.0.neighbours;
+      seen = settings.0.seen;
+      servents = settings.0.servents;
+      stage = settings.0.stage;
+      out = settings.0.out;
+      steps = settings.0.steps;
+      own = settings.1;
       neighbours_in_limit = a;
       seen_in_limit = b;
       servents_in_limit = c;
@@ -43,12 +43,12 @@ made : (s : Config) → IsMade s (settings_of s)
 made s a b c d e f =
     rw (within_is_one a s.neighbours_in_limit, within_is_one b s.seen_in_limit, within_is_one c s.servents_in_limit, within_is_one d s.stage_in_limit, within_is_one e s.out_in_limit, within_is_one f s.steps_in_limit) refl
 
--- settings tell the configuration
+-- settings make one configuration
 config_is : (s t : Config) → settings_of s ≡ settings_of t → s ≡ t
 config_is s t same =
-    subst (λ (told : Numbers × Own). IsMade s told) same (made s) t.neighbours_in_limit t.seen_in_limit t.servents_in_limit t.stage_in_limit t.out_in_limit t.steps_in_limit
+    subst (λ (settings : Numbers × Own). IsMade s settings) same (made s) t.neighbours_in_limit t.seen_in_limit t.servents_in_limit t.stage_in_limit t.out_in_limit t.steps_in_limit
 
--- what is done with what was read is told by it
+-- what is done with what was read is one thing
 played_is : {A : Type 0} (read : Result (Parsed A) CaptureFault) (one other : Played A) → IsReplayOf A read one → IsReplayOf A read other → one ≡ other
 played_is (Err fault) one other h k = h ∙ sym k
 played_is (Ok parsed) one other h k =

@@ -5,9 +5,10 @@ use Rattle.std.specs.Result.{IsErrAnd}
 use Rattle.gn_text.specs.declared.fault.CaptureFault.{CaptureFault}
 use Rattle.gn_io.specs.Input.{input_limit}
 use Rattle.gn_io.specs.Parts.{AppendsPart}
+use Rattle.gn_io.specs.Streams.{SinkState, SourceState, streams}
 use Rattle.gn_replay.specs.declared.fault.ReplayFault.{ReplayFault}
 use Rattle.gn_replay.specs.declared.fault.ReplayFault.TheVariants as fault
-use Rattle.gn_replay.specs.Faults.{IsReplayFault}
+use Rattle.gn_replay.specs.Faults.{IsReplayFault, input_of}
 use Rattle.gn_rules.specs.declared.config.Config.{Config}
 use Rattle.gn_rules.specs.declared.receipt.Step.{Step}
 use Rattle.gn_rules.specs.Legal.{IsLegal}
@@ -19,9 +20,7 @@ use Rattle.gn_replay.specs.ReplayHistory.{IsHistoryOf, IsHistoryText}
 use Rattle.gn_replay.specs.declared.replays.Exit.{Exit}
 use Rattle.gn_replay.specs.ReplayText.{IsReplay, IsReplayOf, capture_plays}
 use Rattle.gn_replay.specs.Replays.{AppendsReplay, AppendsReplayPart, HasStopped, IsCounted}
-use Rattle.gn_replay.specs.declared.play_fault.PlayFault.{PlayFault}
-use Rattle.gn_replay.specs.declared.play_fault.PlayFault.TheVariants as play
-use Rattle.gn_replay.specs.Runs.{HasRun, of_playing}
+use Rattle.gn_replay.specs.Runs.{HasRun, IsPlayFault}
 
 -- so many steps fit a number
 pub few_steps : {A : Type 0} (s : Config) (steps : List (Step A)) → IsLegal s (reverse steps) → length steps < 4294967296
@@ -63,30 +62,36 @@ module _ {A : Type 0} (text : List ℕ) (capture : Capture A) where
       subst (λ (parsed : Result (Parsed A) CaptureFault). IsHistoryOf A parsed printed) (sym read) (capture.config, refl, is)
 
 -- where playing it stopped, a prefix of its replay text was written
-stopped_so : {A : Type 0} (f : PlayFault) (text : List ℕ) (old new : Option (List ℕ)) → length text ≤ input_limit → AppendsReplayPart A text old new → HasStopped A (of_playing f) (Some text) old new
-stopped_so play.Write text old new short part = part
-stopped_so play.NoMemory text old new short part = inr (short, part)
+stopped_so : {A : Type 0} (f : ReplayFault) (text : List ℕ) (sink sink_new : SinkState) (old new : Option (List ℕ)) → length text ≤ input_limit → IsPlayFault f sink sink_new
+    → AppendsReplayPart A text old new → HasStopped A f (Some text) old new
+stopped_so fault.Write text sink sink_new old new short is part = part
+stopped_so fault.NoMemory text sink sink_new old new short is part = inr (short, part)
+stopped_so fault.Read text sink sink_new old new short is part = absurd is
+stopped_so fault.TooLarge text sink sink_new old new short is part = absurd is
+stopped_so (fault.Capture c) text sink sink_new old new short is part = absurd is
 
-pub stopped : {A T : Type 0} (r : Result T ReplayFault) (f : PlayFault) (text : List ℕ) (capture : Capture A) (old new : Option (List ℕ)) → length text ≤ input_limit → IsErrAnd r (λ e. e ≡ of_playing f)
+pub stopped : {A T : Type 0} (r : Result T ReplayFault) (f : ReplayFault) (text : List ℕ) (capture : Capture A) (sink sink_new : SinkState) (old new : Option (List ℕ)) → length text ≤ input_limit
+    → IsErrAnd r (λ e. e ≡ f) → IsPlayFault f sink sink_new
     → capture_of text ≡ Ok (capture_seen capture) → AppendsPart old new (capture_plays capture.config capture.lines.items).text
     → IfErr r (λ e. HasStopped A e (Some text) old new)
-stopped (Ok x) f text capture old new short is read part = tt
-stopped {A} (Err e) f text capture old new short is read part =
+stopped (Ok x) f text capture sink sink_new old new short is cause read part = tt
+stopped {A} (Err e) f text capture sink sink_new old new short is cause read part =
     let played = capture_plays capture.config capture.lines.items in
     let all : AppendsReplayPart A text old new = (played.text, (played, is_replay text capture read, refl), part) in
-    subst (λ (e : ReplayFault). HasStopped A e (Some text) old new) (sym is) (stopped_so f text old new short all)
+    subst (λ (e : ReplayFault). HasStopped A e (Some text) old new) (sym is) (stopped_so f text sink sink_new old new short cause all)
+
+-- what is known of a text is known of the input that it is
+of_input_that : (Says : List ℕ → Type 0) (text : List ℕ) (rest : Option (List ℕ)) → IfSome rest (λ bytes. text ≡ bytes)
+    → (length text ≤ input_limit) × Says text → IfSome rest (λ bytes. (length bytes ≤ input_limit) × Says bytes)
+of_input_that Says text None is h = tt
+of_input_that Says text (Some bytes) is h = subst (λ (z : List ℕ). (length z ≤ input_limit) × Says z) is h
 
 -- what was done with a text was done with the input that it is
-pub fault_of_input : {X : Type 0} (f : ReplayFault) (parsed : List ℕ → Result X CaptureFault) (text : List ℕ) (rest : Option (List ℕ))
-    (failures failures_new given given_new unwritten unwritten_new stalls stalls_new : ℕ)
-    → IfSome rest (λ bytes. text ≡ bytes) → IsReplayFault f parsed (Some text) 0 0 0 0 unwritten unwritten_new stalls stalls_new
-    → IsReplayFault f parsed rest failures failures_new given given_new unwritten unwritten_new stalls stalls_new
-fault_of_input fault.Read parsed text rest failures failures_new given given_new unwritten unwritten_new stalls stalls_new is h = absurd (grind (arith, h))
-fault_of_input fault.TooLarge parsed text rest failures failures_new given given_new unwritten unwritten_new stalls stalls_new is h = absurd (grind (arith, h.given))
-fault_of_input (fault.Capture c) parsed text None failures failures_new given given_new unwritten unwritten_new stalls stalls_new is h = tt
-fault_of_input (fault.Capture c) parsed text (Some bytes) failures failures_new given given_new unwritten unwritten_new stalls stalls_new is h =
-    subst (λ (z : List ℕ). (length z ≤ input_limit) × (parsed z ≡ Err c)) is h
-fault_of_input fault.Write parsed text None failures failures_new given given_new unwritten unwritten_new stalls stalls_new is h = (tt, h.1)
-fault_of_input fault.Write parsed text (Some bytes) failures failures_new given given_new unwritten unwritten_new stalls stalls_new is h =
-    (subst (λ (z : List ℕ). (length z ≤ input_limit) × IsOk (parsed z)) is h.0, h.1)
-fault_of_input fault.NoMemory parsed text rest failures failures_new given given_new unwritten unwritten_new stalls stalls_new is h = tt
+pub fault_of_input : {X : Type 0} (f : ReplayFault) (parsed : List ℕ → Result X CaptureFault) (text : List ℕ) (source source_new : SourceState) (sink sink_new : SinkState)
+    → IfSome source.rest (λ bytes. text ≡ bytes) → IsReplayFault f parsed (streams (input_of text) (input_of text) sink sink_new)
+    → IsReplayFault f parsed (streams source source_new sink sink_new)
+fault_of_input fault.Read parsed text source source_new sink sink_new is h = absurd (grind (arith, h))
+fault_of_input fault.TooLarge parsed text source source_new sink sink_new is h = absurd (grind (arith, h.given))
+fault_of_input (fault.Capture c) parsed text source source_new sink sink_new is h = of_input_that (λ z. parsed z ≡ Err c) text source.rest is h
+fault_of_input fault.Write parsed text source source_new sink sink_new is h = (of_input_that (λ z. IsOk (parsed z)) text source.rest is h.0, h.1)
+fault_of_input fault.NoMemory parsed text source source_new sink sink_new is h = tt

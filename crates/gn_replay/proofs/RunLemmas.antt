@@ -31,14 +31,14 @@ pub written : {A : Type 0} (before cleared after : Playing A) (old new : Option 
     → ((states : List LinkState) → AreLinks cleared.links states → HasPlayed cleared after (plays cleared.settings cleared.past states line))
     → bytes ≡ after.out → held ≡ waited ++ bytes → LeavesToWrite old new waiting held
     → (states : List LinkState) → AreLinks before.links states → HasWritten before after old new waited waiting (plays before.settings before.past states line)
-written before cleared after old new waited held waiting line bytes clear play is added owed states are =
+written before cleared after old new waited held waiting line bytes clear play is added leaves states are =
     let played = from_clear before cleared after line clear play states are in
     record {
       settings = ap (λ (v : Playing _). v.settings) played.played;
       past = ap (λ (v : Playing _). v.past) played.played;
       refusals = ap (λ (v : Playing _). v.refusals) played.played;
       links = played.links;
-      text = subst (λ (text : List ℕ). LeavesToWrite old new waiting text) (added ∙ ap (λ (text : List ℕ). waited ++ text) (is ∙ ap (λ (v : Playing _). v.out) played.played)) owed;
+      text = subst (λ (text : List ℕ). LeavesToWrite old new waiting text) (added ∙ ap (λ (text : List ℕ). waited ++ text) (is ∙ ap (λ (v : Playing _). v.out) played.played)) leaves;
     }
 
 -- only a prefix of it was written, and nothing waits any more
@@ -51,12 +51,12 @@ part_written before cleared after old new waited held waiting line bytes clear p
     rw empty (subst (λ (text : List ℕ). AppendsPart old new text) (added ∙ ap (λ (text : List ℕ). waited ++ text) (is ∙ ap (λ (v : Playing _). v.out) played.played)) part)
 
 -- nothing was written yet, and what waited still waits
-pub still_waits : (told : Option (List ℕ)) (waited waiting text : List ℕ) → waiting ≡ waited → WaitsPart told told waiting (waited ++ text)
-still_waits told waited waiting text same = rw same (text, leaves_all told (waited ++ text))
+pub still_waits : (old : Option (List ℕ)) (waited waiting text : List ℕ) → waiting ≡ waited → WaitsPart old old waiting (waited ++ text)
+still_waits old waited waiting text same = rw same (text, leaves_all old (waited ++ text))
 
 -- nothing was written yet
-pub none_written : (told : Option (List ℕ)) (text : List ℕ) → AppendsPart told told text
-none_written told text = (text, leaves_all told text)
+pub none_written : (old : Option (List ℕ)) (text : List ℕ) → AppendsPart old old text
+none_written old text = (text, leaves_all old text)
 
 -- a loop over all lines, where those of `left` are still to come
 pub record IsRunning {A : Type 0} (s : Config) (now : Playing A) (first last : Option (List ℕ)) (waiting : List ℕ) (left all : List (ℕ × Line A)) : Type 0 where
@@ -65,21 +65,21 @@ pub record IsRunning {A : Type 0} (s : Config) (now : Playing A) (first last : O
   pub settings : now.settings ≡ s
   pub past : (play_lines s now.past states left).past ≡ (capture_plays s all).past
   pub refusals : refused_more (play_lines s now.past states left).refusals now.refusals ≡ refused_more (capture_plays s all).refusals 0
-  pub owed : LeavesToWrite first last (waiting ++ (play_lines s now.past states left).text) (capture_plays s all).text
+  pub leaves : LeavesToWrite first last (waiting ++ (play_lines s now.past states left).text) (capture_plays s all).text
 
 -- the next line is the first of those that are left
 pub next_of : {X : Type 0} (xs : List X) (i : ℕ) (x : X) → i < length xs → x ≡ get_or xs i x → drop i xs ≡ x ∷ drop (i + 1) xs
 next_of xs i x inside is = rw (add-one, drop-cons xs i x) (ap (λ y. y ∷ drop (suc i) xs) (sym is))
 
 -- no line was played yet
-pub running_start : {A : Type 0} (v : Playing A) (told : Option (List ℕ)) (waiting : List ℕ) (all : List (ℕ × Line A)) → IsNew v → waiting ≡ [] → IsRunning v.settings v told told waiting all all
-running_start v told waiting all new empty = record {
+pub running_start : {A : Type 0} (v : Playing A) (old : Option (List ℕ)) (waiting : List ℕ) (all : List (ℕ × Line A)) → IsNew v → waiting ≡ [] → IsRunning v.settings v old old waiting all all
+running_start v old waiting all new empty = record {
   states = [];
   links = rw new.links tt;
   settings = refl;
   past = rw new.past refl;
   refusals = rw (new.past, new.refusals) refl;
-  owed = rw (new.past, empty) (leaves_all told (capture_plays v.settings all).text);
+  leaves = rw (new.past, empty) (leaves_all old (capture_plays v.settings all).text);
 }
 
 -- what a line did, by the configuration of the loop
@@ -107,16 +107,16 @@ running_more {A} s now after first mid last waited waiting n line left all r wro
       refusals =
           ap (λ (p : Played A). refused_more p.refusals after.refusals) same ∙ ap (λ (n : ℕ). refused_more later.refusals n) done.refusals
           ∙ refused_both here.played.refusals later.refusals now.refusals ∙ r.refusals;
-      owed =
+      leaves =
           subst (λ (p : Played A). LeavesToWrite first last (waiting ++ p.text) (capture_plays s all).text) (sym same)
-          (leaves_text first mid last waited here.played.text later.text waiting (capture_plays s all).text r.owed done.text);
+          (leaves_text first mid last waited here.played.text later.text waiting (capture_plays s all).text r.leaves done.text);
     }
 
 -- none is left
 pub running_all : {A : Type 0} (s : Config) (now : Playing A) (first last : Option (List ℕ)) (waiting : List ℕ) (all : List (ℕ × Line A)) → IsRunning s now first last waiting [] all
     → HasPassed (capture_plays s all) now.past now.refusals first last waiting
 running_all s now first last waiting all r =
-    record { past = r.past; refusals = r.refusals; owed = subst (λ (xs : List ℕ). LeavesToWrite first last xs (capture_plays s all).text) (append-nil waiting) r.owed }
+    record { past = r.past; refusals = r.refusals; leaves = subst (λ (xs : List ℕ). LeavesToWrite first last xs (capture_plays s all).text) (append-nil waiting) r.leaves }
 
 -- the next line wasn't played, or not all of its text was taken
 pub running_part : {A : Type 0} (s : Config) (now : Playing A) (first mid last : Option (List ℕ)) (waited waiting : List ℕ) (n : ℕ) (line : Line A) (left all : List (ℕ × Line A))
@@ -127,19 +127,19 @@ running_part {A} s now first mid last waited waiting n line left all r part =
     let here : After A = plays s now.past r.states line in
     let some : WaitsPart mid last waiting (waited ++ here.played.text) =
     subst (λ (c : Config). WaitsPart mid last waiting (waited ++ (plays c now.past r.states line).played.text)) r.settings (part r.states r.links) in
-    waits_text first mid last waited here.played.text (play_lines s here.played.past here.links left).text waiting (capture_plays s all).text r.owed some
+    waits_text first mid last waited here.played.text (play_lines s here.played.past here.links left).text waiting (capture_plays s all).text r.leaves some
 
 -- what waited after the last line was written
 pub run_written : {A : Type 0} (played : Played A) (steps : List (Step A)) (count : ℕ) (first mid last : Option (List ℕ)) (waiting : List ℕ) → HasPassed played steps count first mid waiting → Appends mid last waiting
     → HasRun played steps count first last
 run_written played steps count first mid last waiting p rest =
-    record { past = p.past; refusals = p.refusals; text = leaves_rest first mid last waiting played.text p.owed rest }
+    record { past = p.past; refusals = p.refusals; text = leaves_rest first mid last waiting played.text p.leaves rest }
 
 -- only a prefix of it was
 pub run_cut : {A : Type 0} (played : Played A) (steps : List (Step A)) (count : ℕ) (first mid last : Option (List ℕ)) (waiting : List ℕ) → HasPassed played steps count first mid waiting → AppendsPart mid last waiting
     → AppendsPart first last played.text
 run_cut played steps count first mid last waiting p rest =
-    rest_cut first mid last waiting played.text (leaves_waits first mid waiting played.text p.owed) rest
+    rest_cut first mid last waiting played.text (leaves_waits first mid waiting played.text p.leaves) rest
 
 -- nothing of it was
 pub run_left : (first last : Option (List ℕ)) (waiting all : List ℕ) → WaitsPart first last waiting all → AppendsPart first last all

@@ -31,43 +31,43 @@ parsed_by n false (Some x) step e = cc
 parsed_step : {A : Type 0} (line : ℕ × List ℕ) (step : Step A) → line_parsed line ≡ Ok (Some step) → step_parsed (fields_of line.1) ≡ Some step
 parsed_step line step e = parsed_by line.0 (is_word line.1 ending) (step_parsed (fields_of line.1)) step e
 
--- behind the line `end` no step stands
-none_behind : {A : Type 0} (line : ℕ × List ℕ) (more : List (ℕ × List ℕ)) (steps : List (Step A)) (i : ℕ) (step : Step A)
+-- after the line `end` no step stands
+none_after : {A : Type 0} (line : ℕ × List ℕ) (more : List (ℕ × List ℕ)) (steps : List (Step A)) (i : ℕ) (step : Step A)
     → ended more ≡ Ok steps → slice_get steps i ≡ Some step → IsLineOf (line ∷ more) i step
-none_behind line (next ∷ more) steps i step all at = absurd (cc)
-none_behind line [] [] i step all at = absurd (cc)
-none_behind line [] (x ∷ xs) i step all at = absurd (cc)
+none_after line (next ∷ more) steps i step all at = absurd (cc)
+none_after line [] [] i step all at = absurd (cc)
+none_after line [] (x ∷ xs) i step all at = absurd (cc)
 
--- the step is that of the first line, or of one behind it
+-- the step is that of the first line, or of one after it
 by_index : {A : Type 0} (line : ℕ × List ℕ) (more : List (ℕ × List ℕ)) (first : Step A) (xs : List (Step A)) (i : ℕ) (step : Step A)
     → step_parsed (fields_of line.1) ≡ Some first → slice_get (first ∷ xs) i ≡ Some step
     → ((j : ℕ) → slice_get xs j ≡ Some step → IsLineOf more j step) → IsLineOf (line ∷ more) i step
-by_index line more first xs zero step says at behind = record { line = line; stands = refl; says = says ∙ at }
-by_index line more first xs (suc j) step says at behind =
-    let there = behind j at in record { line = there.line; stands = there.stands; says = there.says }
+by_index line more first xs zero step says at later = record { line = line; stands = refl; says = says ∙ at }
+by_index line more first xs (suc j) step says at later =
+    let there = later j at in record { line = there.line; stands = there.stands; says = there.says }
 
 at_line : {A : Type 0} (line : ℕ × List ℕ) (more : List (ℕ × List ℕ)) (found : Result (Option (Step A)) CaptureFault) (rest : Result (List (Step A)) CaptureFault) (steps : List (Step A)) (i : ℕ) (step : Step A)
     → line_parsed line ≡ found → (found >>= (λ f. steps_behind f more rest)) ≡ Ok steps → slice_get steps i ≡ Some step
     → ((xs : List (Step A)) (j : ℕ) → rest ≡ Ok xs → slice_get xs j ≡ Some step → IsLineOf more j step) → IsLineOf (line ∷ more) i step
-at_line line more (Err fault) rest steps i step is all at behind = absurd (cc)
-at_line line more (Ok None) rest steps i step is all at behind = none_behind line more steps i step all at
-at_line line more (Ok (Some first)) (Err fault) steps i step is all at behind = absurd (cc)
-at_line line more (Ok (Some first)) (Ok xs) steps i step is all at behind =
+at_line line more (Err fault) rest steps i step is all at later = absurd (cc)
+at_line line more (Ok None) rest steps i step is all at later = none_after line more steps i step all at
+at_line line more (Ok (Some first)) (Err fault) steps i step is all at later = absurd (cc)
+at_line line more (Ok (Some first)) (Ok xs) steps i step is all at later =
     let whole : steps ≡ first ∷ xs = cc in
-    by_index line more first xs i step (parsed_step line first is) (ap (λ z. slice_get z i) (sym whole) ∙ at) (λ j there. behind xs j refl there)
+    by_index line more first xs i step (parsed_step line first is) (ap (λ z. slice_get z i) (sym whole) ∙ at) (λ j there. later xs j refl there)
 
 -- each step that lines say stands in the line of its index
-stands_in : {A : Type 0} (behind : ℕ) (lines : List (ℕ × List ℕ)) (steps : List (Step A)) (i : ℕ) (step : Step A)
-    → steps_from behind lines ≡ Ok steps → slice_get steps i ≡ Some step → IsLineOf lines i step
-stands_in behind [] steps i step all at = absurd (cc)
-stands_in behind (line ∷ more) steps i step all at =
-    at_line line more (line_parsed line) (steps_from behind more) steps i step refl all at (λ xs j. stands_in behind more xs j step)
+stands_in : {A : Type 0} (last : ℕ) (lines : List (ℕ × List ℕ)) (steps : List (Step A)) (i : ℕ) (step : Step A)
+    → steps_from last lines ≡ Ok steps → slice_get steps i ≡ Some step → IsLineOf lines i step
+stands_in last [] steps i step all at = absurd (cc)
+stands_in last (line ∷ more) steps i step all at =
+    at_line line more (line_parsed line) (steps_from last more) steps i step refl all at (λ xs j. stands_in last more xs j step)
 
--- the lines behind one
-own_more : (numbers : Numbers) (behind : ℕ) (lines : List (ℕ × List ℕ)) (header : (Numbers × Own) × List (ℕ × List ℕ))
-    → own_from numbers behind lines ≡ Ok header → (x : ℕ × List ℕ) × (lines ≡ x ∷ header.1)
-own_more numbers behind [] header e = absurd (cc)
-own_more numbers behind (line ∷ more) header e = by (own_of (fields_of line.1)) e
+-- the lines after one
+own_more : (numbers : Numbers) (last : ℕ) (lines : List (ℕ × List ℕ)) (header : (Numbers × Own) × List (ℕ × List ℕ))
+    → own_from numbers last lines ≡ Ok header → (x : ℕ × List ℕ) × (lines ≡ x ∷ header.1)
+own_more numbers last [] header e = absurd (cc)
+own_more numbers last (line ∷ more) header e = by (own_of (fields_of line.1)) e
   where
     by : (o : Option Own) → (numbered_at line.0 cause.Own o >>= (λ own. Ok ((numbers, own), more))) ≡ Ok header
         → (x : ℕ × List ℕ) × (line ∷ more ≡ x ∷ header.1)
@@ -76,30 +76,30 @@ own_more numbers behind (line ∷ more) header e = by (own_of (fields_of line.1)
         let known : ((numbers, own), more) ≡ header = cc in
         (line, ap (λ (h : (Numbers × Own) × List (ℕ × List ℕ)). line ∷ h.1) known)
 
--- the lines behind two
-config_more : (behind : ℕ) (lines : List (ℕ × List ℕ)) (header : (Numbers × Own) × List (ℕ × List ℕ))
-    → config_from behind lines ≡ Ok header → (x y : ℕ × List ℕ) × (lines ≡ x ∷ y ∷ header.1)
-config_more behind [] header e = absurd (cc)
-config_more behind (line ∷ more) header e = by (config_of (fields_of line.1)) e
+-- the lines after two
+config_more : (last : ℕ) (lines : List (ℕ × List ℕ)) (header : (Numbers × Own) × List (ℕ × List ℕ))
+    → config_from last lines ≡ Ok header → (x y : ℕ × List ℕ) × (lines ≡ x ∷ y ∷ header.1)
+config_more last [] header e = absurd (cc)
+config_more last (line ∷ more) header e = by (config_of (fields_of line.1)) e
   where
-    by : (o : Option Numbers) → (numbered_at line.0 cause.Config o >>= (λ numbers. own_from numbers behind more)) ≡ Ok header
+    by : (o : Option Numbers) → (numbered_at line.0 cause.Config o >>= (λ numbers. own_from numbers last more)) ≡ Ok header
         → (x y : ℕ × List ℕ) × (line ∷ more ≡ x ∷ y ∷ header.1)
     by None e = absurd (cc)
     by (Some numbers) e =
-        let more_of = own_more numbers behind more header e in
+        let more_of = own_more numbers last more header e in
         (line, more_of.0, ap (λ xs. line ∷ xs) more_of.1)
 
--- the lines behind the first three
-header_more : (name : List ℕ) (behind : ℕ) (lines : List (ℕ × List ℕ)) (header : (Numbers × Own) × List (ℕ × List ℕ)) (i : ℕ)
-    → header_of name behind lines ≡ Ok header → slice_get lines (suc (suc (suc i))) ≡ slice_get header.1 i
-header_more name behind [] header i e = absurd (cc)
-header_more name behind (line ∷ more) header i e = by (is_word line.1 name) e
+-- the lines after the first three
+header_more : (name : List ℕ) (last : ℕ) (lines : List (ℕ × List ℕ)) (header : (Numbers × Own) × List (ℕ × List ℕ)) (i : ℕ)
+    → header_of name last lines ≡ Ok header → slice_get lines (suc (suc (suc i))) ≡ slice_get header.1 i
+header_more name last [] header i e = absurd (cc)
+header_more name last (line ∷ more) header i e = by (is_word line.1 name) e
   where
-    by : (b : Bool) → (if b then config_from behind more else Err (fault_at line.0 cause.Header)) ≡ Ok header
+    by : (b : Bool) → (if b then config_from last more else Err (fault_at line.0 cause.Header)) ≡ Ok header
         → slice_get (line ∷ more) (suc (suc (suc i))) ≡ slice_get header.1 i
     by false e = absurd (cc)
     by true e =
-        let more_of = config_more behind more header e in
+        let more_of = config_more last more header e in
         ap (λ xs. slice_get xs (suc (suc i))) more_of.2
 
 abbrev headed : {A : Type 0} → Numbers × Own → Result (List (Step A)) CaptureFault → Result ((Numbers × Own) × List (Step A)) CaptureFault
@@ -112,27 +112,27 @@ steps_in (Err fault) = []
 headed_same : {A : Type 0} (one other : Numbers × Own) (xs steps : List (Step A)) → headed one (Ok xs) ≡ Ok (other, steps) → xs ≡ steps
 headed_same one other xs steps e = ap steps_in e
 
--- what is read behind the first three lines, where those are read so
-abbrev read_behind : {A : Type 0} → ℕ → Result ((Numbers × Own) × List (ℕ × List ℕ)) CaptureFault → Result ((Numbers × Own) × List (Step A)) CaptureFault
-read_behind behind header = do
+-- what is read after the first three lines, where those are read so
+abbrev read_after : {A : Type 0} → ℕ → Result ((Numbers × Own) × List (ℕ × List ℕ)) CaptureFault → Result ((Numbers × Own) × List (Step A)) CaptureFault
+read_after last header = do
   h ← header
-  headed h.0 (steps_from behind h.1)
+  headed h.0 (steps_from last h.1)
 
--- the steps of a text, behind its first three lines
-in_text : {A : Type 0} (lines : List (ℕ × List ℕ)) (behind : ℕ) (header : Result ((Numbers × Own) × List (ℕ × List ℕ)) CaptureFault) (settings : Numbers × Own) (steps : List (Step A)) (i : ℕ) (step : Step A)
-    → header_of title behind lines ≡ header
-    → read_behind behind header ≡ Ok (settings, steps) → slice_get steps i ≡ Some step
+-- the steps of a text, after its first three lines
+in_text : {A : Type 0} (lines : List (ℕ × List ℕ)) (last : ℕ) (header : Result ((Numbers × Own) × List (ℕ × List ℕ)) CaptureFault) (settings : Numbers × Own) (steps : List (Step A)) (i : ℕ) (step : Step A)
+    → header_of title last lines ≡ header
+    → read_after last header ≡ Ok (settings, steps) → slice_get steps i ≡ Some step
     → IsLineOf lines (suc (suc (suc i))) step
-in_text lines behind (Err fault) settings steps i step is all at = absurd (cc)
-in_text lines behind (Ok header) settings steps i step is all at = by (steps_from behind header.1) refl all
+in_text lines last (Err fault) settings steps i step is all at = absurd (cc)
+in_text lines last (Ok header) settings steps i step is all at = by (steps_from last header.1) refl all
   where
-    by : (rest : Result (List (Step _)) CaptureFault) → steps_from behind header.1 ≡ rest
+    by : (rest : Result (List (Step _)) CaptureFault) → steps_from last header.1 ≡ rest
         → headed header.0 rest ≡ Ok (settings, steps) → IsLineOf lines (suc (suc (suc i))) step
     by (Err fault) read e = absurd (cc)
     by (Ok xs) read e =
         let same = headed_same header.0 settings xs steps e in
-        let line = stands_in behind header.1 xs i step read (ap (λ z. slice_get z i) same ∙ at) in
-        record { line = line.line; stands = header_more title behind lines header i is ∙ line.stands; says = line.says }
+        let line = stands_in last header.1 xs i step read (ap (λ z. slice_get z i) same ∙ at) in
+        record { line = line.line; stands = header_more title last lines header i is ∙ line.stands; says = line.says }
 
 -- a step of a history stands in its line
 pub step_stands : {A : Type 0} (text : List ℕ) (settings : Numbers × Own) (steps : List (Step A)) (i : ℕ) (step : Step A)

@@ -1,4 +1,4 @@
--- What was told of a history.
+-- The verdict on a history.
 use Rattle.std.proofs.Common.{◌≡◌, ◌<◌, ◌^◌, ◌∙◌, ℕ, List, length, reverse, sym, ap, subst, arith}
 use Rattle.std.proofs.lemmas.List.{take_all}
 use Rattle.gn_rules.specs.declared.config.Config.{Config}
@@ -26,7 +26,7 @@ pub judged_of : {A : Type 0} (s now : Config) (steps lent : List (Step A)) (judg
 judged_of s now steps lent judgement same whole judged =
     subst (λ (z : Config). IsTrueOf z steps judgement) same (subst (λ (xs : List (Step _)). IsTrueOf now xs judgement) whole judged)
 
--- what is told is true where the judgement is
+-- the verdict is true where the judgement is
 pub tells_of : {A : Type 0} (s : Config) (steps : List (Step A)) (judgement : Judgement A) → IsTrueOf s steps judgement → Tells s steps (legality_of judgement)
 tells_of s steps Legal judged = judged
 tells_of s steps (WrongAt i rules) judged = judged.0

@@ -3,7 +3,7 @@ use Rattle.std.specs.Prelude.{◌≡◌, ◌≢◌, ℕ, List, length, reverse, 
 use Rattle.std.specs.List.{slice_get}
 use Rattle.gn_rules.specs.declared.config.Config.{Config}
 use Rattle.gn_rules.specs.declared.legality.Legality.{Legality}
-use Rattle.gn_rules.specs.declared.legality.Legality.TheVariants as told
+use Rattle.gn_rules.specs.declared.legality.Legality.TheVariants as verdict
 use Rattle.gn_rules.specs.declared.receipt.Step.{Step}
 use Rattle.gn_rules.specs.declared.refusal.Refusal.{Refusal}
 use Rattle.gn_rules.specs.declared.reply.Reply.{Reply}
@@ -15,19 +15,20 @@ use Rattle.gn_capture.specs.Histories.{history_of}
 use Rattle.gn_replay.specs.declared.judgement.Judgement.{Judgement}
 use Rattle.gn_replay.specs.declared.judgement.Judgement.TheVariants.{Legal, WrongAt}
 
--- what is told of a history, without the answer
+-- what is found of a history, without the answer
 abbrev pub legality_of : {A : Type 0} → Judgement A → Legality
-legality_of Legal = told.Legal
-legality_of (WrongAt i rules) = told.WrongAt i
+legality_of Legal = verdict.Legal
+legality_of (WrongAt i rules) = verdict.WrongAt i
 
--- what a router answered to a step's event: nothing else than the step's reply where that is the rules' answer; where it
--- isn't, the rules' answer
+-- what a router answered to a step's event: nothing else than the step's reply where that is the rules' answer; where
+-- it isn't, the rules' answer
 abbrev pub IsOther : {A : Type 0} → Option (Result (Reply A) Refusal) → Result (Reply A) Refusal → Reply A → Type 0
 IsOther None rules reply = rules ≡ Ok reply
 IsOther (Some other) rules reply = (rules ≡ other) × (other ≢ Ok reply)
 
 -- the step at the index, and what the rules answer to its event after the steps before it
-pub record IsAnsweredAt {A : Type 0} (s : Config) (steps : List (Step A)) (i : ℕ) (rules : Result (Reply A) Refusal) : Type 0 where
+pub record IsAnsweredAt {A : Type 0} (s : Config) (steps : List (Step A)) (i : ℕ) (rules : Result (Reply A) Refusal)
+    : Type 0 where
   pub step : Step A
   pub at : slice_get steps i ≡ Some step
   pub answered : answer s (reverse (take i steps)) step.event ≡ rules

@@ -9,7 +9,7 @@ use Rattle.gn_replay.specs.declared.link.Link.{Link}
 use Rattle.gn_replay.specs.declared.link.Link.TheVariants as link
 
 -- a link: ended; awaiting its greeting, with all its bytes so far; or joined to a connection, with all its bytes so far
--- behind the greeting
+-- after the greeting
 pub data LinkState : Type 0 where
   ended : LinkState
   greeting : List ℕ → LinkState
@@ -18,7 +18,8 @@ pub data LinkState : Type 0 where
 -- what a link keeps is what its bytes so far leave of it
 abbrev pub IsLink : {A : Type 0} → Link A → LinkState → Type 0
 IsLink link.Ended ended = Unit {0}
-IsLink (link.Greeting shake) (greeting bytes) = (shake ≡ shake_of request_text bytes) × (greeting_state request_text bytes ≡ More)
+IsLink (link.Greeting shake) (greeting bytes) =
+    (shake ≡ shake_of request_text bytes) × (greeting_state request_text bytes ≡ More)
 IsLink (link.Joined c rest) (joined d bytes) =
     (c ≡ d) × ((frames_of bytes).fault ≡ None) × (rest ≡ Some (frames_of bytes).rest)
 IsLink kept state = ⊥

@@ -1,4 +1,4 @@
--- What an answered event tells of a link.
+-- What the answer to an event says of a link.
 use Rattle.std.specs.Prelude.{◌≡◌, Result}
 use Rattle.gn_rules.specs.declared.refusal.Refusal.{Refusal}
 use Rattle.gn_rules.specs.declared.reply.Reply.{Reply}

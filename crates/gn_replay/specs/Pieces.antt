@@ -37,14 +37,15 @@ admits s past c (d ∷ ds) =
 abbrev pub fault_plays : {A : Type 0} → Config → List (Step A) → ℕ → ℕ → FrameFault → Played A
 fault_plays s past i c fault = followed (prints past (frame_fault_text i fault)) (happens s past (Close c))
 
--- behind the descriptors: without a fault the link goes on with its bytes, with one it is ended
+-- after the descriptors: without a fault the link goes on with its bytes, with one it is ended
 abbrev pub fault_ends : {A : Type 0} → Config → ℕ → ℕ → List ℕ → Played A → Option FrameFault → Linked A
 fault_ends s i c bytes before None = record { played = before; state = joined c bytes }
 fault_ends s i c bytes before (Some fault) =
     record { played = followed before (fault_plays s before.past i c fault); state = ended }
 
 -- these descriptors and this fault come on a joined link, which has these bytes then
-abbrev pub delivers_these : {A : Type 0} → Config → List (Step A) → ℕ → ℕ → List ℕ → List Packet → Option FrameFault → Linked A
+abbrev pub delivers_these : {A : Type 0} → Config → List (Step A) → ℕ → ℕ → List ℕ → List Packet
+    → Option FrameFault → Linked A
 delivers_these s past i c bytes packets fault =
     let came = admits s past c packets in
     if came.closed then record { played = came.played; state = ended } else fault_ends s i c bytes came.played fault
@@ -53,7 +54,7 @@ delivers_these s past i c bytes packets fault =
 abbrev pub completed : List ℕ → List ℕ → List Packet
 completed bytes piece = drop (length (frames_of bytes).descriptors) (frames_of (bytes ++ piece)).descriptors
 
--- a piece of a joined link, behind these bytes
+-- a piece of a joined link, after these bytes
 abbrev pub delivers : {A : Type 0} → Config → List (Step A) → ℕ → ℕ → List ℕ → List ℕ → Linked A
 delivers s past i c bytes piece =
     delivers_these s past i c (bytes ++ piece) (completed bytes piece) (frames_of (bytes ++ piece)).fault
@@ -72,14 +73,16 @@ abbrev pub awaits : {A : Type 0} → List (Step A) → Linked A
 awaits past = record { played = nothing past; state = greeting [] }
 
 -- these bytes come on a new connection, where the Connect made one; else the link is ended and they are ignored
-abbrev pub delivers_on : {A : Type 0} → Config → ℕ → Played A → List ℕ → Option ℕ → Linked A
-delivers_on s i before piece None = record { played = before; state = ended }
-delivers_on s i before piece (Some c) =
-    let later = delivers s before.past i c [] piece in record { played = followed before later.played; state = later.state }
+abbrev pub delivers_if_connected : {A : Type 0} → Config → ℕ → Played A → List ℕ → Option ℕ → Linked A
+delivers_if_connected s i before piece None = record { played = before; state = ended }
+delivers_if_connected s i before piece (Some c) =
+    let later = delivers s before.past i c [] piece in
+    record { played = followed before later.played; state = later.state }
 
--- a Connect, and these bytes behind it
+-- a Connect, and these bytes after it
 abbrev pub connects : {A : Type 0} → Config → List (Step A) → ℕ → List ℕ → Linked A
-connects s past i piece = delivers_on s i (happens s past Connect) piece (connection_of (answer s past Connect))
+connects s past i piece =
+    delivers_if_connected s i (happens s past Connect) piece (connection_of (answer s past Connect))
 
 -- a link that awaits its greeting, with all bytes so far, by the state of its greeting
 abbrev pub greets : {A : Type 0} → Config → List (Step A) → ℕ → List ℕ → ShakeState → Linked A
@@ -90,5 +93,6 @@ greets s past i bytes Done = connects s past i (drop (length request_text) bytes
 -- a piece of link i, as the link stands
 abbrev pub takes_piece : {A : Type 0} → Config → List (Step A) → ℕ → List ℕ → LinkState → Linked A
 takes_piece s past i piece ended = record { played = prints past (ended_text i); state = ended }
-takes_piece s past i piece (greeting bytes) = greets s past i (bytes ++ piece) (greeting_state request_text (bytes ++ piece))
+takes_piece s past i piece (greeting bytes) =
+    greets s past i (bytes ++ piece) (greeting_state request_text (bytes ++ piece))
 takes_piece s past i piece (joined c bytes) = delivers s past i c bytes piece

@@ -12,8 +12,8 @@ use Rattle.gn_replay.specs.Links.{IsLink, AreLinks}
 use Rattle.gn_replay.specs.Pieces.{Admits, Linked}
 use Rattle.gn_replay.specs.ReplayText.{After}
 
--- the router's configuration and steps, the newest first; what is kept of each link; what is printed and not written yet;
--- and the count of refusals
+-- the router's configuration and steps, the newest first; what is kept of each link; what is printed and not written
+-- yet; and the count of refusals
 pub record Playing (A : Type 0) : Type 0 where
   pub settings : Config
   pub past : List (Step A)
@@ -26,18 +26,19 @@ abbrev pub refused_more : ℕ → ℕ → ℕ
 refused_more n count = if n == 0 then count else count_more n count
 
 -- the replay after an event's answer was printed, and counted where it is a refusal
-abbrev pub shows : {A : Type 0} → Playing A → Event A → Result (Reply A) Refusal → Playing A
-shows v event answer = record v { out = v.out ++ answer_text event answer; refusals = refused_more (refusals_in answer) v.refusals }
+abbrev pub after_printing : {A : Type 0} → Playing A → Event A → Result (Reply A) Refusal → Playing A
+after_printing v event answer =
+    record v { out = v.out ++ answer_text event answer; refusals = refused_more (refusals_in answer) v.refusals }
 
--- the replay after something was played: its steps stand then, its text is behind what was printed, its refusals are counted;
--- the links are as they were
+-- the replay after something was played: its steps stand then, its text is after what was printed, its refusals are
+-- counted; the links are as they were
 abbrev pub after_playing : {A : Type 0} → Playing A → Played A → Playing A
 after_playing v p = record v { past = p.past; out = v.out ++ p.text; refusals = refused_more p.refusals v.refusals }
 
 -- descriptors were admitted, and the connection was found closed or not
 pub record HasAdmitted {A : Type 0} (closed : Bool) (before after : Playing A) (came : Admits A) : Type 0 where
   pub played : after ≡ after_playing before came.played
-  pub told : closed ≡ came.closed
+  pub found : closed ≡ came.closed
 
 -- the replay with these links
 abbrev pub with_links : {A : Type 0} → Playing A → List (Link A) → Playing A

@@ -11,12 +11,13 @@ use Rattle.gn_replay.specs.declared.fault.ReplayFault.{ReplayFault}
 use Rattle.gn_replay.specs.declared.fault.ReplayFault.TheVariants.{Write}
 use Rattle.gn_replay.specs.ReplayText.{capture_plays}
 
--- the history text of what was read of an input: none where that is no capture, else the configuration that it tells, and
--- the steps that its lines make, the oldest first
+-- the history text of what was read of an input: none where that is no capture, else the configuration that it states,
+-- and the steps that its lines make, the oldest first
 abbrev pub IsHistoryOf : (A : Type 0) → Result (Parsed A) CaptureFault → List ℕ → Type 0
 IsHistoryOf A (Err fault) text = text ≡ []
 IsHistoryOf A (Ok parsed) text =
-    (s : Config) × (settings_of s ≡ (parsed.numbers, parsed.own)) × (text ≡ history_text s (reverse (capture_plays s parsed.lines).past))
+    (s : Config) × (settings_of s ≡ (parsed.numbers, parsed.own))
+    × (text ≡ history_text s (reverse (capture_plays s parsed.lines).past))
 
 -- the history text of an input
 abbrev pub IsHistoryText : (A : Type 0) → List ℕ → List ℕ → Type 0

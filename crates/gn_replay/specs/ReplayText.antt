@@ -24,7 +24,7 @@ pub record After (A : Type 0) : Type 0 where
 abbrev pub event_plays : {A : Type 0} → List LinkState → Played A → After A
 event_plays links played = record { played = played; links = links }
 
--- a new link, behind the others
+-- a new link, after the others
 abbrev pub link_added : {A : Type 0} → List LinkState → Linked A → After A
 link_added links new = record { played = new.played; links = links ++ new.state ∷ [] }
 
@@ -67,8 +67,8 @@ play_lines s past links ((n, line) ∷ more) =
 abbrev pub capture_plays : {A : Type 0} → Config → List (ℕ × Line A) → Played A
 capture_plays s lines = play_lines s [] [] lines
 
--- what replay does with what was read of its input: nothing where that is no capture, else what its lines do on a router of
--- the configuration that it tells
+-- what replay does with what was read of its input: nothing where that is no capture, else what its lines do on a
+-- router of the configuration that it states
 abbrev pub IsReplayOf : (A : Type 0) → Result (Parsed A) CaptureFault → Played A → Type 0
 IsReplayOf A (Err fault) played = played ≡ nothing []
 IsReplayOf A (Ok parsed) played =

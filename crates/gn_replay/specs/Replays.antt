@@ -24,9 +24,10 @@ IsCounted A input exit =
     (played : Played A) × IsReplay A input played × (exit.steps ≡ length played.past)
     × (exit.refusals ≡ refused_more played.refusals 0)
 
--- what was written where a replay stopped: at Write a prefix of the replay text, at NoMemory nothing or that of an input within
--- the limit, at any other fault nothing
+-- what was written where a replay stopped: at Write a prefix of the replay text, at NoMemory nothing or that of an
+-- input within the limit, at any other fault nothing
 abbrev pub HasStopped : (A : Type 0) → ReplayFault → Option (List ℕ) → Option (List ℕ) → Option (List ℕ) → Type 0
 HasStopped A Write rest old new = IfSome rest (λ input. AppendsReplayPart A input old new)
-HasStopped A NoMemory rest old new = IfSome rest (λ input. Keeps old new ⊎ ((length input ≤ input_limit) × AppendsReplayPart A input old new))
+HasStopped A NoMemory rest old new =
+    IfSome rest (λ input. Keeps old new ⊎ ((length input ≤ input_limit) × AppendsReplayPart A input old new))
 HasStopped A fault rest old new = Keeps old new

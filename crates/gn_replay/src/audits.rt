@@ -1,9 +1,9 @@
 //! A history audited from stream to stream, and explained.
 
-ghost use Rattle.std.specs.Prelude.{◌≡◌, ◌≤◌, length, IfOk, IfErr, IfSome, IsOk, OnOk};
-ghost use Rattle.gn_replay.specs.Faults.{IsReplayFault};
+ghost use Rattle.std.specs.Prelude.{IfOk, IfErr, IfSome};
+ghost use Rattle.gn_replay.specs.Faults.{IsAnswerOn};
 ghost use Rattle.gn_capture.specs.Histories.{history_of};
-ghost use Rattle.gn_io.specs.Input.{input_limit};
+ghost use Rattle.gn_io.specs.Streams.{streams};
 ghost use Rattle.gn_replay.specs.Audits.{AppendsVerdict, HasStopped};
 ghost use Rattle.gn_replay.specs.Explained.{AppendsExplained, HasExplainedStopped};
 
@@ -15,24 +15,19 @@ use gn_rules::{Legality, RouterCore};
 use std::alloc::Allocator;
 
 /// Reads a history's text whole, asks a new router for each of its steps again, and writes one line: `legal COUNT`, or
-/// `wrong INDEX` with the index of the first step, counted from 0, at which the router does otherwise. Nothing is written
-/// before all is decided. An `Ok` says that no read failed and no write failed or took nothing.
+/// `wrong INDEX` with the index of the first step, counted from 0, at which the router does otherwise. Nothing is
+/// written before all is decided. An `Ok` says that no read failed and no write failed or took nothing.
 pub fn audit<A: Allocator + Copy, C: RouterCore<A> + Drop, S: Source, W: Sink>(
     alloc: A,
     source: &mut S,
     sink: &mut W,
 ) -> Result<Legality, ReplayFault>
-    ensures short { OnOk result (IfSome (S.rest source.old) (λ text. length text ≤ input_limit)) }
-    ensures valid { OnOk result (IfSome (S.rest source.old) (λ text. IsOk (history_of {A = A} text))) }
-    ensures told { IfOk result (λ legality. IfSome (S.rest source.old) (λ text.
-        AppendsVerdict A text legality (W.told sink.old) (W.told sink.new))) }
-    ensures reads { OnOk result (S.failures source.new ≡ S.failures source.old) }
-    ensures failures { OnOk result (W.failures sink.new ≡ W.failures sink.old) }
-    ensures stalls { OnOk result (W.stalls sink.new ≡ W.stalls sink.old) }
-    ensures stopped { IfErr result (λ fault. HasStopped A fault (S.rest source.old) (W.told sink.old) (W.told sink.new)) }
-    ensures fault { IfErr result (λ fault. IsReplayFault fault (history_of {A = A}) (S.rest source.old)
-        (S.failures source.old) (S.failures source.new) (S.given source.old) (S.given source.new)
-        (W.failures sink.old) (W.failures sink.new) (W.stalls sink.old) (W.stalls sink.new)) }
+    ensures answer { IsAnswerOn (history_of {A = A})
+        (streams (S.state source.old) (S.state source.new) (W.state sink.old) (W.state sink.new)) result }
+    ensures written { IfOk result (λ legality. IfSome (S.state source.old).rest (λ text.
+        AppendsVerdict A text legality (W.state sink.old).written (W.state sink.new).written)) }
+    ensures stopped { IfErr result (λ fault. HasStopped A fault (S.state source.old).rest
+        (W.state sink.old).written (W.state sink.new).written) }
 {
     let input = read_input(alloc, source)?;
     let (legality, line) = audit_text::<A, C>(alloc, &input)?;
@@ -40,26 +35,20 @@ pub fn audit<A: Allocator + Copy, C: RouterCore<A> + Drop, S: Source, W: Sink>(
     Ok(legality)
 }
 
-/// As `audit`; behind `wrong INDEX` it writes two lines more: `line NUMBER: TEXT`, the wrong step's line as it stands in the
-/// history, with its number counted from 1, and `rules: TEXT`, what the rules answer to its event: a reply as behind the `=`
-/// of a step, or `refused NAME`.
+/// As `audit`; after `wrong INDEX` it writes two lines more: `line NUMBER: TEXT`, the wrong step's line as it stands in
+/// the history, with its number counted from 1, and `rules: TEXT`, what the rules answer to its event: a reply as after
+/// the `=` of a step, or `refused NAME`.
 pub fn audit_explained<A: Allocator + Copy, C: RouterCore<A> + Drop, S: Source, W: Sink>(
     alloc: A,
     source: &mut S,
     sink: &mut W,
 ) -> Result<Legality, ReplayFault>
-    ensures short { OnOk result (IfSome (S.rest source.old) (λ text. length text ≤ input_limit)) }
-    ensures valid { OnOk result (IfSome (S.rest source.old) (λ text. IsOk (history_of {A = A} text))) }
-    ensures told { IfOk result (λ legality. IfSome (S.rest source.old) (λ text.
-        AppendsExplained A text legality (W.told sink.old) (W.told sink.new))) }
-    ensures reads { OnOk result (S.failures source.new ≡ S.failures source.old) }
-    ensures failures { OnOk result (W.failures sink.new ≡ W.failures sink.old) }
-    ensures stalls { OnOk result (W.stalls sink.new ≡ W.stalls sink.old) }
-    ensures stopped { IfErr result (λ fault. HasExplainedStopped A fault (S.rest source.old)
-        (W.told sink.old) (W.told sink.new)) }
-    ensures fault { IfErr result (λ fault. IsReplayFault fault (history_of {A = A}) (S.rest source.old)
-        (S.failures source.old) (S.failures source.new) (S.given source.old) (S.given source.new)
-        (W.failures sink.old) (W.failures sink.new) (W.stalls sink.old) (W.stalls sink.new)) }
+    ensures answer { IsAnswerOn (history_of {A = A})
+        (streams (S.state source.old) (S.state source.new) (W.state sink.old) (W.state sink.new)) result }
+    ensures written { IfOk result (λ legality. IfSome (S.state source.old).rest (λ text.
+        AppendsExplained A text legality (W.state sink.old).written (W.state sink.new).written)) }
+    ensures stopped { IfErr result (λ fault. HasExplainedStopped A fault (S.state source.old).rest
+        (W.state sink.old).written (W.state sink.new).written) }
 {
     let input = read_input(alloc, source)?;
     let (legality, lines) = explained_text::<A, C>(alloc, &input)?;

@@ -1,4 +1,4 @@
-//! What is told of a history's text, with what explains its first wrong step.
+//! The verdict on a history's text, with what explains its first wrong step.
 
 ghost use Rattle.std.specs.Prelude.{◌≡◌, ◌<◌, ◌+◌, ◌++◌, Some, length, IfOk, IfErr, OnOk};
 ghost use Rattle.gn_text.specs.Faults.{IsRefused};
@@ -66,12 +66,12 @@ fn explain<A: Allocator + Copy>(
     }
 }
 
-/// What a new router tells of the history that a text says, and the lines that tell and explain it.
+/// The verdict of a new router on the history that a text says, and the lines that state and explain it.
 pub(crate) fn explained_text<A: Allocator + Copy, C: RouterCore<A> + Drop>(
     alloc: A,
     text: &[u8],
 ) -> Result<(Legality, Vec<u8, A>), CaptureRefusal>
-    ensures told { IfOk result (λ told. IsAuditExplained A text.now told.0 told.1.items) }
+    ensures explained { IfOk result (λ explained. IsAuditExplained A text.now explained.0 explained.1.items) }
     ensures refused { IfErr result (λ refusal. IsRefused refusal (history_of {A = A} text.now)) }
 {
     let (judgement, steps) = judge_text::<A, C>(alloc, text)?;

@@ -18,7 +18,7 @@ pub enum ReplayFault {
     Capture(CaptureFault),
     /// A write of the output failed, or took nothing.
     Write,
-    /// No memory was given.
+    /// Out of memory.
     NoMemory,
 }
 

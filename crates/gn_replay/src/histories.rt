@@ -1,9 +1,9 @@
 //! A capture replayed for the history of its router.
 
-ghost use Rattle.std.specs.Prelude.{◌≡◌, ◌≤◌, length, IfOk, IfErr, IfSome, IsOk, OnOk};
+ghost use Rattle.std.specs.Prelude.{IfOk, IfErr, IfSome, IsOk, OnOk};
 ghost use Rattle.gn_text.specs.Faults.{IsRefused};
-ghost use Rattle.gn_replay.specs.Faults.{IsReplayFault};
-ghost use Rattle.gn_io.specs.Input.{input_limit};
+ghost use Rattle.gn_replay.specs.Faults.{IsAnswerOn};
+ghost use Rattle.gn_io.specs.Streams.{streams};
 ghost use Rattle.gn_capture.specs.Captures.{capture_of};
 ghost use Rattle.gn_replay.specs.ReplayHistory.{AppendsHistory, HasHistoryStopped, IsHistoryText};
 ghost use Rattle.gn_replay.specs.Replays.{IsCounted};
@@ -48,17 +48,13 @@ pub fn replay_history<A: Allocator + Copy, C: RouterCore<A> + Drop, S: Source, W
     source: &mut S,
     sink: &mut W,
 ) -> Result<Exit, ReplayFault>
-    ensures short { OnOk result (IfSome (S.rest source.old) (λ text. length text ≤ input_limit)) }
-    ensures valid { OnOk result (IfSome (S.rest source.old) (λ text. IsOk (capture_of {A = A} text))) }
-    ensures written { OnOk result (IfSome (S.rest source.old) (λ text. AppendsHistory A text (W.told sink.old) (W.told sink.new))) }
-    ensures counted { IfOk result (λ exit. IfSome (S.rest source.old) (λ text. IsCounted A text exit)) }
-    ensures reads { OnOk result (S.failures source.new ≡ S.failures source.old) }
-    ensures failures { OnOk result (W.failures sink.new ≡ W.failures sink.old) }
-    ensures stalls { OnOk result (W.stalls sink.new ≡ W.stalls sink.old) }
-    ensures stopped { IfErr result (λ fault. HasHistoryStopped A fault (S.rest source.old) (W.told sink.old) (W.told sink.new)) }
-    ensures fault { IfErr result (λ fault. IsReplayFault fault (capture_of {A = A}) (S.rest source.old)
-        (S.failures source.old) (S.failures source.new) (S.given source.old) (S.given source.new)
-        (W.failures sink.old) (W.failures sink.new) (W.stalls sink.old) (W.stalls sink.new)) }
+    ensures answer { IsAnswerOn (capture_of {A = A})
+        (streams (S.state source.old) (S.state source.new) (W.state sink.old) (W.state sink.new)) result }
+    ensures written { OnOk result (IfSome (S.state source.old).rest (λ text.
+        AppendsHistory A text (W.state sink.old).written (W.state sink.new).written)) }
+    ensures counted { IfOk result (λ exit. IfSome (S.state source.old).rest (λ text. IsCounted A text exit)) }
+    ensures stopped { IfErr result (λ fault. HasHistoryStopped A fault (S.state source.old).rest
+        (W.state sink.old).written (W.state sink.new).written) }
 {
     let text = read_input(alloc, source)?;
     let (exit, history) = history_text::<A, C>(alloc, &text)?;

@@ -8,8 +8,8 @@ use crate::judgement::{Answer, Judgement};
 use gn_rules::{Refusal, RouterCore, Step, is_same_reply};
 use std::alloc::{AllocError, Allocator};
 
-/// What a router answers to a step's event, where that isn't the step's reply; else it has made the very step. An `Err` is
-/// out of memory.
+/// What a router answers to a step's event, where that isn't the step's reply; else it has made the very step. An `Err`
+/// is out of memory.
 fn other_answer<A: Allocator + Copy, C: RouterCore<A>>(
     core: &mut C,
     step: &Step<A>,
@@ -32,7 +32,7 @@ fn other_answer<A: Allocator + Copy, C: RouterCore<A>>(
     }
 }
 
-/// What a new router tells of steps, by answering their events itself. An `Err` is out of memory.
+/// The judgement of a new router on steps, by answering their events itself. An `Err` is out of memory.
 pub(crate) fn judge<A: Allocator + Copy, C: RouterCore<A>>(
     core: &mut C,
     steps: &[Step<A>],

@@ -19,7 +19,7 @@ pub(crate) enum Judgement<A: Allocator = Global> {
 }
 
 impl<A: Allocator> Judgement<A> {
-    /// What is told of the history, without the answer.
+    /// What is found of the history, without the answer.
     pub(crate) fn legality(&self) -> Legality
         ensures { result ≡ legality_of self.now }
     {

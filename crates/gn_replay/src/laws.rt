@@ -1,4 +1,4 @@
-//! A law of replay texts that no one call shows.
+//! A law of replay texts that no one call has.
 
 ghost use Rattle.gn_replay.specs.ReplayText.{ReplayTextIsOne};
 

@@ -69,7 +69,7 @@ impl<A: Allocator + Copy, C: RouterCore<A>> Play<A, C> {
         Ok(())
     }
 
-    /// Adds a link behind the others.
+    /// Adds a link after the others.
     fn add_link(&mut self, link: Link<A>) -> Result<(), AllocError>
         ensures { OnOk result (self.new ≡ with_links self.old (self.old.links ++ link ∷ [])) }
     {
@@ -98,7 +98,8 @@ impl<A: Allocator + Copy, C: RouterCore<A>> Play<A, C> {
 
     /// Prints the counters.
     fn print_counters(&mut self) -> Result<(), AllocError>
-        ensures { OnOk result (self.new ≡ after_playing self.old (prints self.old.past (stats_text (stats_of self.old.past)))) }
+        ensures { OnOk result (self.new ≡ after_playing self.old
+            (prints self.old.past (stats_text (stats_of self.old.past)))) }
     {
         push_stats(self.alloc, &mut self.out, &self.core.stats())
     }

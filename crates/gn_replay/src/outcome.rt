@@ -1,4 +1,4 @@
-//! What an answered event tells of a link.
+//! What the answer to an event says of a link.
 
 ghost use Rattle.gn_rules.specs.Answer.{reply_of};
 ghost use Rattle.gn_replay.specs.Outcomes.{IsOutcome};
@@ -6,14 +6,14 @@ ghost use Rattle.gn_replay.specs.Outcomes.{IsOutcome};
 use gn_rules::{ConnId, Receipt, Refusal};
 use std::alloc::Allocator;
 
-/// What an answered event tells of a link: the connection that it made, and whether its connection isn't live.
+/// What the answer to an event says of a link: the connection that it made, and whether its connection isn't live.
 #[derive(Clone, Copy)]
 pub(crate) struct Outcome {
     pub(crate) connection: Option<ConnId>,
     pub(crate) is_not_live: bool,
 }
 
-/// What an answer tells.
+/// What an answer says of a link.
 pub(crate) fn outcome_of<A: Allocator>(answer: &Result<Receipt<A>, Refusal>) -> Outcome
     ensures { IsOutcome result (reply_of answer.now) }
 {

@@ -20,9 +20,10 @@ use gn_wire::{Descriptor, FrameFault};
 use std::alloc::{AllocError, Allocator};
 
 impl<A: Allocator + Copy, C: RouterCore<A>> Play<A, C> {
-    /// Admits descriptors in order, until one is refused since the connection isn't live. Tells whether one was.
+    /// Admits descriptors in order, until one is refused since the connection isn't live. Answers whether one was.
     fn admit_all(&mut self, c: ConnId, descriptors: &[Descriptor<A>]) -> Result<bool, AllocError>
-        ensures { IfOk result (λ closed. HasAdmitted closed self.old self.new (admits self.old.settings self.old.past c descriptors.now)) }
+        ensures { IfOk result (λ closed. HasAdmitted closed self.old self.new
+            (admits self.old.settings self.old.past c descriptors.now)) }
     {
         for descriptor in descriptors {
             let outcome = self.happen(&Event::Admit(c, descriptor.copy()?))?;
@@ -35,7 +36,8 @@ impl<A: Allocator + Copy, C: RouterCore<A>> Play<A, C> {
 
     /// Ends a link that can't have what it was given: prints the fault, and closes the connection.
     fn end_by(&mut self, i: u32, connection: ConnId, fault: FrameFault) -> Result<(), AllocError>
-        ensures { OnOk result (self.new ≡ after_playing self.old (fault_plays self.old.settings self.old.past i connection fault)) }
+        ensures { OnOk result (self.new ≡ after_playing self.old
+            (fault_plays self.old.settings self.old.past i connection fault)) }
     {
         push_frame_fault(self.alloc, &mut self.out, i, fault)?;
         self.happen(&Event::Close(connection))?;
@@ -52,8 +54,8 @@ impl<A: Allocator + Copy, C: RouterCore<A>> Play<A, C> {
     ) -> Result<Link<A>, AllocError>
         ensures { IfOk result (λ link. (bytes : List ℕ)
             → (fed.now.fault ≡ None → IsLink {A = A} (Joined connection frames) (joined connection bytes))
-            → HasLinked link self.old self.new
-            (delivers_these self.old.settings self.old.past i connection bytes fed.now.descriptors.items fed.now.fault)) }
+            → HasLinked link self.old self.new (delivers_these self.old.settings self.old.past i connection bytes
+            fed.now.descriptors.items fed.now.fault)) }
     {
         if self.admit_all(connection, &fed.descriptors)? {
             return Ok(Link::Ended);
@@ -75,8 +77,10 @@ impl<A: Allocator + Copy, C: RouterCore<A>> Play<A, C> {
         mut frames: Reassembler<A>,
         piece: &[u8],
     ) -> Result<Link<A>, AllocError>
-        ensures { IfOk result (λ link. (bytes : List ℕ) → IsLink {A = A} (Joined connection frames) (joined connection bytes)
-            → HasLinked link self.old self.new (delivers self.old.settings self.old.past i connection bytes piece.now)) }
+        ensures { IfOk result (λ link. (bytes : List ℕ)
+            → IsLink {A = A} (Joined connection frames) (joined connection bytes)
+            → HasLinked link self.old self.new
+            (delivers self.old.settings self.old.past i connection bytes piece.now)) }
     {
         frames_are_cut();
         match frames.feed(piece) {
@@ -86,9 +90,10 @@ impl<A: Allocator + Copy, C: RouterCore<A>> Play<A, C> {
         }
     }
 
-    /// Connects a link whose greeting is done, and takes the bytes behind it.
+    /// Connects a link whose greeting is done, and takes the bytes after it.
     fn connect(&mut self, i: u32, piece: &[u8]) -> Result<Link<A>, AllocError>
-        ensures { IfOk result (λ link. HasLinked link self.old self.new (connects self.old.settings self.old.past i piece.now)) }
+        ensures { IfOk result (λ link. HasLinked link self.old self.new
+            (connects self.old.settings self.old.past i piece.now)) }
     {
         match self.happen(&Event::Connect)?.connection {
             None => Ok(Link::Ended),
@@ -113,8 +118,8 @@ impl<A: Allocator + Copy, C: RouterCore<A>> Play<A, C> {
     /// Takes a piece of a link that awaits its greeting.
     fn greet(&mut self, i: u32, mut shake: Shake, piece: &[u8]) -> Result<Link<A>, AllocError>
         ensures { IfOk result (λ link. (bytes : List ℕ) → IsLink {A = A} (Greeting shake) (greeting bytes)
-            → HasLinked link self.old self.new
-            (greets self.old.settings self.old.past i (bytes ++ piece.now) (greeting_state request_text (bytes ++ piece.now)))) }
+            → HasLinked link self.old self.new (greets self.old.settings self.old.past i (bytes ++ piece.now)
+            (greeting_state request_text (bytes ++ piece.now)))) }
     {
         pieces_are_one_stream();
         let shaken = shake.feed(piece);
@@ -156,7 +161,7 @@ impl<A: Allocator + Copy, C: RouterCore<A>> Play<A, C> {
     }
 }
 
-/// What of a piece stands behind its first bytes.
+/// What of a piece stands after its first bytes.
 #[tactic(auto, using(std::proofs::lemmas::List::drop_all))]
 fn rest_of(piece: &[u8], used: usize) -> &[u8]
     ensures { result.now ≡ drop used piece.now }

@@ -4,7 +4,7 @@ ghost use Rattle.std.specs.Prelude.{◌≡◌, IfOk, OnOk};
 ghost use Rattle.gn_rules.specs.Answer.{answer, reply_of};
 ghost use Rattle.gn_replay.specs.Events.{happens, past_then};
 ghost use Rattle.gn_replay.specs.Outcomes.{IsOutcome};
-ghost use Rattle.gn_replay.specs.Playing.{after_playing, shows};
+ghost use Rattle.gn_replay.specs.Playing.{after_playing, after_printing};
 
 use crate::link::Link;
 use crate::outcome::{Outcome, outcome_of};
@@ -43,7 +43,8 @@ impl<A: Allocator + Copy, C: RouterCore<A>> Play<A, C> {
     #[tactic(auto, using(crate::proofs::EventLemmas::found, crate::proofs::EventLemmas::past_push))]
     fn ask(&mut self, event: &Event<A>) -> Result<Result<Receipt<A>, Refusal>, AllocError>
         ensures answer { IfOk result (λ a. answer self.old.settings self.old.past event.now ≡ reply_of a) }
-        ensures after { IfOk result (λ a. self.new ≡ record self.old { past = past_then self.old.past event.now (reply_of a) }) }
+        ensures after { IfOk result (λ a.
+            self.new ≡ record self.old { past = past_then self.old.past event.now (reply_of a) }) }
     {
         match self.core.apply(0, event) {
             Err(Refusal::NoMemory) => Err(AllocError),
@@ -58,7 +59,7 @@ impl<A: Allocator + Copy, C: RouterCore<A>> Play<A, C> {
         event: &Event<A>,
         answer: &Result<Receipt<A>, Refusal>,
     ) -> Result<(), AllocError>
-        ensures { OnOk result (self.new ≡ shows self.old event.now (reply_of answer.now)) }
+        ensures { OnOk result (self.new ≡ after_printing self.old event.now (reply_of answer.now)) }
     {
         match answer {
             Ok(receipt) => push_step_of(self.alloc, &mut self.out, 0, event, &receipt.reply),
@@ -72,7 +73,8 @@ impl<A: Allocator + Copy, C: RouterCore<A>> Play<A, C> {
     /// Lets an event happen, and prints its answer.
     pub(crate) fn happen(&mut self, event: &Event<A>) -> Result<Outcome, AllocError>
         ensures outcome { IfOk result (λ o. IsOutcome o (answer self.old.settings self.old.past event.now)) }
-        ensures after { OnOk result (self.new ≡ after_playing self.old (happens self.old.settings self.old.past event.now)) }
+        ensures after { OnOk result (self.new ≡ after_playing self.old
+            (happens self.old.settings self.old.past event.now)) }
     {
         let answer = self.ask(event)?;
         self.print(event, &answer)?;
@@ -81,7 +83,8 @@ impl<A: Allocator + Copy, C: RouterCore<A>> Play<A, C> {
 
     /// Lets an event of a line happen.
     pub(crate) fn play_event(&mut self, event: &Event<A>) -> Result<(), AllocError>
-        ensures { OnOk result (self.new ≡ after_playing self.old (happens self.old.settings self.old.past event.now)) }
+        ensures { OnOk result (self.new ≡ after_playing self.old
+            (happens self.old.settings self.old.past event.now)) }
     {
         self.happen(event)?;
         Ok(())

@@ -1,8 +1,9 @@
 //! A capture, replayed from its text.
 
 ghost use Rattle.std.specs.Prelude.{◌≡◌, ◌≤◌, Some, length, IfOk, IfErr, IfSome, IsOk, OnOk};
-ghost use Rattle.gn_replay.specs.Faults.{IsReplayFault};
+ghost use Rattle.gn_replay.specs.Faults.{IsAnswerOn, IsReplayFault, input_of};
 ghost use Rattle.gn_io.specs.Input.{input_limit};
+ghost use Rattle.gn_io.specs.Streams.{NoWriteFailed, streams};
 ghost use Rattle.gn_capture.specs.Captures.{capture_of};
 ghost use Rattle.gn_replay.specs.Replays.{AppendsReplay, HasStopped, IsCounted};
 
@@ -42,38 +43,34 @@ fn replay_text<A: Allocator + Copy, C: RouterCore<A> + Drop, W: Sink>(
 ) -> Result<Exit, ReplayFault>
     requires { length text.now ≤ input_limit }
     ensures valid { OnOk result (IsOk (capture_of {A = A} text.now)) }
-    ensures written { OnOk result (AppendsReplay A text.now (W.told sink.old) (W.told sink.new)) }
+    ensures written { OnOk result (AppendsReplay A text.now (W.state sink.old).written (W.state sink.new).written) }
     ensures counted { IfOk result (λ exit. IsCounted A text.now exit) }
-    ensures failures { OnOk result (W.failures sink.new ≡ W.failures sink.old) }
-    ensures stalls { OnOk result (W.stalls sink.new ≡ W.stalls sink.old) }
-    ensures stopped { IfErr result (λ fault. HasStopped A fault (Some text.now) (W.told sink.old) (W.told sink.new)) }
-    ensures fault { IfErr result (λ fault. IsReplayFault fault (capture_of {A = A}) (Some text.now) 0 0 0 0
-        (W.failures sink.old) (W.failures sink.new) (W.stalls sink.old) (W.stalls sink.new)) }
+    ensures writes { OnOk result (NoWriteFailed (W.state sink.old) (W.state sink.new)) }
+    ensures stopped { IfErr result (λ fault. HasStopped A fault (Some text.now)
+        (W.state sink.old).written (W.state sink.new).written) }
+    ensures fault { IfErr result (λ fault. IsReplayFault fault (capture_of {A = A})
+        (streams (input_of text.now) (input_of text.now) (W.state sink.old) (W.state sink.new))) }
 {
     let capture = read_capture(alloc, text)?;
     let replayed = play::<A, C, W>(alloc, &capture, sink)?;
     Ok(exit_of::<A, C>(&replayed))
 }
 
-/// Reads a capture whole, plays its lines on a new router, and writes what they print in blocks, as `play` does. An `Ok` says
-/// that no read failed and no write failed or took nothing. After an `Err` a prefix of that text was written, and nothing
-/// where the capture wasn't read or has a fault.
+/// Reads a capture whole, plays its lines on a new router, and writes what they print in blocks, as `play` does. An
+/// `Ok` says that no read failed and no write failed or took nothing. After an `Err` a prefix of that text was written,
+/// and nothing where the capture wasn't read or has a fault.
 pub fn replay<A: Allocator + Copy, C: RouterCore<A> + Drop, S: Source, W: Sink>(
     alloc: A,
     source: &mut S,
     sink: &mut W,
 ) -> Result<Exit, ReplayFault>
-    ensures short { OnOk result (IfSome (S.rest source.old) (λ text. length text ≤ input_limit)) }
-    ensures valid { OnOk result (IfSome (S.rest source.old) (λ text. IsOk (capture_of {A = A} text))) }
-    ensures written { OnOk result (IfSome (S.rest source.old) (λ text. AppendsReplay A text (W.told sink.old) (W.told sink.new))) }
-    ensures counted { IfOk result (λ exit. IfSome (S.rest source.old) (λ text. IsCounted A text exit)) }
-    ensures reads { OnOk result (S.failures source.new ≡ S.failures source.old) }
-    ensures failures { OnOk result (W.failures sink.new ≡ W.failures sink.old) }
-    ensures stalls { OnOk result (W.stalls sink.new ≡ W.stalls sink.old) }
-    ensures stopped { IfErr result (λ fault. HasStopped A fault (S.rest source.old) (W.told sink.old) (W.told sink.new)) }
-    ensures fault { IfErr result (λ fault. IsReplayFault fault (capture_of {A = A}) (S.rest source.old)
-        (S.failures source.old) (S.failures source.new) (S.given source.old) (S.given source.new)
-        (W.failures sink.old) (W.failures sink.new) (W.stalls sink.old) (W.stalls sink.new)) }
+    ensures answer { IsAnswerOn (capture_of {A = A})
+        (streams (S.state source.old) (S.state source.new) (W.state sink.old) (W.state sink.new)) result }
+    ensures written { OnOk result (IfSome (S.state source.old).rest (λ text.
+        AppendsReplay A text (W.state sink.old).written (W.state sink.new).written)) }
+    ensures counted { IfOk result (λ exit. IfSome (S.state source.old).rest (λ text. IsCounted A text exit)) }
+    ensures stopped { IfErr result (λ fault. HasStopped A fault (S.state source.old).rest
+        (W.state sink.old).written (W.state sink.new).written) }
 {
     let text = read_input(alloc, source)?;
     replay_text::<A, C, W>(alloc, &text, sink)

@@ -2,11 +2,12 @@
 
 ghost use Rattle.std.specs.Prelude.{◌≡◌, ◌++◌, [], List, reverse, IfOk, IfErr, OnOk, OnErr};
 ghost use Rattle.gn_io.specs.Parts.{AppendsPart, LeavesToWrite, WaitsPart};
+ghost use Rattle.gn_io.specs.Streams.{NoWriteFailed};
 ghost use Rattle.gn_replay.specs.Links.{AreLinks, LinkState};
 ghost use Rattle.gn_replay.specs.ReplayText.{capture_plays, plays};
 ghost use Rattle.gn_replay.specs.Runs.{HasPassed, HasRun, HasWritten, IsNew, IsPlayFault};
 
-use crate::play_fault::PlayFault;
+use crate::fault::ReplayFault;
 use crate::playing::Play;
 use gn_capture::{Capture, Line};
 use gn_io::{Block, Sink};
@@ -29,23 +30,21 @@ impl<A: Allocator + Copy, C: RouterCore<A>> Play<A, C> {
         self.out.clear();
     }
 
-    /// Plays one line. Its text waits behind what waited, and is written once that is a block.
+    /// Plays one line. Its text waits after what waited, and is written once that is a block.
     fn write_line<W: Sink>(
         &mut self,
         line: &Line<A>,
         block: &mut Block<A>,
         sink: &mut W,
-    ) -> Result<(), PlayFault>
+    ) -> Result<(), ReplayFault>
         ensures ok { OnOk result ((states : List LinkState) → AreLinks self.old.links states
-            → HasWritten self.old self.new (W.told sink.old) (W.told sink.new) block.old block.new
+            → HasWritten self.old self.new (W.state sink.old).written (W.state sink.new).written block.old block.new
             (plays self.old.settings self.old.past states line.now)) }
         ensures err { OnErr result ((states : List LinkState) → AreLinks self.old.links states
-            → WaitsPart (W.told sink.old) (W.told sink.new) block.new
+            → WaitsPart (W.state sink.old).written (W.state sink.new).written block.new
             (block.old ++ (plays self.old.settings self.old.past states line.now).played.text)) }
-        ensures cause { IfErr result (λ fault. IsPlayFault fault (W.failures sink.old) (W.failures sink.new)
-            (W.stalls sink.old) (W.stalls sink.new)) }
-        ensures failures { OnOk result (W.failures sink.new ≡ W.failures sink.old) }
-        ensures stalls { OnOk result (W.stalls sink.new ≡ W.stalls sink.old) }
+        ensures cause { IfErr result (λ fault. IsPlayFault fault (W.state sink.old) (W.state sink.new)) }
+        ensures writes { OnOk result (NoWriteFailed (W.state sink.old) (W.state sink.new)) }
     {
         self.clear_out();
         self.play_line(line)?;
@@ -60,18 +59,16 @@ impl<A: Allocator + Copy, C: RouterCore<A>> Play<A, C> {
         lines: &[(u64, Line<A>)],
         block: &mut Block<A>,
         sink: &mut W,
-    ) -> Result<(), PlayFault>
+    ) -> Result<(), ReplayFault>
         requires new { IsNew self.old }
         requires empty { block.old ≡ [] }
         ensures ok { OnOk result (HasPassed (capture_plays self.old.settings lines.now) self.new.past self.new.refusals
-            (W.told sink.old) (W.told sink.new) block.new) }
-        ensures err { OnErr result (WaitsPart (W.told sink.old) (W.told sink.new) block.new
+            (W.state sink.old).written (W.state sink.new).written block.new) }
+        ensures err { OnErr result (WaitsPart (W.state sink.old).written (W.state sink.new).written block.new
             (capture_plays self.old.settings lines.now).text) }
         ensures settings { OnOk result (self.new.settings ≡ self.old.settings) }
-        ensures cause { IfErr result (λ fault. IsPlayFault fault (W.failures sink.old) (W.failures sink.new)
-            (W.stalls sink.old) (W.stalls sink.new)) }
-        ensures failures { OnOk result (W.failures sink.new ≡ W.failures sink.old) }
-        ensures stalls { OnOk result (W.stalls sink.new ≡ W.stalls sink.old) }
+        ensures cause { IfErr result (λ fault. IsPlayFault fault (W.state sink.old) (W.state sink.new)) }
+        ensures writes { OnOk result (NoWriteFailed (W.state sink.old) (W.state sink.new)) }
     {
         for (_, line) in lines {
             self.write_line(line, block, sink)?;
@@ -79,23 +76,21 @@ impl<A: Allocator + Copy, C: RouterCore<A>> Play<A, C> {
         Ok(())
     }
 
-    /// Plays lines in order, and writes their text in blocks, what is over at the end. Where memory runs out, the text of
-    /// all lines before that is written too.
+    /// Plays lines in order, and writes their text in blocks, what is over at the end. Where memory runs out, the text
+    /// of all lines before that is written too.
     fn write_lines<W: Sink>(
         &mut self,
         lines: &[(u64, Line<A>)],
         sink: &mut W,
-    ) -> Result<(), PlayFault>
+    ) -> Result<(), ReplayFault>
         requires { IsNew self.old }
         ensures ok { OnOk result (HasRun (capture_plays self.old.settings lines.now) self.new.past self.new.refusals
-            (W.told sink.old) (W.told sink.new)) }
-        ensures err { OnErr result (AppendsPart (W.told sink.old) (W.told sink.new)
+            (W.state sink.old).written (W.state sink.new).written) }
+        ensures err { OnErr result (AppendsPart (W.state sink.old).written (W.state sink.new).written
             (capture_plays self.old.settings lines.now).text) }
         ensures settings { OnOk result (self.new.settings ≡ self.old.settings) }
-        ensures cause { IfErr result (λ fault. IsPlayFault fault (W.failures sink.old) (W.failures sink.new)
-            (W.stalls sink.old) (W.stalls sink.new)) }
-        ensures failures { OnOk result (W.failures sink.new ≡ W.failures sink.old) }
-        ensures stalls { OnOk result (W.stalls sink.new ≡ W.stalls sink.old) }
+        ensures cause { IfErr result (λ fault. IsPlayFault fault (W.state sink.old) (W.state sink.new)) }
+        ensures writes { OnOk result (NoWriteFailed (W.state sink.old) (W.state sink.new)) }
     {
         let mut block = Block::new(self.alloc);
         match self.pass_lines(lines, &mut block, sink) {
@@ -103,32 +98,30 @@ impl<A: Allocator + Copy, C: RouterCore<A>> Play<A, C> {
                 block.write_rest(sink)?;
                 Ok(())
             }
-            Err(PlayFault::NoMemory) => {
+            Err(ReplayFault::NoMemory) => {
                 block.write_rest(sink)?;
-                Err(PlayFault::NoMemory)
+                Err(ReplayFault::NoMemory)
             }
-            Err(PlayFault::Write) => Err(PlayFault::Write),
+            Err(fault) => Err(fault),
         }
     }
 }
 
 /// Makes a router as the capture's first lines say, plays its lines on it, and writes what they print in blocks of at
-/// least 32,768 bytes, the last one shorter. An `Err` is a write that failed or took nothing, or out of memory: a prefix of
-/// that text was written.
+/// least 32,768 bytes, the last one shorter. An `Err` is a write that failed or took nothing, or out of memory: a
+/// prefix of that text was written.
 pub fn play<A: Allocator + Copy, C: RouterCore<A> + Drop, W: Sink>(
     alloc: A,
     capture: &Capture<A>,
     sink: &mut W,
-) -> Result<Replayed<C>, PlayFault>
+) -> Result<Replayed<C>, ReplayFault>
     ensures settings { IfOk result (λ replayed. C.settings replayed.core ≡ capture.now.config) }
     ensures played { IfOk result (λ replayed. HasRun (capture_plays capture.now.config capture.now.lines.items)
-        (reverse (C.steps replayed.core)) replayed.refusals (W.told sink.old) (W.told sink.new)) }
-    ensures err { OnErr result (AppendsPart (W.told sink.old) (W.told sink.new)
+        (reverse (C.steps replayed.core)) replayed.refusals (W.state sink.old).written (W.state sink.new).written) }
+    ensures err { OnErr result (AppendsPart (W.state sink.old).written (W.state sink.new).written
         (capture_plays capture.now.config capture.now.lines.items).text) }
-    ensures failures { OnOk result (W.failures sink.new ≡ W.failures sink.old) }
-    ensures stalls { OnOk result (W.stalls sink.new ≡ W.stalls sink.old) }
-    ensures cause { IfErr result (λ fault. IsPlayFault fault (W.failures sink.old) (W.failures sink.new)
-        (W.stalls sink.old) (W.stalls sink.new)) }
+    ensures writes { OnOk result (NoWriteFailed (W.state sink.old) (W.state sink.new)) }
+    ensures cause { IfErr result (λ fault. IsPlayFault fault (W.state sink.old) (W.state sink.new)) }
 {
     let mut play = Play {
         alloc,

@@ -1,4 +1,4 @@
-//! What is told of a history's text, and the line of it.
+//! The verdict on a history's text, and its line.
 
 ghost use Rattle.std.specs.Prelude.{◌≡◌, ◌<◌, ◌^◌, IfOk, IfErr};
 ghost use Rattle.gn_text.specs.Faults.{IsRefused};
@@ -14,7 +14,7 @@ use gn_rules::{Legality, RouterCore};
 use gn_text::{CaptureRefusal, push_number};
 use std::alloc::{AllocError, Allocator};
 
-/// The line that tells of a history of so many steps.
+/// The line of a verdict on a history of so many steps.
 pub(crate) fn verdict<A: Allocator>(
     alloc: A,
     legality: Legality,
@@ -53,12 +53,12 @@ pub(crate) fn judge_text<A: Allocator + Copy, C: RouterCore<A> + Drop>(
     Ok((judgement, steps.len()))
 }
 
-/// What a new router tells of the history that a text says, and the line of it.
+/// The verdict of a new router on the history that a text says, and its line.
 pub(crate) fn audit_text<A: Allocator + Copy, C: RouterCore<A> + Drop>(
     alloc: A,
     text: &[u8],
 ) -> Result<(Legality, Vec<u8, A>), CaptureRefusal>
-    ensures told { IfOk result (λ told. IsAudited A text.now told.0 told.1.items) }
+    ensures audited { IfOk result (λ audited. IsAudited A text.now audited.0 audited.1.items) }
     ensures refused { IfErr result (λ refusal. IsRefused refusal (history_of {A = A} text.now)) }
 {
     let (judgement, steps) = judge_text::<A, C>(alloc, text)?;

@@ -5,9 +5,9 @@ use Rattle.gn_io.proofs.input.read_input.Given as goal
 
 abbrev pub invariant-loop-room : goal.invariant-loop-room
 invariant-loop-room g l = record {
-  taken : Consumes (g.S.Source.rest l.fn.source) (g.S.Source.rest l.source) l.input.items;
-  failures : g.S.Source.failures l.source ≡ g.S.Source.failures l.fn.source;
-  given : count_more (length l.input.items) (g.S.Source.given l.fn.source) ≤ g.S.Source.given l.source;
+  taken : Consumes (g.S.Source.state l.fn.source).rest (g.S.Source.state l.source).rest l.input.items;
+  failures : (g.S.Source.state l.source).failures ≡ (g.S.Source.state l.fn.source).failures;
+  given : count_more (length l.input.items) (g.S.Source.state l.fn.source).given ≤ (g.S.Source.state l.source).given;
 }
 
 abbrev pub decreases-loop-room : goal.decreases-loop-room

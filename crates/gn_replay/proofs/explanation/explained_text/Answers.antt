@@ -8,8 +8,8 @@ explain-requires g c =
     wrong_in_text c.args.text.now c.in_ok-judgement.judgement c.in_ok-judgement.steps c.in-WrongAt.index c.in-WrongAt.rules c.in_ok-judgement.ensures.judged
     c.in-WrongAt.is
 
-pub returns-clause-told : goal.returns-clause-told
-returns-clause-told g c =
+pub returns-clause-explained : goal.returns-clause-explained
+returns-clause-explained g c =
     let text = c.args.text.now in
     let judgement = c.in_ok-judgement.judgement in
     let judged = c.in_ok-judgement.ensures.judged in
@@ -18,8 +18,8 @@ returns-clause-told g c =
           explained_legal text judgement c.in_ok-judgement.steps c.legality-legality.result c.in_ok-lines.lines.items c.match-judgement-4.lines.items judged
           c.legality-legality.ensures c.in_ok-lines.ensures (ap (λ v. v.items) w.lines-is) w.in-Legal.is
       | in-WrongAt+in_ok-explain-in-WrongAt w ↦
-          let told = w.in_ok-explain-in-WrongAt.ensures in
+          let line = w.in_ok-explain-in-WrongAt.ensures in
           explained_wrong text judgement c.in_ok-judgement.steps c.legality-legality.result c.in_ok-lines.lines.items c.match-judgement-4.lines.items
           w.in-WrongAt.index w.in-WrongAt.rules judged c.legality-legality.ensures c.in_ok-lines.ensures w.in-WrongAt.is
-          (told.0, told.1, ap (λ v. v.items) w.lines-is ∙ told.2)
+          (line.0, line.1, ap (λ v. v.items) w.lines-is ∙ line.2)
     ]

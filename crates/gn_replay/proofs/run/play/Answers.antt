@@ -2,4 +2,4 @@ use Rattle.gn_replay.proofs.RunLemmas.{none_written, on_err}
 use Rattle.gn_replay.proofs.run.play.Goals as goal
 
 pub returns-in_err-make-clause-err : goal.returns-in_err-make-clause-err
-returns-in_err-make-clause-err g c = on_err c.from_residual.result (none_written (g.W.Sink.told c.args.sink.now) _)
+returns-in_err-make-clause-err g c = on_err c.from_residual.result (none_written (g.W.Sink.state c.args.sink.now).written _)

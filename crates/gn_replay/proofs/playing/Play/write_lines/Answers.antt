@@ -7,11 +7,11 @@ pub returns-in_err-write_rest-in-Ok-clause-err : goal.returns-in_err-write_rest-
 returns-in_err-write_rest-in-Ok-clause-err g c =
     on_err c.from_residual.result
     (run_cut (capture_plays c.args.self.now.settings c.args.lines.now) c.pass_lines.new.self.past c.pass_lines.new.self.refusals
-    (g.W.Sink.told c.args.sink.now) (g.W.Sink.told c.pass_lines.new.sink) (g.W.Sink.told c.write_rest.new.sink) c.pass_lines.new.block
+    (g.W.Sink.state c.args.sink.now).written (g.W.Sink.state c.pass_lines.new.sink).written (g.W.Sink.state c.write_rest.new.sink).written c.pass_lines.new.block
     c.in-Ok.ensures.ok c.in_err-write_rest-in-Ok.ensures.err)
 
 pub returns-in_err-write_rest-in-Err-NoMemory-clause-err : goal.returns-in_err-write_rest-in-Err-NoMemory-clause-err
 returns-in_err-write_rest-in-Err-NoMemory-clause-err g c =
     on_err c.from_residual-in_err-write_rest-in-Err-NoMemory.result
-    (rest_cut (g.W.Sink.told c.args.sink.now) (g.W.Sink.told c.pass_lines.new.sink) (g.W.Sink.told c.write_rest-in-Err-NoMemory.new.sink) c.pass_lines.new.block
+    (rest_cut (g.W.Sink.state c.args.sink.now).written (g.W.Sink.state c.pass_lines.new.sink).written (g.W.Sink.state c.write_rest-in-Err-NoMemory.new.sink).written c.pass_lines.new.block
     (capture_plays c.args.self.now.settings c.args.lines.now).text c.in-Err-NoMemory.ensures.err c.in_err-write_rest-in-Err-NoMemory.ensures.err)

@@ -43,7 +43,10 @@ impl<W: Sink> Write for TextSink<'_, W> {
 }
 
 /// Writes what a value's `Display` says, at once where that is no more than 4,096 bytes, with no memory.
-pub(crate) fn tell<W: Sink, D: Display + Drop>(sink: &mut W, value: D) -> Result<(), IoFault> {
+pub(crate) fn write_text<W: Sink, D: Display + Drop>(
+    sink: &mut W,
+    value: D,
+) -> Result<(), IoFault> {
     let mut text = TextSink {
         sink,
         room: [0; ROOM],
