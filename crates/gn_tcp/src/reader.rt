@@ -72,6 +72,7 @@ impl LinkReader for TcpReader {
 
     ghost has_ended = { λ r. r.has_ended };
 
+    /// Also where its bytes ended or a read failed: it has given its handle up.
     ghost is_finished = { λ r. not r.is_open };
 
     /// Fails too where it waits for longer than the link's time limit, and where it failed before or was finished.
