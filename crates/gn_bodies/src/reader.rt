@@ -176,8 +176,8 @@ fn read_link<
 /// The body of a reader: it awaits the greeting, connects, and admits what its bytes offer, in order. The job of each
 /// admitted descriptor is put, or routed by the reader itself where the intake hands it back.
 ///
-/// The link's door is shut where it doesn't connect, a stop fails the run, and in any case the reader is done and its intake
-/// finished.
+/// The link's door is shut where it doesn't connect, and a stop fails the run. In any case the reader is done, and the
+/// link's reader and the intake are finished.
 pub fn reader_body<
     Rd: LinkReader,
     S: Site,
@@ -211,6 +211,7 @@ pub fn reader_body<
     ensures source { IfOk result.end (λ end. SourceRow end (Rd.failures result.reader) (Rd.pieces result.reader)
         (Rd.has_ended result.reader)) }
     ensures put { OnOk result.end (result.home.jobs ≡ intake.jobs ++ jobs_left result.actor.receipts) }
+    ensures finished { Rd.is_finished result.reader ≡ true }
 {
     let mut reader = reader;
     let mut me = Admitter {
@@ -223,6 +224,7 @@ pub fn reader_body<
         service.fail(rt);
     }
     service.reader_done(rt, link);
+    reader.finish(rt);
     let Admitter { actor, intake, .. } = me;
     ReaderDone {
         actor,

@@ -12,7 +12,7 @@ pub record Memory : Type 0 where
   pub write : Option ℕ
 
 -- its reading half: the bytes that it gives, how many of them it gave, the most at a time, from which read on it fails, how
--- many were made, how many failed, how many gave bytes, and whether it ended
+-- many were made, how many failed, how many gave bytes, whether it ended, and whether it is finished
 pub record MemoryReading : Type 0 where
   pub bytes : List ℕ
   pub given : ℕ
@@ -22,6 +22,7 @@ pub record MemoryReading : Type 0 where
   pub failures : ℕ
   pub pieces : ℕ
   pub has_ended : Bool
+  pub is_finished : Bool
 
 -- so many of these bytes were given: no more than there are, and all of them where the reader ended; each is below 256
 pub record IsGiving (bytes : List ℕ) (given : ℕ) (has_ended : Bool) : Type 0 where
@@ -60,6 +61,7 @@ new_reading link =
       failures = 0;
       pieces = 0;
       has_ended = false;
+      is_finished = false;
     }
 
 -- the writing half of a link that was split, which has room for nothing yet

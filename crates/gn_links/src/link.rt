@@ -31,6 +31,9 @@ pub trait LinkReader: Drop {
     /// Whether a read into a nonempty buffer gave none.
     ghost has_ended: { Self → Bool };
 
+    /// Whether it was finished.
+    ghost is_finished: { Self → Bool };
+
     /// Waits for bytes, puts them at the beginning of the buffer, and gives their number. 0 into a nonempty buffer says
     /// that there are no more.
     fn read<R: Wait>(&mut self, rt: &R, buffer: &mut [u8]) -> Result<usize, LinkFault>
@@ -41,6 +44,14 @@ pub trait LinkReader: Drop {
         ensures failures { failures self.new ≡ counted (is_err result) (failures self.old) }
         ensures pieces { pieces self.new ≡ counted (gave_bytes result) (pieces self.old) }
         ensures has_ended { has_ended self.new ≡ (has_ended self.old || is_end result (length buffer.old)) };
+
+    /// There is nothing more to read.
+    fn finish<R: Wait>(&mut self, rt: &R)
+        ensures is_finished { is_finished self.new ≡ true }
+        ensures all { all_bytes self.new ≡ all_bytes self.old }
+        ensures bytes { bytes_read self.new ≡ bytes_read self.old }
+        ensures counts { (failures self.new ≡ failures self.old) × (pieces self.new ≡ pieces self.old) }
+        ensures has_ended { has_ended self.new ≡ has_ended self.old };
 }
 
 /// The half of a link that takes the bytes for its other side. Its count goes up to the last u64 and stays there.
@@ -63,7 +74,8 @@ pub trait LinkWriter: Drop {
     /// Takes the first bytes of the piece, and gives their number.
     fn write<R: Wait>(&mut self, rt: &R, piece: &[u8]) -> Result<usize, LinkFault>
         ensures within { IfOk result (λ n. n ≤ length piece.now) }
-        ensures bytes { is_known ≡ true → bytes_written self.new ≡ bytes_written self.old ++ written_by result piece.now }
+        ensures bytes { is_known ≡ true
+            → bytes_written self.new ≡ bytes_written self.old ++ written_by result piece.now }
         ensures failures { failures self.new ≡ counted (is_err result) (failures self.old) }
         ensures is_stuck { is_stuck self.new ≡ (is_stuck self.old || is_stall result (length piece.now)) };
 
@@ -94,9 +106,10 @@ pub trait Link: Drop {
     fn split(self) -> Result<(Self::Reader, Self::Writer), LinkFault>
     where
         Self: Sized,
-        ensures reader { IfOk result (λ h. IsNewReader
-            (Self.Reader.bytes_read h.0) (Self.Reader.failures h.0) (Self.Reader.pieces h.0) (Self.Reader.has_ended h.0)) }
+        ensures reader { IfOk result (λ h. IsNewReader (Self.Reader.bytes_read h.0) (Self.Reader.failures h.0)
+            (Self.Reader.pieces h.0) (Self.Reader.has_ended h.0)) }
         ensures all { IfOk result (λ h. Self.Reader.all_bytes h.0 ≡ all_bytes self) }
-        ensures writer { IfOk result (λ h. IsNewWriter
-            (Self.Writer.bytes_written h.1) (Self.Writer.failures h.1) (Self.Writer.is_stuck h.1) (Self.Writer.is_finished h.1)) };
+        ensures open { IfOk result (λ h. Self.Reader.is_finished h.0 ≡ false) }
+        ensures writer { IfOk result (λ h. IsNewWriter (Self.Writer.bytes_written h.1) (Self.Writer.failures h.1)
+            (Self.Writer.is_stuck h.1) (Self.Writer.is_finished h.1)) };
 }

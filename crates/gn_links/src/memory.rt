@@ -91,7 +91,8 @@ impl<A: Allocator + Copy> Link for MemoryLink<A> {
     fn split(self) -> Result<(MemoryReader<A>, MemoryWriter<A>), LinkFault>
         ensures ok { IsOk result }
         ensures halves { IfOk result (λ h. (h.0 ≡ new_reading self) × (h.1 ≡ new_writing self)) }
-        ensures reader { IfOk result (λ h. IsNewReader (take h.0.given h.0.bytes) h.0.failures h.0.pieces h.0.has_ended) }
+        ensures reader { IfOk result (λ h. IsNewReader (take h.0.given h.0.bytes) h.0.failures h.0.pieces
+            h.0.has_ended) }
         ensures all { IfOk result (λ h. h.0.bytes ≡ self.bytes) }
         ensures writer { IfOk result (λ h. IsNewWriter h.1.bytes h.1.failures false h.1.is_finished) }
     {

@@ -20,6 +20,7 @@ pub struct MemoryReader<A: Allocator = Global> {
     failures: u64,
     pieces: u64,
     has_ended: bool,
+    is_finished: bool,
 }
 
 impl<A: Allocator> Model for MemoryReader<A> {
@@ -37,6 +38,7 @@ impl<A: Allocator> Model for MemoryReader<A> {
       failures = r.failures;
       pieces = r.pieces;
       has_ended = r.has_ended;
+      is_finished = r.is_finished;
     } };
 
     ghost invariant = { λ r. IsGiving r.bytes.items r.given r.has_ended × (0 < r.piece) };
@@ -54,6 +56,7 @@ impl<A: Allocator> MemoryReader<A> {
           failures = 0;
           pieces = 0;
           has_ended = false;
+          is_finished = false;
         } }
     {
         MemoryReader {
@@ -65,13 +68,15 @@ impl<A: Allocator> MemoryReader<A> {
             failures: 0,
             pieces: 0,
             has_ended: false,
+            is_finished: false,
         }
     }
 
     /// Gives the next bytes, which are none only where none are left or the buffer is empty.
     fn give(&mut self, buffer: &mut [u8]) -> usize
         ensures within { (result ≤ length buffer.old) × (result ≤ self.old.piece) }
-        ensures bytes { take self.new.given self.new.bytes ≡ take self.old.given self.old.bytes ++ take result buffer.new }
+        ensures bytes { take self.new.given self.new.bytes
+            ≡ take self.old.given self.old.bytes ++ take result buffer.new }
         ensures prefix { IsReadOf self.new.bytes (take self.new.given self.new.bytes) self.new.has_ended }
         ensures end { result ≡ 0 → 0 < length buffer.old → self.old.given ≡ length self.old.bytes }
         ensures same { self.new ≡ record self.old { given = self.new.given } }
@@ -97,9 +102,12 @@ impl<A: Allocator> LinkReader for MemoryReader<A> {
 
     ghost has_ended = { λ r. r.has_ended };
 
+    ghost is_finished = { λ r. r.is_finished };
+
     fn read<R: Wait>(&mut self, _rt: &R, buffer: &mut [u8]) -> Result<usize, LinkFault>
         ensures within { IfOk result (λ n. (n ≤ length buffer.old) × (n ≤ self.old.piece)) }
-        ensures bytes { take self.new.given self.new.bytes ≡ take self.old.given self.old.bytes ++ read_by result buffer.new }
+        ensures bytes { take self.new.given self.new.bytes
+            ≡ take self.old.given self.old.bytes ++ read_by result buffer.new }
         ensures prefix { IsReadOf self.new.bytes (take self.new.given self.new.bytes) self.new.has_ended }
         ensures end { IfOk result (λ n. n ≡ 0 → 0 < length buffer.old → self.old.given ≡ length self.old.bytes) }
         ensures fails { is_err result ≡ is_failing self.old.fails_from (next_call self.old.calls) }
@@ -108,7 +116,7 @@ impl<A: Allocator> LinkReader for MemoryReader<A> {
         ensures pieces { self.new.pieces ≡ counted (gave_bytes result) self.old.pieces }
         ensures has_ended { self.new.has_ended ≡ (self.old.has_ended || is_end result (length buffer.old)) }
         ensures same { (self.new.bytes ≡ self.old.bytes) × (self.new.piece ≡ self.old.piece)
-            × (self.new.fails_from ≡ self.old.fails_from) }
+            × (self.new.fails_from ≡ self.old.fails_from) × (self.new.is_finished ≡ self.old.is_finished) }
     {
         self.calls = self.calls.saturating_add(1);
         if is_failing(self.fails_from, self.calls) {
@@ -122,6 +130,13 @@ impl<A: Allocator> LinkReader for MemoryReader<A> {
             self.has_ended = true;
         }
         Ok(n)
+    }
+
+    /// What was read stays, and more can be read.
+    fn finish<R: Wait>(&mut self, _rt: &R)
+        ensures same { self.new ≡ record self.old { is_finished = true } }
+    {
+        self.is_finished = true;
     }
 }
 

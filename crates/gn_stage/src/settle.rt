@@ -142,7 +142,8 @@ impl<S: Site, A: Allocator + Copy> Desk<S, A> {
         outlets: Vec<OutletHome<S, A>, A>,
     ) -> Result<Settled<A>, Unsettled<S, A>>
         ensures settled { IfOk result (λ s. IsSettled intakes.items outlets.items s.put s.taken s.drained.items) }
-        ensures whole { IfOk result (λ s. AreWhole self intakes.items outlets.items × (vec_len s.drained ≤ self.capacity)) }
+        ensures whole { IfOk result (λ s. AreWhole self intakes.items outlets.items
+            × (vec_len s.drained ≤ self.capacity)) }
         ensures back { IfErr result (λ u. (u.desk ≡ self) × (u.intakes ≡ intakes) × (u.outlets ≡ outlets)) }
         ensures fault { IfErr result (λ u. FaultComes u.fault self intakes.items outlets.items) }
     {

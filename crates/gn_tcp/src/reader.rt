@@ -1,6 +1,6 @@
 //! The half of a link over TCP that is read.
 
-ghost use Rattle.std.specs.Prelude.{◌≡◌, ◌≤◌, [], false, true, length, IfOk};
+ghost use Rattle.std.specs.Prelude.{◌≡◌, ◌≤◌, [], false, not, true, length, IfOk};
 
 use gn_links::{LinkFault, LinkReader};
 use std::io::{ErrorKind, Read};
@@ -43,14 +43,6 @@ impl TcpReader {
             has_ended: false,
         }
     }
-
-    /// There is nothing more to read. What the peer sends from now on, once the writer is finished too, is refused by the
-    /// system.
-    pub fn finish<R: Wait>(&mut self, _rt: &R)
-        ensures { self.new ≡ record self.old { is_open = false } }
-    {
-        self.stream = None;
-    }
 }
 
 /// Waits for bytes, again where a signal cut the call short.
@@ -80,6 +72,9 @@ impl LinkReader for TcpReader {
 
     ghost has_ended = { λ r. r.has_ended };
 
+    /// Also where its bytes ended or a read failed: it has given its handle up.
+    ghost is_finished = { λ r. not r.is_open };
+
     /// Fails too where it waits for longer than the link's time limit, and where it failed before or was finished.
     fn read<R: Wait>(&mut self, rt: &R, buffer: &mut [u8]) -> Result<usize, LinkFault> {
         let answer = match &mut self.stream {
@@ -101,5 +96,12 @@ impl LinkReader for TcpReader {
             }
         }
         answer
+    }
+
+    /// What the peer sends from now on, once the writer is finished too, is refused by the system.
+    fn finish<R: Wait>(&mut self, _rt: &R)
+        ensures same { self.new ≡ record self.old { is_open = false } }
+    {
+        self.stream = None;
     }
 }

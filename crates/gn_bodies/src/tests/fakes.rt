@@ -8,6 +8,7 @@ use std::sync::Wait;
 #[derive(Drop)]
 pub(super) struct EndlessReader {
     pub(super) pieces: u64,
+    pub(super) is_finished: bool,
 }
 
 impl LinkReader for EndlessReader {
@@ -25,6 +26,8 @@ impl LinkReader for EndlessReader {
 
     ghost has_ended = { λ _. false };
 
+    ghost is_finished = { λ r. r.is_finished };
+
     fn read<R: Wait>(&mut self, _rt: &R, buffer: &mut [u8]) -> Result<usize, LinkFault> {
         if buffer.is_empty() {
             return Ok(0);
@@ -32,6 +35,10 @@ impl LinkReader for EndlessReader {
         buffer[0] = 0;
         self.pieces = self.pieces.saturating_add(1);
         Ok(1)
+    }
+
+    fn finish<R: Wait>(&mut self, _rt: &R) {
+        self.is_finished = true;
     }
 }
 

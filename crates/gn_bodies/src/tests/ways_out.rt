@@ -93,7 +93,10 @@ fn reads_without_end(rt: HostRuntime) -> Result<(), Fail> {
     let (_, writer) = MemoryLink::new(Role::Plain, Vec::new(alloc), 1)
         .split()
         .map_err(|_| "split")?;
-    let reader = EndlessReader { pieces: 0 };
+    let reader = EndlessReader {
+        pieces: 0,
+        is_finished: false,
+    };
     let setting = Setting {
         steps: 1_000_000,
         ..USUAL
