@@ -1,13 +1,16 @@
-//! The report of the worked run, made by hand, and what `flaw` names where a part of it is changed.
+//! The report of the worked run, and what `flaw` names where a part of it is changed.
 
 ghost use Rattle.std.specs.Prelude.{◌≡◌, length, IfOk};
+
+mod in_turn;
 
 use crate::*;
 use bytes::Bytes;
 use gn_bodies::{ReaderEnd, WriterEnd};
-use gn_rules::{Event, Own, Receipt, Reply, Sending, Sends, Stats, Step, own_pong};
+use gn_rules::{Event, Own, Receipt, Reply, Stats, Step};
 use gn_shake::Role;
 use gn_wire::{Descriptor, Guid, Kind};
+use in_turn::one_ping;
 use std::alloc::Global;
 use std::test::Fail;
 
@@ -22,17 +25,6 @@ const OWN: Own = Own {
 fn ping(alloc: Global) -> Result<Descriptor, Fail> {
     let payload = Bytes::copy_from_slice(alloc, &[])?;
     Ok(Descriptor::new(Guid([0xa1; 16]), Kind::Ping, 7, 0, payload).map_err(|_| "a Ping")?)
-}
-
-/// The router's own Pong to the Ping, to connection 1.
-fn answer(alloc: Global) -> Result<Sends, Fail> {
-    let mut sends = Sends::new(alloc);
-    sends.push(Sending {
-        to: 1,
-        packet: own_pong(alloc, &OWN, &ping(alloc)?)?,
-        queued: true,
-    })?;
-    Ok(sends)
 }
 
 /// What the actors of a run of one link and one worker did, step by step.
@@ -55,35 +47,6 @@ fn step(
     Ok(Step::with_receipt(alloc, index, actor, &event, reply)?)
 }
 
-/// The steps of the worked run: one Ping comes on a plain link, the own Pong goes out, and the writer closes.
-fn worked_steps(alloc: Global) -> Result<Steps, Fail> {
-    let connect = step(alloc, 0, 0, Event::Connect, Reply::Connected(1))?;
-    let admit = step(
-        alloc,
-        1,
-        0,
-        Event::Admit(1, ping(alloc)?),
-        Reply::Admitted(0),
-    )?;
-    let sends = answer(alloc)?;
-    let route = step(
-        alloc,
-        2,
-        2,
-        Event::Route(0),
-        Reply::Routed { sends, local: true },
-    )?;
-    let pong = own_pong(alloc, &OWN, &ping(alloc)?)?;
-    let take = step(alloc, 3, 1, Event::Take(1), Reply::Taken(pong))?;
-    let close = step(alloc, 4, 1, Event::Close(1), Reply::Closed(0))?;
-    Ok(Steps {
-        history: vec![in alloc; connect.0, admit.0, route.0, take.0, close.0]?,
-        reader: vec![in alloc; connect.1, admit.1]?,
-        writer: vec![in alloc; take.1, close.1]?,
-        worker: vec![in alloc; route.1]?,
-    })
-}
-
 /// The report of these steps, with these ends.
 fn report(
     alloc: Global,
@@ -94,7 +57,7 @@ fn report(
     ensures { IfOk result (λ r. length r.links.items ≡ 1) }
 {
     let link = LinkReport {
-        conn: Some(1),
+        conn: conn_of(steps.reader.as_slice()),
         reader_end,
         reader_receipts: steps.reader,
         reader: (),
@@ -113,8 +76,10 @@ fn report(
 
 #[test]
 fn the_worked_run_has_no_flaw(rt: HostRuntime) -> Result<(), Fail> {
-    let steps = worked_steps(rt.alloc())?;
-    let worked = report(rt.alloc(), steps, ReaderEnd::Bytes, WriterEnd::Drained)?;
+    let (steps, read, wrote) = one_ping(&rt, rt.alloc())?;
+    assert_eq!(rt; (read, wrote), (ReaderEnd::Bytes, WriterEnd::Drained));
+    assert_eq!(rt; steps.history.len(), 5);
+    let worked = report(rt.alloc(), steps, read, wrote)?;
     assert_eq!(rt; worked.flaw(&[Role::Plain]), None);
     Ok(())
 }
@@ -122,35 +87,32 @@ fn the_worked_run_has_no_flaw(rt: HostRuntime) -> Result<(), Fail> {
 #[test]
 fn a_changed_part_names_its_actor(rt: HostRuntime) -> Result<(), Fail> {
     let alloc = rt.alloc();
-    let mut emptied = worked_steps(alloc)?;
-    emptied.worker.clear();
-    let emptied = report(alloc, emptied, ReaderEnd::Bytes, WriterEnd::Drained)?;
+    let (mut steps, read, wrote) = one_ping(&rt, alloc)?;
+    steps.worker.clear();
+    let emptied = report(alloc, steps, read, wrote)?;
     assert_eq!(rt; emptied.flaw(&[Role::Plain]), Some(2));
-    let closed = report(
-        alloc,
-        worked_steps(alloc)?,
-        ReaderEnd::Bytes,
-        WriterEnd::Closed,
-    )?;
+    let (steps, read, _) = one_ping(&rt, alloc)?;
+    let closed = report(alloc, steps, read, WriterEnd::Closed)?;
     assert_eq!(rt; closed.flaw(&[Role::Plain]), Some(1));
-    let not_live = report(
-        alloc,
-        worked_steps(alloc)?,
-        ReaderEnd::NotLive,
-        WriterEnd::Drained,
-    )?;
+    let (steps, _, wrote) = one_ping(&rt, alloc)?;
+    let not_live = report(alloc, steps, ReaderEnd::NotLive, wrote)?;
     assert_eq!(rt; not_live.flaw(&[Role::Plain]), Some(0));
     Ok(())
 }
 
 #[test]
-fn the_house_is_named_for_strangers_and_for_tickets(rt: HostRuntime) -> Result<(), Fail> {
-    let alloc = rt.alloc();
-    let mut steps = worked_steps(alloc)?;
-    let (stranger, _) = step(alloc, 5, 4, Event::Connect, Reply::Connected(2))?;
+fn the_house_is_named_for_a_stranger(rt: HostRuntime) -> Result<(), Fail> {
+    let (mut steps, read, wrote) = one_ping(&rt, rt.alloc())?;
+    let (stranger, _) = step(rt.alloc(), 5, 4, Event::Connect, Reply::Connected(2))?;
     steps.history.push(stranger)?;
-    let strange = report(alloc, steps, ReaderEnd::Bytes, WriterEnd::Drained)?;
+    let strange = report(rt.alloc(), steps, read, wrote)?;
     assert_eq!(rt; strange.flaw(&[Role::Plain]), Some(3));
+    Ok(())
+}
+
+#[test]
+fn the_house_is_named_for_a_ticket(rt: HostRuntime) -> Result<(), Fail> {
+    let alloc = rt.alloc();
     let connect = step(alloc, 0, 0, Event::Connect, Reply::Connected(1))?;
     let admit = step(
         alloc,
