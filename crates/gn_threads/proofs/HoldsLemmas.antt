@@ -1,10 +1,10 @@
 -- From what each body keeps and what is compared of a report to the headline.
-use Rattle.std.proofs.Common.{◌≡◌, ◌==◌, ◌<◌, ◌+◌, ℕ, Bool, true, List, length, map, get_or, reverse, take, Option, Some, None, refl, sym, ap, ◌∙◌, subst, arith}
+use Rattle.std.proofs.Common.{◌≡◌, ◌==◌, ◌<◌, ◌+◌, ◌++◌, ℕ, Bool, true, List, length, map, get_or, reverse, take, Option, Some, None, refl, sym, ap, ◌∙◌, subst, arith}
 use Rattle.std.specs.List.{list_all, sum_by}
-use Rattle.std.specs.Prelude.{IfSome}
+use Rattle.std.specs.Prelude.{IfOk, IfSome, Ok}
 use Rattle.std.proofs.Math.Seq.{take-length}
 use Rattle.std.proofs.lemmas.Bool.{eqb-true}
-use Rattle.std.proofs.lemmas.List.{get_or-map, length-map}
+use Rattle.std.proofs.lemmas.List.{append-nil, get_or-map, length-map}
 use Rattle.gn_rules.specs.declared.config.Config.{Config}
 use Rattle.gn_rules.specs.declared.receipt.Receipt.{Receipt}
 use Rattle.gn_rules.specs.declared.receipt.Step.{Step}
@@ -12,6 +12,8 @@ use Rattle.gn_rules.specs.Legal.{IsLegal}
 use Rattle.gn_rules.specs.Mine.{mine}
 use Rattle.gn_shake.specs.declared.role.Role.{Role}
 use Rattle.gn_shake.specs.declared.role.Role.TheVariants.{Plain}
+use Rattle.gn_bodies.specs.declared.ends.ReaderEnd.{ReaderEnd}
+use Rattle.gn_bodies.specs.ReaderRows.{SourceRow}
 use Rattle.gn_bodies.specs.Events.{connection_from, link_events_in, packets_in}
 use Rattle.gn_laws.specs.Owners.{LinkIsTold, packets_of, told_conn}
 use Rattle.gn_laws.specs.Tickets.{admitted, routed}
@@ -24,10 +26,11 @@ use Rattle.gn_run.specs.Actors.{actors}
 use Rattle.gn_run.specs.Ends.{is_balanced, is_settled}
 use Rattle.gn_run.specs.Flaw.{IsFlaw}
 use Rattle.gn_run.proofs.ConfirmedLemmas.{compared, house_at, reader_at, took_all, worker_at, writer_at}
-use Rattle.gn_threads.specs.Halves.{ReadsAs, WrittenHalf, ReadHalf, WritesAs}
-use Rattle.gn_threads.specs.Headline.{HasOwnSteps, LinkHolds, LinksHold, OthersRoute, RoutesEachOnce}
-use Rattle.gn_threads.specs.Kept.{EachKeeps, ReaderKeeps, WriterKeeps}
+use Rattle.gn_threads.specs.Halves.{Inbound, ReadsAs, WrittenHalf, ReadHalf, WritesAs}
+use Rattle.gn_threads.specs.Headline.{HasOwnSteps, LinkHolds, LinksHold, LinksReadOwn, OthersRoute, ReadsOwn, RoutesEachOnce}
+use Rattle.gn_threads.specs.Kept.{EachKeeps, Ended, ReaderKeeps, ReaderPromises, WriterKeeps}
 use Rattle.gn_threads.specs.Gathered.{reader_reported, writer_reported}
+use Rattle.gn_threads.proofs.KeptLemmas.{some_of}
 use Rattle.gn_threads.proofs.ReceiptLemmas.{connection_is_told, packets_are_told}
 
 -- the actor of a flaw is one of the run's
@@ -114,3 +117,29 @@ links_hold {Rd} {W} {A} s reads writes roles report legal all readers writers = 
       told = λ c is. link_told s settled roles report legal all k link c below is;
       took = λ c drained is. took_all s settled roles report legal all k below link c drained is;
     }
+
+-- what one reader promised is what the headline says of its link
+read_own : {A : Type 0} (link : Inbound) (end : ReaderEnd) (body : Ended A ReaderEnd ReadHalf) → body.end ≡ Ok end → ReaderPromises link body → ReadsOwn link.bytes end body.half
+read_own link end body is promised =
+    let half = body.half in
+    let counts : SourceRow end half.failures half.pieces half.has_ended = subst (λ r. IfOk r (λ e. SourceRow e half.failures half.pieces half.has_ended)) is promised.kept.1 in
+    record {
+      first = promised.own;
+      whole = λ known ends.
+          let read = promised.own known in
+          let none = read.ended (subst (λ e. SourceRow e half.failures half.pieces half.has_ended) ends counts) in
+          sym (read.whole ∙ ap (λ rest. half.bytes ++ rest) none ∙ append-nil half.bytes);
+    }
+
+-- so of each link, where the report has these bodies, in order
+pub links_read_own : {Rd W A : Type 0} (reads : Rd → ReadHalf) (links : List Inbound) (bytes : List (List ℕ)) (bodies : List (Ended A ReaderEnd ReadHalf)) (report : Report Rd W A) → map (λ link. link.bytes) links ≡ bytes
+    → length bodies ≡ length links → map (reader_reported reads) report.links.items ≡ bodies → EachKeeps ReaderPromises links bodies → LinksReadOwn reads bytes report
+links_read_own {Rd} {W} {A} reads links bytes bodies report own many is kept = λ k all link below.
+    let it = get_or report.links.items k link in
+    let body = reader_reported reads link in
+    let low : k < length bodies = omega (arith, below, length-map report.links.items (reader_reported reads), ap length is) in
+    let start = some_of links (omega (arith, low, many)) in
+    let there : get_or bodies k body ≡ reader_reported reads it = ap (λ bs. get_or bs k body) (sym is) ∙ get_or-map (reader_reported reads) report.links.items k link body below in
+    let here : (get_or links k start).bytes ≡ get_or bytes k all = sym (get_or-map (λ (l : Inbound). l.bytes) links k start all (omega (arith, low, many))) ∙ ap (λ bs. get_or bs k all) own in
+    let promised : ReaderPromises (get_or links k start) (reader_reported reads it) = subst (λ b. ReaderPromises (get_or links k start) b) there (kept k start body low) in
+    subst (λ bs. ReadsOwn bs it.reader_end (reads it.reader)) here (read_own (get_or links k start) it.reader_end (reader_reported reads it) refl promised)

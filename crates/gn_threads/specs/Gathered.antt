@@ -10,11 +10,13 @@ use Rattle.gn_threads.specs.Kept.{Ended}
 
 -- the body of a link's reader, as the link's report has it
 abbrev pub reader_reported : {Rd W A : Type 0} → (Rd → ReadHalf) → LinkReport Rd W A → Ended A ReaderEnd ReadHalf
-reader_reported reads link = record { receipts = link.reader_receipts.items; half = reads link.reader; end = Ok link.reader_end }
+reader_reported reads link =
+    record { receipts = link.reader_receipts.items; half = reads link.reader; end = Ok link.reader_end }
 
 -- the body of its writer
 abbrev pub writer_reported : {Rd W A : Type 0} → (W → WrittenHalf) → LinkReport Rd W A → Ended A WriterEnd WrittenHalf
-writer_reported writes link = record { receipts = link.writer_receipts.items; half = writes link.writer; end = Ok link.writer_end }
+writer_reported writes link =
+    record { receipts = link.writer_receipts.items; half = writes link.writer; end = Ok link.writer_end }
 
 -- how many receipts the two actors of a link have
 abbrev pub receipts_at : {Rd W A : Type 0} → LinkReport Rd W A → ℕ

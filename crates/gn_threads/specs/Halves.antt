@@ -3,6 +3,7 @@ use Rattle.std.specs.Prelude.{◌≡◌, ℕ, Bool, true, List, Option}
 use Rattle.gn_wire.specs.Packet.{Packet}
 use Rattle.gn_rules.specs.declared.event.Event.{Event}
 use Rattle.gn_shake.specs.declared.role.Role.{Role}
+use Rattle.gn_links.specs.Halves.{IsReadOf}
 use Rattle.gn_bodies.specs.declared.ends.ReaderEnd.{ReaderEnd}
 use Rattle.gn_bodies.specs.declared.ends.WriterEnd.{WriterEnd}
 use Rattle.gn_bodies.specs.declared.ends.WriterEnd.TheVariants.{WriteFailed}
@@ -26,6 +27,15 @@ pub record WrittenHalf : Type 0 where
   pub failures : ℕ
   pub is_stuck : Bool
   pub is_finished : Bool
+
+-- a link that isn't read yet: how it begins, and all bytes that its reader is to give, where they are known
+pub record Inbound : Type 0 where
+  pub role : Role
+  pub bytes : List ℕ
+
+-- a link of this role that this reader is to read
+abbrev pub inbound_of : {Rd : Type 0} → (Rd → List ℕ) → Role → Rd → Inbound
+inbound_of all role reader = record { role = role; bytes = all reader }
 
 -- what a reading half of this type tells
 abbrev pub reads_of :
@@ -52,7 +62,8 @@ writes_of known bytes failures stuck finished half =
     }
 
 -- what a reader's end says of the connection, of the events except the routes, and of the half that was read
-pub record ReadsAs {A : Type 0} (role : Role) (end : ReaderEnd) (conn : Option ℕ) (events : List (Event A)) (half : ReadHalf) : Type 0 where
+pub record ReadsAs {A : Type 0} (role : Role) (end : ReaderEnd) (conn : Option ℕ) (events : List (Event A))
+    (half : ReadHalf) : Type 0 where
   -- its events and its bytes are as the table of ends says, where the bytes are known
   pub row : half.is_known ≡ true → ReaderRow role end conn events half.bytes
   -- the half ended, failed, or gave bytes as often as may be, where the end says so
@@ -66,3 +77,8 @@ pub record WritesAs (role : Role) (end : WriterEnd) (packets : List Packet) (hal
   pub hurt : end ≡ WriteFailed → IsHurt half.failures half.is_stuck
   -- it was finished
   pub finished : half.is_finished ≡ true
+
+-- what was read of these bytes, where they are known: numbers below 256, the first of the bytes, in order, and all of
+-- them where a read gave no more
+abbrev pub IsReadFrom : List ℕ → ReadHalf → Type 0
+IsReadFrom all half = half.is_known ≡ true → IsReadOf all half.bytes half.has_ended

@@ -11,6 +11,8 @@ use Rattle.gn_rules.specs.Output.{queued}
 use Rattle.gn_rules.specs.Statistics.{stats_of}
 use Rattle.gn_shake.specs.declared.role.Role.{Role}
 use Rattle.gn_shake.specs.Roles.{is_calling}
+use Rattle.gn_bodies.specs.declared.ends.ReaderEnd.{ReaderEnd}
+use Rattle.gn_bodies.specs.declared.ends.ReaderEnd.TheVariants.{Bytes}
 use Rattle.gn_bodies.specs.declared.ends.WriterEnd.TheVariants.{Drained}
 use Rattle.gn_bodies.specs.Events.{link_events_in}
 use Rattle.gn_laws.specs.Owners.{LinkIsTold, packets_of}
@@ -20,7 +22,7 @@ use Rattle.gn_run.specs.declared.report.Report.{Report}
 use Rattle.gn_run.specs.Actors.{AreOwn, actors, receipts_of}
 use Rattle.gn_run.specs.Ends.{is_settled}
 use Rattle.gn_run.specs.Flaw.{HouseConfirmed, ReaderConfirmed, WorkerConfirmed, WriterConfirmed}
-use Rattle.gn_threads.specs.Halves.{ReadHalf, ReadsAs, WritesAs, WrittenHalf}
+use Rattle.gn_threads.specs.Halves.{IsReadFrom, ReadHalf, ReadsAs, WritesAs, WrittenHalf}
 
 -- the history is legal: each reply is the one that the rules give after the steps before it
 abbrev pub HasLegalHistory : {Rd W A : Type 0} → Config → Report Rd W A → Type 0
@@ -48,7 +50,8 @@ pub record LinkHolds {Rd W A : Type 0} (reads : Rd → ReadHalf) (writes : W →
   pub written : WritesAs role link.writer_end (packets_of link.writer_receipts.items) (writes link.writer)
   -- the table of ends, of the writer: its receipts, and the Close of its connection in the history
   pub writer :
-      WriterConfirmed (is_settled report.history.items) roles report.history.items (length report.links.items + k) role link
+      WriterConfirmed (is_settled report.history.items) roles report.history.items (length report.links.items + k) role
+      link
   -- the two have receipts of all that the history says of the link's connection: of each descriptor that was offered on it,
   -- and of each packet that was taken from it
   pub told : (c : ℕ) → link.conn ≡ Some c → LinkIsTold report.history.items k (length report.links.items + k) c
@@ -62,6 +65,20 @@ abbrev pub LinksHold :
 LinksHold {Rd} {W} {A} reads writes roles report =
     (k : ℕ) (role : Role) (link : LinkReport Rd W A) → k < length report.links.items
     → LinkHolds reads writes roles report k (slice_index_or roles k role) (slice_index_or report.links.items k link)
+
+-- what the reader of a link read, which has these bytes, where they are known
+pub record ReadsOwn (all : List ℕ) (end : ReaderEnd) (half : ReadHalf) : Type 0 where
+  -- the first of the link's bytes, in order, and all of them where a read gave no more
+  pub first : IsReadFrom all half
+  -- so all of them where the reader ended as Bytes
+  pub whole : half.is_known ≡ true → end ≡ Bytes → half.bytes ≡ all
+
+-- what each link's reader read are the bytes of that very link, where the links have these bytes, in their order
+abbrev pub LinksReadOwn : {Rd W A : Type 0} → (Rd → ReadHalf) → List (List ℕ) → Report Rd W A → Type 0
+LinksReadOwn {Rd} {W} {A} reads bytes report =
+    (k : ℕ) (all : List ℕ) (link : LinkReport Rd W A) → k < length report.links.items
+    → ReadsOwn (slice_index_or bytes k all) (slice_index_or report.links.items k link).reader_end
+    (reads (slice_index_or report.links.items k link).reader)
 
 -- workers and the house made no event but Route: their receipts are their own steps, and of Route alone; and once the house
 -- was done nothing was in flight

@@ -2,12 +2,14 @@
 use Rattle.std.specs.Prelude.{◌≡◌, ℕ, List, length, map, vec_len}
 use Rattle.gn_shake.specs.declared.role.Role.{Role}
 use Rattle.gn_threads.specs.declared.done.Done.{Done}
-use Rattle.gn_threads.specs.Halves.{ReadHalf, WrittenHalf}
-use Rattle.gn_threads.specs.Kept.{EachKeeps, ReaderKeeps, WriterKeeps, reader_ended, writer_ended}
+use Rattle.gn_threads.specs.Halves.{Inbound, ReadHalf, WrittenHalf}
+use Rattle.gn_threads.specs.Kept.{EachKeeps, ReaderPromises, WriterKeeps, reader_ended, writer_ended}
 
--- the threads of readers and writers of links of these roles and of so many workers are joined, and each kept its promise
-pub record AreJoined {Rd W S L A : Type 0} (reads : Rd → ReadHalf) (writes : W → WrittenHalf) (reading writing : List Role) (workers : ℕ) (done : Done Rd W S L A) : Type 0 where
-  pub readers : EachKeeps ReaderKeeps reading (map (reader_ended reads) done.readers.items)
+-- the threads of the readers and of the writers of these links, and of so many workers, are joined, and each kept its
+-- promise
+pub record AreJoined {Rd W S L A : Type 0} (reads : Rd → ReadHalf) (writes : W → WrittenHalf) (reading : List Inbound)
+    (writing : List Role) (workers : ℕ) (done : Done Rd W S L A) : Type 0 where
+  pub readers : EachKeeps ReaderPromises reading (map (reader_ended reads) done.readers.items)
   pub writers : EachKeeps WriterKeeps writing (map (writer_ended writes) done.writers.items)
   pub read : vec_len done.readers ≡ length reading
   pub written : vec_len done.writers ≡ length writing

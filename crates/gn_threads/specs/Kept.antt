@@ -12,7 +12,7 @@ use Rattle.gn_bodies.specs.ReaderRows.{ReaderRow, SourceRow}
 use Rattle.gn_bodies.specs.Written.{IsHurt, WriterRow}
 use Rattle.gn_bodies.specs.Events.{connection_from, link_events_in, packets_in}
 use Rattle.gn_threads.specs.declared.gather.HomedReader.{HomedReader}
-use Rattle.gn_threads.specs.Halves.{ReadHalf, WrittenHalf}
+use Rattle.gn_threads.specs.Halves.{Inbound, IsReadFrom, ReadHalf, WrittenHalf}
 
 -- a body as it ended: its receipts, what its half tells, and its end
 pub record Ended (A E H : Type 0) : Type 0 where
@@ -34,11 +34,16 @@ WriterKeeps role body =
     × IfOk body.end (λ end. end ≡ WriteFailed → IsHurt body.half.failures body.half.is_stuck)
     × (body.half.is_finished ≡ true)
 
--- each body keeps what it promises, with the role at its place
-abbrev pub EachKeeps : {B : Type 0} → (Role → B → Type 0) → List Role → List B → Type 0
-EachKeeps {B} keeps roles bodies =
-    (k : ℕ) (role : Role) (body : B) → k < length bodies
-    → keeps (slice_index_or roles k role) (slice_index_or bodies k body)
+-- what the thread of a reader promises: what its body keeps, and that what it read are the bytes of its own link
+pub record ReaderPromises {A : Type 0} (link : Inbound) (body : Ended A ReaderEnd ReadHalf) : Type 0 where
+  pub kept : ReaderKeeps link.role body
+  pub own : IsReadFrom link.bytes body.half
+
+-- each body keeps what it promises of its link, which stands at the same place
+abbrev pub EachKeeps : {K B : Type 0} → (K → B → Type 0) → List K → List B → Type 0
+EachKeeps {K} {B} keeps links bodies =
+    (k : ℕ) (link : K) (body : B) → k < length bodies
+    → keeps (slice_index_or links k link) (slice_index_or bodies k body)
 
 -- a reader's body as it ended
 abbrev pub reader_ended : {Rd S L A : Type 0} → (Rd → ReadHalf) → ReaderDone Rd S L A → Ended A ReaderEnd ReadHalf

@@ -136,6 +136,7 @@ pub(crate) fn report<
         (writes_of W.is_known W.bytes_written W.failures W.is_stuck W.is_finished)
         config.now roles.now report) }
     ensures workers { IfOk result (λ report. vec_len report.workers ≡ vec_len worked.receipts) }
+    ensures links { IfOk result (λ report. report.links.items ≡ linked.links.items) }
     ensures clean { IfOk result (λ _. suspect ≡ None) }
 {
     let Linked { links, tally } = linked;
@@ -188,7 +189,7 @@ fn confirmed<Rd: LinkReader, W: LinkWriter, A: Allocator>(
         (reads_of Rd.is_known Rd.bytes_read Rd.failures Rd.pieces Rd.has_ended)
         (writes_of W.is_known W.bytes_written W.failures W.is_stuck W.is_finished)
         config.now roles.now found) }
-    ensures workers { IfOk result (λ found. vec_len found.workers ≡ vec_len report.workers) }
+    ensures same { IfOk result (λ found. found ≡ report) }
     ensures clean { IfOk result (λ _. suspect ≡ None) }
 {
     let flaw = report.flaw(roles);

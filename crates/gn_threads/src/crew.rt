@@ -4,7 +4,7 @@ ghost use Rattle.std.specs.Prelude.{◌≡◌, [], ℕ, map, vec_len, true, IfEr
 ghost use Rattle.std.specs.Thread.{IsSend, IsSync};
 ghost use denote.Param.Send.{Frees};
 ghost use Rattle.gn_threads.specs.Faults.{IsFaultOf};
-ghost use Rattle.gn_threads.specs.Halves.{reads_of, writes_of};
+ghost use Rattle.gn_threads.specs.Halves.{inbound_of, reads_of, writes_of};
 ghost use Rattle.gn_threads.specs.Joined.{AreJoined};
 
 use crate::done::Done;
@@ -46,7 +46,7 @@ fn start_all<
     requires none { (handles.old.readers.items ≡ []) × (handles.old.writers.items ≡ [])
         × (handles.old.workers.items ≡ []) }
     ensures readers { result ≡ true
-        → map (λ h. h.promise.role) handles.new.readers.items ≡ map (λ s. s.role) starts.readers.items }
+        → map (λ h. h.promise.start.value) handles.new.readers.items ≡ starts.readers.items }
     ensures writers { result ≡ true
         → map (λ h. h.promise.role) handles.new.writers.items ≡ map (λ s. s.role) starts.writers.items }
     ensures workers { result ≡ true → vec_len handles.new.workers ≡ vec_len starts.workers }
@@ -88,8 +88,8 @@ fn crew_in<
     ensures joined { IfOk result (λ done. AreJoined
         (reads_of Rd.is_known Rd.bytes_read Rd.failures Rd.pieces Rd.has_ended)
         (writes_of W.is_known W.bytes_written W.failures W.is_stuck W.is_finished)
-        (map (λ s. s.role) starts.readers.items) (map (λ s. s.role) starts.writers.items)
-        (vec_len starts.workers) done) }
+        (map (λ s. inbound_of Rd.all_bytes s.role s.reader) starts.readers.items)
+        (map (λ s. s.role) starts.writers.items) (vec_len starts.workers) done) }
     ensures fault { IfErr result (λ fault. (links workers : ℕ) → IsFaultOf links workers fault) }
 {
     let mut handles = Handles::new(alloc);
@@ -119,8 +119,8 @@ pub(crate) fn crew<
     ensures joined { IfOk result (λ done. AreJoined
         (reads_of Rd.is_known Rd.bytes_read Rd.failures Rd.pieces Rd.has_ended)
         (writes_of W.is_known W.bytes_written W.failures W.is_stuck W.is_finished)
-        (map (λ s. s.role) starts.readers.items) (map (λ s. s.role) starts.writers.items)
-        (vec_len starts.workers) done) }
+        (map (λ s. inbound_of Rd.all_bytes s.role s.reader) starts.readers.items)
+        (map (λ s. s.role) starts.writers.items) (vec_len starts.workers) done) }
     ensures fault { IfErr result (λ fault. (links workers : ℕ) → IsFaultOf links workers fault) }
 {
     thread::scope(thread::scope_env(), rt, |scope| {

@@ -19,6 +19,7 @@ ghost use Rattle.std.specs.Prelude.{
 };
 ghost use Rattle.gn_bodies.specs.declared.worker.WorkerDone.{WorkerDone};
 ghost use Rattle.gn_threads.specs.Faults.{IsFaultOf};
+ghost use Rattle.gn_threads.specs.Gathered.{reader_reported};
 ghost use Rattle.gn_threads.specs.Halves.{reads_of, writes_of};
 ghost use Rattle.gn_threads.specs.Headline.{Holds};
 ghost use Rattle.gn_threads.specs.Kept.{EachKeeps, ReaderKeeps, WriterKeeps, reader_ended, reader_homed, writer_ended};
@@ -74,6 +75,11 @@ pub(crate) fn finish<
         (writes_of W.is_known W.bytes_written W.failures W.is_stuck W.is_finished)
         config.now roles.now report) }
     ensures workers { IfOk result (λ report. vec_len report.workers ≡ vec_len done.workers) }
+    ensures reported { IfOk result (λ report.
+        map (reader_reported (reads_of Rd.is_known Rd.bytes_read Rd.failures Rd.pieces Rd.has_ended))
+        report.links.items
+        ≡ map (reader_ended (reads_of Rd.is_known Rd.bytes_read Rd.failures Rd.pieces Rd.has_ended))
+        done.readers.items) }
     ensures clean { IfOk result (λ _. (k : ℕ) (d : WorkerDone S L A) → k < vec_len done.workers
         → IsOk (slice_index_or done.workers.items k d).end) }
 {
@@ -156,6 +162,11 @@ fn assemble<L: Ledger, C: RouterCore<A> + Drop, Rd: LinkReader, W: LinkWriter, A
         (writes_of W.is_known W.bytes_written W.failures W.is_stuck W.is_finished)
         config.now roles.now report) }
     ensures workers { IfOk result (λ report. vec_len report.workers ≡ vec_len worked.receipts) }
+    ensures reported { IfOk result (λ report.
+        map (reader_reported (reads_of Rd.is_known Rd.bytes_read Rd.failures Rd.pieces Rd.has_ended))
+        report.links.items
+        ≡ map (reader_homed (reads_of Rd.is_known Rd.bytes_read Rd.failures Rd.pieces Rd.has_ended))
+        readers.items) }
     ensures clean { IfOk result (λ _. suspect ≡ None) }
 {
     let linked = gather_links(alloc, readers, writers)?;

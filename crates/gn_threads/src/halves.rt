@@ -22,7 +22,8 @@ pub(crate) struct ReaderHalf<Rd: LinkReader> {
 pub(crate) struct WriterHalf<W: LinkWriter> {
     pub role: Role,
     pub writer: W,
-    pub ghost new: { IsNewWriter (W.bytes_written writer) (W.failures writer) (W.is_stuck writer) (W.is_finished writer) },
+    pub ghost new: { IsNewWriter (W.bytes_written writer) (W.failures writer) (W.is_stuck writer)
+        (W.is_finished writer) },
 }
 
 /// The halves of all links of a run, and the roles of the links, each in the order of the links.
@@ -42,6 +43,8 @@ pub(crate) fn split_all<K: Link, A: Allocator + Copy>(
 ) -> Result<Halves<K::Reader, K::Writer, A>, RunFault>
     requires few { length links.items ≤ 256 }
     ensures roles { IfOk result (λ halves. halves.roles.items ≡ map K.role_of links.items) }
+    ensures bytes { IfOk result (λ halves.
+        map (λ half. K.Reader.all_bytes half.reader) halves.readers.items ≡ map K.all_bytes links.items) }
     ensures many { IfOk result (λ halves. (vec_len halves.roles ≡ vec_len links)
         × (vec_len halves.readers ≡ vec_len links) × (vec_len halves.writers ≡ vec_len links)) }
     ensures fault { IfErr result (λ fault. (workers : ℕ) → IsFaultOf (length links.items) workers fault) }

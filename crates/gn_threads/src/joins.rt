@@ -3,9 +3,9 @@
 ghost use Rattle.std.specs.Prelude.{◌≡◌, [], ℕ, map, vec_len, if◌then◌else◌, IfErr, IfOk};
 ghost use Rattle.gn_threads.specs.declared.fault.RunFault.TheVariants.{HistoryFull, NoMemory};
 ghost use Rattle.gn_threads.specs.Faults.{IsFaultOf};
-ghost use Rattle.gn_threads.specs.Halves.{reads_of, writes_of};
+ghost use Rattle.gn_threads.specs.Halves.{inbound_of, reads_of, writes_of};
 ghost use Rattle.gn_threads.specs.Joined.{AreJoined};
-ghost use Rattle.gn_threads.specs.Kept.{EachKeeps, ReaderKeeps, WriterKeeps, reader_ended, writer_ended};
+ghost use Rattle.gn_threads.specs.Kept.{EachKeeps, ReaderPromises, WriterKeeps, reader_ended, writer_ended};
 
 use crate::done::Done;
 use crate::ended::{Body, any_full};
@@ -67,7 +67,8 @@ fn join_readers<Rd: LinkReader, S: Site, L: Ledger, A: Allocator + Copy, R: Thre
     handles: Vec<ReaderHandle<Rd, S, L, A>, A>,
 ) -> Result<Vec<ReaderDone<Rd, S, L, A>, A>, Lost>
     ensures many { IfOk result (λ done. vec_len done ≡ vec_len handles) }
-    ensures kept { IfOk result (λ done. EachKeeps ReaderKeeps (map (λ h. h.promise.role) handles.items)
+    ensures kept { IfOk result (λ done. EachKeeps ReaderPromises
+        (map (λ h. inbound_of Rd.all_bytes h.promise.start.value.role h.promise.start.value.reader) handles.items)
         (map (reader_ended (reads_of Rd.is_known Rd.bytes_read Rd.failures Rd.pieces Rd.has_ended)) done.items)) }
 {
     match thread::join_promised(rt, handles) {
@@ -162,8 +163,9 @@ impl<Rd: LinkReader, W: LinkWriter, S: Site, L: Ledger, A: Allocator + Copy> Han
         ensures joined { IfOk result (λ done. AreJoined
             (reads_of Rd.is_known Rd.bytes_read Rd.failures Rd.pieces Rd.has_ended)
             (writes_of W.is_known W.bytes_written W.failures W.is_stuck W.is_finished)
-            (map (λ h. h.promise.role) self.readers.items) (map (λ h. h.promise.role) self.writers.items)
-            (vec_len self.workers) done) }
+            (map (λ h. inbound_of Rd.all_bytes h.promise.start.value.role h.promise.start.value.reader)
+            self.readers.items)
+            (map (λ h. h.promise.role) self.writers.items) (vec_len self.workers) done) }
         ensures fault { IfErr result (λ fault. (links workers : ℕ) → IsFaultOf links workers fault) }
     {
         let Handles {

@@ -13,6 +13,7 @@ ghost use Rattle.gn_threads.specs.Headline.{
   HasOwnSteps,
   Holds,
   LinksHold,
+  LinksReadOwn,
   OthersRoute,
   RoutesEachOnce,
 };
@@ -68,6 +69,9 @@ where
         (reads_of K.Reader.is_known K.Reader.bytes_read K.Reader.failures K.Reader.pieces K.Reader.has_ended)
         (writes_of K.Writer.is_known K.Writer.bytes_written K.Writer.failures K.Writer.is_stuck K.Writer.is_finished)
         (map K.role_of links.items) report) }
+    ensures bytes { IfOk result (λ report. LinksReadOwn
+        (reads_of K.Reader.is_known K.Reader.bytes_read K.Reader.failures K.Reader.pieces K.Reader.has_ended)
+        (map K.all_bytes links.items) report) }
     ensures others { IfOk result (λ report. OthersRoute report) }
     ensures routed { IfOk result (λ report. RoutesEachOnce report) }
     ensures stats { IfOk result (λ report. HasOwnStats report) }
@@ -157,6 +161,9 @@ fn run_in<
         (reads_of Rd.is_known Rd.bytes_read Rd.failures Rd.pieces Rd.has_ended)
         (writes_of W.is_known W.bytes_written W.failures W.is_stuck W.is_finished)
         config.now halves.roles.items report) }
+    ensures bytes { IfOk result (λ report. LinksReadOwn
+        (reads_of Rd.is_known Rd.bytes_read Rd.failures Rd.pieces Rd.has_ended)
+        (map (λ half. Rd.all_bytes half.reader) halves.readers.items) report) }
     ensures workers { IfOk result (λ report. vec_len report.workers ≡ workers) }
 {
     let Halves {

@@ -2,8 +2,8 @@
 
 ghost use Rattle.std.specs.Prelude.{◌≡◌, ◌+◌, ◌++◌, ◌∷◌, [], true, map, vec_len};
 ghost use Rattle.gn_links.specs.Halves.{IsNewReader, IsNewWriter};
-ghost use Rattle.gn_threads.specs.Halves.{reads_of, writes_of};
-ghost use Rattle.gn_threads.specs.Kept.{ReaderKeeps, WriterKeeps, reader_ended, writer_ended};
+ghost use Rattle.gn_threads.specs.Halves.{inbound_of, reads_of, writes_of};
+ghost use Rattle.gn_threads.specs.Kept.{ReaderPromises, WriterKeeps, reader_ended, writer_ended};
 
 use gn_bodies::{ReaderDone, WorkerDone, WriterDone, reader_body, worker_body, writer_body};
 use gn_links::{Gate, LinkReader, LinkWriter};
@@ -12,6 +12,7 @@ use gn_service::{Actor, Service};
 use gn_shake::Role;
 use gn_stage::{Intake, Outlet, Site};
 use std::alloc::{Allocator, Global};
+use std::snapshot::Snapshot;
 use std::sync::Wait;
 use std::sync::ledger::Ledger;
 use std::thread::{Promise, PromisedHandle, Scope, Threads};
@@ -36,7 +37,8 @@ pub(crate) struct WriterStart<W: LinkWriter, L: Ledger, A: Allocator = Global> {
     pub link: u32,
     pub role: Role,
     pub writer: W,
-    pub ghost new: { IsNewWriter (W.bytes_written writer) (W.failures writer) (W.is_stuck writer) (W.is_finished writer) },
+    pub ghost new: { IsNewWriter (W.bytes_written writer) (W.failures writer) (W.is_stuck writer)
+        (W.is_finished writer) },
     pub ghost none: { actor.receipts ≡ [] },
 }
 
@@ -49,17 +51,18 @@ pub(crate) struct WorkerStart<S: Site, L: Ledger, A: Allocator = Global> {
     pub ghost none: { actor.receipts ≡ [] },
 }
 
-/// The promise of a reader's thread: what its body keeps, on a link of this role.
-#[derive(Clone, Copy)]
-pub(crate) struct Reads {
-    pub role: Role,
+/// The promise of a reader's thread: what its body keeps, from this start.
+#[derive(Drop)]
+pub(crate) struct Reads<Rd: LinkReader, S: Site, L: Ledger, A: Allocator = Global> {
+    pub start: Snapshot<ReaderStart<Rd, S, L, A>>,
 }
 
-impl<Rd: LinkReader, S: Site, L: Ledger, A: Allocator> Promise<ReaderDone<Rd, S, L, A>> for Reads {
-    ghost use Rattle.gn_threads.specs.Halves.{reads_of};
-    ghost use Rattle.gn_threads.specs.Kept.{ReaderKeeps, reader_ended};
+impl<Rd: LinkReader, S: Site, L: Ledger, A: Allocator> Promise<ReaderDone<Rd, S, L, A>>
+    for Reads<Rd, S, L, A> {
+    ghost use Rattle.gn_threads.specs.Halves.{inbound_of, reads_of};
+    ghost use Rattle.gn_threads.specs.Kept.{ReaderPromises, reader_ended};
 
-    ghost kept_by = { λ p r. ReaderKeeps p.role
+    ghost kept_by = { λ p r. ReaderPromises (inbound_of Rd.all_bytes p.start.value.role p.start.value.reader)
         (reader_ended (reads_of Rd.is_known Rd.bytes_read Rd.failures Rd.pieces Rd.has_ended) r) };
 }
 
@@ -88,7 +91,10 @@ impl<S: Site, L: Ledger, A: Allocator> Promise<WorkerDone<S, L, A>> for Works {
     ghost kept_by = { λ p r. link_events r.actor ≡ [] };
 }
 
-pub(crate) type ReaderHandle<Rd, S, L, A> = PromisedHandle<ReaderDone<Rd, S, L, A>, Reads>;
+pub(crate) type ReaderHandle<Rd, S, L, A> = PromisedHandle<
+    ReaderDone<Rd, S, L, A>,
+    Reads<Rd, S, L, A>,
+>;
 
 pub(crate) type WriterHandle<W, L, A> = PromisedHandle<WriterDone<W, L, A>, Writes>;
 
@@ -108,7 +114,7 @@ fn read_link<
     service: &Service<C, L, A>,
     start: ReaderStart<Rd, S, L, A>,
 ) -> ReaderDone<Rd, S, L, A>
-    ensures { ReaderKeeps start.role
+    ensures { ReaderPromises (inbound_of Rd.all_bytes start.role start.reader)
         (reader_ended (reads_of Rd.is_known Rd.bytes_read Rd.failures Rd.pieces Rd.has_ended) result) }
 {
     let ReaderStart {
@@ -139,14 +145,16 @@ fn start_reader<
     start: ReaderStart<Rd, S, L, A>,
     handles: &mut Vec<ReaderHandle<Rd, S, L, A>, A>,
 ) -> bool
-    ensures { result ≡ true → map (λ h. h.promise.role) handles.new.items
-        ≡ map (λ h. h.promise.role) handles.old.items ++ start.role ∷ [] }
+    ensures { result ≡ true → map (λ h. h.promise.start.value) handles.new.items
+        ≡ map (λ h. h.promise.start.value) handles.old.items ++ start ∷ [] }
 {
     if handles.reserve(1).is_err() {
         return false;
     }
-    let role = start.role;
-    match scope.spawn_with(Reads { role }, move || read_link(rt, alloc, service, start)) {
+    let promise = Reads {
+        start: Snapshot::of(&start),
+    };
+    match scope.spawn_with(promise, move || read_link(rt, alloc, service, start)) {
         Ok(handle) => {
             handles.push_reserved(handle);
             true
@@ -174,7 +182,7 @@ pub(crate) fn start_readers<
     handles: &mut Vec<ReaderHandle<Rd, S, L, A>, A>,
 ) -> bool
     requires none { handles.old.items ≡ [] }
-    ensures { result ≡ true → map (λ h. h.promise.role) handles.new.items ≡ map (λ s. s.role) starts.items }
+    ensures { result ≡ true → map (λ h. h.promise.start.value) handles.new.items ≡ starts.items }
 {
     for start in starts {
         if !start_reader(rt, alloc, scope, service, start, handles) {

@@ -1,12 +1,15 @@
 use Rattle.std.proofs.Common.{subst, rules}
 use Rattle.gn_rules.specs.Limits.{IsWithin}
 use Rattle.gn_threads.specs.Halves.{reads_of, writes_of}
-use Rattle.gn_threads.specs.Headline.{LinksHold}
+use Rattle.gn_threads.specs.Headline.{LinksHold, LinksReadOwn}
 use Rattle.gn_threads.proofs.FaultLemmas.{handed_on, not_bad_workers}
 use Rattle.gn_threads.proofs.runs.run.Goals as goal
 
 pub returns-clause-links : goal.returns-clause-links
 returns-clause-links g c = subst (λ roles. LinksHold (reads_of g.K.Reader.LinkReader.is_known g.K.Reader.LinkReader.bytes_read g.K.Reader.LinkReader.failures g.K.Reader.LinkReader.pieces g.K.Reader.LinkReader.has_ended) (writes_of g.K.Writer.LinkWriter.is_known g.K.Writer.LinkWriter.bytes_written g.K.Writer.LinkWriter.failures g.K.Writer.LinkWriter.is_stuck g.K.Writer.LinkWriter.is_finished) roles c.in_ok-report.report) c.in_ok-halves.ensures.roles c.in_ok-report.ensures.holds.links
+
+pub returns-clause-bytes : goal.returns-clause-bytes
+returns-clause-bytes g c = subst (λ bytes. LinksReadOwn (reads_of g.K.Reader.LinkReader.is_known g.K.Reader.LinkReader.bytes_read g.K.Reader.LinkReader.failures g.K.Reader.LinkReader.pieces g.K.Reader.LinkReader.has_ended) bytes c.in_ok-report.report) c.in_ok-halves.ensures.bytes c.in_ok-report.ensures.bytes
 
 pub returns-in_err-halves-clause-bad_workers : goal.returns-in_err-halves-clause-bad_workers
 returns-in_err-halves-clause-bad_workers g c =

@@ -1,14 +1,31 @@
-use Rattle.std.proofs.Common.{◌≡◌, ◌∙◌, length, map, vec_len, ap, sym, subst, arith}
+use Rattle.std.proofs.Common.{◌≡◌, ◌∙◌, List, length, map, vec_len, ap, sym, subst, arith}
 use Rattle.std.specs.Prelude.{IfErr}
+use Rattle.std.proofs.lemmas.List.{length-map}
+use Rattle.std.proofs.lemmas.Result.{IfOk-weaker}
+use Rattle.std.proofs.lemmas.Simd.{map-map}
 use Rattle.gn_threads.specs.Faults.{IsFaultOf}
-use Rattle.gn_threads.specs.Halves.{reads_of, writes_of}
-use Rattle.gn_threads.specs.Kept.{EachKeeps, ReaderKeeps, WriterKeeps, reader_ended, writer_ended}
+use Rattle.gn_threads.specs.Halves.{Inbound, inbound_of, reads_of, writes_of}
+use Rattle.gn_threads.specs.Kept.{EachKeeps, ReaderKeeps, ReaderPromises, WriterKeeps, reader_ended, writer_ended}
 use Rattle.gn_threads.proofs.FaultLemmas.{handed_on}
+use Rattle.gn_threads.proofs.HoldsLemmas.{links_read_own}
+use Rattle.gn_threads.proofs.KeptLemmas.{keeps_less}
 use Rattle.gn_threads.proofs.runs.run_in.Goals as goal
 
 pub finish-requires-clause-readers : goal.finish-requires-clause-readers
 finish-requires-clause-readers g c =
-    subst (λ roles. EachKeeps ReaderKeeps roles (map (reader_ended (reads_of g.Rd.LinkReader.is_known g.Rd.LinkReader.bytes_read g.Rd.LinkReader.failures g.Rd.LinkReader.pieces g.Rd.LinkReader.has_ended)) c.in_ok-done.done.readers.items)) (c.in_ok-starts.ensures.readers ∙ c.args.halves.reader_roles ∙ sym c.as_slice-2.ensures.value) c.in_ok-done.ensures.joined.readers
+    let links : List Inbound = map (λ s. inbound_of g.Rd.LinkReader.all_bytes s.role s.reader) c.in_ok-starts.starts.readers.items in
+    let bodies = map (reader_ended (reads_of g.Rd.LinkReader.is_known g.Rd.LinkReader.bytes_read g.Rd.LinkReader.failures g.Rd.LinkReader.pieces g.Rd.LinkReader.has_ended)) c.in_ok-done.done.readers.items in
+    let many : length bodies ≡ length links = omega (arith, length-map c.in_ok-done.done.readers.items (reader_ended (reads_of g.Rd.LinkReader.is_known g.Rd.LinkReader.bytes_read g.Rd.LinkReader.failures g.Rd.LinkReader.pieces g.Rd.LinkReader.has_ended)), c.in_ok-done.done.readers.ok, c.in_ok-done.ensures.joined.read) in
+    let roles = ap (λ (ls : List Inbound). map (λ (l : Inbound). l.role) ls) c.in_ok-starts.ensures.readers ∙ map-map (λ (l : Inbound). l.role) (λ h. inbound_of g.Rd.LinkReader.all_bytes h.role h.reader) c.args.halves.readers.items ∙ c.args.halves.reader_roles ∙ sym c.as_slice-2.ensures.value in
+    subst (λ rs. EachKeeps ReaderKeeps rs bodies) roles (keeps_less (λ (l : Inbound). l.role) ReaderPromises ReaderKeeps links bodies many (λ link body promised. promised.kept) c.in_ok-done.ensures.joined.readers)
+
+pub returns-clause-bytes : goal.returns-clause-bytes
+returns-clause-bytes g c =
+    let links : List Inbound = map (λ s. inbound_of g.Rd.LinkReader.all_bytes s.role s.reader) c.in_ok-starts.starts.readers.items in
+    let bodies = map (reader_ended (reads_of g.Rd.LinkReader.is_known g.Rd.LinkReader.bytes_read g.Rd.LinkReader.failures g.Rd.LinkReader.pieces g.Rd.LinkReader.has_ended)) c.in_ok-done.done.readers.items in
+    let many : length bodies ≡ length links = omega (arith, length-map c.in_ok-done.done.readers.items (reader_ended (reads_of g.Rd.LinkReader.is_known g.Rd.LinkReader.bytes_read g.Rd.LinkReader.failures g.Rd.LinkReader.pieces g.Rd.LinkReader.has_ended)), c.in_ok-done.done.readers.ok, c.in_ok-done.ensures.joined.read) in
+    let own = ap (λ (ls : List Inbound). map (λ (l : Inbound). l.bytes) ls) c.in_ok-starts.ensures.readers ∙ map-map (λ (l : Inbound). l.bytes) (λ h. inbound_of g.Rd.LinkReader.all_bytes h.role h.reader) c.args.halves.readers.items in
+    IfOk-weaker _ _ _ (λ report reported. links_read_own (reads_of g.Rd.LinkReader.is_known g.Rd.LinkReader.bytes_read g.Rd.LinkReader.failures g.Rd.LinkReader.pieces g.Rd.LinkReader.has_ended) links _ bodies report own many reported c.in_ok-done.ensures.joined.readers) c.finish.ensures.reported
 
 pub finish-requires-clause-writers : goal.finish-requires-clause-writers
 finish-requires-clause-writers g c =
@@ -25,6 +42,6 @@ returns-clause-fault g c =
 
 pub finish-requires-clause-many : goal.finish-requires-clause-many
 finish-requires-clause-many g c = (
-  c.in_ok-done.ensures.joined.read ∙ ap length (c.in_ok-starts.ensures.readers ∙ c.args.halves.reader_roles ∙ sym c.as_slice-2.ensures.value),
+  c.in_ok-done.ensures.joined.read ∙ ap length c.in_ok-starts.ensures.readers ∙ length-map c.args.halves.readers.items (λ h. inbound_of g.Rd.LinkReader.all_bytes h.role h.reader) ∙ sym (length-map c.args.halves.readers.items (λ h. h.role)) ∙ ap length (c.args.halves.reader_roles ∙ sym c.as_slice-2.ensures.value),
   c.in_ok-done.ensures.joined.written ∙ ap length (c.in_ok-starts.ensures.writers ∙ c.args.halves.writer_roles ∙ sym c.as_slice-2.ensures.value),
 )
