@@ -1,0 +1,82 @@
+-- What a load reads of its input, and why it stops.
+use Rattle.std.proofs.Common.{◌≡◌, ◌↔◌, ℕ, List, [], ◌++◌, length, map, IfErr, Result, Ok, Err, refl, sym, ap, ◌∙◌, subst}
+use Rattle.std.proofs.lemmas.List.{length-map}
+use Rattle.std.specs.Result.{IsErrAnd, IsOkAnd}
+use Rattle.gn_links.specs.Memory.{Memory, MemoryReading, MemoryWriting}
+use Rattle.gn_rules.specs.declared.config.Config.{Config}
+use Rattle.gn_rules.specs.declared.config.Own.{Own}
+use Rattle.gn_rules.specs.declared.receipt.Step.{Step}
+use Rattle.gn_rules.specs.Limits.{IsWithin}
+use Rattle.gn_text.specs.declared.fault.CaptureFault.{CaptureFault}
+use Rattle.gn_text.specs.Settings.{Numbers, settings_of}
+use Rattle.gn_capture.specs.declared.capture.Capture.{Capture}
+use Rattle.gn_capture.specs.declared.line.Line.{Line}
+use Rattle.gn_capture.specs.Captures.{capture_of, capture_seen}
+use Rattle.gn_capture.specs.Histories.{history_text}
+use Rattle.gn_run.specs.declared.report.Report.{Report}
+use Rattle.gn_threads.specs.declared.fault.RunFault.{RunFault}
+use Rattle.gn_threads.specs.declared.fault.RunFault.TheVariants.{BadWorkers}
+use Rattle.gn_threads.specs.Faults.{IsFaultOf}
+use Rattle.gn_threads.specs.Headline.{HasCountedSteps, HasLegalHistory, HasOwnStats, HasOwnSteps, Holds, LinksHold, OthersRoute, RoutesEachOnce}
+use Rattle.gn_load.specs.declared.fault.LoadFault.TheVariants.{Run}
+use Rattle.gn_load.specs.Faults.{IsRunFault, IsRunLoadFault}
+use Rattle.gn_load.specs.Links.{links_from}
+use Rattle.gn_load.specs.Loads.{IsLoadText, half_read, half_written, load_of}
+
+-- an error that was handed on
+pub on_err : {T E : Type 0} (r : Result T E) (e : E) (P : E → Type 0) → IsErrAnd r (λ x. x ≡ e) → P e → IfErr r P
+on_err (Ok x) e P is h = absurd is
+on_err (Err x) e P is h = subst P (sym is) h
+
+-- the links of lines that were lent
+pub made_of : {A : Type 0} (lent lines : List (ℕ × Line A)) (made : Result (List Memory) CaptureFault) → lent ≡ lines → links_from [] lent ≡ made
+    → links_from [] lines ≡ made
+made_of lent lines made same is = ap (links_from []) (sym same) ∙ is
+
+-- all of the headline, of a run over these links
+pub held : {A : Type 0} (s : Config) (links : List Memory) (report : Report MemoryReading MemoryWriting A) → HasLegalHistory s report
+    → HasCountedSteps report → HasOwnSteps report → length report.links.items ≡ length links
+    → LinksHold half_read half_written (map (λ link. link.role) links) report → OthersRoute report → RoutesEachOnce report → HasOwnStats report
+    → Holds half_read half_written s (map (λ link. link.role) links) report
+held s links report legal counted own each hold others routed stats =
+    record {
+      legal = legal;
+      counted = counted;
+      own = own;
+      each = each ∙ sym (length-map links (λ link. link.role));
+      links = hold;
+      others = others;
+      routed = routed;
+      stats = stats;
+    }
+
+-- a capture that was read, with the links that its lines make
+module _ {A : Type 0} (text : List ℕ) (capture : Capture A) where
+  -- what a load reads of it
+  pub loaded : (links : List Memory) → capture_of text ≡ Ok (capture_seen capture) → links_from [] capture.lines.items ≡ Ok links
+      → load_of A text ≡ Ok (settings_of capture.config, links)
+  loaded links read made = rw (read, made) refl
+
+  -- a run that has no report
+  pub refused_run : (workers : ℕ) (links : List Memory) (fault : RunFault) → capture_of text ≡ Ok (capture_seen capture)
+      → links_from [] capture.lines.items ≡ Ok links → (fault ≡ BadWorkers) ↔ (¬ IsWithin workers 16)
+      → (IsWithin workers 16 → IsFaultOf (length links) workers fault) → IsRunLoadFault workers (Run fault) (load_of A text)
+  refused_run workers links fault read made bad other =
+      let P : Result ((Numbers × Own) × List Memory) CaptureFault → Type 0 = λ r. IsOkAnd r (λ l. IsRunFault (length l.1) workers fault) in
+      subst P (sym (loaded links read made)) (record { bad = bad; other = other })
+
+  -- the history of a run that has one
+  pub history_printed : (workers : ℕ) (links : List Memory) (report : Report MemoryReading MemoryWriting A) (before printed : List ℕ) (steps : List (Step A))
+      → capture_of text ≡ Ok (capture_seen capture) → links_from [] capture.lines.items ≡ Ok links
+      → Holds half_read half_written capture.config (map (λ link. link.role) links) report → length report.workers.items ≡ workers
+      → before ≡ [] → steps ≡ report.history.items → printed ≡ before ++ history_text capture.config steps → IsLoadText A workers text printed
+  history_printed workers links report before printed steps read made holds many empty lent wrote =
+      record {
+        settings = capture.config;
+        links = links;
+        report = report;
+        read = loaded links read made;
+        holds = holds;
+        many = many;
+        printed = wrote ∙ ap (λ (xs : List ℕ). xs ++ history_text capture.config steps) empty ∙ ap (history_text capture.config) lent;
+      }

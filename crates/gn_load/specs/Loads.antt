@@ -1,0 +1,73 @@
+-- What a load makes of its input, and what it writes.
+use Rattle.std.specs.Prelude.{◌≡◌, ℕ, true, false, List, [], length, map, take, Option, IfSome, Result, Ok}
+use Rattle.std.specs.Io.KnownBytes.{Appends, Keeps}
+use Rattle.gn_rules.specs.declared.config.Config.{Config}
+use Rattle.gn_rules.specs.declared.config.Own.{Own}
+use Rattle.gn_links.specs.Memory.{Memory, MemoryReading, MemoryWriting}
+use Rattle.gn_run.specs.declared.report.Report.{Report}
+use Rattle.gn_threads.specs.Halves.{ReadHalf, WrittenHalf}
+use Rattle.gn_threads.specs.Headline.{Holds}
+use Rattle.gn_text.specs.declared.fault.CaptureFault.{CaptureFault}
+use Rattle.gn_text.specs.Faults.{◌>>=◌}
+use Rattle.gn_text.specs.Settings.{Numbers, settings_of}
+use Rattle.gn_capture.specs.Captures.{capture_of}
+use Rattle.gn_capture.specs.Histories.{history_text, map_result}
+use Rattle.gn_io.specs.Parts.{AppendsPart}
+use Rattle.gn_replay.specs.declared.fault.ReplayFault.TheVariants.{Write}
+use Rattle.gn_load.specs.declared.fault.LoadFault.{LoadFault}
+use Rattle.gn_load.specs.declared.fault.LoadFault.TheVariants.{Text}
+use Rattle.gn_load.specs.Links.{links_from}
+
+-- what a load reads of an input: how the router is set up, and the links that the lines make; or its first fault as a capture;
+-- or, where it has none, the first line that a load doesn't take
+abbrev pub load_of : (A : Type 0) → List ℕ → Result ((Numbers × Own) × List Memory) CaptureFault
+load_of A input = do
+  parsed ← capture_of {A = A} input
+  map_result (λ links. ((parsed.numbers, parsed.own), links)) (links_from [] parsed.lines)
+
+-- what the reading half of a link over memory tells
+abbrev pub half_read : MemoryReading → ReadHalf
+half_read half =
+    record {
+      is_known = true;
+      bytes = take half.given half.bytes;
+      failures = half.failures;
+      pieces = half.pieces;
+      has_ended = half.has_ended;
+    }
+
+-- what its writing half tells
+abbrev pub half_written : MemoryWriting → WrittenHalf
+half_written half =
+    record {
+      is_known = true;
+      bytes = half.bytes;
+      failures = half.failures;
+      is_stuck = false;
+      is_finished = half.is_finished;
+    }
+
+-- a text is the history of a run with so many workers over the links of the input: there is a report of such a run, of which all of
+-- the headline holds, and the text is that of its history
+pub record IsLoadText (A : Type 0) (workers : ℕ) (input text : List ℕ) : Type 0 where
+  pub settings : Config
+  pub links : List Memory
+  pub report : Report MemoryReading MemoryWriting A
+  pub read : load_of A input ≡ Ok (settings_of settings, links)
+  pub holds : Holds half_read half_written settings (map (λ link. link.role) links) report
+  pub many : length report.workers.items ≡ workers
+  pub printed : text ≡ history_text settings report.history.items
+
+-- known bytes grew by the text of such a history
+abbrev pub AppendsLoad : (A : Type 0) → ℕ → List ℕ → Option (List ℕ) → Option (List ℕ) → Type 0
+AppendsLoad A workers input old new = (text : List ℕ) × IsLoadText A workers input text × Appends old new text
+
+-- known bytes grew by a prefix of the text of such a history
+abbrev pub AppendsLoadPart : (A : Type 0) → ℕ → List ℕ → Option (List ℕ) → Option (List ℕ) → Type 0
+AppendsLoadPart A workers input old new = (text : List ℕ) × IsLoadText A workers input text × AppendsPart old new text
+
+-- what was written where a load stopped: a prefix of such a text at Write, where a write failed or took nothing; at any other
+-- fault nothing
+abbrev pub HasStopped : (A : Type 0) → ℕ → LoadFault → Option (List ℕ) → Option (List ℕ) → Option (List ℕ) → Type 0
+HasStopped A workers (Text Write) rest old new = IfSome rest (λ input. AppendsLoadPart A workers input old new)
+HasStopped A workers fault rest old new = Keeps old new

@@ -1,0 +1,65 @@
+//! A capture, loaded: its links are run, and the history of the run is written.
+
+ghost use Rattle.std.specs.Prelude.{◌≡◌, ◌≤◌, length, IfOk, IfErr, IfSome, IsOk, OnOk};
+ghost use Rattle.gn_io.specs.Input.{input_limit};
+ghost use Rattle.gn_load.specs.Faults.{IsLoadFault, IsRunLoadFault};
+ghost use Rattle.gn_load.specs.Loads.{AppendsLoad, HasStopped, IsLoadText, load_of};
+
+use crate::fault::LoadFault;
+use crate::links::links_of;
+use gn_capture::{read_capture, write_history};
+use gn_io::{Sink, Source, read_input, write_all};
+use gn_links::NoGate;
+use gn_rules::RouterCore;
+use gn_threads::run;
+use std::alloc::Allocator;
+use std::sync::Wait;
+use std::thread::Threads;
+
+/// The history text of a router that so many workers run over the links that a capture makes.
+fn history_of<
+    A: Allocator + Copy + Send + Sync,
+    C: RouterCore<A> + Drop + Send,
+    R: Threads + Wait + Sync,
+>(rt: &R, alloc: A, workers: u32, text: &[u8]) -> Result<Vec<u8, A>, LoadFault>
+    ensures history { IfOk result (λ history. IsLoadText A workers text.now history.items) }
+    ensures fault { IfErr result (λ fault. IsRunLoadFault workers fault (load_of A text.now)) }
+{
+    let capture = read_capture(alloc, text)?;
+    let links = links_of(alloc, &capture.lines)?;
+    let report = run::<C, _, _, A, R>(rt, alloc, &capture.config, links, workers, &NoGate)?;
+    let mut history = Vec::new(alloc);
+    write_history(alloc, &capture.config, &report.history, &mut history)?;
+    Ok(history)
+}
+
+/// Reads a capture of `join`, `open` and `data` lines whole, runs its links with so many workers, 1 to 16, until each link's
+/// bytes are read and all that was queued to it is taken, and writes the history of the router, which `audit` reads. Each
+/// link is one over memory with all its bytes, which are read 4,096 at a time.
+///
+/// Nothing is written before the run has ended; `Write` leaves a prefix of the history, any other `Err` nothing. A line that
+/// isn't taken is told where the capture has no other fault.
+pub fn load<
+    A: Allocator + Copy + Send + Sync,
+    C: RouterCore<A> + Drop + Send,
+    R: Threads + Wait + Sync,
+    S: Source,
+    W: Sink,
+>(rt: &R, alloc: A, workers: u32, source: &mut S, sink: &mut W) -> Result<(), LoadFault>
+    ensures short { OnOk result (IfSome (S.rest source.old) (λ text. length text ≤ input_limit)) }
+    ensures valid { OnOk result (IfSome (S.rest source.old) (λ text. IsOk (load_of A text))) }
+    ensures written { OnOk result (IfSome (S.rest source.old) (λ text.
+        AppendsLoad A workers text (W.told sink.old) (W.told sink.new))) }
+    ensures reads { OnOk result (S.failures source.new ≡ S.failures source.old) }
+    ensures failures { OnOk result (W.failures sink.new ≡ W.failures sink.old) }
+    ensures stalls { OnOk result (W.stalls sink.new ≡ W.stalls sink.old) }
+    ensures stopped { IfErr result (λ fault. HasStopped A workers fault (S.rest source.old) (W.told sink.old) (W.told sink.new)) }
+    ensures fault { IfErr result (λ fault. IsLoadFault workers fault (load_of A) (S.rest source.old)
+        (S.failures source.old) (S.failures source.new) (S.given source.old) (S.given source.new)
+        (W.failures sink.old) (W.failures sink.new) (W.stalls sink.old) (W.stalls sink.new)) }
+{
+    let text = read_input(alloc, source)?;
+    let history = history_of::<A, C, R>(rt, alloc, workers, &text)?;
+    write_all(sink, &history)?;
+    Ok(())
+}

@@ -1,0 +1,184 @@
+//! Loads of small captures, and one of six links.
+
+use super::*;
+use gn_capture::read_history;
+use gn_io::{ReaderSource, WriterSink};
+use gn_replay::{ReplayFault, audit};
+use gn_router::TableRouter;
+use gn_rules::{Event, Legality, Reply, Step};
+use gn_text::{CaptureFault, Cause};
+use std::alloc::Global;
+use std::sync::Wait;
+use std::test::Fail;
+use std::thread::Threads;
+
+/// What a load of this text by so many workers writes.
+fn loaded<R: Threads + Wait + Sync>(
+    rt: &R,
+    alloc: Global,
+    workers: u32,
+    text: &str,
+) -> Result<Vec<u8>, LoadFault> {
+    let mut source = ReaderSource::new(text.as_bytes());
+    let mut sink = WriterSink::new(Vec::new(alloc));
+    load::<Global, TableRouter, _, _, _>(rt, alloc, workers, &mut source, &mut sink)?;
+    Ok(sink.into_inner())
+}
+
+/// A plain link without bytes, by two workers.
+const SILENT: (&str, &str) = (
+    "\
+gnutella-capture 1
+config 4 8 4 8 8 100
+own eeeeeeeeeeeeeeeeeeeeeeeeeeeeeeee 127.0.0.1 6346 5 40
+join
+",
+    "\
+gnutella-history 1
+config 4 8 4 8 8 100
+own eeeeeeeeeeeeeeeeeeeeeeeeeeeeeeee 127.0.0.1 6346 5 40
+0 connect = connected 1
+1 close 1 = closed 0
+end
+",
+);
+
+/// A link that greets, whose greeting and Ping come in three pieces, by one worker.
+const GREETED: (&str, &str) = (
+    "\
+gnutella-capture 1
+config 4 8 4 8 8 100
+own eeeeeeeeeeeeeeeeeeeeeeeeeeeeeeee 127.0.0.1 6346 5 40
+open
+data 1 474e5554454c4c412043
+data 1 4f4e4e4543542f302e340a0aa1a1a1a1a1a1a1a1
+# nothing
+data 1 -
+data 1 a1a1a1a1a1a1a1a100070000000000
+",
+    "\
+gnutella-history 1
+config 4 8 4 8 8 100
+own eeeeeeeeeeeeeeeeeeeeeeeeeeeeeeee 127.0.0.1 6346 5 40
+0 connect = connected 1
+0 admit 1 a1a1a1a1a1a1a1a1a1a1a1a1a1a1a1a100070000000000 = admitted 0
+2 route 0 = routed local 1+a1a1a1a1a1a1a1a1a1a1a1a1a1a1a1a10101000e000000ca187f0000010500000028000000
+1 take 1 = taken a1a1a1a1a1a1a1a1a1a1a1a1a1a1a1a10101000e000000ca187f0000010500000028000000
+1 close 1 = closed 0
+end
+",
+);
+
+#[test]
+fn small_loads(rt: HostRuntime) -> Result<(), Fail> {
+    for (workers, (capture, history)) in [(2, SILENT), (1, GREETED)] {
+        let written = loaded(&rt, rt.alloc(), workers, capture)?;
+        assert_eq!(rt; written.as_slice(), history.as_bytes());
+    }
+    Ok(())
+}
+
+/// Two links, a Ping, and a line that a load doesn't take.
+const ROUTED: &str = "\
+gnutella-capture 1
+config 4 8 4 8 8 100
+own eeeeeeeeeeeeeeeeeeeeeeeeeeeeeeee 127.0.0.1 6346 5 40
+join
+join
+data 1 a1a1a1a1a1a1a1a1a1a1a1a1a1a1a1a100070000000000
+route 0
+";
+
+#[test]
+fn a_line_that_isnt_taken(rt: HostRuntime) {
+    let fault = CaptureFault {
+        line: 7,
+        cause: Cause::Load,
+    };
+    let found = loaded(&rt, rt.alloc(), 2, ROUTED).map(|_| ());
+    assert_eq!(rt; found, Err(LoadFault::Text(ReplayFault::Capture(fault))));
+}
+
+/// Six links of a hundred Pings each, of TTL 7 and Hops 0, whose IDs differ.
+fn six_links(alloc: Global) -> Result<String, Fail> {
+    let mut text = String::from_str(
+        alloc,
+        "\
+gnutella-capture 1
+config 8 1024 64 1024 1024 100000
+own eeeeeeeeeeeeeeeeeeeeeeeeeeeeeeee 127.0.0.1 6346 5 40
+join
+join
+join
+join
+join
+join
+",
+    )?;
+    for ping in 0..600u32 {
+        let line = format!(in alloc;
+            "data {} {}a1a1a1a1a1a1a1a1a1a1a1a1a1a100070000000000\n",
+            ping / 100 + 1,
+            ping + 1000
+        )?;
+        text.push_str(&line)?;
+    }
+    Ok(text)
+}
+
+/// How many of these steps are of each kind.
+#[derive(Clone, Copy, Debug, PartialEq, Eq)]
+struct Kinds {
+    connected: u32,
+    admitted: u32,
+    routed_local: u32,
+    closed_empty: u32,
+    taken: u32,
+    others: u32,
+}
+
+/// Counts a step.
+fn count(kinds: &mut Kinds, step: &Step) {
+    let kind = match (&step.event, &step.reply) {
+        (Event::Connect, Reply::Connected(_)) => &mut kinds.connected,
+        (Event::Admit(..), Reply::Admitted(_)) => &mut kinds.admitted,
+        (Event::Route(_), Reply::Routed { local: true, .. }) => &mut kinds.routed_local,
+        (Event::Close(_), Reply::Closed(0)) => &mut kinds.closed_empty,
+        (Event::Take(_), Reply::Taken(_)) => &mut kinds.taken,
+        _ => &mut kinds.others,
+    };
+    *kind = kind.saturating_add(1);
+}
+
+#[test]
+fn six_links_of_a_hundred_pings(rt: HostRuntime) -> Result<(), Fail> {
+    let text = six_links(rt.alloc())?;
+    let history = loaded(&rt, rt.alloc(), 4, text.as_str())?;
+    let mut source = ReaderSource::new(history.as_slice());
+    let mut sink = WriterSink::new(Vec::new(rt.alloc()));
+    let legality = audit::<Global, TableRouter, _, _>(rt.alloc(), &mut source, &mut sink)?;
+    assert_eq!(rt; legality, Legality::Legal);
+    let (_, steps) = read_history(rt.alloc(), &history)?;
+    let mut kinds = Kinds {
+        connected: 0,
+        admitted: 0,
+        routed_local: 0,
+        closed_empty: 0,
+        taken: 0,
+        others: 0,
+    };
+    for step in &steps {
+        count(&mut kinds, step);
+    }
+    assert!(rt; kinds.taken >= 600 && kinds.taken <= 3600);
+    let wanted = Kinds {
+        connected: 6,
+        admitted: 600,
+        routed_local: 600,
+        closed_empty: 6,
+        taken: kinds.taken,
+        others: 0,
+    };
+    assert_eq!(rt; kinds, wanted);
+    Ok(())
+}
