@@ -17,7 +17,7 @@ use Rattle.gn_run.specs.declared.report.Report.{Report}
 use Rattle.gn_threads.specs.declared.fault.RunFault.{RunFault}
 use Rattle.gn_threads.specs.declared.fault.RunFault.TheVariants.{BadWorkers}
 use Rattle.gn_threads.specs.Faults.{IsFaultOf}
-use Rattle.gn_threads.specs.Headline.{HasCountedSteps, HasLegalHistory, HasOwnStats, HasOwnSteps, Holds, LinksHold, OthersRoute, RoutesEachOnce}
+use Rattle.gn_threads.specs.Headline.{HasCountedSteps, HasLegalHistory, HasOwnStats, HasOwnSteps, Holds, LinksHold, LinksReadOwn, OthersRoute, RoutesEachOnce}
 use Rattle.gn_load.specs.declared.fault.LoadFault.TheVariants.{Run}
 use Rattle.gn_load.specs.Faults.{IsRunFault, IsRunLoadFault}
 use Rattle.gn_load.specs.Links.{links_from}
@@ -68,15 +68,17 @@ module _ {A : Type 0} (text : List ℕ) (capture : Capture A) where
   -- the history of a run that has one
   pub history_printed : (workers : ℕ) (links : List Memory) (report : Report MemoryReading MemoryWriting A) (before printed : List ℕ) (steps : List (Step A))
       → capture_of text ≡ Ok (capture_seen capture) → links_from [] capture.lines.items ≡ Ok links
-      → Holds half_read half_written capture.config (map (λ link. link.role) links) report → length report.workers.items ≡ workers
+      → Holds half_read half_written capture.config (map (λ link. link.role) links) report
+      → LinksReadOwn half_read (map (λ link. link.bytes) links) report → length report.workers.items ≡ workers
       → before ≡ [] → steps ≡ report.history.items → printed ≡ before ++ history_text capture.config steps → IsLoadText A workers text printed
-  history_printed workers links report before printed steps read made holds many empty lent wrote =
+  history_printed workers links report before printed steps read made holds bytes many empty lent wrote =
       record {
         settings = capture.config;
         links = links;
         report = report;
         read = loaded links read made;
         holds = holds;
+        bytes = bytes;
         many = many;
         printed = wrote ∙ ap (λ (xs : List ℕ). xs ++ history_text capture.config steps) empty ∙ ap (history_text capture.config) lent;
       }

@@ -1,13 +1,13 @@
 -- When a load may stop.
 use Rattle.std.specs.Prelude.{◌≡◌, ◌≤◌, ◌↔◌, ℕ, List, length, Option, IfSome, IsOkAnd, Result, Err}
-use Rattle.gn_io.specs.Input.{input_limit}
+use Rattle.gn_io.specs.Streams.{Streams}
 use Rattle.gn_rules.specs.Limits.{IsWithin}
 use Rattle.gn_text.specs.declared.fault.CaptureFault.{CaptureFault}
 use Rattle.gn_threads.specs.declared.fault.RunFault.{RunFault}
 use Rattle.gn_threads.specs.declared.fault.RunFault.TheVariants.{BadWorkers}
 use Rattle.gn_threads.specs.Faults.{IsFaultOf}
 use Rattle.gn_replay.specs.declared.fault.ReplayFault.TheVariants.{Capture, NoMemory}
-use Rattle.gn_replay.specs.Faults.{IsReplayFault}
+use Rattle.gn_replay.specs.Faults.{IsInputThat, IsReplayFault}
 use Rattle.gn_load.specs.declared.fault.LoadFault.{LoadFault}
 use Rattle.gn_load.specs.declared.fault.LoadFault.TheVariants.{Run, Text}
 
@@ -25,12 +25,9 @@ IsRunLoadFault workers (Text NoMemory) read = Unit {0}
 IsRunLoadFault workers (Text fault) read = ⊥
 IsRunLoadFault workers (Run fault) read = IsOkAnd read (λ loaded. IsRunFault (length loaded.1) workers fault)
 
--- when each fault of a load comes. `read` is what a load reads of a text, `rest` the input as far as it is known; then four counts, each
--- as it was before and as it is after: the source's failures and its bytes given, the sink's failures and its stalls. The faults
--- of the text come as those of a replay do; a run has a fault only where the input has none
-abbrev pub IsLoadFault :
-    {X L : Type 0} → ℕ → LoadFault → (List ℕ → Result (X × List L) CaptureFault) → Option (List ℕ) → ℕ → ℕ → ℕ → ℕ → ℕ → ℕ → ℕ → ℕ → Type 0
-IsLoadFault workers (Text fault) read rest failures failures_new given given_new unwritten unwritten_new stalls stalls_new =
-    IsReplayFault fault read rest failures failures_new given given_new unwritten unwritten_new stalls stalls_new
-IsLoadFault workers (Run fault) read rest failures failures_new given given_new unwritten unwritten_new stalls stalls_new =
-    IfSome rest (λ text. (length text ≤ input_limit) × IsOkAnd (read text) (λ loaded. IsRunFault (length loaded.1) workers fault))
+-- when each fault of a load comes, where `read` is what a load reads of a text: the faults of the text come as those of a replay
+-- do; a run has a fault only where the input has none
+abbrev pub IsLoadFault : {X L : Type 0} → ℕ → LoadFault → (List ℕ → Result (X × List L) CaptureFault) → Streams → Type 0
+IsLoadFault workers (Text fault) read s = IsReplayFault fault read s
+IsLoadFault workers (Run fault) read s =
+    IsInputThat s.source (λ text. IsOkAnd (read text) (λ loaded. IsRunFault (length loaded.1) workers fault))

@@ -6,7 +6,7 @@ use Rattle.gn_rules.specs.declared.config.Own.{Own}
 use Rattle.gn_links.specs.Memory.{Memory, MemoryReading, MemoryWriting}
 use Rattle.gn_run.specs.declared.report.Report.{Report}
 use Rattle.gn_threads.specs.Halves.{ReadHalf, WrittenHalf}
-use Rattle.gn_threads.specs.Headline.{Holds}
+use Rattle.gn_threads.specs.Headline.{Holds, LinksReadOwn}
 use Rattle.gn_text.specs.declared.fault.CaptureFault.{CaptureFault}
 use Rattle.gn_text.specs.Faults.{◌>>=◌}
 use Rattle.gn_text.specs.Settings.{Numbers, settings_of}
@@ -55,6 +55,7 @@ pub record IsLoadText (A : Type 0) (workers : ℕ) (input text : List ℕ) : Typ
   pub report : Report MemoryReading MemoryWriting A
   pub read : load_of A input ≡ Ok (settings_of settings, links)
   pub holds : Holds half_read half_written settings (map (λ link. link.role) links) report
+  pub bytes : LinksReadOwn half_read (map (λ link. link.bytes) links) report
   pub many : length report.workers.items ≡ workers
   pub printed : text ≡ history_text settings report.history.items
 

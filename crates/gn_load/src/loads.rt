@@ -2,6 +2,7 @@
 
 ghost use Rattle.std.specs.Prelude.{◌≡◌, ◌≤◌, length, IfOk, IfErr, IfSome, IsOk, OnOk};
 ghost use Rattle.gn_io.specs.Input.{input_limit};
+ghost use Rattle.gn_io.specs.Streams.{NoneFailed, streams};
 ghost use Rattle.gn_load.specs.Faults.{IsLoadFault, IsRunLoadFault};
 ghost use Rattle.gn_load.specs.Loads.{AppendsLoad, HasStopped, IsLoadText, load_of};
 
@@ -46,17 +47,16 @@ pub fn load<
     S: Source,
     W: Sink,
 >(rt: &R, alloc: A, workers: u32, source: &mut S, sink: &mut W) -> Result<(), LoadFault>
-    ensures short { OnOk result (IfSome (S.rest source.old) (λ text. length text ≤ input_limit)) }
-    ensures valid { OnOk result (IfSome (S.rest source.old) (λ text. IsOk (load_of A text))) }
-    ensures written { OnOk result (IfSome (S.rest source.old) (λ text.
-        AppendsLoad A workers text (W.told sink.old) (W.told sink.new))) }
-    ensures reads { OnOk result (S.failures source.new ≡ S.failures source.old) }
-    ensures failures { OnOk result (W.failures sink.new ≡ W.failures sink.old) }
-    ensures stalls { OnOk result (W.stalls sink.new ≡ W.stalls sink.old) }
-    ensures stopped { IfErr result (λ fault. HasStopped A workers fault (S.rest source.old) (W.told sink.old) (W.told sink.new)) }
-    ensures fault { IfErr result (λ fault. IsLoadFault workers fault (load_of A) (S.rest source.old)
-        (S.failures source.old) (S.failures source.new) (S.given source.old) (S.given source.new)
-        (W.failures sink.old) (W.failures sink.new) (W.stalls sink.old) (W.stalls sink.new)) }
+    ensures short { OnOk result (IfSome (S.state source.old).rest (λ text. length text ≤ input_limit)) }
+    ensures valid { OnOk result (IfSome (S.state source.old).rest (λ text. IsOk (load_of A text))) }
+    ensures written { OnOk result (IfSome (S.state source.old).rest (λ text.
+        AppendsLoad A workers text (W.state sink.old).written (W.state sink.new).written)) }
+    ensures unfailed { OnOk result (NoneFailed
+        (streams (S.state source.old) (S.state source.new) (W.state sink.old) (W.state sink.new))) }
+    ensures stopped { IfErr result (λ fault. HasStopped A workers fault (S.state source.old).rest
+        (W.state sink.old).written (W.state sink.new).written) }
+    ensures fault { IfErr result (λ fault. IsLoadFault workers fault (load_of A)
+        (streams (S.state source.old) (S.state source.new) (W.state sink.old) (W.state sink.new))) }
 {
     let text = read_input(alloc, source)?;
     let history = history_of::<A, C, R>(rt, alloc, workers, &text)?;
