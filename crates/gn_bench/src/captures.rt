@@ -9,7 +9,7 @@ const HEADER: &str =
 /// The links of a capture.
 const LINKS: u32 = 8;
 
-/// One descriptor: a Ping of one link at an even number, and the Pong of the next link to it at the odd one behind. It is
+/// One descriptor: a Ping of one link at an even number, and the Pong of the next link to it at the odd one after. It is
 /// routed, and two packets are taken.
 fn push_descriptor<A: Allocator>(text: &mut String<A>, number: u32) -> Result<(), AllocError> {
     let pair = number / 2;
@@ -43,7 +43,7 @@ pub(crate) fn of_descriptors<A: Allocator>(alloc: A, count: u32) -> Result<Strin
     Ok(text)
 }
 
-/// So many lines of comment, and nothing else behind the header.
+/// So many lines of comment, and nothing else after the header.
 pub(crate) fn of_comments<A: Allocator>(alloc: A, count: u32) -> Result<String<A>, AllocError> {
     let mut text = String::new(alloc);
     text.push_str(HEADER)?;

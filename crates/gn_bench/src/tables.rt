@@ -63,7 +63,7 @@ fn ping<A: Allocator>(number: u32) -> Option<Descriptor<A>> {
     Descriptor::new(numbered(number), Kind::Ping, 7, 0, Bytes::new()).ok()
 }
 
-/// The first packet of a full ring, put behind the others again.
+/// The first packet of a full ring, put after the others again.
 fn time_packets<R: Runtime<A: Copy>>(rt: &R, size: u32, calls: u32) -> io::Result<Duration>
     requires positive { 0 < size }
     requires limit { size ≤ 4096 }

@@ -75,7 +75,7 @@ pub rest_after : (g b piece rest : List ℕ) (used : ℕ) (before : Shaking) →
 rest_after g b piece rest used before one told start more done used_is rest_is =
     let (s, whole) = (told g (b ++ piece) Done).1 (sym done) in
     let here : rest ≡ drop (length g) (b ++ piece) =
-    rest_is ∙ ap (λ (n : ℕ). drop n piece) (used_is ∙ ap (λ (k : Shaking). used_of k piece) start) ∙ (one g b piece).behind more done in
+    rest_is ∙ ap (λ (n : ℕ). drop n piece) (used_is ∙ ap (λ (k : Shaking). used_of k piece) start) ∙ (one g b piece).rest more done in
     whole ∙ ap (λ w. g ++ w) (sym (here ∙ ap (drop (length g)) whole ∙ drop_at g s (length g) refl))
 
 -- a reader that stops reading

@@ -4,7 +4,7 @@ use Rattle.std.specs.Prelude.{codes, IfOk}
 use Rattle.gn_rules.specs.declared.config.Own.{Own}
 use Rattle.gn_text.specs.declared.fault.CaptureFault.{CaptureFault}
 use Rattle.gn_text.specs.Faults.{◌>>=◌}
-use Rattle.gn_text.specs.Parsed.{behind_of, parsed_of}
+use Rattle.gn_text.specs.Parsed.{line_after, parsed_of}
 use Rattle.gn_text.specs.Settings.{Numbers}
 use Rattle.gn_text.proofs.ConfigLemmas.{IsConfigured}
 use Rattle.gn_text.proofs.HeaderLemmas.{Told, header_configured}
@@ -20,11 +20,11 @@ lines_configured : {A : Type 0} (settings : Numbers × Own) (read : Result (List
 lines_configured settings (Ok lines) h = h
 lines_configured settings (Err fault) h = _
 
-behind_configured : (A : Type 0) (read : Result Told CaptureFault) → IfOk read (λ (header : Told). IsConfigured header.0)
+configured_after : (A : Type 0) (read : Result Told CaptureFault) → IfOk read (λ (header : Told). IsConfigured header.0)
     → IfOk (read >>= parsed_by {A = A}) (λ (parsed : Parsed A). HasConfig parsed)
-behind_configured A (Ok header) h = lines_configured header.0 (lines_from {A = A} 0 header.1) h
-behind_configured A (Err fault) h = _
+configured_after A (Ok header) h = lines_configured header.0 (lines_from {A = A} 0 header.1) h
+configured_after A (Err fault) h = _
 
 pub capture_configured : (A : Type 0) (text : List ℕ) → IfOk (capture_of {A = A} text) (λ (parsed : Parsed A). HasConfig parsed)
 capture_configured A text =
-    behind_configured A (capture_header text) (header_configured (codes "gnutella-capture 1") (behind_of text) (parsed_of text))
+    configured_after A (capture_header text) (header_configured (codes "gnutella-capture 1") (line_after text) (parsed_of text))

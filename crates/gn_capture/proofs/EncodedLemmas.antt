@@ -44,16 +44,16 @@ fitting bs h d true long fits e size m =
     ap bytes_of (sym same) ∙ whole_of bs h long fits e sized
 fitting bs h d false long fits e size m = absurd (cc)
 
-behind_header : (bs : List ℕ) (d : Packet) (r : Result Header FrameFault) → 23 ≤ length bs → IsBytes bs → reading (take 23 bs) ≡ r
+after_header : (bs : List ℕ) (d : Packet) (r : Result Header FrameFault) → 23 ≤ length bs → IsBytes bs → reading (take 23 bs) ≡ r
     → packet_at r (drop 23 bs) ≡ Some d → bytes_of d ≡ bs
-behind_header bs d (Err fault) long fits e m = absurd (cc)
-behind_header bs d (Ok h) long fits e m = fitting bs h d (h.length == length (drop 23 bs)) long fits e refl m
+after_header bs d (Err fault) long fits e m = absurd (cc)
+after_header bs d (Ok h) long fits e m = fitting bs h d (h.length == length (drop 23 bs)) long fits e refl m
 
 long_enough : (bs : List ℕ) (d : Packet) (b : Bool) → IsBytes bs → nat_lt (length bs) 23 ≡ b
     → (if b then None else packet_at (reading (take 23 bs)) (drop 23 bs)) ≡ Some d → bytes_of d ≡ bs
 long_enough bs d true fits e m = absurd (cc)
 long_enough bs d false fits e m =
-    let long : 23 ≤ length bs = grind (arith, nat_tests) in behind_header bs d (reading (take 23 bs)) long fits refl m
+    let long : 23 ≤ length bs = grind (arith, nat_tests) in after_header bs d (reading (take 23 bs)) long fits refl m
 
 pub read_is_encoded : (bs : List ℕ) (d : Packet) → IsBytes bs → packet_of bs ≡ Some d → bytes_of d ≡ bs
 unfolding packet_of

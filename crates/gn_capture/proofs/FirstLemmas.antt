@@ -19,7 +19,7 @@ unjoined : {X Y E : Type 0} (f : X → Y) (read : Result X E) (fault : E) → (r
 unjoined f (Ok x) fault e = absurd cc
 unjoined f (Err e) fault h = cc
 
--- line n, and the lines behind it
+-- line n, and the lines after it
 abbrev pub line_then : {A : Type 0} → ℕ → ℕ → List (ℕ × List ℕ) → Result (Line A) Cause → Result (List (ℕ × Line A)) CaptureFault
 line_then links n more says = numbered n says >>= λ line. lines_from (links_after links line) more >>= λ others. Ok ((n, line) ∷ others)
 
@@ -27,12 +27,12 @@ first_line : {A : Type 0} (links n : ℕ) (text : List ℕ) (more : List (ℕ ×
     → line_of links (fields_of text) ≡ says → line_then links n more says ≡ Err fault
     → ((after : ℕ) → lines_from {A = A} after more ≡ Err fault → IsFirstFault A after more fault)
     → IsFirstFault A links ((n, text) ∷ more) fault
-first_line {A} links n text more fault (Err cause) q e behind =
+first_line {A} links n text more fault (Err cause) q e later =
     let same : fault_at n cause ≡ fault = cc in
     let P : CaptureFault → Type 0 = λ f. IsFirstFault A links ((n, text) ∷ more) f in
     subst P same (record { before = []; parsed = []; text = text; after = more; split = refl; valid = refl; spoils = q })
-first_line {A} links n text more fault (Ok line) q e behind =
-    let r = behind (links_after links line) (unjoined (λ others. (n, line) ∷ others) (lines_from (links_after links line) more) fault e) in
+first_line {A} links n text more fault (Ok line) q e later =
+    let r = later (links_after links line) (unjoined (λ others. (n, line) ∷ others) (lines_from (links_after links line) more) fault e) in
     record {
       before = (n, text) ∷ r.before;
       parsed = (n, line) ∷ r.parsed;
@@ -58,7 +58,7 @@ pub told_first : (A : Type 0) (text : List ℕ) (refusal : CaptureRefusal) → I
 told_first A text NoMemory h = _
 told_first A text (Fault fault) h = first_of {A = A} text fault (capture_header text) refl h
 
--- a refusal of the lines behind the first three is one of the capture
+-- a refusal of the lines after the first three is one of the capture
 pub body_refused : (A : Type 0) (text : List ℕ) (header : (Numbers × Own) × List (ℕ × List ℕ)) (refusal : CaptureRefusal)
     → capture_header text ≡ Ok header → IsRefused refusal (lines_from {A = A} 0 header.1) → IsRefused refusal (capture_of {A = A} text)
 body_refused A text header NoMemory q h = _

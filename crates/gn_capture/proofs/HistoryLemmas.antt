@@ -6,7 +6,7 @@ use Rattle.std.proofs.Math.Seq.{take-append_seam}
 use Rattle.gn_rules.specs.declared.config.Own.{Own}
 use Rattle.gn_rules.specs.declared.receipt.Step.{Step}
 use Rattle.gn_text.specs.Header.{header_of}
-use Rattle.gn_text.specs.Parsed.{parsed_of, behind_of}
+use Rattle.gn_text.specs.Parsed.{parsed_of, line_after}
 use Rattle.gn_text.specs.Settings.{Numbers}
 use Rattle.gn_capture.specs.Histories.{history_of, steps_from, title}
 
@@ -35,9 +35,9 @@ part_of_text (Ok x) old t1 t2 t3 new a b c d first second third last = _
 part_of_text (Err e) old t1 t2 t3 new a b c d first second third last =
     let three = two_parts old t2 t3 (a ++ b) c (two_parts old t1 t2 a b first second) third in begins old ((a ++ b) ++ c) new (last ∙ three)
 
--- a history is its header and the steps behind it
-pub history_read : {A : Type 0} (text : List ℕ) (lines : List (ℕ × List ℕ)) (behind : ℕ) (settings : Numbers × Own) (more : List (ℕ × List ℕ)) (steps : List (Step A))
-    → lines ≡ parsed_of text → behind ≡ behind_of text → header_of title behind lines ≡ Ok (settings, more) → steps_from behind more ≡ Ok steps
+-- a history is its header and the steps after it
+pub history_read : {A : Type 0} (text : List ℕ) (lines : List (ℕ × List ℕ)) (after : ℕ) (settings : Numbers × Own) (more : List (ℕ × List ℕ)) (steps : List (Step A))
+    → lines ≡ parsed_of text → after ≡ line_after text → header_of title after lines ≡ Ok (settings, more) → steps_from after more ≡ Ok steps
     → history_of text ≡ Ok (settings, steps)
-history_read text lines behind settings more steps e f h s =
+history_read text lines after settings more steps e f h s =
     rw (← e, ← f, h, s) refl

@@ -13,7 +13,7 @@ use Rattle.gn_text.specs.Parsed.{numbered_from}
 use Rattle.gn_capture.specs.Histories.{ending}
 use Rattle.gn_capture.proofs.Spaced.{IsLine}
 
--- lines with a line feed behind each
+-- lines with a line feed after each
 abbrev pub fed : List (List ℕ) → List ℕ
 fed lines = flat_map (λ line. line ++ 10 ∷ []) lines
 

@@ -12,12 +12,12 @@ use Rattle.gn_wire.specs.Packet.{Packet}
 use Rattle.gn_wire.specs.Encoding.{packet_from, reading}
 use Rattle.gn_capture.specs.Packets.{packet_of}
 
--- what is cut off behind a header is all that stands there
+-- what is cut off after a header is all that stands there
 abbrev pub cut : List ℕ → List ℕ
 cut bs = take (length bs - 23) (drop 23 bs)
 
-all_behind : (bs : List ℕ) → cut bs ≡ drop 23 bs
-all_behind bs = take_all (length bs - 23) (drop 23 bs) (rw length-drop (omega arith))
+all_after : (bs : List ℕ) → cut bs ≡ drop 23 bs
+all_after bs = take_all (length bs - 23) (drop 23 bs) (rw length-drop (omega arith))
 
 -- what is made without a fault is what was to be made
 without_fault : (fault : Option FrameFault) (wanted found : Packet) → unless_fault fault wanted ≡ Ok found → found ≡ wanted
@@ -33,16 +33,16 @@ made_from h payload d stored made =
     let e = of (kind_of (code_of h.kind)) in
     without_fault (packet_fault e) e d made ∙ ap of (sym stored)
 
--- the bytes behind a header of their length are the payload of the descriptor that they encode
+-- the bytes after a header of their length are the payload of the descriptor that they encode
 pub packet_made : (bs front : List ℕ) (h : Header) (payload : List ℕ) (d : Packet) → 23 ≤ length bs → front ≡ take 23 bs → reading front ≡ Ok h
     → h.length ≡ length (cut bs) → payload ≡ cut bs → d ≡ packet_from h payload → Some d ≡ packet_of bs
 unfolding packet_of
 packet_made bs front h payload d long front_is m size payload_is made =
     let enough : nat_lt (length bs) 23 ≡ false = grind (arith, nat_tests) in
-    let sized : h.length ≡ length (drop 23 bs) = size ∙ ap length (all_behind bs) in
+    let sized : h.length ≡ length (drop 23 bs) = size ∙ ap length (all_after bs) in
     let fits : (h.length == length (drop 23 bs)) ≡ true = grind (arith, nat_tests) in
     let read : reading (take 23 bs) ≡ Ok h = ap reading (sym front_is) ∙ m in
-    let back : payload ≡ drop 23 bs = payload_is ∙ all_behind bs in
+    let back : payload ≡ drop 23 bs = payload_is ∙ all_after bs in
     rw (enough, read, fits, made, back) refl
 
 -- they encode none where a header has another length
@@ -51,7 +51,7 @@ pub other_length : (bs front : List ℕ) (h : Header) → 23 ≤ length bs → f
 unfolding packet_of
 other_length bs front h long front_is m differs =
     let enough : nat_lt (length bs) 23 ≡ false = grind (arith, nat_tests) in
-    let apart : h.length ≡ length (drop 23 bs) → ⊥ = λ same. differs (same ∙ sym (ap length (all_behind bs))) in
+    let apart : h.length ≡ length (drop 23 bs) → ⊥ = λ same. differs (same ∙ sym (ap length (all_after bs))) in
     let misfit : (h.length == length (drop 23 bs)) ≡ false = grind (arith, nat_tests) in
     let read : reading (take 23 bs) ≡ Ok h = ap reading (sym front_is) ∙ m in
     rw (enough, read, misfit) refl

@@ -5,7 +5,7 @@ use Rattle.gn_rules.specs.declared.config.Config.{Config}
 use Rattle.gn_rules.specs.declared.receipt.Step.{Step}
 use Rattle.gn_text.specs.Lines.{lines_of}
 use Rattle.gn_text.specs.Header.{header_of}
-use Rattle.gn_text.specs.Parsed.{numbered_from, parsed_of, behind_of}
+use Rattle.gn_text.specs.Parsed.{numbered_from, parsed_of, line_after}
 use Rattle.gn_text.specs.Settings.{settings_of, config_line, own_line}
 use Rattle.gn_text.specs.Steps.{step_line, step_text}
 use Rattle.gn_capture.specs.RoundTrip.{IsOwn, IsStep, WrittenIsRead}
@@ -21,9 +21,9 @@ abbrev step_lines : {A : Type 0} → List (Step A) → List (List ℕ)
 step_lines [] = ending ∷ []
 step_lines (step ∷ more) = step_line step ∷ step_lines more
 
--- the lines of a history behind its title
-abbrev lines_behind : {A : Type 0} → Config → List (Step A) → List (List ℕ)
-lines_behind s steps = config_line s ∷ own_line s.own ∷ step_lines steps
+-- the lines of a history after its title
+abbrev lines_after : {A : Type 0} → Config → List (Step A) → List (List ℕ)
+lines_after s steps = config_line s ∷ own_line s.own ∷ step_lines steps
 
 step_lines_fed : {A : Type 0} (steps : List (Step A)) → steps_text steps ++ codes "end\n" ≡ fed (step_lines steps)
 step_lines_fed [] = refl
@@ -32,7 +32,7 @@ step_lines_fed (step ∷ more) = append_assoc (step_text step) (steps_text more)
 joined : (t c o s e : List ℕ) → (((t ++ (c ++ o)) ++ s) ++ e) ≡ t ++ (c ++ (o ++ (s ++ e)))
 joined t c o s e = simp append_assoc
 
-history_fed : {A : Type 0} (s : Config) (steps : List (Step A)) → history_text s steps ≡ fed (title ∷ lines_behind s steps)
+history_fed : {A : Type 0} (s : Config) (steps : List (Step A)) → history_text s steps ≡ fed (title ∷ lines_after s steps)
 history_fed s steps =
     let front : List ℕ → List ℕ = λ t. codes "gnutella-history 1\n" ++ ((config_line s ++ codes "\n") ++ ((own_line s.own ++ codes "\n") ++ t)) in
     joined (codes "gnutella-history 1\n") (config_line s ++ codes "\n") (own_line s.own ++ codes "\n") (steps_text steps) (codes "end\n")
@@ -48,29 +48,29 @@ step_lines_parsed (step ∷ more) h = (step_line_parsed step h.0, step_lines_par
 
 -- the lines of a history, each with its number
 numbered_lines : {A : Type 0} (s : Config) (steps : List (Step A)) → IsOwn s.own → AllByRecursion IsStep steps
-    → parsed_of (history_text s steps) ≡ numbered 1 (title ∷ lines_behind s steps)
+    → parsed_of (history_text s steps) ≡ numbered 1 (title ∷ lines_after s steps)
 numbered_lines s steps h k =
-    ap (numbered_from 1) (ap lines_of (history_fed s steps) ∙ lines_again title (lines_behind s steps) refl (config_line_is s, (own_line_is s.own h, step_lines_are steps k)))
-    ∙ parsed_again 1 (title ∷ lines_behind s steps) (refl, (refl, (refl, step_lines_parsed steps k)))
+    ap (numbered_from 1) (ap lines_of (history_fed s steps) ∙ lines_again title (lines_after s steps) refl (config_line_is s, (own_line_is s.own h, step_lines_are steps k)))
+    ∙ parsed_again 1 (title ∷ lines_after s steps) (refl, (refl, (refl, step_lines_parsed steps k)))
 
 line_again : {A : Type 0} (n : ℕ) (step : Step A) → IsStep step → line_parsed (n, step_line step) ≡ Ok (Some step)
 line_again n step h = rw (step_goes_on step h, step_again step h) refl
 
-one_more : {A : Type 0} (behind : ℕ) (line : ℕ × List ℕ) (more : List (ℕ × List ℕ)) (step : Step A) (steps : List (Step A)) → line_parsed line ≡ Ok (Some step)
-    → steps_from behind more ≡ Ok steps → steps_from behind (line ∷ more) ≡ Ok (step ∷ steps)
-one_more behind line more step steps e f = rw (e, f) refl
+one_more : {A : Type 0} (after : ℕ) (line : ℕ × List ℕ) (more : List (ℕ × List ℕ)) (step : Step A) (steps : List (Step A)) → line_parsed line ≡ Ok (Some step)
+    → steps_from after more ≡ Ok steps → steps_from after (line ∷ more) ≡ Ok (step ∷ steps)
+one_more after line more step steps e f = rw (e, f) refl
 
-steps_again : {A : Type 0} (behind n : ℕ) (steps : List (Step A)) → AllByRecursion IsStep steps → steps_from behind (numbered n (step_lines steps)) ≡ Ok steps
-steps_again behind n [] h = refl
-steps_again behind n (step ∷ more) h =
-    one_more behind (n, step_line step) (numbered (n + 1) (step_lines more)) step more (line_again n step h.0) (steps_again behind (n + 1) more h.1)
+steps_again : {A : Type 0} (after n : ℕ) (steps : List (Step A)) → AllByRecursion IsStep steps → steps_from after (numbered n (step_lines steps)) ≡ Ok steps
+steps_again after n [] h = refl
+steps_again after n (step ∷ more) h =
+    one_more after (n, step_line step) (numbered (n + 1) (step_lines more)) step more (line_again n step h.0) (steps_again after (n + 1) more h.1)
 
-header_again : (s : Config) (behind : ℕ) (more : List (ℕ × List ℕ)) → IsOwn s.own
-    → header_of title behind ((1, title) ∷ (2, config_line s) ∷ (3, own_line s.own) ∷ more) ≡ Ok (settings_of s, more)
-header_again s behind more h = rw (config_again s, own_again s.own h) refl
+header_again : (s : Config) (after : ℕ) (more : List (ℕ × List ℕ)) → IsOwn s.own
+    → header_of title after ((1, title) ∷ (2, config_line s) ∷ (3, own_line s.own) ∷ more) ≡ Ok (settings_of s, more)
+header_again s after more h = rw (config_again s, own_again s.own h) refl
 
 pub written_is_read : {A : Type 0} → WrittenIsRead A
 written_is_read s steps h k =
-    history_read (history_text s steps) (numbered 1 (title ∷ lines_behind s steps)) (behind_of (history_text s steps)) (settings_of s)
-    (numbered 4 (step_lines steps)) steps (sym (numbered_lines s steps h k)) refl (header_again s (behind_of (history_text s steps)) (numbered 4 (step_lines steps)) h)
-    (steps_again (behind_of (history_text s steps)) 4 steps k)
+    history_read (history_text s steps) (numbered 1 (title ∷ lines_after s steps)) (line_after (history_text s steps)) (settings_of s)
+    (numbered 4 (step_lines steps)) steps (sym (numbered_lines s steps h k)) refl (header_again s (line_after (history_text s steps)) (numbered 4 (step_lines steps)) h)
+    (steps_again (line_after (history_text s steps)) 4 steps k)

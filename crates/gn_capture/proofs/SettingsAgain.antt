@@ -21,7 +21,7 @@ use Rattle.gn_capture.proofs.Spaced.{IsLine, IsPlain, fields_again, spaced_line,
 joined : (t a b c d e f : List ℕ) → ((((((t ++ a) ++ b) ++ c) ++ d) ++ e) ++ f) ≡ t ++ (a ++ (b ++ (c ++ (d ++ (e ++ (f ++ []))))))
 joined t a b c d e f = simp (append_assoc, append-nil)
 
--- the fields behind the word of a config line
+-- the fields after the word of a config line
 abbrev config_fields : Config → List (List ℕ)
 config_fields s =
     decimal s.neighbours ∷ decimal s.seen ∷ decimal s.servents ∷ decimal s.stage ∷ decimal s.out ∷ decimal s.steps ∷ []
@@ -77,7 +77,7 @@ config_again s =
       number_again s.steps f.steps,
     ) kept
 
--- the fields behind the word of an own line
+-- the fields after the word of an own line
 abbrev own_fields : Own → List (List ℕ)
 own_fields own = encode_lower own.servent.0 ∷ ip_text own.ip ∷ decimal own.port ∷ decimal own.files ∷ decimal own.kbytes ∷ []
 

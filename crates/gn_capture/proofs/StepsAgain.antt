@@ -217,7 +217,7 @@ reply_again (Sent sends) h = sent_again sends (map sending_field sends) (sends_a
 
 -- ---- a step
 
--- the fields behind the actor of a step
+-- the fields after the actor of a step
 abbrev step_fields : {A : Type 0} → Step A → List (List ℕ)
 step_fields step = event_fields step.event ++ codes "=" ∷ reply_fields step.reply
 

@@ -36,7 +36,7 @@ data_of links (link ∷ hex ∷ []) = do
   if nat_le 1 i && nat_le i links then Ok (Piece i bytes) else Err cause.Link
 data_of links _ = Err cause.Fields
 
--- what the fields behind a word say
+-- what the fields after a word say
 abbrev pub fields_say : {A : Type 0} → ℕ → List (List ℕ) → Word → Result (Line A) Cause
 fields_say links fields word.Join = link_of Join links fields
 fields_say links fields word.Open = link_of Greeted links fields

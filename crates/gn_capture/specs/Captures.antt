@@ -5,7 +5,7 @@ use Rattle.gn_text.specs.Lines.{fields_of}
 use Rattle.gn_text.specs.declared.fault.CaptureFault.{CaptureFault}
 use Rattle.gn_text.specs.Faults.{◌>>=◌}
 use Rattle.gn_text.specs.Header.{header_of}
-use Rattle.gn_text.specs.Parsed.{behind_of, parsed_of}
+use Rattle.gn_text.specs.Parsed.{line_after, parsed_of}
 use Rattle.gn_text.specs.Settings.{Numbers, settings_of}
 use Rattle.gn_capture.specs.declared.capture.Capture.{Capture}
 use Rattle.gn_capture.specs.declared.line.Line.{Line}
@@ -27,9 +27,9 @@ pub record Parsed (A : Type 0) : Type 0 where
   pub own : Own
   pub lines : List (ℕ × Line A)
 
--- the numbers and the own servent that a capture's first three lines say, and the lines behind them
+-- the numbers and the own servent that a capture's first three lines say, and the lines after them
 abbrev pub capture_header : List ℕ → Result ((Numbers × Own) × List (ℕ × List ℕ)) CaptureFault
-capture_header text = header_of (codes "gnutella-capture 1") (behind_of text) (parsed_of text)
+capture_header text = header_of (codes "gnutella-capture 1") (line_after text) (parsed_of text)
 
 -- what a capture of this header says
 abbrev pub parsed_by : {A : Type 0} → (Numbers × Own) × List (ℕ × List ℕ) → Result (Parsed A) CaptureFault
@@ -37,7 +37,7 @@ parsed_by header = do
   lines ← lines_from 0 header.1
   Ok (record { numbers = header.0.0; own = header.0.1; lines = lines })
 
--- a capture says what its first three lines say, and what the lines behind them say; its fault is the first one
+-- a capture says what its first three lines say, and what the lines after them say; its fault is the first one
 abbrev pub capture_of : {A : Type 0} → List ℕ → Result (Parsed A) CaptureFault
 capture_of text = do
   header ← capture_header text

@@ -9,18 +9,18 @@ use Rattle.gn_text.specs.Lines.{is_word}
 use Rattle.gn_text.specs.Numbers.{number_of}
 use Rattle.gn_capture.specs.Packets.{packet_parsed}
 
--- a value that the first fields say, with the fields behind them, and what these refer to
+-- a value that the first fields say, with the fields after them, and what these refer to
 abbrev pub first_seen : {X : Type 0} → X × Bor (List (Bor (List ℕ))) → X × List (List ℕ)
 first_seen first = (first.0, map (λ x. x.now) first.1.now)
 
--- the number that the first field says, and the fields behind it
+-- the number that the first field says, and the fields after it
 abbrev pub number_first : List (List ℕ) → Option (ℕ × List (List ℕ))
 number_first [] = None
 number_first (field ∷ more) = do
   n ← number_of field
   Some (n, more)
 
--- the descriptor that the first field says, and the fields behind it
+-- the descriptor that the first field says, and the fields after it
 abbrev pub packet_first : List (List ℕ) → Option (Packet × List (List ℕ))
 packet_first [] = None
 packet_first (field ∷ more) = do
@@ -34,7 +34,7 @@ admit_first fields = do
   packet ← packet_first c.1
   Some (Admit c.0 packet.0, packet.1)
 
--- the event that the first fields say, and the fields behind them
+-- the event that the first fields say, and the fields after them
 abbrev pub event_first : {A : Type 0} → List (List ℕ) → Option (Event A × List (List ℕ))
 event_first [] = None
 event_first (word ∷ more) =

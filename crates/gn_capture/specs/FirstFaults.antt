@@ -25,12 +25,12 @@ pub record IsFirstFault (A : Type 0) (links : ℕ) (lines : List (ℕ × List �
   pub valid : lines_from links before ≡ Ok parsed
   pub spoils : line_of {A = A} (links_made links parsed) (fields_of text) ≡ Err fault.cause
 
--- the first three lines are valid, and of those behind them it is the first fault
+-- the first three lines are valid, and of those after them it is the first fault
 abbrev pub IsBodyFault : (A : Type 0) → List ℕ → CaptureFault → Type 0
 IsBodyFault A text fault =
     (header : (Numbers × Own) × List (ℕ × List ℕ)) × (capture_header text ≡ Ok header) × IsFirstFault A 0 header.1 fault
 
--- a refusal's fault is the first of a capture: one of its first three lines, or the first behind them
+-- a refusal's fault is the first of a capture: one of its first three lines, or the first after them
 abbrev pub TellsFirst : (A : Type 0) → List ℕ → CaptureRefusal → Type 0
 TellsFirst A text NoMemory = Unit {0}
 TellsFirst A text (Fault fault) = (capture_header text ≡ Err fault) ⊎ IsBodyFault A text fault

@@ -9,7 +9,7 @@ use Rattle.gn_text.specs.declared.fault.Cause.TheVariants as cause
 use Rattle.gn_text.specs.declared.fault.CaptureFault.{CaptureFault}
 use Rattle.gn_text.specs.Faults.{fault_at, numbered_at, ◌>>=◌}
 use Rattle.gn_text.specs.Header.{header_of}
-use Rattle.gn_text.specs.Parsed.{parsed_of, behind_of}
+use Rattle.gn_text.specs.Parsed.{parsed_of, line_after}
 use Rattle.gn_text.specs.Settings.{Numbers, settings_of, settings_text}
 use Rattle.gn_text.specs.Steps.{step_text}
 use Rattle.gn_capture.specs.Steps.{step_parsed}
@@ -39,28 +39,28 @@ history_text s steps = codes "gnutella-history 1\n" ++ settings_text s ++ steps_
 abbrev pub line_parsed : {A : Type 0} → ℕ × List ℕ → Result (Option (Step A)) CaptureFault
 line_parsed line = if is_word line.1 ending then Ok None else map_result Some (numbered_at line.0 cause.Field (step_parsed (fields_of line.1)))
 
--- nothing stands behind the line `end`
+-- nothing stands after the line `end`
 abbrev pub ended : {A : Type 0} → List (ℕ × List ℕ) → Result (List (Step A)) CaptureFault
 ended [] = Ok []
 ended (line ∷ more) = Err (fault_at line.0 cause.End)
 
--- the steps behind a line, which stands first where it is one
-abbrev pub steps_behind : {A : Type 0} → Option (Step A) → List (ℕ × List ℕ) → Result (List (Step A)) CaptureFault → Result (List (Step A)) CaptureFault
-steps_behind None more steps = ended more
-steps_behind (Some step) more steps = map_result (λ xs. step ∷ xs) steps
+-- the steps after a line, which stands first where it is one
+abbrev pub steps_after : {A : Type 0} → Option (Step A) → List (ℕ × List ℕ) → Result (List (Step A)) CaptureFault → Result (List (Step A)) CaptureFault
+steps_after None more steps = ended more
+steps_after (Some step) more steps = map_result (λ xs. step ∷ xs) steps
 
--- the steps that lines say, one each, up to the line `end`; where that is missing, it is at fault behind the last line
+-- the steps that lines say, one each, up to the line `end`; where that is missing, it is at fault after the last line
 abbrev pub steps_from : {A : Type 0} → ℕ → List (ℕ × List ℕ) → Result (List (Step A)) CaptureFault
-steps_from behind [] = Err (fault_at behind cause.End)
-steps_from behind (line ∷ more) = do
+steps_from after [] = Err (fault_at after cause.End)
+steps_from after (line ∷ more) = do
   found ← line_parsed line
-  steps_behind found more (steps_from behind more)
+  steps_after found more (steps_from after more)
 
 -- what a text says: the settings and the steps, or its first fault
 abbrev pub history_of : {A : Type 0} → List ℕ → Result ((Numbers × Own) × List (Step A)) CaptureFault
 history_of text = do
-  header ← header_of title (behind_of text) (parsed_of text)
-  map_result (λ steps. (header.0, steps)) (steps_from (behind_of text) header.1)
+  header ← header_of title (line_after text) (parsed_of text)
+  map_result (λ steps. (header.0, steps)) (steps_from (line_after text) header.1)
 
 -- a history that was read
 abbrev pub history_seen : {A R : Type 0} → (R → List (Step A)) → Config × R → (Numbers × Own) × List (Step A)

@@ -19,7 +19,7 @@ is_unmarked b = not (b == 43 || b == 45)
 abbrev pub mark_place : List ℕ → ℕ
 mark_place field = prefix_len is_unmarked field
 
--- the send to the connection that the first text says: the mark, and the packet behind it
+-- the send to the connection that the first text says: the mark, and the packet after it
 abbrev pub marked_parsed : {A : Type 0} → List ℕ → List ℕ → Option (Sending A)
 marked_parsed to [] = None
 marked_parsed to (mark ∷ hex) = do
@@ -76,7 +76,7 @@ routed_parsed (place ∷ more) = do
   sends ← sends_parsed more
   Some (Routed sends local)
 
--- a reply with packets: by its word, what the fields behind it say
+-- a reply with packets: by its word, what the fields after it say
 abbrev pub packets_parsed : {A : Type 0} → List ℕ → List (List ℕ) → Option (Reply A)
 packets_parsed word more =
     if is_word word (codes "routed") then routed_parsed more
@@ -84,7 +84,7 @@ packets_parsed word more =
     else if is_word word (codes "sent") then (sends_parsed more >>= λ sends. Some (Sent sends))
     else None
 
--- a reply without a number: by its word, what the fields behind it say
+-- a reply without a number: by its word, what the fields after it say
 abbrev pub unnumbered_parsed : {A : Type 0} → List ℕ → List (List ℕ) → Option (Reply A)
 unnumbered_parsed word more =
     if is_word word (codes "toomany") then none_left TooMany more

@@ -40,8 +40,8 @@ ping_of (id ∷ ttl ∷ []) = do
 ping_of _ = Err Fields
 
 -- the Query of a speed and a text in hex
-abbrev pub query_behind : Guid → ℕ → List ℕ → List ℕ → Result Packet Cause
-query_behind id ttl speed hex = do
+abbrev pub query_after : Guid → ℕ → List ℕ → List ℕ → Result Packet Cause
+query_after id ttl speed hex = do
   least ← parsed (number_below 65536 speed)
   bytes ← parsed (bytes_parsed hex)
   query_from id ttl least bytes
@@ -51,5 +51,5 @@ abbrev pub query_of : List (List ℕ) → Result Packet Cause
 query_of (id ∷ ttl ∷ speed ∷ hex ∷ []) = do
   guid ← parsed (guid_of id)
   hops_left ← parsed (number_below 256 ttl)
-  query_behind guid hops_left speed hex
+  query_after guid hops_left speed hex
 query_of _ = Err Fields

@@ -7,7 +7,7 @@ use Rattle.gn_text.specs.Lines.{is_word}
 use Rattle.gn_capture.specs.Events.{number_first, event_first}
 use Rattle.gn_capture.specs.Replies.{reply_parsed}
 
--- the reply that the fields behind = say
+-- the reply that the fields after = say
 abbrev pub answer_parsed : {A : Type 0} → List (List ℕ) → Option (Reply A)
 answer_parsed [] = None
 answer_parsed (word ∷ more) = if is_word word (codes "=") then reply_parsed more else None

@@ -15,7 +15,7 @@ use std::alloc::{Allocator, Global};
 #[derive(Debug, Drop)]
 pub struct Capture<A: Allocator = Global> {
     pub config: Config,
-    /// Each line behind the first three with its number, without those that are skipped. Numbers count from 1, skipped
+    /// Each line after the first three with its number, without those that are skipped. Numbers count from 1, skipped
     /// lines too.
     pub lines: Vec<(u64, Line<A>), A>,
 }
@@ -30,7 +30,7 @@ pub fn read_capture<A: Allocator + Copy>(
     ensures first { IfErr result (λ refusal. TellsFirst A text.now refusal) }
 {
     let parsed = numbered_lines(alloc, text)?;
-    match read_header(alloc, b"gnutella-capture 1", &parsed.lines, parsed.behind) {
+    match read_header(alloc, b"gnutella-capture 1", &parsed.lines, parsed.after) {
         Ok((config, lines)) => match read_lines(alloc, lines) {
             Ok(lines) => Ok(Capture { config, lines }),
             Err(refusal) => Err(refusal),

@@ -97,7 +97,7 @@ fn settings(rt: HostRuntime) -> Result<(), Fail> {
 }
 
 #[test]
-fn faults_behind_a_join(rt: HostRuntime) -> Result<(), Fail> {
+fn faults_after_a_join(rt: HostRuntime) -> Result<(), Fail> {
     let faults: [(Cause, &[u8]); 4] = [
         (
             Cause::Word,
@@ -136,13 +136,13 @@ fn the_most_links(rt: HostRuntime) -> Result<(), Fail> {
     text.extend_from_slice(b"data 256 -\n")?;
     let capture = read_capture(rt.alloc(), &text).map_err(|_| "refused")?;
     assert_eq!(rt; capture.lines.len(), 257);
-    let behind: [(&[u8], Cause); 4] = [
+    let after: [(&[u8], Cause); 4] = [
         (b"join", Cause::Link),
         (b"open", Cause::Link),
         (b"join 1", Cause::Fields),
         (b"data 257 -", Cause::Link),
     ];
-    for (line, cause) in behind {
+    for (line, cause) in after {
         let mut text = text.clone()?;
         text.extend_from_slice(line)?;
         assert_eq!(rt; fault(read_capture(rt.alloc(), &text)), Some((261, cause)));

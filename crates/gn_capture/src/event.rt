@@ -23,7 +23,7 @@ fn admit_first<'a, 'b, A: Allocator + Copy>(
     }
 }
 
-/// The event that the first fields say, and the fields behind them. An `Err` is out of memory.
+/// The event that the first fields say, and the fields after them. An `Err` is out of memory.
 pub(crate) fn event_first<'a, 'b, A: Allocator + Copy>(
     alloc: A,
     fields: &'b [&'a [u8]],

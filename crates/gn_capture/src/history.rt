@@ -38,9 +38,9 @@ fn read_line<A: Allocator + Copy>(
 fn read_steps<A: Allocator + Copy>(
     alloc: A,
     lines: &[NumberedLine],
-    behind: u64,
+    after: u64,
 ) -> Result<Vec<Step<A>, A>, CaptureRefusal>
-    ensures { IsRead (λ v. v.items) result (steps_from behind (map line_seen lines.now)) }
+    ensures { IsRead (λ v. v.items) result (steps_from after (map line_seen lines.now)) }
 {
     let mut steps = Vec::new(alloc);
     for (i, line) in lines.iter().enumerate() {
@@ -55,13 +55,13 @@ fn read_steps<A: Allocator + Copy>(
             Err(refusal) => return Err(refusal),
         }
     }
-    Err(refused(behind, Cause::End))
+    Err(refused(after, Cause::End))
 }
 
 /// The configuration and the steps that a history's text says. An `Err` tells its first line that something is wrong
 /// with: the first line isn't `gnutella-history 1` (`Header`), a bad or missing `config` or `own` line, a line that is no
-/// step (`Field`), a missing `end` or something behind it (`End`); or out of memory. Empty lines and comments are
-/// skipped, also behind `end`. Whether the replies are right isn't looked at.
+/// step (`Field`), a missing `end` or something after it (`End`); or out of memory. Empty lines and comments are
+/// skipped, also after `end`. Whether the replies are right isn't looked at.
 pub fn read_history<A: Allocator + Copy>(
     alloc: A,
     text: &[u8],
@@ -69,7 +69,7 @@ pub fn read_history<A: Allocator + Copy>(
     ensures { IsRead (history_seen (λ v. v.items)) result (history_of text.now) }
 {
     let parsed = numbered_lines(alloc, text)?;
-    let (config, lines) = read_header(alloc, b"gnutella-history 1", &parsed.lines, parsed.behind)?;
-    let steps = read_steps(alloc, lines, parsed.behind)?;
+    let (config, lines) = read_header(alloc, b"gnutella-history 1", &parsed.lines, parsed.after)?;
+    let steps = read_steps(alloc, lines, parsed.after)?;
     Ok((config, steps))
 }

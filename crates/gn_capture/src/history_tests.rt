@@ -7,7 +7,7 @@ use std::test::Fail;
 const SETTINGS: &str =
     "config 4 8 4 8 8 100\nown eeeeeeeeeeeeeeeeeeeeeeeeeeeeeeee 127.0.0.1 6346 5 40\n";
 
-/// What stands behind the settings, and the fault.
+/// What stands after the settings, and the fault.
 const FAULTS: [(&str, u64, Cause); 15] = [
     ("", 4, Cause::End),
     ("0 connect = connected 1\n#\n", 6, Cause::End),

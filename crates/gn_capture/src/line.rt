@@ -5,7 +5,7 @@ use gn_rules::{ConnId, Ticket};
 use gn_wire::Descriptor;
 use std::alloc::{Allocator, Global};
 
-/// What a line of a capture says, behind its three header lines. All events are by actor 0.
+/// What a line of a capture says, after its three header lines. All events are by actor 0.
 #[derive(Debug, Drop)]
 pub enum Line<A: Allocator = Global> {
     /// `join`: a new link that needs no greeting.

@@ -47,7 +47,7 @@ pub(crate) fn read_packet<A: Allocator + Copy>(
     }
 }
 
-/// The number of the first field, and the fields behind it.
+/// The number of the first field, and the fields after it.
 pub(crate) fn number_first<'a, 'b>(fields: &'b [&'a [u8]]) -> Option<(u32, &'b [&'a [u8]])>
     ensures { option_map first_seen result ≡ number_first (map (λ x. x.now) fields.now) }
 {
@@ -60,7 +60,7 @@ pub(crate) fn number_first<'a, 'b>(fields: &'b [&'a [u8]]) -> Option<(u32, &'b [
     }
 }
 
-/// The descriptor of the first field, and the fields behind it. An `Err` is out of memory.
+/// The descriptor of the first field, and the fields after it. An `Err` is out of memory.
 pub(crate) fn packet_first<'a, 'b, A: Allocator + Copy>(
     alloc: A,
     fields: &'b [&'a [u8]],

@@ -2,7 +2,7 @@
 
 ghost use Rattle.std.specs.Prelude.{map};
 ghost use Rattle.gn_capture.specs.Outcomes.{IsLineRead};
-ghost use Rattle.gn_capture.specs.Requests.{ping_of, query_behind, query_from, query_of};
+ghost use Rattle.gn_capture.specs.Requests.{ping_of, query_after, query_from, query_of};
 
 use crate::refusal::LineRefusal;
 use bytes::Bytes;
@@ -50,21 +50,21 @@ pub(crate) fn query_line<A: Allocator + Copy>(
             let Some(ttl) = number_u8(ttl) else {
                 return Err(LineRefusal::Fault(Cause::Field));
             };
-            query_behind(alloc, id, ttl, speed, hex)
+            query_after(alloc, id, ttl, speed, hex)
         }
         _ => Err(LineRefusal::Fault(Cause::Fields)),
     }
 }
 
 /// The Query of a speed and a text in hex.
-fn query_behind<A: Allocator + Copy>(
+fn query_after<A: Allocator + Copy>(
     alloc: A,
     id: Guid,
     ttl: u8,
     speed: &[u8],
     hex: &[u8],
 ) -> Result<Descriptor<A>, LineRefusal>
-    ensures { IsLineRead result (query_behind id ttl speed.now hex.now) }
+    ensures { IsLineRead result (query_after id ttl speed.now hex.now) }
 {
     let Some(speed) = number_u16(speed) else {
         return Err(LineRefusal::Fault(Cause::Field));

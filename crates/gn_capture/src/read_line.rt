@@ -14,7 +14,7 @@ use crate::word::{Word, word_in};
 use gn_text::{CaptureRefusal, Cause, fields};
 use std::alloc::Allocator;
 
-/// What the fields behind a word say, where so many links are made before them.
+/// What the fields after a word say, where so many links are made before them.
 fn read_fields<A: Allocator + Copy>(
     alloc: A,
     links: u64,

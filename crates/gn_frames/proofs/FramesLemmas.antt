@@ -8,17 +8,17 @@ use Rattle.gn_frames.specs.declared.front.Front.{Front}
 use Rattle.gn_frames.specs.declared.front.Front.TheVariants.{Open, Faulty, Whole}
 use Rattle.gn_wire.specs.Encoding.{packet_from}
 use Rattle.gn_frames.specs.Front.{front_of}
-use Rattle.gn_frames.specs.Frames.{Frames, no_frames, behind, frames_by, frames_within, frames_of, FramesAreCut}
+use Rattle.gn_frames.specs.Frames.{Frames, no_frames, prepended, frames_by, frames_within, frames_of, FramesAreCut}
 use Rattle.gn_frames.proofs.FrontLemmas.{whole, whole_stays, faulty_stays}
 
--- frames by the front are the same where those of what stands behind the descriptor are
+-- frames by the front are the same where those of what stands after the descriptor are
 by_same : (f g : List ℕ → Frames) (s : List ℕ) (front : Front) → ((h : Header) → f (drop (23 + h.length) s) ≡ g (drop (23 + h.length) s))
     → frames_by f s front ≡ frames_by g s front
 by_same f g s Open same = refl
 by_same f g s (Faulty fault) same = refl
-by_same f g s (Whole h) same = ap (λ later. behind (packet_from h (take h.length (drop 23 s)) ∷ []) later) (same h)
+by_same f g s (Whole h) same = ap (λ later. prepended (packet_from h (take h.length (drop 23 s)) ∷ []) later) (same h)
 
--- what stands behind a descriptor is shorter
+-- what stands after a descriptor is shorter
 pub shorter : (s : List ℕ) (n k : ℕ) → length s ≤ suc n → length (drop (23 + k) s) ≤ n
 shorter s n k h = let size = length-drop (23 + k) s in omega arith
 
@@ -48,16 +48,16 @@ pub frames_faulty : (s : List ℕ) (fault : FrameFault) → front_of s ≡ Fault
 frames_faulty s fault e = frames_of_front s ∙ ap (frames_by frames_of s) e
 
 pub frames_whole : (s : List ℕ) (h : Header) → front_of s ≡ Whole h
-    → frames_of s ≡ behind (packet_from h (take h.length (drop 23 s)) ∷ []) (frames_of (drop (23 + h.length) s))
+    → frames_of s ≡ prepended (packet_from h (take h.length (drop 23 s)) ∷ []) (frames_of (drop (23 + h.length) s))
 frames_whole s h e = frames_of_front s ∙ ap (frames_by frames_of s) e
 
 -- descriptors before descriptors
-pub behind_twice : (ds es : List Packet) (f : Frames) → behind (ds ++ es) f ≡ behind ds (behind es f)
-behind_twice ds es f = ap (λ xs. let g : Frames = record { descriptors = xs; rest = f.rest; fault = f.fault } in g) (append_assoc ds es f.descriptors)
+pub prepended_twice : (ds es : List Packet) (f : Frames) → prepended (ds ++ es) f ≡ prepended ds (prepended es f)
+prepended_twice ds es f = ap (λ xs. let g : Frames = record { descriptors = xs; rest = f.rest; fault = f.fault } in g) (append_assoc ds es f.descriptors)
 
 -- a string that goes on, by the head of what it begins with
 goes_on : (s more : List ℕ) (n : ℕ) → length s ≤ n → (front : Front) → front_of s ≡ front
-    → frames_of (s ++ more) ≡ behind (frames_of s).descriptors (frames_of ((frames_of s).rest ++ more))
+    → frames_of (s ++ more) ≡ prepended (frames_of s).descriptors (frames_of ((frames_of s).rest ++ more))
 goes_on s more n size Open e = rw (frames_open s e) refl
 goes_on s more n size (Faulty fault) e = rw (frames_faulty s fault e) refl
 goes_on s more zero size (Whole h) e = let fits = (whole s h e).fits in absurd (omega arith)
@@ -68,20 +68,20 @@ goes_on s more (suc n) size (Whole h) e =
     let payload : take h.length (drop 23 (s ++ more)) ≡ take h.length (drop 23 s) =
     ap (take h.length) (drop-append-le 23 s more (omega arith)) ∙ take-append-le h.length (drop 23 s) more (rw length-drop (omega arith)) in
     let later : drop (23 + h.length) (s ++ more) ≡ rest ++ more = drop-append-le (23 + h.length) s more fits in
-    let here : frames_of s ≡ behind (d ∷ []) (frames_of rest) = frames_whole s h e in
+    let here : frames_of s ≡ prepended (d ∷ []) (frames_of rest) = frames_whole s h e in
     let there = goes_on rest more n (shorter s n h.length size) (front_of rest) refl in
     frames_whole (s ++ more) h (whole_stays s more h e)
-    ∙ ap (λ xs. behind (packet_from h xs ∷ []) (frames_of (drop (23 + h.length) (s ++ more)))) payload
-    ∙ ap (λ xs. behind (d ∷ []) (frames_of xs)) later
-    ∙ ap (behind (d ∷ [])) there
-    ∙ ap (λ (f : Frames). behind f.descriptors (frames_of (f.rest ++ more))) (sym here)
+    ∙ ap (λ xs. prepended (packet_from h xs ∷ []) (frames_of (drop (23 + h.length) (s ++ more)))) payload
+    ∙ ap (λ xs. prepended (d ∷ []) (frames_of xs)) later
+    ∙ ap (prepended (d ∷ [])) there
+    ∙ ap (λ (f : Frames). prepended f.descriptors (frames_of (f.rest ++ more))) (sym here)
 
 -- the front that a rest has, by its fault
 abbrev front_at : Option FrameFault → Front
 front_at None = Open
 front_at (Some fault) = Faulty fault
 
--- what stands behind the descriptors of a string is no descriptor
+-- what stands after the descriptors of a string is no descriptor
 rest_front : (s : List ℕ) (n : ℕ) → length s ≤ n → (front : Front) → front_of s ≡ front → front_of (frames_of s).rest ≡ front_at (frames_of s).fault
 rest_front s n size Open e = subst (λ (f : Frames). front_of f.rest ≡ front_at f.fault) (sym (frames_open s e)) e
 rest_front s n size (Faulty fault) e = subst (λ (f : Frames). front_of f.rest ≡ front_at f.fault) (sym (frames_faulty s fault e)) e
@@ -98,7 +98,7 @@ pub rest_faulty : (s : List ℕ) (fault : FrameFault) → (frames_of s).fault �
 rest_faulty s fault e = rest_front s (length s) (omega arith) (front_of s) refl ∙ ap front_at e
 
 -- a string may be cut anywhere
-pub cut : (s more : List ℕ) → frames_of (s ++ more) ≡ behind (frames_of s).descriptors (frames_of ((frames_of s).rest ++ more))
+pub cut : (s more : List ℕ) → frames_of (s ++ more) ≡ prepended (frames_of s).descriptors (frames_of ((frames_of s).rest ++ more))
 cut s more = goes_on s more (length s) (omega arith) (front_of s) refl
 
 cut_faulty : (s more : List ℕ) (fault : FrameFault) → (frames_of s).fault ≡ Some fault
@@ -106,7 +106,7 @@ cut_faulty : (s more : List ℕ) (fault : FrameFault) → (frames_of s).fault �
 cut_faulty s more fault e =
     let rest = (frames_of s).rest in
     cut s more
-    ∙ ap (behind (frames_of s).descriptors) (frames_faulty (rest ++ more) fault (faulty_stays rest more fault (rest_faulty s fault e)))
+    ∙ ap (prepended (frames_of s).descriptors) (frames_faulty (rest ++ more) fault (faulty_stays rest more fault (rest_faulty s fault e)))
     ∙ ap (λ ds. let f : Frames = record { descriptors = ds; rest = rest ++ more; fault = Some fault } in f) (append-nil (frames_of s).descriptors)
 
 pub frames_are_cut : FramesAreCut

@@ -8,7 +8,7 @@ use Rattle.gn_wire.specs.declared.header.Header.{Header}
 use Rattle.gn_wire.specs.Lengths.{fault_of, unless_fault}
 use Rattle.gn_wire.specs.Encoding.{header_at, reading}
 use Rattle.gn_frames.specs.declared.front.Front.TheVariants.{Open, Faulty, Whole}
-use Rattle.gn_frames.specs.Front.{front_of, front_behind}
+use Rattle.gn_frames.specs.Front.{front_of, front_after}
 use Rattle.gn_frames.specs.Frames.{named_length, named_fault, IsOpen, IsFaulty}
 
 less : (a b : ℕ) → a < b → nat_lt a b ≡ true
@@ -18,11 +18,11 @@ not_less : (a b : ℕ) → b ≤ a → nat_lt a b ≡ false
 not_less a b h = grind (arith, nat_tests)
 
 -- the head of a string that has a header
-front_long : (s : List ℕ) → 23 ≤ length s → front_of s ≡ front_behind (reading (take 23 s)) (length s - 23)
-front_long s long = ap (λ b. cond b Open (front_behind (reading (take 23 s)) (length s - 23))) (not_less (length s) 23 long)
+front_long : (s : List ℕ) → 23 ≤ length s → front_of s ≡ front_after (reading (take 23 s)) (length s - 23)
+front_long s long = ap (λ b. cond b Open (front_after (reading (take 23 s)) (length s - 23))) (not_less (length s) 23 long)
 
 front_short : (s : List ℕ) → length s < 23 → front_of s ≡ Open
-front_short s short = ap (λ b. cond b Open (front_behind (reading (take 23 s)) (length s - 23))) (less (length s) 23 short)
+front_short s short = ap (λ b. cond b Open (front_after (reading (take 23 s)) (length s - 23))) (less (length s) 23 short)
 
 -- of two numbers, one is below the other or it isn't
 pub below_or_not : (a b : ℕ) → (a < b) ⊎ (b ≤ a)
@@ -34,13 +34,13 @@ below_or_not a b = elim (cases_order a b) [
 short_or_long : (s : List ℕ) → (length s < 23) ⊎ (23 ≤ length s)
 short_or_long s = below_or_not (length s) 23
 
--- what a whole front tells: its header, which is valid, and enough bytes behind it
+-- what a whole front tells: its header, which is valid, and enough bytes after it
 pub record IsWhole (s : List ℕ) (h : Header) : Type 0 where
   pub header : header_at (take 23 s) ≡ h
   pub valid : fault_of h.kind h.length ≡ None
   pub fits : 23 + h.length ≤ length s
 
-whole_by : (fault : Option FrameFault) (h k : Header) (n : ℕ) → fault_of h.kind h.length ≡ fault → front_behind (unless_fault fault h) n ≡ Whole k
+whole_by : (fault : Option FrameFault) (h k : Header) (n : ℕ) → fault_of h.kind h.length ≡ fault → front_after (unless_fault fault h) n ≡ Whole k
     → (h ≡ k) × (fault_of h.kind h.length ≡ None) × (h.length ≤ n)
 whole_by None h k n is e = elim (below_or_not n h.length) [
   | inl below ↦ let shut : Open ≡ Whole k = sym (ap (λ b. cond b Open (Whole h)) (less n h.length below)) ∙ e in cc
@@ -64,12 +64,12 @@ whole s h e = elim (short_or_long s) [
 -- a whole front, by what is read of its header
 pub front_read : (s start : List ℕ) (h : Header) → 23 ≤ length s → start ≡ take 23 s → reading start ≡ Ok h → h.length ≤ length s - 23 → Whole h ≡ front_of s
 front_read s start h long is read fits =
-    sym (front_long s long ∙ ap (λ r. front_behind r (length s - 23)) (ap reading (sym is) ∙ read)
+    sym (front_long s long ∙ ap (λ r. front_after r (length s - 23)) (ap reading (sym is) ∙ read)
     ∙ ap (λ b. cond b Open (Whole h)) (not_less (length s - 23) h.length fits))
 
 pub front_read_faulty : (s start : List ℕ) (fault : FrameFault) → 23 ≤ length s → start ≡ take 23 s → reading start ≡ Err fault → front_of s ≡ Faulty fault
 front_read_faulty s start fault long is read =
-    front_long s long ∙ ap (λ r. front_behind r (length s - 23)) (ap reading (sym is) ∙ read)
+    front_long s long ∙ ap (λ r. front_after r (length s - 23)) (ap reading (sym is) ∙ read)
 
 -- what is read is the header that stands there, and is valid
 read_by : (fault : Option FrameFault) (h k : Header) → unless_fault fault h ≡ Ok k → (h ≡ k) × (fault ≡ None)
@@ -90,15 +90,15 @@ front_whole s valid fits =
 pub front_open : (s : List ℕ) → IsOpen s → front_of s ≡ Open
 front_open s (inl short) = front_short s short
 front_open s (inr (long, valid, wanting)) =
-    front_long s long ∙ ap (λ fault. front_behind (unless_fault fault (header_at (take 23 s))) (length s - 23)) valid
+    front_long s long ∙ ap (λ fault. front_after (unless_fault fault (header_at (take 23 s))) (length s - 23)) valid
     ∙ ap (λ b. cond b Open (Whole (header_at (take 23 s)))) (less (length s - 23) (named_length s) (omega arith))
 
 pub front_faulty : (s : List ℕ) (fault : FrameFault) → IsFaulty s fault → front_of s ≡ Faulty fault
 front_faulty s fault (long, invalid) =
-    front_long s long ∙ ap (λ fault. front_behind (unless_fault fault (header_at (take 23 s))) (length s - 23)) invalid
+    front_long s long ∙ ap (λ fault. front_after (unless_fault fault (header_at (take 23 s))) (length s - 23)) invalid
 
 -- what an open and a faulty front tell
-open_by : (fault : Option FrameFault) (h : Header) (n : ℕ) → front_behind (unless_fault fault h) n ≡ Open → (fault ≡ None) × (n < h.length)
+open_by : (fault : Option FrameFault) (h : Header) (n : ℕ) → front_after (unless_fault fault h) n ≡ Open → (fault ≡ None) × (n < h.length)
 open_by None h n e = elim (below_or_not n h.length) [
   | inl below ↦ (refl, below)
   | inr above ↦ let shut : Whole h ≡ Open = sym (ap (λ b. cond b Open (Whole h)) (not_less n h.length above)) ∙ e in cc
@@ -113,7 +113,7 @@ is_open s e = elim (short_or_long s) [
       let wanting = told.1 in inr (long, told.0, omega arith)
 ]
 
-faulty_by : (fault : Option FrameFault) (h : Header) (n : ℕ) (found : FrameFault) → front_behind (unless_fault fault h) n ≡ Faulty found → fault ≡ Some found
+faulty_by : (fault : Option FrameFault) (h : Header) (n : ℕ) (found : FrameFault) → front_after (unless_fault fault h) n ≡ Faulty found → fault ≡ Some found
 faulty_by None h n found e = elim (below_or_not n h.length) [
   | inl below ↦ let shut : Open ≡ Faulty found = sym (ap (λ b. cond b Open (Whole h)) (less n h.length below)) ∙ e in cc
   | inr above ↦ let shut : Whole h ≡ Faulty found = sym (ap (λ b. cond b Open (Whole h)) (not_less n h.length above)) ∙ e in cc

@@ -10,18 +10,18 @@ use Rattle.gn_wire.specs.Packet.{Packet}
 use Rattle.gn_wire.specs.Encoding.{header_at, packet_from, reading}
 use Rattle.gn_frames.specs.declared.front.Front.TheVariants.{Open, Faulty, Whole}
 use Rattle.gn_frames.specs.Front.{front_of}
-use Rattle.gn_frames.specs.Frames.{Frames, named_length, no_frames, behind, frames_of}
+use Rattle.gn_frames.specs.Frames.{Frames, named_length, no_frames, prepended, frames_of}
 use Rattle.gn_frames.specs.Held.{IsHeld}
 use Rattle.gn_frames.specs.Pieces.{IsFilled, IsFound, IsTaken, Settled}
 use Rattle.gn_frames.specs.Pieces.Settled.{empty, wanting, faulty, complete}
-use Rattle.gn_frames.proofs.FramesLemmas.{frames_open, frames_faulty, frames_whole, behind_twice, cut, rest_open}
+use Rattle.gn_frames.proofs.FramesLemmas.{frames_open, frames_faulty, frames_whole, prepended_twice, cut, rest_open}
 use Rattle.gn_frames.proofs.FrontLemmas.{below_or_not, front_open, front_read, front_read_faulty, read_is, is_open, faulty_stays}
 
 -- no more descriptors
 taken_last : (bytes left : List ℕ) (before after : List Packet) (found : Option FrameFault) → frames_of left ≡ no_frames left found
-    → behind after (frames_of left) ≡ behind before (frames_of bytes) → IsTaken bytes before after left found
+    → prepended after (frames_of left) ≡ prepended before (frames_of bytes) → IsTaken bytes before after left found
 taken_last bytes left before after found last so_far =
-    let same : behind before (frames_of bytes) ≡ behind after (no_frames left found) = sym so_far ∙ ap (behind after) last in
+    let same : prepended before (frames_of bytes) ≡ prepended after (no_frames left found) = sym so_far ∙ ap (prepended after) last in
     record {
       descriptors = sym (append-nil after) ∙ sym (ap (λ (f : Frames). f.descriptors) same);
       rest = sym (ap (λ (f : Frames). f.rest) same);
@@ -29,45 +29,45 @@ taken_last bytes left before after found last so_far =
     }
 
 pub taken_open : (bytes left : List ℕ) (before after : List Packet) → front_of left ≡ Open
-    → behind after (frames_of left) ≡ behind before (frames_of bytes) → IsTaken bytes before after left None
+    → prepended after (frames_of left) ≡ prepended before (frames_of bytes) → IsTaken bytes before after left None
 taken_open bytes left before after front so_far = taken_last bytes left before after None (frames_open left front) so_far
 
 pub taken_faulty : (bytes left : List ℕ) (before after : List Packet) (fault : FrameFault) → front_of left ≡ Faulty fault
-    → behind after (frames_of left) ≡ behind before (frames_of bytes) → IsTaken bytes before after left (Some fault)
+    → prepended after (frames_of left) ≡ prepended before (frames_of bytes) → IsTaken bytes before after left (Some fault)
 taken_faulty bytes left before after fault front so_far = taken_last bytes left before after (Some fault) (frames_faulty left fault front) so_far
 
--- all that stands behind the header
-behind_header : (s : List ℕ) → take (length s - 23) (drop 23 s) ≡ drop 23 s
-behind_header s = take_all (length s - 23) (drop 23 s) (rw length-drop (omega arith))
+-- all that stands after the header
+after_header : (s : List ℕ) → take (length s - 23) (drop 23 s) ≡ drop 23 s
+after_header s = take_all (length s - 23) (drop 23 s) (rw length-drop (omega arith))
 
 -- one descriptor more, of a payload and what is later
 pub taken_more : (left : List ℕ) (h : Header) (before after : List Packet) (d : Packet) (payload later : List ℕ) → front_of left ≡ Whole h
     → after ≡ before ++ d ∷ [] → d ≡ packet_from h payload
     → payload ≡ take h.length (take (length left - 23) (drop 23 left)) → later ≡ drop h.length (take (length left - 23) (drop 23 left))
-    → behind after (frames_of later) ≡ behind before (frames_of left)
+    → prepended after (frames_of later) ≡ prepended before (frames_of left)
 taken_more left h before after d payload later front added d_is payload_is later_is =
-    let part : payload ≡ take h.length (drop 23 left) = payload_is ∙ ap (take h.length) (behind_header left) in
-    let rest : later ≡ drop (23 + h.length) left = later_is ∙ ap (drop h.length) (behind_header left) ∙ drop-drop h.length 23 left in
+    let part : payload ≡ take h.length (drop 23 left) = payload_is ∙ ap (take h.length) (after_header left) in
+    let rest : later ≡ drop (23 + h.length) left = later_is ∙ ap (drop h.length) (after_header left) ∙ drop-drop h.length 23 left in
     let items : after ≡ before ++ packet_from h (take h.length (drop 23 left)) ∷ [] =
     added ∙ ap (λ x. before ++ x ∷ []) (d_is ∙ ap (packet_from h) part) in
-    ap (λ xs. behind xs (frames_of later)) items
-    ∙ behind_twice before (packet_from h (take h.length (drop 23 left)) ∷ []) (frames_of later)
-    ∙ ap (λ xs. behind before (behind (packet_from h (take h.length (drop 23 left)) ∷ []) (frames_of xs))) rest
-    ∙ ap (behind before) (sym (frames_whole left h front))
+    ap (λ xs. prepended xs (frames_of later)) items
+    ∙ prepended_twice before (packet_from h (take h.length (drop 23 left)) ∷ []) (frames_of later)
+    ∙ ap (λ xs. prepended before (prepended (packet_from h (take h.length (drop 23 left)) ∷ []) (frames_of xs))) rest
+    ∙ ap (prepended before) (sym (frames_whole left h front))
 
 -- a piece that is cut where enough of it was taken
-pub record IsCutAt (held piece after behind : List ℕ) (k : ℕ) : Type 0 where
-  pub whole : after ++ behind ≡ held ++ piece
+pub record IsCutAt (held piece after left : List ℕ) (k : ℕ) : Type 0 where
+  pub whole : after ++ left ≡ held ++ piece
   pub front : take (length held) after ≡ held
   pub size : length after ≡ length held + min k (length piece)
-  pub ends : length piece ≤ k → behind ≡ []
+  pub ends : length piece ≤ k → left ≡ []
 
-cut_at : (held piece after behind : List ℕ) (k : ℕ) → after ≡ held ++ take k piece → behind ≡ drop k piece → IsCutAt held piece after behind k
-cut_at held piece after behind k after_is behind_is = record {
-  whole = rw (after_is, behind_is) (append_assoc held (take k piece) (drop k piece) ∙ ap (λ xs. held ++ xs) (take-append-drop k piece));
+cut_at : (held piece after left : List ℕ) (k : ℕ) → after ≡ held ++ take k piece → left ≡ drop k piece → IsCutAt held piece after left k
+cut_at held piece after left k after_is left_is = record {
+  whole = rw (after_is, left_is) (append_assoc held (take k piece) (drop k piece) ∙ ap (λ xs. held ++ xs) (take-append-drop k piece));
   front = rw after_is (take-append_seam held (take k piece));
   size = ap length after_is ∙ length-append held (take k piece) ∙ ap (λ n. length held + n) (length-take k piece);
-  ends = λ h. behind_is ∙ drop_all k piece h;
+  ends = λ h. left_is ∙ drop_all k piece h;
 }
 
 -- nothing was held
@@ -79,18 +79,18 @@ filled_empty held piece none = record {
 }
 
 -- the header isn't whole
-pub filled_short : (held piece after behind : List ℕ) → after ≡ held ++ take (23 - length held) piece → behind ≡ drop (23 - length held) piece
-    → length after < 23 → IsFilled held piece after behind
-filled_short held piece after behind after_is behind_is short =
-    let cut = cut_at held piece after behind (23 - length held) after_is behind_is in
+pub filled_short : (held piece after left : List ℕ) → after ≡ held ++ take (23 - length held) piece → left ≡ drop (23 - length held) piece
+    → length after < 23 → IsFilled held piece after left
+filled_short held piece after left after_is left_is short =
+    let cut = cut_at held piece after left (23 - length held) after_is left_is in
     let size = cut.size in
     record { whole = cut.whole; front = cut.front; settled = wanting (front_open after (inl short)) (cut.ends (omega arith)) }
 
 -- the header is faulty
-pub filled_faulty : (held piece after behind start : List ℕ) (fault : FrameFault) → after ≡ held ++ take (23 - length held) piece → behind ≡ drop (23 - length held) piece
-    → 23 ≤ length after → start ≡ take 23 after → reading start ≡ Err fault → IsFilled held piece after behind
-filled_faulty held piece after behind start fault after_is behind_is long start_is read =
-    let cut = cut_at held piece after behind (23 - length held) after_is behind_is in
+pub filled_faulty : (held piece after left start : List ℕ) (fault : FrameFault) → after ≡ held ++ take (23 - length held) piece → left ≡ drop (23 - length held) piece
+    → 23 ≤ length after → start ≡ take 23 after → reading start ≡ Err fault → IsFilled held piece after left
+filled_faulty held piece after left start fault after_is left_is long start_is read =
+    let cut = cut_at held piece after left (23 - length held) after_is left_is in
     record { whole = cut.whole; front = cut.front; settled = faulty fault (front_read_faulty after start fault long start_is read) }
 
 -- what is held of a descriptor with this header is no longer than the descriptor
@@ -110,10 +110,10 @@ middle_size held piece middle rest h opens cut long is =
     ]
 
 -- the payload is filled up as far as the piece goes
-settled_last : (middle rest after behind start : List ℕ) (h : Header) → 23 ≤ length middle → length middle ≤ 23 + h.length
+settled_last : (middle rest after left start : List ℕ) (h : Header) → 23 ≤ length middle → length middle ≤ 23 + h.length
     → start ≡ take 23 middle → reading start ≡ Ok h → after ≡ middle ++ take (23 + h.length - length middle) rest
-    → IsCutAt middle rest after behind (23 + h.length - length middle) → Settled after behind
-settled_last middle rest after behind start h long fits start_is read after_is cut =
+    → IsCutAt middle rest after left (23 + h.length - length middle) → Settled after left
+settled_last middle rest after left start h long fits start_is read after_is cut =
     let size = cut.size in
     let told = read_is start h read in
     let here : start ≡ take 23 after =
@@ -127,31 +127,31 @@ settled_last middle rest after behind start h long fits start_is read after_is c
       | inr all ↦ complete h (sym (front_read after start h (omega arith) here read (omega arith))) (omega arith)
     ]
 
-pub filled_last : (held piece middle rest after behind start : List ℕ) (h : Header) → front_of held ≡ Open
+pub filled_last : (held piece middle rest after left start : List ℕ) (h : Header) → front_of held ≡ Open
     → middle ≡ held ++ take (23 - length held) piece → rest ≡ drop (23 - length held) piece
     → 23 ≤ length middle → start ≡ take 23 middle → reading start ≡ Ok h
-    → after ≡ middle ++ take (23 + h.length - length middle) rest → behind ≡ drop (23 + h.length - length middle) rest
-    → IsFilled held piece after behind
-filled_last held piece middle rest after behind start h opens middle_is rest_is long start_is read after_is behind_is =
+    → after ≡ middle ++ take (23 + h.length - length middle) rest → left ≡ drop (23 + h.length - length middle) rest
+    → IsFilled held piece after left
+filled_last held piece middle rest after left start h opens middle_is rest_is long start_is read after_is left_is =
     let first = cut_at held piece middle rest (23 - length held) middle_is rest_is in
-    let last = cut_at middle rest after behind (23 + h.length - length middle) after_is behind_is in
+    let last = cut_at middle rest after left (23 + h.length - length middle) after_is left_is in
     let size = first.size in
     let fits = middle_size held piece middle rest h opens first long (ap header_at (sym start_is) ∙ (read_is start h read).0) in
     record {
       whole = last.whole ∙ first.whole;
       front = sym (take-take (length held) (length middle) after (omega arith)) ∙ ap (take (length held)) last.front ∙ first.front;
-      settled = settled_last middle rest after behind start h long fits start_is read after_is last;
+      settled = settled_last middle rest after left start h long fits start_is read after_is last;
     }
 
 -- the last filling, by its result
 pub filled_result : {E : Type 0} (r : Result (Bor (List ℕ)) E) (held piece middle rest after start : List ℕ) (h : Header) → front_of held ≡ Open
     → middle ≡ held ++ take (23 - length held) piece → rest ≡ drop (23 - length held) piece
     → 23 ≤ length middle → start ≡ take 23 middle → reading start ≡ Ok h
-    → OnOk r (after ≡ middle ++ take (23 + h.length - length middle) rest) → IfOk r (λ behind. behind.now ≡ drop (23 + h.length - length middle) rest)
-    → IfOk r (λ behind. IsFilled held piece after behind.now)
-filled_result (Ok behind) held piece middle rest after start h opens middle_is rest_is long start_is read after_is behind_is =
-    filled_last held piece middle rest after behind.now start h opens middle_is rest_is long start_is read after_is behind_is
-filled_result (Err e) held piece middle rest after start h opens middle_is rest_is long start_is read after_is behind_is = tt
+    → OnOk r (after ≡ middle ++ take (23 + h.length - length middle) rest) → IfOk r (λ left. left.now ≡ drop (23 + h.length - length middle) rest)
+    → IfOk r (λ left. IsFilled held piece after left.now)
+filled_result (Ok left) held piece middle rest after start h opens middle_is rest_is long start_is read after_is left_is =
+    filled_last held piece middle rest after left.now start h opens middle_is rest_is long start_is read after_is left_is
+filled_result (Err e) held piece middle rest after start h opens middle_is rest_is long start_is read after_is left_is = tt
 
 -- where it errs, what was held is in front
 pub front_stays : {B E : Type 0} (r : Result B E) (held piece middle after : List ℕ) (k : ℕ) → middle ≡ held ++ take k piece
@@ -161,11 +161,11 @@ front_stays (Err e) held piece middle after k middle_is same = rw (same, middle_
 
 -- the frames of a string whose front is just its one descriptor
 complete_frames : (s : List ℕ) (h : Header) → front_of s ≡ Whole h → length s ≡ 23 + h.length
-    → frames_of s ≡ behind (packet_from h (take h.length (drop 23 s)) ∷ []) (no_frames [] None)
+    → frames_of s ≡ prepended (packet_from h (take h.length (drop 23 s)) ∷ []) (no_frames [] None)
 complete_frames s h front size =
     frames_whole s h front
-    ∙ ap (λ xs. behind (packet_from h (take h.length (drop 23 s)) ∷ []) (frames_of xs)) (drop_all (23 + h.length) s (omega arith))
-    ∙ ap (behind (packet_from h (take h.length (drop 23 s)) ∷ [])) (frames_open [] refl)
+    ∙ ap (λ xs. prepended (packet_from h (take h.length (drop 23 s)) ∷ []) (frames_of xs)) (drop_all (23 + h.length) s (omega arith))
+    ∙ ap (prepended (packet_from h (take h.length (drop 23 s)) ∷ [])) (frames_open [] refl)
 
 -- what shows that a held string has a fault or is still open
 pub data Unfinished (left : List ℕ) (found : Option FrameFault) : Type 0 where
@@ -221,9 +221,9 @@ late : (held piece after later rest kept : List ℕ) (before first ds : List Pac
     → IsFilled held piece after later → IsTaken after before first [] unfound
     → IsTaken later first ds rest found → kept ≡ rest → IsFound (held ++ piece) ds found kept
 late held piece after later rest kept before first ds unfound found nothing filled taken more kept_is =
-    let all : frames_of (held ++ piece) ≡ behind (frames_of after).descriptors (frames_of later) =
+    let all : frames_of (held ++ piece) ≡ prepended (frames_of after).descriptors (frames_of later) =
     ap frames_of (sym filled.whole) ∙ cut after later
-    ∙ ap (λ xs. behind (frames_of after).descriptors (frames_of (xs ++ later))) (sym taken.rest) in
+    ∙ ap (λ xs. prepended (frames_of after).descriptors (frames_of (xs ++ later))) (sym taken.rest) in
     record {
       all = more.descriptors ∙ ap (λ xs. xs ++ (frames_of later).descriptors) (taken.descriptors ∙ ap (λ xs. xs ++ (frames_of after).descriptors) nothing)
           ∙ ap (λ (f : Frames). f.descriptors) (sym all);

@@ -16,7 +16,7 @@ use Rattle.gn_wire.proofs.EncodingLemmas.{header_at-stream, drop-stream, length-
 use Rattle.gn_frames.specs.declared.front.Front.{Front}
 use Rattle.gn_frames.specs.declared.front.Front.TheVariants.{Open, Faulty, Whole}
 use Rattle.gn_frames.specs.Front.{front_of}
-use Rattle.gn_frames.specs.Frames.{no_frames, behind, frames_of, named_length, IsRest, IsFrames, FramesAreOne}
+use Rattle.gn_frames.specs.Frames.{no_frames, prepended, frames_of, named_length, IsRest, IsFrames, FramesAreOne}
 use Rattle.gn_frames.proofs.FramesLemmas.{frames_open, frames_faulty, frames_whole, shorter}
 use Rattle.gn_frames.proofs.FrontLemmas.{below_or_not, IsWhole, whole, front_whole, front_open, front_faulty, is_open, is_faulty}
 
@@ -31,8 +31,8 @@ whole_stream d rest kept =
     front_whole (bytes_of d ++ rest) (ap (λ (h : Header). fault_of h.kind h.length) same ∙ kept.valid) (omega arith)
     ∙ ap Whole same
 
--- and its frames are the descriptor and those of what stands behind it
-frames_stream : (d : Packet) (rest : List ℕ) → IsDescriptor d → frames_of (bytes_of d ++ rest) ≡ behind (d ∷ []) (frames_of rest)
+-- and its frames are the descriptor and those of what stands after it
+frames_stream : (d : Packet) (rest : List ℕ) → IsDescriptor d → frames_of (bytes_of d ++ rest) ≡ prepended (d ∷ []) (frames_of rest)
 frames_stream d rest kept =
     let s = bytes_of d ++ rest in
     let payload : take (length d.payload) (drop 23 s) ≡ d.payload =
@@ -40,8 +40,8 @@ frames_stream d rest kept =
     let later : drop (23 + length d.payload) s ≡ rest =
     sym (drop-drop (length d.payload) 23 s) ∙ ap (drop (length d.payload)) (drop-stream d rest kept) ∙ drop-append_seam d.payload rest in
     frames_whole s (header_of d) (whole_stream d rest kept)
-    ∙ ap (λ xs. behind (packet_from (header_of d) xs ∷ []) (frames_of (drop (23 + length d.payload) s))) payload
-    ∙ ap (λ xs. behind (d ∷ []) (frames_of xs)) later
+    ∙ ap (λ xs. prepended (packet_from (header_of d) xs ∷ []) (frames_of (drop (23 + length d.payload) s))) payload
+    ∙ ap (λ xs. prepended (d ∷ []) (frames_of xs)) later
 
 -- a reading is the one that the function gives
 ends : (r : List ℕ) (fault : Option FrameFault) → IsRest r fault → frames_of r ≡ no_frames r fault
@@ -54,7 +54,7 @@ only [] r fault valid ended = ends r fault ended
 only (d ∷ ds) r fault valid ended =
     ap frames_of (append_assoc (bytes_of d) (flat_map bytes_of ds) r)
     ∙ frames_stream d (flat_map bytes_of ds ++ r) (valid 0 d (omega arith))
-    ∙ ap (behind (d ∷ [])) (only ds r fault (λ k e h. valid (suc k) e (omega arith)) ended)
+    ∙ ap (prepended (d ∷ [])) (only ds r fault (λ k e h. valid (suc k) e (omega arith)) ended)
 
 -- a byte, at any place
 byte_at : (s : List ℕ) → All (λ b. b < 256) s → (k : ℕ) → get_or s k 0 < 256

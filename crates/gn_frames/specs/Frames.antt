@@ -1,4 +1,4 @@
--- The descriptors that a string of bytes encodes, and what stands behind them.
+-- The descriptors that a string of bytes encodes, and what stands after them.
 use Rattle.std.specs.Prelude.{◌≡◌, ◌<◌, ◌≤◌, ◌+◌, ◌⊎◌, ◌↔◌, ℕ, zero, suc, List, [], ◌∷◌, ◌++◌, length, take, drop, Option, Some, None, All}
 use Rattle.std.specs.List.{flat_map}
 use Rattle.gn_wire.specs.declared.header.FrameFault.{FrameFault}
@@ -9,7 +9,7 @@ use Rattle.gn_frames.specs.declared.front.Front.{Front}
 use Rattle.gn_frames.specs.declared.front.Front.TheVariants.{Open, Faulty, Whole}
 use Rattle.gn_frames.specs.Front.{front_of}
 
--- the descriptors of a string, the bytes behind them, and the fault that ends it, where one does
+-- the descriptors of a string, the bytes after them, and the fault that ends it, where one does
 pub record Frames : Type 0 where
   pub descriptors : List Packet
   pub rest : List ℕ
@@ -36,7 +36,7 @@ abbrev pub IsRest : List ℕ → Option FrameFault → Type 0
 IsRest r None = IsOpen r
 IsRest r (Some fault) = IsFaulty r fault
 
--- a reading of a string: it is the encodings of descriptors, one behind the other, and a rest
+-- a reading of a string: it is the encodings of descriptors, one after the other, and a rest
 pub record IsFrames (s : List ℕ) (f : Frames) : Type 0 where
   pub encoded : s ≡ flat_map bytes_of f.descriptors ++ f.rest
   pub valid : All IsDescriptor f.descriptors
@@ -47,14 +47,14 @@ abbrev pub no_frames : List ℕ → Option FrameFault → Frames
 no_frames s fault = record { descriptors = []; rest = s; fault = fault }
 
 -- the same with these descriptors before it
-abbrev pub behind : List Packet → Frames → Frames
-behind ds f = record { descriptors = ds ++ f.descriptors; rest = f.rest; fault = f.fault }
+abbrev pub prepended : List Packet → Frames → Frames
+prepended ds f = record { descriptors = ds ++ f.descriptors; rest = f.rest; fault = f.fault }
 
--- the frames of a string by its front, where those of what stands behind a descriptor are known
+-- the frames of a string by its front, where those of what stands after a descriptor are known
 abbrev pub frames_by : (List ℕ → Frames) → List ℕ → Front → Frames
 frames_by later s Open = no_frames s None
 frames_by later s (Faulty fault) = no_frames s (Some fault)
-frames_by later s (Whole h) = behind (packet_from h (take h.length (drop 23 s)) ∷ []) (later (drop (23 + h.length) s))
+frames_by later s (Whole h) = prepended (packet_from h (take h.length (drop 23 s)) ∷ []) (later (drop (23 + h.length) s))
 
 -- the frames of a string of at most n bytes
 abbrev pub frames_within : ℕ → List ℕ → Frames
@@ -71,7 +71,7 @@ FramesAreOne = (s : List ℕ) → All (λ b. b < 256) s → (f : Frames) → IsF
 
 -- a string that goes on has its descriptors and then those of its rest with what is new; a fault stays
 pub record IsCut (s more : List ℕ) : Type 0 where
-  pub frames : frames_of (s ++ more) ≡ behind (frames_of s).descriptors (frames_of ((frames_of s).rest ++ more))
+  pub frames : frames_of (s ++ more) ≡ prepended (frames_of s).descriptors (frames_of ((frames_of s).rest ++ more))
   pub fault : (fault : FrameFault) → (frames_of s).fault ≡ Some fault
       → frames_of (s ++ more) ≡ record { descriptors = (frames_of s).descriptors; rest = (frames_of s).rest ++ more; fault = Some fault }
 

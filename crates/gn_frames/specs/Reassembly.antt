@@ -11,11 +11,11 @@ abbrev pub unless_ended : Option FrameFault → List ℕ → Option (List ℕ)
 unless_ended None rest = Some rest
 unless_ended (Some fault) rest = None
 
--- what is held behind a string: its rest, or nothing more where it ended with a fault
+-- what is held after a string: its rest, or nothing more where it ended with a fault
 abbrev pub held_of : Frames → Option (List ℕ)
 held_of f = unless_ended f.fault f.rest
 
--- what is answered is the frames of the held bytes with the piece behind them, and their rest is held from then on
+-- what is answered is the frames of the held bytes with the piece after them, and their rest is held from then on
 pub record IsFed (rest piece : List ℕ) (descriptors : List Packet) (fault : Option FrameFault) (after : Option (List ℕ)) : Type 0 where
   pub all : descriptors ≡ (frames_of (rest ++ piece)).descriptors
   pub ends : fault ≡ (frames_of (rest ++ piece)).fault
@@ -36,7 +36,7 @@ abbrev pub pending_of : Option (List ℕ) → ℕ
 pending_of None = 0
 pending_of (Some rest) = length rest
 
--- an answer adds to the frames of the stream so far: its descriptors come behind theirs, its fault is that of all bytes,
+-- an answer adds to the frames of the stream so far: its descriptors come after theirs, its fault is that of all bytes,
 -- and what is held is what all bytes leave
 pub record IsStreamed (s piece : List ℕ) (descriptors : List Packet) (fault : Option FrameFault) (after : Option (List ℕ)) : Type 0 where
   pub all : (frames_of (s ++ piece)).descriptors ≡ (frames_of s).descriptors ++ descriptors

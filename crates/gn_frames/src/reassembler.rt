@@ -12,7 +12,7 @@ use std::marker::Model;
 pub struct Fed<A: Allocator = Global> {
     /// The descriptors that are whole now, in the order of the stream.
     pub descriptors: Vec<Descriptor<A>, A>,
-    /// The length behind them that is invalid, where one is. The stream ends there.
+    /// The length after them that is invalid, where one is. The stream ends there.
     pub fault: Option<FrameFault>,
 }
 

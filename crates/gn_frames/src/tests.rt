@@ -24,7 +24,7 @@ fn header(code: u8, length: [u8; 4]) -> [u8; 23] {
     bytes
 }
 
-/// The encodings of the descriptors, one behind the other.
+/// The encodings of the descriptors, one after the other.
 fn encoded<A: Allocator + Copy>(
     alloc: A,
     descriptors: &[Descriptor<A>],

@@ -47,7 +47,7 @@ step_keeps {A} s past actor c (Take d) reply e before =
       | false ↦ λ h. kept past step c h before
       | true ↦ λ h.
           let first = (answered s past (Take d) reply e).1 in
-          took_first past step c first.packet first.behind h (ap (out past) (exact_unsigned_eq c d h) ∙ first.first) (ap taken_of first.reply_is) (ap sends_of first.reply_is) before
+          took_first past step c first.packet first.after h (ap (out past) (exact_unsigned_eq c d h) ∙ first.first) (ap taken_of first.reply_is) (ap sends_of first.reply_is) before
     ] refl
 
 pub queued_is_taken_and_waiting : (A : Type 0) → QueuedIsTakenAndWaiting A

@@ -104,7 +104,7 @@ taken_length links n Stats = _
 abbrev HasFew : Result (List Memory) CaptureFault → Type 0
 HasFew made = IfOk made (λ links. length links ≤ 256)
 
--- the links before a line, and what the lines behind it make of those after it
+-- the links before a line, and what the lines after it make of those after it
 step_few : {A : Type 0} (links n : ℕ) (line : Line A) (more : List (ℕ × List ℕ)) (after : Result (List Memory) CaptureFault)
     → IfOk after (λ made. length made ≡ links_after links line) → LeavesFew links line
     → ((made : List Memory) → length made ≤ 256 → IfOk (lines_from {A = A} (length made) more) (λ lines. HasFew (links_from made lines)))
@@ -115,7 +115,7 @@ step_few {A} links n line more (Ok made) is few later =
 step_few {A} links n line more (Err fault) is few later =
     elim (lines_from {A = A} (links_after links line) more) as (λ read. IfOk read (λ lines. Unit {0})) [ Ok lines ↦ tt | Err e ↦ tt ]
 
--- lines behind so many links
+-- lines after so many links
 lines_few : (A : Type 0) (texts : List (ℕ × List ℕ)) (links : List Memory) → length links ≤ 256
     → IfOk (lines_from {A = A} (length links) texts) (λ lines. HasFew (links_from links lines))
 lines_few A [] links few = few

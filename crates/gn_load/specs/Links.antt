@@ -14,16 +14,16 @@ use Rattle.gn_capture.specs.declared.line.Line.TheVariants.{Join, Greeted, Piece
 abbrev pub link_of : Role → List ℕ → Memory
 link_of role bytes = record { role = role; bytes = bytes; piece = 4096; read = None; write = None }
 
--- a link with these bytes behind its own
+-- a link with these bytes after its own
 abbrev pub with_bytes : Memory → List ℕ → Memory
 with_bytes link bytes = record link { bytes = link.bytes ++ bytes }
 
--- the links where link i, counted from 1, has these bytes behind its own; a link that isn't there isn't made
+-- the links where link i, counted from 1, has these bytes after its own; a link that isn't there isn't made
 abbrev pub given : List Memory → ℕ → List ℕ → List Memory
 given links zero bytes = links
 given links (suc at) bytes = slice_set links at (with_bytes (slice_index_or links at (link_of Plain [])) bytes)
 
--- the links after a line of this number: `join` and `open` make one, behind the others, and `data` gives one its next bytes;
+-- the links after a line of this number: `join` and `open` make one, after the others, and `data` gives one its next bytes;
 -- or the fault of a line that is none of these
 abbrev pub line_taken : {A : Type 0} → List Memory → ℕ × Line A → Result (List Memory) CaptureFault
 line_taken links (n, Join) = Ok (links ++ link_of Plain [] ∷ [])

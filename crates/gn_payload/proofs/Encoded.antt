@@ -12,13 +12,13 @@ use Rattle.gn_payload.specs.Places.{number_at, bytes_at, push_servent}
 use Rattle.gn_payload.specs.Refusals.{has_zero}
 use Rattle.gn_payload.specs.Encoding.{pong_bytes, push_bytes, query_bytes}
 
--- a number behind other bytes
+-- a number after other bytes
 pub number_there : (width place n : ℕ) (front rest : List ℕ) → length front ≡ place → n < 256 ^ width
     → n ≡ number_at width place (front ++ (little_bytes width n ++ rest))
 number_there width place n front rest at fits =
     sym (ap (λ (xs : List ℕ). little_number width xs) (drop_at front (little_bytes width n ++ rest) place at) ∙ little_number-reads_back width n rest fits)
 
--- bytes behind other bytes
+-- bytes after other bytes
 pub bytes_there : (count place : ℕ) (front xs rest : List ℕ) → length front ≡ place → length xs ≡ count → xs ≡ bytes_at count place (front ++ (xs ++ rest))
 bytes_there count place front xs rest at size =
     sym (ap (λ (ys : List ℕ). take count ys) (drop_at front (xs ++ rest) place at) ∙ take_at xs rest count size)
@@ -32,7 +32,7 @@ text_clear (b ∷ bs) h = ((grind (arith, nat_tests)), text_clear bs (grind (ari
 regroup : (a b c d : List ℕ) → a ++ b ++ c ++ d ≡ a ++ (b ++ (c ++ d))
 regroup a b c d = simp append_assoc
 
--- the last list of several, as one with nothing behind it
+-- the last list of several, as one with nothing after it
 at_end : (a b : List ℕ) → a ++ (b ++ []) ≡ a ++ b
 at_end a b = simp append-nil
 

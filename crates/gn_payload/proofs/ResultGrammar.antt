@@ -11,7 +11,7 @@ use Rattle.gn_payload.proofs.ResultLemmas.{past}
 use Rattle.gn_payload.proofs.Numbers.{same_number}
 use Rattle.gn_payload.proofs.TextGrammar.{ended_read, read_ended}
 
--- a result's fields behind its texts
+-- a result's fields after its texts
 abbrev made : List ℕ → List ℕ → List ℕ × List ℕ → ResultFields × List ℕ
 made bytes name x = (record { file = number_at 4 0 bytes; size = number_at 4 4 bytes; name = name; extra = x.0 }, x.1)
 
@@ -47,8 +47,8 @@ read_result bytes r rest e =
 abbrev with_front : ResultFields → List ResultFields × List ℕ → Option (List ResultFields × List ℕ)
 with_front r others = Some (r ∷ others.0, others.1)
 
-abbrev behind : ℕ → ResultFields × List ℕ → Option (List ResultFields × List ℕ)
-behind n first = results_reading n first.1 >>= with_front first.0
+abbrev after : ℕ → ResultFields × List ℕ → Option (List ResultFields × List ℕ)
+after n first = results_reading n first.1 >>= with_front first.0
 
 -- results of the grammar are read so
 pub results_read : (rs : List ResultFields) (bytes rest : List ℕ) → AreResults bytes rs rest → results_reading (length rs) bytes ≡ Some (rs, rest)
@@ -56,7 +56,7 @@ results_read [] bytes rest h = ap (λ (xs : List ℕ). Some ([], xs)) h
 results_read (r ∷ rs) bytes rest h =
     let first = result_read bytes r h.0 h.1 in
     let others = results_read rs h.0 rest h.2 in
-    ap (λ (o : Option (ResultFields × List ℕ)). o >>= behind (length rs)) first
+    ap (λ (o : Option (ResultFields × List ℕ)). o >>= after (length rs)) first
     ∙ ap (λ (o : Option (List ResultFields × List ℕ)). o >>= with_front r) others
 
 -- what is read are results of the grammar
@@ -66,7 +66,7 @@ read_results zero bytes rs rest e =
     let parts = some_pair_parts [] rs bytes rest e in
     rw (← parts.0) (refl, parts.1)
 read_results (suc n) bytes rs rest e =
-    option_and_then_some (behind n) (result_reading bytes) (rs, rest) e (λ first first_is others_are.
+    option_and_then_some (after n) (result_reading bytes) (rs, rest) e (λ first first_is others_are.
     option_and_then_some (with_front first.0) (results_reading n first.1) (rs, rest) others_are (λ others others_is whole_is.
     let parts = some_pair_parts (first.0 ∷ others.0) rs others.1 rest whole_is in
     let one = read_result bytes first.0 first.1 first_is in

@@ -12,9 +12,9 @@ Read = Option (List ResultFields × List ℕ)
 abbrev with_front : ResultFields → Read → Read
 with_front r o = o >>= λ x. Some (r ∷ x.0, x.1)
 
--- the results behind the first
-abbrev behind : ℕ → Option (ResultFields × List ℕ) → Read
-behind n o = o >>= λ x. with_front x.0 (results_reading n x.1)
+-- the results after the first
+abbrev after : ℕ → Option (ResultFields × List ℕ) → Read
+after n o = o >>= λ x. with_front x.0 (results_reading n x.1)
 
 -- what follows the results
 abbrev pub past : Read → Option (List ℕ)
@@ -29,7 +29,7 @@ past_front r (Some x) = refl
 pub past_more : (n : ℕ) (bytes : List ℕ) (r : ResultFields) (rest : List ℕ) → result_reading bytes ≡ Some (r, rest)
     → past (results_reading (suc n) bytes) ≡ past (results_reading n rest)
 past_more n bytes r rest e =
-    ap (λ (o : Option (ResultFields × List ℕ)). past (behind n o)) e ∙ past_front r (results_reading n rest)
+    ap (λ (o : Option (ResultFields × List ℕ)). past (after n o)) e ∙ past_front r (results_reading n rest)
 
 -- the same, counted down
 pub past_step : (count i : ℕ) (bytes : List ℕ) (r : ResultFields) (rest : List ℕ) → i < count → result_reading bytes ≡ Some (r, rest)
@@ -41,7 +41,7 @@ past_step count i bytes r rest h e =
 -- where the first result isn't one, there are no so many
 pub past_none : (n : ℕ) (bytes : List ℕ) → 0 < n → result_reading bytes ≡ None → past (results_reading n bytes) ≡ None
 past_none zero bytes h e = absurd (omega arith)
-past_none (suc n) bytes h e = ap (λ (o : Option (ResultFields × List ℕ)). past (behind n o)) e
+past_none (suc n) bytes h e = ap (λ (o : Option (ResultFields × List ℕ)). past (after n o)) e
 
 -- the results of an option
 abbrev those : Read → List ResultFields
@@ -61,7 +61,7 @@ pub just_more : (n m : ℕ) (bytes : List ℕ) (r : ResultFields) (rest : List �
     → AreJust m rest × (results_in n bytes ≡ r ∷ results_in m rest)
 just_more n m bytes r rest h just e =
     just_front r (results_reading m rest) (results_in n bytes)
-    (sym (ap (λ (o : Option (ResultFields × List ℕ)). behind m o) e) ∙ ap (λ (k : ℕ). results_reading k bytes) (sym h) ∙ just)
+    (sym (ap (λ (o : Option (ResultFields × List ℕ)). after m o) e) ∙ ap (λ (k : ℕ). results_reading k bytes) (sym h) ∙ just)
 
 -- where nothing follows, nothing is read
 pub past_nothing : (o : Read) → past o ≡ None → o ≡ None

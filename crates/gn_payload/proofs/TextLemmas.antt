@@ -5,7 +5,7 @@ use Rattle.std.proofs.lemmas.Grind.{common_steps}
 use Rattle.std.proofs.lemmas.Bool.Decides.{nat_tests}
 use Rattle.gn_payload.specs.Reading.{text_reading}
 
--- what stands before and behind a place
+-- what stands before and after a place
 abbrev pub around : List ℕ → ℕ → List ℕ × List ℕ
 around bytes k = (take k bytes, drop (k + 1) bytes)
 

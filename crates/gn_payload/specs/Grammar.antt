@@ -48,7 +48,7 @@ abbrev pub AreResults : List ℕ → List ResultFields → List ℕ → Type 0
 AreResults bytes [] rest = bytes ≡ rest
 AreResults bytes (r ∷ rs) rest = (more : List ℕ) × IsResult bytes r more × AreResults more rs rest
 
--- a Query Hit: its number of results, its fields at their places, as many results and the trailer behind them, and its
+-- a Query Hit: its number of results, its fields at their places, as many results and the trailer after them, and its
 -- servent at the end
 pub record IsHit (bytes : List ℕ) (h : HitFields) : Type 0 where
   pub size : 27 ≤ length bytes

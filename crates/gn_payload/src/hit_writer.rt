@@ -30,8 +30,8 @@ fn any_zero(results: &[HitResult<'_>]) -> bool
     results.iter().any(|entry| has_zero_in(entry))
 }
 
-/// What is left of so many bytes behind a result. `None` where it doesn't fit.
-fn room_behind(entry: &HitResult<'_>, room: usize) -> Option<usize>
+/// What is left of so many bytes after a result. `None` where it doesn't fit.
+fn room_after(entry: &HitResult<'_>, room: usize) -> Option<usize>
     ensures { MatchOption result (room < length (result_bytes (result_fields entry.now)))
         (λ left. left + length (result_bytes (result_fields entry.now)) ≡ room) }
 {
@@ -48,7 +48,7 @@ fn hit_size(results: &[HitResult<'_>], trailer: &[u8]) -> Option<usize>
 {
     let mut left = 65_509;
     for entry in results {
-        left = room_behind(entry, left)?;
+        left = room_after(entry, left)?;
     }
     let left = left.checked_sub(trailer.len())?;
     Some(65_536 - left)

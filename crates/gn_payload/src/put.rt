@@ -1,4 +1,4 @@
-//! Bytes put behind others in a vector that has the room.
+//! Bytes put after others in a vector that has the room.
 
 ghost use Rattle.std.specs.Prelude.{◌≡◌, ◌≤◌, ◌+◌, ◌++◌, length, vec_len, vec_capacity};
 ghost use Rattle.byteorder.specs.Endian.{little_bytes};

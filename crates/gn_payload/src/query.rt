@@ -22,7 +22,7 @@ pub struct Query<'a> {
     pub speed: u16,
     /// The search text, none of whose bytes is zero.
     pub text: &'a [u8],
-    /// What stands behind the text's end; later versions put extensions there.
+    /// What stands after the text's end; later versions put extensions there.
     pub tail: &'a [u8],
 }
 

@@ -57,7 +57,7 @@ const fn head(hits: u8) -> [u8; 11] {
     [hits, 0xca, 0x18, 127, 0, 0, 2, 0x1c, 0, 0, 0]
 }
 
-/// A Query Hit's payload from its head, what stands behind it, and its servent.
+/// A Query Hit's payload from its head, what stands after it, and its servent.
 fn hit_payload<A: Allocator>(alloc: A, hits: u8, middle: &[u8]) -> Result<Vec<u8, A>, AllocError> {
     let mut payload = Vec::from_slice(alloc, &head(hits))?;
     payload.extend_from_slice(middle)?;

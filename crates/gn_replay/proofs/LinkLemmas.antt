@@ -3,7 +3,7 @@ use Rattle.std.proofs.Common.{◌≡◌, ℕ, true, false, List, [], ◌++◌, l
 use Rattle.std.proofs.lemmas.List.{drop_at}
 use Rattle.gn_wire.specs.declared.header.FrameFault.{FrameFault}
 use Rattle.gn_wire.specs.Packet.{Packet}
-use Rattle.gn_frames.specs.Frames.{Frames, frames_of, FramesAreCut, behind}
+use Rattle.gn_frames.specs.Frames.{Frames, frames_of, FramesAreCut, prepended}
 use Rattle.gn_frames.specs.Reassembly.{IsAnswer, IsFed, held_of, unless_ended}
 use Rattle.gn_shake.specs.declared.shake.ShakeState.{ShakeState}
 use Rattle.gn_shake.specs.declared.shake.ShakeState.TheVariants.{More, Done, Refused}
@@ -60,8 +60,8 @@ pub record IsGiven (bytes piece : List ℕ) (packets : List Packet) (fault : Opt
 pub given : (bytes piece rest : List ℕ) (packets : List Packet) (fault : Option FrameFault) (after : Option (List ℕ)) → FramesAreCut → rest ≡ (frames_of bytes).rest
     → IsFed rest piece packets fault after → IsGiven bytes piece packets fault after
 given bytes piece rest packets fault after cut held answered =
-    let whole : frames_of (bytes ++ piece) ≡ behind (frames_of bytes).descriptors (frames_of (rest ++ piece)) =
-    (cut bytes piece).frames ∙ ap (λ (r : List ℕ). behind (frames_of bytes).descriptors (frames_of (r ++ piece))) (sym held) in
+    let whole : frames_of (bytes ++ piece) ≡ prepended (frames_of bytes).descriptors (frames_of (rest ++ piece)) =
+    (cut bytes piece).frames ∙ ap (λ (r : List ℕ). prepended (frames_of bytes).descriptors (frames_of (r ++ piece))) (sym held) in
     let before : List Packet = (frames_of bytes).descriptors in
     record {
       all = answered.all ∙ sym (ap (λ (f : Frames). drop (length before) f.descriptors) whole ∙ drop_at before (frames_of (rest ++ piece)).descriptors (length before) refl);
@@ -158,7 +158,7 @@ greets_done {A} v later i used before after piece rest state (Ok kept) one answe
     let is = greeted before after bytes piece state one start.0 answered then_kept in
     let here : greeting_state request_text (bytes ++ piece) ≡ Done = is.state ∙ done in
     let after_it : rest ≡ drop (length request_text) (bytes ++ piece) =
-    rest_is ∙ ap (λ (n : ℕ). drop n piece) (used_is ∙ ap (λ (k : Shaking). used_of k piece) start.0) ∙ (one request_text bytes piece).behind start.1 here in
+    rest_is ∙ ap (λ (n : ℕ). drop n piece) (used_is ∙ ap (λ (k : Shaking). used_of k piece) start.0) ∙ (one request_text bytes piece).rest start.1 here in
     let all : HasLinked kept v later (connects v.settings v.past i (drop (length request_text) (bytes ++ piece))) =
     subst (λ (b : List ℕ). HasLinked kept v later (connects v.settings v.past i b)) after_it have in
     rw here all

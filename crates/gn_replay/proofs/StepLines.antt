@@ -9,9 +9,9 @@ use Rattle.gn_text.specs.declared.fault.Cause.TheVariants as cause
 use Rattle.gn_text.specs.Faults.{fault_at, numbered_at, ◌>>=◌}
 use Rattle.gn_text.specs.Header.{config_from, header_of, own_from}
 use Rattle.gn_text.specs.Lines.{fields_of, is_word}
-use Rattle.gn_text.specs.Parsed.{behind_of, parsed_of}
+use Rattle.gn_text.specs.Parsed.{line_after, parsed_of}
 use Rattle.gn_text.specs.Settings.{Numbers, config_of, own_of}
-use Rattle.gn_capture.specs.Histories.{ended, ending, history_of, line_parsed, map_result, steps_behind, steps_from, title}
+use Rattle.gn_capture.specs.Histories.{ended, ending, history_of, line_parsed, map_result, steps_after, steps_from, title}
 use Rattle.gn_capture.specs.Steps.{step_parsed}
 use Rattle.gn_replay.specs.Explained.{step_line_at}
 
@@ -47,7 +47,7 @@ by_index line more first xs (suc j) step says at later =
     let there = later j at in record { line = there.line; stands = there.stands; says = there.says }
 
 at_line : {A : Type 0} (line : ℕ × List ℕ) (more : List (ℕ × List ℕ)) (found : Result (Option (Step A)) CaptureFault) (rest : Result (List (Step A)) CaptureFault) (steps : List (Step A)) (i : ℕ) (step : Step A)
-    → line_parsed line ≡ found → (found >>= (λ f. steps_behind f more rest)) ≡ Ok steps → slice_get steps i ≡ Some step
+    → line_parsed line ≡ found → (found >>= (λ f. steps_after f more rest)) ≡ Ok steps → slice_get steps i ≡ Some step
     → ((xs : List (Step A)) (j : ℕ) → rest ≡ Ok xs → slice_get xs j ≡ Some step → IsLineOf more j step) → IsLineOf (line ∷ more) i step
 at_line line more (Err fault) rest steps i step is all at later = absurd (cc)
 at_line line more (Ok None) rest steps i step is all at later = none_after line more steps i step all at
@@ -139,6 +139,6 @@ pub step_stands : {A : Type 0} (text : List ℕ) (settings : Numbers × Own) (st
     → history_of text ≡ Ok (settings, steps) → slice_get steps i ≡ Some step
     → (line : ℕ × List ℕ) × (step_line_at text i ≡ Some line) × (step_parsed (fields_of line.1) ≡ Some step)
 step_stands text settings steps i step parsed at =
-    let found = in_text (parsed_of text) (behind_of text) (header_of title (behind_of text) (parsed_of text)) settings steps i step refl parsed at in
+    let found = in_text (parsed_of text) (line_after text) (header_of title (line_after text) (parsed_of text)) settings steps i step refl parsed at in
     let place : 3 + i ≡ suc (suc (suc i)) = omega arith in
     (found.line, ap (slice_get (parsed_of text)) place ∙ found.stands, found.says)

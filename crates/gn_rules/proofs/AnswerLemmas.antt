@@ -20,8 +20,8 @@ use Rattle.gn_rules.specs.SeenEntries.{is_remembered}
 -- a reply that took the first packet
 pub record TookFirst {A : Type 0} (packets : List Packet) (reply : Reply A) : Type 0 where
   pub packet : Packet
-  pub behind : List Packet
-  pub first : packets ≡ packet ∷ behind
+  pub after : List Packet
+  pub first : packets ≡ packet ∷ after
   pub reply_is : reply ≡ Taken packet
 
 -- a reply to a route of what was in flight
@@ -59,7 +59,7 @@ reply_is x reply e = cc
 
 first_reply : {A : Type 0} (packets : List Packet) (reply : Reply A) → first_taken packets ≡ Ok reply → TookFirst packets reply
 first_reply [] reply e = absurd (cc)
-first_reply (p ∷ ps) reply e = record { packet = p; behind = ps; first = refl; reply_is = reply_is (Taken p) reply e }
+first_reply (p ∷ ps) reply e = record { packet = p; after = ps; first = refl; reply_is = reply_is (Taken p) reply e }
 
 flight_reply : {A : Type 0} (s : Config) (past : List (Step A)) (found : Option Admission) (reply : Reply A) → flight_answer s past found ≡ Ok reply → RoutedFlight s past found reply
 flight_reply s past None reply e = absurd (cc)

@@ -132,7 +132,7 @@ rows-taken {A} past actor c packet =
     ∙ map_agree (λ d. (d, out (step ∷ past) d)) (λ d. f (row d)) (λ d. rw (append-nil (untaken (d == c) (out past d))) refl) (live_connections past)
     ∙ sym (map_map row f (live_connections past))
 
--- sends go behind what waits
+-- sends go after what waits
 pub rows-sent : {A : Type 0} (past : List (Step A)) (step : Step A) → connected_of step.reply ≡ None → ((c : ℕ) → is_close c step.event ≡ false) → ((c : ℕ) → is_take c step.event ≡ false)
     → rows (step ∷ past) ≡ map (λ r. (r.0, r.1 ++ queued_to r.0 (sends_of step.reply))) (rows past)
 rows-sent past step none no_close no_take =

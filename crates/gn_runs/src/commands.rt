@@ -98,7 +98,7 @@ const AUDITED: [Case; 5] = [
     ),
 ];
 
-/// Histories whose first wrong step is explained: a wrong ticket behind a comment and an empty line, a route of a Ping that
+/// Histories whose first wrong step is explained: a wrong ticket after a comment and an empty line, a route of a Ping that
 /// nobody else could get, a Close of what was never connected, and a right one.
 const EXPLAINED: [Case; 4] = [
     (

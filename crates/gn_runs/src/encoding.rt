@@ -36,9 +36,9 @@ fn push_all<A: Allocator>(text: &mut String<A>, pieces: &[&str]) -> Result<(), A
     Ok(())
 }
 
-/// The hex of what stands behind a descriptor's ID. The TTL and the Hops come last, of the router's own Pong the TTL alone;
+/// The hex of what stands after a descriptor's ID. The TTL and the Hops come last, of the router's own Pong the TTL alone;
 /// before them comes a servent, where the payload has one.
-fn push_behind_id<A: Allocator>(
+fn push_after_id<A: Allocator>(
     text: &mut String<A>,
     kind: &str,
     fields: &[&str],
@@ -72,7 +72,7 @@ fn push_encoded<A: Allocator>(text: &mut String<A>, words: &[&str]) -> Result<()
         [id] => push_id(text, id),
         [kind, id, fields @ ..] => {
             push_id(text, id)?;
-            push_behind_id(text, kind, fields)
+            push_after_id(text, kind, fields)
         }
     }
 }

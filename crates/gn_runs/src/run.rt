@@ -23,7 +23,7 @@ pub(crate) struct Run {
     pub name: &'static str,
     /// The numbers of its configuration.
     pub numbers: &'static str,
-    /// The lines behind the first three.
+    /// The lines after the first three.
     pub capture: &'static str,
     /// What is printed.
     pub printed: &'static str,

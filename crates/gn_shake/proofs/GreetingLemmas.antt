@@ -62,11 +62,11 @@ differs_past (x ∷ xs) [] i hg hs d = omega arith
 differs_past (x ∷ xs) (y ∷ ys) zero hg hs d = grind (arith, nat_tests)
 differs_past (x ∷ xs) (y ∷ ys) (suc i) hg hs d = grind (arith, nat_tests, common_steps, differs_past xs ys i)
 
--- where neither ends, the two differ behind what matches
-pub differs_behind : (g s : List ℕ) → matching g s < length g → matching g s < length s → get_or g (matching g s) 0 ≢ get_or s (matching g s) 0
-differs_behind [] s hg hs = absurd (omega arith)
-differs_behind (x ∷ xs) [] hg hs = absurd (omega arith)
-differs_behind (x ∷ xs) (y ∷ ys) hg hs = grind (arith, nat_tests, common_steps, differs_behind xs ys)
+-- where neither ends, the two differ after what matches
+pub differs_after : (g s : List ℕ) → matching g s < length g → matching g s < length s → get_or g (matching g s) 0 ≢ get_or s (matching g s) 0
+differs_after [] s hg hs = absurd (omega arith)
+differs_after (x ∷ xs) [] hg hs = absurd (omega arith)
+differs_after (x ∷ xs) (y ∷ ys) hg hs = grind (arith, nat_tests, common_steps, differs_after xs ys)
 
 -- the states by what matches
 pub state_done : (g s : List ℕ) → matching g s ≡ length g → greeting_state g s ≡ Done
@@ -122,7 +122,7 @@ told g s = elim (standing g s) [
     (λ accepted. let full = accepted_full g s accepted in absurd (omega arith)),
     (λ refused. let short = refused_short g s refused in absurd (omega arith)),
   )
-  | broken hg hs is ↦ rw is (matching g s, hg, hs, differs_behind g s hg hs)
+  | broken hg hs is ↦ rw is (matching g s, hg, hs, differs_after g s hg hs)
 ]
 
 -- and no other
@@ -132,7 +132,7 @@ only g s Refused refused = let short = refused_short g s refused in sym (state_r
 only g s More neither = elim (standing g s) [
   | ended e is ↦ absurd (neither.0 (matches_accepted g s e))
   | going e h is ↦ sym is
-  | broken hg hs is ↦ absurd (neither.1 (matching g s, hg, hs, differs_behind g s hg hs))
+  | broken hg hs is ↦ absurd (neither.1 (matching g s, hg, hs, differs_after g s hg hs))
 ]
 
 pub greeting_is_told : GreetingIsTold

@@ -10,7 +10,7 @@ use Rattle.gn_shake.specs.Shaking.{Shaking, is_refusal, answer_of, used_of, fed,
 use Rattle.gn_shake.proofs.GreetingLemmas.{matching-le, matching-append, matching-stops, matching-same, matching-front, state_done, state_more, state_refused, standing}
 use Rattle.gn_shake.proofs.GreetingLemmas.Standing.{ended, going, broken}
 
--- a piece behind the beginning of a greeting
+-- a piece after the beginning of a greeting
 pub matching_piece : (g p : List ℕ) (n : ℕ) → n ≤ length g → matching g (take n g ++ p) ≡ n + matching (drop n g) p
 matching_piece g p n h =
     let size : length (take n g) ≡ n = length-take-le n g h in
@@ -109,7 +109,7 @@ ended_stream g s p e is =
       after = ap (λ k. fed k p) here ∙ rw (answer, none) (simp append-nil) ∙ sym (shake_is g (s ++ p) g Done grown now);
       state = ap (λ k. answer_of k p) here ∙ answer ∙ sym now;
       used = ap (λ k. matching g s + used_of k p) here ∙ rw none (omega arith);
-      behind = λ more _. cc;
+      rest = λ more _. cc;
       done = λ _. now;
       refused = λ other. cc;
     }
@@ -125,7 +125,7 @@ going_stream g s p e is =
       after = ap (λ k. fed k p) here ∙ sym (shake_is g (s ++ p) (s ++ take u p) (greeting_state g (s ++ p)) part refl);
       state = ap (λ k. answer_of k p) here;
       used = ap (λ k. matching g s + used_of k p) here ∙ rw e (sym grown);
-      behind = λ _ done. ap (λ k. drop (used_of k p) p) here
+      rest = λ _ done. ap (λ k. drop (used_of k p) p) here
           ∙ sym (drop-append-add s p u) ∙ ap (λ n. drop n (s ++ p)) (sym grown ∙ done_matches g (s ++ p) done);
       done = λ other. cc;
       refused = λ other. cc;
@@ -142,7 +142,7 @@ broken_stream g s p hg hs is =
       after = ap (λ k. fed k p) here ∙ (simp append-nil) ∙ sym (shake_is g (s ++ p) (take (matching g s) s) Refused same now);
       state = ap (λ k. answer_of k p) here ∙ sym now;
       used = ap (λ k. matching g s + used_of k p) here ∙ (omega arith);
-      behind = λ more _. cc;
+      rest = λ more _. cc;
       done = λ other. cc;
       refused = λ _. now;
     }

@@ -16,7 +16,7 @@ is_refusal Refused = true
 is_refusal More = false
 is_refusal Done = false
 
--- the state that a piece is answered with: that of the matched bytes with the piece behind them, or refused for good
+-- the state that a piece is answered with: that of the matched bytes with the piece after them, or refused for good
 abbrev pub answer_of : Shaking → List ℕ → ShakeState
 answer_of k piece = if k.refused then Refused else greeting_state k.greeting (k.matched ++ piece)
 
@@ -35,12 +35,12 @@ shake_of greeting stream =
     record { greeting = greeting; matched = take (matching greeting stream) stream; refused = is_refusal (greeting_state greeting stream) }
 
 -- one piece more of a stream: the answer is the state of all bytes so far, the matched bytes grow to theirs, and a piece
--- that ends the greeting has behind what it used just what the stream has behind the greeting
+-- that ends the greeting has after what it used just what the stream has after the greeting
 pub record IsOneStream (greeting stream piece : List ℕ) : Type 0 where
   pub after : fed (shake_of greeting stream) piece ≡ shake_of greeting (stream ++ piece)
   pub state : answer_of (shake_of greeting stream) piece ≡ greeting_state greeting (stream ++ piece)
   pub used : matching greeting stream + used_of (shake_of greeting stream) piece ≡ matching greeting (stream ++ piece)
-  pub behind : greeting_state greeting stream ≡ More → greeting_state greeting (stream ++ piece) ≡ Done
+  pub rest : greeting_state greeting stream ≡ More → greeting_state greeting (stream ++ piece) ≡ Done
       → drop (used_of (shake_of greeting stream) piece) piece ≡ drop (length greeting) (stream ++ piece)
   pub done : greeting_state greeting stream ≡ Done → greeting_state greeting (stream ++ piece) ≡ Done
   pub refused : greeting_state greeting stream ≡ Refused → greeting_state greeting (stream ++ piece) ≡ Refused

@@ -21,7 +21,7 @@ pub enum ShakeState {
 /// What one piece did to a greeting.
 #[derive(Clone, Copy, Debug, PartialEq, Eq)]
 pub struct Shaken {
-    /// Bytes of the piece that belong to the greeting. Where it is done, those behind them are descriptors'.
+    /// Bytes of the piece that belong to the greeting. Where it is done, those after them are descriptors'.
     pub used: usize,
     pub state: ShakeState,
 }

@@ -7,7 +7,7 @@ const CONNECT: &[u8] =
 
 const OK: &[u8] = b"\x47\x4e\x55\x54\x45\x4c\x4c\x41\x20\x4f\x4b\x0a\x0a";
 
-/// A connect request of version 0.4 with the header of a Ping behind it.
+/// A connect request of version 0.4 with the header of a Ping after it.
 const GREETED: &[u8] =
     b"GNUTELLA CONNECT/0.4\n\n\xa1\xa1\xa1\xa1\xa1\xa1\xa1\xa1\xa1\xa1\xa1\xa1\xa1\xa1\xa1\xa1\x00\x07\x00\x00\x00\x00\x00";
 

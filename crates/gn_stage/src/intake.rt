@@ -56,7 +56,7 @@ impl<S: Site, A: Allocator> Intake<S, A> {
         }
     }
 
-    /// Waits for room, and queues the job behind all that are there. Once every outlet has finished it hands the job back,
+    /// Waits for room, and queues the job after all that are there. Once every outlet has finished it hands the job back,
     /// also where it waits already.
     pub fn put<R: Wait>(&mut self, rt: &R, job: Job<A>) -> Result<(), Job<A>>
         ensures { MatchResult result

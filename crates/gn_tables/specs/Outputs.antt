@@ -30,7 +30,7 @@ first_of c o = option_and_then (λ packets. slice_get packets 0) (output_of c o)
 abbrev pub row_with : ℕ → (List Packet → List Packet) → ℕ × List Packet → ℕ × List Packet
 row_with c change r = (r.0, (if r.0 == c then change r.1 else r.1))
 
--- the output queues after a packet is put behind the others of the neighbour
+-- the output queues after a packet is put after the others of the neighbour
 abbrev pub pushed : ℕ → Packet → Outputs → Outputs
 pushed c packet o = record o { rows = map (row_with c (λ packets. packets ++ packet ∷ [])) o.rows }
 
@@ -38,7 +38,7 @@ pushed c packet o = record o { rows = map (row_with c (λ packets. packets ++ pa
 abbrev pub popped : ℕ → Outputs → Outputs
 popped c o = record o { rows = map (row_with c (drop 1)) o.rows }
 
--- the output queues with one more neighbour behind the others, for which nothing waits
+-- the output queues with one more neighbour after the others, for which nothing waits
 abbrev pub joined : ℕ → Outputs → Outputs
 joined c o = record o { rows = o.rows ++ (c, []) ∷ [] }
 

@@ -115,7 +115,7 @@ impl<A: Allocator + Copy> Neighbours<A> {
         Some(row.len() as u32)
     }
 
-    /// Puts a packet behind the others of the connection. An `Err` hands it back: the connection isn't there, or its output
+    /// Puts a packet after the others of the connection. An `Err` hands it back: the connection isn't there, or its output
     /// queue is full. It changes nothing.
     pub fn push(&mut self, connection: u32, packet: Descriptor<A>) -> Result<(), Descriptor<A>>
         ensures ok { OnOk result

@@ -9,7 +9,7 @@ use Rattle.gn_text.specs.Header.{config_from, header_of, own_from}
 use Rattle.gn_text.specs.Settings.{Numbers, config_of, own_of}
 use Rattle.gn_text.proofs.ConfigLemmas.{AreWithin, IsConfigured, config_is_within, made}
 
--- the settings that a text's first lines say, and the lines behind them
+-- the settings that a text's first lines say, and the lines after them
 abbrev pub Told : Type 0
 Told = (Numbers × Own) × List (ℕ × List ℕ)
 
@@ -18,26 +18,26 @@ own_line : (numbers : Numbers) (n : ℕ) (more : List (ℕ × List ℕ)) (own : 
 own_line numbers n more None h = _
 own_line numbers n more (Some own) h = made numbers own h
 
-own_configured : (numbers : Numbers) (behind : ℕ) (lines : List (ℕ × List ℕ)) → AreWithin numbers
-    → IfOk (own_from numbers behind lines) (λ (header : Told). IsConfigured header.0)
-own_configured numbers behind [] h = _
-own_configured numbers behind (line ∷ more) h = own_line numbers line.0 more (own_of (fields_of line.1)) h
+own_configured : (numbers : Numbers) (after : ℕ) (lines : List (ℕ × List ℕ)) → AreWithin numbers
+    → IfOk (own_from numbers after lines) (λ (header : Told). IsConfigured header.0)
+own_configured numbers after [] h = _
+own_configured numbers after (line ∷ more) h = own_line numbers line.0 more (own_of (fields_of line.1)) h
 
-config_line : (n behind : ℕ) (more : List (ℕ × List ℕ)) (numbers : Option Numbers) → IfSome numbers AreWithin
-    → IfOk (numbered_at n cause.Config numbers >>= λ numbers. own_from numbers behind more) (λ (header : Told). IsConfigured header.0)
-config_line n behind more None h = _
-config_line n behind more (Some numbers) h = own_configured numbers behind more h
+config_line : (n after : ℕ) (more : List (ℕ × List ℕ)) (numbers : Option Numbers) → IfSome numbers AreWithin
+    → IfOk (numbered_at n cause.Config numbers >>= λ numbers. own_from numbers after more) (λ (header : Told). IsConfigured header.0)
+config_line n after more None h = _
+config_line n after more (Some numbers) h = own_configured numbers after more h
 
-config_configured : (behind : ℕ) (lines : List (ℕ × List ℕ)) → IfOk (config_from behind lines) (λ (header : Told). IsConfigured header.0)
-config_configured behind [] = _
-config_configured behind (line ∷ more) =
-    config_line line.0 behind more (config_of (fields_of line.1)) (config_is_within (fields_of line.1))
+config_configured : (after : ℕ) (lines : List (ℕ × List ℕ)) → IfOk (config_from after lines) (λ (header : Told). IsConfigured header.0)
+config_configured after [] = _
+config_configured after (line ∷ more) =
+    config_line line.0 after more (config_of (fields_of line.1)) (config_is_within (fields_of line.1))
 
 -- the settings that a text's first three lines say are those of a configuration
-pub header_configured : (title : List ℕ) (behind : ℕ) (lines : List (ℕ × List ℕ)) → IfOk (header_of title behind lines) (λ (header : Told). IsConfigured header.0)
-header_configured title behind [] = _
-header_configured title behind (line ∷ more) =
-    elim (is_word line.1 title) as (λ b. IfOk (if b then config_from behind more else Err (fault_at line.0 cause.Header)) (λ (header : Told). IsConfigured header.0)) [
-      | true ↦ config_configured behind more
+pub header_configured : (title : List ℕ) (after : ℕ) (lines : List (ℕ × List ℕ)) → IfOk (header_of title after lines) (λ (header : Told). IsConfigured header.0)
+header_configured title after [] = _
+header_configured title after (line ∷ more) =
+    elim (is_word line.1 title) as (λ b. IfOk (if b then config_from after more else Err (fault_at line.0 cause.Header)) (λ (header : Told). IsConfigured header.0)) [
+      | true ↦ config_configured after more
       | false ↦ _
     ]

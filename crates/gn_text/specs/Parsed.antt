@@ -16,6 +16,6 @@ numbered_from n (line ∷ more) = if is_skipped line then numbered_from (n + 1) 
 abbrev pub parsed_of : List ℕ → List (ℕ × List ℕ)
 parsed_of text = numbered_from 1 (lines_of text)
 
--- the number of the line behind the last one
-abbrev pub behind_of : List ℕ → ℕ
-behind_of text = length (lines_of text) + 1
+-- the number of the line after the last one
+abbrev pub line_after : List ℕ → ℕ
+line_after text = length (lines_of text) + 1

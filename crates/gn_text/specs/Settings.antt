@@ -62,20 +62,20 @@ servent_parsed (id ∷ address ∷ place ∷ shared ∷ size ∷ []) = do
   Some (record { servent = servent; ip = ip; port = port; files = files; kbytes = kbytes })
 servent_parsed fields = None
 
--- what the fields behind a word say
-abbrev pub behind_word : {X : Type 0} → List ℕ → (List (List ℕ) → Option X) → List (List ℕ) → Option X
-behind_word word parsed [] = None
-behind_word word parsed (field ∷ fields) = if is_word field word then parsed fields else None
+-- what the fields after a word say
+abbrev pub after_word : {X : Type 0} → List ℕ → (List (List ℕ) → Option X) → List (List ℕ) → Option X
+after_word word parsed [] = None
+after_word word parsed (field ∷ fields) = if is_word field word then parsed fields else None
 
 -- what the fields of a line `config K N M T W H` say
 abbrev pub config_of : List (List ℕ) → Option Numbers
-config_of fields = behind_word (codes "config") numbers_parsed fields
+config_of fields = after_word (codes "config") numbers_parsed fields
 
 -- what the fields of a line `own SERVENT IP PORT FILES KBYTES` say
 abbrev pub own_of : List (List ℕ) → Option Own
-own_of fields = behind_word (codes "own") servent_parsed fields
+own_of fields = after_word (codes "own") servent_parsed fields
 
--- a number behind a space
+-- a number after a space
 abbrev pub field_text : ℕ → List ℕ
 field_text n = codes " " ++ decimal n
 

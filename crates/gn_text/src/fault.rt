@@ -23,12 +23,12 @@ pub enum Cause {
     Link,
     /// A line of a capture that `load` doesn't take.
     Load,
-    /// The line `end` is missing, or something stands behind it.
+    /// The line `end` is missing, or something stands after it.
     End,
 }
 
 /// The first line of a text that something is wrong with. Lines count from 1, with those that are skipped; what is
-/// missing is a fault of the line behind the last one.
+/// missing is a fault of the line after the last one.
 #[derive(Clone, Copy, Debug, PartialEq, Eq)]
 pub struct CaptureFault {
     pub line: u64,

@@ -23,12 +23,12 @@ fn read_own_line<'a, 'b, A: Allocator + Copy>(
     alloc: A,
     mut config: Config,
     lines: &'b [NumberedLine<'a>],
-    behind: u64,
+    after: u64,
 ) -> Result<(Config, &'b [NumberedLine<'a>]), CaptureRefusal>
-    ensures { IsRead header_seen result (own_from (numbers_of config) behind (map line_seen lines.now)) }
+    ensures { IsRead header_seen result (own_from (numbers_of config) after (map line_seen lines.now)) }
 {
     match lines {
-        [] => Err(refused(behind, Cause::Own)),
+        [] => Err(refused(after, Cause::Own)),
         [(number, line), more @ ..] => match read_own(alloc, &fields(alloc, line)?)? {
             Some(own) => {
                 config.own = own;
@@ -42,37 +42,37 @@ fn read_own_line<'a, 'b, A: Allocator + Copy>(
 fn read_config_line<'a, 'b, A: Allocator + Copy>(
     alloc: A,
     lines: &'b [NumberedLine<'a>],
-    behind: u64,
+    after: u64,
 ) -> Result<(Config, &'b [NumberedLine<'a>]), CaptureRefusal>
-    ensures { IsRead header_seen result (config_from behind (map line_seen lines.now)) }
+    ensures { IsRead header_seen result (config_from after (map line_seen lines.now)) }
 {
     match lines {
-        [] => Err(refused(behind, Cause::Config)),
+        [] => Err(refused(after, Cause::Config)),
         [(number, line), more @ ..] => match read_config(&fields(alloc, line)?) {
-            Some(config) => read_own_line(alloc, config, more, behind),
+            Some(config) => read_own_line(alloc, config, more, after),
             None => Err(refused(*number, Cause::Config)),
         },
     }
 }
 
-/// The configuration that a text begins with, and the lines behind it: the first line is the title, letter by letter, the
-/// second a `config` line, the third an `own` line. The lines are those that aren't skipped; `behind` is the number of the
-/// line behind the last, where a missing one is at fault.
+/// The configuration that a text begins with, and the lines after it: the first line is the title, letter by letter, the
+/// second a `config` line, the third an `own` line. The lines are those that aren't skipped; `after` is the number of the
+/// line after the last, where a missing one is at fault.
 pub fn read_header<'a, 'b, A: Allocator + Copy>(
     alloc: A,
     title: &[u8],
     lines: &'b [NumberedLine<'a>],
-    behind: u64,
+    after: u64,
 ) -> Result<(Config, &'b [NumberedLine<'a>]), CaptureRefusal>
-    ensures { IsRead header_seen result (header_of title.now behind (map line_seen lines.now)) }
+    ensures { IsRead header_seen result (header_of title.now after (map line_seen lines.now)) }
 {
     match lines {
-        [] => Err(refused(behind, Cause::Header)),
+        [] => Err(refused(after, Cause::Header)),
         [(number, line), more @ ..] => {
             if !is_word(line, title) {
                 return Err(refused(*number, Cause::Header));
             }
-            read_config_line(alloc, more, behind)
+            read_config_line(alloc, more, after)
         }
     }
 }

@@ -51,7 +51,7 @@ const FAULTS: [(&[u8], u64, Cause); 13] = [
 
 fn read(rt: &HostRuntime, text: &[u8]) -> Result<(Config, usize), CaptureRefusal> {
     let parsed = numbered_lines(rt.alloc(), text)?;
-    match read_header(rt.alloc(), TITLE, &parsed.lines, parsed.behind) {
+    match read_header(rt.alloc(), TITLE, &parsed.lines, parsed.after) {
         Ok((config, more)) => Ok((config, more.len())),
         Err(refusal) => Err(refusal),
     }

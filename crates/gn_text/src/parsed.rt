@@ -1,7 +1,7 @@
 //! The lines of a text that aren't skipped.
 
 ghost use Rattle.std.specs.Prelude.{◌≡◌, map, IfOk};
-ghost use Rattle.gn_text.specs.Parsed.{behind_of, line_seen, numbered_from, parsed_of};
+ghost use Rattle.gn_text.specs.Parsed.{line_after, line_seen, numbered_from, parsed_of};
 
 use crate::line::{is_skipped, lines};
 use std::alloc::{AllocError, Allocator, Global};
@@ -14,8 +14,8 @@ pub type NumberedLine<'a> = (u64, &'a [u8]);
 pub struct NumberedLines<'a, A: Allocator = Global> {
     /// Those that aren't skipped.
     pub lines: Vec<NumberedLine<'a>, A>,
-    /// The number of the line behind the last one.
-    pub behind: u64,
+    /// The number of the line after the last one.
+    pub after: u64,
 }
 
 fn unskipped<'a, A: Allocator + Copy>(
@@ -39,11 +39,11 @@ pub fn numbered_lines<A: Allocator + Copy>(
     text: &[u8],
 ) -> Result<NumberedLines<A>, AllocError>
     ensures lines { IfOk result (λ parsed. map line_seen parsed.lines.items ≡ parsed_of text.now) }
-    ensures behind { IfOk result (λ parsed. parsed.behind ≡ behind_of text.now) }
+    ensures after { IfOk result (λ parsed. parsed.after ≡ line_after text.now) }
 {
     let lines = lines(alloc, text)?;
     Ok(NumberedLines {
         lines: unskipped(alloc, &lines)?,
-        behind: lines.len() as u64 + 1,
+        after: lines.len() as u64 + 1,
     })
 }

@@ -66,7 +66,7 @@ fn write_reply<A: Allocator + Copy, B: Allocator>(
     }
 }
 
-/// Appends a reply as it stands behind the `=` of a step's line. An `Err` is out of memory, and changes nothing.
+/// Appends a reply as it stands after the `=` of a step's line. An `Err` is out of memory, and changes nothing.
 pub fn push_reply<A: Allocator + Copy, B: Allocator>(
     alloc: A,
     out: &mut Vec<u8, B>,

@@ -27,7 +27,7 @@ keeps_less {K} {J} part P Q links bodies many less each k d body below =
     let here = get_or-map part links k link d low in
     subst (λ (x : J). Q x (get_or bodies k body)) (sym here) (less (get_or links k link) (get_or bodies k body) (each k link body below))
 
--- one more was taken from what is left, and its image stands behind the others
+-- one more was taken from what is left, and its image stands after the others
 pub one_started : {H S X : Type 0} (f : H → X) (k : S → X) (hs more : List H) (rest left : List S) (x : S) (all : List X) → map f more ≡ map f hs ++ k x ∷ [] → rest ≡ x ∷ left
     → map f hs ++ map k rest ≡ all → map f more ++ map k left ≡ all
 one_started f k hs more rest left x all one next before =

@@ -32,7 +32,7 @@ header_at-stream d rest kept =
     ap header_at (ap (take 23) (append_assoc (header_bytes (header_of d)) d.payload rest) ∙ take_at (header_bytes (header_of d)) (d.payload ++ rest) 23 (length-header_bytes (header_of d) kept.id_size))
     ∙ header_at-header_bytes (header_of d) kept.id_size (valid_short d.kind (length d.payload) kept.valid) kept.stored
 
--- what a stream that begins with a descriptor has behind its header
+-- what a stream that begins with a descriptor has after its header
 pub drop-stream : (d : Packet) (rest : List ℕ) → IsDescriptor d → drop 23 (bytes_of d ++ rest) ≡ d.payload ++ rest
 drop-stream d rest kept =
     ap (drop 23) (append_assoc (header_bytes (header_of d)) d.payload rest)
@@ -54,9 +54,9 @@ encodings_part d e rest d_kept e_kept same =
     let whole : bytes_of e ++ [] ≡ bytes_of d ++ rest = append-nil (bytes_of e) ∙ same in
     let header : header_of e ≡ header_of d =
     sym (header_at-stream e [] e_kept) ∙ ap (λ (xs : List ℕ). header_at (take 23 xs)) whole ∙ header_at-stream d rest d_kept in
-    let behind : e.payload ≡ d.payload ++ rest =
+    let longer : e.payload ≡ d.payload ++ rest =
     sym (append-nil e.payload) ∙ sym (drop-stream e [] e_kept) ∙ ap (drop 23) whole ∙ drop-stream d rest d_kept in
-    let ends : (e.payload ≡ d.payload) × (rest ≡ []) = nothing_more e.payload d.payload rest behind (ap (λ (h : Header). h.length) header) in (
+    let ends : (e.payload ≡ d.payload) × (rest ≡ []) = nothing_more e.payload d.payload rest longer (ap (λ (h : Header). h.length) header) in (
       packet_is e.id d.id e.kind d.kind e.ttl d.ttl e.hops d.hops e.payload d.payload
           (ap (λ (h : Header). h.id) header) (ap (λ (h : Header). h.kind) header) (ap (λ (h : Header). h.ttl) header) (ap (λ (h : Header). h.hops) header) ends.0,
       ends.1,

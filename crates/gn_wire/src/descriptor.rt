@@ -105,7 +105,7 @@ impl<A: Allocator> Descriptor<A> {
         self.hops
     }
 
-    /// The bytes behind its header. What every descriptor keeps is told here too.
+    /// The bytes after its header. What every descriptor keeps is told here too.
     pub fn payload(&self) -> &Bytes<A>
         ensures value { result.now ≡ self.now.payload }
         ensures kept { IsDescriptor self.now }

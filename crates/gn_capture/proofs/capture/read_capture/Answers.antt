@@ -9,5 +9,5 @@ returns-in-Ok-clause-first g c =
     let text = c.args.text.now in
     let refusal = c.in-Err-read_lines.refusal in
     let begun : capture_header text ≡ Ok (header_seen (c.in-Ok.config, c.in-Ok.lines)) =
-    rw (c.deref.ensures.value, c.in_ok-parsed.ensures.lines, c.in_ok-parsed.ensures.behind) at c.in-Ok.ensures in
+    rw (c.deref.ensures.value, c.in_ok-parsed.ensures.lines, c.in_ok-parsed.ensures.after) at c.in-Ok.ensures in
     told_first _ text refusal (body_refused _ text (header_seen (c.in-Ok.config, c.in-Ok.lines)) refusal begun c.in-Err-read_lines.ensures)

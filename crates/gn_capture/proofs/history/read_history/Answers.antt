@@ -8,6 +8,6 @@ use Rattle.gn_capture.proofs.history.read_history.Goals as goal
 
 pub returns : goal.returns
 returns g c =
-    let told : List (ℕ × Bor (List ℕ)) → _ = λ xs. header_of title c.in_ok-parsed.parsed.behind (map line_seen xs) in
-    history_read c.args.text.now (map line_seen c.in_ok-parsed.parsed.lines.items) c.in_ok-parsed.parsed.behind (settings_of c.in_ok-config.config) (map line_seen c.in_ok-config.lines.now)
-    c.in_ok-steps.steps.items c.in_ok-parsed.ensures.lines c.in_ok-parsed.ensures.behind (ap told (sym c.deref.ensures.value) ∙ c.in_ok-config.ensures) c.in_ok-steps.ensures
+    let told : List (ℕ × Bor (List ℕ)) → _ = λ xs. header_of title c.in_ok-parsed.parsed.after (map line_seen xs) in
+    history_read c.args.text.now (map line_seen c.in_ok-parsed.parsed.lines.items) c.in_ok-parsed.parsed.after (settings_of c.in_ok-config.config) (map line_seen c.in_ok-config.lines.now)
+    c.in_ok-steps.steps.items c.in_ok-parsed.ensures.lines c.in_ok-parsed.ensures.after (ap told (sym c.deref.ensures.value) ∙ c.in_ok-config.ensures) c.in_ok-steps.ensures

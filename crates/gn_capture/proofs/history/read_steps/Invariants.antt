@@ -5,4 +5,4 @@ use Rattle.gn_capture.proofs.history.read_steps.Given as goal
 
 abbrev pub invariant-loop-i : goal.invariant-loop-i
 invariant-loop-i g l =
-    map_result (λ more. l.steps.items ++ more) (steps_from l.fn.behind (map line_seen (drop l.i l.lines))) ≡ steps_from l.fn.behind (map line_seen l.lines)
+    map_result (λ more. l.steps.items ++ more) (steps_from l.fn.after (map line_seen (drop l.i l.lines))) ≡ steps_from l.fn.after (map line_seen l.lines)
