@@ -53,7 +53,8 @@ pub fn load<
     ensures reads { OnOk result (S.failures source.new ≡ S.failures source.old) }
     ensures failures { OnOk result (W.failures sink.new ≡ W.failures sink.old) }
     ensures stalls { OnOk result (W.stalls sink.new ≡ W.stalls sink.old) }
-    ensures stopped { IfErr result (λ fault. HasStopped A workers fault (S.rest source.old) (W.told sink.old) (W.told sink.new)) }
+    ensures stopped { IfErr result (λ fault. HasStopped A workers fault (S.rest source.old)
+        (W.told sink.old) (W.told sink.new)) }
     ensures fault { IfErr result (λ fault. IsLoadFault workers fault (load_of A) (S.rest source.old)
         (S.failures source.old) (S.failures source.new) (S.given source.old) (S.given source.new)
         (W.failures sink.old) (W.failures sink.new) (W.stalls sink.old) (W.stalls sink.new)) }
