@@ -1,22 +1,14 @@
 //! What a history's text says.
 
 ghost use Rattle.std.specs.Prelude.{◌≡◌, map};
-ghost use Rattle.gn_text.specs.Faults.{IsRead, refused_at};
+ghost use Rattle.gn_text.specs.Faults.{IsRead};
 ghost use Rattle.gn_text.specs.Parsed.{line_seen};
 ghost use Rattle.gn_capture.specs.Histories.{ended, history_of, history_seen, line_parsed, steps_from};
 
 use crate::step::read_step;
 use gn_rules::{Config, Step};
-use gn_text::{
-    CaptureFault, CaptureRefusal, Cause, NumberedLine, fields, is_word, numbered_lines, read_header,
-};
+use gn_text::{CaptureRefusal, Cause, NumberedLine, fields, is_word, numbered_lines, read_header};
 use std::alloc::Allocator;
-
-fn refused(line: u64, cause: Cause) -> CaptureRefusal
-    ensures { result ≡ refused_at line cause }
-{
-    CaptureRefusal::Fault(CaptureFault { line, cause })
-}
 
 /// The step of a line, or `None` where the line is `end`.
 fn read_line<A: Allocator + Copy>(
@@ -31,7 +23,7 @@ fn read_line<A: Allocator + Copy>(
     }
     match read_step(alloc, &fields(alloc, line)?)? {
         Some(step) => Ok(Some(step)),
-        None => Err(refused(number, Cause::Field)),
+        None => Err(CaptureRefusal::at(number, Cause::Field)),
     }
 }
 
@@ -48,14 +40,14 @@ fn read_steps<A: Allocator + Copy>(
             Ok(Some(step)) => steps.push(step)?,
             Ok(None) => {
                 return match lines.get(i + 1) {
-                    Some((number, _)) => Err(refused(*number, Cause::End)),
+                    Some((number, _)) => Err(CaptureRefusal::at(*number, Cause::End)),
                     None => Ok(steps),
                 };
             }
             Err(refusal) => return Err(refusal),
         }
     }
-    Err(refused(after, Cause::End))
+    Err(CaptureRefusal::at(after, Cause::End))
 }
 
 /// The configuration and the steps that a history's text says. An `Err` tells its first line that something is wrong
