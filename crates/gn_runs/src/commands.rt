@@ -9,7 +9,9 @@ use gn_program::command;
 use std::alloc::Global;
 use std::io::{self, Read};
 use std::process::Abort;
+use std::sync::Wait;
 use std::test::Fail;
+use std::thread::Threads;
 
 /// A text that is read, the status, what is printed, and the line of its fault. The texts are short ones.
 type Case = (&'static str, u8, &'static str, &'static str);
@@ -135,7 +137,7 @@ const EXPLAINED: [Case; 4] = [
 ];
 
 /// Gives the text of a case to a command, and compares its answer.
-fn answers<R: Abort + AllocGlobal>(
+fn answers<R: Threads + Wait + Sync + Abort + AllocGlobal>(
     rt: &R,
     words: &[&str],
     text: &str,
@@ -146,7 +148,7 @@ fn answers<R: Abort + AllocGlobal>(
     let mut reader = ReaderSource::new(text.as_bytes());
     let mut writer = WriterSink::new(Vec::new(alloc));
     let mut faults = WriterSink::new(Vec::new(alloc));
-    let found = command(alloc, words, &mut reader, &mut writer, &mut faults);
+    let found = command(rt, alloc, words, &mut reader, &mut writer, &mut faults);
     assert!(rt; found == status, "{short}: status {found}");
     for (sink, told) in [(writer, printed), (faults, fault)] {
         same(
@@ -159,7 +161,11 @@ fn answers<R: Abort + AllocGlobal>(
     Ok(())
 }
 
-fn all_answer<R: Abort + AllocGlobal>(rt: &R, words: &[&str], cases: &[Case]) -> Result<(), Fail> {
+fn all_answer<R: Threads + Wait + Sync + Abort + AllocGlobal>(
+    rt: &R,
+    words: &[&str],
+    cases: &[Case],
+) -> Result<(), Fail> {
     for case in cases {
         answers(rt, words, &encoded(rt.alloc(), case.0)?, case)?;
     }
@@ -198,6 +204,7 @@ fn too_large_an_input(rt: HostRuntime) {
     let mut writer = WriterSink::new(Vec::new(alloc));
     let mut faults = WriterSink::new(Vec::new(alloc));
     let status = command(
+        &rt,
         alloc,
         &["gn", "replay"],
         &mut reader,
