@@ -111,7 +111,11 @@ fn judged<R: Threads + Wait + Sync + AllocGlobal>(
         Some(history) => printed(rt, &["gn", "audit"], &history, 0),
         None => None,
     };
-    if legality.is_some() { "legal" } else { "not legal" }
+    if legality.is_some() {
+        "legal"
+    } else {
+        "not legal"
+    }
 }
 
 fn replay_all<R: Threads + Wait + Sync + Files + Print + AllocGlobal>(rt: &R) -> io::Result<()> {

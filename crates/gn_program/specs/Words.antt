@@ -38,7 +38,8 @@ abbrev pub gn_app : App
 gn_app =
     let gn = new_app (codes "gn") in
     let top = record gn.top { has_version = true; disable_help_subcommand = true; subcommand_required = true } in
-    with_subcommand (with_subcommand (with_subcommand (record gn { top = top }) replay_app.top) audit_app.top) load_app.top
+    let replays_and_audits = with_subcommand (with_subcommand (record gn { top = top }) replay_app.top) audit_app.top in
+    with_subcommand replays_and_audits load_app.top
 
 -- whether a flag is set
 abbrev pub is_set : Text → List Row → Bool
@@ -87,6 +88,10 @@ request_by (fault ∷ faults) named = None
 abbrev pub request_of : List Text → Option Request
 request_of words = request_by (kinds_of words) (subcommand_of gn_app words)
 
+-- the words of a load, with this text for the number of workers
+abbrev pub load_words : Text → Text → List Text
+load_words program workers = program ∷ codes "load" ∷ codes "--workers" ∷ workers ∷ []
+
 -- plain words are read as they say, whatever the program's name is; and a load by no worker or by more than 16 is a
 -- mistake in the value of an option
 pub record PlainWordsAreRead : Type 0 where
@@ -94,9 +99,7 @@ pub record PlainWordsAreRead : Type 0 where
   pub history : (program : Text) → request_of (program ∷ codes "replay" ∷ codes "--history" ∷ []) ≡ Some History
   pub audit : (program : Text) → request_of (program ∷ codes "audit" ∷ []) ≡ Some Audit
   pub explain : (program : Text) → request_of (program ∷ codes "audit" ∷ codes "--explain" ∷ []) ≡ Some Explain
-  pub load : (program : Text) → request_of (program ∷ codes "load" ∷ codes "--workers" ∷ codes "4" ∷ []) ≡ Some (Load 4)
-  pub most : (program : Text) → request_of (program ∷ codes "load" ∷ codes "--workers" ∷ codes "16" ∷ []) ≡ Some (Load 16)
-  pub none : (program : Text)
-      → kinds_of (program ∷ codes "load" ∷ codes "--workers" ∷ codes "0" ∷ []) ≡ ValueValidation ∷ []
-  pub many : (program : Text)
-      → kinds_of (program ∷ codes "load" ∷ codes "--workers" ∷ codes "17" ∷ []) ≡ ValueValidation ∷ []
+  pub load : (program : Text) → request_of (load_words program (codes "4")) ≡ Some (Load 4)
+  pub most : (program : Text) → request_of (load_words program (codes "16")) ≡ Some (Load 16)
+  pub none : (program : Text) → kinds_of (load_words program (codes "0")) ≡ ValueValidation ∷ []
+  pub many : (program : Text) → kinds_of (load_words program (codes "17")) ≡ ValueValidation ∷ []

@@ -197,8 +197,8 @@ fn bad_workers(alloc: Global) -> Result<Error, AllocError>
     )
 }
 
-/// What the words ask for, the first of them the program's name. An `Err` says what else they are: a call for help or the
-/// version, or a mistake; or out of memory.
+/// What the words ask for, the first of them the program's name. An `Err` says what else they are: a call for help or
+/// the version, or a mistake; or it says out of memory.
 pub(crate) fn read_words<'a, T: AsStr>(alloc: Global, words: &'a [T]) -> Result<Request, Error>
     ensures ok { IfOk result (λ request. request_of (map T.text words.entry.now) ≡ Some request) }
     ensures err { IfErr result (HasKind (kinds_of (map T.text words.entry.now))) }

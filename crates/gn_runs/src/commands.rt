@@ -1,4 +1,4 @@
-//! The first run, captures with a fault, and audits with what explains them, through the command line.
+//! The first run, captures with a fault, audits with what explains them, and loads, through the command line.
 
 use crate::compare::same;
 use crate::encoding::encoded;
@@ -136,6 +136,25 @@ const EXPLAINED: [Case; 4] = [
     ),
 ];
 
+/// Captures that one worker loads: a Ping of one link, and the first run, of which a load takes all but its last line.
+const LOADED: [Case; 2] = [
+    (
+        "gnutella-capture 1; config 4 8 4 8 8 100; own <ee> 127.0.0.1 6346 5 40; join; data 1 <PING a1 07 00>",
+        0,
+        "gnutella-history 1; config 4 8 4 8 8 100; own <ee> 127.0.0.1 6346 5 40; \
+        0 connect = connected 1; 0 admit 1 <PING a1 07 00> = admitted 0; \
+        2 route 0 = routed local 1+<OWN a1 01>; 1 take 1 = taken <OWN a1 01>; 1 close 1 = closed 0; end",
+        "",
+    ),
+    (
+        "gnutella-capture 1; config 4 8 4 8 8 100; own <ee> 127.0.0.1 6346 5 40; \
+        join; join; data 1 <PING a1 07 00>; route 0",
+        1,
+        "",
+        "fault: line 7: load",
+    ),
+];
+
 /// Gives the text of a case to a command, and compares its answer.
 fn answers<R: Threads + Wait + Sync + Abort + AllocGlobal>(
     rt: &R,
@@ -195,6 +214,11 @@ fn audits(rt: HostRuntime) -> Result<(), Fail> {
 #[test]
 fn explained_audits(rt: HostRuntime) -> Result<(), Fail> {
     all_answer(&rt, &["gn", "audit", "--explain"], &EXPLAINED)
+}
+
+#[test]
+fn loads(rt: HostRuntime) -> Result<(), Fail> {
+    all_answer(&rt, &["gn", "load", "--workers", "1"], &LOADED)
 }
 
 #[test]
