@@ -32,14 +32,17 @@ value_rule name = record (new_rule name) { long = Some name; action = Some Set; 
 abbrev pub load_app : App
 load_app = with_rule (new_app (codes "load")) (value_rule (codes "workers"))
 
--- the command `gn`: it has a version, and one of its subcommands has to be named; `help` is none of them, and none
--- takes more than its flags and options
-abbrev pub gn_app : App
-gn_app =
+-- the command `gn` before it has its subcommands: it has a version, and one of them has to be named; `help` is none
+abbrev pub bare_app : App
+bare_app =
     let gn = new_app (codes "gn") in
-    let top = record gn.top { has_version = true; disable_help_subcommand = true; subcommand_required = true } in
-    let replays_and_audits = with_subcommand (with_subcommand (record gn { top = top }) replay_app.top) audit_app.top in
-    with_subcommand replays_and_audits load_app.top
+    record gn {
+      top = record gn.top { has_version = true; disable_help_subcommand = true; subcommand_required = true };
+    }
+
+-- the command `gn`: it has these subcommands, of which none takes more than its flags and options
+abbrev pub gn_app : App
+gn_app = with_subcommand (with_subcommand (with_subcommand bare_app replay_app.top) audit_app.top) load_app.top
 
 -- whether a flag is set
 abbrev pub is_set : Text → List Row → Bool

@@ -10,6 +10,7 @@ ghost use Rattle.gn_text.specs.Settings.{is_within};
 ghost use Rattle.gn_program.specs.Words.{
   PlainWordsAreRead,
   audit_app,
+  bare_app,
   flag_rule,
   gn_app,
   is_set,
@@ -118,8 +119,9 @@ fn load_command<'a>(alloc: Global) -> Result<Command<'a>, AllocError>
     .arg(workers(alloc))
 }
 
-fn gn_command<'a>(alloc: Global) -> Result<Command<'a>, AllocError>
-    ensures { IfOk result (λ command. app_of command ≡ gn_app) }
+/// The command `gn` before it has its subcommands.
+fn bare_command<'a>(alloc: Global) -> Command<'a>
+    ensures { app_of result ≡ bare_app }
 {
     Command::new(alloc, "gn")
         .version(VERSION)
@@ -127,6 +129,12 @@ fn gn_command<'a>(alloc: Global) -> Result<Command<'a>, AllocError>
         .after_help(help::EXAMPLES)
         .disable_help_subcommand(true)
         .subcommand_required(true)
+}
+
+fn gn_command<'a>(alloc: Global) -> Result<Command<'a>, AllocError>
+    ensures { IfOk result (λ command. app_of command ≡ gn_app) }
+{
+    bare_command(alloc)
         .subcommand(replay_command(alloc)?)?
         .subcommand(audit_command(alloc)?)?
         .subcommand(load_command(alloc)?)
