@@ -111,7 +111,7 @@ fn counters(rt: HostRuntime) -> Result<(), Fail> {
     let mut out = Vec::new(rt.alloc());
     let mut stats = Stats::new();
     stats.raise(Counter::Sent);
-    push_stats(rt.alloc(), &mut out, &stats)?;
+    push_stats(&mut out, &stats)?;
     assert_eq!(rt;
         out.as_slice(),
         b"stats connected 0 toomany 0 closed 0 admitted 0 busy 0 routed 0 unknownkind 0 malformed 0 \
@@ -126,10 +126,10 @@ fn other_lines(rt: HostRuntime) -> Result<(), Fail> {
     let alloc = rt.alloc();
     let mut out = Vec::new(alloc);
     push_refusal(&mut out, Refusal::NothingWaiting)?;
-    push_frame_fault(alloc, &mut out, 1, FrameFault::FixedLength(Kind::Ping, 1))?;
-    push_frame_fault(alloc, &mut out, 3, FrameFault::TooLong(65_537))?;
-    push_greeting_refused(alloc, &mut out, 2)?;
-    push_ended(alloc, &mut out, 2)?;
+    push_frame_fault(&mut out, 1, FrameFault::FixedLength(Kind::Ping, 1))?;
+    push_frame_fault(&mut out, 3, FrameFault::TooLong(65_537))?;
+    push_greeting_refused(&mut out, 2)?;
+    push_ended(&mut out, 2)?;
     let own = Own {
         servent: Guid([0xee; 16]),
         ip: [127, 0, 0, 1],
