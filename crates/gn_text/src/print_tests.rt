@@ -24,7 +24,6 @@ fn send(to: u32, packet: Descriptor, queued: bool) -> Sending {
 fn line(rt: &HostRuntime, event: Event, reply: Reply) -> Result<Vec<u8>, Fail> {
     let mut out = Vec::new(rt.alloc());
     push_step(
-        rt.alloc(),
         &mut out,
         &Step {
             actor: 0,
@@ -123,8 +122,7 @@ fn counters(rt: HostRuntime) -> Result<(), Fail> {
 
 #[test]
 fn other_lines(rt: HostRuntime) -> Result<(), Fail> {
-    let alloc = rt.alloc();
-    let mut out = Vec::new(alloc);
+    let mut out = Vec::new(rt.alloc());
     push_refusal(&mut out, Refusal::NothingWaiting)?;
     push_frame_fault(&mut out, 1, FrameFault::FixedLength(Kind::Ping, 1))?;
     push_frame_fault(&mut out, 3, FrameFault::TooLong(65_537))?;
@@ -140,9 +138,9 @@ fn other_lines(rt: HostRuntime) -> Result<(), Fail> {
     let Ok(config) = Config::new(4, 8, 4, 8, 8, 100, own) else {
         return Err(Fail::new("each number is in its limit"));
     };
-    push_settings(alloc, &mut out, &config)?;
-    push_step_of(alloc, &mut out, 7, &Event::Connect, &Reply::TooMany)?;
-    push_reply(alloc, &mut out, &Reply::<Global>::Admitted(12))?;
+    push_settings(&mut out, &config)?;
+    push_step_of(&mut out, 7, &Event::Connect, &Reply::<Global>::TooMany)?;
+    push_reply(&mut out, &Reply::<Global>::Admitted(12))?;
     assert_eq!(rt;
         out.as_slice(),
         b"refused NothingWaiting\nfault 1 fixed ping 1\nfault 3 long 65537\n\
