@@ -22,6 +22,10 @@ pub(crate) enum Fault {
     NoMemory,
     #[error("fault: history full\n")]
     HistoryFull,
+    #[error("fault: listen\n")]
+    Listen,
+    #[error("fault: call {0}\n")]
+    Call(u32),
     #[error("fault: link {0}\n")]
     Link(u32),
     #[error("fault: stage missing\n")]
@@ -52,6 +56,8 @@ impl From<RunFault> for Fault {
     fn from(fault: RunFault) -> Fault {
         match fault {
             RunFault::BadWorkers => Fault::Workers,
+            RunFault::Listen => Fault::Listen,
+            RunFault::Call(peer) => Fault::Call(peer),
             RunFault::Link(link) => Fault::Link(link),
             RunFault::HistoryFull => Fault::HistoryFull,
             RunFault::NoMemory | RunFault::Stage(StageFault::NoMemory) => Fault::NoMemory,
