@@ -1,7 +1,8 @@
 #!/bin/sh
 # Replays each capture of examples/, audits each history with the program that the first argument names, and explains those that
-# have an explanation; compares what it prints with the text beside it: NAME.replay, NAME.verdict, NAME.explained. Compares
-# them with gn_examples' copy too. Ends with status 1 where one differs.
+# have an explanation; compares what it prints with the text beside it: NAME.replay, NAME.verdict, NAME.explained. Loads the
+# capture that is for loads, and audits its history. Compares examples/ with gn_examples' copy too. Ends with status 1 where
+# one differs.
 gn=${1:?the path of gn}
 failed=0
 # the gate runs a program over its own copy, since it takes no links
@@ -23,4 +24,12 @@ for wanted in examples/*.replay examples/*.verdict examples/*.explained; do
 		failed=1
 	fi
 done
+# two loads may print different histories, so that there is no text beside this one
+capture=examples/six_links.capture
+if "$gn" load --workers 4 < "$capture" | "$gn" audit | grep -q '^legal '; then
+	echo "$capture: loaded, its history is legal"
+else
+	echo "$capture: loaded, its history isn't legal" >&2
+	failed=1
+fi
 exit $failed

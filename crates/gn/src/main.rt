@@ -17,6 +17,7 @@ fn main(rt: HostRuntime) -> ExitCode {
     let mut faults = WriterSink::new(rt.stderr());
     let status = match words_of(&rt) {
         Ok(words) => command(
+            &rt,
             rt.alloc(),
             words.as_slice(),
             &mut reader,

@@ -45,7 +45,7 @@ pub(crate) fn time_audit<R: Runtime<A: Copy>, C: RouterCore<R::A> + Drop>(
 ) -> io::Result<(Measured, bool)> {
     let count = steps.len();
     let mut history = Vec::new(rt.alloc());
-    write_history(rt.alloc(), config, &steps, &mut history)?;
+    write_history(config, &steps, &mut history)?;
     drop(steps);
     let start = Instant::now(rt)?;
     let mut source = ReaderSource::new(history.as_slice());

@@ -14,10 +14,6 @@ use Rattle.gn_capture.specs.Histories.{history_of, steps_from, title}
 begins : (old more new : List ℕ) → new ≡ old ++ more → take (length old) new ≡ old
 begins old more new is = rw is (take-append_seam old more)
 
-pub on_error : {X E P : Type 0} (r : Result X E) → P → OnErr r P
-on_error (Ok x) p = _
-on_error (Err e) p = p
-
 -- two parts, one appended after the other
 pub two_parts : (old t1 t2 a b : List ℕ) → t1 ≡ old ++ a → t2 ≡ t1 ++ b → t2 ≡ old ++ (a ++ b)
 two_parts old t1 t2 a b first second = second ∙ ap (λ xs. xs ++ b) first ∙ append_assoc old a b

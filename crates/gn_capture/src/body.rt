@@ -23,16 +23,17 @@ fn links_after<A: Allocator>(links: u64, line: &Line<A>) -> u64
 }
 
 /// What these lines say, each with its number.
-pub(crate) fn read_lines<A: Allocator + Copy>(
+pub(crate) fn read_lines<'a, A: Allocator + Copy>(
     alloc: A,
-    lines: &[NumberedLine],
+    lines: &[NumberedLine<'a>],
 ) -> Result<Vec<(u64, Line<A>), A>, CaptureRefusal>
     ensures { IsRead (λ v. v.items) result (lines_from 0 (map line_seen lines.now)) }
 {
     let mut parsed = Vec::new(alloc);
+    let mut fields = Vec::new(alloc);
     let mut links = 0;
     for (number, text) in lines {
-        match read_numbered(alloc, links, *number, text) {
+        match read_numbered(alloc, &mut fields, links, *number, text) {
             Ok(line) => {
                 links = links_after(links, &line);
                 parsed.push((*number, line))?;

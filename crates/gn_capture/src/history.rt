@@ -1,27 +1,22 @@
 //! What a history's text says.
 
 ghost use Rattle.std.specs.Prelude.{◌≡◌, map};
-ghost use Rattle.gn_text.specs.Faults.{IsRead, refused_at};
+ghost use Rattle.gn_text.specs.Faults.{IsRead};
 ghost use Rattle.gn_text.specs.Parsed.{line_seen};
 ghost use Rattle.gn_capture.specs.Histories.{ended, history_of, history_seen, line_parsed, steps_from};
 
 use crate::step::read_step;
 use gn_rules::{Config, Step};
 use gn_text::{
-    CaptureFault, CaptureRefusal, Cause, NumberedLine, fields, is_word, numbered_lines, read_header,
+    CaptureRefusal, Cause, NumberedLine, fields_into, is_word, numbered_lines, read_header,
 };
 use std::alloc::Allocator;
 
-fn refused(line: u64, cause: Cause) -> CaptureRefusal
-    ensures { result ≡ refused_at line cause }
-{
-    CaptureRefusal::Fault(CaptureFault { line, cause })
-}
-
-/// The step of a line, or `None` where the line is `end`.
-fn read_line<A: Allocator + Copy>(
+/// The step of a line, or `None` where the line is `end`. Its fields are put in place of those of another line.
+fn read_line<'a, A: Allocator + Copy>(
     alloc: A,
-    line: &NumberedLine,
+    fields: &mut Vec<&'a [u8], A>,
+    line: &NumberedLine<'a>,
 ) -> Result<Option<Step<A>>, CaptureRefusal>
     ensures { IsRead (λ x. x) result (line_parsed (line_seen line.now)) }
 {
@@ -29,33 +24,35 @@ fn read_line<A: Allocator + Copy>(
     if is_word(line, b"end") {
         return Ok(None);
     }
-    match read_step(alloc, &fields(alloc, line)?)? {
+    fields_into(line, fields)?;
+    match read_step(alloc, fields.as_slice())? {
         Some(step) => Ok(Some(step)),
-        None => Err(refused(number, Cause::Field)),
+        None => Err(CaptureRefusal::at(number, Cause::Field)),
     }
 }
 
-fn read_steps<A: Allocator + Copy>(
+fn read_steps<'a, A: Allocator + Copy>(
     alloc: A,
-    lines: &[NumberedLine],
+    lines: &[NumberedLine<'a>],
     after: u64,
 ) -> Result<Vec<Step<A>, A>, CaptureRefusal>
     ensures { IsRead (λ v. v.items) result (steps_from after (map line_seen lines.now)) }
 {
     let mut steps = Vec::new(alloc);
+    let mut fields = Vec::new(alloc);
     for (i, line) in lines.iter().enumerate() {
-        match read_line(alloc, line) {
+        match read_line(alloc, &mut fields, line) {
             Ok(Some(step)) => steps.push(step)?,
             Ok(None) => {
                 return match lines.get(i + 1) {
-                    Some((number, _)) => Err(refused(*number, Cause::End)),
+                    Some((number, _)) => Err(CaptureRefusal::at(*number, Cause::End)),
                     None => Ok(steps),
                 };
             }
             Err(refusal) => return Err(refusal),
         }
     }
-    Err(refused(after, Cause::End))
+    Err(CaptureRefusal::at(after, Cause::End))
 }
 
 /// The configuration and the steps that a history's text says. An `Err` tells its first line that something is wrong

@@ -47,7 +47,7 @@ fn again(rt: &HostRuntime, text: &[u8]) -> Result<Vec<u8>, Fail> {
         return Err(Fail::new("it is valid"));
     };
     let mut out = Vec::new(rt.alloc());
-    write_history(rt.alloc(), &config, &steps, &mut out)?;
+    write_history(&config, &steps, &mut out)?;
     written_is_read(&config, &steps);
     Ok(out)
 }

@@ -12,8 +12,7 @@ use gn_wire::whole_or_none;
 use std::alloc::{AllocError, Allocator};
 
 /// Appends a line for each step. An `Err` is out of memory, and leaves what stood there before in front.
-fn write_steps<A: Allocator + Copy, B: Allocator>(
-    alloc: A,
+fn write_steps<A: Allocator, B: Allocator>(
     out: &mut Vec<u8, B>,
     steps: &[Step<A>],
 ) -> Result<(), AllocError>
@@ -21,14 +20,13 @@ fn write_steps<A: Allocator + Copy, B: Allocator>(
     ensures err { OnErr result (take (length out.old.items) out.new.items ≡ out.old.items) }
 {
     for step in steps {
-        push_step(alloc, out, step)?;
+        push_step(out, step)?;
     }
     Ok(())
 }
 
 /// Appends the text of a history. An `Err` is out of memory, and leaves what stood there before in front.
-fn write_text<A: Allocator + Copy, B: Allocator>(
-    alloc: A,
+fn write_text<A: Allocator, B: Allocator>(
     config: &Config,
     steps: &[Step<A>],
     out: &mut Vec<u8, B>,
@@ -37,16 +35,15 @@ fn write_text<A: Allocator + Copy, B: Allocator>(
     ensures err { OnErr result (take (length out.old.items) out.new.items ≡ out.old.items) }
 {
     out.extend_from_slice(b"gnutella-history 1\n")?;
-    push_settings(alloc, out, config)?;
-    write_steps(alloc, out, steps)?;
+    push_settings(out, config)?;
+    write_steps(out, steps)?;
     out.extend_from_slice(b"end\n")
 }
 
 /// Appends the text of a history: the line `gnutella-history 1`, the `config` and `own` lines, a line for each step, and
 /// the line `end`. The text is read back as that configuration and those steps. An `Err` is out of memory, and changes
 /// nothing.
-pub fn write_history<A: Allocator + Copy, B: Allocator>(
-    alloc: A,
+pub fn write_history<A: Allocator, B: Allocator>(
     config: &Config,
     steps: &[Step<A>],
     out: &mut Vec<u8, B>,
@@ -57,6 +54,6 @@ pub fn write_history<A: Allocator + Copy, B: Allocator>(
 {
     written_is_read(config, steps);
     let start = out.len();
-    let written = write_text(alloc, config, steps, out);
+    let written = write_text(config, steps, out);
     whole_or_none(out, start, written)
 }

@@ -11,7 +11,7 @@ use crate::line::Line;
 use crate::query_line::{ping_line, query_line};
 use crate::refusal::LineRefusal;
 use crate::word::{Word, word_in};
-use gn_text::{CaptureRefusal, Cause, fields};
+use gn_text::{CaptureRefusal, Cause, fields_into};
 use std::alloc::Allocator;
 
 /// What the fields after a word say, where so many links are made before them.
@@ -53,16 +53,18 @@ fn read_line<A: Allocator + Copy>(
     }
 }
 
-/// What line `number` says.
-pub(crate) fn read_numbered<A: Allocator + Copy>(
+/// What line `number` says, whose fields are put in place of those of another line.
+pub(crate) fn read_numbered<'a, A: Allocator + Copy>(
     alloc: A,
+    fields: &mut Vec<&'a [u8], A>,
     links: u64,
     number: u64,
-    text: &[u8],
+    text: &'a [u8],
 ) -> Result<Line<A>, CaptureRefusal>
     ensures { IsRead (λ line. line) result (numbered number (line_of links (fields_of text.now))) }
 {
-    match read_line(alloc, links, &fields(alloc, text)?) {
+    fields_into(text, fields)?;
+    match read_line(alloc, links, fields.as_slice()) {
         Ok(line) => Ok(line),
         Err(refusal) => Err(refusal.at(number)),
     }

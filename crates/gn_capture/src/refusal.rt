@@ -1,6 +1,6 @@
 //! Why a line isn't read.
 
-use gn_text::{CaptureFault, CaptureRefusal, Cause};
+use gn_text::{CaptureRefusal, Cause};
 use std::alloc::{AllocError, AllocFailed};
 
 /// Why a line isn't read, before its number is known.
@@ -19,7 +19,7 @@ impl LineRefusal {
         ensures { result ≡ refusal_at line self }
     {
         match self {
-            LineRefusal::Fault(cause) => CaptureRefusal::Fault(CaptureFault { line, cause }),
+            LineRefusal::Fault(cause) => CaptureRefusal::at(line, cause),
             LineRefusal::NoMemory => CaptureRefusal::NoMemory,
         }
     }

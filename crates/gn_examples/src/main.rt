@@ -3,9 +3,10 @@
 
 use gn_io::{ReaderSource, WriterSink};
 use gn_program::command;
-use std::alloc::Global;
 use std::process::ExitCode;
 use std::rt::Files;
+use std::sync::Wait;
+use std::thread::Threads;
 use std::{fs, io};
 
 /// The captures, each beside what `replay` prints of it.
@@ -24,6 +25,9 @@ const CAPTURES: [&str; 13] = [
     "remembered_and_forgotten",
     "unknown_and_malformed",
 ];
+
+/// The captures whose links are run by four workers.
+const LOADS: [&str; 1] = ["six_links"];
 
 /// An audit: what it is called, its words, the history that it reads, its status, and the file of what it prints.
 type Audit = (
@@ -66,11 +70,16 @@ const AUDITS: [Audit; 4] = [
 ];
 
 /// What a command printed, where it ended with this status and wrote no fault.
-fn printed(alloc: Global, words: &[&str], input: &[u8], status: u8) -> Option<Vec<u8>> {
+fn printed<R: Threads + Wait + Sync + AllocGlobal>(
+    rt: &R,
+    words: &[&str],
+    input: &[u8],
+    status: u8,
+) -> Option<Vec<u8>> {
     let mut reader = ReaderSource::new(input);
-    let mut writer = WriterSink::new(Vec::new(alloc));
-    let mut faults = WriterSink::new(Vec::new(alloc));
-    let ended = command(alloc, words, &mut reader, &mut writer, &mut faults);
+    let mut writer = WriterSink::new(Vec::new(rt.alloc()));
+    let mut faults = WriterSink::new(Vec::new(rt.alloc()));
+    let ended = command(rt, rt.alloc(), words, &mut reader, &mut writer, &mut faults);
     if ended == status && faults.into_inner().is_empty() {
         Some(writer.into_inner())
     } else {
@@ -78,50 +87,69 @@ fn printed(alloc: Global, words: &[&str], input: &[u8], status: u8) -> Option<Ve
     }
 }
 
-fn prints(alloc: Global, words: &[&str], input: &[u8], status: u8, wanted: &[u8]) -> bool {
-    match printed(alloc, words, input, status) {
-        Some(text) => text.as_slice() == wanted,
-        None => false,
+/// Whether a command prints what is wanted, told in words.
+fn compared<R: Threads + Wait + Sync + AllocGlobal>(
+    rt: &R,
+    words: &[&str],
+    input: &[u8],
+    status: u8,
+    wanted: &[u8],
+) -> &'static str {
+    match printed(rt, words, input, status) {
+        Some(text) if text.as_slice() == wanted => "as in",
+        _ => "not as in",
     }
 }
 
-/// Whether the history of the router that replays a capture is legal.
-fn is_legal(alloc: Global, capture: &[u8]) -> bool {
-    match printed(alloc, &["gn", "replay", "--history"], capture, 0) {
-        Some(history) => printed(alloc, &["gn", "audit"], &history, 0).is_some(),
-        None => false,
+/// Whether the history that a command prints of a capture is legal, told in words.
+fn judged<R: Threads + Wait + Sync + AllocGlobal>(
+    rt: &R,
+    words: &[&str],
+    capture: &[u8],
+) -> &'static str {
+    let legality = match printed(rt, words, capture, 0) {
+        Some(history) => printed(rt, &["gn", "audit"], &history, 0),
+        None => None,
+    };
+    if legality.is_some() {
+        "legal"
+    } else {
+        "not legal"
     }
 }
 
-fn replay_all<R: Files + Print + AllocGlobal>(rt: &R) -> io::Result<()> {
+fn replay_all<R: Threads + Wait + Sync + Files + Print + AllocGlobal>(rt: &R) -> io::Result<()> {
     let alloc = rt.alloc();
     for name in CAPTURES {
         let capture = fs::read(rt, &format!(in alloc; "{name}.capture")?)?;
         let wanted = fs::read(rt, &format!(in alloc; "{name}.replay")?)?;
-        let same = prints(alloc, &["gn", "replay"], &capture, 0, &wanted);
-        let compared = if same { "as in" } else { "not as in" };
-        let legal = if is_legal(alloc, &capture) {
-            "legal"
-        } else {
-            "not legal"
-        };
-        println!(rt; "{name}.capture: replayed {compared} {name}.replay, its history is {legal}")?;
+        let same = compared(rt, &["gn", "replay"], &capture, 0, &wanted);
+        let legal = judged(rt, &["gn", "replay", "--history"], &capture);
+        println!(rt; "{name}.capture: replayed {same} {name}.replay, its history is {legal}")?;
     }
     Ok(())
 }
 
-fn audit_all<R: Files + Print + AllocGlobal>(rt: &R) -> io::Result<()> {
-    let alloc = rt.alloc();
+fn load_all<R: Threads + Wait + Sync + Files + Print + AllocGlobal>(rt: &R) -> io::Result<()> {
+    for name in LOADS {
+        let capture = fs::read(rt, &format!(in rt.alloc(); "{name}.capture")?)?;
+        let legal = judged(rt, &["gn", "load", "--workers", "4"], &capture);
+        println!(rt; "{name}.capture: loaded, its history is {legal}")?;
+    }
+    Ok(())
+}
+
+fn audit_all<R: Threads + Wait + Sync + Files + Print + AllocGlobal>(rt: &R) -> io::Result<()> {
     for (name, words, input, status, wanted) in AUDITS {
         let history = fs::read(rt, input)?;
-        let same = prints(alloc, words, &history, status, &fs::read(rt, wanted)?);
-        let compared = if same { "as in" } else { "not as in" };
-        println!(rt; "{input}: {name} {compared} {wanted}")?;
+        let same = compared(rt, words, &history, status, &fs::read(rt, wanted)?);
+        println!(rt; "{input}: {name} {same} {wanted}")?;
     }
     Ok(())
 }
 
 fn main(rt: HostRuntime) -> io::Result<()> {
     replay_all(&rt)?;
+    load_all(&rt)?;
     audit_all(&rt)
 }

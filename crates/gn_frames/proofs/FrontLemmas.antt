@@ -1,5 +1,5 @@
 -- The head of a string.
-use Rattle.std.proofs.Common.{◌≡◌, ℕ, ◌+◌, ◌-◌, ◌<◌, ◌≤◌, ◌⊎◌, inl, inr, List, ◌++◌, length, take, Option, Some, None, Ok, Err, refl, sym, ap, ◌∙◌, arith, nat_lt, cond, true, false, length-append}
+use Rattle.std.proofs.Common.{◌≡◌, ℕ, ◌+◌, ◌-◌, ◌<◌, ◌≤◌, ◌⊎◌, inl, inr, List, ◌++◌, length, take, Option, Some, None, Ok, refl, sym, ap, ◌∙◌, arith, nat_lt, cond, true, false, length-append}
 use Rattle.std.proofs.lemmas.Bool.Decides.{nat_tests}
 use Rattle.std.proofs.lemmas.Bool.{cases_order}
 use Rattle.std.proofs.lemmas.List.{take-append-le}
@@ -66,21 +66,6 @@ pub front_read : (s start : List ℕ) (h : Header) → 23 ≤ length s → start
 front_read s start h long is read fits =
     sym (front_long s long ∙ ap (λ r. front_after r (length s - 23)) (ap reading (sym is) ∙ read)
     ∙ ap (λ b. cond b Open (Whole h)) (not_less (length s - 23) h.length fits))
-
-pub front_read_faulty : (s start : List ℕ) (fault : FrameFault) → 23 ≤ length s → start ≡ take 23 s → reading start ≡ Err fault → front_of s ≡ Faulty fault
-front_read_faulty s start fault long is read =
-    front_long s long ∙ ap (λ r. front_after r (length s - 23)) (ap reading (sym is) ∙ read)
-
--- what is read is the header that stands there, and is valid
-read_by : (fault : Option FrameFault) (h k : Header) → unless_fault fault h ≡ Ok k → (h ≡ k) × (fault ≡ None)
-read_by None h k e = (cc, refl)
-read_by (Some fault) h k e = cc
-
-pub read_is : (start : List ℕ) (h : Header) → reading start ≡ Ok h → (header_at start ≡ h) × (fault_of h.kind h.length ≡ None)
-read_is start h e =
-    let k = header_at start in
-    let told = read_by (fault_of k.kind k.length) k h e in
-    (told.0, sym (ap (λ (x : Header). fault_of x.kind x.length) told.0) ∙ told.1)
 
 -- the front by the parts of its definition in words
 pub front_whole : (s : List ℕ) → named_fault s ≡ None → 23 + named_length s ≤ length s → front_of s ≡ Whole (header_at (take 23 s))

@@ -1,6 +1,6 @@
 //! What stands at the head of a slice of bytes.
 
-ghost use Rattle.std.specs.Prelude.{◌≡◌, ◌<◌, ◌≤◌, None, length, IfOk};
+ghost use Rattle.std.specs.Prelude.{◌≡◌, ◌<◌, ◌≤◌, None, length};
 ghost use Rattle.gn_wire.specs.Kinds.{IsStored};
 ghost use Rattle.gn_wire.specs.Lengths.{fault_of};
 ghost use Rattle.gn_wire.specs.Encoding.{packet_from};
@@ -8,7 +8,7 @@ ghost use Rattle.gn_frames.specs.Front.{front_of};
 
 use bytes::Bytes;
 use gn_wire::{Descriptor, FrameFault, HEADER_BYTES, Header, read_header};
-use std::alloc::{AllocError, Allocator};
+use std::alloc::Allocator;
 
 /// What a slice of bytes begins with.
 #[derive(Clone, Copy, Debug, PartialEq, Eq)]
@@ -35,20 +35,15 @@ pub(crate) fn front_of(bytes: &[u8]) -> Front
     }
 }
 
-/// The descriptor of a valid header, with a copy of its payload. An `Err` is out of memory.
-pub(crate) fn copied<A: Allocator + Copy>(
-    alloc: A,
-    header: Header,
-    payload: &[u8],
-) -> Result<Descriptor<A>, AllocError>
+/// The descriptor of a valid header and its payload.
+pub(crate) fn whole<A: Allocator>(header: Header, payload: Bytes<A>) -> Descriptor<A>
     requires valid { fault_of header.kind header.length ≡ None }
     requires stored { IsStored header.kind }
-    requires whole { length payload.now ≡ header.length }
-    ensures { IfOk result (λ d. d ≡ packet_from header payload.now) }
+    requires whole { length payload ≡ header.length }
+    ensures { result ≡ packet_from header payload }
 {
-    let payload = Bytes::copy_from_slice(alloc, payload)?;
     match Descriptor::from_header(header, payload) {
-        Ok(descriptor) => Ok(descriptor),
+        Ok(descriptor) => descriptor,
         Err(_) => unreachable!(),
     }
 }

@@ -1,107 +1,93 @@
-//! The bytes of an unfinished descriptor, and a piece that goes on with them.
+//! The descriptors that bytes begin with, and a piece that goes on with the bytes of an unfinished one.
 
-ghost use Rattle.std.specs.Prelude.{◌≡◌, ◌<◌, ◌++◌, ◌-◌, length, take, drop, IfOk, OnOk, OnErr};
+ghost use Rattle.std.specs.Prelude.{◌≡◌, ◌<◌, ◌++◌, length, take, IfOk, OnOk, OnErr};
 ghost use Rattle.gn_frames.specs.Front.{front_of};
 ghost use Rattle.gn_frames.specs.Frames.{prepended, frames_of};
-ghost use Rattle.gn_frames.specs.Pieces.{IsFilled, IsFound, IsTaken};
+ghost use Rattle.gn_frames.specs.Pieces.{IsFound, IsTaken};
 
-use crate::front::{Front, copied, front_of};
+use crate::front::{Front, front_of, whole};
 use crate::reassembler::Fed;
-use gn_wire::{Descriptor, FrameFault, HEADER_BYTES, Header, read_header};
+use bytes::{Bytes, BytesMut};
+use gn_wire::{Descriptor, FrameFault, HEADER_BYTES, Header};
 use std::alloc::{AllocError, Allocator};
 
-/// Appends what of the piece is wanted up to the size, in bytes, and gives what stands after it. An `Err` is out of
-/// memory, and changes nothing.
-fn fill_to<'a, A: Allocator>(
-    held: &mut Vec<u8, A>,
-    size: usize,
-    piece: &'a [u8],
-) -> Result<&'a [u8], AllocError>
-    ensures held { OnOk result (held.new.items ≡ held.old.items ++ take (size - length held.old.items) piece.now) }
-    ensures left { IfOk result (λ left. left.now ≡ drop (size - length held.old.items) piece.now) }
-    ensures err { OnErr result (held.new.items ≡ held.old.items) }
-{
-    let wanted = size.saturating_sub(held.len()).min(piece.len());
-    held.extend_from_slice(&piece[..wanted])?;
-    Ok(&piece[wanted..])
-}
-
-/// Appends what the held beginning of a descriptor wants of the piece, and gives what stands after it. An `Err` is out
-/// of memory: what was held stays in front.
-fn fill<'a, A: Allocator>(held: &mut Vec<u8, A>, piece: &'a [u8]) -> Result<&'a [u8], AllocError>
-    requires { front_of held.old.items ≡ Front.Open }
-    ensures ok { IfOk result (λ left. IsFilled held.old.items piece.now held.new.items left.now) }
-    ensures err { OnErr result (take (length held.old.items) held.new.items ≡ held.old.items) }
-{
-    if held.is_empty() {
-        return Ok(piece);
-    }
-    let left = fill_to(held, HEADER_BYTES, piece)?;
-    let Some(start) = held.first_chunk::<HEADER_BYTES>() else {
-        return Ok(left);
-    };
-    let Ok(header) = read_header(start) else {
-        return Ok(left);
-    };
-    fill_to(held, HEADER_BYTES + header.length as usize, left)
-}
-
-/// Adds the descriptor with this header that the bytes begin with, and gives the bytes after it. An `Err` is out of
-/// memory.
-fn take_one<'a, A: Allocator + Copy>(
-    alloc: A,
+/// Adds the descriptor with this header that the bytes begin with, its payload cut out of them, and leaves the bytes
+/// after it. An `Err` is out of memory.
+fn take_one<A: Allocator + Copy>(
     header: Header,
-    bytes: &'a [u8],
+    bytes: &mut Bytes<A>,
     descriptors: &mut Vec<Descriptor<A>, A>,
-) -> Result<&'a [u8], AllocError>
-    requires { front_of bytes.now ≡ Front.Whole header }
-    ensures taken { IfOk result (λ rest.
-        prepended descriptors.new.items (frames_of rest.now) ≡ prepended descriptors.old.items (frames_of bytes.now)) }
-    ensures shorter { IfOk result (λ rest. length rest.now < length bytes.now) }
+) -> Result<(), AllocError>
+    requires { front_of bytes.old ≡ Front.Whole header }
+    ensures taken { OnOk result (
+        prepended descriptors.new.items (frames_of bytes.new) ≡ prepended descriptors.old.items (frames_of bytes.old)) }
+    ensures shorter { OnOk result (length bytes.new < length bytes.old) }
 {
-    let (payload, rest) = bytes[HEADER_BYTES..].split_at(header.length as usize);
-    descriptors.push(copied(alloc, header, payload)?)?;
-    Ok(rest)
+    bytes.advance(HEADER_BYTES);
+    let payload = bytes.split_to(header.length as usize)?;
+    descriptors.push(whole(header, payload))?;
+    Ok(())
 }
 
-/// Adds the descriptors that the bytes begin with, and gives the bytes after them with the fault that stands there, if
+/// Adds the descriptors that the bytes begin with, and leaves the bytes after them. Gives the fault that stands there, if
 /// one does. An `Err` is out of memory.
-fn take_frames<'a, A: Allocator + Copy>(
-    alloc: A,
-    bytes: &'a [u8],
+fn take_frames<A: Allocator + Copy>(
+    bytes: &mut Bytes<A>,
     descriptors: &mut Vec<Descriptor<A>, A>,
-) -> Result<(&'a [u8], Option<FrameFault>), AllocError>
-    ensures { IfOk result (λ end. IsTaken bytes.now descriptors.old.items descriptors.new.items end.0.now end.1) }
+) -> Result<Option<FrameFault>, AllocError>
+    ensures { IfOk result (λ fault.
+        IsTaken bytes.old descriptors.old.items descriptors.new.items bytes.new fault) }
 {
-    let mut rest = bytes;
     loop {
-        match front_of(rest) {
-            Front::Open => return Ok((rest, None)),
-            Front::Faulty(fault) => return Ok((rest, Some(fault))),
-            Front::Whole(header) => rest = take_one(alloc, header, rest, descriptors)?,
+        match front_of(bytes.as_slice()) {
+            Front::Open => return Ok(None),
+            Front::Faulty(fault) => return Ok(Some(fault)),
+            Front::Whole(header) => take_one(header, bytes, descriptors)?,
         }
     }
+}
+
+/// The frames of bytes, whose payloads share one copy of them, and the bytes that no descriptor has. An `Err` is out of
+/// memory.
+fn frames_in<A: Allocator + Copy>(
+    alloc: A,
+    bytes: &[u8],
+) -> Result<(Fed<A>, BytesMut<A>), AllocError>
+    ensures { IfOk result (λ found. IsFound bytes.now found.0.descriptors.items found.0.fault found.1.items) }
+{
+    let mut shared = Bytes::copy_from_slice(alloc, bytes)?;
+    let mut descriptors = Vec::new(alloc);
+    let fault = take_frames(&mut shared, &mut descriptors)?;
+    let rest = BytesMut::copy_from_slice(alloc, shared.as_slice())?;
+    Ok((Fed { descriptors, fault }, rest))
 }
 
 /// The frames of what is held with the piece after it; what no descriptor has is held from then on. An `Err` is out of
 /// memory: what was held stays in front.
 pub(crate) fn take_piece<A: Allocator + Copy>(
     alloc: A,
-    held: &mut Vec<u8, A>,
+    held: &mut BytesMut<A>,
     piece: &[u8],
 ) -> Result<Fed<A>, AllocError>
-    requires { front_of held.old.items ≡ Front.Open }
     ensures ok { IfOk result (λ fed.
         IsFound (held.old.items ++ piece.now) fed.descriptors.items fed.fault held.new.items) }
     ensures err { OnErr result (take (length held.old.items) held.new.items ≡ held.old.items) }
 {
-    let mut descriptors = Vec::new(alloc);
-    let left = fill(held, piece)?;
-    let (wanting, fault) = take_frames(alloc, held.as_slice(), &mut descriptors)?;
-    if fault.is_some() || !wanting.is_empty() {
-        return Ok(Fed { descriptors, fault });
+    if held.is_empty() {
+        let (fed, rest) = frames_in(alloc, piece)?;
+        *held = rest;
+        return Ok(fed);
     }
-    let (rest, fault) = take_frames(alloc, left, &mut descriptors)?;
-    *held = Vec::from_slice(alloc, rest)?;
-    Ok(Fed { descriptors, fault })
+    held.extend_from_slice(piece)?;
+    match front_of(held.as_slice()) {
+        Front::Open => Ok(Fed {
+            descriptors: Vec::new(alloc),
+            fault: None,
+        }),
+        Front::Faulty(_) | Front::Whole(_) => {
+            let (fed, rest) = frames_in(alloc, held.as_slice())?;
+            *held = rest;
+            Ok(fed)
+        }
+    }
 }

@@ -3,6 +3,7 @@
 ghost use Rattle.std.specs.Prelude.{◌≡◌, [], Some, IfOk, IfErr, OnErr};
 
 use crate::pieces::take_piece;
+use bytes::BytesMut;
 use gn_wire::{Descriptor, FrameFault};
 use std::alloc::{AllocError, Allocator, Global};
 use std::marker::Model;
@@ -28,7 +29,7 @@ pub enum FeedRefusal {
 #[derive(Debug, Drop)]
 pub struct Reassembler<A: Allocator = Global> {
     alloc: A,
-    held: Vec<u8, A>,
+    held: BytesMut<A>,
     ended: bool,
 }
 
@@ -52,7 +53,7 @@ impl<A: Allocator + Copy> Reassembler<A> {
     {
         Ok(Reassembler {
             alloc,
-            held: Vec::new(alloc),
+            held: BytesMut::new(alloc),
             ended: false,
         })
     }
@@ -71,7 +72,7 @@ impl<A: Allocator + Copy> Reassembler<A> {
         match take_piece(self.alloc, &mut self.held, piece) {
             Ok(fed) => {
                 if fed.fault.is_some() {
-                    self.held = Vec::new(self.alloc);
+                    self.held = BytesMut::new(self.alloc);
                     self.ended = true;
                 }
                 Ok(fed)

@@ -2,7 +2,9 @@
 
 use super::*;
 use gn_wire::{Descriptor, FrameFault, Kind};
-use std::alloc::Allocator;
+use linked_list_allocator::LocalHeap;
+use std::alloc::{AllocError, Allocator};
+use std::process::Abort;
 use std::test::Fail;
 
 const PING: &[u8] =
@@ -25,10 +27,10 @@ fn header(code: u8, length: [u8; 4]) -> [u8; 23] {
 }
 
 /// The encodings of the descriptors, one after the other.
-fn encoded<A: Allocator + Copy>(
-    alloc: A,
+fn encoded<A: Allocator + Copy, B: Allocator>(
+    alloc: B,
     descriptors: &[Descriptor<A>],
-) -> Result<Vec<u8, A>, Fail> {
+) -> Result<Vec<u8, B>, Fail> {
     let mut bytes = Vec::new(alloc);
     for descriptor in descriptors {
         descriptor.write_to(&mut bytes)?;
@@ -99,6 +101,84 @@ fn one_byte_a_piece(rt: HostRuntime) -> Result<(), Fail> {
         }
     }
     Ok(())
+}
+
+#[test]
+fn a_hundred_pings(rt: HostRuntime) -> Result<(), Fail> {
+    let mut bytes = Vec::new(rt.alloc());
+    for number in 0..100u8 {
+        let mut ping = header(0x00, [0; 4]);
+        ping[0] = number;
+        bytes.extend_from_slice(&ping)?;
+    }
+    let mut reassembler = Reassembler::new(rt.alloc())?;
+    let fed = reassembler.feed(&bytes)?;
+    assert_eq!(rt; fed.descriptors.len(), 100);
+    assert_eq!(rt;
+        encoded(rt.alloc(), &fed.descriptors)?.as_slice(),
+        bytes.as_slice()
+    );
+    assert_eq!(rt; reassembler.pending(), 0);
+    let mut one_by_one = Vec::new(rt.alloc());
+    for byte in &bytes {
+        let fed = reassembler.feed(&[*byte])?;
+        one_by_one.extend_from_slice(&encoded(rt.alloc(), &fed.descriptors)?)?;
+    }
+    assert_eq!(rt; one_by_one.as_slice(), bytes.as_slice());
+    assert_eq!(rt; reassembler.pending(), 0);
+    Ok(())
+}
+
+/// All that the heap has left, in pieces.
+fn rest_of<'a, A: Allocator>(
+    alloc: A,
+    heap: &'a LocalHeap,
+) -> Result<Vec<Vec<u8, &'a LocalHeap>, A>, AllocError> {
+    let mut pieces = Vec::new(alloc);
+    for _ in 0..4_096 {
+        match Vec::with_capacity(heap, 16) {
+            Ok(piece) => pieces.push(piece)?,
+            Err(_) => break,
+        }
+    }
+    Ok(pieces)
+}
+
+/// Whether a piece that completes three descriptors is refused where the heap has so many pieces left. Where it is, it is
+/// taken once there is memory again.
+fn is_refused<R: Abort + AllocGlobal>(rt: &R, heap: &LocalHeap, left: usize) -> Result<bool, Fail> {
+    let bytes = [PING, PONG, HIT].concat(rt.alloc())?;
+    let mut reassembler = Reassembler::new(heap)?;
+    assert_eq!(rt; reassembler.feed(&bytes[..22])?.descriptors.len(), 0);
+    let mut rest = rest_of(rt.alloc(), heap)?;
+    rest.truncate(rest.len().saturating_sub(left));
+    let first = reassembler.feed(&bytes[22..]);
+    drop(rest);
+    let (fed, refused) = match first {
+        Ok(fed) => (fed, false),
+        Err(refusal) => {
+            assert_eq!(rt; refusal, FeedRefusal::NoMemory);
+            assert_eq!(rt; reassembler.pending(), 22);
+            (reassembler.feed(&bytes[22..])?, true)
+        }
+    };
+    assert_eq!(rt;
+        encoded(rt.alloc(), &fed.descriptors)?.as_slice(),
+        bytes.as_slice()
+    );
+    Ok(refused)
+}
+
+#[test]
+fn each_growth_refused(rt: HostRuntime) -> Result<(), Fail> {
+    let heap = LocalHeap::new(rt.alloc(), 4_096)?;
+    for left in 0..256 {
+        if !is_refused(&rt, &heap, left)? {
+            assert!(rt; left > 4);
+            return Ok(());
+        }
+    }
+    Err("no feed was taken".into())
 }
 
 #[test]

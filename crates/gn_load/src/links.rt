@@ -1,15 +1,14 @@
 //! The links that the lines of a capture make.
 
 ghost use Rattle.std.specs.Prelude.{◌≡◌, ◌++◌, ◌∷◌, [], MatchResult, OnOk};
-ghost use Rattle.gn_text.specs.Faults.{IsRead, IsRefused, refused_at};
-ghost use Rattle.gn_text.specs.declared.fault.Cause.TheVariants.{Load};
+ghost use Rattle.gn_text.specs.Faults.{IsRead, IsRefused};
 ghost use Rattle.gn_load.specs.Links.{given, line_taken, links_from};
 
 use crate::gathered::Gathered;
 use gn_capture::Line;
 use gn_links::MemoryLink;
 use gn_shake::Role;
-use gn_text::{CaptureFault, CaptureRefusal, Cause};
+use gn_text::{CaptureRefusal, Cause};
 use std::alloc::{AllocError, Allocator};
 
 /// Gives link i, counted from 1, its next bytes. A link that isn't there is given nothing.
@@ -28,16 +27,6 @@ fn give<A: Allocator + Copy>(
     Ok(())
 }
 
-/// The refusal of a line that a load doesn't take.
-fn not_taken(line: u64) -> CaptureRefusal
-    ensures { result ≡ refused_at line Load }
-{
-    CaptureRefusal::Fault(CaptureFault {
-        line,
-        cause: Cause::Load,
-    })
-}
-
 /// Does what a line says: it makes a link, or gives one its next bytes.
 fn take_line<A: Allocator + Copy>(
     alloc: A,
@@ -52,7 +41,7 @@ fn take_line<A: Allocator + Copy>(
         Line::Join => links.push(Gathered::new(alloc, Role::Plain))?,
         Line::Greeted => links.push(Gathered::new(alloc, Role::Accepting))?,
         Line::Piece { link, bytes } => give(links, *link, bytes.as_slice())?,
-        _ => return Err(not_taken(number)),
+        _ => return Err(CaptureRefusal::at(number, Cause::Load)),
     }
     Ok(())
 }

@@ -30,7 +30,7 @@ fn history_of<
     let links = links_of(alloc, &capture.lines)?;
     let report = run::<C, _, _, A, R>(rt, alloc, &capture.config, links, workers, &NoGate)?;
     let mut history = Vec::new(alloc);
-    write_history(alloc, &capture.config, &report.history, &mut history)?;
+    write_history(&capture.config, &report.history, &mut history)?;
     Ok(history)
 }
 

@@ -1,12 +1,12 @@
 -- What is known where words were read as a request, and no request came of it.
 use Rattle.std.proofs.Common.{◌≡◌, ◌∙◌, ◌⊎◌, inl, inr, refl, sym, ℕ, List, [], ◌∷◌, Option, Some}
 use Rattle.clap.specs.Kinds.{HasKind, IsAmong, Kinds}
-use Rattle.clap.specs.Words.{Row, Text, fault_of, kind_of}
+use Rattle.clap.specs.Words.{Row, Text, kind_of}
 use Rattle.clap.specs.declared.error.Error.{Error}
 use Rattle.clap.specs.declared.error.kind.ErrorKind.{ErrorKind}
 use Rattle.clap.specs.declared.error.kind.ErrorKind.TheVariants.{DisplayHelp, DisplayVersion, OutOfMemory}
 use Rattle.gn_program.specs.Commands.{IsTurnedAway, IsUnread}
-use Rattle.gn_program.specs.Words.{gn_app, request_by, request_of}
+use Rattle.gn_program.specs.Words.{kinds_of, request_by, request_of}
 use Rattle.gn_program.specs.declared.request.Request.{Request}
 
 memory_by : (kinds : Kinds) (o : Option (Text × List Row)) (r : Request) (k : ErrorKind) → request_by kinds o ≡ Some r
@@ -24,5 +24,5 @@ unread_by k r w v status t e = (
 
 -- only memory can have run out
 pub unread : {S W : Type 0} (words : List Text) (r : Request) (error : Error) (reader : S) (w v : W) (status : ℕ) → request_of words ≡ Some r
-    → HasKind (fault_of gn_app words) error → IsTurnedAway (kind_of error) w v status → IsUnread reader reader w v status
+    → HasKind (kinds_of words) error → IsTurnedAway (kind_of error) w v status → IsUnread reader reader w v status
 unread words r error reader w v status asked has t = unread_by (kind_of error) reader w v status t (memory_by _ _ r (kind_of error) asked has)

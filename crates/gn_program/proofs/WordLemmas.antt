@@ -1,6 +1,6 @@
 -- What clap's words mean for this command.
-use Rattle.std.proofs.Common.{◌≡◌, ◌∙◌, ◌&&◌, ◌⊎◌, inl, inr, refl, sym, subst, true≢false, ap, Bool, cond, true, false, List, [], ◌∷◌, Option, Some, None}
-use Rattle.std.specs.Prelude.{⊤, Box, codes, find, is_some, option_map, not}
+use Rattle.std.proofs.Common.{◌≡◌, ◌∙◌, ◌&&◌, ◌⊎◌, inl, inr, refl, sym, subst, true≢false, ap, Bool, cond, true, false, ℕ, List, [], ◌∷◌, Option, Some, None}
+use Rattle.std.specs.Prelude.{⊤, Box, codes, find, is_some, option_and_then, option_map, not, if◌then◌else◌}
 use Rattle.std.specs.Box.{box_value}
 use Rattle.std.specs.Borrow.{Bor}
 use Rattle.std.specs.Option.{option_map_or}
@@ -8,6 +8,8 @@ use Rattle.std.specs.Str.{bytes_eq}
 use Rattle.clap.specs.Matches.{first_value, has_subcommand, subcommand_name_of}
 use Rattle.clap.specs.Simple.{Shape, argument_words, built, entered, label_of, names_of, rows_at, subcommand_rows}
 use Rattle.clap.specs.Walk.{answers_to, rows_of, stop_after}
+use Rattle.clap.specs.Kinds.{HasKind, IsAmong, Kinds, or_else}
+use Rattle.clap.specs.Values.{kind_of}
 use Rattle.clap.specs.Words.{App, HasMatchesOf, IsParsedFrom, Row, Text, app_of, is_simple, fault_of, subcommand_of, subcommand_rows_of}
 use Rattle.clap.specs.Faults.{is_simple_and_free}
 use Rattle.clap.specs.declared.builder.command.Command.{Command}
@@ -16,9 +18,13 @@ use Rattle.clap.specs.declared.parser.matches.ArgMatches.{ArgMatches}
 use Rattle.clap.specs.declared.parser.matches.ArgMatches.TheViews.{out-ArgMatches, out-SubCommand}
 use Rattle.clap.specs.declared.parser.matches.SubCommand.{SubCommand}
 use Rattle.clap.specs.declared.parser.matches.Found.{Found}
+use Rattle.clap.specs.declared.error.Error.{Error}
+use Rattle.clap.specs.declared.error.kind.ErrorKind.TheVariants.{ValueValidation}
 use Rattle.clap.proofs.OnLiterals.{clap_on_literals}
 use Rattle.clap.proofs.WalkLemmas.{first_value-rows}
-use Rattle.gn_program.specs.Words.{gn_app, is_set, request_by, request_named, request_of, PlainWordsAreRead}
+use Rattle.gn_program.specs.Words.{PlainWordsAreRead, gn_app, is_set, kinds_of, request_by, request_named, request_of, value_kinds, workers_in, workers_of}
+use Rattle.gn_program.specs.declared.request.Request.{Request}
+use Rattle.gn_program.specs.declared.request.Request.TheVariants.{Load}
 
 gn_is_simple : is_simple gn_app ≡ true
 unfolding clap_on_literals
@@ -30,7 +36,16 @@ gn_is_free = refl
 
 pub plain_words : PlainWordsAreRead
 unfolding clap_on_literals
-plain_words = record { replay = λ program. refl; history = λ program. refl; audit = λ program. refl; explain = λ program. refl }
+plain_words = record {
+  replay = λ program. refl;
+  history = λ program. refl;
+  audit = λ program. refl;
+  explain = λ program. refl;
+  load = λ program. refl;
+  most = λ program. refl;
+  none = λ program. refl;
+  many = λ program. refl;
+}
 
 -- a flag's value, as it is got, says whether the flag is set
 pub flag_read : (o : Option (Bor Text)) (f : Found) (id : Text) → option_map (λ s. s.now) o ≡ first_value f id
@@ -38,9 +53,15 @@ pub flag_read : (o : Option (Bor Text)) (f : Found) (id : Text) → option_map (
 flag_read None f id e = ap (λ (v : Option Text). option_map_or (λ t. bytes_eq t (codes "true")) v false) (e ∙ first_value-rows f id)
 flag_read (Some s) f id e = ap (λ (v : Option Text). option_map_or (λ t. bytes_eq t (codes "true")) v false) (e ∙ first_value-rows f id)
 
+-- the number of workers, as it is got, is the one that the option asks for
+pub workers_read : (o : Option (Bor Text)) (f : Found) → option_map (λ s. s.now) o ≡ first_value f (codes "workers")
+    → option_and_then (λ s. workers_in s.now) o ≡ workers_of (rows_of f)
+workers_read None f e = ap (option_and_then workers_in) (e ∙ first_value-rows f (codes "workers"))
+workers_read (Some s) f e = ap (option_and_then workers_in) (e ∙ first_value-rows f (codes "workers"))
+
 -- the name of one of the subcommands
 abbrev IsOurs : Text → Type 0
-IsOurs name = (name ≡ codes "replay") ⊎ (name ≡ codes "audit")
+IsOurs name = (name ≡ codes "replay") ⊎ (name ≡ codes "audit") ⊎ (name ≡ codes "load")
 
 -- a subcommand that was entered is one of them
 abbrev IsNamed : Option (Text × List Row) → Type 0
@@ -64,7 +85,7 @@ found_named (s ∷ ss) are p = by (answers_to p.0 (label_of s)) (found_named ss 
 
 named : (stop : Option (Text × List Text)) → IsNamed (entered (built gn_app) stop)
 named None = tt
-named (Some p) = found_named (built gn_app).subs (inl refl, (inr refl, tt)) p
+named (Some p) = found_named (built gn_app).subs (inl refl, (inr (inl refl), (inr (inr refl), tt))) p
 
 entered_named : (words : List Text) → IsNamed (subcommand_of gn_app words)
 entered_named words = named (stop_after (built gn_app).top.rules (names_of (built gn_app)) (argument_words gn_app words))
@@ -113,20 +134,61 @@ both_are : (o : Option (Text × List Row)) (name : Text) (rows : List Row) → o
 both_are None name rows e f = absurd (true≢false (ap is_some (sym e)))
 both_are (Some (n, rs)) name rows e f = cc
 
--- what the words ask for, by the subcommand's name and rows
-pub reads : (m : ArgMatches) (words : List Text) (name : Text) (rows : List Row) → Parses m words → subcommand_name_of m ≡ Some name
-    → option_map (λ p. p.1) (subcommand_rows_of m) ≡ Some rows → request_named name rows ≡ request_of words
-reads m words name rows p is are =
-    let here : subcommand_rows_of m ≡ Some (name, rows) = both_are (subcommand_rows_of m) name rows (named_rows (out-ArgMatches m).subcommand ∙ is) are in
-    sym (ap (λ fs. request_by fs (subcommand_of gn_app words)) p.faults ∙ ap (request_by []) (sym p.rows ∙ here))
+-- the words' subcommand is the one with this name and these rows
+entered_as : (m : ArgMatches) (words : List Text) (name : Text) (rows : List Row) → Parses m words → subcommand_name_of m ≡ Some name
+    → option_map (λ p. p.1) (subcommand_rows_of m) ≡ Some rows → subcommand_of gn_app words ≡ Some (name, rows)
+entered_as m words name rows p is are =
+    sym p.rows ∙ both_are (subcommand_rows_of m) name rows (named_rows (out-ArgMatches m).subcommand ∙ is) are
 
-ours_asked : (name : Text) (rows : List Row) → IsOurs name → is_some (request_named name rows) ≡ true
-ours_asked name rows (inl e) = rw e refl
-ours_asked name rows (inr e) = rw e refl
+-- what is wrong with words is what is wrong with the value of an option
+kinds_by_value : (m : ArgMatches) (words : List Text) (name : Text) (rows : List Row) → Parses m words → subcommand_name_of m ≡ Some name
+    → option_map (λ p. p.1) (subcommand_rows_of m) ≡ Some rows → kinds_of words ≡ value_kinds (Some (name, rows))
+kinds_by_value m words name rows p is are =
+    ap (λ fs. or_else fs (value_kinds (subcommand_of gn_app words))) p.faults ∙ ap value_kinds (entered_as m words name rows p is are)
 
--- it stands for a request
-pub is_asked : (m : ArgMatches) (words : List Text) (name : Text) (rows : List Row) → Parses m words → subcommand_name_of m ≡ Some name
-    → option_map (λ p. p.1) (subcommand_rows_of m) ≡ Some rows → is_some (request_named name rows) ≡ true
-is_asked m words name rows p is are =
-    let here : subcommand_rows_of m ≡ Some (name, rows) = both_are (subcommand_rows_of m) name rows (named_rows (out-ArgMatches m).subcommand ∙ is) are in
-    ours_asked name rows (subst IsNamed (sym p.rows ∙ here) (entered_named words))
+-- the value of an option is wrong exactly where one of our subcommands stands for no request
+value_kinds_are : (name : Text) (rows : List Row) → IsOurs name
+    → value_kinds (Some (name, rows)) ≡ (if is_some (request_named name rows) then [] else ValueValidation ∷ [])
+value_kinds_are name rows (inl e) = rw e refl
+value_kinds_are name rows (inr (inl e)) = rw e refl
+value_kinds_are name rows (inr (inr e)) = rw e (by (workers_of rows))
+  where
+    by : (o : Option ℕ) → (if not (is_some o) then ValueValidation ∷ [] else []) ≡ (if is_some (option_map Load o) then [] else ValueValidation ∷ [])
+    by None = refl
+    by (Some workers) = refl
+
+kinds_are : (m : ArgMatches) (words : List Text) (name : Text) (rows : List Row) → Parses m words → subcommand_name_of m ≡ Some name
+    → option_map (λ p. p.1) (subcommand_rows_of m) ≡ Some rows
+    → kinds_of words ≡ (if is_some (request_named name rows) then [] else ValueValidation ∷ [])
+kinds_are m words name rows p is are =
+    kinds_by_value m words name rows p is are
+    ∙ value_kinds_are name rows (subst IsNamed (entered_as m words name rows p is are) (entered_named words))
+
+-- what the words ask for, where the subcommand's name and rows stand for a request
+pub reads : (m : ArgMatches) (words : List Text) (name : Text) (rows : List Row) (request : Request) → Parses m words
+    → subcommand_name_of m ≡ Some name → option_map (λ p. p.1) (subcommand_rows_of m) ≡ Some rows
+    → request_named name rows ≡ Some request → request_of words ≡ Some request
+reads m words name rows request p is are asked =
+    let none : kinds_of words ≡ [] = kinds_are m words name rows p is are
+    ∙ ap (λ (o : Option Request). if is_some o then [] else ValueValidation ∷ []) asked in
+    ap (λ fs. request_by fs (subcommand_of gn_app words)) none ∙ ap (request_by []) (entered_as m words name rows p is are) ∙ asked
+
+-- what is wrong with the words, where they stand for none
+pub refuses : (m : ArgMatches) (words : List Text) (name : Text) (rows : List Row) (error : Error) → Parses m words
+    → subcommand_name_of m ≡ Some name → option_map (λ p. p.1) (subcommand_rows_of m) ≡ Some rows → request_named name rows ≡ None
+    → kind_of error ≡ ValueValidation → HasKind (kinds_of words) error
+refuses m words name rows error p is are none kind =
+    let wrong : kinds_of words ≡ ValueValidation ∷ [] = kinds_are m words name rows p is are
+    ∙ ap (λ (o : Option Request). if is_some o then [] else ValueValidation ∷ []) none in
+    inr (subst (IsAmong (kind_of error)) (sym wrong) (inl kind))
+
+has_first : (kinds next : Kinds) (error : Error) → HasKind kinds error → HasKind (or_else kinds next) error
+has_first kinds next error (inl e) = inl e
+has_first (k ∷ ks) next error (inr is) = inr is
+has_first [] next error (inr is) = absurd is
+
+-- what clap finds wrong with words is wrong with them
+pub fails : (c : Command) (words : List Text) (error : Error) → app_of c ≡ gn_app
+    → (is_simple_and_free (app_of c) ≡ true → HasKind (fault_of (app_of c) words) error) → HasKind (kinds_of words) error
+fails c words error app free =
+    has_first _ _ error (subst (λ a. is_simple_and_free a ≡ true → HasKind (fault_of a words) error) app free gn_is_free)

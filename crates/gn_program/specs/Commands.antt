@@ -1,11 +1,12 @@
--- What a command does: what replay or audit answers to its input and output, and the status that stands for it.
-use Rattle.std.specs.Prelude.{◌≡◌, ◌≢◌, ◌⊎◌, ◌≤◌, ℕ, IfSome, Result, Ok, Err, IfOk, IfErr, OnOk}
+-- What a command does: what replay, audit or load answers to its input and output, and the status that stands for it.
+use Rattle.std.specs.Prelude.{◌≡◌, ◌≢◌, ◌⊎◌, ◌≤◌, ℕ, length, IfSome, IsOk, Result, Ok, Err, IfOk, IfErr, OnOk}
 use Rattle.std.specs.declared.alloc.Global.{Global}
 use Rattle.clap.specs.declared.error.kind.ErrorKind.{ErrorKind}
 use Rattle.clap.specs.declared.error.kind.ErrorKind.TheVariants.{DisplayHelp, DisplayVersion, OutOfMemory}
 use Rattle.gn_replay.specs.Faults.{IsAnswerOn}
 use Rattle.gn_replay.specs.declared.fault.ReplayFault.{ReplayFault}
-use Rattle.gn_io.specs.Streams.{Streams}
+use Rattle.gn_io.specs.Input.{input_limit}
+use Rattle.gn_io.specs.Streams.{NoneFailed, Streams}
 use Rattle.gn_capture.specs.Captures.{capture_of}
 use Rattle.gn_replay.specs.Replays.{AppendsReplay, HasStopped, IsCounted}
 use Rattle.gn_replay.specs.declared.replays.Exit.{Exit}
@@ -13,10 +14,13 @@ use Rattle.gn_replay.specs.ReplayHistory.{AppendsHistory, HasHistoryStopped}
 use Rattle.gn_capture.specs.Histories.{history_of}
 use Rattle.gn_replay.specs.Audits.{AppendsVerdict, HasStopped as HasAuditStopped}
 use Rattle.gn_replay.specs.Explained.{AppendsExplained, HasExplainedStopped}
+use Rattle.gn_load.specs.Faults.{IsLoadFault}
+use Rattle.gn_load.specs.Loads.{AppendsLoad, HasStopped as HasLoadStopped, load_of}
+use Rattle.gn_load.specs.declared.fault.LoadFault.{LoadFault}
 use Rattle.gn_rules.specs.declared.legality.Legality.{Legality}
 use Rattle.gn_rules.specs.declared.legality.Legality.TheVariants.{Legal, WrongAt}
 use Rattle.gn_program.specs.declared.request.Request.{Request}
-use Rattle.gn_program.specs.declared.request.Request.TheVariants.{Replay, History, Audit, Explain}
+use Rattle.gn_program.specs.declared.request.Request.TheVariants.{Replay, History, Audit, Explain, Load}
 
 -- what replay answers: the input was a capture, no longer than it may be, and its replay text was written, its steps
 -- and refusals counted; or it stopped, at a fault that the streams confirm, and what was written then is a prefix of
@@ -51,6 +55,19 @@ pub record IsExplainAnswer (s : Streams) (answer : Result Legality ReplayFault) 
       AppendsExplained Global text legality s.sink.written s.sink_new.written))
   pub stopped : IfErr answer (λ fault. HasExplainedStopped Global fault s.source.rest s.sink.written s.sink_new.written)
 
+-- what load answers: the input was a capture of lines that a load takes, no longer than it may be, no read and no write
+-- failed, and the history of a run with so many workers over the links of those lines was written; or it stopped, at a
+-- fault that the streams confirm, and what was written then is a prefix of such a history
+pub record IsLoadAnswer (workers : ℕ) (s : Streams) (answer : Result (Unit {0}) LoadFault) : Type 0 where
+  pub short : OnOk answer (IfSome s.source.rest (λ text. length text ≤ input_limit))
+  pub valid : OnOk answer (IfSome s.source.rest (λ text. IsOk (load_of Global text)))
+  pub unfailed : OnOk answer (NoneFailed s)
+  pub written : OnOk answer (IfSome s.source.rest (λ text.
+      AppendsLoad Global workers text s.sink.written s.sink_new.written))
+  pub stopped :
+      IfErr answer (λ fault. HasLoadStopped Global workers fault s.source.rest s.sink.written s.sink_new.written)
+  pub fault : IfErr answer (λ fault. IsLoadFault workers fault (load_of Global) s)
+
 -- the status of a replay: 0 where it was done, else 1
 abbrev pub replay_status : Result Exit ReplayFault → ℕ
 replay_status (Ok exit) = 0
@@ -61,6 +78,11 @@ abbrev pub audit_status : Result Legality ReplayFault → ℕ
 audit_status (Ok Legal) = 0
 audit_status (Ok (WrongAt i)) = 1
 audit_status (Err fault) = 1
+
+-- the status of a load: 0 where it was done, else 1
+abbrev pub load_status : Result (Unit {0}) LoadFault → ℕ
+load_status (Ok done) = 0
+load_status (Err fault) = 1
 
 -- the streams are as some answer of replay leaves them, and the status is that answer's
 abbrev pub Replays : Streams → ℕ → Type 0
@@ -79,12 +101,18 @@ Audits s status = (answer : Result Legality ReplayFault) × IsAuditAnswer s answ
 abbrev pub Explains : Streams → ℕ → Type 0
 Explains s status = (answer : Result Legality ReplayFault) × IsExplainAnswer s answer × (status ≡ audit_status answer)
 
+-- the streams are as some answer of load with so many workers leaves them, and the status is that answer's
+abbrev pub Loads : ℕ → Streams → ℕ → Type 0
+Loads workers s status =
+    (answer : Result (Unit {0}) LoadFault) × IsLoadAnswer workers s answer × (status ≡ load_status answer)
+
 -- the streams and the status are as one of the request's answers says
 abbrev pub Does : Request → Streams → ℕ → Type 0
 Does Replay s status = Replays s status
 Does History s status = ReplaysHistory s status
 Does Audit s status = Audits s status
 Does Explain s status = Explains s status
+Does (Load workers) s status = Loads workers s status
 
 -- words that ask for no work: at help and the version the status is 0 or 1 and anything may be written; else nothing is
 -- written, and the status is 1 where memory ran out and 2 at all else

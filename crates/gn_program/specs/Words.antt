@@ -1,12 +1,16 @@
 -- How the words of a command line are read: by the rules of the crate clap, for this command.
-use Rattle.std.specs.Prelude.{◌≡◌, ◌∷◌, List, [], Bool, true, false, Option, Some, None, codes, if◌then◌else◌}
+use Rattle.std.specs.Prelude.{◌≡◌, ◌∷◌, ◌&&◌, ℕ, List, [], Bool, true, false, not, Option, Some, None, codes, is_some, option_map, if◌then◌else◌}
 use Rattle.std.specs.Option.{option_map_or}
 use Rattle.std.specs.Str.{bytes_eq}
 use Rattle.clap.specs.Words.{App, Row, Rule, Text, fault_of, first_of, new_app, new_rule, subcommand_of, with_rule, with_subcommand}
-use Rattle.clap.specs.Kinds.{Kinds}
-use Rattle.clap.specs.declared.builder.action.ArgAction.TheVariants.{SetTrue}
+use Rattle.clap.specs.Kinds.{Kinds, or_else}
+use Rattle.clap.specs.declared.builder.action.ArgAction.TheVariants.{Set, SetTrue}
+use Rattle.clap.specs.declared.error.kind.ErrorKind.TheVariants.{ValueValidation}
+use Rattle.gn_text.specs.Addresses.{◌>>=◌}
+use Rattle.gn_text.specs.Numbers.{number_of}
+use Rattle.gn_text.specs.Settings.{is_within}
 use Rattle.gn_program.specs.declared.request.Request.{Request}
-use Rattle.gn_program.specs.declared.request.Request.TheVariants.{Replay, History, Audit, Explain}
+use Rattle.gn_program.specs.declared.request.Request.TheVariants.{Replay, History, Audit, Explain, Load}
 
 -- the flag `--NAME`, which is set where it stands
 abbrev pub flag_rule : Text → Rule
@@ -20,24 +24,60 @@ replay_app = with_rule (new_app (codes "replay")) (flag_rule (codes "history"))
 abbrev pub audit_app : App
 audit_app = with_rule (new_app (codes "audit")) (flag_rule (codes "explain"))
 
--- the command `gn`: it has a version, and one of its subcommands has to be named; `help` is none of them, and none
--- takes more than its flags
-abbrev pub gn_app : App
-gn_app =
+-- the option `--NAME VALUE`, which has to be given
+abbrev pub value_rule : Text → Rule
+value_rule name = record (new_rule name) { long = Some name; action = Some Set; value_names = 1; required = true }
+
+-- the subcommand `load`: it takes the option `--workers V`
+abbrev pub load_app : App
+load_app = with_rule (new_app (codes "load")) (value_rule (codes "workers"))
+
+-- the command `gn` before it has its subcommands: it has a version, and one of them has to be named; `help` is none
+abbrev pub bare_app : App
+bare_app =
     let gn = new_app (codes "gn") in
-    let top = record gn.top { has_version = true; disable_help_subcommand = true; subcommand_required = true } in
-    with_subcommand (with_subcommand (record gn { top = top }) replay_app.top) audit_app.top
+    record gn {
+      top = record gn.top { has_version = true; disable_help_subcommand = true; subcommand_required = true };
+    }
+
+-- the command `gn`: it has these subcommands, of which none takes more than its flags and options
+abbrev pub gn_app : App
+gn_app = with_subcommand (with_subcommand (with_subcommand bare_app replay_app.top) audit_app.top) load_app.top
 
 -- whether a flag is set
 abbrev pub is_set : Text → List Row → Bool
 is_set flag rows = option_map_or (λ value. bytes_eq value (codes "true")) (first_of flag rows) false
 
--- the request that a subcommand with these flags stands for
+-- the number of workers that a text says, where it is 1 to 16
+abbrev pub workers_in : Text → Option ℕ
+workers_in text = do
+  workers ← number_of text
+  if is_within workers 16 then Some workers else None
+
+-- the number of workers that the option asks for, where it is 1 to 16
+abbrev pub workers_of : List Row → Option ℕ
+workers_of rows = do
+  text ← first_of (codes "workers") rows
+  workers_in text
+
+-- the request that a subcommand with these flags and options stands for; nothing, where its number of workers isn't one
+-- of 1 to 16
 abbrev pub request_named : Text → List Row → Option Request
 request_named name rows =
     if bytes_eq name (codes "replay") then Some (if is_set (codes "history") rows then History else Replay)
     else (if bytes_eq name (codes "audit") then Some (if is_set (codes "explain") rows then Explain else Audit)
-    else None)
+    else (if bytes_eq name (codes "load") then option_map Load (workers_of rows) else None))
+
+-- what is wrong with the value of a subcommand's option: a number of workers that isn't one of 1 to 16
+abbrev pub value_kinds : Option (Text × List Row) → Kinds
+value_kinds (Some (name, rows)) =
+    if bytes_eq name (codes "load") && not (is_some (workers_of rows)) then ValueValidation ∷ [] else []
+value_kinds None = []
+
+-- what else than a request words are, in clap's kinds, help and the version among them; nothing is wrong with the words
+-- of a request. A value is looked at where clap's rules find nothing wrong
+abbrev pub kinds_of : List Text → Kinds
+kinds_of words = or_else (fault_of gn_app words) (value_kinds (subcommand_of gn_app words))
 
 -- what the words ask for, by what is wrong with them and by the subcommand that they name; nothing, where something is
 -- wrong
@@ -49,11 +89,20 @@ request_by (fault ∷ faults) named = None
 -- what the words ask for, the first of them the program's name; nothing where they ask for help or the version, or
 -- something is wrong with them
 abbrev pub request_of : List Text → Option Request
-request_of words = request_by (fault_of gn_app words) (subcommand_of gn_app words)
+request_of words = request_by (kinds_of words) (subcommand_of gn_app words)
 
--- plain words are read as they say, whatever the program's name is
+-- the words of a load, with this text for the number of workers
+abbrev pub load_words : Text → Text → List Text
+load_words program workers = program ∷ codes "load" ∷ codes "--workers" ∷ workers ∷ []
+
+-- plain words are read as they say, whatever the program's name is; and a load by no worker or by more than 16 is a
+-- mistake in the value of an option
 pub record PlainWordsAreRead : Type 0 where
   pub replay : (program : Text) → request_of (program ∷ codes "replay" ∷ []) ≡ Some Replay
   pub history : (program : Text) → request_of (program ∷ codes "replay" ∷ codes "--history" ∷ []) ≡ Some History
   pub audit : (program : Text) → request_of (program ∷ codes "audit" ∷ []) ≡ Some Audit
   pub explain : (program : Text) → request_of (program ∷ codes "audit" ∷ codes "--explain" ∷ []) ≡ Some Explain
+  pub load : (program : Text) → request_of (load_words program (codes "4")) ≡ Some (Load 4)
+  pub most : (program : Text) → request_of (load_words program (codes "16")) ≡ Some (Load 16)
+  pub none : (program : Text) → kinds_of (load_words program (codes "0")) ≡ ValueValidation ∷ []
+  pub many : (program : Text) → kinds_of (load_words program (codes "17")) ≡ ValueValidation ∷ []

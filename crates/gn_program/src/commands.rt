@@ -4,12 +4,12 @@ ghost use Rattle.std.specs.Prelude.{◌≡◌, ◌≢◌, ◌⊎◌, Some, None,
 ghost use Rattle.std.specs.IoError.{error_kind};
 ghost use Rattle.std.specs.declared.io.ErrorKind.TheVariants.{OutOfMemory as NoneLeft};
 ghost use Rattle.clap.specs.Kinds.{IsAmong};
-ghost use Rattle.clap.specs.Words.{fault_of, kind_of};
+ghost use Rattle.clap.specs.Words.{kind_of};
 ghost use Rattle.clap.specs.declared.error.kind.ErrorKind.{ErrorKind as Kind};
 ghost use Rattle.clap.specs.declared.error.kind.ErrorKind.TheVariants.{OutOfMemory};
-ghost use Rattle.gn_program.specs.Commands.{Does, IsTurnedAway, IsUnread, audit_status, replay_status};
+ghost use Rattle.gn_program.specs.Commands.{Does, IsTurnedAway, IsUnread, audit_status, load_status, replay_status};
 ghost use Rattle.gn_io.specs.Streams.{streams};
-ghost use Rattle.gn_program.specs.Words.{gn_app, request_of};
+ghost use Rattle.gn_program.specs.Words.{kinds_of, request_of};
 ghost use Rattle.gn_program.specs.declared.request.Request.{Request as Asked};
 
 use crate::fault::Fault;
@@ -19,12 +19,15 @@ use crate::words::read_words;
 use clap::Error;
 use clap::error::ErrorKind;
 use gn_io::{Sink, Source};
+use gn_load::{LoadFault, load};
 use gn_replay::{Exit, ReplayFault, audit, audit_explained, replay, replay_history};
 use gn_router::TableRouter;
 use gn_rules::Legality;
 use std::alloc::Global;
 use std::convert::AsStr;
 use std::io;
+use std::sync::Wait;
+use std::thread::Threads;
 
 /// Done, or legal.
 const DONE: u8 = 0;
@@ -64,8 +67,19 @@ fn end_audit<F: Sink>(faults: &mut F, answer: Result<Legality, ReplayFault>) -> 
     }
 }
 
+/// The status after a load, whose fault is written.
+fn end_load<F: Sink>(faults: &mut F, answer: Result<(), LoadFault>) -> u8
+    ensures { result ≡ load_status answer }
+{
+    match answer {
+        Ok(()) => DONE,
+        Err(fault) => write_fault(faults, Fault::from(fault)),
+    }
+}
+
 /// Does what is asked for, and gives the status.
-fn obey<S: Source, W: Sink, F: Sink>(
+fn obey<R: Threads + Wait + Sync, S: Source, W: Sink, F: Sink>(
+    rt: &R,
     alloc: Global,
     request: Request,
     reader: &mut S,
@@ -92,6 +106,10 @@ fn obey<S: Source, W: Sink, F: Sink>(
             let answer = audit_explained::<Global, TableRouter, S, W>(alloc, reader, writer);
             end_audit(faults, answer)
         }
+        Request::Load(workers) => {
+            let answer = load::<Global, TableRouter, R, S, W>(rt, alloc, workers, reader, writer);
+            end_load(faults, answer)
+        }
     }
 }
 
@@ -116,7 +134,10 @@ fn turn_away<W: Sink, F: Sink>(error: Error, writer: &mut W, faults: &mut F) -> 
 /// is done or the history is legal, 1 at a fault or a wrong history, 2 where the words can't be read. What is asked for
 /// is read from `reader` and written to `writer`; at help, the version and mistakes nothing is read, and help and the
 /// version are written to `writer` too. A fault is one line on `faults`, where a failed write changes nothing.
-pub fn command<T: AsStr, S: Source, W: Sink, F: Sink>(
+///
+/// A load alone starts threads and waits.
+pub fn command<R: Threads + Wait + Sync, T: AsStr, S: Source, W: Sink, F: Sink>(
+    rt: &R,
     alloc: Global,
     words: &[T],
     reader: &mut S,
@@ -127,12 +148,12 @@ pub fn command<T: AsStr, S: Source, W: Sink, F: Sink>(
         → IsUnread reader.old reader.new writer.old writer.new result ⊎ Does request
         (streams (S.state reader.old) (S.state reader.new) (W.state writer.old) (W.state writer.new)) result }
     ensures neither { request_of (map T.text words.now) ≡ None → (kind : Kind)
-        × ((kind ≡ OutOfMemory) ⊎ IsAmong kind (fault_of gn_app (map T.text words.now)))
+        × ((kind ≡ OutOfMemory) ⊎ IsAmong kind (kinds_of (map T.text words.now)))
         × IsTurnedAway kind writer.old writer.new result }
     ensures unread { request_of (map T.text words.now) ≡ None → reader.new ≡ reader.old }
 {
     match read_words(alloc, words) {
-        Ok(request) => obey(alloc, request, reader, writer, faults),
+        Ok(request) => obey(rt, alloc, request, reader, writer, faults),
         Err(error) => turn_away(error, writer, faults),
     }
 }

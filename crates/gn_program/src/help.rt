@@ -11,6 +11,7 @@ Examples:
   gn audit < examples/first_ping.history
   gn audit --explain < examples/wrong_ticket.history
   gn replay --history < examples/first_ping.capture | gn audit
+  gn load --workers 4 < examples/six_links.capture | gn audit
 
 docs/FORMATS.md has each line of a capture, a history and the printed texts.
 
@@ -73,3 +74,21 @@ Example:
 prints
 
   legal 1";
+
+pub(crate) const LOAD: &str =
+    "Runs the links of a capture with many threads, and prints the history";
+
+pub(crate) const LOAD_USAGE: &str =
+    "gn load --workers V < CAPTURE   (the capture is read from standard input)";
+
+pub(crate) const WORKERS: &str = "How many threads route what was admitted, 1 to 16";
+
+pub(crate) const LOAD_TEXTS: &str = "\
+Standard input is a capture of `join`, `open` and `data LINK HEX` lines alone. Each link is read by
+a thread of its own and written by another, and V workers route what the readers admitted. Standard
+output is the history of the router, which `gn audit` reads. Threads take turns as they come, so
+that two runs may have different histories; each is legal.
+
+Example:
+
+  gn load --workers 4 < examples/six_links.capture | gn audit";

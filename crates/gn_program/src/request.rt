@@ -11,4 +11,6 @@ pub enum Request {
     Audit,
     /// A history is audited, and its first wrong step explained.
     Explain,
+    /// The links of a capture are run by so many workers, 1 to 16, and the history of the router is written.
+    Load(u32),
 }

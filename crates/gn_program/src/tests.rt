@@ -3,9 +3,10 @@
 use super::*;
 use gn_io::{ReaderSource, WriterSink};
 use std::io::{self, ErrorKind, Read, Write};
+use std::test::Fail;
 
 /// Words, the status, and how the output and the written faults begin.
-const ANSWERS: [(&[&str], u8, &str, &str); 13] = [
+const ANSWERS: [(&[&str], u8, &str, &str); 20] = [
     (&["gn", "--version"], 0, "gn 0.1.0\n", ""),
     (&["gn", "--help"], 0, "Tineflax, a packet router", ""),
     (&["gn", "replay", "--help"], 0, "Reads a capture,", ""),
@@ -39,7 +40,33 @@ const ANSWERS: [(&[&str], u8, &str, &str); 13] = [
         "",
         "error: unexpected value",
     ),
+    (&["gn", "load", "--help"], 0, "Runs the links", ""),
+    (
+        &["gn", "load"],
+        2,
+        "",
+        "error: the following required arguments",
+    ),
+    (&["gn", "load", "--workers", "0"], 2, "", BAD_WORKERS),
+    (&["gn", "load", "--workers", "17"], 2, "", BAD_WORKERS),
+    (&["gn", "load", "--workers", "+4"], 2, "", BAD_WORKERS),
+    (
+        &["gn", "load", "--workers", "4"],
+        1,
+        "",
+        "fault: line 1: header\n",
+    ),
+    (
+        &["gn", "load", "--workers=16"],
+        1,
+        "",
+        "fault: line 1: header\n",
+    ),
 ];
+
+/// The mistake of a number of workers that isn't one of 1 to 16.
+const BAD_WORKERS: &str =
+    "error: --workers takes a number of 1 to 16\n\nUsage: gn load --workers V < CAPTURE";
 
 /// A capture of nothing but its first lines, and one join.
 const JOINED: &str = "gnutella-capture 1\nconfig 4 8 4 8 8 100\n\
@@ -56,7 +83,14 @@ fn words(rt: HostRuntime) {
         let mut reader = ReaderSource::new(b"".as_slice());
         let mut writer = WriterSink::new(Vec::new(rt.alloc()));
         let mut faults = WriterSink::new(Vec::new(rt.alloc()));
-        let found = command(rt.alloc(), words, &mut reader, &mut writer, &mut faults);
+        let found = command(
+            &rt,
+            rt.alloc(),
+            words,
+            &mut reader,
+            &mut writer,
+            &mut faults,
+        );
         assert_eq!(rt; found, status, "{words:?}");
         assert!(rt; begins(&writer.into_inner(), printed), "{words:?}");
         assert!(rt; begins(&faults.into_inner(), faulted), "{words:?}");
@@ -89,7 +123,14 @@ fn input_fails(rt: HostRuntime) {
     let mut writer = WriterSink::new(Vec::new(rt.alloc()));
     let mut faults = WriterSink::new(Vec::new(rt.alloc()));
     let words = ["gn", "audit"];
-    let status = command(rt.alloc(), &words, &mut reader, &mut writer, &mut faults);
+    let status = command(
+        &rt,
+        rt.alloc(),
+        &words,
+        &mut reader,
+        &mut writer,
+        &mut faults,
+    );
     assert_eq!(rt; status, 1);
     assert!(rt; writer.into_inner().is_empty());
     assert_eq!(rt;
@@ -104,7 +145,14 @@ fn output_fails(rt: HostRuntime) {
         let mut reader = ReaderSource::new(JOINED.as_bytes());
         let mut writer = WriterSink::new(Broken);
         let mut faults = WriterSink::new(Vec::new(rt.alloc()));
-        let status = command(rt.alloc(), &words, &mut reader, &mut writer, &mut faults);
+        let status = command(
+            &rt,
+            rt.alloc(),
+            &words,
+            &mut reader,
+            &mut writer,
+            &mut faults,
+        );
         assert_eq!(rt; status, 1);
         assert_eq!(rt;
             faults.into_inner().as_slice(),
@@ -115,11 +163,18 @@ fn output_fails(rt: HostRuntime) {
 
 #[test]
 fn faults_cant_be_told(rt: HostRuntime) {
-    for (words, status) in [(["gn", "audit"], 1), (["gn", "load"], 2)] {
+    for (words, status) in [(["gn", "audit"], 1), (["gn", "serve"], 2)] {
         let mut reader = ReaderSource::new(JOINED.as_bytes());
         let mut writer = WriterSink::new(Vec::new(rt.alloc()));
         let mut faults = WriterSink::new(Broken);
-        let found = command(rt.alloc(), &words, &mut reader, &mut writer, &mut faults);
+        let found = command(
+            &rt,
+            rt.alloc(),
+            &words,
+            &mut reader,
+            &mut writer,
+            &mut faults,
+        );
         assert_eq!(rt; found, status);
         assert!(rt; writer.into_inner().is_empty());
     }
@@ -139,4 +194,44 @@ fn words_that_arent_had(rt: HostRuntime) {
         assert_eq!(rt; refuse_words(&io::Error::from(kind), &mut faults), status);
         assert_eq!(rt; faults.into_inner().as_slice(), faulted);
     }
+}
+
+/// Captures, the status of their load by two workers, how its history begins, and the line of its fault.
+const LOADS: [(&str, u8, &str, &str); 3] = [
+    ("", 0, "gnutella-history 1\nconfig 4 8 4 8 8 100\nown e", ""),
+    (
+        "data 1 a1a1a1a1a1a1a1a1a1a1a1a1a1a1a1a100070000000000\n",
+        0,
+        "gnutella-history 1\nconfig 4 8 4 8 8 100\nown e",
+        "",
+    ),
+    (
+        "join\n# the ticket\nroute 0\n",
+        1,
+        "",
+        "fault: line 7: load\n",
+    ),
+];
+
+#[test]
+fn loads(rt: HostRuntime) -> Result<(), Fail> {
+    let words = ["gn", "load", "--workers", "2"];
+    for (lines, status, printed, faulted) in LOADS {
+        let text = format!(in rt.alloc(); "{JOINED}{lines}")?;
+        let mut reader = ReaderSource::new(text.as_bytes());
+        let mut writer = WriterSink::new(Vec::new(rt.alloc()));
+        let mut faults = WriterSink::new(Vec::new(rt.alloc()));
+        let found = command(
+            &rt,
+            rt.alloc(),
+            &words,
+            &mut reader,
+            &mut writer,
+            &mut faults,
+        );
+        assert_eq!(rt; found, status, "{lines}");
+        assert!(rt; begins(&writer.into_inner(), printed), "{lines}");
+        assert!(rt; begins(&faults.into_inner(), faulted), "{lines}");
+    }
+    Ok(())
 }

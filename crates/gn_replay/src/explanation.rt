@@ -15,16 +15,12 @@ use std::alloc::{AllocError, Allocator};
 /// How many lines of a history that aren't skipped stand before its steps.
 const LINES_BEFORE: usize = 3;
 
-fn write_answer<A: Allocator + Copy>(
-    alloc: A,
-    out: &mut Vec<u8, A>,
-    rules: &Answer<A>,
-) -> Result<(), AllocError>
+fn write_answer<A: Allocator>(out: &mut Vec<u8, A>, rules: &Answer<A>) -> Result<(), AllocError>
     ensures { OnOk result (out.new.items ≡ out.old.items ++ answer_line rules.now) }
 {
     match rules {
         Ok(reply) => {
-            push_reply(alloc, out, reply)?;
+            push_reply(out, reply)?;
             out.extend_from_slice(b"\n")
         }
         Err(refusal) => push_refusal(out, *refusal),
@@ -44,7 +40,7 @@ fn write_explanation<A: Allocator + Copy>(
     out.extend_from_slice(head.as_bytes())?;
     out.extend_from_slice(text)?;
     out.extend_from_slice(b"\nrules: ")?;
-    write_answer(alloc, out, rules)
+    write_answer(out, rules)
 }
 
 /// Appends what explains the wrong step at an index, which stands in a line of the text.

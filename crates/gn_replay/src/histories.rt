@@ -32,12 +32,7 @@ fn history_text<A: Allocator + Copy, C: RouterCore<A> + Drop>(
         return Err(CaptureRefusal::NoMemory);
     };
     let mut history = Vec::new(alloc);
-    write_history(
-        alloc,
-        &capture.config,
-        replayed.core.history(),
-        &mut history,
-    )?;
+    write_history(&capture.config, replayed.core.history(), &mut history)?;
     Ok((exit_of::<A, C>(&replayed), history))
 }
 

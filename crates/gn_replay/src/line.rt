@@ -101,7 +101,7 @@ impl<A: Allocator + Copy, C: RouterCore<A>> Play<A, C> {
         ensures { OnOk result (self.new ≡ after_playing self.old
             (prints self.old.past (stats_text (stats_of self.old.past)))) }
     {
-        push_stats(self.alloc, &mut self.out, &self.core.stats())
+        push_stats(&mut self.out, &self.core.stats())
     }
 
     /// Plays one line of a capture. Its text is printed, and not written yet.

@@ -39,7 +39,7 @@ impl<A: Allocator + Copy, C: RouterCore<A>> Play<A, C> {
         ensures { OnOk result (self.new ≡ after_playing self.old
             (fault_plays self.old.settings self.old.past i connection fault)) }
     {
-        push_frame_fault(self.alloc, &mut self.out, i, fault)?;
+        push_frame_fault(&mut self.out, i, fault)?;
         self.happen(&Event::Close(connection))?;
         Ok(())
     }
@@ -126,7 +126,7 @@ impl<A: Allocator + Copy, C: RouterCore<A>> Play<A, C> {
         match shaken.state {
             ShakeState::More => Ok(Link::Greeting(shake)),
             ShakeState::Refused => {
-                push_greeting_refused(self.alloc, &mut self.out, i)?;
+                push_greeting_refused(&mut self.out, i)?;
                 Ok(Link::Ended)
             }
             ShakeState::Done => self.connect(i, rest_of(piece, shaken.used)),
@@ -137,7 +137,7 @@ impl<A: Allocator + Copy, C: RouterCore<A>> Play<A, C> {
     pub(crate) fn print_ended(&mut self, i: u32) -> Result<(), AllocError>
         ensures { OnOk result (self.new ≡ after_playing self.old (prints self.old.past (ended_text i))) }
     {
-        push_ended(self.alloc, &mut self.out, i)
+        push_ended(&mut self.out, i)
     }
 
     /// Takes a piece of link i.

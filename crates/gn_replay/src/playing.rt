@@ -62,7 +62,7 @@ impl<A: Allocator + Copy, C: RouterCore<A>> Play<A, C> {
         ensures { OnOk result (self.new ≡ after_printing self.old event.now (reply_of answer.now)) }
     {
         match answer {
-            Ok(receipt) => push_step_of(self.alloc, &mut self.out, 0, event, &receipt.reply),
+            Ok(receipt) => push_step_of(&mut self.out, 0, event, &receipt.reply),
             Err(refusal) => {
                 self.refusals = self.refusals.saturating_add(1);
                 push_refusal(&mut self.out, *refusal)

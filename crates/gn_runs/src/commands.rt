@@ -1,4 +1,4 @@
-//! The first run, captures with a fault, and audits with what explains them, through the command line.
+//! The first run, captures with a fault, audits with what explains them, and loads, through the command line.
 
 use crate::compare::same;
 use crate::encoding::encoded;
@@ -9,7 +9,9 @@ use gn_program::command;
 use std::alloc::Global;
 use std::io::{self, Read};
 use std::process::Abort;
+use std::sync::Wait;
 use std::test::Fail;
+use std::thread::Threads;
 
 /// A text that is read, the status, what is printed, and the line of its fault. The texts are short ones.
 type Case = (&'static str, u8, &'static str, &'static str);
@@ -134,8 +136,27 @@ const EXPLAINED: [Case; 4] = [
     ),
 ];
 
+/// Captures that one worker loads: a Ping of one link, and the first run, of which a load takes all but its last line.
+const LOADED: [Case; 2] = [
+    (
+        "gnutella-capture 1; config 4 8 4 8 8 100; own <ee> 127.0.0.1 6346 5 40; join; data 1 <PING a1 07 00>",
+        0,
+        "gnutella-history 1; config 4 8 4 8 8 100; own <ee> 127.0.0.1 6346 5 40; \
+        0 connect = connected 1; 0 admit 1 <PING a1 07 00> = admitted 0; \
+        2 route 0 = routed local 1+<OWN a1 01>; 1 take 1 = taken <OWN a1 01>; 1 close 1 = closed 0; end",
+        "",
+    ),
+    (
+        "gnutella-capture 1; config 4 8 4 8 8 100; own <ee> 127.0.0.1 6346 5 40; \
+        join; join; data 1 <PING a1 07 00>; route 0",
+        1,
+        "",
+        "fault: line 7: load",
+    ),
+];
+
 /// Gives the text of a case to a command, and compares its answer.
-fn answers<R: Abort + AllocGlobal>(
+fn answers<R: Threads + Wait + Sync + Abort + AllocGlobal>(
     rt: &R,
     words: &[&str],
     text: &str,
@@ -146,7 +167,7 @@ fn answers<R: Abort + AllocGlobal>(
     let mut reader = ReaderSource::new(text.as_bytes());
     let mut writer = WriterSink::new(Vec::new(alloc));
     let mut faults = WriterSink::new(Vec::new(alloc));
-    let found = command(alloc, words, &mut reader, &mut writer, &mut faults);
+    let found = command(rt, alloc, words, &mut reader, &mut writer, &mut faults);
     assert!(rt; found == status, "{short}: status {found}");
     for (sink, told) in [(writer, printed), (faults, fault)] {
         same(
@@ -159,7 +180,11 @@ fn answers<R: Abort + AllocGlobal>(
     Ok(())
 }
 
-fn all_answer<R: Abort + AllocGlobal>(rt: &R, words: &[&str], cases: &[Case]) -> Result<(), Fail> {
+fn all_answer<R: Threads + Wait + Sync + Abort + AllocGlobal>(
+    rt: &R,
+    words: &[&str],
+    cases: &[Case],
+) -> Result<(), Fail> {
     for case in cases {
         answers(rt, words, &encoded(rt.alloc(), case.0)?, case)?;
     }
@@ -192,12 +217,18 @@ fn explained_audits(rt: HostRuntime) -> Result<(), Fail> {
 }
 
 #[test]
+fn loads(rt: HostRuntime) -> Result<(), Fail> {
+    all_answer(&rt, &["gn", "load", "--workers", "1"], &LOADED)
+}
+
+#[test]
 fn too_large_an_input(rt: HostRuntime) {
     let alloc = rt.alloc();
     let mut reader = ReaderSource::new(io::repeat(b'#').take(67_108_865));
     let mut writer = WriterSink::new(Vec::new(alloc));
     let mut faults = WriterSink::new(Vec::new(alloc));
     let status = command(
+        &rt,
         alloc,
         &["gn", "replay"],
         &mut reader,

@@ -119,7 +119,7 @@ fn printed(
     let mut text = Vec::new(alloc);
     for (event, answer) in events.iter().zip(answers) {
         match answer {
-            Ok(receipt) => push_step_of(alloc, &mut text, 0, event, &receipt.reply)?,
+            Ok(receipt) => push_step_of(&mut text, 0, event, &receipt.reply)?,
             Err(refusal) => push_refusal(&mut text, *refusal)?,
         }
     }

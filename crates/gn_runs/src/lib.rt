@@ -20,6 +20,8 @@ mod event_lists;
 #[cfg(test)]
 mod link_runs;
 #[cfg(test)]
+mod load_runs;
+#[cfg(test)]
 mod out_of_memory;
 #[cfg(test)]
 mod played;

@@ -24,10 +24,10 @@ fn history_is_kept<C: RouterCore<Global> + Drop, R: Abort + AllocGlobal>(
 ) -> Result<(), Fail> {
     let alloc = rt.alloc();
     let mut written = Vec::new(alloc);
-    write_history(alloc, core.config(), core.history(), &mut written)?;
+    write_history(core.config(), core.history(), &mut written)?;
     let (config, steps) = read_history(alloc, &written).map_err(|_| name)?;
     let mut again = Vec::new(alloc);
-    write_history(alloc, &config, &steps, &mut again)?;
+    write_history(&config, &steps, &mut again)?;
     same(rt, name, &again, &written);
     assert!(rt; legal(&config, &steps) == Legality::Legal, "{name}");
     let mut source = ReaderSource::new(written.as_slice());

@@ -1,5 +1,6 @@
 -- What stood in a text before it was appended to.
-use Rattle.std.proofs.Common.{◌≡◌, ℕ, List, ◌++◌, length, take, drop, sym, ap, ◌∙◌, append_assoc}
+use Rattle.std.proofs.Common.{◌≡◌, ℕ, List, ◌++◌, length, take, drop, sym, ap, ◌∙◌, append_assoc, Result, Ok, Err}
+use Rattle.std.specs.Prelude.{OnErr}
 use Rattle.std.proofs.Math.Seq.{take-append_seam, take-length}
 use Rattle.std.proofs.lemmas.List.{take-append-drop}
 
@@ -12,3 +13,7 @@ kept_before old more longer new is begins =
     let rest = drop (length longer) new in
     let parts : new ≡ old ++ (more ++ rest) = sym (take-append-drop (length longer) new) ∙ ap (λ xs. xs ++ rest) (begins ∙ is) ∙ append_assoc old more rest in
     rw parts (take-append_seam old (more ++ rest))
+
+pub on_error : {X E P : Type 0} (r : Result X E) → P → OnErr r P
+on_error (Ok x) p = _
+on_error (Err e) p = p

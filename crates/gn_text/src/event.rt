@@ -9,8 +9,7 @@ use crate::push::push_number;
 use gn_rules::Event;
 use std::alloc::{AllocError, Allocator};
 
-pub(crate) fn write_event<A: Allocator + Copy, B: Allocator>(
-    alloc: A,
+pub(crate) fn write_event<A: Allocator, B: Allocator>(
     out: &mut Vec<u8, B>,
     event: &Event<A>,
 ) -> Result<(), AllocError>
@@ -27,7 +26,7 @@ pub(crate) fn write_event<A: Allocator + Copy, B: Allocator>(
             out.extend_from_slice(b"admit ")?;
             push_number(out, *c)?;
             out.extend_from_slice(b" ")?;
-            write_packet(alloc, out, packet)
+            write_packet(out, packet)
         }
         Event::Route(ticket) => {
             out.extend_from_slice(b"route ")?;
@@ -39,7 +38,7 @@ pub(crate) fn write_event<A: Allocator + Copy, B: Allocator>(
         }
         Event::Originate(packet) => {
             out.extend_from_slice(b"originate ")?;
-            write_packet(alloc, out, packet)
+            write_packet(out, packet)
         }
     }
 }

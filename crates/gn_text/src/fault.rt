@@ -44,6 +44,17 @@ pub enum CaptureRefusal {
     NoMemory,
 }
 
+impl CaptureRefusal {
+    ghost use Rattle.gn_text.specs.Faults.{refused_at};
+
+    /// The refusal of a text whose first fault is this cause in the line of this number.
+    pub fn at(line: u64, cause: Cause) -> CaptureRefusal
+        ensures { result ≡ refused_at line cause }
+    {
+        CaptureRefusal::Fault(CaptureFault { line, cause })
+    }
+}
+
 impl From<AllocError> for CaptureRefusal {
     ghost use Rattle.gn_text.specs.declared.fault.CaptureRefusal.TheVariants.{NoMemory};
 

@@ -103,8 +103,8 @@ fn written(rt: HostRuntime) -> Result<(), Fail> {
     let alloc = rt.alloc();
     let mut out = Vec::new(alloc);
     push_number(&mut out, 4_294_967_295)?;
-    push_hex(alloc, &mut out, b"\x0a\xBC")?;
-    push_ip(alloc, &mut out, [208, 17, 50, 4])?;
+    push_hex(&mut out, b"\x0a\xBC")?;
+    push_ip(&mut out, [208, 17, 50, 4])?;
     assert_eq!(rt; out.as_slice(), b"42949672950abc208.17.50.4".as_slice());
     Ok(())
 }

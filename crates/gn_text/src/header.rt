@@ -1,23 +1,17 @@
 //! The three lines that a text begins with.
 
 ghost use Rattle.std.specs.Prelude.{◌≡◌, map};
-ghost use Rattle.gn_text.specs.Faults.{IsRead, refused_at};
+ghost use Rattle.gn_text.specs.Faults.{IsRead};
 ghost use Rattle.gn_text.specs.Header.{config_from, header_of, header_seen, own_from};
 ghost use Rattle.gn_text.specs.Parsed.{line_seen};
 ghost use Rattle.gn_text.specs.Settings.{numbers_of};
 
-use crate::fault::{CaptureFault, CaptureRefusal, Cause};
+use crate::fault::{CaptureRefusal, Cause};
 use crate::line::{fields, is_word};
 use crate::parsed::NumberedLine;
 use crate::settings::{read_config, read_own};
 use gn_rules::Config;
 use std::alloc::Allocator;
-
-fn refused(line: u64, cause: Cause) -> CaptureRefusal
-    ensures { result ≡ refused_at line cause }
-{
-    CaptureRefusal::Fault(CaptureFault { line, cause })
-}
 
 fn read_own_line<'a, 'b, A: Allocator + Copy>(
     alloc: A,
@@ -28,13 +22,13 @@ fn read_own_line<'a, 'b, A: Allocator + Copy>(
     ensures { IsRead header_seen result (own_from (numbers_of config) after (map line_seen lines.now)) }
 {
     match lines {
-        [] => Err(refused(after, Cause::Own)),
+        [] => Err(CaptureRefusal::at(after, Cause::Own)),
         [(number, line), more @ ..] => match read_own(alloc, &fields(alloc, line)?)? {
             Some(own) => {
                 config.own = own;
                 Ok((config, more))
             }
-            None => Err(refused(*number, Cause::Own)),
+            None => Err(CaptureRefusal::at(*number, Cause::Own)),
         },
     }
 }
@@ -47,10 +41,10 @@ fn read_config_line<'a, 'b, A: Allocator + Copy>(
     ensures { IsRead header_seen result (config_from after (map line_seen lines.now)) }
 {
     match lines {
-        [] => Err(refused(after, Cause::Config)),
+        [] => Err(CaptureRefusal::at(after, Cause::Config)),
         [(number, line), more @ ..] => match read_config(&fields(alloc, line)?) {
             Some(config) => read_own_line(alloc, config, more, after),
-            None => Err(refused(*number, Cause::Config)),
+            None => Err(CaptureRefusal::at(*number, Cause::Config)),
         },
     }
 }
@@ -67,10 +61,10 @@ pub fn read_header<'a, 'b, A: Allocator + Copy>(
     ensures { IsRead header_seen result (header_of title.now after (map line_seen lines.now)) }
 {
     match lines {
-        [] => Err(refused(after, Cause::Header)),
+        [] => Err(CaptureRefusal::at(after, Cause::Header)),
         [(number, line), more @ ..] => {
             if !is_word(line, title) {
-                return Err(refused(*number, Cause::Header));
+                return Err(CaptureRefusal::at(*number, Cause::Header));
             }
             read_config_line(alloc, more, after)
         }

@@ -1,6 +1,6 @@
 //! A text in lines, and a line in fields.
 
-ghost use Rattle.std.specs.Prelude.{◌≡◌, ◌==◌, map, IfOk};
+ghost use Rattle.std.specs.Prelude.{◌≡◌, ◌==◌, map, IfOk, OnOk};
 ghost use Rattle.std.specs.List.{slice_split};
 ghost use Rattle.gn_text.specs.Lines.{fields_of, is_skipped, is_word, lines_of, without_last_feed};
 
@@ -43,6 +43,18 @@ pub fn fields<A: Allocator + Copy>(alloc: A, line: &[u8]) -> Result<Vec<&[u8], A
     ensures { IfOk result (λ v. map (λ x. x.now) v.items ≡ fields_of line.now) }
 {
     parts(alloc, line, b' ')
+}
+
+/// Puts the fields of a line in place of those that are there, where they can stand in the same memory. An `Err` is out
+/// of memory.
+pub fn fields_into<'a, A: Allocator>(
+    line: &'a [u8],
+    fields: &mut Vec<&'a [u8], A>,
+) -> Result<(), AllocError>
+    ensures { OnOk result (map (λ x. x.now) fields.new.items ≡ fields_of line.now) }
+{
+    fields.clear();
+    fields.extend(line.split(|b| *b == b' '))
 }
 
 /// Whether a line is skipped, as empty ones and comments are.

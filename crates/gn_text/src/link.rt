@@ -1,10 +1,11 @@
 //! The lines of what happens to a link.
+#![tactic(auto, using(crate::proofs::KeptLemmas::kept))]
 
-ghost use Rattle.std.specs.Prelude.{◌≡◌, ◌++◌, OnOk, OnErr};
+ghost use Rattle.std.specs.Prelude.{◌≡◌, ◌++◌, decimal, length, take, OnOk, OnErr};
 ghost use Rattle.gn_text.specs.Links.{ended_text, frame_fault_text, greeting_refused_text, kind_text};
 
 use crate::push::push_number;
-use gn_wire::{FrameFault, Kind};
+use gn_wire::{FrameFault, Kind, whole_or_none};
 use std::alloc::{AllocError, Allocator};
 
 fn kind_name(kind: Kind) -> &'static [u8]
@@ -25,7 +26,8 @@ fn write_frame_fault<B: Allocator>(
     link: u32,
     fault: FrameFault,
 ) -> Result<(), AllocError>
-    ensures { OnOk result (out.new.items ≡ out.old.items ++ frame_fault_text link fault) }
+    ensures ok { OnOk result (out.new.items ≡ out.old.items ++ frame_fault_text link fault) }
+    ensures err { OnErr result (take (length out.old.items) out.new.items ≡ out.old.items) }
 {
     out.extend_from_slice(b"fault ")?;
     push_number(out, link)?;
@@ -46,8 +48,7 @@ fn write_frame_fault<B: Allocator>(
 
 /// Appends the line of a descriptor that a link can't have, `fault LINK fixed KIND LENGTH` or `fault LINK long LENGTH`,
 /// the length in bytes of payload. An `Err` is out of memory, and changes nothing.
-pub fn push_frame_fault<A: Allocator + Copy, B: Allocator>(
-    alloc: A,
+pub fn push_frame_fault<B: Allocator>(
     out: &mut Vec<u8, B>,
     link: u32,
     fault: FrameFault,
@@ -55,40 +56,45 @@ pub fn push_frame_fault<A: Allocator + Copy, B: Allocator>(
     ensures ok { OnOk result (out.new.items ≡ out.old.items ++ frame_fault_text link fault) }
     ensures err { OnErr result (out.new.items ≡ out.old.items) }
 {
-    let mut text = Vec::new(alloc);
-    write_frame_fault(&mut text, link, fault)?;
-    out.extend_from_slice(&text)
+    let start = out.len();
+    let written = write_frame_fault(out, link, fault);
+    whole_or_none(out, start, written)
+}
+
+fn write_link<B: Allocator>(
+    out: &mut Vec<u8, B>,
+    word: &[u8],
+    link: u32,
+    rest: &[u8],
+) -> Result<(), AllocError>
+    ensures ok { OnOk result (out.new.items ≡ out.old.items ++ (word.now ++ decimal link ++ rest.now)) }
+    ensures err { OnErr result (take (length out.old.items) out.new.items ≡ out.old.items) }
+{
+    out.extend_from_slice(word)?;
+    push_number(out, link)?;
+    out.extend_from_slice(rest)
 }
 
 /// Appends the line of a link whose greeting isn't the one that is due, `greeting LINK refused`. An `Err` is out of
 /// memory, and changes nothing.
-pub fn push_greeting_refused<A: Allocator + Copy, B: Allocator>(
-    alloc: A,
+pub fn push_greeting_refused<B: Allocator>(
     out: &mut Vec<u8, B>,
     link: u32,
 ) -> Result<(), AllocError>
     ensures ok { OnOk result (out.new.items ≡ out.old.items ++ greeting_refused_text link) }
     ensures err { OnErr result (out.new.items ≡ out.old.items) }
 {
-    let mut text = Vec::new(alloc);
-    text.extend_from_slice(b"greeting ")?;
-    push_number(&mut text, link)?;
-    text.extend_from_slice(b" refused\n")?;
-    out.extend_from_slice(&text)
+    let start = out.len();
+    let written = write_link(out, b"greeting ", link, b" refused\n");
+    whole_or_none(out, start, written)
 }
 
 /// Appends the line of bytes for a link that has ended, `ended LINK`. An `Err` is out of memory, and changes nothing.
-pub fn push_ended<A: Allocator + Copy, B: Allocator>(
-    alloc: A,
-    out: &mut Vec<u8, B>,
-    link: u32,
-) -> Result<(), AllocError>
+pub fn push_ended<B: Allocator>(out: &mut Vec<u8, B>, link: u32) -> Result<(), AllocError>
     ensures ok { OnOk result (out.new.items ≡ out.old.items ++ ended_text link) }
     ensures err { OnErr result (out.new.items ≡ out.old.items) }
 {
-    let mut text = Vec::new(alloc);
-    text.extend_from_slice(b"ended ")?;
-    push_number(&mut text, link)?;
-    text.extend_from_slice(b"\n")?;
-    out.extend_from_slice(&text)
+    let start = out.len();
+    let written = write_link(out, b"ended ", link, b"\n");
+    whole_or_none(out, start, written)
 }

@@ -6,24 +6,25 @@ ghost use Rattle.gn_text.specs.Steps.{packet_text, sends_text};
 
 use crate::push::{push_hex, push_number};
 use gn_rules::Sending;
-use gn_wire::Descriptor;
+use gn_wire::{Descriptor, whole_or_none, write_header};
 use std::alloc::{AllocError, Allocator};
 
-pub(crate) fn write_packet<A: Allocator + Copy, B: Allocator>(
-    alloc: A,
+/// Appends a descriptor's header and then its payload. An `Err` is out of memory, and changes nothing.
+#[tactic(auto, using(crate::proofs::HexLemmas::joined, crate::proofs::KeptLemmas::kept))]
+pub(crate) fn write_packet<A: Allocator, B: Allocator>(
     out: &mut Vec<u8, B>,
     packet: &Descriptor<A>,
 ) -> Result<(), AllocError>
     ensures ok { OnOk result (out.new.items ≡ out.old.items ++ packet_text packet.now) }
     ensures err { OnErr result (out.new.items ≡ out.old.items) }
 {
-    let mut bytes = Vec::new(alloc);
-    packet.write_to(&mut bytes)?;
-    push_hex(alloc, out, &bytes)
+    let start = out.len();
+    push_hex(out, &write_header(&packet.header()))?;
+    let written = push_hex(out, packet.payload().as_slice());
+    whole_or_none(out, start, written)
 }
 
-pub(crate) fn write_sends<A: Allocator + Copy, B: Allocator>(
-    alloc: A,
+pub(crate) fn write_sends<A: Allocator, B: Allocator>(
     out: &mut Vec<u8, B>,
     sends: &[Sending<A>],
 ) -> Result<(), AllocError>
@@ -34,7 +35,7 @@ pub(crate) fn write_sends<A: Allocator + Copy, B: Allocator>(
         out.extend_from_slice(b" ")?;
         push_number(out, sending.to)?;
         out.extend_from_slice(if sending.queued { b"+" } else { b"-" })?;
-        write_packet(alloc, out, &sending.packet)?;
+        write_packet(out, &sending.packet)?;
     }
     Ok(())
 }

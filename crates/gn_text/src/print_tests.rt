@@ -24,7 +24,6 @@ fn send(to: u32, packet: Descriptor, queued: bool) -> Sending {
 fn line(rt: &HostRuntime, event: Event, reply: Reply) -> Result<Vec<u8>, Fail> {
     let mut out = Vec::new(rt.alloc());
     push_step(
-        rt.alloc(),
         &mut out,
         &Step {
             actor: 0,
@@ -111,7 +110,7 @@ fn counters(rt: HostRuntime) -> Result<(), Fail> {
     let mut out = Vec::new(rt.alloc());
     let mut stats = Stats::new();
     stats.raise(Counter::Sent);
-    push_stats(rt.alloc(), &mut out, &stats)?;
+    push_stats(&mut out, &stats)?;
     assert_eq!(rt;
         out.as_slice(),
         b"stats connected 0 toomany 0 closed 0 admitted 0 busy 0 routed 0 unknownkind 0 malformed 0 \
@@ -123,13 +122,12 @@ fn counters(rt: HostRuntime) -> Result<(), Fail> {
 
 #[test]
 fn other_lines(rt: HostRuntime) -> Result<(), Fail> {
-    let alloc = rt.alloc();
-    let mut out = Vec::new(alloc);
+    let mut out = Vec::new(rt.alloc());
     push_refusal(&mut out, Refusal::NothingWaiting)?;
-    push_frame_fault(alloc, &mut out, 1, FrameFault::FixedLength(Kind::Ping, 1))?;
-    push_frame_fault(alloc, &mut out, 3, FrameFault::TooLong(65_537))?;
-    push_greeting_refused(alloc, &mut out, 2)?;
-    push_ended(alloc, &mut out, 2)?;
+    push_frame_fault(&mut out, 1, FrameFault::FixedLength(Kind::Ping, 1))?;
+    push_frame_fault(&mut out, 3, FrameFault::TooLong(65_537))?;
+    push_greeting_refused(&mut out, 2)?;
+    push_ended(&mut out, 2)?;
     let own = Own {
         servent: Guid([0xee; 16]),
         ip: [127, 0, 0, 1],
@@ -140,9 +138,9 @@ fn other_lines(rt: HostRuntime) -> Result<(), Fail> {
     let Ok(config) = Config::new(4, 8, 4, 8, 8, 100, own) else {
         return Err(Fail::new("each number is in its limit"));
     };
-    push_settings(alloc, &mut out, &config)?;
-    push_step_of(alloc, &mut out, 7, &Event::Connect, &Reply::TooMany)?;
-    push_reply(alloc, &mut out, &Reply::<Global>::Admitted(12))?;
+    push_settings(&mut out, &config)?;
+    push_step_of(&mut out, 7, &Event::Connect, &Reply::<Global>::TooMany)?;
+    push_reply(&mut out, &Reply::<Global>::Admitted(12))?;
     assert_eq!(rt;
         out.as_slice(),
         b"refused NothingWaiting\nfault 1 fixed ping 1\nfault 3 long 65537\n\

@@ -1,9 +1,11 @@
 //! Numbers, bytes and addresses as they are written.
+#![tactic(auto, using(crate::proofs::KeptLemmas::kept))]
 
-ghost use Rattle.std.specs.Prelude.{◌≡◌, ◌++◌, decimal, OnErr, OnOk};
-ghost use Rattle.hex.specs.Hex.{encode_lower};
+ghost use Rattle.std.specs.Prelude.{◌≡◌, ◌<◌, ◌*◌, ◌++◌, decimal, length, slice_index, take, OnErr, OnOk};
+ghost use Rattle.hex.specs.Hex.{encode_lower, lower_digits};
 ghost use Rattle.gn_text.specs.Addresses.{ip_text};
 
+use gn_wire::whole_or_none;
 use itoa::Buffer;
 use std::alloc::{AllocError, Allocator};
 
@@ -16,29 +18,65 @@ pub fn push_number<B: Allocator>(out: &mut Vec<u8, B>, number: u32) -> Result<()
     out.extend_from_slice(buffer.format(number).as_bytes())
 }
 
-/// Appends bytes in hex digits of lower case, two for each byte. An `Err` is out of memory.
-pub fn push_hex<A: Allocator, B: Allocator>(
-    alloc: A,
-    out: &mut Vec<u8, B>,
-    bytes: &[u8],
-) -> Result<(), AllocError>
+/// The hex digit of lower case that says a number below 16.
+#[tactic(auto, using(crate::proofs::HexLemmas::decimal_digit, crate::proofs::HexLemmas::letter_digit))]
+fn digit(number: u8) -> u8
+    requires { number < 16 }
+    ensures { result ≡ slice_index lower_digits number }
+{
+    if number < 10 {
+        b'0' + number
+    } else {
+        b'a' - 10 + number
+    }
+}
+
+/// Puts the hex digits of bytes, two for each, in place of what stands there.
+fn put_digits(bytes: &[u8], digits: &mut [u8])
+    requires { length digits.old ≡ 2 * length bytes.now }
+    ensures { digits.new ≡ encode_lower bytes.now }
+{
+    for i in 0..bytes.len() {
+        digits[2 * i] = digit(bytes[i] >> 4);
+        digits[2 * i + 1] = digit(bytes[i] & 0x0f);
+    }
+}
+
+/// Appends bytes in hex digits of lower case, two for each byte. An `Err` is out of memory, and changes nothing.
+#[tactic(auto, using(std::proofs::lemmas::Slice::overwrites, std::proofs::lemmas::List::with_items_is, std::proofs::lemmas::List::places))]
+pub fn push_hex<B: Allocator>(out: &mut Vec<u8, B>, bytes: &[u8]) -> Result<(), AllocError>
     ensures ok { OnOk result (out.new.items ≡ out.old.items ++ encode_lower bytes.now) }
     ensures err { OnErr result (out.new.items ≡ out.old.items) }
 {
-    let text = hex::encode(alloc, bytes)?;
-    out.extend_from_slice(text.as_bytes())
+    let start = out.len();
+    let Some(end) = start.checked_add(2 * bytes.len()) else {
+        return Err(AllocError);
+    };
+    out.resize(end, 0)?;
+    put_digits(bytes, &mut out.as_mut_slice()[start..]);
+    Ok(())
 }
 
-/// Appends an address in dotted decimal. An `Err` is out of memory.
-pub fn push_ip<A: Allocator, B: Allocator>(
-    alloc: A,
-    out: &mut Vec<u8, B>,
-    ip: [u8; 4],
-) -> Result<(), AllocError>
+fn write_ip<B: Allocator>(out: &mut Vec<u8, B>, ip: [u8; 4]) -> Result<(), AllocError>
+    ensures ok { OnOk result (out.new.items ≡ out.old.items ++ ip_text ip) }
+    ensures err { OnErr result (take (length out.old.items) out.new.items ≡ out.old.items) }
+{
+    let [a, b, c, d] = ip;
+    push_number(out, u32::from(a))?;
+    out.extend_from_slice(b".")?;
+    push_number(out, u32::from(b))?;
+    out.extend_from_slice(b".")?;
+    push_number(out, u32::from(c))?;
+    out.extend_from_slice(b".")?;
+    push_number(out, u32::from(d))
+}
+
+/// Appends an address in dotted decimal. An `Err` is out of memory, and changes nothing.
+pub fn push_ip<B: Allocator>(out: &mut Vec<u8, B>, ip: [u8; 4]) -> Result<(), AllocError>
     ensures ok { OnOk result (out.new.items ≡ out.old.items ++ ip_text ip) }
     ensures err { OnErr result (out.new.items ≡ out.old.items) }
 {
-    let [a, b, c, d] = ip;
-    let text = format!(in alloc; "{a}.{b}.{c}.{d}")?;
-    out.extend_from_slice(text.as_bytes())
+    let start = out.len();
+    let written = write_ip(out, ip);
+    whole_or_none(out, start, written)
 }

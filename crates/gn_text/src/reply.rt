@@ -23,8 +23,7 @@ fn place_name(local: bool) -> &'static [u8]
     if local { b"local" } else { b"away" }
 }
 
-fn write_reply<A: Allocator + Copy, B: Allocator>(
-    alloc: A,
+fn write_reply<A: Allocator, B: Allocator>(
     out: &mut Vec<u8, B>,
     reply: &Reply<A>,
 ) -> Result<(), AllocError>
@@ -49,7 +48,7 @@ fn write_reply<A: Allocator + Copy, B: Allocator>(
         Reply::Routed { sends, local } => {
             out.extend_from_slice(b"routed ")?;
             out.extend_from_slice(place_name(*local))?;
-            write_sends(alloc, out, sends.as_slice())
+            write_sends(out, sends.as_slice())
         }
         Reply::Dropped(reason) => {
             out.extend_from_slice(b"dropped ")?;
@@ -57,18 +56,17 @@ fn write_reply<A: Allocator + Copy, B: Allocator>(
         }
         Reply::Taken(packet) => {
             out.extend_from_slice(b"taken ")?;
-            write_packet(alloc, out, packet)
+            write_packet(out, packet)
         }
         Reply::Sent(sends) => {
             out.extend_from_slice(b"sent")?;
-            write_sends(alloc, out, sends.as_slice())
+            write_sends(out, sends.as_slice())
         }
     }
 }
 
 /// Appends a reply as it stands after the `=` of a step's line. An `Err` is out of memory, and changes nothing.
-pub fn push_reply<A: Allocator + Copy, B: Allocator>(
-    alloc: A,
+pub fn push_reply<A: Allocator, B: Allocator>(
     out: &mut Vec<u8, B>,
     reply: &Reply<A>,
 ) -> Result<(), AllocError>
@@ -76,6 +74,6 @@ pub fn push_reply<A: Allocator + Copy, B: Allocator>(
     ensures err { OnErr result (out.new.items ≡ out.old.items) }
 {
     let start = out.len();
-    let written = write_reply(alloc, out, reply);
+    let written = write_reply(out, reply);
     whole_or_none(out, start, written)
 }

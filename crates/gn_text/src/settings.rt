@@ -122,47 +122,35 @@ fn write_config<B: Allocator>(out: &mut Vec<u8, B>, config: &Config) -> Result<(
     out.extend_from_slice(b"\n")
 }
 
-fn write_own<A: Allocator + Copy, B: Allocator>(
-    alloc: A,
-    out: &mut Vec<u8, B>,
-    own: &Own,
-) -> Result<(), AllocError>
+fn write_own<B: Allocator>(out: &mut Vec<u8, B>, own: &Own) -> Result<(), AllocError>
     ensures ok { OnOk result (out.new.items ≡ out.old.items ++ own_text own.now) }
     ensures err { OnErr result (take (length out.old.items) out.new.items ≡ out.old.items) }
 {
     out.extend_from_slice(b"own ")?;
-    push_hex(alloc, out, &own.servent.0)?;
+    push_hex(out, &own.servent.0)?;
     out.extend_from_slice(b" ")?;
-    push_ip(alloc, out, own.ip)?;
+    push_ip(out, own.ip)?;
     write_field(out, u32::from(own.port))?;
     write_field(out, own.files)?;
     write_field(out, own.kbytes)?;
     out.extend_from_slice(b"\n")
 }
 
-fn write_settings<A: Allocator + Copy, B: Allocator>(
-    alloc: A,
-    out: &mut Vec<u8, B>,
-    config: &Config,
-) -> Result<(), AllocError>
+fn write_settings<B: Allocator>(out: &mut Vec<u8, B>, config: &Config) -> Result<(), AllocError>
     ensures ok { OnOk result (out.new.items ≡ out.old.items ++ settings_text config.now) }
     ensures err { OnErr result (take (length out.old.items) out.new.items ≡ out.old.items) }
 {
     write_config(out, config)?;
-    write_own(alloc, out, &config.own)
+    write_own(out, &config.own)
 }
 
 /// Appends the two lines of a configuration, `config K N M T W H` and `own SERVENT IP PORT FILES KBYTES`. An `Err` is out
 /// of memory, and changes nothing.
-pub fn push_settings<A: Allocator + Copy, B: Allocator>(
-    alloc: A,
-    out: &mut Vec<u8, B>,
-    config: &Config,
-) -> Result<(), AllocError>
+pub fn push_settings<B: Allocator>(out: &mut Vec<u8, B>, config: &Config) -> Result<(), AllocError>
     ensures ok { OnOk result (out.new.items ≡ out.old.items ++ settings_text config.now) }
     ensures err { OnErr result (out.new.items ≡ out.old.items) }
 {
     let start = out.len();
-    let written = write_settings(alloc, out, config);
+    let written = write_settings(out, config);
     whole_or_none(out, start, written)
 }

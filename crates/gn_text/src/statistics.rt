@@ -1,10 +1,12 @@
 //! The line of the counters.
+#![tactic(auto, using(crate::proofs::KeptLemmas::kept))]
 
-ghost use Rattle.std.specs.Prelude.{◌≡◌, ◌++◌, OnOk, OnErr};
+ghost use Rattle.std.specs.Prelude.{◌≡◌, ◌++◌, length, take, OnOk, OnErr};
 ghost use Rattle.gn_text.specs.Statistics.{count_text, counter_text, counts_text, stats_text};
 
 use crate::push::push_number;
 use gn_rules::{Counter, Stats};
+use gn_wire::whole_or_none;
 use std::alloc::{AllocError, Allocator};
 
 pub(crate) fn counter_name(counter: Counter) -> &'static [u8]
@@ -34,7 +36,8 @@ fn write_count<B: Allocator>(
     stats: &Stats,
     counter: Counter,
 ) -> Result<(), AllocError>
-    ensures { OnOk result (out.new.items ≡ out.old.items ++ count_text stats.now counter) }
+    ensures ok { OnOk result (out.new.items ≡ out.old.items ++ count_text stats.now counter) }
+    ensures err { OnErr result (take (length out.old.items) out.new.items ≡ out.old.items) }
 {
     out.extend_from_slice(b" ")?;
     out.extend_from_slice(counter_name(counter))?;
@@ -47,7 +50,8 @@ fn write_counts<B: Allocator>(
     stats: &Stats,
     counters: &[Counter],
 ) -> Result<(), AllocError>
-    ensures { OnOk result (out.new.items ≡ out.old.items ++ counts_text stats.now counters.now) }
+    ensures ok { OnOk result (out.new.items ≡ out.old.items ++ counts_text stats.now counters.now) }
+    ensures err { OnErr result (take (length out.old.items) out.new.items ≡ out.old.items) }
 {
     for counter in counters {
         write_count(out, stats, *counter)?;
@@ -55,19 +59,22 @@ fn write_counts<B: Allocator>(
     Ok(())
 }
 
+fn write_stats<B: Allocator>(out: &mut Vec<u8, B>, stats: &Stats) -> Result<(), AllocError>
+    ensures ok { OnOk result (out.new.items ≡ out.old.items ++ stats_text stats.now) }
+    ensures err { OnErr result (take (length out.old.items) out.new.items ≡ out.old.items) }
+{
+    out.extend_from_slice(b"stats")?;
+    write_counts(out, stats, &Counter::ALL)?;
+    out.extend_from_slice(b"\n")
+}
+
 /// Appends the line of the counters: `stats`, then each counter's name and number. An `Err` is out of memory, and
 /// changes nothing.
-pub fn push_stats<A: Allocator + Copy, B: Allocator>(
-    alloc: A,
-    out: &mut Vec<u8, B>,
-    stats: &Stats,
-) -> Result<(), AllocError>
+pub fn push_stats<B: Allocator>(out: &mut Vec<u8, B>, stats: &Stats) -> Result<(), AllocError>
     ensures ok { OnOk result (out.new.items ≡ out.old.items ++ stats_text stats.now) }
     ensures err { OnErr result (out.new.items ≡ out.old.items) }
 {
-    let mut text = Vec::new(alloc);
-    text.extend_from_slice(b"stats")?;
-    write_counts(&mut text, stats, &Counter::ALL)?;
-    text.extend_from_slice(b"\n")?;
-    out.extend_from_slice(&text)
+    let start = out.len();
+    let written = write_stats(out, stats);
+    whole_or_none(out, start, written)
 }

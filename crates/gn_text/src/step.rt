@@ -12,8 +12,7 @@ use gn_rules::{Event, Reply, Step};
 use gn_wire::whole_or_none;
 use std::alloc::{AllocError, Allocator};
 
-fn write_step<A: Allocator + Copy, B: Allocator>(
-    alloc: A,
+fn write_step<A: Allocator, B: Allocator>(
     out: &mut Vec<u8, B>,
     actor: u32,
     event: &Event<A>,
@@ -25,15 +24,14 @@ fn write_step<A: Allocator + Copy, B: Allocator>(
 {
     push_number(out, actor)?;
     out.extend_from_slice(b" ")?;
-    write_event(alloc, out, event)?;
+    write_event(out, event)?;
     out.extend_from_slice(b" = ")?;
-    push_reply(alloc, out, reply)?;
+    push_reply(out, reply)?;
     out.extend_from_slice(b"\n")
 }
 
 /// Appends the line of the step of these parts. An `Err` is out of memory, and changes nothing.
-pub fn push_step_of<A: Allocator + Copy, B: Allocator>(
-    alloc: A,
+pub fn push_step_of<A: Allocator, B: Allocator>(
     out: &mut Vec<u8, B>,
     actor: u32,
     event: &Event<A>,
@@ -44,18 +42,17 @@ pub fn push_step_of<A: Allocator + Copy, B: Allocator>(
     ensures err { OnErr result (out.new.items ≡ out.old.items) }
 {
     let start = out.len();
-    let written = write_step(alloc, out, actor, event, reply);
+    let written = write_step(out, actor, event, reply);
     whole_or_none(out, start, written)
 }
 
 /// Appends the line of a step, `ACTOR EVENT = REPLY`. An `Err` is out of memory, and changes nothing.
-pub fn push_step<A: Allocator + Copy, B: Allocator>(
-    alloc: A,
+pub fn push_step<A: Allocator, B: Allocator>(
     out: &mut Vec<u8, B>,
     step: &Step<A>,
 ) -> Result<(), AllocError>
     ensures ok { OnOk result (out.new.items ≡ out.old.items ++ step_text step.now) }
     ensures err { OnErr result (out.new.items ≡ out.old.items) }
 {
-    push_step_of(alloc, out, step.actor, &step.event, &step.reply)
+    push_step_of(out, step.actor, &step.event, &step.reply)
 }

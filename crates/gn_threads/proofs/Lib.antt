@@ -4,3 +4,4 @@ pub mod WaitingLemmas
 pub mod KeptLemmas
 pub mod ReceiptLemmas
 pub mod HoldsLemmas
+mod PlaceLemmas

@@ -3,12 +3,14 @@ use Rattle.std.specs.Prelude.{ℕ, ◌+◌, ◌<◌, ⊤, Bool, true, false, Opt
 use Rattle.gn_bodies.specs.declared.ends.BodyFault.{BodyFault}
 use Rattle.gn_bodies.specs.declared.ends.BodyFault.TheVariants as body
 use Rattle.gn_threads.specs.declared.fault.RunFault.{RunFault}
-use Rattle.gn_threads.specs.declared.fault.RunFault.TheVariants.{BadWorkers, Link, HistoryFull, NoMemory, Stage, Audit}
+use Rattle.gn_threads.specs.declared.fault.RunFault.TheVariants.{BadWorkers, Listen, Call, Link, HistoryFull, NoMemory, Stage, Audit}
 
 -- what a fault may be in a run of so many links and workers, where there are 1 to 16 workers: it isn't BadWorkers, and the link or
 -- the actor that it names is one of the run's
 abbrev pub IsFaultOf : ℕ → ℕ → RunFault → Type 0
 IsFaultOf links workers BadWorkers = ⊥
+IsFaultOf links workers Listen = ⊤
+IsFaultOf links workers (Call k) = k < links
 IsFaultOf links workers (Link k) = k < links
 IsFaultOf links workers HistoryFull = ⊤
 IsFaultOf links workers NoMemory = ⊤

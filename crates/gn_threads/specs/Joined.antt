@@ -14,3 +14,11 @@ pub record AreJoined {Rd W S L A : Type 0} (reads : Rd → ReadHalf) (writes : W
   pub read : vec_len done.readers ≡ length reading
   pub written : vec_len done.writers ≡ length writing
   pub worked : vec_len done.workers ≡ workers
+
+-- the same of readers' links of which the roles alone are known: nobody knows which bytes will come of a link that
+-- hasn't come yet
+abbrev pub AreJoinedOf :
+    {Rd W S L A : Type 0} → (Rd → ReadHalf) → (W → WrittenHalf) → List Role → List Role → ℕ → Done Rd W S L A → Type 0
+AreJoinedOf reads writes roles writing workers done =
+    (reading : List Inbound) × (map (λ (link : Inbound). link.role) reading ≡ roles)
+    × AreJoined reads writes reading writing workers done

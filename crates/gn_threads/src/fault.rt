@@ -9,6 +9,10 @@ use std::alloc::{AllocError, AllocFailed};
 pub enum RunFault {
     /// Not 1 to 16 workers.
     BadWorkers,
+    /// A link couldn't be accepted.
+    Listen,
+    /// A peer couldn't be called: its number, from 0 on.
+    Call(u32),
     /// A link couldn't be split: its number, from 0 on.
     Link(u32),
     /// The history has as many steps as it may have.

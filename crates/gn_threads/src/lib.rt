@@ -1,6 +1,8 @@
 //! The run: a thread for the reader and the writer of each link and for each worker, until all links are done; and its report.
 #![tactic(auto)]
 
+mod arrivals;
+mod arriving;
 mod confirming;
 mod crew;
 mod done;
@@ -11,6 +13,7 @@ mod gather;
 mod halves;
 mod house;
 mod joins;
+mod places;
 mod roster;
 mod runs;
 mod same;
@@ -19,6 +22,9 @@ mod tally;
 #[cfg(test)]
 mod tests;
 mod waiting;
+mod welcome;
 
+pub use arrivals::Arrivals;
+pub use arriving::run_arriving;
 pub use fault::RunFault;
 pub use runs::run;

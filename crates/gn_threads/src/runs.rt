@@ -91,16 +91,21 @@ where
 
 /// A run that begins: the lock, the actors, and the stage with its ends.
 #[derive(Drop)]
-struct Opening<C: RouterCore<A> + Drop, L: Ledger, S: Site, A: Allocator + Copy = Global> {
-    service: Service<C, L, A>,
-    actors: Vec<Actor<L, A>, A>,
-    intakes: Vec<Intake<S, A>, A>,
-    outlets: Vec<Outlet<S, A>, A>,
-    desk: Desk<S, A>,
+pub(crate) struct Opening<
+    C: RouterCore<A> + Drop,
+    L: Ledger,
+    S: Site,
+    A: Allocator + Copy = Global,
+> {
+    pub service: Service<C, L, A>,
+    pub actors: Vec<Actor<L, A>, A>,
+    pub intakes: Vec<Intake<S, A>, A>,
+    pub outlets: Vec<Outlet<S, A>, A>,
+    pub desk: Desk<S, A>,
 }
 
 /// Opens a run with links of these roles.
-fn open<L: Ledger, S: Site, C: RouterCore<A> + Drop, A: Allocator + Copy>(
+pub(crate) fn open<L: Ledger, S: Site, C: RouterCore<A> + Drop, A: Allocator + Copy>(
     alloc: A,
     blank: Blank,
     stage: Stage<A>,

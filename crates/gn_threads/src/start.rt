@@ -128,7 +128,7 @@ fn read_link<
 }
 
 /// Starts a reader. False where no thread can be made.
-fn start_reader<
+pub(crate) fn start_reader<
     's,
     E: 's,
     Rd: LinkReader + Send + 's,
@@ -212,7 +212,7 @@ fn write_link<W: LinkWriter, C: RouterCore<A> + Drop, L: Ledger, A: Allocator + 
 }
 
 /// Starts a writer. False where no thread can be made.
-fn start_writer<
+pub(crate) fn start_writer<
     's,
     E: 's,
     W: LinkWriter + Send + 's,

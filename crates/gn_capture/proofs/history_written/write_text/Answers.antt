@@ -1,8 +1,8 @@
 use Rattle.std.proofs.Common.{◌++◌, codes}
-use Rattle.gn_text.proofs.KeptLemmas.{kept_before}
+use Rattle.gn_text.proofs.KeptLemmas.{kept_before, on_error}
 use Rattle.gn_text.specs.Settings.{settings_text}
 use Rattle.gn_capture.specs.Histories.{steps_text}
-use Rattle.gn_capture.proofs.HistoryLemmas.{on_error, part_of_text, two_parts, whole_text}
+use Rattle.gn_capture.proofs.HistoryLemmas.{part_of_text, two_parts, whole_text}
 use Rattle.gn_capture.proofs.history_written.write_text.Goals as goal
 
 pub returns-in_err-write_steps-clause-err : goal.returns-in_err-write_steps-clause-err

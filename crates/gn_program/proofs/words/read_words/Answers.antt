@@ -1,16 +1,26 @@
-use Rattle.std.proofs.Common.{◌∙◌, sym, ap, map, true≢false}
-use Rattle.std.specs.Prelude.{is_some}
-use Rattle.gn_program.proofs.WordLemmas.{is_asked, parses, reads}
+use Rattle.std.proofs.Common.{◌∙◌, sym, map}
+use Rattle.clap.specs.Words.{HasKind}
+use Rattle.gn_load.proofs.LoadLemmas.{on_err}
+use Rattle.gn_program.specs.Words.{kinds_of}
+use Rattle.gn_program.proofs.WordLemmas.{fails, parses, reads, refuses}
 use Rattle.gn_program.proofs.words.read_words.Goals as goal
 
-pub returns-clause-ok : goal.returns-clause-ok
-returns-clause-ok g c =
-    let known = parses c.in_ok-gn_command.field-0 c.in_ok-matches.matches (map g.T.AsStr.text c.args.words.now) c.in_ok-gn_command.ensures
-    c.in_ok-matches.ensures.parsed c.in_ok-matches.ensures.matches c.in_ok-matches.ensures.kinds in
-    sym (reads _ _ _ _ known (sym c.in-Some.ensures.name) (sym c.in-Some.ensures.rows)) ∙ sym c.request_named.ensures ∙ c.in-Some-request_named.is
+pub returns-in_err-matches-clause-err : goal.returns-in_err-matches-clause-err
+returns-in_err-matches-clause-err g c =
+    let words = map g.T.AsStr.text c.args.words.now in
+    on_err c.from_residual-in_err-matches.result c.in_err-matches.field-0.0 (HasKind (kinds_of words)) c.from_residual-in_err-matches.ensures.1
+    (fails c.in_ok-gn_command.field-0 words c.in_err-matches.field-0.0 c.in_ok-gn_command.ensures c.in_err-matches.ensures.kinds)
 
-pub unreachable-requires-in-None : goal.unreachable-requires-in-None
-unreachable-requires-in-None g c =
+pub returns-in-Some-request_named-clause-ok : goal.returns-in-Some-request_named-clause-ok
+returns-in-Some-request_named-clause-ok g c =
     let known = parses c.in_ok-gn_command.field-0 c.in_ok-matches.matches (map g.T.AsStr.text c.args.words.now) c.in_ok-gn_command.ensures
     c.in_ok-matches.ensures.parsed c.in_ok-matches.ensures.matches c.in_ok-matches.ensures.kinds in
-    absurd (true≢false (sym (is_asked _ _ _ _ known (sym c.in-Some.ensures.name) (sym c.in-Some.ensures.rows)) ∙ ap is_some (sym c.request_named.ensures ∙ c.in-None.is)))
+    reads _ _ _ _ _ known (sym c.in-Some.ensures.name) (sym c.in-Some.ensures.rows)
+    (sym c.request_named.ensures ∙ c.in-Some-request_named.is)
+
+pub returns-clause-err : goal.returns-clause-err
+returns-clause-err g c =
+    let known = parses c.in_ok-gn_command.field-0 c.in_ok-matches.matches (map g.T.AsStr.text c.args.words.now) c.in_ok-gn_command.ensures
+    c.in_ok-matches.ensures.parsed c.in_ok-matches.ensures.matches c.in_ok-matches.ensures.kinds in
+    refuses _ _ _ _ c.in_ok-bad_workers-in-None.field-0 known (sym c.in-Some.ensures.name) (sym c.in-Some.ensures.rows)
+    (sym c.request_named.ensures ∙ c.in-None.is) c.in_ok-bad_workers-in-None.ensures

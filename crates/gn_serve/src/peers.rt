@@ -1,0 +1,70 @@
+//! Where the links of a run over TCP come from.
+
+ghost use Rattle.std.specs.Prelude.{◌≡◌, ◌<◌, ◌≤◌, ◌++◌, ℕ, length, replicate, take, IfErr, IfOk};
+ghost use Rattle.gn_shake.specs.declared.role.Role.TheVariants.{Accepting, Calling};
+ghost use Rattle.gn_threads.specs.Faults.{IsFaultOf};
+ghost use Rattle.gn_serve.specs.Links.{roles_of};
+
+use gn_links::Link;
+use gn_shake::Role;
+use gn_tcp::{TcpLink, TcpReader, TcpWriter};
+use gn_threads::{Arrivals, RunFault};
+use std::net::{Net, SocketAddr, TcpListener, TcpStream};
+use std::time::Duration;
+
+/// The peers that are called, in order, and where the others call.
+#[derive(Drop)]
+pub(crate) struct Peers<'a, N> {
+    pub net: &'a N,
+    pub listener: &'a TcpListener,
+    pub called: &'a [SocketAddr],
+    pub idle: Option<Duration>,
+}
+
+/// The roles of the links of a run that calls so many peers: the called ones come first.
+pub(crate) fn roles_of(calls: usize, links: usize) -> [Role; 256]
+    requires { (calls ≤ links) × (links ≤ 256) }
+    ensures { take links result ≡ roles_of calls links }
+{
+    let mut roles = [Role::Accepting; 256];
+    let mut link = 0;
+    while link < calls {
+        roles[link] = Role::Calling;
+        link += 1;
+    }
+    roles
+}
+
+impl<'a, N: Net<Listener = TcpListener, Stream = TcpStream>> Peers<'a, N> {
+    /// Calls the peer of this link, or waits for one that calls.
+    fn meet(&self, link: u32, role: Role) -> Result<TcpLink, RunFault>
+        ensures role { IfOk result (λ found. found ≡ role) }
+        ensures fault { IfErr result (λ fault. (links workers : ℕ) → link < links → IsFaultOf links workers fault) }
+    {
+        match (role, self.called.get(link as usize)) {
+            (Role::Calling, Some(peer)) => match TcpLink::call(self.net, *peer) {
+                Ok(found) => Ok(found),
+                Err(_) => Err(RunFault::Call(link)),
+            },
+            (Role::Accepting, None) => match TcpLink::accept(self.listener) {
+                Ok(found) => Ok(found),
+                Err(_) => Err(RunFault::Listen),
+            },
+            _ => Err(RunFault::Link(link)),
+        }
+    }
+}
+
+impl<'a, N: Net<Listener = TcpListener, Stream = TcpStream>> Arrivals for Peers<'a, N> {
+    type Reader = TcpReader;
+
+    type Writer = TcpWriter;
+
+    fn next(&self, link: u32, role: Role) -> Result<(TcpReader, TcpWriter), RunFault> {
+        let found = self.meet(link, role)?;
+        match found.with_idle(self.idle).split() {
+            Ok(halves) => Ok(halves),
+            Err(_) => Err(RunFault::Link(link)),
+        }
+    }
+}

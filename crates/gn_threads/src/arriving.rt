@@ -1,0 +1,130 @@
+//! A run whose links come one after another.
+
+ghost use Rattle.std.specs.Prelude.{◌≡◌, ◌+◌, ◌*◌, ◌≤◌, ◌↔◌, length, vec_len, IfErr, IfOk};
+ghost use Rattle.gn_rules.specs.Limits.{IsWithin};
+ghost use Rattle.gn_threads.specs.declared.fault.RunFault.TheVariants.{BadWorkers};
+ghost use Rattle.gn_threads.specs.Faults.{IsFaultOf};
+ghost use Rattle.gn_threads.specs.Halves.{reads_of, writes_of};
+ghost use Rattle.gn_threads.specs.Headline.{
+  HasCountedSteps,
+  HasLegalHistory,
+  HasOwnStats,
+  HasOwnSteps,
+  Holds,
+  LinksHold,
+  OthersRoute,
+  RoutesEachOnce,
+};
+
+use crate::arrivals::Arrivals;
+use crate::fault::RunFault;
+use crate::finishing::finish;
+use crate::places::places_of;
+use crate::runs::{Opening, open};
+use crate::welcome::welcome;
+use gn_links::{Gate, LinkReader, LinkWriter};
+use gn_rules::{Config, RouterCore};
+use gn_run::Report;
+use gn_shake::Role;
+use gn_stage::{Site, Stage};
+use std::alloc::Allocator;
+use std::marker::Brand;
+use std::sync::Wait;
+use std::sync::ledger::{Blank, Ledger};
+use std::thread::Threads;
+
+/// As `run`, over links of these roles that come one after another: the bodies of each start as soon as it has come. Where
+/// one doesn't come, what has started is ended, and that fault is answered.
+pub fn run_arriving<
+    C: RouterCore<A> + Drop + Send,
+    Rd: LinkReader + Send,
+    W: LinkWriter + Send,
+    V: Arrivals<Reader = Rd, Writer = W>,
+    G: Gate + Sync,
+    A: Allocator + Copy + Send + Sync,
+    R: Threads + Wait + Sync,
+>(
+    rt: &R,
+    alloc: A,
+    config: &Config,
+    roles: &[Role],
+    arrivals: &V,
+    workers: u32,
+    gate: &G,
+) -> Result<Report<Rd, W, A>, RunFault>
+    requires few { length roles.now ≤ 256 }
+    ensures workers { IfOk result (λ _. IsWithin workers 16) }
+    ensures bad_workers { IfErr result (λ fault. (fault ≡ BadWorkers) ↔ (¬ IsWithin workers 16)) }
+    ensures fault { IfErr result (λ fault. IsWithin workers 16 → IsFaultOf (length roles.now) workers fault) }
+    ensures legal { IfOk result (λ report. HasLegalHistory config.now report) }
+    ensures counted { IfOk result (λ report. HasCountedSteps report) }
+    ensures own { IfOk result (λ report. HasOwnSteps report) }
+    ensures each { IfOk result (λ report. (length report.links.items ≡ length roles.now)
+        × (length report.workers.items ≡ workers)) }
+    ensures links { IfOk result (λ report. LinksHold
+        (reads_of Rd.is_known Rd.bytes_read Rd.failures Rd.pieces Rd.has_ended)
+        (writes_of W.is_known W.bytes_written W.failures W.is_stuck W.is_finished)
+        roles.now report) }
+    ensures others { IfOk result (λ report. OthersRoute report) }
+    ensures routed { IfOk result (λ report. RoutesEachOnce report) }
+    ensures stats { IfOk result (λ report. HasOwnStats report) }
+{
+    if workers == 0 || workers > 16 {
+        return Err(RunFault::BadWorkers);
+    }
+    let stage = Stage::new(alloc, config.stage as usize)?;
+    let parts = 2 * roles.len() as u64 + workers as u64 + 1;
+    let blank = Blank::new(parts);
+    let report = run_arriving_in::<Brand, Brand, C, Rd, W, V, G, A, R>(
+        rt, alloc, blank, stage, config, roles, arrivals, workers, gate,
+    )?;
+    Ok(report)
+}
+
+/// `run_arriving`, with its ledger and its stage.
+fn run_arriving_in<
+    L: Ledger + Send + Sync,
+    S: Site + Send,
+    C: RouterCore<A> + Drop + Send,
+    Rd: LinkReader + Send,
+    W: LinkWriter + Send,
+    V: Arrivals<Reader = Rd, Writer = W>,
+    G: Gate + Sync,
+    A: Allocator + Copy + Send + Sync,
+    R: Threads + Wait + Sync,
+>(
+    rt: &R,
+    alloc: A,
+    blank: Blank,
+    stage: Stage<A>,
+    config: &Config,
+    roles: &[Role],
+    arrivals: &V,
+    workers: u32,
+    gate: &G,
+) -> Result<Report<Rd, W, A>, RunFault>
+    requires name { blank.name ≡ L.name }
+    requires parts { (blank.parts ≡ L.parts) × (blank.parts ≡ 2 * length roles.now + workers + 1) }
+    requires stage { stage ≡ S.stage }
+    requires few { length roles.now ≤ 256 }
+    requires workers { IsWithin workers 16 }
+    ensures fault { IfErr result (λ fault. IsFaultOf (length roles.now) workers fault) }
+    ensures holds { IfOk result (λ report. Holds
+        (reads_of Rd.is_known Rd.bytes_read Rd.failures Rd.pieces Rd.has_ended)
+        (writes_of W.is_known W.bytes_written W.failures W.is_stuck W.is_finished)
+        config.now roles.now report) }
+    ensures workers { IfOk result (λ report. vec_len report.workers ≡ workers) }
+{
+    let opening = open::<L, S, C, A>(alloc, blank, stage, config, roles, workers)?;
+    let Opening {
+        service,
+        actors,
+        intakes,
+        outlets,
+        desk,
+    } = opening;
+    let (places, house) = places_of(alloc, roles, intakes, outlets, actors)?;
+    let done = welcome(rt, alloc, &service, gate, arrivals, places)?;
+    let hub = service.into_hub();
+    finish(rt, alloc, config, roles, hub, desk, done, house)
+}
