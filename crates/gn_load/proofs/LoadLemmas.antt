@@ -69,9 +69,10 @@ module _ {A : Type 0} (text : List ℕ) (capture : Capture A) where
   pub history_printed : (workers : ℕ) (links : List Memory) (report : Report MemoryReading MemoryWriting A) (before printed : List ℕ) (steps : List (Step A))
       → capture_of text ≡ Ok (capture_seen capture) → links_from [] capture.lines.items ≡ Ok links
       → Holds half_read half_written capture.config (map (λ link. link.role) links) report
-      → LinksReadOwn half_read (map (λ link. link.bytes) links) report → length report.workers.items ≡ workers
+      → LinksReadOwn half_read (map (λ link. link.bytes) links) report → IsWithin workers 16
+      → length report.workers.items ≡ workers
       → before ≡ [] → steps ≡ report.history.items → printed ≡ before ++ history_text capture.config steps → IsLoadText A workers text printed
-  history_printed workers links report before printed steps read made holds bytes many empty lent wrote =
+  history_printed workers links report before printed steps read made holds bytes within many empty lent wrote =
       record {
         settings = capture.config;
         links = links;
@@ -79,6 +80,7 @@ module _ {A : Type 0} (text : List ℕ) (capture : Capture A) where
         read = loaded links read made;
         holds = holds;
         bytes = bytes;
+        within = within;
         many = many;
         printed = wrote ∙ ap (λ (xs : List ℕ). xs ++ history_text capture.config steps) empty ∙ ap (history_text capture.config) lent;
       }

@@ -3,6 +3,7 @@ use Rattle.std.specs.Prelude.{◌≡◌, ℕ, true, false, List, [], length, map
 use Rattle.std.specs.Io.KnownBytes.{Appends, Keeps}
 use Rattle.gn_rules.specs.declared.config.Config.{Config}
 use Rattle.gn_rules.specs.declared.config.Own.{Own}
+use Rattle.gn_rules.specs.Limits.{IsWithin}
 use Rattle.gn_links.specs.Memory.{Memory, MemoryReading, MemoryWriting}
 use Rattle.gn_run.specs.declared.report.Report.{Report}
 use Rattle.gn_threads.specs.Halves.{ReadHalf, WrittenHalf}
@@ -47,8 +48,8 @@ half_written half =
       is_finished = half.is_finished;
     }
 
--- a text is the history of a run with so many workers over the links of the input: there is a report of such a run, of which all of
--- the headline holds, and the text is that of its history
+-- a text is the history of a run with so many workers, 1 to 16, over the links of the input: there is a report of such a run, of
+-- which all of the headline holds, and the text is that of its history
 pub record IsLoadText (A : Type 0) (workers : ℕ) (input text : List ℕ) : Type 0 where
   pub settings : Config
   pub links : List Memory
@@ -56,6 +57,7 @@ pub record IsLoadText (A : Type 0) (workers : ℕ) (input text : List ℕ) : Typ
   pub read : load_of A input ≡ Ok (settings_of settings, links)
   pub holds : Holds half_read half_written settings (map (λ link. link.role) links) report
   pub bytes : LinksReadOwn half_read (map (λ link. link.bytes) links) report
+  pub within : IsWithin workers 16
   pub many : length report.workers.items ≡ workers
   pub printed : text ≡ history_text settings report.history.items
 

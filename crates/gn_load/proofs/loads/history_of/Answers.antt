@@ -26,5 +26,6 @@ returns-clause-history g c =
     history_printed c.args.text.now c.in_ok-capture.capture c.args.workers links report c.new-history.result.items c.write_history.new.out.items c.deref-2.result.now
     c.in_ok-capture.ensures.read
     (made_of c.deref.result.now c.in_ok-capture.capture.lines.items _ c.deref.ensures.value c.in_ok-links.ensures)
-    (held c.in_ok-capture.capture.config links report ran.legal ran.counted ran.own ran.each.0 ran.links ran.others ran.routed ran.stats) ran.bytes ran.each.1
+    (held c.in_ok-capture.capture.config links report ran.legal ran.counted ran.own ran.each.0 ran.links ran.others ran.routed ran.stats) ran.bytes ran.workers
+    ran.each.1
     c.new-history.ensures.items c.deref-2.ensures.value c.in_ok-write_history.ensures.ok
