@@ -5,8 +5,6 @@ mod fault;
 mod gathered;
 mod links;
 mod loads;
-#[cfg(test)]
-mod tests;
 
 pub use fault::LoadFault;
 pub use links::links_of;

@@ -19,8 +19,6 @@ mod runs;
 mod same;
 mod start;
 mod tally;
-#[cfg(test)]
-mod tests;
 mod waiting;
 mod welcome;
 

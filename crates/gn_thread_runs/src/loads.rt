@@ -1,8 +1,8 @@
 //! Loads of small captures, and one of six links.
 
-use super::*;
 use gn_capture::read_history;
 use gn_io::{ReaderSource, WriterSink};
+use gn_load::{LoadFault, load};
 use gn_replay::{ReplayFault, audit};
 use gn_router::TableRouter;
 use gn_rules::{Event, Legality, Reply, Step};

@@ -1,13 +1,14 @@
-//! Small runs over memory links.
+//! Small runs of many threads over memory links.
 
-use crate::*;
+use crate::in_step::{Meeting, PacedLink};
 use bytes::Bytes;
 use gn_bodies::{ReaderEnd, WriterEnd};
-use gn_links::{Gate, MemoryLink, MemoryReader, MemoryWriter, NoGate};
+use gn_links::{Gate, Link, MemoryLink, NoGate};
 use gn_router::TableRouter;
 use gn_rules::{Config, Own};
 use gn_run::Report;
 use gn_shake::Role;
+use gn_threads::{RunFault, run};
 use gn_wire::{Descriptor, Guid, Kind};
 use std::alloc::Global;
 use std::sync::{Barrier, Wait};
@@ -57,14 +58,18 @@ impl Gate for Pairs {
     }
 }
 
-/// What a run over the table router gives.
-fn table_run<G: Gate + Sync, R: Threads + Wait + Sync>(
+/// What a run over the table router gives, of at most 256 links.
+fn table_run<K: Link, G: Gate + Sync, R: Threads + Wait + Sync>(
     rt: &R,
     alloc: Global,
-    links: Vec<MemoryLink>,
+    links: Vec<K>,
     workers: u32,
     gate: &G,
-) -> Result<Report<MemoryReader, MemoryWriter>, RunFault> {
+) -> Result<Report<K::Reader, K::Writer>, RunFault>
+where
+    K::Reader: Send,
+    K::Writer: Send,
+{
     let Ok(config) = Config::new(8, 1024, 64, 1024, 1024, 100_000, OWN) else {
         return Err(RunFault::NoMemory);
     };
@@ -113,10 +118,40 @@ fn two_workers_meet(rt: HostRuntime) -> Result<(), Fail> {
     Ok(())
 }
 
+/// Two links of ten Pings each, read byte by byte, whose readers meet.
+fn paced_links<'a>(
+    alloc: Global,
+    meeting: &'a Meeting,
+) -> Result<Vec<PacedLink<'a, MemoryLink>>, Fail> {
+    let mut links = Vec::new(alloc);
+    for number in [0u8, 1] {
+        let link = MemoryLink::new(Role::Plain, pings(alloc, number, 10)?, 1);
+        links.push(PacedLink::new(link, meeting, number == 0))?;
+    }
+    Ok(links)
+}
+
+#[test]
+fn two_readers_meet(rt: HostRuntime) -> Result<(), Fail> {
+    let meeting = Meeting::new();
+    let links = paced_links(rt.alloc(), &meeting)?;
+    let report = table_run(&rt, rt.alloc(), links, 1, &NoGate).map_err(|_| "a report")?;
+    assert_eq!(rt; report.stats.routed, 20);
+    // ten Pings of 23 bytes, and the read that finds no more, on both sides alike: nobody waits for one that has ended
+    assert_eq!(rt; meeting.ended(), (231, 231, false));
+    Ok(())
+}
+
 #[test]
 fn none_and_seventeen_workers(rt: HostRuntime) -> Result<(), Fail> {
     for workers in [0, 17] {
-        let ran = table_run(&rt, rt.alloc(), Vec::new(rt.alloc()), workers, &NoGate);
+        let ran = table_run(
+            &rt,
+            rt.alloc(),
+            links_of(rt.alloc(), 0, 0)?,
+            workers,
+            &NoGate,
+        );
         assert!(rt; matches!(ran, Err(RunFault::BadWorkers)));
     }
     Ok(())

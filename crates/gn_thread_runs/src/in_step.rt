@@ -1,0 +1,136 @@
+//! Links whose readers read in step.
+
+use gn_links::{Link, LinkFault, LinkReader};
+use gn_shake::Role;
+use std::sync::Wait;
+use std::sync::atomic::{AtomicBool, AtomicU64, Ordering};
+use std::thread;
+
+/// How often a reader looks for the other one at most, at each read.
+const MOST_LOOKS: u32 = 100_000_000;
+
+/// Where two readers meet: how many reads each of them has begun, and whether one gave the other up.
+#[derive(Drop)]
+pub(crate) struct Meeting {
+    first: AtomicU64,
+    second: AtomicU64,
+    is_missed: AtomicBool,
+}
+
+impl Meeting {
+    /// Nobody has begun a read.
+    pub(crate) fn new() -> Self {
+        Meeting {
+            first: AtomicU64::new(0),
+            second: AtomicU64::new(0),
+            is_missed: AtomicBool::new(false),
+        }
+    }
+
+    /// How many reads each of the two has begun, and whether one gave the other up.
+    pub(crate) fn ended(&self) -> (u64, u64, bool) {
+        (
+            self.first.load(Ordering::SeqCst),
+            self.second.load(Ordering::SeqCst),
+            self.is_missed.load(Ordering::SeqCst),
+        )
+    }
+
+    /// Begins a read, and waits until the other reader has begun as many. Once one was given up, nobody waits.
+    fn meet(&self, is_first: bool) {
+        let (own, other) = if is_first {
+            (&self.first, &self.second)
+        } else {
+            (&self.second, &self.first)
+        };
+        let begun = own.fetch_add(1, Ordering::SeqCst);
+        for _ in 0..MOST_LOOKS {
+            if other.load(Ordering::SeqCst) > begun || self.is_missed.load(Ordering::SeqCst) {
+                return;
+            }
+            thread::yield_now();
+        }
+        self.is_missed.store(true, Ordering::SeqCst);
+    }
+}
+
+/// A reader that begins each read together with another.
+#[derive(Drop)]
+pub(crate) struct PacedReader<'a, Rd: LinkReader> {
+    reader: Rd,
+    meeting: &'a Meeting,
+    is_first: bool,
+}
+
+impl<'a, Rd: LinkReader> LinkReader for PacedReader<'a, Rd> {
+    ghost is_known = { Rd.is_known };
+
+    ghost all_bytes = { λ r. Rd.all_bytes r.reader };
+
+    ghost bytes_read = { λ r. Rd.bytes_read r.reader };
+
+    ghost failures = { λ r. Rd.failures r.reader };
+
+    ghost pieces = { λ r. Rd.pieces r.reader };
+
+    ghost has_ended = { λ r. Rd.has_ended r.reader };
+
+    ghost is_finished = { λ r. Rd.is_finished r.reader };
+
+    fn read<R: Wait>(&mut self, rt: &R, buffer: &mut [u8]) -> Result<usize, LinkFault> {
+        self.meeting.meet(self.is_first);
+        self.reader.read(rt, buffer)
+    }
+
+    fn finish<R: Wait>(&mut self, rt: &R) {
+        self.reader.finish(rt);
+    }
+}
+
+/// A link whose reader begins each read together with another.
+#[derive(Drop)]
+pub(crate) struct PacedLink<'a, K: Link> {
+    link: K,
+    meeting: &'a Meeting,
+    is_first: bool,
+}
+
+impl<'a, K: Link> PacedLink<'a, K> {
+    /// This link, the first or the second one of a meeting.
+    pub(crate) fn new(link: K, meeting: &'a Meeting, is_first: bool) -> Self {
+        PacedLink {
+            link,
+            meeting,
+            is_first,
+        }
+    }
+}
+
+impl<'a, K: Link> Link for PacedLink<'a, K> {
+    type Reader = PacedReader<'a, K::Reader>;
+
+    type Writer = K::Writer;
+
+    ghost role_of = { λ l. K.role_of l.link };
+
+    ghost all_bytes = { λ l. K.all_bytes l.link };
+
+    fn role(&self) -> Role {
+        self.link.role()
+    }
+
+    fn split(self) -> Result<(PacedReader<'a, K::Reader>, K::Writer), LinkFault> {
+        let PacedLink {
+            link,
+            meeting,
+            is_first,
+        } = self;
+        let (reader, writer) = link.split()?;
+        let reader = PacedReader {
+            reader,
+            meeting,
+            is_first,
+        };
+        Ok((reader, writer))
+    }
+}

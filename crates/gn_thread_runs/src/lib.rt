@@ -1,0 +1,9 @@
+//! Runs of many threads over links in memory, and loads of captures. Tests alone.
+#![tactic(auto)]
+
+#[cfg(test)]
+mod in_step;
+#[cfg(test)]
+mod loads;
+#[cfg(test)]
+mod runs;
