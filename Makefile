@@ -36,8 +36,9 @@ test:
 	rt ci
 
 # What a call of each table takes, and jobs a second through the stage queue; then, each load three times in a process of its
-# own, what a step through the lock takes, the flaw of a report beside the audit of its history, and replays and audits.
-# Times go to standard error.
+# own, what a step through the lock takes, the flaw of a report beside the audit of its history, and replays and audits; then
+# loads of 1, 2, 4 and 16 workers beside replays, seven times. Times go to standard error, the table of the loads to standard
+# output.
 bench:
 	cd crates/gn_bench && rt run -- tables 1000000
 	crates/gn_bench/out/gn_bench stage 1000000
@@ -45,6 +46,7 @@ bench:
 		'replay table 1000' 'replay table 3000' 'replay table 10000' 'replay table 100000' 'replay comments 100000' \
 		'replay piece 1000000' 'replay plain 300' 'replay plain 1000'; do \
 		crates/gn_bench/out/gn_bench $$load || exit 1; done; done
+	scripts/bench_load crates/gn_bench/out/gn_bench
 
 # Each definition that contracts cite, beside the words that stand above it.
 definitions:
