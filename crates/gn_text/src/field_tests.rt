@@ -2,6 +2,7 @@
 
 use super::*;
 use gn_wire::Guid;
+use std::alloc::Allocator;
 use std::test::Fail;
 
 #[test]
@@ -72,18 +73,29 @@ fn addresses(rt: HostRuntime) -> Result<(), Fail> {
     Ok(())
 }
 
+/// The last line of a text that isn't skipped, with its number; 0 where there is none.
+fn last_line<'a, A: Allocator>(found: &NumberedLines<'a, A>) -> (u64, &'a [u8]) {
+    match found.lines.last() {
+        Some((number, line)) => (*number, *line),
+        None => (0, b""),
+    }
+}
+
 #[test]
 fn lines_and_fields(rt: HostRuntime) -> Result<(), Fail> {
     let alloc = rt.alloc();
-    let cut: [(&[u8], &[&[u8]]); 5] = [
-        (b"", &[]),
-        (b"\n", &[b""]),
-        (b"join", &[b"join"]),
-        (b"join\n", &[b"join"]),
-        (b"# one\n\nstats", &[b"# one", b"", b"stats"]),
+    let cut: [(&[u8], u64, &[u8], u64); 5] = [
+        (b"", 0, b"", 1),
+        (b"\n", 0, b"", 2),
+        (b"join", 1, b"join", 2),
+        (b"join\n", 1, b"join", 2),
+        (b"# one\n\nstats", 3, b"stats", 4),
     ];
-    for (text, parsed) in cut {
-        assert_eq!(rt; lines(alloc, text)?.as_slice(), parsed);
+    for (text, number, line, after) in cut {
+        let found = numbered_lines(alloc, text)?;
+        let last = last_line(&found);
+        assert_eq!(rt; (last.0, found.after), (number, after));
+        assert_eq!(rt; last.1, line);
     }
     let parts: [&[u8]; 4] = [b"", b"data", b"", b"1"];
     assert_eq!(rt; fields(alloc, b" data  1")?.as_slice(), parts.as_slice());

@@ -27,7 +27,7 @@ mod step;
 pub use address::ip;
 pub use fault::{CaptureFault, CaptureRefusal, Cause};
 pub use header::read_header;
-pub use line::{fields, fields_into, is_skipped, is_word, lines};
+pub use line::{fields, fields_into, is_skipped, is_word};
 pub use link::{push_ended, push_frame_fault, push_greeting_refused};
 pub use numbers::{number, number_u8, number_u16};
 pub use octets::{guid, hex_bytes};

@@ -1,18 +1,40 @@
 //! A text in lines, and a line in fields.
 
-ghost use Rattle.std.specs.Prelude.{◌≡◌, ◌==◌, map, IfOk, OnOk};
+ghost use Rattle.std.specs.Prelude.{◌≡◌, ◌≢◌, ◌==◌, ◌<◌, ◌++◌, ◌∷◌, [], All, length, map, IfNone, IfOk, IfSome, OnOk};
 ghost use Rattle.std.specs.List.{slice_split};
-ghost use Rattle.gn_text.specs.Lines.{fields_of, is_skipped, is_word, lines_of, without_last_feed};
+ghost use Rattle.gn_text.specs.Lines.{fields_of, is_skipped, is_word, lines_of};
 
+use memchr::memchr;
 use std::alloc::{AllocError, Allocator};
 
-fn without_last_feed(text: &[u8]) -> &[u8]
-    ensures { result.now ≡ without_last_feed text.now }
+/// What of a text stands before the first mark, and what after it, where there is one.
+fn first_part(text: &[u8], mark: u8) -> (&[u8], Option<&[u8]>)
+    ensures unmarked { All (λ b. b ≢ mark) result.0.now }
+    ensures cut { IfSome result.1 (λ more. text.now ≡ result.0.now ++ mark ∷ more.now) }
+    ensures last { IfNone result.1 (text.now ≡ result.0.now) }
 {
-    match text {
-        [front @ .., b'\n'] => front,
-        _ => text,
+    match memchr(mark, text) {
+        Some(at) => (&text[..at], Some(&text[at + 1..])),
+        None => (text, None),
     }
+}
+
+/// Adds the parts of a text between the marks. An `Err` is out of memory.
+fn add_parts<'a, A: Allocator>(
+    text: &'a [u8],
+    mark: u8,
+    parts: &mut Vec<&'a [u8], A>,
+) -> Result<(), AllocError>
+    ensures { OnOk result (map (λ x. x.now) parts.new.items
+        ≡ map (λ x. x.now) parts.old.items ++ slice_split (λ b. b == mark) text.now) }
+{
+    let mut rest = Some(text);
+    while let Some(text) = rest {
+        let (part, more) = first_part(text, mark);
+        parts.push(part)?;
+        rest = more;
+    }
+    Ok(())
 }
 
 /// The parts of a text between the marks. An `Err` is out of memory.
@@ -23,18 +45,9 @@ pub(crate) fn parts<A: Allocator + Copy>(
 ) -> Result<Vec<&[u8], A>, AllocError>
     ensures { IfOk result (λ v. map (λ x. x.now) v.items ≡ slice_split (λ b. b == mark) text.now) }
 {
-    text.split(|b| *b == mark).collect(alloc)
-}
-
-/// The lines of a text, without their line feeds; the last line feed may be missing. An empty text has none. An `Err`
-/// is out of memory.
-pub fn lines<A: Allocator + Copy>(alloc: A, text: &[u8]) -> Result<Vec<&[u8], A>, AllocError>
-    ensures { IfOk result (λ v. map (λ x. x.now) v.items ≡ lines_of text.now) }
-{
-    if text.is_empty() {
-        return Ok(Vec::new(alloc));
-    }
-    parts(alloc, without_last_feed(text), b'\n')
+    let mut parts = Vec::new(alloc);
+    add_parts(text, mark, &mut parts)?;
+    Ok(parts)
 }
 
 /// The fields of a line: what single spaces separate, so that a doubled one has an empty field in it. An `Err` is out
@@ -54,7 +67,23 @@ pub fn fields_into<'a, A: Allocator>(
     ensures { OnOk result (map (λ x. x.now) fields.new.items ≡ fields_of line.now) }
 {
     fields.clear();
-    fields.extend(line.split(|b| *b == b' '))
+    add_parts(line, b' ', fields)
+}
+
+/// The first line of a text, and the text after its line feed, which may be missing. An empty text has none.
+pub(crate) fn first_line(text: &[u8]) -> Option<(&[u8], &[u8])>
+    ensures line { IfSome result (λ cut. lines_of text.now ≡ cut.0.now ∷ lines_of cut.1.now) }
+    ensures less { IfSome result (λ cut. length cut.1.now < length text.now) }
+    ensures none { IfNone result (lines_of text.now ≡ []) }
+{
+    if text.is_empty() {
+        return None;
+    }
+    let (line, more) = first_part(text, b'\n');
+    match more {
+        Some(more) => Some((line, more)),
+        None => Some((line, &[])),
+    }
 }
 
 /// Whether a line is skipped, as empty ones and comments are.

@@ -1,9 +1,9 @@
 //! The lines of a text that aren't skipped.
 
 ghost use Rattle.std.specs.Prelude.{◌≡◌, map, IfOk};
-ghost use Rattle.gn_text.specs.Parsed.{line_after, line_seen, numbered_from, parsed_of};
+ghost use Rattle.gn_text.specs.Parsed.{line_after, line_seen, parsed_of};
 
-use crate::line::{is_skipped, lines};
+use crate::line::{first_line, is_skipped};
 use std::alloc::{AllocError, Allocator, Global};
 
 /// A line that isn't skipped, with its number. Lines count from 1, with the skipped ones.
@@ -18,21 +18,6 @@ pub struct NumberedLines<'a, A: Allocator = Global> {
     pub after: u64,
 }
 
-fn unskipped<'a, A: Allocator + Copy>(
-    alloc: A,
-    lines: &[&'a [u8]],
-) -> Result<Vec<NumberedLine<'a>, A>, AllocError>
-    ensures { IfOk result (λ v. map line_seen v.items ≡ numbered_from 1 (map (λ x. x.now) lines.now)) }
-{
-    let mut parsed = Vec::new(alloc);
-    for (i, line) in lines.iter().enumerate() {
-        if !is_skipped(line) {
-            parsed.push((i as u64 + 1, *line))?;
-        }
-    }
-    Ok(parsed)
-}
-
 /// The lines of a text that say something. An `Err` is out of memory.
 pub fn numbered_lines<A: Allocator + Copy>(
     alloc: A,
@@ -41,9 +26,15 @@ pub fn numbered_lines<A: Allocator + Copy>(
     ensures lines { IfOk result (λ parsed. map line_seen parsed.lines.items ≡ parsed_of text.now) }
     ensures after { IfOk result (λ parsed. parsed.after ≡ line_after text.now) }
 {
-    let lines = lines(alloc, text)?;
-    Ok(NumberedLines {
-        lines: unskipped(alloc, &lines)?,
-        after: lines.len() as u64 + 1,
-    })
+    let mut lines = Vec::new(alloc);
+    let mut after = 1;
+    let mut rest = text;
+    while let Some((line, more)) = first_line(rest) {
+        if !is_skipped(line) {
+            lines.push((after, line))?;
+        }
+        after += 1;
+        rest = more;
+    }
+    Ok(NumberedLines { lines, after })
 }
