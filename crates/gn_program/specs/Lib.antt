@@ -1,2 +1,3 @@
 pub mod Commands
+pub mod Serving
 pub mod Words

@@ -14,6 +14,7 @@ ghost use Rattle.gn_program.specs.declared.request.Request.{Request as Asked};
 
 use crate::fault::Fault;
 use crate::request::Request;
+use crate::serves::serve;
 use crate::text::write_text;
 use crate::words::read_words;
 use clap::Error;
@@ -23,9 +24,11 @@ use gn_load::{LoadFault, load};
 use gn_replay::{Exit, ReplayFault, audit, audit_explained, replay, replay_history};
 use gn_router::TableRouter;
 use gn_rules::Legality;
+use gn_serve::ServeFault;
 use std::alloc::Global;
 use std::convert::AsStr;
 use std::io;
+use std::net::{Net, TcpListener, TcpStream};
 use std::sync::Wait;
 use std::thread::Threads;
 
@@ -77,8 +80,23 @@ fn end_load<F: Sink>(faults: &mut F, answer: Result<(), LoadFault>) -> u8
     }
 }
 
+/// The status after a serve, whose fault is written.
+fn end_serve<F: Sink>(faults: &mut F, answer: Result<(), ServeFault>) -> u8
+    ensures { result ≡ serve_status answer }
+{
+    match answer {
+        Ok(()) => DONE,
+        Err(fault) => write_fault(faults, Fault::from(fault)),
+    }
+}
+
 /// Does what is asked for, and gives the status.
-fn obey<R: Threads + Wait + Sync, S: Source, W: Sink, F: Sink>(
+fn obey<
+    R: Threads + Wait + Net<Listener = TcpListener, Stream = TcpStream> + Sync,
+    S: Source,
+    W: Sink,
+    F: Sink,
+>(
     rt: &R,
     alloc: Global,
     request: Request,
@@ -110,6 +128,10 @@ fn obey<R: Threads + Wait + Sync, S: Source, W: Sink, F: Sink>(
             let answer = load::<Global, TableRouter, R, S, W>(rt, alloc, workers, reader, writer);
             end_load(faults, answer)
         }
+        Request::Serve(serving) => {
+            let answer = serve(rt, alloc, &serving, writer, faults);
+            end_serve(faults, answer)
+        }
     }
 }
 
@@ -135,8 +157,15 @@ fn turn_away<W: Sink, F: Sink>(error: Error, writer: &mut W, faults: &mut F) -> 
 /// is read from `reader` and written to `writer`; at help, the version and mistakes nothing is read, and help and the
 /// version are written to `writer` too. A fault is one line on `faults`, where a failed write changes nothing.
 ///
-/// A load alone starts threads and waits.
-pub fn command<R: Threads + Wait + Sync, T: AsStr, S: Source, W: Sink, F: Sink>(
+/// A load and a serve alone start threads and wait; a serve alone opens sockets, reads nothing, and says `listening PORT`
+/// on a line of `faults` once it can be called.
+pub fn command<
+    R: Threads + Wait + Net<Listener = TcpListener, Stream = TcpStream> + Sync,
+    T: AsStr,
+    S: Source,
+    W: Sink,
+    F: Sink,
+>(
     rt: &R,
     alloc: Global,
     words: &[T],

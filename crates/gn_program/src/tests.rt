@@ -12,7 +12,7 @@ const ANSWERS: [(&[&str], u8, &str, &str); 20] = [
     (&["gn", "replay", "--help"], 0, "Reads a capture,", ""),
     (&["gn", "audit", "-h"], 0, "Reads a history,", ""),
     (&["gn"], 2, "", "error: 'gn' requires a subcommand"),
-    (&["gn", "serve"], 2, "", "error: unrecognized subcommand"),
+    (&["gn", "route"], 2, "", "error: unrecognized subcommand"),
     (&["gn", "replay", "x"], 2, "", "error: unexpected argument"),
     (&["gn", "replay"], 1, "", "fault: line 1: header\n"),
     (
