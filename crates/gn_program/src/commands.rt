@@ -7,7 +7,7 @@ ghost use Rattle.clap.specs.Kinds.{IsAmong};
 ghost use Rattle.clap.specs.Words.{kind_of};
 ghost use Rattle.clap.specs.declared.error.kind.ErrorKind.{ErrorKind as Kind};
 ghost use Rattle.clap.specs.declared.error.kind.ErrorKind.TheVariants.{OutOfMemory};
-ghost use Rattle.gn_program.specs.Commands.{Does, IsTurnedAway, IsUnread, audit_status, load_status, replay_status};
+ghost use Rattle.gn_program.specs.Commands.{Does, IsTurnedAway, IsUnread, audit_status, load_status, replay_status, serve_status};
 ghost use Rattle.gn_io.specs.Streams.{streams};
 ghost use Rattle.gn_program.specs.Words.{kinds_of, request_of};
 ghost use Rattle.gn_program.specs.declared.request.Request.{Request as Asked};
@@ -96,14 +96,7 @@ fn obey<
     S: Source,
     W: Sink,
     F: Sink,
->(
-    rt: &R,
-    alloc: Global,
-    request: Request,
-    reader: &mut S,
-    writer: &mut W,
-    faults: &mut F,
-) -> u8
+>(rt: &R, alloc: Global, request: Request, reader: &mut S, writer: &mut W, faults: &mut F) -> u8
     ensures { Does request
         (streams (S.state reader.old) (S.state reader.new) (W.state writer.old) (W.state writer.new)) result }
 {
@@ -165,14 +158,7 @@ pub fn command<
     S: Source,
     W: Sink,
     F: Sink,
->(
-    rt: &R,
-    alloc: Global,
-    words: &[T],
-    reader: &mut S,
-    writer: &mut W,
-    faults: &mut F,
-) -> u8
+>(rt: &R, alloc: Global, words: &[T], reader: &mut S, writer: &mut W, faults: &mut F) -> u8
     ensures asked { (request : Asked) → request_of (map T.text words.now) ≡ Some request
         → IsUnread reader.old reader.new writer.old writer.new result ⊎ Does request
         (streams (S.state reader.old) (S.state reader.new) (W.state writer.old) (W.state writer.new)) result }

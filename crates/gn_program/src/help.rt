@@ -94,8 +94,7 @@ Example:
 
   gn load --workers 4 < examples/six_links.capture | gn audit";
 
-pub(crate) const SERVE: &str =
-    "Routes for peers on this machine over TCP, and prints the history";
+pub(crate) const SERVE: &str = "Routes for peers on this machine over TCP, and prints the history";
 
 pub(crate) const SERVE_USAGE: &str =
     "gn serve --port P --accept A --workers V [--servent HEX32] [--peer IP:PORT].. [--idle SECONDS]";
@@ -108,6 +107,10 @@ pub(crate) const SERVENT: &str = "The router's own servent ID, 32 hex digits";
 
 pub(crate) const PEER: &str =
     "A peer on this machine that is called, as 127.0.0.1:6347; at most 64";
+
+pub(crate) const BAD_PEER: &str =
+    "--peer takes IP:PORT, an address of this machine, 127.0.0.1 or another that begins with 127, and \
+     a port of 1 to 65535";
 
 pub(crate) const IDLE: &str =
     "Seconds after which a peer that is silent, or takes nothing, is given up, 0 to 86400; 0: never";

@@ -44,18 +44,19 @@ pub struct Serving {
 
 impl Model for Serving {
     ghost use Rattle.std.specs.Prelude.{◌+◌, ◌≤◌, length};
+    ghost use Rattle.gn_rules.specs.Limits.{IsWithin};
     ghost use Rattle.gn_program.specs.Serving.{AskedServe};
 
     ghost Value = { AskedServe };
 
     ghost view = { λ s. record {
-        port = s.port;
-        accept = s.accept;
-        workers = s.workers;
-        servent = s.servent;
-        peers = s.peers.items;
-        idle = s.idle;
+      port = s.port;
+      accept = s.accept;
+      workers = s.workers;
+      servent = s.servent;
+      peers = s.peers.items;
+      idle = s.idle;
     } };
 
-    ghost invariant = { λ s. s.accept + length s.peers.items ≤ 256 };
+    ghost invariant = { λ s. (IsWithin s.workers 16) × (s.accept + length s.peers.items ≤ 256) };
 }

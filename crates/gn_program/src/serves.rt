@@ -1,5 +1,8 @@
 //! A router that serves, as a command line asks for it.
 
+ghost use Rattle.std.specs.Prelude.{◌≡◌, length, IfOk};
+ghost use Rattle.gn_program.specs.Commands.{IsServeAnswer, IsServing};
+
 use crate::request::{Peer, Serving};
 use crate::text::write_text;
 use gn_io::Sink;
@@ -8,7 +11,6 @@ use gn_rules::{Config, Own};
 use gn_serve::{ServeFault, serve_history};
 use gn_tcp::listen;
 use gn_threads::RunFault;
-use gn_wire::Guid;
 use std::alloc::{AllocError, Global};
 use std::fmt;
 use std::fmt::{Display, Formatter, Write};
@@ -28,11 +30,13 @@ impl Display for Listening {
 }
 
 /// The configuration of a router that serves: its own servent is on this port, and shares nothing.
-fn settings(servent: Guid, port: u16) -> Config {
+fn settings(serving: &Serving) -> Config
+    ensures { IsServing serving.now result }
+{
     let own = Own {
-        servent,
+        servent: serving.servent,
         ip: [127, 0, 0, 1],
-        port,
+        port: serving.port,
         files: 0,
         kbytes: 0,
     };
@@ -43,7 +47,9 @@ fn settings(servent: Guid, port: u16) -> Config {
 }
 
 /// The addresses of peers.
-fn addresses(alloc: Global, peers: &[Peer]) -> Result<Vec<SocketAddr>, AllocError> {
+fn addresses(alloc: Global, peers: &[Peer]) -> Result<Vec<SocketAddr>, AllocError>
+    ensures { IfOk result (λ addresses. length addresses.items ≡ length peers.now) }
+{
     let mut addresses = Vec::new(alloc);
     for peer in peers {
         addresses.push(SocketAddr::from((Ipv4Addr::from(peer.ip), peer.port)))?;
@@ -71,7 +77,10 @@ pub(crate) fn serve<
     serving: &Serving,
     writer: &mut W,
     faults: &mut F,
-) -> Result<(), ServeFault> {
+) -> Result<(), ServeFault>
+    ensures { IsServeAnswer serving.now (W.state writer.old) (W.state writer.new) result }
+{
+    let config = settings(serving);
     let peers = addresses(alloc, &serving.peers)?;
     let Ok(listener) = listen(rt, serving.port) else {
         return Err(ServeFault::Run(RunFault::Listen));
@@ -81,7 +90,7 @@ pub(crate) fn serve<
         rt,
         alloc,
         &listener,
-        &settings(serving.servent, serving.port),
+        &config,
         serving.accept,
         &peers,
         limit(serving.idle),

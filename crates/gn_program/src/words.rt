@@ -1,27 +1,29 @@
 //! The words of a command line.
 
-ghost use Rattle.std.specs.Prelude.{◌≡◌, Some, IfOk, IfErr, codes, map, option_and_then, false};
+ghost use Rattle.std.specs.Prelude.{◌≡◌, Some, IfOk, IfErr, codes, map, false};
 ghost use Rattle.std.specs.Option.{option_map_or};
 ghost use Rattle.std.specs.Str.{bytes_eq};
 ghost use Rattle.clap.specs.Words.{app_of, found_of, kind_of, new_app, rows_of, rule_of, HasKind};
 ghost use Rattle.clap.specs.declared.builder.command.Command.TheViews.{out-Command as fields_of};
 ghost use Rattle.clap.specs.declared.error.kind.ErrorKind.TheVariants.{ValueValidation};
-ghost use Rattle.gn_text.specs.Settings.{is_within};
+ghost use Rattle.gn_program.specs.Options.{IsReadAs};
 ghost use Rattle.gn_program.specs.Words.{
   PlainWordsAreRead,
   audit_app,
   bare_app,
+  default_rule,
   flag_rule,
   gn_app,
   is_set,
   kinds_of,
   load_app,
+  repeated_rule,
   replay_app,
   request_named,
   request_of,
+  serve_app,
+  served_app,
   value_rule,
-  workers_in,
-  workers_of,
 };
 
 use crate::help;
@@ -113,7 +115,10 @@ fn value_or<'a>(
     shown: &'a str,
     default: &'a str,
     text: &'a str,
-) -> Arg<'a> {
+) -> Arg<'a>
+    ensures rule { rule_of result ≡ default_rule name.now default.now }
+    ensures local { result.global ≡ false }
+{
     Arg::new(alloc, name)
         .long(name)
         .value_name(shown)
@@ -123,7 +128,10 @@ fn value_or<'a>(
 }
 
 /// An option that may be given more than once, each time with a value.
-fn values<'a>(alloc: Global, name: &'a str, shown: &'a str, text: &'a str) -> Arg<'a> {
+fn values<'a>(alloc: Global, name: &'a str, shown: &'a str, text: &'a str) -> Arg<'a>
+    ensures rule { rule_of result ≡ repeated_rule name.now }
+    ensures local { result.global ≡ false }
+{
     Arg::new(alloc, name)
         .long(name)
         .value_name(shown)
@@ -145,7 +153,11 @@ fn load_command<'a>(alloc: Global) -> Result<Command<'a>, AllocError>
     .arg(value(alloc, "workers", "V", help::WORKERS))
 }
 
-fn serve_command<'a>(alloc: Global) -> Result<Command<'a>, AllocError> {
+/// The subcommand `serve` with the options that have to be given.
+fn served_command<'a>(alloc: Global) -> Result<Command<'a>, AllocError>
+    ensures shape { IfOk result (λ command. app_of command ≡ served_app) }
+    ensures globals { IfOk result (λ command. (fields_of command).has_globals ≡ false) }
+{
     leaf(
         alloc,
         "serve",
@@ -155,16 +167,19 @@ fn serve_command<'a>(alloc: Global) -> Result<Command<'a>, AllocError> {
     )
     .arg(value(alloc, "port", "P", help::PORT))?
     .arg(value(alloc, "accept", "A", help::ACCEPT))?
-    .arg(value(alloc, "workers", "V", help::WORKERS))?
-    .arg(value_or(
-        alloc,
-        "servent",
-        "HEX32",
-        OWN_SERVENT,
-        help::SERVENT,
-    ))?
-    .arg(values(alloc, "peer", "IP:PORT", help::PEER))?
-    .arg(value_or(alloc, "idle", "SECONDS", "0", help::IDLE))
+    .arg(value(alloc, "workers", "V", help::WORKERS))
+}
+
+fn serve_command<'a>(alloc: Global) -> Result<Command<'a>, AllocError>
+    ensures shape { IfOk result (λ command. app_of command ≡ serve_app) }
+    ensures globals { IfOk result (λ command. (fields_of command).has_globals ≡ false) }
+{
+    let servent = value_or(alloc, "servent", "HEX32", OWN_SERVENT, help::SERVENT);
+    let idle = value_or(alloc, "idle", "SECONDS", "0", help::IDLE);
+    served_command(alloc)?
+        .arg(servent)?
+        .arg(values(alloc, "peer", "IP:PORT", help::PEER))?
+        .arg(idle)
 }
 
 /// The command `gn` before it has its subcommands.
@@ -205,14 +220,17 @@ fn is_set(options: &ArgMatches<'_>, flag: &str) -> bool
 }
 
 /// What a subcommand with these options asks for; a mistake, where a value isn't within its limits.
-fn request_named(alloc: Global, name: &str, options: &ArgMatches<'_>) -> Result<Request, Unread> {
+fn request_named(alloc: Global, name: &str, options: &ArgMatches<'_>) -> Result<Request, Unread>
+    ensures { IsReadAs (λ r. r) (request_named name.now (rows_of (found_of options.now))) result }
+{
     match name {
         "replay" if is_set(options, "history") => Ok(Request::History),
         "replay" => Ok(Request::Replay),
         "audit" if is_set(options, "explain") => Ok(Request::Explain),
         "audit" => Ok(Request::Audit),
         "load" => Ok(Request::Load(workers_of(options)?)),
-        _ => Ok(Request::Serve(serving_of(alloc, options)?)),
+        "serve" => Ok(Request::Serve(serving_of(alloc, options)?)),
+        _ => Err(Unread::Mistake("there is no such subcommand")),
     }
 }
 

@@ -1,5 +1,18 @@
 //! A run over TCP, and the history of it, written.
 
+ghost use Rattle.std.specs.Prelude.{◌≡◌, ◌+◌, ◌≤◌, ◌↔◌, length, IfErr, IfOk, OnOk};
+ghost use Rattle.gn_io.specs.Streams.{NoWriteFailed};
+ghost use Rattle.gn_rules.specs.Limits.{IsWithin};
+ghost use Rattle.gn_threads.specs.declared.fault.RunFault.TheVariants.{BadWorkers};
+ghost use Rattle.gn_serve.specs.declared.fault.ServeFault.TheVariants.{Run};
+ghost use Rattle.gn_serve.specs.Histories.{
+  AppendsServed,
+  HasServeStopped,
+  IsRunFault,
+  IsServeFault,
+  IsServedText,
+};
+
 use crate::fault::ServeFault;
 use crate::serve::serve_on;
 use gn_capture::write_history;
@@ -26,7 +39,15 @@ fn history_of<
     peers: &[SocketAddr],
     idle: Option<Duration>,
     workers: u32,
-) -> Result<Vec<u8, A>, ServeFault> {
+) -> Result<Vec<u8, A>, ServeFault>
+    requires few { accept + length peers.now ≤ 256 }
+    ensures workers { IfOk result (λ _. IsWithin workers 16) }
+    ensures bad_workers { IfErr result (λ fault. (fault ≡ Run BadWorkers) ↔ (¬ IsWithin workers 16)) }
+    ensures fault { IfErr result (λ fault. IsWithin workers 16
+        → IsRunFault (length peers.now + accept) workers fault) }
+    ensures history { IfOk result (λ history.
+        IsServedText A config.now (length peers.now) accept workers history.items) }
+{
     let report = serve_on::<C, _, A, R>(
         rt, alloc, listener, config, accept, peers, idle, workers, &NoGate,
     )?;
@@ -52,9 +73,19 @@ pub fn serve_history<
     idle: Option<Duration>,
     workers: u32,
     sink: &mut W,
-) -> Result<(), ServeFault> {
-    let history =
-        history_of::<C, A, R>(rt, alloc, listener, config, accept, peers, idle, workers)?;
+) -> Result<(), ServeFault>
+    requires few { accept + length peers.now ≤ 256 }
+    ensures workers { OnOk result (IsWithin workers 16) }
+    ensures bad_workers { IfErr result (λ fault. (fault ≡ Run BadWorkers) ↔ (¬ IsWithin workers 16)) }
+    ensures fault { IfErr result (λ fault. IsWithin workers 16 → IsServeFault (length peers.now + accept) workers fault
+        (W.state sink.old) (W.state sink.new)) }
+    ensures written { OnOk result (AppendsServed A config.now (length peers.now) accept workers
+        (W.state sink.old).written (W.state sink.new).written) }
+    ensures unfailed { OnOk result (NoWriteFailed (W.state sink.old) (W.state sink.new)) }
+    ensures stopped { IfErr result (λ fault. HasServeStopped A config.now (length peers.now) accept workers fault
+        (W.state sink.old).written (W.state sink.new).written) }
+{
+    let history = history_of::<C, A, R>(rt, alloc, listener, config, accept, peers, idle, workers)?;
     write_all(sink, &history)?;
     Ok(())
 }
