@@ -64,11 +64,13 @@ bare_app =
       top = record gn.top { has_version = true; disable_help_subcommand = true; subcommand_required = true };
     }
 
+-- the command `gn` with the subcommands that start no threads
+abbrev pub texts_app : App
+texts_app = with_subcommand (with_subcommand bare_app replay_app.top) audit_app.top
+
 -- the command `gn`: it has these subcommands, of which none takes more than its flags and options
 abbrev pub gn_app : App
-gn_app =
-    with_subcommand (with_subcommand (with_subcommand (with_subcommand bare_app replay_app.top) audit_app.top)
-    load_app.top) serve_app.top
+gn_app = with_subcommand (with_subcommand texts_app load_app.top) serve_app.top
 
 -- whether a flag is set
 abbrev pub is_set : Text → List Row → Bool

@@ -23,6 +23,7 @@ ghost use Rattle.gn_program.specs.Words.{
   request_of,
   serve_app,
   served_app,
+  texts_app,
   value_rule,
 };
 
@@ -194,12 +195,19 @@ fn bare_command<'a>(alloc: Global) -> Command<'a>
         .subcommand_required(true)
 }
 
-fn gn_command<'a>(alloc: Global) -> Result<Command<'a>, AllocError>
-    ensures { IfOk result (λ command. app_of command ≡ gn_app) }
+/// The command `gn` with its subcommands that start no threads.
+fn texts_command<'a>(alloc: Global) -> Result<Command<'a>, AllocError>
+    ensures { IfOk result (λ command. app_of command ≡ texts_app) }
 {
     bare_command(alloc)
         .subcommand(replay_command(alloc)?)?
-        .subcommand(audit_command(alloc)?)?
+        .subcommand(audit_command(alloc)?)
+}
+
+fn gn_command<'a>(alloc: Global) -> Result<Command<'a>, AllocError>
+    ensures { IfOk result (λ command. app_of command ≡ gn_app) }
+{
+    texts_command(alloc)?
         .subcommand(load_command(alloc)?)?
         .subcommand(serve_command(alloc)?)
 }
