@@ -1,11 +1,16 @@
 -- What a serve answers, from what the run answered.
-use Rattle.std.proofs.Common.{◌≡◌, ◌+◌, ◌≤◌, ℕ, length, IfErr, OnOk, Result, Ok, Err, sym, subst}
+use Rattle.std.proofs.Common.{◌≡◌, ◌+◌, ℕ, List, length, IfErr, OnOk, Option, Some, None, Result, Ok, Err, refl, sym, subst}
+use Rattle.std.specs.Io.KnownBytes.{Keeps}
+use Rattle.std.specs.Result.{IsErrAnd}
 use Rattle.std.specs.declared.alloc.Global.{Global}
 use Rattle.gn_io.specs.Streams.{NoWriteFailed, SinkState}
 use Rattle.gn_rules.specs.Limits.{IsWithin}
 use Rattle.gn_rules.specs.declared.config.Config.{Config}
 use Rattle.gn_serve.specs.Histories.{AppendsServed, HasServeStopped, IsServeFault}
 use Rattle.gn_serve.specs.declared.fault.ServeFault.{ServeFault}
+use Rattle.gn_serve.specs.declared.fault.ServeFault.TheVariants.{Run}
+use Rattle.gn_threads.specs.Faults.{IsFaultOf}
+use Rattle.gn_threads.specs.declared.fault.RunFault.{RunFault}
 use Rattle.gn_program.specs.Commands.{IsServeAnswer, IsServing}
 use Rattle.gn_program.specs.Serving.{AskedServe}
 
@@ -31,4 +36,23 @@ answered serving settings calls sink sink_new answer configured many within unfa
       stopped = subst (λ n. IfErr answer (λ fault. HasServeStopped Global settings n serving.accept serving.workers fault sink.written sink_new.written)) many stopped;
       fault = known (length serving.peers + serving.accept) serving.workers sink sink_new answer within
           (subst (λ n. IfErr answer (λ fault. IsWithin serving.workers 16 → IsServeFault (n + serving.accept) serving.workers fault sink sink_new)) many fault);
+    }
+
+keeps : (o : Option (List ℕ)) → Keeps o o
+keeps None = tt
+keeps (Some xs) = refl
+
+-- all that is answered where there was no run
+pub unserved : (serving : AskedServe) (settings : Config) (sink : SinkState) (answer : Result (Unit {0}) ServeFault) (fault : RunFault)
+    → IsServing serving settings → IsErrAnd answer (λ e. e ≡ Run fault) → IsFaultOf (length serving.peers + serving.accept) serving.workers fault
+    → IsServeAnswer serving sink sink answer
+unserved serving settings sink (Ok done) fault configured is one = absurd is
+unserved serving settings sink (Err e) fault configured is one =
+    record {
+      settings = settings;
+      configured = configured;
+      unfailed = tt;
+      written = tt;
+      stopped = subst (λ f. HasServeStopped Global settings (length serving.peers) serving.accept serving.workers f sink.written sink.written) (sym is) (keeps sink.written);
+      fault = subst (λ f. IsServeFault (length serving.peers + serving.accept) serving.workers f sink sink) (sym is) one;
     }

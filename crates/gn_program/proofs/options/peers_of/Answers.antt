@@ -1,8 +1,8 @@
-use Rattle.std.proofs.Common.{◌∙◌, ◌≡◌, sym, ap, subst, ℕ, List, [], Option, Some, None, Bor, map}
+use Rattle.std.proofs.Common.{◌∙◌, sym, ap, subst, List, [], Option, Some, Bor, map}
 use Rattle.std.specs.Prelude.{option_map, unwrap_or}
-use Rattle.clap.specs.Words.{Text, found_of, rows_of}
+use Rattle.clap.specs.Words.{Text, found_of}
 use Rattle.gn_program.specs.declared.request.Peer.{Peer}
-use Rattle.gn_program.specs.Options.{IsReadAs, peers_in, peers_of}
+use Rattle.gn_program.specs.Options.{IsReadAs, peers_in}
 use Rattle.gn_program.proofs.WordLemmas.{peers_read}
 use Rattle.gn_program.proofs.options.peers_of.Goals as goal
 

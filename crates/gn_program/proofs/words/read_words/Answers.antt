@@ -1,7 +1,9 @@
-use Rattle.std.proofs.Common.{sym, map}
-use Rattle.clap.specs.Words.{HasKind}
+use Rattle.std.proofs.Common.{◌≡◌, sym, subst, map, Option, None, Err}
+use Rattle.clap.specs.Words.{HasKind, found_of, rows_of}
 use Rattle.gn_load.proofs.LoadLemmas.{on_err}
-use Rattle.gn_program.specs.Words.{kinds_of}
+use Rattle.gn_program.specs.declared.request.Request.{Request}
+use Rattle.gn_program.specs.Options.{IsReadAs}
+use Rattle.gn_program.specs.Words.{kinds_of, request_named}
 use Rattle.gn_program.proofs.WordLemmas.{fails, parses, reads, refuses}
 use Rattle.gn_program.proofs.words.read_words.Goals as goal
 
@@ -21,5 +23,7 @@ pub returns-in-Err-Mistake-clause-err : goal.returns-in-Err-Mistake-clause-err
 returns-in-Err-Mistake-clause-err g c =
     let known = parses c.in_ok-gn_command.field-0 c.in_ok-matches.matches (map g.T.AsStr.text c.args.words.now) c.in_ok-gn_command.ensures
     c.in_ok-matches.ensures.parsed c.in_ok-matches.ensures.matches c.in_ok-matches.ensures.kinds in
-    refuses _ _ _ _ c.in_ok-mistake-in-Err-Mistake.field-0 known (sym c.in-Some.ensures.name) (sym c.in-Some.ensures.rows)
-    c.in-Err-Mistake.ensures c.in_ok-mistake-in-Err-Mistake.ensures
+    let asked : Option Request = request_named c.in-Some.name.now (rows_of (found_of c.in-Some.options.now)) in
+    let none : asked ≡ None = subst (λ e. IsReadAs {T = Request} (λ r. r) asked (Err e)) c.in-Err-Mistake.field-0-is c.in-Err-Mistake.ensures in
+    refuses _ _ _ _ c.in_ok-mistake-in-Err-Mistake.field-0 known (sym c.in-Some.ensures.name) (sym c.in-Some.ensures.rows) none
+    c.in_ok-mistake-in-Err-Mistake.ensures
