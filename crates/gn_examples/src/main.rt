@@ -3,6 +3,7 @@
 
 use gn_io::{ReaderSource, WriterSink};
 use gn_program::command;
+use std::net::{Net, TcpListener, TcpStream};
 use std::process::ExitCode;
 use std::rt::Files;
 use std::sync::Wait;
@@ -70,12 +71,9 @@ const AUDITS: [Audit; 4] = [
 ];
 
 /// What a command printed, where it ended with this status and wrote no fault.
-fn printed<R: Threads + Wait + Sync + AllocGlobal>(
-    rt: &R,
-    words: &[&str],
-    input: &[u8],
-    status: u8,
-) -> Option<Vec<u8>> {
+fn printed<
+    R: Threads + Wait + Net<Listener = TcpListener, Stream = TcpStream> + Sync + AllocGlobal,
+>(rt: &R, words: &[&str], input: &[u8], status: u8) -> Option<Vec<u8>> {
     let mut reader = ReaderSource::new(input);
     let mut writer = WriterSink::new(Vec::new(rt.alloc()));
     let mut faults = WriterSink::new(Vec::new(rt.alloc()));
@@ -88,13 +86,9 @@ fn printed<R: Threads + Wait + Sync + AllocGlobal>(
 }
 
 /// Whether a command prints what is wanted, told in words.
-fn compared<R: Threads + Wait + Sync + AllocGlobal>(
-    rt: &R,
-    words: &[&str],
-    input: &[u8],
-    status: u8,
-    wanted: &[u8],
-) -> &'static str {
+fn compared<
+    R: Threads + Wait + Net<Listener = TcpListener, Stream = TcpStream> + Sync + AllocGlobal,
+>(rt: &R, words: &[&str], input: &[u8], status: u8, wanted: &[u8]) -> &'static str {
     match printed(rt, words, input, status) {
         Some(text) if text.as_slice() == wanted => "as in",
         _ => "not as in",
@@ -102,7 +96,7 @@ fn compared<R: Threads + Wait + Sync + AllocGlobal>(
 }
 
 /// Whether the history that a command prints of a capture is legal, told in words.
-fn judged<R: Threads + Wait + Sync + AllocGlobal>(
+fn judged<R: Threads + Wait + Net<Listener = TcpListener, Stream = TcpStream> + Sync + AllocGlobal>(
     rt: &R,
     words: &[&str],
     capture: &[u8],
@@ -118,7 +112,15 @@ fn judged<R: Threads + Wait + Sync + AllocGlobal>(
     }
 }
 
-fn replay_all<R: Threads + Wait + Sync + Files + Print + AllocGlobal>(rt: &R) -> io::Result<()> {
+fn replay_all<
+    R: Threads
+        + Wait
+        + Net<Listener = TcpListener, Stream = TcpStream>
+        + Sync
+        + Files
+        + Print
+        + AllocGlobal,
+>(rt: &R) -> io::Result<()> {
     let alloc = rt.alloc();
     for name in CAPTURES {
         let capture = fs::read(rt, &format!(in alloc; "{name}.capture")?)?;
@@ -130,7 +132,15 @@ fn replay_all<R: Threads + Wait + Sync + Files + Print + AllocGlobal>(rt: &R) ->
     Ok(())
 }
 
-fn load_all<R: Threads + Wait + Sync + Files + Print + AllocGlobal>(rt: &R) -> io::Result<()> {
+fn load_all<
+    R: Threads
+        + Wait
+        + Net<Listener = TcpListener, Stream = TcpStream>
+        + Sync
+        + Files
+        + Print
+        + AllocGlobal,
+>(rt: &R) -> io::Result<()> {
     for name in LOADS {
         let capture = fs::read(rt, &format!(in rt.alloc(); "{name}.capture")?)?;
         let legal = judged(rt, &["gn", "load", "--workers", "4"], &capture);
@@ -139,7 +149,15 @@ fn load_all<R: Threads + Wait + Sync + Files + Print + AllocGlobal>(rt: &R) -> i
     Ok(())
 }
 
-fn audit_all<R: Threads + Wait + Sync + Files + Print + AllocGlobal>(rt: &R) -> io::Result<()> {
+fn audit_all<
+    R: Threads
+        + Wait
+        + Net<Listener = TcpListener, Stream = TcpStream>
+        + Sync
+        + Files
+        + Print
+        + AllocGlobal,
+>(rt: &R) -> io::Result<()> {
     for (name, words, input, status, wanted) in AUDITS {
         let history = fs::read(rt, input)?;
         let same = compared(rt, words, &history, status, &fs::read(rt, wanted)?);

@@ -1,13 +1,13 @@
 -- What clap's words mean for this command.
-use Rattle.std.proofs.Common.{◌≡◌, ◌∙◌, ◌&&◌, ◌⊎◌, inl, inr, refl, sym, subst, true≢false, ap, Bool, cond, true, false, ℕ, List, [], ◌∷◌, Option, Some, None}
-use Rattle.std.specs.Prelude.{⊤, Box, codes, find, is_some, option_and_then, option_map, not, if◌then◌else◌}
+use Rattle.std.proofs.Common.{◌≡◌, ◌∙◌, ◌&&◌, inl, inr, refl, sym, subst, true≢false, ap, Bool, true, false, List, [], ◌∷◌, Option, Some, None}
+use Rattle.std.specs.Prelude.{Box, codes, is_some, map, option_and_then, option_map, not, unwrap_or, if◌then◌else◌}
 use Rattle.std.specs.Box.{box_value}
 use Rattle.std.specs.Borrow.{Bor}
 use Rattle.std.specs.Option.{option_map_or}
 use Rattle.std.specs.Str.{bytes_eq}
-use Rattle.clap.specs.Matches.{first_value, has_subcommand, subcommand_name_of}
-use Rattle.clap.specs.Simple.{Shape, argument_words, built, entered, label_of, names_of, rows_at, subcommand_rows}
-use Rattle.clap.specs.Walk.{answers_to, rows_of, stop_after}
+use Rattle.clap.specs.Matches.{first_value, has_subcommand, matched_of, raw_values, subcommand_name_of}
+use Rattle.clap.specs.Simple.{subcommand_rows}
+use Rattle.clap.specs.Walk.{first_of, rows_of}
 use Rattle.clap.specs.Kinds.{HasKind, IsAmong, Kinds, or_else}
 use Rattle.clap.specs.Values.{kind_of}
 use Rattle.clap.specs.Words.{App, HasMatchesOf, IsParsedFrom, Row, Text, app_of, is_simple, fault_of, subcommand_of, subcommand_rows_of}
@@ -21,10 +21,11 @@ use Rattle.clap.specs.declared.parser.matches.Found.{Found}
 use Rattle.clap.specs.declared.error.Error.{Error}
 use Rattle.clap.specs.declared.error.kind.ErrorKind.TheVariants.{ValueValidation}
 use Rattle.clap.proofs.OnLiterals.{clap_on_literals}
-use Rattle.clap.proofs.WalkLemmas.{first_value-rows}
-use Rattle.gn_program.specs.Words.{PlainWordsAreRead, gn_app, is_set, kinds_of, request_by, request_named, request_of, value_kinds, workers_in, workers_of}
+use Rattle.clap.proofs.WalkLemmas.{first_value-rows, raw_values-rows}
+use Rattle.hex.specs.Hex.{decode_pairs}
+use Rattle.gn_program.specs.Options.{peers_in, peers_of}
+use Rattle.gn_program.specs.Words.{PlainWordsAreRead, gn_app, is_set, kinds_of, request_by, request_named, request_of, value_kinds}
 use Rattle.gn_program.specs.declared.request.Request.{Request}
-use Rattle.gn_program.specs.declared.request.Request.TheVariants.{Load}
 
 gn_is_simple : is_simple gn_app ≡ true
 unfolding clap_on_literals
@@ -35,7 +36,7 @@ unfolding clap_on_literals
 gn_is_free = refl
 
 pub plain_words : PlainWordsAreRead
-unfolding clap_on_literals
+unfolding clap_on_literals decode_pairs
 plain_words = record {
   replay = λ program. refl;
   history = λ program. refl;
@@ -45,6 +46,13 @@ plain_words = record {
   most = λ program. refl;
   none = λ program. refl;
   many = λ program. refl;
+  serve = λ program. refl;
+  no_port = λ program. refl;
+  accepts = λ program. refl;
+  workers = λ program. refl;
+  near = refl;
+  far = refl;
+  long = λ peer. refl;
 }
 
 -- a flag's value, as it is got, says whether the flag is set
@@ -53,42 +61,16 @@ pub flag_read : (o : Option (Bor Text)) (f : Found) (id : Text) → option_map (
 flag_read None f id e = ap (λ (v : Option Text). option_map_or (λ t. bytes_eq t (codes "true")) v false) (e ∙ first_value-rows f id)
 flag_read (Some s) f id e = ap (λ (v : Option Text). option_map_or (λ t. bytes_eq t (codes "true")) v false) (e ∙ first_value-rows f id)
 
--- the number of workers, as it is got, is the one that the option asks for
-pub workers_read : (o : Option (Bor Text)) (f : Found) → option_map (λ s. s.now) o ≡ first_value f (codes "workers")
-    → option_and_then (λ s. workers_in s.now) o ≡ workers_of (rows_of f)
-workers_read None f e = ap (option_and_then workers_in) (e ∙ first_value-rows f (codes "workers"))
-workers_read (Some s) f e = ap (option_and_then workers_in) (e ∙ first_value-rows f (codes "workers"))
+-- the first value of an option, as it is got, is the one of its row
+pub value_read : {X : Type 0} (o : Option (Bor Text)) (f : Found) (id : Text) (read : Text → Option X) → option_map (λ s. s.now) o ≡ first_value f id
+    → (let v : Option Text = first_of id (rows_of f) in option_and_then (λ s. read s.now) o ≡ option_and_then read v)
+value_read None f id read e = ap (λ (v : Option Text). option_and_then read v) (e ∙ first_value-rows f id)
+value_read (Some s) f id read e = ap (λ (v : Option Text). option_and_then read v) (e ∙ first_value-rows f id)
 
--- the name of one of the subcommands
-abbrev IsOurs : Text → Type 0
-IsOurs name = (name ≡ codes "replay") ⊎ (name ≡ codes "audit") ⊎ (name ≡ codes "load")
-
--- a subcommand that was entered is one of them
-abbrev IsNamed : Option (Text × List Row) → Type 0
-IsNamed None = ⊤
-IsNamed (Some p) = IsOurs p.0
-
--- each of the commands is one of them
-abbrev AreOurs : List Shape → Type 0
-AreOurs [] = ⊤
-AreOurs (s ∷ ss) = IsOurs s.name × AreOurs ss
-
-found_named : (subs : List Shape) → AreOurs subs → (p : Text × List Text)
-    → IsNamed (option_map (λ s. rows_at s p.1) (find (λ s. answers_to p.0 (label_of s)) subs))
-found_named [] are p = tt
-found_named (s ∷ ss) are p = by (answers_to p.0 (label_of s)) (found_named ss are.1 p)
-  where
-    by : (b : Bool) → IsNamed (option_map (λ s. rows_at s p.1) (find (λ s. answers_to p.0 (label_of s)) ss))
-        → IsNamed (option_map (λ s. rows_at s p.1) (cond b (Some s) (find (λ s. answers_to p.0 (label_of s)) ss)))
-    by true more = are.0
-    by false more = more
-
-named : (stop : Option (Text × List Text)) → IsNamed (entered (built gn_app) stop)
-named None = tt
-named (Some p) = found_named (built gn_app).subs (inl refl, (inr (inl refl), (inr (inr refl), tt))) p
-
-entered_named : (words : List Text) → IsNamed (subcommand_of gn_app words)
-entered_named words = named (stop_after (built gn_app).top.rules (names_of (built gn_app)) (argument_words gn_app words))
+-- the peers, as they are got, are those of the option's row
+pub peers_read : (o : Option (Bor (List (Bor Text)))) (f : Found) → option_map (λ s. map (λ v. v.now) s.now) o ≡ option_map raw_values (matched_of f (codes "peer"))
+    → peers_of (rows_of f) ≡ peers_in (unwrap_or (option_map (λ s. map (λ v. v.now) s.now) o) [])
+peers_read o f e = sym (ap (λ (v : Option (List Text)). peers_in (unwrap_or v [])) (e ∙ raw_values-rows f (codes "peer")))
 
 both_left : (a b : Bool) → (a && b) ≡ true → a ≡ true
 both_left true b e = refl
@@ -146,30 +128,12 @@ kinds_by_value : (m : ArgMatches) (words : List Text) (name : Text) (rows : List
 kinds_by_value m words name rows p is are =
     ap (λ fs. or_else fs (value_kinds (subcommand_of gn_app words))) p.faults ∙ ap value_kinds (entered_as m words name rows p is are)
 
--- the value of an option is wrong exactly where one of our subcommands stands for no request
-value_kinds_are : (name : Text) (rows : List Row) → IsOurs name
-    → value_kinds (Some (name, rows)) ≡ (if is_some (request_named name rows) then [] else ValueValidation ∷ [])
-value_kinds_are name rows (inl e) = rw e refl
-value_kinds_are name rows (inr (inl e)) = rw e refl
-value_kinds_are name rows (inr (inr e)) = rw e (by (workers_of rows))
-  where
-    by : (o : Option ℕ) → (if not (is_some o) then ValueValidation ∷ [] else []) ≡ (if is_some (option_map Load o) then [] else ValueValidation ∷ [])
-    by None = refl
-    by (Some workers) = refl
-
-kinds_are : (m : ArgMatches) (words : List Text) (name : Text) (rows : List Row) → Parses m words → subcommand_name_of m ≡ Some name
-    → option_map (λ p. p.1) (subcommand_rows_of m) ≡ Some rows
-    → kinds_of words ≡ (if is_some (request_named name rows) then [] else ValueValidation ∷ [])
-kinds_are m words name rows p is are =
-    kinds_by_value m words name rows p is are
-    ∙ value_kinds_are name rows (subst IsNamed (entered_as m words name rows p is are) (entered_named words))
-
 -- what the words ask for, where the subcommand's name and rows stand for a request
 pub reads : (m : ArgMatches) (words : List Text) (name : Text) (rows : List Row) (request : Request) → Parses m words
     → subcommand_name_of m ≡ Some name → option_map (λ p. p.1) (subcommand_rows_of m) ≡ Some rows
     → request_named name rows ≡ Some request → request_of words ≡ Some request
 reads m words name rows request p is are asked =
-    let none : kinds_of words ≡ [] = kinds_are m words name rows p is are
+    let none : kinds_of words ≡ [] = kinds_by_value m words name rows p is are
     ∙ ap (λ (o : Option Request). if is_some o then [] else ValueValidation ∷ []) asked in
     ap (λ fs. request_by fs (subcommand_of gn_app words)) none ∙ ap (request_by []) (entered_as m words name rows p is are) ∙ asked
 
@@ -178,7 +142,7 @@ pub refuses : (m : ArgMatches) (words : List Text) (name : Text) (rows : List Ro
     → subcommand_name_of m ≡ Some name → option_map (λ p. p.1) (subcommand_rows_of m) ≡ Some rows → request_named name rows ≡ None
     → kind_of error ≡ ValueValidation → HasKind (kinds_of words) error
 refuses m words name rows error p is are none kind =
-    let wrong : kinds_of words ≡ ValueValidation ∷ [] = kinds_are m words name rows p is are
+    let wrong : kinds_of words ≡ ValueValidation ∷ [] = kinds_by_value m words name rows p is are
     ∙ ap (λ (o : Option Request). if is_some o then [] else ValueValidation ∷ []) none in
     inr (subst (IsAmong (kind_of error)) (sym wrong) (inl kind))
 

@@ -1,12 +1,12 @@
--- What a command does: what replay, audit or load answers to its input and output, and the status that stands for it.
-use Rattle.std.specs.Prelude.{◌≡◌, ◌≢◌, ◌⊎◌, ◌≤◌, ℕ, length, IfSome, IsOk, Result, Ok, Err, IfOk, IfErr, OnOk}
+-- What a command does: what replay, audit, load or serve answers to its input and output, and the status that stands for it.
+use Rattle.std.specs.Prelude.{◌≡◌, ◌≢◌, ◌⊎◌, ◌≤◌, ◌+◌, ◌∷◌, [], ℕ, length, IfSome, IsOk, Result, Ok, Err, IfOk, IfErr, OnOk}
 use Rattle.std.specs.declared.alloc.Global.{Global}
 use Rattle.clap.specs.declared.error.kind.ErrorKind.{ErrorKind}
 use Rattle.clap.specs.declared.error.kind.ErrorKind.TheVariants.{DisplayHelp, DisplayVersion, OutOfMemory}
 use Rattle.gn_replay.specs.Faults.{IsAnswerOn}
 use Rattle.gn_replay.specs.declared.fault.ReplayFault.{ReplayFault}
 use Rattle.gn_io.specs.Input.{input_limit}
-use Rattle.gn_io.specs.Streams.{NoneFailed, Streams}
+use Rattle.gn_io.specs.Streams.{NoneFailed, NoWriteFailed, SinkState, Streams}
 use Rattle.gn_capture.specs.Captures.{capture_of}
 use Rattle.gn_replay.specs.Replays.{AppendsReplay, HasStopped, IsCounted}
 use Rattle.gn_replay.specs.declared.replays.Exit.{Exit}
@@ -17,10 +17,16 @@ use Rattle.gn_replay.specs.Explained.{AppendsExplained, HasExplainedStopped}
 use Rattle.gn_load.specs.Faults.{IsLoadFault}
 use Rattle.gn_load.specs.Loads.{AppendsLoad, HasStopped as HasLoadStopped, load_of}
 use Rattle.gn_load.specs.declared.fault.LoadFault.{LoadFault}
+use Rattle.gn_serve.specs.Histories.{AppendsServed, HasServeStopped, IsServeFault}
+use Rattle.gn_serve.specs.declared.fault.ServeFault.{ServeFault}
+use Rattle.gn_rules.specs.Settings.{IsMadeOf}
+use Rattle.gn_rules.specs.declared.config.Config.{Config}
+use Rattle.gn_rules.specs.declared.config.Own.{Own}
 use Rattle.gn_rules.specs.declared.legality.Legality.{Legality}
 use Rattle.gn_rules.specs.declared.legality.Legality.TheVariants.{Legal, WrongAt}
+use Rattle.gn_program.specs.Serving.{AskedServe}
 use Rattle.gn_program.specs.declared.request.Request.{Request}
-use Rattle.gn_program.specs.declared.request.Request.TheVariants.{Replay, History, Audit, Explain, Load}
+use Rattle.gn_program.specs.declared.request.Request.TheVariants.{Replay, History, Audit, Explain, Load, Serve}
 
 -- what replay answers: the input was a capture, no longer than it may be, and its replay text was written, its steps
 -- and refusals counted; or it stopped, at a fault that the streams confirm, and what was written then is a prefix of
@@ -68,6 +74,35 @@ pub record IsLoadAnswer (workers : ℕ) (s : Streams) (answer : Result (Unit {0}
       IfErr answer (λ fault. HasLoadStopped Global workers fault s.source.rest s.sink.written s.sink_new.written)
   pub fault : IfErr answer (λ fault. IsLoadFault workers fault (load_of Global) s)
 
+-- the own servent of a router that serves: it is on the port of 127.0.0.1 that is asked for, and shares nothing
+abbrev pub own_served : AskedServe → Own
+own_served serving =
+    record {
+      servent = serving.servent;
+      ip = 127 ∷ 0 ∷ 0 ∷ 1 ∷ [];
+      port = serving.port;
+      files = 0;
+      kbytes = 0;
+    }
+
+-- a configuration is that of a router that serves
+abbrev pub IsServing : AskedServe → Config → Type 0
+IsServing serving settings = IsMadeOf settings 64 4096 1024 1024 1024 1000000 (own_served serving)
+
+-- what serve answers: no write failed, and the history of a run with so many workers, over links to the peers that are
+-- called and to so many that call, was written; or it stopped, and what was written then is a prefix of such a history
+pub record IsServeAnswer (serving : AskedServe) (sink sink_new : SinkState) (answer : Result (Unit {0}) ServeFault) : Type 0 where
+  pub settings : Config
+  pub configured : IsServing serving settings
+  pub unfailed : OnOk answer (NoWriteFailed sink sink_new)
+  pub written : OnOk answer (AppendsServed Global settings (length serving.peers) serving.accept serving.workers
+      sink.written sink_new.written)
+  pub stopped : IfErr answer (λ fault.
+      HasServeStopped Global settings (length serving.peers) serving.accept serving.workers fault sink.written
+      sink_new.written)
+  pub fault : IfErr answer (λ fault.
+      IsServeFault (length serving.peers + serving.accept) serving.workers fault sink sink_new)
+
 -- the status of a replay: 0 where it was done, else 1
 abbrev pub replay_status : Result Exit ReplayFault → ℕ
 replay_status (Ok exit) = 0
@@ -83,6 +118,11 @@ audit_status (Err fault) = 1
 abbrev pub load_status : Result (Unit {0}) LoadFault → ℕ
 load_status (Ok done) = 0
 load_status (Err fault) = 1
+
+-- the status of a serve: 0 where it was done, else 1
+abbrev pub serve_status : Result (Unit {0}) ServeFault → ℕ
+serve_status (Ok done) = 0
+serve_status (Err fault) = 1
 
 -- the streams are as some answer of replay leaves them, and the status is that answer's
 abbrev pub Replays : Streams → ℕ → Type 0
@@ -106,6 +146,12 @@ abbrev pub Loads : ℕ → Streams → ℕ → Type 0
 Loads workers s status =
     (answer : Result (Unit {0}) LoadFault) × IsLoadAnswer workers s answer × (status ≡ load_status answer)
 
+-- nothing is read, the output is as some answer of such a serve leaves it, and the status is that answer's
+abbrev pub Serves : AskedServe → Streams → ℕ → Type 0
+Serves serving s status =
+    (s.source_new ≡ s.source) × ((answer : Result (Unit {0}) ServeFault)
+    × IsServeAnswer serving s.sink s.sink_new answer × (status ≡ serve_status answer))
+
 -- the streams and the status are as one of the request's answers says
 abbrev pub Does : Request → Streams → ℕ → Type 0
 Does Replay s status = Replays s status
@@ -113,6 +159,7 @@ Does History s status = ReplaysHistory s status
 Does Audit s status = Audits s status
 Does Explain s status = Explains s status
 Does (Load workers) s status = Loads workers s status
+Does (Serve serving) s status = Serves serving s status
 
 -- words that ask for no work: at help and the version the status is 0 or 1 and anything may be written; else nothing is
 -- written, and the status is 1 where memory ran out and 2 at all else

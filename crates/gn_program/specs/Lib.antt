@@ -1,2 +1,4 @@
 pub mod Commands
+pub mod Options
+pub mod Serving
 pub mod Words

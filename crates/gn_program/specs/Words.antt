@@ -1,16 +1,14 @@
 -- How the words of a command line are read: by the rules of the crate clap, for this command.
-use Rattle.std.specs.Prelude.{◌≡◌, ◌∷◌, ◌&&◌, ℕ, List, [], Bool, true, false, not, Option, Some, None, codes, is_some, option_map, if◌then◌else◌}
+use Rattle.std.specs.Prelude.{◌≡◌, ◌∷◌, List, [], Bool, true, false, Option, Some, None, codes, is_some, option_map, replicate, if◌then◌else◌}
 use Rattle.std.specs.Option.{option_map_or}
 use Rattle.std.specs.Str.{bytes_eq}
 use Rattle.clap.specs.Words.{App, Row, Rule, Text, fault_of, first_of, new_app, new_rule, subcommand_of, with_rule, with_subcommand}
 use Rattle.clap.specs.Kinds.{Kinds, or_else}
-use Rattle.clap.specs.declared.builder.action.ArgAction.TheVariants.{Set, SetTrue}
+use Rattle.clap.specs.declared.builder.action.ArgAction.TheVariants.{Append, Set, SetTrue}
 use Rattle.clap.specs.declared.error.kind.ErrorKind.TheVariants.{ValueValidation}
-use Rattle.gn_text.specs.Addresses.{◌>>=◌}
-use Rattle.gn_text.specs.Numbers.{number_of}
-use Rattle.gn_text.specs.Settings.{is_within}
+use Rattle.gn_program.specs.Options.{peer_of, peers_in, serving_of, workers_of}
 use Rattle.gn_program.specs.declared.request.Request.{Request}
-use Rattle.gn_program.specs.declared.request.Request.TheVariants.{Replay, History, Audit, Explain, Load}
+use Rattle.gn_program.specs.declared.request.Request.TheVariants.{Replay, History, Audit, Explain, Load, Serve}
 
 -- the flag `--NAME`, which is set where it stands
 abbrev pub flag_rule : Text → Rule
@@ -28,9 +26,34 @@ audit_app = with_rule (new_app (codes "audit")) (flag_rule (codes "explain"))
 abbrev pub value_rule : Text → Rule
 value_rule name = record (new_rule name) { long = Some name; action = Some Set; value_names = 1; required = true }
 
+-- the option `--NAME VALUE`, which has this value where it isn't given
+abbrev pub default_rule : Text → Text → Rule
+default_rule name default =
+    record (new_rule name) { long = Some name; action = Some Set; value_names = 1; defaults = default ∷ [] }
+
+-- the option `--NAME VALUE`, which may be given any number of times
+abbrev pub repeated_rule : Text → Rule
+repeated_rule name = record (new_rule name) { long = Some name; action = Some Append; value_names = 1 }
+
 -- the subcommand `load`: it takes the option `--workers V`
 abbrev pub load_app : App
 load_app = with_rule (new_app (codes "load")) (value_rule (codes "workers"))
+
+-- the subcommand `serve` with the options that have to be given
+abbrev pub served_app : App
+served_app =
+    with_rule (with_rule (with_rule (new_app (codes "serve")) (value_rule (codes "port"))) (value_rule (codes "accept")))
+    (value_rule (codes "workers"))
+
+-- the own servent's ID where none is given: 47 sixteen times
+abbrev pub usual_servent : Text
+usual_servent = codes "47474747474747474747474747474747"
+
+-- the subcommand `serve`: it takes these options too
+abbrev pub serve_app : App
+serve_app =
+    with_rule (with_rule (with_rule served_app (default_rule (codes "servent") usual_servent))
+    (repeated_rule (codes "peer"))) (default_rule (codes "idle") (codes "0"))
 
 -- the command `gn` before it has its subcommands: it has a version, and one of them has to be named; `help` is none
 abbrev pub bare_app : App
@@ -40,38 +63,29 @@ bare_app =
       top = record gn.top { has_version = true; disable_help_subcommand = true; subcommand_required = true };
     }
 
+-- the command `gn` with the subcommands that start no threads
+abbrev pub texts_app : App
+texts_app = with_subcommand (with_subcommand bare_app replay_app.top) audit_app.top
+
 -- the command `gn`: it has these subcommands, of which none takes more than its flags and options
 abbrev pub gn_app : App
-gn_app = with_subcommand (with_subcommand (with_subcommand bare_app replay_app.top) audit_app.top) load_app.top
+gn_app = with_subcommand (with_subcommand texts_app load_app.top) serve_app.top
 
 -- whether a flag is set
 abbrev pub is_set : Text → List Row → Bool
 is_set flag rows = option_map_or (λ value. bytes_eq value (codes "true")) (first_of flag rows) false
 
--- the number of workers that a text says, where it is 1 to 16
-abbrev pub workers_in : Text → Option ℕ
-workers_in text = do
-  workers ← number_of text
-  if is_within workers 16 then Some workers else None
-
--- the number of workers that the option asks for, where it is 1 to 16
-abbrev pub workers_of : List Row → Option ℕ
-workers_of rows = do
-  text ← first_of (codes "workers") rows
-  workers_in text
-
--- the request that a subcommand with these flags and options stands for; nothing, where its number of workers isn't one
--- of 1 to 16
+-- the request that a subcommand with these flags and options stands for; nothing, where a value isn't within its limits
 abbrev pub request_named : Text → List Row → Option Request
 request_named name rows =
     if bytes_eq name (codes "replay") then Some (if is_set (codes "history") rows then History else Replay)
     else (if bytes_eq name (codes "audit") then Some (if is_set (codes "explain") rows then Explain else Audit)
-    else (if bytes_eq name (codes "load") then option_map Load (workers_of rows) else None))
+    else (if bytes_eq name (codes "load") then option_map Load (workers_of rows)
+    else (if bytes_eq name (codes "serve") then option_map Serve (serving_of rows) else None)))
 
--- what is wrong with the value of a subcommand's option: a number of workers that isn't one of 1 to 16
+-- what is wrong with the values of a subcommand's options: one isn't within its limits, so that they stand for no request
 abbrev pub value_kinds : Option (Text × List Row) → Kinds
-value_kinds (Some (name, rows)) =
-    if bytes_eq name (codes "load") && not (is_some (workers_of rows)) then ValueValidation ∷ [] else []
+value_kinds (Some (name, rows)) = if is_some (request_named name rows) then [] else ValueValidation ∷ []
 value_kinds None = []
 
 -- what else than a request words are, in clap's kinds, help and the version among them; nothing is wrong with the words
@@ -95,8 +109,13 @@ request_of words = request_by (kinds_of words) (subcommand_of gn_app words)
 abbrev pub load_words : Text → Text → List Text
 load_words program workers = program ∷ codes "load" ∷ codes "--workers" ∷ workers ∷ []
 
--- plain words are read as they say, whatever the program's name is; and a load by no worker or by more than 16 is a
--- mistake in the value of an option
+-- the words of a serve, with these texts for its port, the peers that may call, and its workers, and these words after them
+abbrev pub serve_words : Text → Text → Text → Text → List Text → List Text
+serve_words program port accept workers more =
+    program ∷ codes "serve" ∷ codes "--port" ∷ port ∷ codes "--accept" ∷ accept ∷ codes "--workers" ∷ workers ∷ more
+
+-- plain words are read as they say, whatever the program's name is; and a value that isn't within its limits is a mistake in
+-- the value of an option
 pub record PlainWordsAreRead : Type 0 where
   pub replay : (program : Text) → request_of (program ∷ codes "replay" ∷ []) ≡ Some Replay
   pub history : (program : Text) → request_of (program ∷ codes "replay" ∷ codes "--history" ∷ []) ≡ Some History
@@ -106,3 +125,23 @@ pub record PlainWordsAreRead : Type 0 where
   pub most : (program : Text) → request_of (load_words program (codes "16")) ≡ Some (Load 16)
   pub none : (program : Text) → kinds_of (load_words program (codes "0")) ≡ ValueValidation ∷ []
   pub many : (program : Text) → kinds_of (load_words program (codes "17")) ≡ ValueValidation ∷ []
+  -- a serve of one port, with what holds of the options that aren't given
+  pub serve : (program : Text) → request_of (serve_words program (codes "6346") (codes "128") (codes "16") [])
+      ≡ Some (Serve (record {
+        port = 6346;
+        accept = 128;
+        workers = 16;
+        servent = record { 0 = 71 ∷ 71 ∷ 71 ∷ 71 ∷ 71 ∷ 71 ∷ 71 ∷ 71 ∷ 71 ∷ 71 ∷ 71 ∷ 71 ∷ 71 ∷ 71 ∷ 71 ∷ 71 ∷ [] };
+        peers = [];
+        idle = 0;
+      }))
+  pub no_port : (program : Text)
+      → kinds_of (serve_words program (codes "0") (codes "1") (codes "1") []) ≡ ValueValidation ∷ []
+  pub accepts : (program : Text)
+      → kinds_of (serve_words program (codes "6346") (codes "129") (codes "1") []) ≡ ValueValidation ∷ []
+  pub workers : (program : Text)
+      → kinds_of (serve_words program (codes "6346") (codes "1") (codes "17") []) ≡ ValueValidation ∷ []
+  -- a peer of this machine is one that is called; one of another machine is a mistake
+  pub near : peer_of (codes "127.0.0.1:6347") ≡ Some (record { ip = 127 ∷ 0 ∷ 0 ∷ 1 ∷ []; port = 6347 })
+  pub far : peer_of (codes "10.0.0.1:6347") ≡ None
+  pub long : (peer : Text) → peers_in (replicate 65 peer) ≡ None

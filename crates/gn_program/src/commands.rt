@@ -7,13 +7,14 @@ ghost use Rattle.clap.specs.Kinds.{IsAmong};
 ghost use Rattle.clap.specs.Words.{kind_of};
 ghost use Rattle.clap.specs.declared.error.kind.ErrorKind.{ErrorKind as Kind};
 ghost use Rattle.clap.specs.declared.error.kind.ErrorKind.TheVariants.{OutOfMemory};
-ghost use Rattle.gn_program.specs.Commands.{Does, IsTurnedAway, IsUnread, audit_status, load_status, replay_status};
+ghost use Rattle.gn_program.specs.Commands.{Does, IsTurnedAway, IsUnread, audit_status, load_status, replay_status, serve_status};
 ghost use Rattle.gn_io.specs.Streams.{streams};
 ghost use Rattle.gn_program.specs.Words.{kinds_of, request_of};
 ghost use Rattle.gn_program.specs.declared.request.Request.{Request as Asked};
 
 use crate::fault::Fault;
 use crate::request::Request;
+use crate::serves::serve;
 use crate::text::write_text;
 use crate::words::read_words;
 use clap::Error;
@@ -23,9 +24,11 @@ use gn_load::{LoadFault, load};
 use gn_replay::{Exit, ReplayFault, audit, audit_explained, replay, replay_history};
 use gn_router::TableRouter;
 use gn_rules::Legality;
+use gn_serve::ServeFault;
 use std::alloc::Global;
 use std::convert::AsStr;
 use std::io;
+use std::net::{Net, TcpListener, TcpStream};
 use std::sync::Wait;
 use std::thread::Threads;
 
@@ -77,15 +80,23 @@ fn end_load<F: Sink>(faults: &mut F, answer: Result<(), LoadFault>) -> u8
     }
 }
 
+/// The status after a serve, whose fault is written.
+fn end_serve<F: Sink>(faults: &mut F, answer: Result<(), ServeFault>) -> u8
+    ensures { result ≡ serve_status answer }
+{
+    match answer {
+        Ok(()) => DONE,
+        Err(fault) => write_fault(faults, Fault::from(fault)),
+    }
+}
+
 /// Does what is asked for, and gives the status.
-fn obey<R: Threads + Wait + Sync, S: Source, W: Sink, F: Sink>(
-    rt: &R,
-    alloc: Global,
-    request: Request,
-    reader: &mut S,
-    writer: &mut W,
-    faults: &mut F,
-) -> u8
+fn obey<
+    R: Threads + Wait + Net<Listener = TcpListener, Stream = TcpStream> + Sync,
+    S: Source,
+    W: Sink,
+    F: Sink,
+>(rt: &R, alloc: Global, request: Request, reader: &mut S, writer: &mut W, faults: &mut F) -> u8
     ensures { Does request
         (streams (S.state reader.old) (S.state reader.new) (W.state writer.old) (W.state writer.new)) result }
 {
@@ -109,6 +120,10 @@ fn obey<R: Threads + Wait + Sync, S: Source, W: Sink, F: Sink>(
         Request::Load(workers) => {
             let answer = load::<Global, TableRouter, R, S, W>(rt, alloc, workers, reader, writer);
             end_load(faults, answer)
+        }
+        Request::Serve(serving) => {
+            let answer = serve(rt, alloc, &serving, writer, faults);
+            end_serve(faults, answer)
         }
     }
 }
@@ -135,15 +150,15 @@ fn turn_away<W: Sink, F: Sink>(error: Error, writer: &mut W, faults: &mut F) -> 
 /// is read from `reader` and written to `writer`; at help, the version and mistakes nothing is read, and help and the
 /// version are written to `writer` too. A fault is one line on `faults`, where a failed write changes nothing.
 ///
-/// A load alone starts threads and waits.
-pub fn command<R: Threads + Wait + Sync, T: AsStr, S: Source, W: Sink, F: Sink>(
-    rt: &R,
-    alloc: Global,
-    words: &[T],
-    reader: &mut S,
-    writer: &mut W,
-    faults: &mut F,
-) -> u8
+/// A load and a serve alone start threads and wait; a serve alone opens sockets, reads nothing, and says `listening PORT`
+/// on a line of `faults` once it can be called.
+pub fn command<
+    R: Threads + Wait + Net<Listener = TcpListener, Stream = TcpStream> + Sync,
+    T: AsStr,
+    S: Source,
+    W: Sink,
+    F: Sink,
+>(rt: &R, alloc: Global, words: &[T], reader: &mut S, writer: &mut W, faults: &mut F) -> u8
     ensures asked { (request : Asked) → request_of (map T.text words.now) ≡ Some request
         → IsUnread reader.old reader.new writer.old writer.new result ⊎ Does request
         (streams (S.state reader.old) (S.state reader.new) (W.state writer.old) (W.state writer.new)) result }

@@ -2,6 +2,7 @@
 
 use gn_load::LoadFault;
 use gn_replay::ReplayFault;
+use gn_serve::ServeFault;
 use gn_stage::StageFault;
 use gn_text::{CaptureFault, Cause};
 use gn_threads::RunFault;
@@ -72,6 +73,15 @@ impl From<LoadFault> for Fault {
         match fault {
             LoadFault::Text(fault) => Fault::from(fault),
             LoadFault::Run(fault) => Fault::from(fault),
+        }
+    }
+}
+
+impl From<ServeFault> for Fault {
+    fn from(fault: ServeFault) -> Fault {
+        match fault {
+            ServeFault::Run(fault) => Fault::from(fault),
+            ServeFault::Write => Fault::Output,
         }
     }
 }

@@ -12,6 +12,7 @@ Examples:
   gn audit --explain < examples/wrong_ticket.history
   gn replay --history < examples/first_ping.capture | gn audit
   gn load --workers 4 < examples/six_links.capture | gn audit
+  gn serve --port 6346 --accept 0 --workers 4
 
 docs/FORMATS.md has each line of a capture, a history and the printed texts.
 
@@ -92,3 +93,43 @@ that two runs may have different histories; each is legal.
 Example:
 
   gn load --workers 4 < examples/six_links.capture | gn audit";
+
+pub(crate) const SERVE: &str = "Routes for peers on this machine over TCP, and prints the history";
+
+pub(crate) const SERVE_USAGE: &str =
+    "gn serve --port P --accept A --workers V [--servent HEX32] [--peer IP:PORT].. [--idle SECONDS]";
+
+pub(crate) const PORT: &str = "The port of 127.0.0.1 that peers call, 1 to 65535";
+
+pub(crate) const ACCEPT: &str = "How many peers may call, 0 to 128";
+
+pub(crate) const SERVENT: &str = "The router's own servent ID, 32 hex digits";
+
+pub(crate) const PEER: &str =
+    "A peer on this machine that is called, as 127.0.0.1:6347; at most 64";
+
+pub(crate) const BAD_PEER: &str =
+    "--peer takes IP:PORT, an address of this machine, 127.0.0.1 or another that begins with 127, and \
+     a port of 1 to 65535";
+
+pub(crate) const IDLE: &str =
+    "Seconds after which a peer that is silent, or takes nothing, is given up, 0 to 86400; 0: never";
+
+pub(crate) const SERVE_TEXTS: &str = "\
+The peers are called first, in their order, and then A others may call. Each link is greeted and
+read by a thread of its own and written by another, and V workers route what the readers admitted.
+`listening PORT` on standard error says that the router can be called. Once all links have ended,
+standard output is the history of the router, which `gn audit` reads.
+
+A link ends as its peer closes it. Two routers that call each other and nobody else each wait for
+the other's end: `--idle 2` ends a link of which nothing was heard for 2 seconds. A router waits for
+its A callers without a limit.
+
+Example: two routers of which the second calls the first. Both end after 2 seconds of silence.
+
+  gn serve --port 6346 --accept 1 --workers 4 --idle 2 > first.history &
+  sleep 1
+  gn serve --port 6347 --accept 0 --workers 4 --idle 2 --peer 127.0.0.1:6346 > second.history
+  wait
+  gn audit < first.history
+  gn audit < second.history";

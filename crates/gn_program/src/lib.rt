@@ -4,12 +4,15 @@
 mod commands;
 mod fault;
 mod help;
+mod options;
 mod request;
+mod serves;
 #[cfg(test)]
 mod tests;
 mod text;
+mod unread;
 mod words;
 
 pub use commands::{command, refuse_words};
-pub use request::Request;
+pub use request::{Peer, Request, Serving};
 pub use words::plain_words_are_read;

@@ -1,7 +1,10 @@
 //! What a command line asks for.
 
+use gn_wire::Guid;
+use std::marker::Model;
+
 /// What a command line asks for.
-#[derive(Clone, Copy, Debug, PartialEq, Eq)]
+#[derive(Debug, Drop)]
 pub enum Request {
     /// A capture is replayed, and what it prints is written.
     Replay,
@@ -13,4 +16,47 @@ pub enum Request {
     Explain,
     /// The links of a capture are run by so many workers, 1 to 16, and the history of the router is written.
     Load(u32),
+    /// A router is run over TCP, and its history is written.
+    Serve(Serving),
+}
+
+/// A peer on this machine, which is called.
+#[derive(Clone, Copy, Debug, PartialEq, Eq)]
+pub struct Peer {
+    /// The first byte, which is 127, is the first that is written between dots.
+    pub ip: [u8; 4],
+    pub port: u16,
+}
+
+/// A run over TCP, as its options ask for it.
+#[derive(Debug, Drop)]
+pub struct Serving {
+    /// The port that the router listens on.
+    pub(crate) port: u16,
+    /// How many peers may call.
+    pub(crate) accept: u32,
+    pub(crate) workers: u32,
+    pub(crate) servent: Guid,
+    pub(crate) peers: Vec<Peer>,
+    /// The seconds after which a silent peer is given up; 0: it never is.
+    pub(crate) idle: u32,
+}
+
+impl Model for Serving {
+    ghost use Rattle.std.specs.Prelude.{◌+◌, ◌≤◌, length};
+    ghost use Rattle.gn_rules.specs.Limits.{IsWithin};
+    ghost use Rattle.gn_program.specs.Serving.{AskedServe};
+
+    ghost Value = { AskedServe };
+
+    ghost view = { λ s. record {
+      port = s.port;
+      accept = s.accept;
+      workers = s.workers;
+      servent = s.servent;
+      peers = s.peers.items;
+      idle = s.idle;
+    } };
+
+    ghost invariant = { λ s. (IsWithin s.workers 16) × (s.accept + length s.peers.items ≤ 256) };
 }

@@ -2,17 +2,18 @@
 
 use super::*;
 use gn_io::{ReaderSource, WriterSink};
+use gn_tcp::listen;
 use std::io::{self, ErrorKind, Read, Write};
 use std::test::Fail;
 
 /// Words, the status, and how the output and the written faults begin.
-const ANSWERS: [(&[&str], u8, &str, &str); 20] = [
+const ANSWERS: [(&[&str], u8, &str, &str); 27] = [
     (&["gn", "--version"], 0, "gn 0.1.0\n", ""),
     (&["gn", "--help"], 0, "Tineflax, a packet router", ""),
     (&["gn", "replay", "--help"], 0, "Reads a capture,", ""),
     (&["gn", "audit", "-h"], 0, "Reads a history,", ""),
     (&["gn"], 2, "", "error: 'gn' requires a subcommand"),
-    (&["gn", "serve"], 2, "", "error: unrecognized subcommand"),
+    (&["gn", "route"], 2, "", "error: unrecognized subcommand"),
     (&["gn", "replay", "x"], 2, "", "error: unexpected argument"),
     (&["gn", "replay"], 1, "", "fault: line 1: header\n"),
     (
@@ -62,7 +63,75 @@ const ANSWERS: [(&[&str], u8, &str, &str); 20] = [
         "",
         "fault: line 1: header\n",
     ),
+    (&["gn", "serve", "--help"], 0, "Routes for peers", ""),
+    (
+        &["gn", "serve"],
+        2,
+        "",
+        "error: the following required arguments",
+    ),
+    (
+        &["gn", "serve", "--port=0", "--accept=0", "--workers=1"],
+        2,
+        "",
+        "error: --port takes a number of 1 to 65535\n",
+    ),
+    (
+        &["gn", "serve", "--port=46346", "--accept=129", "--workers=1"],
+        2,
+        "",
+        "error: --accept takes a number of 0 to 128\n",
+    ),
+    (
+        &[
+            "gn",
+            "serve",
+            "--port=46346",
+            "--accept=0",
+            "--workers=1",
+            "--peer=10.0.0.1:6346",
+        ],
+        2,
+        "",
+        "error: --peer takes IP:PORT, an address of this machine",
+    ),
+    (
+        &[
+            "gn",
+            "serve",
+            "--port",
+            "46346",
+            "--accept",
+            "0",
+            "--workers",
+            "1",
+        ],
+        0,
+        SERVED,
+        "listening 46346\n",
+    ),
+    (
+        &[
+            "gn",
+            "serve",
+            "--port=46347",
+            "--accept=0",
+            "--workers=1",
+            "--peer=127.0.0.1:46348",
+        ],
+        1,
+        "",
+        "listening 46347\nfault: call 0\n",
+    ),
 ];
+
+/// The history of a router that nobody called.
+const SERVED: &str = "\
+gnutella-history 1
+config 64 4096 1024 1024 1024 1000000
+own 47474747474747474747474747474747 127.0.0.1 46346 0 0
+end
+";
 
 /// The mistake of a number of workers that isn't one of 1 to 16.
 const BAD_WORKERS: &str =
@@ -95,6 +164,31 @@ fn words(rt: HostRuntime) {
         assert!(rt; begins(&writer.into_inner(), printed), "{words:?}");
         assert!(rt; begins(&faults.into_inner(), faulted), "{words:?}");
     }
+}
+
+/// A port that is taken already.
+#[test]
+fn port_that_isnt_had(rt: HostRuntime) -> Result<(), Fail> {
+    let _listener = listen(&rt, 46349).map_err(|_| "a listener")?;
+    let words = ["gn", "serve", "--port=46349", "--accept=0", "--workers=1"];
+    let mut reader = ReaderSource::new(b"".as_slice());
+    let mut writer = WriterSink::new(Vec::new(rt.alloc()));
+    let mut faults = WriterSink::new(Vec::new(rt.alloc()));
+    let status = command(
+        &rt,
+        rt.alloc(),
+        &words,
+        &mut reader,
+        &mut writer,
+        &mut faults,
+    );
+    assert_eq!(rt; status, 1);
+    assert!(rt; writer.into_inner().is_empty());
+    assert_eq!(rt;
+        faults.into_inner().as_slice(),
+        b"fault: listen\n".as_slice()
+    );
+    Ok(())
 }
 
 /// A stream that fails at once.

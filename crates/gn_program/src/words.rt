@@ -1,39 +1,43 @@
 //! The words of a command line.
 
-ghost use Rattle.std.specs.Prelude.{◌≡◌, Some, IfOk, IfErr, codes, map, option_and_then, false};
+ghost use Rattle.std.specs.Prelude.{◌≡◌, Some, IfOk, IfErr, codes, map, false};
 ghost use Rattle.std.specs.Option.{option_map_or};
 ghost use Rattle.std.specs.Str.{bytes_eq};
 ghost use Rattle.clap.specs.Words.{app_of, found_of, kind_of, new_app, rows_of, rule_of, HasKind};
 ghost use Rattle.clap.specs.declared.builder.command.Command.TheViews.{out-Command as fields_of};
 ghost use Rattle.clap.specs.declared.error.kind.ErrorKind.TheVariants.{ValueValidation};
-ghost use Rattle.gn_text.specs.Settings.{is_within};
+ghost use Rattle.gn_program.specs.Options.{IsReadAs};
 ghost use Rattle.gn_program.specs.Words.{
   PlainWordsAreRead,
   audit_app,
   bare_app,
+  default_rule,
   flag_rule,
   gn_app,
   is_set,
   kinds_of,
   load_app,
+  repeated_rule,
   replay_app,
   request_named,
   request_of,
+  serve_app,
+  served_app,
+  texts_app,
   value_rule,
-  workers_in,
-  workers_of,
 };
 
 use crate::help;
+use crate::options::{serving_of, workers_of};
 use crate::request::Request;
+use crate::unread::Unread;
 use clap::error::ErrorKind;
 use clap::{Arg, ArgAction, ArgMatches, Command, Error};
-use gn_text::number;
 use std::alloc::{AllocError, Global};
 use std::convert::AsStr;
 
-/// The most workers of a run.
-const MOST_WORKERS: u32 = 16;
+/// The own servent of a router that serves, where none is given.
+const OWN_SERVENT: &str = "47474747474747474747474747474747";
 
 /// The version that is printed.
 const VERSION: &str = "0.1.0";
@@ -92,17 +96,48 @@ fn audit_command<'a>(alloc: Global) -> Result<Command<'a>, AllocError>
     .arg(flag(alloc, "explain", help::EXPLAIN))
 }
 
-/// The option that says how many workers there are.
-fn workers<'a>(alloc: Global) -> Arg<'a>
-    ensures rule { rule_of result ≡ value_rule (codes "workers") }
+/// An option that has to be given, with a value.
+fn value<'a>(alloc: Global, name: &'a str, shown: &'a str, text: &'a str) -> Arg<'a>
+    ensures rule { rule_of result ≡ value_rule name.now }
     ensures local { result.global ≡ false }
 {
-    Arg::new(alloc, "workers")
-        .long("workers")
-        .value_name("V")
+    Arg::new(alloc, name)
+        .long(name)
+        .value_name(shown)
         .required(true)
         .action(ArgAction::Set)
-        .help(help::WORKERS)
+        .help(text)
+}
+
+/// An option with this value where it isn't given.
+fn value_or<'a>(
+    alloc: Global,
+    name: &'a str,
+    shown: &'a str,
+    default: &'a str,
+    text: &'a str,
+) -> Arg<'a>
+    ensures rule { rule_of result ≡ default_rule name.now default.now }
+    ensures local { result.global ≡ false }
+{
+    Arg::new(alloc, name)
+        .long(name)
+        .value_name(shown)
+        .default_value(default)
+        .action(ArgAction::Set)
+        .help(text)
+}
+
+/// An option that may be given more than once, each time with a value.
+fn values<'a>(alloc: Global, name: &'a str, shown: &'a str, text: &'a str) -> Arg<'a>
+    ensures rule { rule_of result ≡ repeated_rule name.now }
+    ensures local { result.global ≡ false }
+{
+    Arg::new(alloc, name)
+        .long(name)
+        .value_name(shown)
+        .action(ArgAction::Append)
+        .help(text)
 }
 
 fn load_command<'a>(alloc: Global) -> Result<Command<'a>, AllocError>
@@ -116,7 +151,36 @@ fn load_command<'a>(alloc: Global) -> Result<Command<'a>, AllocError>
         help::LOAD_USAGE,
         help::LOAD_TEXTS,
     )
-    .arg(workers(alloc))
+    .arg(value(alloc, "workers", "V", help::WORKERS))
+}
+
+/// The subcommand `serve` with the options that have to be given.
+fn served_command<'a>(alloc: Global) -> Result<Command<'a>, AllocError>
+    ensures shape { IfOk result (λ command. app_of command ≡ served_app) }
+    ensures globals { IfOk result (λ command. (fields_of command).has_globals ≡ false) }
+{
+    leaf(
+        alloc,
+        "serve",
+        help::SERVE,
+        help::SERVE_USAGE,
+        help::SERVE_TEXTS,
+    )
+    .arg(value(alloc, "port", "P", help::PORT))?
+    .arg(value(alloc, "accept", "A", help::ACCEPT))?
+    .arg(value(alloc, "workers", "V", help::WORKERS))
+}
+
+fn serve_command<'a>(alloc: Global) -> Result<Command<'a>, AllocError>
+    ensures shape { IfOk result (λ command. app_of command ≡ serve_app) }
+    ensures globals { IfOk result (λ command. (fields_of command).has_globals ≡ false) }
+{
+    let servent = value_or(alloc, "servent", "HEX32", OWN_SERVENT, help::SERVENT);
+    let idle = value_or(alloc, "idle", "SECONDS", "0", help::IDLE);
+    served_command(alloc)?
+        .arg(servent)?
+        .arg(values(alloc, "peer", "IP:PORT", help::PEER))?
+        .arg(idle)
 }
 
 /// The command `gn` before it has its subcommands.
@@ -131,13 +195,21 @@ fn bare_command<'a>(alloc: Global) -> Command<'a>
         .subcommand_required(true)
 }
 
-fn gn_command<'a>(alloc: Global) -> Result<Command<'a>, AllocError>
-    ensures { IfOk result (λ command. app_of command ≡ gn_app) }
+/// The command `gn` with its subcommands that start no threads.
+fn texts_command<'a>(alloc: Global) -> Result<Command<'a>, AllocError>
+    ensures { IfOk result (λ command. app_of command ≡ texts_app) }
 {
     bare_command(alloc)
         .subcommand(replay_command(alloc)?)?
-        .subcommand(audit_command(alloc)?)?
-        .subcommand(load_command(alloc)?)
+        .subcommand(audit_command(alloc)?)
+}
+
+fn gn_command<'a>(alloc: Global) -> Result<Command<'a>, AllocError>
+    ensures { IfOk result (λ command. app_of command ≡ gn_app) }
+{
+    texts_command(alloc)?
+        .subcommand(load_command(alloc)?)?
+        .subcommand(serve_command(alloc)?)
 }
 
 fn is_true(value: Option<&str>) -> bool
@@ -155,54 +227,30 @@ fn is_set(options: &ArgMatches<'_>, flag: &str) -> bool
     is_true(options.get_str(flag))
 }
 
-/// Whether a number is from 1 to its limit.
-fn is_within(number: u32, most: u32) -> bool
-    ensures { result ≡ is_within number most }
-{
-    1 <= number && number <= most
-}
-
-/// The number of workers that a text says, where it is 1 to 16.
-fn workers_in(text: Option<&str>) -> Option<u32>
-    ensures { result ≡ option_and_then (λ s. workers_in s.now) text.entry }
-{
-    let workers = number(text?.as_bytes())?;
-    if is_within(workers, MOST_WORKERS) {
-        Some(workers)
-    } else {
-        None
-    }
-}
-
-/// The number of workers that `--workers` asks for, where it is 1 to 16.
-fn workers_of(options: &ArgMatches<'_>) -> Option<u32>
-    ensures { result ≡ workers_of (rows_of (found_of options.now)) }
-{
-    workers_in(options.get_str("workers"))
-}
-
-/// What a subcommand with these options asks for; nothing, where its number of workers isn't one of 1 to 16.
-fn request_named(name: &str, options: &ArgMatches<'_>) -> Option<Request>
-    ensures { result ≡ request_named name.now (rows_of (found_of options.now)) }
+/// What a subcommand with these options asks for; a mistake, where a value isn't within its limits.
+fn request_named(alloc: Global, name: &str, options: &ArgMatches<'_>) -> Result<Request, Unread>
+    ensures { IsReadAs (λ r. r) (request_named name.now (rows_of (found_of options.now))) result }
 {
     match name {
-        "replay" if is_set(options, "history") => Some(Request::History),
-        "replay" => Some(Request::Replay),
-        "audit" if is_set(options, "explain") => Some(Request::Explain),
-        "audit" => Some(Request::Audit),
-        "load" => Some(Request::Load(workers_of(options)?)),
-        _ => None,
+        "replay" if is_set(options, "history") => Ok(Request::History),
+        "replay" => Ok(Request::Replay),
+        "audit" if is_set(options, "explain") => Ok(Request::Explain),
+        "audit" => Ok(Request::Audit),
+        "load" => Ok(Request::Load(workers_of(options)?)),
+        "serve" => Ok(Request::Serve(serving_of(alloc, options)?)),
+        _ => Err(Unread::Mistake("there is no such subcommand")),
     }
 }
 
-/// The answer to a number of workers that isn't one of 1 to 16.
-fn bad_workers(alloc: Global) -> Result<Error, AllocError>
+/// The answer to a value that isn't within its limits: an error of the subcommand, which says what its option takes.
+fn mistake(alloc: Global, name: &str, text: &str) -> Result<Error, AllocError>
     ensures { IfOk result (λ error. kind_of error ≡ ValueValidation) }
 {
-    load_command(alloc)?.error(
-        ErrorKind::ValueValidation,
-        "--workers takes a number of 1 to 16",
-    )
+    let mut command = match name {
+        "serve" => serve_command(alloc)?,
+        _ => load_command(alloc)?,
+    };
+    command.error(ErrorKind::ValueValidation, text)
 }
 
 /// What the words ask for, the first of them the program's name. An `Err` says what else they are: a call for help or
@@ -215,9 +263,10 @@ pub(crate) fn read_words<'a, T: AsStr>(alloc: Global, words: &'a [T]) -> Result<
     let Some((name, options)) = matches.subcommand() else {
         unreachable!()
     };
-    match request_named(name, options) {
-        Some(request) => Ok(request),
-        None => Err(bad_workers(alloc)?),
+    match request_named(alloc, name, options) {
+        Ok(request) => Ok(request),
+        Err(Unread::Mistake(text)) => Err(mistake(alloc, name, text)?),
+        Err(Unread::NoMemory) => Err(Error::from(AllocError)),
     }
 }
 

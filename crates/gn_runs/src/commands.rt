@@ -8,6 +8,7 @@ use gn_io::{ReaderSource, WriterSink};
 use gn_program::command;
 use std::alloc::Global;
 use std::io::{self, Read};
+use std::net::{Net, TcpListener, TcpStream};
 use std::process::Abort;
 use std::sync::Wait;
 use std::test::Fail;
@@ -156,12 +157,14 @@ const LOADED: [Case; 2] = [
 ];
 
 /// Gives the text of a case to a command, and compares its answer.
-fn answers<R: Threads + Wait + Sync + Abort + AllocGlobal>(
-    rt: &R,
-    words: &[&str],
-    text: &str,
-    case: &Case,
-) -> Result<(), Fail> {
+fn answers<
+    R: Threads
+        + Wait
+        + Net<Listener = TcpListener, Stream = TcpStream>
+        + Sync
+        + Abort
+        + AllocGlobal,
+>(rt: &R, words: &[&str], text: &str, case: &Case) -> Result<(), Fail> {
     let alloc = rt.alloc();
     let (short, status, printed, fault) = *case;
     let mut reader = ReaderSource::new(text.as_bytes());
@@ -180,11 +183,14 @@ fn answers<R: Threads + Wait + Sync + Abort + AllocGlobal>(
     Ok(())
 }
 
-fn all_answer<R: Threads + Wait + Sync + Abort + AllocGlobal>(
-    rt: &R,
-    words: &[&str],
-    cases: &[Case],
-) -> Result<(), Fail> {
+fn all_answer<
+    R: Threads
+        + Wait
+        + Net<Listener = TcpListener, Stream = TcpStream>
+        + Sync
+        + Abort
+        + AllocGlobal,
+>(rt: &R, words: &[&str], cases: &[Case]) -> Result<(), Fail> {
     for case in cases {
         answers(rt, words, &encoded(rt.alloc(), case.0)?, case)?;
     }

@@ -1,1 +1,2 @@
+pub mod HistoryLemmas
 mod RoleLemmas

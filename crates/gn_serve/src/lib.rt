@@ -1,9 +1,13 @@
 //! The run over TCP: links that call, and links that are called, each started as it comes.
 #![tactic(auto)]
 
+mod fault;
+mod histories;
 mod peers;
 mod serve;
 #[cfg(test)]
 mod tests;
 
+pub use fault::ServeFault;
+pub use histories::serve_history;
 pub use serve::serve_on;

@@ -1,7 +1,9 @@
-use Rattle.std.proofs.Common.{◌∙◌, sym, map}
-use Rattle.clap.specs.Words.{HasKind}
+use Rattle.std.proofs.Common.{◌≡◌, sym, subst, map, Option, None, Err}
+use Rattle.clap.specs.Words.{HasKind, found_of, rows_of}
 use Rattle.gn_load.proofs.LoadLemmas.{on_err}
-use Rattle.gn_program.specs.Words.{kinds_of}
+use Rattle.gn_program.specs.declared.request.Request.{Request}
+use Rattle.gn_program.specs.Options.{IsReadAs}
+use Rattle.gn_program.specs.Words.{kinds_of, request_named}
 use Rattle.gn_program.proofs.WordLemmas.{fails, parses, reads, refuses}
 use Rattle.gn_program.proofs.words.read_words.Goals as goal
 
@@ -11,16 +13,17 @@ returns-in_err-matches-clause-err g c =
     on_err c.from_residual-in_err-matches.result c.in_err-matches.field-0.0 (HasKind (kinds_of words)) c.from_residual-in_err-matches.ensures.1
     (fails c.in_ok-gn_command.field-0 words c.in_err-matches.field-0.0 c.in_ok-gn_command.ensures c.in_err-matches.ensures.kinds)
 
-pub returns-in-Some-request_named-clause-ok : goal.returns-in-Some-request_named-clause-ok
-returns-in-Some-request_named-clause-ok g c =
+pub returns-in-Ok-clause-ok : goal.returns-in-Ok-clause-ok
+returns-in-Ok-clause-ok g c =
     let known = parses c.in_ok-gn_command.field-0 c.in_ok-matches.matches (map g.T.AsStr.text c.args.words.now) c.in_ok-gn_command.ensures
     c.in_ok-matches.ensures.parsed c.in_ok-matches.ensures.matches c.in_ok-matches.ensures.kinds in
-    reads _ _ _ _ _ known (sym c.in-Some.ensures.name) (sym c.in-Some.ensures.rows)
-    (sym c.request_named.ensures ∙ c.in-Some-request_named.is)
+    reads _ _ _ _ _ known (sym c.in-Some.ensures.name) (sym c.in-Some.ensures.rows) c.in-Ok.ensures
 
-pub returns-clause-err : goal.returns-clause-err
-returns-clause-err g c =
+pub returns-in-Err-Mistake-clause-err : goal.returns-in-Err-Mistake-clause-err
+returns-in-Err-Mistake-clause-err g c =
     let known = parses c.in_ok-gn_command.field-0 c.in_ok-matches.matches (map g.T.AsStr.text c.args.words.now) c.in_ok-gn_command.ensures
     c.in_ok-matches.ensures.parsed c.in_ok-matches.ensures.matches c.in_ok-matches.ensures.kinds in
-    refuses _ _ _ _ c.in_ok-bad_workers-in-None.field-0 known (sym c.in-Some.ensures.name) (sym c.in-Some.ensures.rows)
-    (sym c.request_named.ensures ∙ c.in-None.is) c.in_ok-bad_workers-in-None.ensures
+    let asked : Option Request = request_named c.in-Some.name.now (rows_of (found_of c.in-Some.options.now)) in
+    let none : asked ≡ None = subst (λ e. IsReadAs {T = Request} (λ r. r) asked (Err e)) c.in-Err-Mistake.field-0-is c.in-Err-Mistake.ensures in
+    refuses _ _ _ _ c.in_ok-mistake-in-Err-Mistake.field-0 known (sym c.in-Some.ensures.name) (sym c.in-Some.ensures.rows) none
+    c.in_ok-mistake-in-Err-Mistake.ensures

@@ -1,0 +1,58 @@
+-- What a serve answers, from what the run answered.
+use Rattle.std.proofs.Common.{◌≡◌, ◌+◌, ℕ, List, length, IfErr, OnOk, Option, Some, None, Result, Ok, Err, refl, sym, subst}
+use Rattle.std.specs.Io.KnownBytes.{Keeps}
+use Rattle.std.specs.Result.{IsErrAnd}
+use Rattle.std.specs.declared.alloc.Global.{Global}
+use Rattle.gn_io.specs.Streams.{NoWriteFailed, SinkState}
+use Rattle.gn_rules.specs.Limits.{IsWithin}
+use Rattle.gn_rules.specs.declared.config.Config.{Config}
+use Rattle.gn_serve.specs.Histories.{AppendsServed, HasServeStopped, IsServeFault}
+use Rattle.gn_serve.specs.declared.fault.ServeFault.{ServeFault}
+use Rattle.gn_serve.specs.declared.fault.ServeFault.TheVariants.{Run}
+use Rattle.gn_threads.specs.Faults.{IsFaultOf}
+use Rattle.gn_threads.specs.declared.fault.RunFault.{RunFault}
+use Rattle.gn_program.specs.Commands.{IsServeAnswer, IsServing}
+use Rattle.gn_program.specs.Serving.{AskedServe}
+
+-- a fault where the number of workers is one that a run may have
+known : (links workers : ℕ) (sink sink_new : SinkState) (answer : Result (Unit {0}) ServeFault) → IsWithin workers 16
+    → IfErr answer (λ fault. IsWithin workers 16 → IsServeFault links workers fault sink sink_new) → IfErr answer (λ fault. IsServeFault links workers fault sink sink_new)
+known links workers sink sink_new (Ok done) within fault = tt
+known links workers sink sink_new (Err e) within fault = fault within
+
+-- all that is answered, of a run over so many called links as there are peers
+pub answered : (serving : AskedServe) (settings : Config) (calls : ℕ) (sink sink_new : SinkState) (answer : Result (Unit {0}) ServeFault)
+    → IsServing serving settings → calls ≡ length serving.peers → IsWithin serving.workers 16 → OnOk answer (NoWriteFailed sink sink_new)
+    → OnOk answer (AppendsServed Global settings calls serving.accept serving.workers sink.written sink_new.written)
+    → IfErr answer (λ fault. HasServeStopped Global settings calls serving.accept serving.workers fault sink.written sink_new.written)
+    → IfErr answer (λ fault. IsWithin serving.workers 16 → IsServeFault (calls + serving.accept) serving.workers fault sink sink_new)
+    → IsServeAnswer serving sink sink_new answer
+answered serving settings calls sink sink_new answer configured many within unfailed written stopped fault =
+    record {
+      settings = settings;
+      configured = configured;
+      unfailed = unfailed;
+      written = subst (λ n. OnOk answer (AppendsServed Global settings n serving.accept serving.workers sink.written sink_new.written)) many written;
+      stopped = subst (λ n. IfErr answer (λ fault. HasServeStopped Global settings n serving.accept serving.workers fault sink.written sink_new.written)) many stopped;
+      fault = known (length serving.peers + serving.accept) serving.workers sink sink_new answer within
+          (subst (λ n. IfErr answer (λ fault. IsWithin serving.workers 16 → IsServeFault (n + serving.accept) serving.workers fault sink sink_new)) many fault);
+    }
+
+keeps : (o : Option (List ℕ)) → Keeps o o
+keeps None = tt
+keeps (Some xs) = refl
+
+-- all that is answered where there was no run
+pub unserved : (serving : AskedServe) (settings : Config) (sink : SinkState) (answer : Result (Unit {0}) ServeFault) (fault : RunFault)
+    → IsServing serving settings → IsErrAnd answer (λ e. e ≡ Run fault) → IsFaultOf (length serving.peers + serving.accept) serving.workers fault
+    → IsServeAnswer serving sink sink answer
+unserved serving settings sink (Ok done) fault configured is one = absurd is
+unserved serving settings sink (Err e) fault configured is one =
+    record {
+      settings = settings;
+      configured = configured;
+      unfailed = tt;
+      written = tt;
+      stopped = subst (λ f. HasServeStopped Global settings (length serving.peers) serving.accept serving.workers f sink.written sink.written) (sym is) (keeps sink.written);
+      fault = subst (λ f. IsServeFault (length serving.peers + serving.accept) serving.workers f sink sink) (sym is) one;
+    }

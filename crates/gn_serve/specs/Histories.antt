@@ -1,0 +1,50 @@
+-- The history of a run over TCP, as it is written.
+use Rattle.std.specs.Prelude.{◌≡◌, ◌+◌, ℕ, List, length, Option}
+use Rattle.std.specs.Io.KnownBytes.{Appends, Keeps}
+use Rattle.gn_rules.specs.declared.config.Config.{Config}
+use Rattle.gn_run.specs.declared.report.Report.{Report}
+use Rattle.gn_tcp.specs.Tcp.{TcpReading, TcpWriting}
+use Rattle.gn_threads.specs.Faults.{IsFaultOf}
+use Rattle.gn_threads.specs.Headline.{Holds}
+use Rattle.gn_capture.specs.Histories.{history_text}
+use Rattle.gn_io.specs.Parts.{AppendsPart}
+use Rattle.gn_io.specs.Streams.{SinkState, HasWriteFailed}
+use Rattle.gn_serve.specs.Links.{roles_of, tcp_reads, tcp_writes}
+use Rattle.gn_serve.specs.declared.fault.ServeFault.{ServeFault}
+use Rattle.gn_serve.specs.declared.fault.ServeFault.TheVariants.{Run, Write}
+
+-- a text is the history of a run of this configuration with so many workers, over links to so many peers that are called
+-- and so many that call: there is a report of such a run, of which all of the headline holds, and the text is that of its
+-- history
+pub record IsServedText (A : Type 0) (s : Config) (calls accept workers : ℕ) (text : List ℕ) : Type 0 where
+  pub report : Report TcpReading TcpWriting A
+  pub holds : Holds tcp_reads tcp_writes s (roles_of calls (calls + accept)) report
+  pub many : length report.workers.items ≡ workers
+  pub printed : text ≡ history_text s report.history.items
+
+-- known bytes grew by the text of such a history
+abbrev pub AppendsServed : (A : Type 0) → Config → ℕ → ℕ → ℕ → Option (List ℕ) → Option (List ℕ) → Type 0
+AppendsServed A s calls accept workers old new =
+    (text : List ℕ) × IsServedText A s calls accept workers text × Appends old new text
+
+-- known bytes grew by a prefix of the text of such a history
+abbrev pub AppendsServedPart : (A : Type 0) → Config → ℕ → ℕ → ℕ → Option (List ℕ) → Option (List ℕ) → Type 0
+AppendsServedPart A s calls accept workers old new =
+    (text : List ℕ) × IsServedText A s calls accept workers text × AppendsPart old new text
+
+-- what was written at a fault: a prefix of such a text at Write; where the run has no report, nothing
+abbrev pub HasServeStopped :
+    (A : Type 0) → Config → ℕ → ℕ → ℕ → ServeFault → Option (List ℕ) → Option (List ℕ) → Type 0
+HasServeStopped A s calls accept workers Write old new = AppendsServedPart A s calls accept workers old new
+HasServeStopped A s calls accept workers (Run fault) old new = Keeps old new
+
+-- what a fault may be where so many links and workers were asked for, 1 to 16 workers: one of such a run; or Write, where
+-- a write failed or took nothing
+abbrev pub IsServeFault : ℕ → ℕ → ServeFault → SinkState → SinkState → Type 0
+IsServeFault links workers (Run fault) old new = IsFaultOf links workers fault
+IsServeFault links workers Write old new = HasWriteFailed old new
+
+-- what it may be where nothing is written yet
+abbrev pub IsRunFault : ℕ → ℕ → ServeFault → Type 0
+IsRunFault links workers (Run fault) = IsFaultOf links workers fault
+IsRunFault links workers Write = ⊥
