@@ -8,6 +8,3 @@ mod reassembler;
 
 pub use laws::{frames_are_cut, frames_are_one, pieces_are_one_stream};
 pub use reassembler::{Fed, FeedRefusal, Reassembler};
-
-#[cfg(test)]
-mod tests;

@@ -5,8 +5,6 @@ mod connections;
 mod owners;
 mod packets;
 mod runs;
-#[cfg(test)]
-mod tests;
 mod tickets;
 
 pub use connections::{

@@ -12,8 +12,6 @@ mod push;
 mod put;
 mod query;
 mod refusal;
-#[cfg(test)]
-mod tests;
 
 pub use checked::{Checked, Verdict, verdict_on};
 pub use hit::{QueryHit, read_hit, servent_of_hit};

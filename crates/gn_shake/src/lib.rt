@@ -10,6 +10,3 @@ pub use laws::{greeting_is_told, pieces_are_one_stream};
 pub use role::Role;
 pub use shake::{Shake, ShakeState, Shaken};
 pub use texts::{consent, request};
-
-#[cfg(test)]
-mod tests;

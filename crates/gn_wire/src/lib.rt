@@ -7,8 +7,6 @@ mod header;
 mod key;
 mod kind;
 mod laws;
-#[cfg(test)]
-mod tests;
 
 pub use append::whole_or_none;
 pub use descriptor::Descriptor;

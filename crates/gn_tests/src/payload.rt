@@ -1,7 +1,7 @@
 //! Payloads byte for byte, both ways: each kind's short forms, a Query Hit of two results, and what is refused.
 
-use super::*;
 use bytes::Bytes;
+use gn_payload::*;
 use gn_wire::{Descriptor, Guid, Kind};
 use std::alloc::{AllocError, Allocator};
 use std::test::Fail;

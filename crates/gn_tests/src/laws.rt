@@ -1,7 +1,7 @@
 //! Each law is called once, and each function on a short history.
 
-use crate::*;
 use bytes::Bytes;
+use gn_laws::*;
 use gn_rules::{DropReason, Event, Reply, Step};
 use gn_wire::{Descriptor, Guid, Kind};
 use std::alloc::Global;

@@ -1,6 +1,6 @@
 //! The two texts, the greeting at each of its cuts, and what is refused.
 
-use super::*;
+use gn_shake::*;
 
 const CONNECT: &[u8] =
     b"\x47\x4e\x55\x54\x45\x4c\x4c\x41\x20\x43\x4f\x4e\x4e\x45\x43\x54\x2f\x30\x2e\x34\x0a\x0a";

@@ -1,7 +1,7 @@
 //! Encodings byte by byte, the table of kinds, and lengths that no descriptor has.
 
-use crate::{Descriptor, FrameFault, Guid, Kind, read_header};
 use bytes::Bytes;
+use gn_wire::{Descriptor, FrameFault, Guid, Kind, read_header};
 use std::test::Fail;
 
 const A1: Guid = Guid([0xa1; 16]);
@@ -32,35 +32,32 @@ fn kinds_have_their_codes(rt: HostRuntime) {
 
 #[test]
 fn a_ping_and_a_query_are_encoded(rt: HostRuntime) -> Result<(), Fail> {
-    let encoded = [
+    let encoded: [(Kind, u8, u8, &[u8], [u8; 23]); 2] = [
         (
             Kind::Ping,
-            7u8,
-            0u8,
-            Vec::new(rt.alloc()),
+            7,
+            0,
+            b"",
             header_bytes([0x00, 7, 0, 0, 0, 0, 0]),
         ),
         (
             Kind::Query,
             5,
             1,
-            [0u8, 0, 0x78, 0].to_vec(rt.alloc())?,
+            b"\0\0\x78\0",
             header_bytes([0x80, 5, 1, 4, 0, 0, 0]),
         ),
     ];
-    for (kind, ttl, hops, payload, header) in &encoded {
+    for (kind, ttl, hops, payload, header) in encoded {
         let bytes = Bytes::copy_from_slice(rt.alloc(), payload)?;
-        let Ok(descriptor) = Descriptor::new(A1, *kind, *ttl, *hops, bytes) else {
-            return Err("a valid length".into());
-        };
-        let mut whole = header.to_vec(rt.alloc())?;
+        let descriptor = Descriptor::new(A1, kind, ttl, hops, bytes).map_err(|_| "a valid length")?;
+        let mut whole = Vec::from_slice(rt.alloc(), &header)?;
         whole.extend_from_slice(payload)?;
         let mut out = Vec::new(rt.alloc());
         descriptor.write_to(&mut out)?;
         assert_eq!(rt; out.as_slice(), whole.as_slice());
-        let copy = descriptor.copy()?;
-        assert!(rt; copy.is_same(&descriptor));
-        assert_eq!(rt; read_header(header), Ok(descriptor.header()));
+        assert!(rt; descriptor.copy()?.is_same(&descriptor));
+        assert_eq!(rt; read_header(&header), Ok(descriptor.header()));
     }
     Ok(())
 }

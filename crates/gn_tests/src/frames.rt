@@ -1,6 +1,6 @@
 //! Streams of descriptors, cut as they may come.
 
-use super::*;
+use gn_frames::*;
 use gn_wire::{Descriptor, FrameFault, Kind};
 use linked_list_allocator::LocalHeap;
 use std::alloc::{AllocError, Allocator};
