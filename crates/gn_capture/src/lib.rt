@@ -4,14 +4,10 @@
 
 mod body;
 mod capture;
-#[cfg(test)]
-mod capture_tests;
 mod event;
 mod event_lines;
 mod fitting;
 mod history;
-#[cfg(test)]
-mod history_tests;
 mod history_written;
 mod laws;
 mod line;

@@ -4,8 +4,6 @@
 mod audits;
 mod explanation;
 mod fault;
-#[cfg(test)]
-mod fault_tests;
 mod histories;
 mod judge;
 mod judgement;

@@ -4,19 +4,13 @@
 mod address;
 mod event;
 mod fault;
-#[cfg(test)]
-mod field_tests;
 mod header;
-#[cfg(test)]
-mod header_tests;
 mod line;
 mod link;
 mod numbers;
 mod octets;
 mod packet;
 mod parsed;
-#[cfg(test)]
-mod print_tests;
 mod push;
 mod refusal;
 mod reply;

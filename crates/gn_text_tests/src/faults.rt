@@ -1,7 +1,7 @@
 //! Each fault from what it is made of.
 
-use super::*;
 use gn_io::{InputFault, IoFault};
+use gn_replay::ReplayFault;
 use gn_text::{CaptureFault, CaptureRefusal, Cause};
 
 #[test]

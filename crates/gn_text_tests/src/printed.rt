@@ -1,9 +1,12 @@
 //! The texts, byte for byte.
 
-use super::*;
 use bytes::Bytes;
 use gn_rules::{
     Config, Counter, DropReason, Event, Own, Refusal, Reply, Sending, Sends, Stats, Step,
+};
+use gn_text::{
+    ip, number, push_ended, push_frame_fault, push_greeting_refused, push_refusal, push_reply,
+    push_settings, push_stats, push_step, push_step_of,
 };
 use gn_wire::{Descriptor, FrameFault, Guid, Kind};
 use std::alloc::Global;

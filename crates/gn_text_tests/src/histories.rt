@@ -1,6 +1,6 @@
 //! A history written and read, and texts that are none.
 
-use super::*;
+use gn_capture::{read_history, read_is_encoded, write_history, written_is_read};
 use gn_text::{CaptureFault, CaptureRefusal, Cause};
 use std::test::Fail;
 

@@ -1,7 +1,10 @@
 //! Headers, valid and not.
 
-use super::*;
 use gn_rules::{Config, Own};
+use gn_text::{
+    CaptureFault, CaptureRefusal, Cause, fields, ip, numbered_lines, read_config, read_header,
+    read_own,
+};
 use gn_wire::Guid;
 use std::test::Fail;
 

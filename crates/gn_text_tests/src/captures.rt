@@ -1,6 +1,6 @@
 //! Captures of each word, and the first fault of each kind.
 
-use super::*;
+use gn_capture::{Capture, CaptureRefusal, Cause, Line, read_capture};
 use gn_rules::Own;
 use gn_wire::{Guid, Kind};
 use std::alloc::{AllocError, Allocator};

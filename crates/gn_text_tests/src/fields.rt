@@ -1,6 +1,9 @@
 //! Fields of each kind, valid and not.
 
-use super::*;
+use gn_text::{
+    NumberedLines, fields, guid, hex_bytes, ip, is_skipped, is_word, number, number_u8, number_u16,
+    numbered_lines, push_hex, push_ip, push_number,
+};
 use gn_wire::Guid;
 use std::alloc::Allocator;
 use std::test::Fail;

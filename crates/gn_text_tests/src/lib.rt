@@ -1,0 +1,15 @@
+//! The tests of lines of text, captures and histories, each over its crate's public calls. Tests alone.
+#![tactic(auto)]
+
+#[cfg(test)]
+mod captures;
+#[cfg(test)]
+mod faults;
+#[cfg(test)]
+mod fields;
+#[cfg(test)]
+mod headers;
+#[cfg(test)]
+mod histories;
+#[cfg(test)]
+mod printed;
