@@ -7,8 +7,6 @@ mod help;
 mod options;
 mod request;
 mod serves;
-#[cfg(test)]
-mod tests;
 mod text;
 mod unread;
 mod words;

@@ -1,5 +1,6 @@
 //! Histories of one Ping, right and spoiled, and streams that fail.
 
+use crate::broken::Broken;
 use gn_io::{ReaderSource, WriterSink};
 use gn_plain::PlainRouter;
 use gn_replay::{ReplayFault, audit};
@@ -7,7 +8,6 @@ use gn_router::TableRouter;
 use gn_rules::{Legality, RouterCore};
 use gn_text::{CaptureFault, Cause};
 use std::alloc::Global;
-use std::io::{self, ErrorKind, Read, Write};
 use std::test::Fail;
 
 const SETTINGS: &str =
@@ -87,26 +87,6 @@ fn a_history_without_its_end(rt: HostRuntime) -> Result<(), Fail> {
     assert_eq!(rt; told, Err(ReplayFault::Capture(fault)));
     assert!(rt; written.is_empty());
     Ok(())
-}
-
-/// A stream that fails at once.
-#[derive(Drop)]
-struct Broken;
-
-impl Read for Broken {
-    fn read(&mut self, _room: &mut [u8]) -> io::Result<usize> {
-        Err(io::Error::from(ErrorKind::ConnectionReset))
-    }
-}
-
-impl Write for Broken {
-    fn write(&mut self, _piece: &[u8]) -> io::Result<usize> {
-        Err(io::Error::from(ErrorKind::ConnectionReset))
-    }
-
-    fn flush(&mut self) -> io::Result<()> {
-        Ok(())
-    }
 }
 
 #[test]

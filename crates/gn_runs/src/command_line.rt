@@ -1,9 +1,10 @@
 //! Command lines that ask for no work, and streams that fail.
 
-use super::*;
+use crate::broken::Broken;
 use gn_io::{ReaderSource, WriterSink};
+use gn_program::{command, refuse_words};
 use gn_tcp::listen;
-use std::io::{self, ErrorKind, Read, Write};
+use std::io::{self, ErrorKind};
 use std::test::Fail;
 
 /// Words, the status, and how the output and the written faults begin.
@@ -189,26 +190,6 @@ fn port_that_isnt_had(rt: HostRuntime) -> Result<(), Fail> {
         b"fault: listen\n".as_slice()
     );
     Ok(())
-}
-
-/// A stream that fails at once.
-#[derive(Drop)]
-struct Broken;
-
-impl Read for Broken {
-    fn read(&mut self, _room: &mut [u8]) -> io::Result<usize> {
-        Err(io::Error::from(ErrorKind::ConnectionReset))
-    }
-}
-
-impl Write for Broken {
-    fn write(&mut self, _piece: &[u8]) -> io::Result<usize> {
-        Err(io::Error::from(ErrorKind::BrokenPipe))
-    }
-
-    fn flush(&mut self) -> io::Result<()> {
-        Ok(())
-    }
 }
 
 #[test]
