@@ -1,9 +1,8 @@
 -- A step that wakes nobody leaves everybody waiting who had to wait.
-use Rattle.std.proofs.Common.{◌≡◌, ◌+◌, ◌==◌, ℕ, Bool, true, false, ◌&&◌, ◌||◌, cond, not, List, [], ◌∷◌, ◌++◌, length, filter, map, reverse, Result, Ok, Err, refl, sym, ap, ◌∙◌, arith}
+use Rattle.std.proofs.Common.{◌≡◌, ◌+◌, ◌==◌, ℕ, Bool, true, false, ◌&&◌, ◌||◌, cond, not, List, [], ◌∷◌, ◌++◌, length, filter, map, Result, refl, sym, ap, ◌∙◌, arith}
 use Rattle.std.specs.List.{list_any}
 use Rattle.std.proofs.lemmas.Bool.Decides.{nat_tests}
-use Rattle.std.proofs.lemmas.Grind.{common_steps}
-use Rattle.std.proofs.lemmas.List.{append-nil, reverse-append}
+use Rattle.std.proofs.lemmas.List.{reverse-append}
 use Rattle.gn_rules.specs.declared.event.Event.{Event}
 use Rattle.gn_rules.specs.declared.event.Event.TheVariants.{Connect, Close, Admit, Route, Take, Originate}
 use Rattle.gn_rules.specs.declared.receipt.Receipt.{Receipt}
@@ -14,8 +13,8 @@ use Rattle.gn_rules.specs.declared.sends.Sending.{Sending}
 use Rattle.gn_rules.specs.History.{connected_of, is_at, is_close, is_take, sends_of}
 use Rattle.gn_rules.specs.Live.{live}
 use Rattle.gn_rules.specs.Output.{out, queued_to, untaken, waiting}
-use Rattle.gn_service.specs.ActorState.{ActorState, receipt, with_receipt}
-use Rattle.gn_service.specs.Calls.{HasStepped, Due, over, take, close, later, due}
+use Rattle.gn_service.specs.ActorState.{ActorState, receipt}
+use Rattle.gn_service.specs.Calls.{HasStepped, over, take, close, later}
 use Rattle.gn_service.specs.HubState.{HubState, past_of, with_step, is_closing}
 use Rattle.gn_service.specs.Waking.{LeavesWaiting, closes, may_wake}
 

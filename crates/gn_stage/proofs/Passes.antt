@@ -1,5 +1,5 @@
 -- What the desk knows, as its parts.
-use Rattle.std.proofs.Common.{◌≡◌, ℕ, ◌+◌, ◌≤◌, max, List, [], length, sym, refl, ap, ◌∙◌, arith}
+use Rattle.std.proofs.Common.{◌≡◌, ℕ, ◌+◌, length, sym, ap, ◌∙◌, arith}
 use Rattle.gn_stage.specs.Rule.{Role, Known, IsDeskOf, new_pass, new_desk, with_intake, with_outlet, one_made}
 use Rattle.gn_stage.specs.Settled.{told}
 

@@ -1,14 +1,13 @@
 -- Each kind of step keeps the rule.
-use Rattle.std.proofs.Common.{◌≡◌, ◌≢◌, ◌==◌, ◌⊎◌, ℕ, zero, suc, ◌+◌, ◌<◌, ◌≤◌, max, List, [], ◌∷◌, ◌++◌, length, map, get_or, set, sym, refl, ap, ◌∙◌, subst, inl, inr, ⊎_elim, append_assoc, append-nil, length-append, arith}
+use Rattle.std.proofs.Common.{◌≡◌, ◌≢◌, ◌⊎◌, ℕ, zero, suc, ◌+◌, ◌<◌, ◌≤◌, max, List, [], ◌∷◌, ◌++◌, length, set, sym, refl, ap, ◌∙◌, subst, inl, inr, ⊎_elim, append_assoc, append-nil, length-append, arith}
 use mathlib.Core.Option.{some, none, some-injective, some-ne-none}
 use lib.ListN.{get_elem?}
 use Rattle.atomic_table.proofs.Lists.{at_set}
 use Rattle.crossbeam_channel.specs.Fifo.{Pushes, Pops, Forks, Merges, Learns}
-use Rattle.gn_stage.specs.Ends.{End}
-use Rattle.gn_stage.specs.Rule.{Role, of_desk, of_intake, of_outlet, joined, Owned, owned, jobs_of, owned_by, Past, FitsDesk, Fits, Kept, Known, AreHome, new_desk, new_intake, new_outlet, spent, none_made, with_item, with_intake, with_outlet, with_intake_home, with_outlet_home}
+use Rattle.gn_stage.specs.Rule.{Role, of_desk, of_intake, of_outlet, joined, owned, jobs_of, Past, Fits, Kept, Known, AreHome, new_desk, new_intake, new_outlet, spent, with_item, with_intake, with_outlet, with_intake_home, with_outlet_home}
 use Rattle.gn_stage.specs.Lessons.{IsRunning, IsDraining, Drained}
 use Rattle.gn_stage.proofs.Owners.{owned_by-mine, owned_by-other, jobs_of-push}
-use Rattle.gn_stage.proofs.Sides.{Seats, seat_set, seat_here, seat_else, free_apart, seats_apart, still_held, side_more, side_made, side_home, side_begins, side_free, all_free}
+use Rattle.gn_stage.proofs.Sides.{seat_set, seat_here, seat_else, free_apart, seats_apart, still_held, side_more, side_made, side_home, side_begins, side_free, all_free}
 
 -- roles, numbered
 abbrev rank : Role → ℕ

@@ -1,4 +1,4 @@
-use Rattle.std.proofs.Common.{◌≡◌, ◌+◌, ◌<◌, ℕ, sym, subst, arith, lt_of_not-le}
+use Rattle.std.proofs.Common.{◌≡◌, ◌+◌, ◌<◌, ℕ, subst, arith, lt_of_not-le}
 use native.Mathlib.Decide.{dec_le}
 use Rattle.gn_stage.proofs.settle.are_all_home.Goals as goal
 
