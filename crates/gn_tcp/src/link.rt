@@ -1,6 +1,6 @@
 //! A link over TCP: accepted or called, and split into its halves.
 
-ghost use Rattle.std.specs.Prelude.{◌≡◌, [], IfOk, OnOk};
+ghost use Rattle.std.specs.Prelude.{◌≡◌, IfOk, OnOk};
 ghost use Rattle.gn_shake.specs.declared.role.Role.TheVariants.{Accepting, Calling};
 ghost use Rattle.gn_tcp.specs.Tcp.{IsLoopback};
 
@@ -92,7 +92,9 @@ impl Link for TcpLink {
 
     ghost role_of = { λ l. l };
 
-    ghost all_bytes = { λ _. [] };
+    ghost reader_of = { λ _. tt };
+
+    ghost writer_of = { λ _. tt };
 
     fn role(&self) -> Role {
         self.role

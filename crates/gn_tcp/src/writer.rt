@@ -58,6 +58,10 @@ fn write_some<R: Wait>(rt: &R, stream: &mut TcpStream, piece: &[u8]) -> Result<u
 impl LinkWriter for TcpWriter {
     ghost is_known = { false };
 
+    ghost Origin = { Unit {0} };
+
+    ghost made_of = { λ _. tt };
+
     ghost bytes_written = { λ _. [] };
 
     ghost failures = { λ w. w.failures };

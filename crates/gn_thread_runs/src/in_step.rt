@@ -65,7 +65,11 @@ pub(crate) struct PacedReader<'a, Rd: LinkReader> {
 impl<'a, Rd: LinkReader> LinkReader for PacedReader<'a, Rd> {
     ghost is_known = { Rd.is_known };
 
-    ghost all_bytes = { λ r. Rd.all_bytes r.reader };
+    ghost Origin = { Rd.Origin };
+
+    ghost made_of = { λ r. Rd.made_of r.reader };
+
+    ghost gives = { Rd.gives };
 
     ghost bytes_read = { λ r. Rd.bytes_read r.reader };
 
@@ -113,7 +117,9 @@ impl<'a, K: Link> Link for PacedLink<'a, K> {
 
     ghost role_of = { λ l. K.role_of l.link };
 
-    ghost all_bytes = { λ l. K.all_bytes l.link };
+    ghost reader_of = { λ l. K.reader_of l.link };
+
+    ghost writer_of = { λ l. K.writer_of l.link };
 
     fn role(&self) -> Role {
         self.link.role()
