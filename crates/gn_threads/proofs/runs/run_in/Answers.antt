@@ -1,4 +1,4 @@
-use Rattle.std.proofs.Common.{◌∙◌, length, map, vec_len, ap, sym, subst, arith}
+use Rattle.std.proofs.Common.{◌≡◌, ◌∙◌, length, map, vec_len, ap, sym, subst, arith}
 use Rattle.std.specs.Prelude.{IfErr}
 use Rattle.std.proofs.lemmas.List.{length-map}
 use Rattle.std.proofs.lemmas.Result.{IfOk-weaker}
@@ -31,7 +31,7 @@ returns-clause-bytes g c =
     let reading = map (λ s. half_of s.role s.reader) c.in_ok-starts.starts.readers.items in
     let bodies = map reader_ended c.in_ok-done.done.readers.items in
     let joined = c.in_ok-done.ensures.joined in
-    let many = omega (arith, length-map c.in_ok-done.done.readers.items reader_ended, c.in_ok-done.done.readers.ok, joined.read) in
+    let many : length bodies ≡ length reading = omega (arith, length-map c.in_ok-done.done.readers.items reader_ended, c.in_ok-done.done.readers.ok, joined.read) in
     let own = told_after (λ h. half_of h.role h.reader) (λ l. g.Rd.LinkReader.gives (g.Rd.LinkReader.made_of l.half)) reading c.args.halves.readers.items c.in_ok-starts.ensures.readers in
     IfOk-weaker _ _ _ (λ report read. links_read_own (reads_of g.Rd.LinkReader.is_known g.Rd.LinkReader.bytes_read g.Rd.LinkReader.failures g.Rd.LinkReader.pieces g.Rd.LinkReader.has_ended) g.Rd.LinkReader.made_of g.Rd.LinkReader.gives reading _ bodies report own many read joined.readers) c.finish.ensures.read
 
@@ -42,8 +42,8 @@ returns-clause-made g c =
     let read = map reader_ended c.in_ok-done.done.readers.items in
     let written = map writer_ended c.in_ok-done.done.writers.items in
     let joined = c.in_ok-done.ensures.joined in
-    let many = omega (arith, length-map c.in_ok-done.done.readers.items reader_ended, c.in_ok-done.done.readers.ok, joined.read) in
-    let more = omega (arith, length-map c.in_ok-done.done.writers.items writer_ended, c.in_ok-done.done.writers.ok, joined.written) in
+    let many : length read ≡ length reading = omega (arith, length-map c.in_ok-done.done.readers.items reader_ended, c.in_ok-done.done.readers.ok, joined.read) in
+    let more : length written ≡ length writing = omega (arith, length-map c.in_ok-done.done.writers.items writer_ended, c.in_ok-done.done.writers.ok, joined.written) in
     let own = told_after (λ h. half_of h.role h.reader) (λ l. g.Rd.LinkReader.made_of l.half) reading c.args.halves.readers.items c.in_ok-starts.ensures.readers in
     let theirs = told_after (λ h. half_of h.role h.writer) (λ l. g.W.LinkWriter.made_of l.half) writing c.args.halves.writers.items c.in_ok-starts.ensures.writers in
     both_ok _ _ _ c.finish.result
