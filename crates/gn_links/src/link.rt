@@ -2,7 +2,18 @@
 
 ghost use Rattle.std.specs.Prelude.{◌≡◌, ◌++◌, ◌||◌, ◌≤◌, [], ℕ, Bool, List, false, length, true, IfOk, OnErr, is_err};
 ghost use Rattle.gn_shake.specs.declared.role.Role.{Role};
-ghost use Rattle.gn_links.specs.Halves.{counted, gave_bytes, is_end, is_stall, read_by, written_by, IsNewReader, IsNewWriter, IsReadOf, Source};
+ghost use Rattle.gn_links.specs.Halves.{
+  counted,
+  gave_bytes,
+  is_end,
+  is_stall,
+  read_by,
+  written_by,
+  IsNewReader,
+  IsNewWriter,
+  IsReadOf,
+  Source,
+};
 
 use gn_shake::Role;
 use std::sync::Wait;
