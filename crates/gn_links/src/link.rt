@@ -24,17 +24,17 @@ pub struct LinkFault;
 
 /// The half of a link that gives the bytes of its other side. Its counts go up to the last u64 and stay there.
 pub trait LinkReader: Drop {
+    /// What it tells of the link that it was split from.
+    type Origin;
+
     /// Whether its bytes are known.
     ghost is_known: { Bool };
 
-    /// What is known of the link that it was split from.
-    ghost Origin: { Type 0 };
-
     /// The link that it was split from.
-    ghost made_of: { Self → Origin };
+    ghost made_of: { Self → Self.Origin };
 
     /// What the reader of such a link is to give.
-    ghost gives: { Origin → Source };
+    ghost gives: { Self.Origin → Source };
 
     /// The bytes that its reads gave so far, where they are known.
     ghost bytes_read: { Self → List ℕ };
@@ -75,14 +75,14 @@ pub trait LinkReader: Drop {
 
 /// The half of a link that takes the bytes for its other side. Its count goes up to the last u64 and stays there.
 pub trait LinkWriter: Drop {
+    /// What it tells of the link that it was split from.
+    type Origin;
+
     /// Whether its bytes are known.
     ghost is_known: { Bool };
 
-    /// What is known of the link that it was split from.
-    ghost Origin: { Type 0 };
-
     /// The link that it was split from.
-    ghost made_of: { Self → Origin };
+    ghost made_of: { Self → Self.Origin };
 
     /// The bytes that it took so far, where they are known.
     ghost bytes_written: { Self → List ℕ };
@@ -115,18 +115,18 @@ pub trait LinkWriter: Drop {
 
 /// What a run reads from and writes to.
 pub trait Link: Drop {
-    type Reader: LinkReader;
+    /// What its halves tell of it.
+    type Origin;
 
-    type Writer: LinkWriter;
+    type Reader: LinkReader<Origin = Self::Origin>;
+
+    type Writer: LinkWriter<Origin = Self::Origin>;
 
     /// How it begins.
     ghost role_of: { Self → Role };
 
-    /// What its reader tells of it.
-    ghost reader_of: { Self → Self.Reader.Origin };
-
-    /// What its writer tells of it.
-    ghost writer_of: { Self → Self.Writer.Origin };
+    /// The link itself, as its halves tell of it.
+    ghost origin_of: { Self → Self.Origin };
 
     /// How it begins.
     fn role(&self) -> Role
@@ -138,8 +138,8 @@ pub trait Link: Drop {
         Self: Sized,
         ensures reader { IfOk result (λ h. IsNewReader (Self.Reader.bytes_read h.0) (Self.Reader.failures h.0)
             (Self.Reader.pieces h.0) (Self.Reader.has_ended h.0)) }
-        ensures made { IfOk result (λ h. (Self.Reader.made_of h.0 ≡ reader_of self)
-            × (Self.Writer.made_of h.1 ≡ writer_of self)) }
+        ensures made { IfOk result (λ h. (Self.Reader.made_of h.0 ≡ origin_of self)
+            × (Self.Writer.made_of h.1 ≡ origin_of self)) }
         ensures open { IfOk result (λ h. Self.Reader.is_finished h.0 ≡ false) }
         ensures writer { IfOk result (λ h. IsNewWriter (Self.Writer.bytes_written h.1) (Self.Writer.failures h.1)
             (Self.Writer.is_stuck h.1) (Self.Writer.is_finished h.1)) };

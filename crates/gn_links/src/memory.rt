@@ -76,15 +76,15 @@ impl<A: Allocator + Copy> MemoryLink<A> {
 }
 
 impl<A: Allocator + Copy> Link for MemoryLink<A> {
+    type Origin = MemoryLink<A>;
+
     type Reader = MemoryReader<A>;
 
     type Writer = MemoryWriter<A>;
 
     ghost role_of = { λ l. l.role };
 
-    ghost reader_of = { λ l. l };
-
-    ghost writer_of = { λ l. l };
+    ghost origin_of = { λ l. l };
 
     fn role(&self) -> Role {
         self.role

@@ -2,7 +2,7 @@
 
 ghost use Rattle.std.specs.Prelude.{◌≡◌, ◌++◌, ◌||◌, ◌<◌, ◌≤◌, length, take, true, IfOk, OnErr, is_err, is_some};
 ghost use Rattle.gn_links.specs.Halves.{counted, gave_bytes, is_end, read_by, IsReadOf};
-ghost use Rattle.gn_links.specs.Memory.{is_failing, new_reading, next_call, source_of, IsReaderOf, Memory};
+ghost use Rattle.gn_links.specs.Memory.{is_failing, new_reading, next_call, source_of, IsReaderOf};
 
 use crate::link::{LinkFault, LinkReader};
 use crate::memory::MemoryLink;
@@ -87,9 +87,9 @@ impl<A: Allocator + Copy> MemoryReader<A> {
 }
 
 impl<A: Allocator + Copy> LinkReader for MemoryReader<A> {
-    ghost is_known = { true };
+    type Origin = MemoryLink<A>;
 
-    ghost Origin = { Memory };
+    ghost is_known = { true };
 
     ghost made_of = { λ r. r.link };
 

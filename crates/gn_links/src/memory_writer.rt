@@ -2,7 +2,7 @@
 
 ghost use Rattle.std.specs.Prelude.{◌≡◌, ◌+◌, ◌++◌, ◌⊎◌, ◌<◌, ◌≤◌, false, length, true, IfOk, OnErr, OnOk, is_err};
 ghost use Rattle.gn_links.specs.Halves.{counted, is_stall, written_by};
-ghost use Rattle.gn_links.specs.Memory.{is_failing, new_writing, next_call, Memory};
+ghost use Rattle.gn_links.specs.Memory.{is_failing, new_writing, next_call};
 
 use crate::link::{LinkFault, LinkWriter};
 use crate::memory::MemoryLink;
@@ -72,9 +72,9 @@ impl<A: Allocator + Copy> MemoryWriter<A> {
 }
 
 impl<A: Allocator + Copy> LinkWriter for MemoryWriter<A> {
-    ghost is_known = { true };
+    type Origin = MemoryLink<A>;
 
-    ghost Origin = { Memory };
+    ghost is_known = { true };
 
     ghost made_of = { λ w. w.link };
 

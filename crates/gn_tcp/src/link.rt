@@ -86,15 +86,15 @@ impl TcpLink {
 }
 
 impl Link for TcpLink {
+    type Origin = ();
+
     type Reader = TcpReader;
 
     type Writer = TcpWriter;
 
     ghost role_of = { λ l. l };
 
-    ghost reader_of = { λ _. tt };
-
-    ghost writer_of = { λ _. tt };
+    ghost origin_of = { λ _. tt };
 
     fn role(&self) -> Role {
         self.role

@@ -60,9 +60,9 @@ fn read_some<R: Wait>(rt: &R, stream: &mut TcpStream, buffer: &mut [u8]) -> Resu
 }
 
 impl LinkReader for TcpReader {
-    ghost is_known = { false };
+    type Origin = ();
 
-    ghost Origin = { Unit {0} };
+    ghost is_known = { false };
 
     ghost made_of = { λ _. tt };
 

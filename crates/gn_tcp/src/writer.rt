@@ -56,9 +56,9 @@ fn write_some<R: Wait>(rt: &R, stream: &mut TcpStream, piece: &[u8]) -> Result<u
 }
 
 impl LinkWriter for TcpWriter {
-    ghost is_known = { false };
+    type Origin = ();
 
-    ghost Origin = { Unit {0} };
+    ghost is_known = { false };
 
     ghost made_of = { λ _. tt };
 

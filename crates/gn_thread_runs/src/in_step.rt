@@ -63,9 +63,9 @@ pub(crate) struct PacedReader<'a, Rd: LinkReader> {
 }
 
 impl<'a, Rd: LinkReader> LinkReader for PacedReader<'a, Rd> {
-    ghost is_known = { Rd.is_known };
+    type Origin = Rd::Origin;
 
-    ghost Origin = { Rd.Origin };
+    ghost is_known = { Rd.is_known };
 
     ghost made_of = { λ r. Rd.made_of r.reader };
 
@@ -111,15 +111,15 @@ impl<'a, K: Link> PacedLink<'a, K> {
 }
 
 impl<'a, K: Link> Link for PacedLink<'a, K> {
+    type Origin = K::Origin;
+
     type Reader = PacedReader<'a, K::Reader>;
 
     type Writer = K::Writer;
 
     ghost role_of = { λ l. K.role_of l.link };
 
-    ghost reader_of = { λ l. K.reader_of l.link };
-
-    ghost writer_of = { λ l. K.writer_of l.link };
+    ghost origin_of = { λ l. K.origin_of l.link };
 
     fn role(&self) -> Role {
         self.link.role()

@@ -73,9 +73,9 @@ where
         (map K.role_of links.items) report) }
     ensures bytes { IfOk result (λ report. LinksReadOwn
         (reads_of K.Reader.is_known K.Reader.bytes_read K.Reader.failures K.Reader.pieces K.Reader.has_ended)
-        (map (λ link. K.Reader.gives (K.reader_of link)) links.items) report) }
+        (map (λ link. K.Reader.gives (K.origin_of link)) links.items) report) }
     ensures made { IfOk result (λ report. AreMadeOf K.Reader.made_of K.Writer.made_of
-        (map K.reader_of links.items) (map K.writer_of links.items) report) }
+        (map K.origin_of links.items) (map K.origin_of links.items) report) }
     ensures others { IfOk result (λ report. OthersRoute report) }
     ensures routed { IfOk result (λ report. RoutesEachOnce report) }
     ensures stats { IfOk result (λ report. HasOwnStats report) }

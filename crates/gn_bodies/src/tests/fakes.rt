@@ -12,11 +12,11 @@ pub(super) struct EndlessReader {
 }
 
 impl LinkReader for EndlessReader {
+    type Origin = ();
+
     ghost use Rattle.std.specs.Prelude.{[], false, true};
 
     ghost is_known = { false };
-
-    ghost Origin = { Unit {0} };
 
     ghost made_of = { λ _. tt };
 
