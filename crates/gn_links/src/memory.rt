@@ -96,6 +96,7 @@ impl<A: Allocator + Copy> Link for MemoryLink<A> {
         ensures halves { IfOk result (λ h. (h.0 ≡ new_reading self) × (h.1 ≡ new_writing self)) }
         ensures reader { IfOk result (λ h. IsNewReader (take h.0.given h.0.link.bytes) h.0.failures h.0.pieces
             h.0.has_ended) }
+        ensures made { IfOk result (λ h. (h.0.link ≡ self) × (h.1.link ≡ self)) }
         ensures writer { IfOk result (λ h. IsNewWriter h.1.bytes h.1.failures false h.1.is_finished) }
     {
         let (reading, writing) = (Snapshot::of(&self), Snapshot::of(&self));
