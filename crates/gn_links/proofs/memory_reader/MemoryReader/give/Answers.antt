@@ -1,6 +1,5 @@
-use Rattle.std.proofs.Common.{arith, rules, ap, length, subst, take}
+use Rattle.std.proofs.Common.{arith, rules}
 use Rattle.std.proofs.lemmas.Grind.{common_steps}
-use Rattle.gn_links.specs.Halves.{IsReadOf}
 use Rattle.gn_links.proofs.MemoryLemmas.{given_more, given_of_all}
 use Rattle.gn_links.proofs.memory_reader.MemoryReader.give.Goals as goal
 
