@@ -117,6 +117,15 @@ bytes_source GreetingCut failures gave ended is = absurd (cc)
 bytes_source TooMany failures gave ended is = tt
 bytes_source NotLive failures gave ended is = tt
 
+-- nor that a read failed
+pub bytes_not_failed : {X : Type 0} (end : ReaderEnd) → is_of_bytes end ≡ true → end ≡ ReadFailed → X
+bytes_not_failed end is failed = let no : is_of_bytes ReadFailed ≡ true = subst (λ e. is_of_bytes e ≡ true) failed is in absurd (cc)
+
+-- where the bytes end no read failed
+pub end_not_failed : {A X : Type 0} (r : Reading A) (end : ReaderEnd) → end ≡ end_of_bytes r → end ≡ ReadFailed → X
+end_not_failed (reading.Greeting shake) end is failed = let no : GreetingCut ≡ ReadFailed = sym is ∙ failed in absurd (cc)
+end_not_failed (reading.Joined c frames) end is failed = let no : Bytes ≡ ReadFailed = sym is ∙ failed in absurd (cc)
+
 -- a reader that closed, or closed nothing
 pub closed_row : {A : Type 0} (role : Role) (end : ReaderEnd) (c : ℕ) (es before : List (Event A)) (b : List ℕ) → closes end ≡ true → OpenRow role end c before b → WithClose c es before
     → ConnectedRow role end c es b

@@ -2,6 +2,7 @@
 
 ghost use Rattle.std.specs.Prelude.{◌≡◌, ◌++◌, [], List, None, ℕ, false, true, IfOk, OnOk};
 ghost use Rattle.gn_links.specs.Halves.{IsNewReader, IsReadOf};
+ghost use Rattle.gn_bodies.specs.declared.ends.ReaderEnd.TheVariants.{ReadFailed};
 ghost use Rattle.gn_bodies.specs.Admitting.{HasSameNumbers, StaysSettled};
 ghost use Rattle.gn_bodies.specs.Events.{connection_of, events_of, link_events};
 ghost use Rattle.gn_bodies.specs.Jobs.{jobs_left};
@@ -86,9 +87,10 @@ fn read_all<
     ensures alone { IfOk result (λ r. r.0 ≡ None → events_of me.new.actor ≡ link_events me.new.actor) }
     ensures row { IfOk result (λ r. Rd.is_known ≡ true
         → ReadRow role r.1 r.0 (link_events me.new.actor) (Rd.bytes_read reader.new)) }
-    ensures all { Rd.all_bytes reader.new ≡ Rd.all_bytes reader.old }
-    ensures prefix { Rd.is_known ≡ true
-        → IsReadOf (Rd.all_bytes reader.new) (Rd.bytes_read reader.new) (Rd.has_ended reader.new) }
+    ensures made { Rd.made_of reader.new ≡ Rd.made_of reader.old }
+    ensures prefix { Rd.is_known ≡ true → IsReadOf (Rd.gives (Rd.made_of reader.new)).bytes
+        (Rd.bytes_read reader.new) (Rd.has_ended reader.new) }
+    ensures failed { IfOk result (λ r. r.1 ≡ ReadFailed → (Rd.gives (Rd.made_of reader.new)).may_fail ≡ true) }
     ensures source { IfOk result (λ r. SourceRow r.1 (Rd.failures reader.new) (Rd.pieces reader.new)
         (Rd.has_ended reader.new)) }
     ensures settled { StaysSettled me.old me.new }
@@ -150,9 +152,10 @@ fn read_link<
         → events_of me.new.actor ≡ link_events me.new.actor) }
     ensures row { IfOk result (λ end. Rd.is_known ≡ true
         → ReaderRow role end (connection_of me.new.actor) (link_events me.new.actor) (Rd.bytes_read reader.new)) }
-    ensures all { Rd.all_bytes reader.new ≡ Rd.all_bytes reader.old }
-    ensures prefix { Rd.is_known ≡ true
-        → IsReadOf (Rd.all_bytes reader.new) (Rd.bytes_read reader.new) (Rd.has_ended reader.new) }
+    ensures made { Rd.made_of reader.new ≡ Rd.made_of reader.old }
+    ensures prefix { Rd.is_known ≡ true → IsReadOf (Rd.gives (Rd.made_of reader.new)).bytes
+        (Rd.bytes_read reader.new) (Rd.has_ended reader.new) }
+    ensures failed { IfOk result (λ end. end ≡ ReadFailed → (Rd.gives (Rd.made_of reader.new)).may_fail ≡ true) }
     ensures source { IfOk result (λ end. SourceRow end (Rd.failures reader.new) (Rd.pieces reader.new)
         (Rd.has_ended reader.new)) }
     ensures put { IfOk result (λ _. me.old.is_refused ≡ false
@@ -205,9 +208,11 @@ pub fn reader_body<
         → events_of result.actor ≡ link_events result.actor) }
     ensures row { IfOk result.end (λ end. Rd.is_known ≡ true
         → ReaderRow role end (connection_of result.actor) (link_events result.actor) (Rd.bytes_read result.reader)) }
-    ensures all { Rd.all_bytes result.reader ≡ Rd.all_bytes reader }
-    ensures prefix { Rd.is_known ≡ true
-        → IsReadOf (Rd.all_bytes result.reader) (Rd.bytes_read result.reader) (Rd.has_ended result.reader) }
+    ensures made { Rd.made_of result.reader ≡ Rd.made_of reader }
+    ensures prefix { Rd.is_known ≡ true → IsReadOf (Rd.gives (Rd.made_of result.reader)).bytes
+        (Rd.bytes_read result.reader) (Rd.has_ended result.reader) }
+    ensures failed { IfOk result.end (λ end. end ≡ ReadFailed
+        → (Rd.gives (Rd.made_of result.reader)).may_fail ≡ true) }
     ensures source { IfOk result.end (λ end. SourceRow end (Rd.failures result.reader) (Rd.pieces result.reader)
         (Rd.has_ended result.reader)) }
     ensures put { OnOk result.end (result.home.jobs ≡ intake.jobs ++ jobs_left result.actor.receipts) }

@@ -47,6 +47,7 @@ enum Out {
 
 /// Writes all of a text. False where a write failed, or took nothing.
 fn write_all<W: LinkWriter, R: Wait>(rt: &R, writer: &mut W, text: &[u8]) -> bool
+    ensures made { W.made_of writer.new ≡ W.made_of writer.old }
     ensures yes { result ≡ true → W.is_known ≡ true
         → W.bytes_written writer.new ≡ W.bytes_written writer.old ++ text.now }
     ensures no { result ≡ false → W.is_known ≡ true → (n : ℕ)
@@ -122,6 +123,7 @@ fn write_packets<W: LinkWriter, C: RouterCore<A> + Drop, L: Ledger, A: Allocator
     requires none { me.old.receipts ≡ [] }
     requires opened { W.is_known ≡ true → W.bytes_written writer.old ≡ concat (opening_texts role) }
     ensures number { me.new.number ≡ me.old.number }
+    ensures made { W.made_of writer.new ≡ W.made_of writer.old }
     ensures row { IfOk result (λ end. W.is_known ≡ true
         → PacketRow end role (packets_of me.new) (W.bytes_written writer.new)) }
     ensures steps { IfOk result (λ end. PacketSteps end c me.new) }
@@ -158,6 +160,7 @@ fn write_link<W: LinkWriter, C: RouterCore<A> + Drop, L: Ledger, A: Allocator + 
     requires none { me.old.receipts ≡ [] }
     requires new { W.bytes_written writer.old ≡ [] }
     ensures number { me.new.number ≡ me.old.number }
+    ensures made { W.made_of writer.new ≡ W.made_of writer.old }
     ensures row { IfOk result (λ end. W.is_known ≡ true
         → WriterRow end role (packets_of me.new) (W.bytes_written writer.new)) }
     ensures steps { IfOk result (λ end. (c : ℕ) × WriterSteps end c me.new) }
@@ -202,6 +205,7 @@ pub fn writer_body<W: LinkWriter, C: RouterCore<A> + Drop, L: Ledger, A: Allocat
     requires new { IsNewWriter (W.bytes_written writer) (W.failures writer) (W.is_stuck writer) (W.is_finished writer) }
     ensures number { result.actor.number ≡ actor.number }
     ensures role { result.role ≡ role }
+    ensures made { W.made_of result.writer ≡ W.made_of writer }
     ensures row { IfOk result.end (λ end. W.is_known ≡ true
         → WriterRow end role (packets_of result.actor) (W.bytes_written result.writer)) }
     ensures steps { IfOk result.end (λ end. (c : ℕ) × WriterSteps end c result.actor) }

@@ -1,4 +1,4 @@
--- What the two halves of a link count, and when they are new.
+-- What the two halves of a link give and count, and when they are new.
 use Rattle.std.specs.Prelude.{◌≡◌, ◌+◌, ◌-◌, ◌^◌, ◌<◌, ◌==◌, ◌&&◌, not, ℕ, All, Bool, true, false, if◌then◌else◌, min, List, [], ◌++◌, take, Result, Ok, Err}
 
 -- a count after what may have happened; at the last u64 it stays
@@ -33,6 +33,11 @@ is_stall (Err fault) length = false
 -- a reader that read nothing yet: its bytes, its failures, its reads that gave bytes, whether it ended
 abbrev pub IsNewReader : List ℕ → ℕ → ℕ → Bool → Type 0
 IsNewReader bytes failures pieces has_ended = (bytes ≡ []) × (failures ≡ 0) × (pieces ≡ 0) × (has_ended ≡ false)
+
+-- what a reader is to give: all its bytes, where they are known, and whether a read may fail
+pub record Source : Type 0 where
+  pub bytes : List ℕ
+  pub may_fail : Bool
 
 -- what a reader read of all its bytes: numbers below 256, a prefix of all, and all of them where it ended
 pub record IsReadOf (all read : List ℕ) (has_ended : Bool) : Type 0 where

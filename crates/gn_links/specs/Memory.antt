@@ -1,6 +1,7 @@
 -- A link over memory and its halves.
-use Rattle.std.specs.Prelude.{◌≡◌, ◌+◌, ◌-◌, ◌^◌, ◌<◌, ◌≤◌, ℕ, All, Bool, true, false, nat_le, min, List, [], length, Option, Some, None}
+use Rattle.std.specs.Prelude.{◌≡◌, ◌+◌, ◌-◌, ◌^◌, ◌<◌, ◌≤◌, ℕ, All, Bool, true, false, is_some, nat_le, min, List, [], length, Option, Some, None}
 use Rattle.gn_shake.specs.declared.role.Role.{Role}
+use Rattle.gn_links.specs.Halves.{Source}
 
 -- a link over memory: its role, the bytes that it gives, the most of them at a time, and from which read and which write
 -- on it fails
@@ -11,13 +12,15 @@ pub record Memory : Type 0 where
   pub read : Option ℕ
   pub write : Option ℕ
 
--- its reading half: the bytes that it gives, how many of them it gave, the most at a time, from which read on it fails, how
--- many were made, how many failed, how many gave bytes, whether it ended, and whether it is finished
+-- what its reader gives: all its bytes; a read fails only where the link says from which one on
+abbrev pub source_of : Memory → Source
+source_of link = record { bytes = link.bytes; may_fail = is_some link.read }
+
+-- its reading half: the link that it was split from, how many of the bytes it gave, how many reads were made, how many
+-- failed, how many gave bytes, whether it ended, and whether it is finished
 pub record MemoryReading : Type 0 where
-  pub bytes : List ℕ
+  pub link : Memory
   pub given : ℕ
-  pub piece : ℕ
-  pub fails_from : Option ℕ
   pub calls : ℕ
   pub failures : ℕ
   pub pieces : ℕ
@@ -30,12 +33,19 @@ pub record IsGiving (bytes : List ℕ) (given : ℕ) (has_ended : Bool) : Type 0
   pub within : given ≤ length bytes
   pub ended : has_ended ≡ true → given ≡ length bytes
 
--- its writing half: the bytes that it took, how many it has room for, from which write on it fails, how many were made, how
--- many failed, and whether it is finished
+-- a reader of this link has these bytes, gives so many of them at a time, at least one, and fails from this read on
+pub record IsReaderOf (link : Memory) (bytes : List ℕ) (piece : ℕ) (fails_from : Option ℕ) : Type 0 where
+  pub all : bytes ≡ link.bytes
+  pub most : piece ≡ link.piece
+  pub some : 0 < piece
+  pub fails : fails_from ≡ link.read
+
+-- its writing half: the link that it was split from, the bytes that it took, how many it has room for, how many writes were
+-- made, how many failed, and whether it is finished
 pub record MemoryWriting : Type 0 where
+  pub link : Memory
   pub bytes : List ℕ
   pub room : ℕ
-  pub fails_from : Option ℕ
   pub calls : ℕ
   pub failures : ℕ
   pub is_finished : Bool
@@ -53,10 +63,8 @@ is_failing (Some from) call = nat_le from call
 abbrev pub new_reading : Memory → MemoryReading
 new_reading link =
     record {
-      bytes = link.bytes;
+      link = link;
       given = 0;
-      piece = link.piece;
-      fails_from = link.read;
       calls = 0;
       failures = 0;
       pieces = 0;
@@ -67,4 +75,4 @@ new_reading link =
 -- the writing half of a link that was split, which has room for nothing yet
 abbrev pub new_writing : Memory → MemoryWriting
 new_writing link =
-    record { bytes = []; room = 0; fails_from = link.write; calls = 0; failures = 0; is_finished = false }
+    record { link = link; bytes = []; room = 0; calls = 0; failures = 0; is_finished = false }

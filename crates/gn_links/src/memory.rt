@@ -10,6 +10,7 @@ use crate::memory_writer::MemoryWriter;
 use gn_shake::Role;
 use std::alloc::{Allocator, Global};
 use std::marker::Model;
+use std::snapshot::Snapshot;
 
 /// A link whose reader gives bytes that were laid down beforehand, and whose writer collects what it is given.
 #[derive(Drop)]
@@ -75,13 +76,15 @@ impl<A: Allocator + Copy> MemoryLink<A> {
 }
 
 impl<A: Allocator + Copy> Link for MemoryLink<A> {
+    type Origin = MemoryLink<A>;
+
     type Reader = MemoryReader<A>;
 
     type Writer = MemoryWriter<A>;
 
     ghost role_of = { λ l. l.role };
 
-    ghost all_bytes = { λ l. l.bytes };
+    ghost origin_of = { λ l. l };
 
     fn role(&self) -> Role {
         self.role
@@ -91,11 +94,12 @@ impl<A: Allocator + Copy> Link for MemoryLink<A> {
     fn split(self) -> Result<(MemoryReader<A>, MemoryWriter<A>), LinkFault>
         ensures ok { IsOk result }
         ensures halves { IfOk result (λ h. (h.0 ≡ new_reading self) × (h.1 ≡ new_writing self)) }
-        ensures reader { IfOk result (λ h. IsNewReader (take h.0.given h.0.bytes) h.0.failures h.0.pieces
+        ensures reader { IfOk result (λ h. IsNewReader (take h.0.given h.0.link.bytes) h.0.failures h.0.pieces
             h.0.has_ended) }
-        ensures all { IfOk result (λ h. h.0.bytes ≡ self.bytes) }
+        ensures made { IfOk result (λ h. (h.0.link ≡ self) × (h.1.link ≡ self)) }
         ensures writer { IfOk result (λ h. IsNewWriter h.1.bytes h.1.failures false h.1.is_finished) }
     {
+        let (reading, writing) = (Snapshot::of(&self), Snapshot::of(&self));
         let alloc = *self.bytes.allocator();
         let MemoryLink {
             role: _,
@@ -105,8 +109,8 @@ impl<A: Allocator + Copy> Link for MemoryLink<A> {
             write,
         } = self;
         Ok((
-            MemoryReader::new(bytes, piece, read),
-            MemoryWriter::new(alloc, write),
+            MemoryReader::new(reading, bytes, piece, read),
+            MemoryWriter::new(writing, alloc, write),
         ))
     }
 }

@@ -1,17 +1,20 @@
 //! The reading half of a link over memory.
 
-ghost use Rattle.std.specs.Prelude.{◌≡◌, ◌++◌, ◌||◌, ◌<◌, ◌≤◌, false, length, take, true, IfOk, is_err};
+ghost use Rattle.std.specs.Prelude.{◌≡◌, ◌++◌, ◌||◌, ◌<◌, ◌≤◌, length, take, true, IfOk, OnErr, is_err, is_some};
 ghost use Rattle.gn_links.specs.Halves.{counted, gave_bytes, is_end, read_by, IsReadOf};
-ghost use Rattle.gn_links.specs.Memory.{is_failing, next_call};
+ghost use Rattle.gn_links.specs.Memory.{is_failing, new_reading, next_call, source_of, IsReaderOf};
 
 use crate::link::{LinkFault, LinkReader};
+use crate::memory::MemoryLink;
 use std::alloc::{Allocator, Global};
 use std::marker::Model;
+use std::snapshot::Snapshot;
 use std::sync::Wait;
 
 /// Gives the bytes of a memory link, in order.
 #[derive(Drop)]
-pub struct MemoryReader<A: Allocator = Global> {
+pub struct MemoryReader<A: Allocator + Copy = Global> {
+    link: Snapshot<MemoryLink<A>>,
     bytes: Vec<u8, A>,
     given: usize,
     piece: usize,
@@ -23,17 +26,14 @@ pub struct MemoryReader<A: Allocator = Global> {
     is_finished: bool,
 }
 
-impl<A: Allocator> Model for MemoryReader<A> {
-    ghost use Rattle.std.specs.Prelude.{◌<◌};
-    ghost use Rattle.gn_links.specs.Memory.{MemoryReading, IsGiving};
+impl<A: Allocator + Copy> Model for MemoryReader<A> {
+    ghost use Rattle.gn_links.specs.Memory.{MemoryReading, IsGiving, IsReaderOf};
 
     ghost Value = { MemoryReading };
 
     ghost view = { λ r. record {
-      bytes = r.bytes.items;
+      link = r.link.value;
       given = r.given;
-      piece = r.piece;
-      fails_from = r.fails_from;
       calls = r.calls;
       failures = r.failures;
       pieces = r.pieces;
@@ -41,25 +41,22 @@ impl<A: Allocator> Model for MemoryReader<A> {
       is_finished = r.is_finished;
     } };
 
-    ghost invariant = { λ r. IsGiving r.bytes.items r.given r.has_ended × (0 < r.piece) };
+    ghost invariant = { λ r. IsGiving r.bytes.items r.given r.has_ended
+        × IsReaderOf r.link.value r.bytes.items r.piece r.fails_from };
 }
 
-impl<A: Allocator> MemoryReader<A> {
-    pub(crate) fn new(bytes: Vec<u8, A>, piece: usize, fails_from: Option<u32>) -> Self
-        requires { 0 < piece }
-        ensures { result ≡ record {
-          bytes = bytes.items;
-          given = 0;
-          piece = piece;
-          fails_from = fails_from;
-          calls = 0;
-          failures = 0;
-          pieces = 0;
-          has_ended = false;
-          is_finished = false;
-        } }
+impl<A: Allocator + Copy> MemoryReader<A> {
+    pub(crate) fn new(
+        link: Snapshot<MemoryLink<A>>,
+        bytes: Vec<u8, A>,
+        piece: usize,
+        fails_from: Option<u32>,
+    ) -> Self
+        requires { IsReaderOf link.value bytes.items piece fails_from }
+        ensures { result ≡ new_reading link.value }
     {
         MemoryReader {
+            link,
             bytes,
             given: 0,
             piece,
@@ -74,11 +71,11 @@ impl<A: Allocator> MemoryReader<A> {
 
     /// Gives the next bytes, which are none only where none are left or the buffer is empty.
     fn give(&mut self, buffer: &mut [u8]) -> usize
-        ensures within { (result ≤ length buffer.old) × (result ≤ self.old.piece) }
-        ensures bytes { take self.new.given self.new.bytes
-            ≡ take self.old.given self.old.bytes ++ take result buffer.new }
-        ensures prefix { IsReadOf self.new.bytes (take self.new.given self.new.bytes) self.new.has_ended }
-        ensures end { result ≡ 0 → 0 < length buffer.old → self.old.given ≡ length self.old.bytes }
+        ensures within { (result ≤ length buffer.old) × (result ≤ self.old.link.piece) }
+        ensures bytes { take self.new.given self.new.link.bytes
+            ≡ take self.old.given self.old.link.bytes ++ take result buffer.new }
+        ensures prefix { IsReadOf self.new.link.bytes (take self.new.given self.new.link.bytes) self.new.has_ended }
+        ensures end { result ≡ 0 → 0 < length buffer.old → self.old.given ≡ length self.old.link.bytes }
         ensures same { self.new ≡ record self.old { given = self.new.given } }
     {
         let from = self.given;
@@ -89,12 +86,16 @@ impl<A: Allocator> MemoryReader<A> {
     }
 }
 
-impl<A: Allocator> LinkReader for MemoryReader<A> {
+impl<A: Allocator + Copy> LinkReader for MemoryReader<A> {
+    type Origin = MemoryLink<A>;
+
     ghost is_known = { true };
 
-    ghost all_bytes = { λ r. r.bytes };
+    ghost made_of = { λ r. r.link };
 
-    ghost bytes_read = { λ r. take r.given r.bytes };
+    ghost gives = { source_of };
+
+    ghost bytes_read = { λ r. take r.given r.link.bytes };
 
     ghost failures = { λ r. r.failures };
 
@@ -105,18 +106,19 @@ impl<A: Allocator> LinkReader for MemoryReader<A> {
     ghost is_finished = { λ r. r.is_finished };
 
     fn read<R: Wait>(&mut self, _rt: &R, buffer: &mut [u8]) -> Result<usize, LinkFault>
-        ensures within { IfOk result (λ n. (n ≤ length buffer.old) × (n ≤ self.old.piece)) }
-        ensures bytes { take self.new.given self.new.bytes
-            ≡ take self.old.given self.old.bytes ++ read_by result buffer.new }
-        ensures prefix { IsReadOf self.new.bytes (take self.new.given self.new.bytes) self.new.has_ended }
-        ensures end { IfOk result (λ n. n ≡ 0 → 0 < length buffer.old → self.old.given ≡ length self.old.bytes) }
-        ensures fails { is_err result ≡ is_failing self.old.fails_from (next_call self.old.calls) }
+        ensures within { IfOk result (λ n. (n ≤ length buffer.old) × (n ≤ self.old.link.piece)) }
+        ensures bytes { take self.new.given self.new.link.bytes
+            ≡ take self.old.given self.old.link.bytes ++ read_by result buffer.new }
+        ensures prefix { IsReadOf self.new.link.bytes (take self.new.given self.new.link.bytes) self.new.has_ended }
+        ensures end { IfOk result (λ n. n ≡ 0 → 0 < length buffer.old
+            → self.old.given ≡ length self.old.link.bytes) }
+        ensures fails { is_err result ≡ is_failing self.old.link.read (next_call self.old.calls) }
+        ensures allowed { OnErr result (is_some self.new.link.read ≡ true) }
         ensures calls { self.new.calls ≡ next_call self.old.calls }
         ensures failures { self.new.failures ≡ counted (is_err result) self.old.failures }
         ensures pieces { self.new.pieces ≡ counted (gave_bytes result) self.old.pieces }
         ensures has_ended { self.new.has_ended ≡ (self.old.has_ended || is_end result (length buffer.old)) }
-        ensures same { (self.new.bytes ≡ self.old.bytes) × (self.new.piece ≡ self.old.piece)
-            × (self.new.fails_from ≡ self.old.fails_from) × (self.new.is_finished ≡ self.old.is_finished) }
+        ensures same { (self.new.link ≡ self.old.link) × (self.new.is_finished ≡ self.old.is_finished) }
     {
         self.calls = self.calls.saturating_add(1);
         if is_failing(self.fails_from, self.calls) {

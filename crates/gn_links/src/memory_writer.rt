@@ -1,18 +1,21 @@
 //! The writing half of a link over memory.
 
-ghost use Rattle.std.specs.Prelude.{◌≡◌, ◌+◌, ◌++◌, ◌⊎◌, ◌<◌, ◌≤◌, [], false, length, true, vec_capacity, IfOk, OnErr, OnOk, is_err};
+ghost use Rattle.std.specs.Prelude.{◌≡◌, ◌+◌, ◌++◌, ◌⊎◌, ◌<◌, ◌≤◌, false, length, true, IfOk, OnErr, OnOk, is_err};
 ghost use Rattle.gn_links.specs.Halves.{counted, is_stall, written_by};
-ghost use Rattle.gn_links.specs.Memory.{is_failing, next_call};
+ghost use Rattle.gn_links.specs.Memory.{is_failing, new_writing, next_call};
 
 use crate::link::{LinkFault, LinkWriter};
+use crate::memory::MemoryLink;
 use crate::memory_reader::is_failing;
 use std::alloc::{Allocator, Global};
 use std::marker::Model;
+use std::snapshot::Snapshot;
 use std::sync::Wait;
 
 /// Collects the bytes that a memory link is given.
 #[derive(Drop)]
-pub struct MemoryWriter<A: Allocator = Global> {
+pub struct MemoryWriter<A: Allocator + Copy = Global> {
+    link: Snapshot<MemoryLink<A>>,
     bytes: Vec<u8, A>,
     fails_from: Option<u32>,
     calls: u32,
@@ -20,34 +23,31 @@ pub struct MemoryWriter<A: Allocator = Global> {
     is_finished: bool,
 }
 
-impl<A: Allocator> Model for MemoryWriter<A> {
-    ghost use Rattle.std.specs.Prelude.{vec_capacity};
+impl<A: Allocator + Copy> Model for MemoryWriter<A> {
+    ghost use Rattle.std.specs.Prelude.{◌≡◌, vec_capacity};
     ghost use Rattle.gn_links.specs.Memory.{MemoryWriting};
 
     ghost Value = { MemoryWriting };
 
     ghost view = { λ w. record {
+      link = w.link.value;
       bytes = w.bytes.items;
       room = vec_capacity w.bytes;
-      fails_from = w.fails_from;
       calls = w.calls;
       failures = w.failures;
       is_finished = w.is_finished;
     } };
+
+    ghost invariant = { λ w. w.fails_from ≡ w.link.value.write };
 }
 
-impl<A: Allocator> MemoryWriter<A> {
-    pub(crate) fn new(alloc: A, fails_from: Option<u32>) -> Self
-        ensures { result ≡ record {
-          bytes = [];
-          room = 0;
-          fails_from = fails_from;
-          calls = 0;
-          failures = 0;
-          is_finished = false;
-        } }
+impl<A: Allocator + Copy> MemoryWriter<A> {
+    pub(crate) fn new(link: Snapshot<MemoryLink<A>>, alloc: A, fails_from: Option<u32>) -> Self
+        requires { fails_from ≡ link.value.write }
+        ensures { result ≡ new_writing link.value }
     {
         MemoryWriter {
+            link,
             bytes: Vec::new(alloc),
             fails_from,
             calls: 0,
@@ -71,8 +71,12 @@ impl<A: Allocator> MemoryWriter<A> {
     }
 }
 
-impl<A: Allocator> LinkWriter for MemoryWriter<A> {
+impl<A: Allocator + Copy> LinkWriter for MemoryWriter<A> {
+    type Origin = MemoryLink<A>;
+
     ghost is_known = { true };
+
+    ghost made_of = { λ w. w.link };
 
     ghost bytes_written = { λ w. w.bytes };
 
@@ -87,13 +91,13 @@ impl<A: Allocator> LinkWriter for MemoryWriter<A> {
         ensures all { IfOk result (λ n. n ≡ length piece.now) }
         ensures within { IfOk result (λ n. n ≤ length piece.now) }
         ensures bytes { self.new.bytes ≡ self.old.bytes ++ written_by result piece.now }
-        ensures ok { OnOk result (is_failing self.old.fails_from (next_call self.old.calls) ≡ false) }
-        ensures err { OnErr result ((is_failing self.old.fails_from (next_call self.old.calls) ≡ true)
+        ensures ok { OnOk result (is_failing self.old.link.write (next_call self.old.calls) ≡ false) }
+        ensures err { OnErr result ((is_failing self.old.link.write (next_call self.old.calls) ≡ true)
             ⊎ (self.old.room < length self.old.bytes + length piece.now)) }
         ensures calls { self.new.calls ≡ next_call self.old.calls }
         ensures failures { self.new.failures ≡ counted (is_err result) self.old.failures }
         ensures is_stuck { false ≡ is_stall result (length piece.now) }
-        ensures same { (self.new.fails_from ≡ self.old.fails_from) × (self.new.is_finished ≡ self.old.is_finished) }
+        ensures same { (self.new.link ≡ self.old.link) × (self.new.is_finished ≡ self.old.is_finished) }
     {
         self.calls = self.calls.saturating_add(1);
         if is_failing(self.fails_from, self.calls) || self.bytes.extend_from_slice(piece).is_err() {

@@ -24,7 +24,7 @@ joined (Ok x) next P h = h x
 joined (Err e) next P h = _
 
 -- the same, of what holds of what came before it
-joined_with : {X Y E : Type 0} (first : Result X E) (next : X → Result Y E) (Q : X → Type 0) (P : Y → Type 0)
+pub joined_with : {X Y E : Type 0} (first : Result X E) (next : X → Result Y E) (Q : X → Type 0) (P : Y → Type 0)
     → IfOk first Q → ((x : X) → Q x → IfOk (next x) P) → IfOk (first >>= next) P
 joined_with (Ok x) next Q P q h = h x q
 joined_with (Err e) next Q P q h = _

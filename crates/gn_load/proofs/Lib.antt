@@ -1,2 +1,3 @@
 pub mod FewLemmas
+pub mod UnfailedLemmas
 pub mod LoadLemmas

@@ -1,8 +1,8 @@
 -- What a load reads of its input, and why it stops.
 use Rattle.std.proofs.Common.{◌≡◌, ◌↔◌, ℕ, List, [], ◌++◌, length, map, IfErr, Result, Ok, Err, refl, sym, ap, ◌∙◌, subst}
-use Rattle.std.proofs.lemmas.List.{length-map}
+use Rattle.std.proofs.lemmas.List.{length-map, map-id}
 use Rattle.std.specs.Result.{IsErrAnd, IsOkAnd}
-use Rattle.gn_links.specs.Memory.{Memory, MemoryReading, MemoryWriting}
+use Rattle.gn_links.specs.Memory.{Memory, MemoryReading, MemoryWriting, source_of}
 use Rattle.gn_rules.specs.declared.config.Config.{Config}
 use Rattle.gn_rules.specs.declared.config.Own.{Own}
 use Rattle.gn_rules.specs.declared.receipt.Step.{Step}
@@ -17,11 +17,12 @@ use Rattle.gn_run.specs.declared.report.Report.{Report}
 use Rattle.gn_threads.specs.declared.fault.RunFault.{RunFault}
 use Rattle.gn_threads.specs.declared.fault.RunFault.TheVariants.{BadWorkers}
 use Rattle.gn_threads.specs.Faults.{IsFaultOf}
-use Rattle.gn_threads.specs.Headline.{HasCountedSteps, HasLegalHistory, HasOwnStats, HasOwnSteps, Holds, LinksHold, LinksReadOwn, OthersRoute, RoutesEachOnce}
+use Rattle.gn_threads.specs.Headline.{AreMadeOf, HasCountedSteps, HasLegalHistory, HasOwnStats, HasOwnSteps, Holds, LinksHold, LinksReadOwn, OthersRoute, RoutesEachOnce}
 use Rattle.gn_load.specs.declared.fault.LoadFault.TheVariants.{Run}
 use Rattle.gn_load.specs.Faults.{IsRunFault, IsRunLoadFault}
 use Rattle.gn_load.specs.Links.{links_from}
 use Rattle.gn_load.specs.Loads.{IsLoadText, half_read, half_written, load_of}
+use Rattle.gn_load.proofs.UnfailedLemmas.{none_failed}
 
 -- an error that was handed on
 pub on_err : {T E : Type 0} (r : Result T E) (e : E) (P : E → Type 0) → IsErrAnd r (λ x. x ≡ e) → P e → IfErr r P
@@ -32,6 +33,12 @@ on_err (Err x) e P is h = subst P (sym is) h
 pub made_of : {A : Type 0} (lent lines : List (ℕ × Line A)) (made : Result (List Memory) CaptureFault) → lent ≡ lines → links_from [] lent ≡ made
     → links_from [] lines ≡ made
 made_of lent lines made same is = ap (links_from []) (sym same) ∙ is
+
+-- the halves of a report were split from these links
+pub halves_made : {A : Type 0} (links : List Memory) (report : Report MemoryReading MemoryWriting A)
+    → AreMadeOf (λ (half : MemoryReading). half.link) (λ (half : MemoryWriting). half.link) (map (λ (l : Memory). l) links) (map (λ (l : Memory). l) links) report
+    → AreMadeOf (λ (half : MemoryReading). half.link) (λ (half : MemoryWriting). half.link) links links report
+halves_made links report made = record { readers = made.readers ∙ map-id links; writers = made.writers ∙ map-id links }
 
 -- all of the headline, of a run over these links
 pub held : {A : Type 0} (s : Config) (links : List Memory) (report : Report MemoryReading MemoryWriting A) → HasLegalHistory s report
@@ -69,10 +76,11 @@ module _ {A : Type 0} (text : List ℕ) (capture : Capture A) where
   pub history_printed : (workers : ℕ) (links : List Memory) (report : Report MemoryReading MemoryWriting A) (before printed : List ℕ) (steps : List (Step A))
       → capture_of text ≡ Ok (capture_seen capture) → links_from [] capture.lines.items ≡ Ok links
       → Holds half_read half_written capture.config (map (λ link. link.role) links) report
-      → LinksReadOwn half_read (map (λ link. link.bytes) links) report → IsWithin workers 16
+      → LinksReadOwn half_read (map source_of links) report
+      → AreMadeOf (λ (half : MemoryReading). half.link) (λ (half : MemoryWriting). half.link) links links report → IsWithin workers 16
       → length report.workers.items ≡ workers
       → before ≡ [] → steps ≡ report.history.items → printed ≡ before ++ history_text capture.config steps → IsLoadText A workers text printed
-  history_printed workers links report before printed steps read made holds bytes within many empty lent wrote =
+  history_printed workers links report before printed steps read made holds bytes halves within many empty lent wrote =
       record {
         settings = capture.config;
         links = links;
@@ -80,6 +88,8 @@ module _ {A : Type 0} (text : List ℕ) (capture : Capture A) where
         read = loaded links read made;
         holds = holds;
         bytes = bytes;
+        made = halves;
+        unfailed = none_failed capture.lines.items links report made (holds.each ∙ length-map links (λ link. link.role)) bytes;
         within = within;
         many = many;
         printed = wrote ∙ ap (λ (xs : List ℕ). xs ++ history_text capture.config steps) empty ∙ ap (history_text capture.config) lent;

@@ -1,13 +1,15 @@
 -- What a load makes of its input, and what it writes.
-use Rattle.std.specs.Prelude.{◌≡◌, ℕ, true, false, List, [], length, map, take, Option, IfSome, Result, Ok}
+use Rattle.std.specs.Prelude.{◌≡◌, ◌<◌, ℕ, true, false, List, [], length, map, slice_index_or, take, Option, IfSome, Result, Ok}
 use Rattle.std.specs.Io.KnownBytes.{Appends, Keeps}
 use Rattle.gn_rules.specs.declared.config.Config.{Config}
 use Rattle.gn_rules.specs.declared.config.Own.{Own}
 use Rattle.gn_rules.specs.Limits.{IsWithin}
-use Rattle.gn_links.specs.Memory.{Memory, MemoryReading, MemoryWriting}
+use Rattle.gn_links.specs.Memory.{Memory, MemoryReading, MemoryWriting, source_of}
+use Rattle.gn_bodies.specs.declared.ends.ReaderEnd.TheVariants.{ReadFailed}
+use Rattle.gn_run.specs.declared.report.LinkReport.{LinkReport}
 use Rattle.gn_run.specs.declared.report.Report.{Report}
 use Rattle.gn_threads.specs.Halves.{ReadHalf, WrittenHalf}
-use Rattle.gn_threads.specs.Headline.{Holds, LinksReadOwn}
+use Rattle.gn_threads.specs.Headline.{AreMadeOf, Holds, LinksReadOwn}
 use Rattle.gn_text.specs.declared.fault.CaptureFault.{CaptureFault}
 use Rattle.gn_text.specs.Faults.{◌>>=◌}
 use Rattle.gn_text.specs.Settings.{Numbers, settings_of}
@@ -31,7 +33,7 @@ abbrev pub half_read : MemoryReading → ReadHalf
 half_read half =
     record {
       is_known = true;
-      bytes = take half.given half.bytes;
+      bytes = take half.given half.link.bytes;
       failures = half.failures;
       pieces = half.pieces;
       has_ended = half.has_ended;
@@ -48,6 +50,12 @@ half_written half =
       is_finished = half.is_finished;
     }
 
+-- no reader ended because a read failed
+abbrev pub NoReadFailed : {Rd W A : Type 0} → Report Rd W A → Type 0
+NoReadFailed {Rd} {W} {A} report =
+    (k : ℕ) (link : LinkReport Rd W A) → k < length report.links.items
+    → ¬ ((slice_index_or report.links.items k link).reader_end ≡ ReadFailed)
+
 -- a text is the history of a run with so many workers, 1 to 16, over the links of the input: there is a report of such a run, of
 -- which all of the headline holds, and the text is that of its history
 pub record IsLoadText (A : Type 0) (workers : ℕ) (input text : List ℕ) : Type 0 where
@@ -56,7 +64,10 @@ pub record IsLoadText (A : Type 0) (workers : ℕ) (input text : List ℕ) : Typ
   pub report : Report MemoryReading MemoryWriting A
   pub read : load_of A input ≡ Ok (settings_of settings, links)
   pub holds : Holds half_read half_written settings (map (λ link. link.role) links) report
-  pub bytes : LinksReadOwn half_read (map (λ link. link.bytes) links) report
+  pub bytes : LinksReadOwn half_read (map source_of links) report
+  -- both halves of each link were split from that very link of the input
+  pub made : AreMadeOf (λ (half : MemoryReading). half.link) (λ (half : MemoryWriting). half.link) links links report
+  pub unfailed : NoReadFailed report
   pub within : IsWithin workers 16
   pub many : length report.workers.items ≡ workers
   pub printed : text ≡ history_text settings report.history.items

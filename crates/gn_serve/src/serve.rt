@@ -31,7 +31,7 @@ use std::time::Duration;
 /// listener. The bodies of each link start as soon as it has come; it waits for a caller without a time limit. A read or a
 /// write that waits longer than `idle` fails. At most 256 links.
 ///
-/// A fault is the first in the order of `RunFault` that was met. Where a call, an accept or a split fails, the bodies that
+/// Of several faults it answers the one that `run` of gn_threads does. Where a call, an accept or a split fails, the bodies that
 /// have started are ended and joined first: their peers have to end, or to be silent for longer than `idle`.
 pub fn serve_on<
     C: RouterCore<A> + Drop + Send,

@@ -1,6 +1,6 @@
 //! A link over TCP: accepted or called, and split into its halves.
 
-ghost use Rattle.std.specs.Prelude.{◌≡◌, [], IfOk, OnOk};
+ghost use Rattle.std.specs.Prelude.{◌≡◌, IfOk, OnOk};
 ghost use Rattle.gn_shake.specs.declared.role.Role.TheVariants.{Accepting, Calling};
 ghost use Rattle.gn_tcp.specs.Tcp.{IsLoopback};
 
@@ -86,13 +86,15 @@ impl TcpLink {
 }
 
 impl Link for TcpLink {
+    type Origin = ();
+
     type Reader = TcpReader;
 
     type Writer = TcpWriter;
 
     ghost role_of = { λ l. l };
 
-    ghost all_bytes = { λ _. [] };
+    ghost origin_of = { λ _. tt };
 
     fn role(&self) -> Role {
         self.role

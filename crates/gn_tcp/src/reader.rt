@@ -60,9 +60,13 @@ fn read_some<R: Wait>(rt: &R, stream: &mut TcpStream, buffer: &mut [u8]) -> Resu
 }
 
 impl LinkReader for TcpReader {
+    type Origin = ();
+
     ghost is_known = { false };
 
-    ghost all_bytes = { λ _. [] };
+    ghost made_of = { λ _. tt };
+
+    ghost gives = { λ _. record { bytes = []; may_fail = true } };
 
     ghost bytes_read = { λ _. [] };
 

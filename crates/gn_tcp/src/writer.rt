@@ -56,7 +56,11 @@ fn write_some<R: Wait>(rt: &R, stream: &mut TcpStream, piece: &[u8]) -> Result<u
 }
 
 impl LinkWriter for TcpWriter {
+    type Origin = ();
+
     ghost is_known = { false };
+
+    ghost made_of = { λ _. tt };
 
     ghost bytes_written = { λ _. [] };
 

@@ -63,9 +63,13 @@ pub(crate) struct PacedReader<'a, Rd: LinkReader> {
 }
 
 impl<'a, Rd: LinkReader> LinkReader for PacedReader<'a, Rd> {
+    type Origin = Rd::Origin;
+
     ghost is_known = { Rd.is_known };
 
-    ghost all_bytes = { λ r. Rd.all_bytes r.reader };
+    ghost made_of = { λ r. Rd.made_of r.reader };
+
+    ghost gives = { Rd.gives };
 
     ghost bytes_read = { λ r. Rd.bytes_read r.reader };
 
@@ -107,13 +111,15 @@ impl<'a, K: Link> PacedLink<'a, K> {
 }
 
 impl<'a, K: Link> Link for PacedLink<'a, K> {
+    type Origin = K::Origin;
+
     type Reader = PacedReader<'a, K::Reader>;
 
     type Writer = K::Writer;
 
     ghost role_of = { λ l. K.role_of l.link };
 
-    ghost all_bytes = { λ l. K.all_bytes l.link };
+    ghost origin_of = { λ l. K.origin_of l.link };
 
     fn role(&self) -> Role {
         self.link.role()

@@ -118,6 +118,27 @@ fn two_workers_meet(rt: HostRuntime) -> Result<(), Fail> {
     Ok(())
 }
 
+#[test]
+fn writes_fail_on_their_own_link(rt: HostRuntime) -> Result<(), Fail> {
+    let mut links = Vec::new(rt.alloc());
+    for (number, write) in [(0u8, Some(1)), (1, None)] {
+        let link = MemoryLink::new(Role::Plain, pings(rt.alloc(), number, 1)?, 4096);
+        links.push(link.failing(None, write))?;
+    }
+    let report = table_run(&rt, rt.alloc(), links, 1, &NoGate).map_err(|_| "a report")?;
+    assert_eq!(rt; report.links.len(), 2);
+    for (k, link) in report.links.iter().enumerate() {
+        // each link's own Pong is queued to it, whatever the schedule
+        let end = if k == 0 {
+            WriterEnd::WriteFailed
+        } else {
+            WriterEnd::Drained
+        };
+        assert_eq!(rt; link.writer_end, end);
+    }
+    Ok(())
+}
+
 /// Two links of ten Pings each, read byte by byte, whose readers meet.
 fn paced_links<'a>(
     alloc: Global,

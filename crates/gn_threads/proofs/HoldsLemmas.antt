@@ -1,10 +1,11 @@
 -- From what each body keeps and what is compared of a report to the headline.
 use Rattle.std.proofs.Common.{◌≡◌, ◌==◌, ◌<◌, ◌+◌, ◌++◌, ℕ, Bool, true, List, length, map, get_or, reverse, take, Option, Some, None, refl, sym, ap, ◌∙◌, subst, arith}
 use Rattle.std.specs.List.{list_all, sum_by}
-use Rattle.std.specs.Prelude.{IfOk, IfSome, Ok}
+use Rattle.std.specs.Prelude.{IfOk, IfSome, Ok, Err, Result}
 use Rattle.std.proofs.Math.Seq.{take-length}
 use Rattle.std.proofs.lemmas.Bool.{eqb-true}
 use Rattle.std.proofs.lemmas.List.{append-nil, get_or-map, length-map}
+use Rattle.std.proofs.lemmas.Simd.{map-map}
 use Rattle.gn_rules.specs.declared.config.Config.{Config}
 use Rattle.gn_rules.specs.declared.receipt.Receipt.{Receipt}
 use Rattle.gn_rules.specs.declared.receipt.Step.{Step}
@@ -13,6 +14,11 @@ use Rattle.gn_rules.specs.Mine.{mine}
 use Rattle.gn_shake.specs.declared.role.Role.{Role}
 use Rattle.gn_shake.specs.declared.role.Role.TheVariants.{Plain}
 use Rattle.gn_bodies.specs.declared.ends.ReaderEnd.{ReaderEnd}
+use Rattle.gn_bodies.specs.declared.ends.ReaderEnd.TheVariants.{ReadFailed}
+use Rattle.gn_bodies.specs.declared.ends.WriterEnd.{WriterEnd}
+use Rattle.gn_bodies.specs.declared.reader.ReaderDone.{ReaderDone}
+use Rattle.gn_bodies.specs.declared.writer.WriterDone.{WriterDone}
+use Rattle.gn_links.specs.Halves.{Source}
 use Rattle.gn_bodies.specs.ReaderRows.{SourceRow}
 use Rattle.gn_bodies.specs.Events.{connection_from, link_events_in, packets_in}
 use Rattle.gn_laws.specs.Owners.{LinkIsTold, packets_of, told_conn}
@@ -26,11 +32,11 @@ use Rattle.gn_run.specs.Actors.{actors}
 use Rattle.gn_run.specs.Ends.{is_balanced, is_settled}
 use Rattle.gn_run.specs.Flaw.{IsFlaw}
 use Rattle.gn_run.proofs.ConfirmedLemmas.{compared, house_at, reader_at, took_all, worker_at, writer_at}
-use Rattle.gn_threads.specs.Halves.{Inbound, ReadsAs, WrittenHalf, ReadHalf, WritesAs}
-use Rattle.gn_threads.specs.Headline.{HasOwnSteps, LinkHolds, LinksHold, LinksReadOwn, OthersRoute, ReadsOwn, RoutesEachOnce}
-use Rattle.gn_threads.specs.Kept.{EachKeeps, Ended, ReaderKeeps, ReaderPromises, WriterKeeps}
+use Rattle.gn_threads.specs.Halves.{Half, ReadsAs, WrittenHalf, ReadHalf, WritesAs}
+use Rattle.gn_threads.specs.Headline.{AreMadeOf, HasOwnSteps, LinkHolds, LinksHold, LinksReadOwn, OthersRoute, ReadsOwn, RoutesEachOnce}
+use Rattle.gn_threads.specs.Kept.{EachKeeps, Ended, ReaderKeeps, ReaderPromises, WriterKeeps, WriterPromises, reader_ended, telling, writer_ended}
 use Rattle.gn_threads.specs.Gathered.{reader_reported, writer_reported}
-use Rattle.gn_threads.proofs.KeptLemmas.{some_of}
+use Rattle.gn_threads.proofs.KeptLemmas.{keeps_less, some_of, told_of}
 use Rattle.gn_threads.proofs.ReceiptLemmas.{connection_is_told, packets_are_told}
 
 -- the actor of a flaw is one of the run's
@@ -67,24 +73,26 @@ routes_each_once {Rd} {W} {A} s roles report legal all =
     equal_counts_route_all A s steps legal (subst (λ (x : List (Step A)). admitted x ≡ routed x) (take-length steps) counts)
 
 -- what the reader of a link kept, in the words of its report
-read_holds : {Rd W A : Type 0} (reads : Rd → ReadHalf) (roles : List Role) (links : List (LinkReport Rd W A)) → EachKeeps ReaderKeeps roles (map (reader_reported reads) links)
+read_holds : {Rd W A : Type 0} (reads : Rd → ReadHalf) (roles : List Role) (links : List (LinkReport Rd W A)) → EachKeeps ReaderKeeps roles (map (λ l. telling reads (reader_reported l)) links)
     → (k : ℕ) (role : Role) (link : LinkReport Rd W A) → k < length links → (get_or links k link).conn ≡ told_conn (get_or links k link).reader_receipts.items
     → ReadsAs (get_or roles k role) (get_or links k link).reader_end (get_or links k link).conn (link_events_in (get_or links k link).reader_receipts.items) (reads (get_or links k link).reader)
 read_holds {Rd} {W} {A} reads roles links kept k role link below conn =
     let it = get_or links k link in
-    let there = get_or-map (reader_reported reads) links k link (reader_reported reads link) below in
-    let keeps : ReaderKeeps (get_or roles k role) (reader_reported reads it) = subst (λ body. ReaderKeeps (get_or roles k role) body) there (kept k role (reader_reported reads link) (omega (arith, below, length-map links (reader_reported reads)))) in
+    let told : LinkReport Rd W A → Ended A ReaderEnd ReadHalf = λ l. telling reads (reader_reported l) in
+    let there = get_or-map told links k link (told link) below in
+    let keeps : ReaderKeeps (get_or roles k role) (told it) = subst (λ body. ReaderKeeps (get_or roles k role) body) there (kept k role (told link) (omega (arith, below, length-map links told))) in
     subst (λ o. ReadsAs (get_or roles k role) it.reader_end o (link_events_in it.reader_receipts.items) (reads it.reader)) (connection_is_told it.reader_receipts.items ∙ sym conn)
     (record { row = keeps.0; counts = keeps.1 })
 
 -- the same of its writer
-written_holds : {Rd W A : Type 0} (writes : W → WrittenHalf) (roles : List Role) (links : List (LinkReport Rd W A)) → EachKeeps WriterKeeps roles (map (writer_reported writes) links)
+written_holds : {Rd W A : Type 0} (writes : W → WrittenHalf) (roles : List Role) (links : List (LinkReport Rd W A)) → EachKeeps WriterKeeps roles (map (λ l. telling writes (writer_reported l)) links)
     → (k : ℕ) (role : Role) (link : LinkReport Rd W A) → k < length links
     → WritesAs (get_or roles k role) (get_or links k link).writer_end (packets_of (get_or links k link).writer_receipts.items) (writes (get_or links k link).writer)
 written_holds {Rd} {W} {A} writes roles links kept k role link below =
     let it = get_or links k link in
-    let there = get_or-map (writer_reported writes) links k link (writer_reported writes link) below in
-    let keeps : WriterKeeps (get_or roles k role) (writer_reported writes it) = subst (λ body. WriterKeeps (get_or roles k role) body) there (kept k role (writer_reported writes link) (omega (arith, below, length-map links (writer_reported writes)))) in
+    let told : LinkReport Rd W A → Ended A WriterEnd WrittenHalf = λ l. telling writes (writer_reported l) in
+    let there = get_or-map told links k link (told link) below in
+    let keeps : WriterKeeps (get_or roles k role) (told it) = subst (λ body. WriterKeeps (get_or roles k role) body) there (kept k role (told link) (omega (arith, below, length-map links told))) in
     subst (λ ps. WritesAs (get_or roles k role) it.writer_end ps (writes it.writer)) (packets_are_told it.writer_receipts.items)
     (record { row = keeps.0; hurt = keeps.1; finished = keeps.2 })
 
@@ -103,8 +111,8 @@ link_told {Rd} {W} {A} s settled roles report legal all k link c below is =
 
 pub links_hold : {Rd W A : Type 0} (s : Config) (reads : Rd → ReadHalf) (writes : W → WrittenHalf) (roles : List Role) (report : Report Rd W A) → IsLegal s (reverse report.history.items)
     → IsFlaw (is_settled report.history.items) roles report None
-    → EachKeeps ReaderKeeps roles (map (reader_reported reads) report.links.items)
-    → EachKeeps WriterKeeps roles (map (writer_reported writes) report.links.items)
+    → EachKeeps ReaderKeeps roles (map (λ l. telling reads (reader_reported l)) report.links.items)
+    → EachKeeps WriterKeeps roles (map (λ l. telling writes (writer_reported l)) report.links.items)
     → LinksHold reads writes roles report
 links_hold {Rd} {W} {A} s reads writes roles report legal all readers writers = λ k role link below.
     let settled = is_settled report.history.items in
@@ -118,10 +126,33 @@ links_hold {Rd} {W} {A} s reads writes roles report legal all readers writers = 
       took = λ c drained is. took_all s settled roles report legal all k below link c drained is;
     }
 
+-- readers that keep what their threads promised keep what their bodies do
+pub readers_keep : {Rd S L A O : Type 0} (reads : Rd → ReadHalf) (made_of : Rd → O) (gives : O → Source) (links : List (Half Rd)) (roles : List Role) (done : List (ReaderDone Rd S L A))
+    → map (λ (h : Half Rd). h.role) links ≡ roles → length done ≡ length links → EachKeeps (ReaderPromises reads made_of gives) links (map reader_ended done)
+    → EachKeeps ReaderKeeps roles (map (λ d. telling reads (reader_ended d)) done)
+readers_keep {Rd} {S} {L} {A} reads made_of gives links roles done are many kept =
+    let ended : ReaderDone Rd S L A → Ended A ReaderEnd Rd = λ d. reader_ended d in
+    let tells : Ended A ReaderEnd Rd → Ended A ReaderEnd ReadHalf = λ body. telling reads body in
+    let less = keeps_less (λ (h : Half Rd). h.role) tells (ReaderPromises reads made_of gives) ReaderKeeps links (map ended done) (length-map done ended ∙ many) (λ link body promised. promised.kept) kept in
+    subst (λ (rs : List Role). EachKeeps ReaderKeeps rs (map (λ d. tells (ended d)) done)) are
+    (subst (λ (bs : List (Ended A ReaderEnd ReadHalf)). EachKeeps ReaderKeeps (map (λ (h : Half Rd). h.role) links) bs) (map-map tells ended done) less)
+
+-- the same of writers
+pub writers_keep : {W L A O : Type 0} (writes : W → WrittenHalf) (made_of : W → O) (links : List (Half W)) (roles : List Role) (done : List (WriterDone W L A))
+    → map (λ (h : Half W). h.role) links ≡ roles → length done ≡ length links → EachKeeps (WriterPromises writes made_of) links (map writer_ended done)
+    → EachKeeps WriterKeeps roles (map (λ d. telling writes (writer_ended d)) done)
+writers_keep {W} {L} {A} writes made_of links roles done are many kept =
+    let ended : WriterDone W L A → Ended A WriterEnd W = λ d. writer_ended d in
+    let tells : Ended A WriterEnd W → Ended A WriterEnd WrittenHalf = λ body. telling writes body in
+    let less = keeps_less (λ (h : Half W). h.role) tells (WriterPromises writes made_of) WriterKeeps links (map ended done) (length-map done ended ∙ many) (λ link body promised. promised.kept) kept in
+    subst (λ (rs : List Role). EachKeeps WriterKeeps rs (map (λ d. tells (ended d)) done)) are
+    (subst (λ (bs : List (Ended A WriterEnd WrittenHalf)). EachKeeps WriterKeeps (map (λ (h : Half W). h.role) links) bs) (map-map tells ended done) less)
+
 -- what one reader promised is what the headline says of its link
-read_own : {A : Type 0} (link : Inbound) (end : ReaderEnd) (body : Ended A ReaderEnd ReadHalf) → body.end ≡ Ok end → ReaderPromises link body → ReadsOwn link.bytes end body.half
-read_own link end body is promised =
-    let half = body.half in
+read_own : {A Rd O : Type 0} (reads : Rd → ReadHalf) (made_of : Rd → O) (gives : O → Source) (link : Half Rd) (end : ReaderEnd) (body : Ended A ReaderEnd Rd) → body.end ≡ Ok end
+    → ReaderPromises reads made_of gives link body → ReadsOwn (gives (made_of link.half)) end (reads body.half)
+read_own reads made_of gives link end body is promised =
+    let half = reads body.half in
     let counts : SourceRow end half.failures half.pieces half.has_ended = subst (λ r. IfOk r (λ e. SourceRow e half.failures half.pieces half.has_ended)) is promised.kept.1 in
     record {
       first = promised.own;
@@ -129,17 +160,40 @@ read_own link end body is promised =
           let read = promised.own known in
           let none = read.ended (subst (λ e. SourceRow e half.failures half.pieces half.has_ended) ends counts) in
           sym (read.whole ∙ ap (λ rest. half.bytes ++ rest) none ∙ append-nil half.bytes);
+      failed = subst (λ r. IfOk r (λ e. e ≡ ReadFailed → (gives (made_of link.half)).may_fail ≡ true)) is promised.failed;
     }
 
 -- so of each link, where the report has these bodies, in order
-pub links_read_own : {Rd W A : Type 0} (reads : Rd → ReadHalf) (links : List Inbound) (bytes : List (List ℕ)) (bodies : List (Ended A ReaderEnd ReadHalf)) (report : Report Rd W A) → map (λ link. link.bytes) links ≡ bytes
-    → length bodies ≡ length links → map (reader_reported reads) report.links.items ≡ bodies → EachKeeps ReaderPromises links bodies → LinksReadOwn reads bytes report
-links_read_own {Rd} {W} {A} reads links bytes bodies report own many is kept = λ k all link below.
+pub links_read_own : {Rd W A O : Type 0} (reads : Rd → ReadHalf) (made_of : Rd → O) (gives : O → Source) (links : List (Half Rd)) (sources : List Source) (bodies : List (Ended A ReaderEnd Rd))
+    (report : Report Rd W A) → map (λ (h : Half Rd). gives (made_of h.half)) links ≡ sources → length bodies ≡ length links → map reader_reported report.links.items ≡ bodies
+    → EachKeeps (ReaderPromises reads made_of gives) links bodies → LinksReadOwn reads sources report
+links_read_own {Rd} {W} {A} reads made_of gives links sources bodies report own many is kept = λ k source link below.
+    let reported : LinkReport Rd W A → Ended A ReaderEnd Rd = λ l. reader_reported l in
     let it = get_or report.links.items k link in
-    let body = reader_reported reads link in
-    let low : k < length bodies = omega (arith, below, length-map report.links.items (reader_reported reads), ap length is) in
+    let body = reported link in
+    let low : k < length bodies = omega (arith, below, length-map report.links.items reported, ap length is) in
     let start = some_of links (omega (arith, low, many)) in
-    let there : get_or bodies k body ≡ reader_reported reads it = ap (λ bs. get_or bs k body) (sym is) ∙ get_or-map (reader_reported reads) report.links.items k link body below in
-    let here : (get_or links k start).bytes ≡ get_or bytes k all = sym (get_or-map (λ (l : Inbound). l.bytes) links k start all (omega (arith, low, many))) ∙ ap (λ bs. get_or bs k all) own in
-    let promised : ReaderPromises (get_or links k start) (reader_reported reads it) = subst (λ b. ReaderPromises (get_or links k start) b) there (kept k start body low) in
-    subst (λ bs. ReadsOwn bs it.reader_end (reads it.reader)) here (read_own (get_or links k start) it.reader_end (reader_reported reads it) refl promised)
+    let there : get_or bodies k body ≡ reported it = ap (λ bs. get_or bs k body) (sym is) ∙ get_or-map reported report.links.items k link body below in
+    let here : gives (made_of (get_or links k start).half) ≡ get_or sources k source =
+    sym (get_or-map (λ (h : Half Rd). gives (made_of h.half)) links k start source (omega (arith, low, many))) ∙ ap (λ ss. get_or ss k source) own in
+    let promised : ReaderPromises reads made_of gives (get_or links k start) (reported it) = subst (λ b. ReaderPromises reads made_of gives (get_or links k start) b) there (kept k start body low) in
+    subst (λ s. ReadsOwn s it.reader_end (reads it.reader)) here (read_own reads made_of gives (get_or links k start) it.reader_end (reported it) refl promised)
+
+-- the halves of a report were split from the links that those were split from with which the threads began
+pub are_made_of : {Rd W A O P : Type 0} (reads : Rd → ReadHalf) (reader_of : Rd → O) (gives : O → Source) (writes : W → WrittenHalf) (writer_of : W → P) (reading : List (Half Rd)) (writing : List (Half W))
+    (read : List (Ended A ReaderEnd Rd)) (written : List (Ended A WriterEnd W)) (readers : List O) (writers : List P) (report : Report Rd W A)
+    → map (λ (h : Half Rd). reader_of h.half) reading ≡ readers → map (λ (h : Half W). writer_of h.half) writing ≡ writers → length read ≡ length reading → length written ≡ length writing
+    → EachKeeps (ReaderPromises reads reader_of gives) reading read → EachKeeps (WriterPromises writes writer_of) writing written
+    → map reader_reported report.links.items ≡ read → map writer_reported report.links.items ≡ written → AreMadeOf reader_of writer_of readers writers report
+are_made_of {Rd} {W} {A} reads reader_of gives writes writer_of reading writing read written readers writers report own theirs many more kept held is are =
+    record {
+      readers = told_of (ReaderPromises reads reader_of gives) (λ (l : LinkReport Rd W A). reader_reported l) (λ (b : Ended A ReaderEnd Rd). reader_of b.half) (λ (h : Half Rd). reader_of h.half)
+          report.links.items reading read readers (λ link body promised. promised.made) many is kept own;
+      writers = told_of (WriterPromises writes writer_of) (λ (l : LinkReport Rd W A). writer_reported l) (λ (b : Ended A WriterEnd W). writer_of b.half) (λ (h : Half W). writer_of h.half)
+          report.links.items writing written writers (λ link body promised. promised.made) more are held theirs;
+    }
+
+-- what follows of two things that hold where there is a report
+pub both_ok : {T E : Type 0} (P Q R : T → Type 0) (r : Result T E) → ((x : T) → P x → Q x → R x) → IfOk r P → IfOk r Q → IfOk r R
+both_ok P Q R (Ok x) follows p q = follows x p q
+both_ok P Q R (Err e) follows p q = tt

@@ -5,18 +5,15 @@ use Rattle.gn_rules.specs.declared.receipt.Receipt.{Receipt}
 use Rattle.gn_bodies.specs.declared.ends.ReaderEnd.{ReaderEnd}
 use Rattle.gn_bodies.specs.declared.ends.WriterEnd.{WriterEnd}
 use Rattle.gn_run.specs.declared.report.LinkReport.{LinkReport}
-use Rattle.gn_threads.specs.Halves.{WrittenHalf, ReadHalf}
 use Rattle.gn_threads.specs.Kept.{Ended}
 
 -- the body of a link's reader, as the link's report has it
-abbrev pub reader_reported : {Rd W A : Type 0} → (Rd → ReadHalf) → LinkReport Rd W A → Ended A ReaderEnd ReadHalf
-reader_reported reads link =
-    record { receipts = link.reader_receipts.items; half = reads link.reader; end = Ok link.reader_end }
+abbrev pub reader_reported : {Rd W A : Type 0} → LinkReport Rd W A → Ended A ReaderEnd Rd
+reader_reported link = record { receipts = link.reader_receipts.items; half = link.reader; end = Ok link.reader_end }
 
 -- the body of its writer
-abbrev pub writer_reported : {Rd W A : Type 0} → (W → WrittenHalf) → LinkReport Rd W A → Ended A WriterEnd WrittenHalf
-writer_reported writes link =
-    record { receipts = link.writer_receipts.items; half = writes link.writer; end = Ok link.writer_end }
+abbrev pub writer_reported : {Rd W A : Type 0} → LinkReport Rd W A → Ended A WriterEnd W
+writer_reported link = record { receipts = link.writer_receipts.items; half = link.writer; end = Ok link.writer_end }
 
 -- how many receipts the two actors of a link have
 abbrev pub receipts_at : {Rd W A : Type 0} → LinkReport Rd W A → ℕ

@@ -28,14 +28,14 @@ pub record WrittenHalf : Type 0 where
   pub is_stuck : Bool
   pub is_finished : Bool
 
--- a link that isn't read yet: how it begins, and all bytes that its reader is to give, where they are known
-pub record Inbound : Type 0 where
+-- a half of a link, before its body began, and how the link begins
+pub record Half (H : Type 0) : Type 0 where
   pub role : Role
-  pub bytes : List ℕ
+  pub half : H
 
--- a link of this role that this reader is to read
-abbrev pub inbound_of : {Rd : Type 0} → (Rd → List ℕ) → Role → Rd → Inbound
-inbound_of all role reader = record { role = role; bytes = all reader }
+-- this half of a link of this role
+abbrev pub half_of : {H : Type 0} → Role → H → Half H
+half_of role half = record { role = role; half = half }
 
 -- what a reading half of this type tells
 abbrev pub reads_of :

@@ -2,17 +2,18 @@
 --
 -- Of n links and V workers actor k below n reads link k, actor n + k writes it, actor 2n + j is worker j, and actor 2n + V
 -- is the house.
-use Rattle.std.specs.Prelude.{◌≡◌, ◌<◌, ◌+◌, ℕ, true, nat_lt, List, length, reverse, slice_index_or, Some, Vec}
+use Rattle.std.specs.Prelude.{◌≡◌, ◌<◌, ◌+◌, ℕ, true, nat_lt, List, length, map, reverse, slice_index_or, Some, Vec}
 use Rattle.std.specs.List.{list_all, sum_by}
 use Rattle.gn_rules.specs.declared.config.Config.{Config}
 use Rattle.gn_rules.specs.declared.receipt.Receipt.{Receipt}
 use Rattle.gn_rules.specs.Legal.{IsLegal}
 use Rattle.gn_rules.specs.Output.{queued}
 use Rattle.gn_rules.specs.Statistics.{stats_of}
+use Rattle.gn_links.specs.Halves.{Source}
 use Rattle.gn_shake.specs.declared.role.Role.{Role}
 use Rattle.gn_shake.specs.Roles.{is_calling}
 use Rattle.gn_bodies.specs.declared.ends.ReaderEnd.{ReaderEnd}
-use Rattle.gn_bodies.specs.declared.ends.ReaderEnd.TheVariants.{Bytes}
+use Rattle.gn_bodies.specs.declared.ends.ReaderEnd.TheVariants.{Bytes, ReadFailed}
 use Rattle.gn_bodies.specs.declared.ends.WriterEnd.TheVariants.{Drained}
 use Rattle.gn_bodies.specs.Events.{link_events_in}
 use Rattle.gn_laws.specs.Owners.{LinkIsTold, packets_of}
@@ -66,19 +67,28 @@ LinksHold {Rd} {W} {A} reads writes roles report =
     (k : ℕ) (role : Role) (link : LinkReport Rd W A) → k < length report.links.items
     → LinkHolds reads writes roles report k (slice_index_or roles k role) (slice_index_or report.links.items k link)
 
--- what the reader of a link read, which has these bytes, where they are known
-pub record ReadsOwn (all : List ℕ) (end : ReaderEnd) (half : ReadHalf) : Type 0 where
-  -- the first of the link's bytes, in order, and all of them where a read gave no more
-  pub first : IsReadFrom all half
+-- what the reader of a link read, which is to give this
+pub record ReadsOwn (source : Source) (end : ReaderEnd) (half : ReadHalf) : Type 0 where
+  -- the first of the link's bytes, in order, and all of them where a read gave no more; where they are known
+  pub first : IsReadFrom source.bytes half
   -- so all of them where the reader ended as Bytes
-  pub whole : half.is_known ≡ true → end ≡ Bytes → half.bytes ≡ all
+  pub whole : half.is_known ≡ true → end ≡ Bytes → half.bytes ≡ source.bytes
+  -- it ended as ReadFailed only where a read of the link may fail
+  pub failed : end ≡ ReadFailed → source.may_fail ≡ true
 
--- what each link's reader read are the bytes of that very link, where the links have these bytes, in their order
-abbrev pub LinksReadOwn : {Rd W A : Type 0} → (Rd → ReadHalf) → List (List ℕ) → Report Rd W A → Type 0
-LinksReadOwn {Rd} {W} {A} reads bytes report =
-    (k : ℕ) (all : List ℕ) (link : LinkReport Rd W A) → k < length report.links.items
-    → ReadsOwn (slice_index_or bytes k all) (slice_index_or report.links.items k link).reader_end
+-- what each link's reader read is of that very link, where the links' readers are to give this, in the links' order
+abbrev pub LinksReadOwn : {Rd W A : Type 0} → (Rd → ReadHalf) → List Source → Report Rd W A → Type 0
+LinksReadOwn {Rd} {W} {A} reads sources report =
+    (k : ℕ) (source : Source) (link : LinkReport Rd W A) → k < length report.links.items
+    → ReadsOwn (slice_index_or sources k source) (slice_index_or report.links.items k link).reader_end
     (reads (slice_index_or report.links.items k link).reader)
+
+-- the two halves in each link's report were split from that very link: what the readers and the writers tell of their link
+-- is what their links tell, in the links' order
+pub record AreMadeOf {Rd W A O P : Type 0} (reader_of : Rd → O) (writer_of : W → P) (reading : List O) (writing : List P)
+    (report : Report Rd W A) : Type 0 where
+  pub readers : map (λ (link : LinkReport Rd W A). reader_of link.reader) report.links.items ≡ reading
+  pub writers : map (λ (link : LinkReport Rd W A). writer_of link.writer) report.links.items ≡ writing
 
 -- workers and the house made no event but Route: their receipts are their own steps, and of Route alone; and once the house
 -- was done nothing was in flight

@@ -1,24 +1,29 @@
 -- What a run has of its threads once all are joined.
 use Rattle.std.specs.Prelude.{◌≡◌, ℕ, List, length, map, vec_len}
 use Rattle.gn_shake.specs.declared.role.Role.{Role}
+use Rattle.gn_bodies.specs.declared.ends.ReaderEnd.{ReaderEnd}
+use Rattle.gn_bodies.specs.declared.ends.WriterEnd.{WriterEnd}
 use Rattle.gn_threads.specs.declared.done.Done.{Done}
-use Rattle.gn_threads.specs.Halves.{Inbound, ReadHalf, WrittenHalf}
-use Rattle.gn_threads.specs.Kept.{EachKeeps, ReaderPromises, WriterKeeps, reader_ended, writer_ended}
+use Rattle.gn_threads.specs.Halves.{Half}
+use Rattle.gn_threads.specs.Kept.{EachKeeps, Ended, reader_ended, writer_ended}
 
--- the threads of the readers and of the writers of these links, and of so many workers, are joined, and each kept its
--- promise
-pub record AreJoined {Rd W S L A : Type 0} (reads : Rd → ReadHalf) (writes : W → WrittenHalf) (reading : List Inbound)
-    (writing : List Role) (workers : ℕ) (done : Done Rd W S L A) : Type 0 where
-  pub readers : EachKeeps ReaderPromises reading (map (reader_ended reads) done.readers.items)
-  pub writers : EachKeeps WriterKeeps writing (map (writer_ended writes) done.writers.items)
+-- the threads of the readers and of the writers that began with these halves, and of so many workers, are joined, and each
+-- kept its promise
+pub record AreJoined {Rd W S L A : Type 0} (reads : Half Rd → Ended A ReaderEnd Rd → Type 0)
+    (writes : Half W → Ended A WriterEnd W → Type 0) (reading : List (Half Rd)) (writing : List (Half W)) (workers : ℕ)
+    (done : Done Rd W S L A) : Type 0 where
+  pub readers : EachKeeps reads reading (map reader_ended done.readers.items)
+  pub writers : EachKeeps writes writing (map writer_ended done.writers.items)
   pub read : vec_len done.readers ≡ length reading
   pub written : vec_len done.writers ≡ length writing
   pub worked : vec_len done.workers ≡ workers
 
--- the same of readers' links of which the roles alone are known: nobody knows which bytes will come of a link that
--- hasn't come yet
-abbrev pub AreJoinedOf :
-    {Rd W S L A : Type 0} → (Rd → ReadHalf) → (W → WrittenHalf) → List Role → List Role → ℕ → Done Rd W S L A → Type 0
-AreJoinedOf reads writes roles writing workers done =
-    (reading : List Inbound) × (map (λ (link : Inbound). link.role) reading ≡ roles)
-    × AreJoined reads writes reading writing workers done
+-- the same of halves of which the links' roles alone are known: nobody knows of what a link is made that hasn't come yet
+pub record AreJoinedOf {Rd W S L A : Type 0} (reads : Half Rd → Ended A ReaderEnd Rd → Type 0)
+    (writes : Half W → Ended A WriterEnd W → Type 0) (readers writers : List Role) (workers : ℕ)
+    (done : Done Rd W S L A) : Type 0 where
+  pub reading : List (Half Rd)
+  pub writing : List (Half W)
+  pub reading_roles : map (λ (h : Half Rd). h.role) reading ≡ readers
+  pub writing_roles : map (λ (h : Half W). h.role) writing ≡ writers
+  pub joined : AreJoined reads writes reading writing workers done

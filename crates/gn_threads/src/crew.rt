@@ -4,8 +4,9 @@ ghost use Rattle.std.specs.Prelude.{◌≡◌, [], ℕ, map, vec_len, true, IfEr
 ghost use Rattle.std.specs.Thread.{IsSend, IsSync};
 ghost use denote.Param.Send.{Frees};
 ghost use Rattle.gn_threads.specs.Faults.{IsFaultOf};
-ghost use Rattle.gn_threads.specs.Halves.{inbound_of, reads_of, writes_of};
+ghost use Rattle.gn_threads.specs.Halves.{half_of, reads_of, writes_of};
 ghost use Rattle.gn_threads.specs.Joined.{AreJoined};
+ghost use Rattle.gn_threads.specs.Kept.{ReaderPromises, WriterPromises};
 
 use crate::done::Done;
 use crate::fault::RunFault;
@@ -48,7 +49,7 @@ fn start_all<
     ensures readers { result ≡ true
         → map (λ h. h.promise.start.value) handles.new.readers.items ≡ starts.readers.items }
     ensures writers { result ≡ true
-        → map (λ h. h.promise.role) handles.new.writers.items ≡ map (λ s. s.role) starts.writers.items }
+        → map (λ h. h.promise.start.value) handles.new.writers.items ≡ starts.writers.items }
     ensures workers { result ≡ true → vec_len handles.new.workers ≡ vec_len starts.workers }
 {
     let Starts {
@@ -86,10 +87,10 @@ fn crew_in<
     starts: Starts<Rd, W, S, L, A>,
 ) -> Result<Done<Rd, W, S, L, A>, RunFault>
     ensures joined { IfOk result (λ done. AreJoined
-        (reads_of Rd.is_known Rd.bytes_read Rd.failures Rd.pieces Rd.has_ended)
-        (writes_of W.is_known W.bytes_written W.failures W.is_stuck W.is_finished)
-        (map (λ s. inbound_of Rd.all_bytes s.role s.reader) starts.readers.items)
-        (map (λ s. s.role) starts.writers.items) (vec_len starts.workers) done) }
+        (ReaderPromises (reads_of Rd.is_known Rd.bytes_read Rd.failures Rd.pieces Rd.has_ended) Rd.made_of Rd.gives)
+        (WriterPromises (writes_of W.is_known W.bytes_written W.failures W.is_stuck W.is_finished) W.made_of)
+        (map (λ s. half_of s.role s.reader) starts.readers.items)
+        (map (λ s. half_of s.role s.writer) starts.writers.items) (vec_len starts.workers) done) }
     ensures fault { IfErr result (λ fault. (links workers : ℕ) → IsFaultOf links workers fault) }
 {
     let mut handles = Handles::new(alloc);
@@ -117,10 +118,10 @@ pub(crate) fn crew<
     starts: Starts<Rd, W, S, L, A>,
 ) -> Result<Done<Rd, W, S, L, A>, RunFault>
     ensures joined { IfOk result (λ done. AreJoined
-        (reads_of Rd.is_known Rd.bytes_read Rd.failures Rd.pieces Rd.has_ended)
-        (writes_of W.is_known W.bytes_written W.failures W.is_stuck W.is_finished)
-        (map (λ s. inbound_of Rd.all_bytes s.role s.reader) starts.readers.items)
-        (map (λ s. s.role) starts.writers.items) (vec_len starts.workers) done) }
+        (ReaderPromises (reads_of Rd.is_known Rd.bytes_read Rd.failures Rd.pieces Rd.has_ended) Rd.made_of Rd.gives)
+        (WriterPromises (writes_of W.is_known W.bytes_written W.failures W.is_stuck W.is_finished) W.made_of)
+        (map (λ s. half_of s.role s.reader) starts.readers.items)
+        (map (λ s. half_of s.role s.writer) starts.writers.items) (vec_len starts.workers) done) }
     ensures fault { IfErr result (λ fault. (links workers : ℕ) → IsFaultOf links workers fault) }
 {
     thread::scope(thread::scope_env(), rt, |scope| {

@@ -19,10 +19,18 @@ ghost use Rattle.std.specs.Prelude.{
 };
 ghost use Rattle.gn_bodies.specs.declared.worker.WorkerDone.{WorkerDone};
 ghost use Rattle.gn_threads.specs.Faults.{IsFaultOf};
-ghost use Rattle.gn_threads.specs.Gathered.{reader_reported};
+ghost use Rattle.gn_threads.specs.Gathered.{reader_reported, writer_reported};
 ghost use Rattle.gn_threads.specs.Halves.{reads_of, writes_of};
 ghost use Rattle.gn_threads.specs.Headline.{Holds};
-ghost use Rattle.gn_threads.specs.Kept.{EachKeeps, ReaderKeeps, WriterKeeps, reader_ended, reader_homed, writer_ended};
+ghost use Rattle.gn_threads.specs.Kept.{
+  EachKeeps,
+  ReaderKeeps,
+  WriterKeeps,
+  reader_ended,
+  reader_homed,
+  telling,
+  writer_ended,
+};
 ghost use Rattle.gn_threads.specs.Shares.{parts_of};
 
 use crate::confirming::{least, report};
@@ -64,10 +72,10 @@ pub(crate) fn finish<
     requires few { (length roles.now ≤ 256) × (vec_len done.workers ≤ 16) }
     requires many { (vec_len done.readers ≡ length roles.now) × (vec_len done.writers ≡ length roles.now) }
     requires readers { EachKeeps ReaderKeeps roles.now
-        (map (reader_ended (reads_of Rd.is_known Rd.bytes_read Rd.failures Rd.pieces Rd.has_ended))
+        (map (λ d. telling (reads_of Rd.is_known Rd.bytes_read Rd.failures Rd.pieces Rd.has_ended) (reader_ended d))
         done.readers.items) }
     requires writers { EachKeeps WriterKeeps roles.now
-        (map (writer_ended (writes_of W.is_known W.bytes_written W.failures W.is_stuck W.is_finished))
+        (map (λ d. telling (writes_of W.is_known W.bytes_written W.failures W.is_stuck W.is_finished) (writer_ended d))
         done.writers.items) }
     ensures fault { IfErr result (λ fault. IsFaultOf (length roles.now) (vec_len done.workers) fault) }
     ensures holds { IfOk result (λ report. Holds
@@ -75,11 +83,9 @@ pub(crate) fn finish<
         (writes_of W.is_known W.bytes_written W.failures W.is_stuck W.is_finished)
         config.now roles.now report) }
     ensures workers { IfOk result (λ report. vec_len report.workers ≡ vec_len done.workers) }
-    ensures reported { IfOk result (λ report.
-        map (reader_reported (reads_of Rd.is_known Rd.bytes_read Rd.failures Rd.pieces Rd.has_ended))
-        report.links.items
-        ≡ map (reader_ended (reads_of Rd.is_known Rd.bytes_read Rd.failures Rd.pieces Rd.has_ended))
-        done.readers.items) }
+    ensures read { IfOk result (λ report. map reader_reported report.links.items ≡ map reader_ended done.readers.items) }
+    ensures written { IfOk result (λ report.
+        map writer_reported report.links.items ≡ map writer_ended done.writers.items) }
     ensures clean { IfOk result (λ _. (k : ℕ) (d : WorkerDone S L A) → k < vec_len done.workers
         → IsOk (slice_index_or done.workers.items k d).end) }
 {
@@ -150,10 +156,10 @@ fn assemble<L: Ledger, C: RouterCore<A> + Drop, Rd: LinkReader, W: LinkWriter, A
     requires few { (length roles.now ≤ 256) × (vec_len worked.receipts ≤ 16) }
     requires many { (vec_len readers ≡ length roles.now) × (vec_len writers ≡ length roles.now) }
     requires readers { EachKeeps ReaderKeeps roles.now
-        (map (reader_homed (reads_of Rd.is_known Rd.bytes_read Rd.failures Rd.pieces Rd.has_ended))
+        (map (λ d. telling (reads_of Rd.is_known Rd.bytes_read Rd.failures Rd.pieces Rd.has_ended) (reader_homed d))
         readers.items) }
     requires writers { EachKeeps WriterKeeps roles.now
-        (map (writer_ended (writes_of W.is_known W.bytes_written W.failures W.is_stuck W.is_finished))
+        (map (λ d. telling (writes_of W.is_known W.bytes_written W.failures W.is_stuck W.is_finished) (writer_ended d))
         writers.items) }
     requires suspect { IfSome suspect (λ a. a < length roles.now + length roles.now + vec_len worked.receipts + 1) }
     ensures fault { IfErr result (λ fault. IsFaultOf (length roles.now) (vec_len worked.receipts) fault) }
@@ -162,11 +168,8 @@ fn assemble<L: Ledger, C: RouterCore<A> + Drop, Rd: LinkReader, W: LinkWriter, A
         (writes_of W.is_known W.bytes_written W.failures W.is_stuck W.is_finished)
         config.now roles.now report) }
     ensures workers { IfOk result (λ report. vec_len report.workers ≡ vec_len worked.receipts) }
-    ensures reported { IfOk result (λ report.
-        map (reader_reported (reads_of Rd.is_known Rd.bytes_read Rd.failures Rd.pieces Rd.has_ended))
-        report.links.items
-        ≡ map (reader_homed (reads_of Rd.is_known Rd.bytes_read Rd.failures Rd.pieces Rd.has_ended))
-        readers.items) }
+    ensures read { IfOk result (λ report. map reader_reported report.links.items ≡ map reader_homed readers.items) }
+    ensures written { IfOk result (λ report. map writer_reported report.links.items ≡ map writer_ended writers.items) }
     ensures clean { IfOk result (λ _. suspect ≡ None) }
 {
     let linked = gather_links(alloc, readers, writers)?;

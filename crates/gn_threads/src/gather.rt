@@ -3,7 +3,6 @@
 ghost use Rattle.std.specs.Prelude.{◌≡◌, ◌+◌, ◌++◌, ◌∷◌, ◌<◌, ◌≤◌, [], ℕ, map, vec_len, IfErr, IfOk, Ok};
 ghost use Rattle.gn_threads.specs.Faults.{IsFaultOf};
 ghost use Rattle.gn_threads.specs.Gathered.{link_receipts, reader_reported, worker_receipts, writer_reported};
-ghost use Rattle.gn_threads.specs.Halves.{reads_of, writes_of};
 ghost use Rattle.gn_threads.specs.Kept.{reader_ended, reader_homed, writer_ended};
 ghost use Rattle.gn_threads.specs.Shares.{amount_of, parts_of};
 
@@ -50,11 +49,7 @@ pub(crate) fn send_home<Rd: LinkReader, S: Site, L: Ledger, A: Allocator + Copy>
     readers: Vec<ReaderDone<Rd, S, L, A>, A>,
 ) -> Result<(Vec<HomedReader<Rd, L, A>, A>, Vec<IntakeHome<S, A>, A>), AllocError>
     ensures many { IfOk result (λ sent. vec_len sent.0 ≡ vec_len readers) }
-    ensures readers { IfOk result (λ sent.
-        map (reader_homed (reads_of Rd.is_known Rd.bytes_read Rd.failures Rd.pieces Rd.has_ended))
-        sent.0.items
-        ≡ map (reader_ended (reads_of Rd.is_known Rd.bytes_read Rd.failures Rd.pieces Rd.has_ended))
-        readers.items) }
+    ensures readers { IfOk result (λ sent. map reader_homed sent.0.items ≡ map reader_ended readers.items) }
 {
     let (mut homed, mut homes) = (Vec::new(alloc), Vec::new(alloc));
     for done in readers {
@@ -93,20 +88,10 @@ impl<Rd: LinkReader, W: LinkWriter, L: Ledger, A: Allocator + Copy> Linked<Rd, W
         requires { (link < links) × (links ≤ 256) }
         ensures fault { IfErr result (λ fault. (workers : ℕ) → IsFaultOf links workers fault) }
         ensures many { IfOk result (λ linked. vec_len linked.links ≡ vec_len self.links + 1) }
-        ensures reader { IfOk result (λ linked.
-            map (reader_reported (reads_of Rd.is_known Rd.bytes_read Rd.failures Rd.pieces Rd.has_ended))
-            linked.links.items
-            ≡ map (reader_reported (reads_of Rd.is_known Rd.bytes_read Rd.failures Rd.pieces Rd.has_ended))
-            self.links.items
-            ++ reader_homed (reads_of Rd.is_known Rd.bytes_read Rd.failures Rd.pieces Rd.has_ended) reader
-            ∷ []) }
-        ensures writer { IfOk result (λ linked.
-            map (writer_reported (writes_of W.is_known W.bytes_written W.failures W.is_stuck W.is_finished))
-            linked.links.items
-            ≡ map (writer_reported (writes_of W.is_known W.bytes_written W.failures W.is_stuck W.is_finished))
-            self.links.items
-            ++ writer_ended (writes_of W.is_known W.bytes_written W.failures W.is_stuck W.is_finished) writer
-            ∷ []) }
+        ensures reader { IfOk result (λ linked. map reader_reported linked.links.items
+            ≡ map reader_reported self.links.items ++ reader_homed reader ∷ []) }
+        ensures writer { IfOk result (λ linked. map writer_reported linked.links.items
+            ≡ map writer_reported self.links.items ++ writer_ended writer ∷ []) }
     {
         let Linked {
             links: before,
@@ -168,15 +153,9 @@ pub(crate) fn gather_links<Rd: LinkReader, W: LinkWriter, L: Ledger, A: Allocato
     ensures fault { IfErr result (λ fault. (workers : ℕ) → IsFaultOf (vec_len readers) workers fault) }
     ensures many { IfOk result (λ linked. vec_len linked.links ≡ vec_len readers) }
     ensures readers { IfOk result (λ linked.
-        map (reader_reported (reads_of Rd.is_known Rd.bytes_read Rd.failures Rd.pieces Rd.has_ended))
-        linked.links.items
-        ≡ map (reader_homed (reads_of Rd.is_known Rd.bytes_read Rd.failures Rd.pieces Rd.has_ended))
-        readers.items) }
+        map reader_reported linked.links.items ≡ map reader_homed readers.items) }
     ensures writers { IfOk result (λ linked.
-        map (writer_reported (writes_of W.is_known W.bytes_written W.failures W.is_stuck W.is_finished))
-        linked.links.items
-        ≡ map (writer_ended (writes_of W.is_known W.bytes_written W.failures W.is_stuck W.is_finished))
-        writers.items) }
+        map writer_reported linked.links.items ≡ map writer_ended writers.items) }
 {
     let links = readers.len() as u32;
     let mut linked = Linked::new(alloc);

@@ -43,8 +43,9 @@ pub(crate) fn split_all<K: Link, A: Allocator + Copy>(
 ) -> Result<Halves<K::Reader, K::Writer, A>, RunFault>
     requires few { length links.items ≤ 256 }
     ensures roles { IfOk result (λ halves. halves.roles.items ≡ map K.role_of links.items) }
-    ensures bytes { IfOk result (λ halves.
-        map (λ half. K.Reader.all_bytes half.reader) halves.readers.items ≡ map K.all_bytes links.items) }
+    ensures made { IfOk result (λ halves.
+        (map (λ half. K.Reader.made_of half.reader) halves.readers.items ≡ map K.origin_of links.items)
+        × (map (λ half. K.Writer.made_of half.writer) halves.writers.items ≡ map K.origin_of links.items)) }
     ensures many { IfOk result (λ halves. (vec_len halves.roles ≡ vec_len links)
         × (vec_len halves.readers ≡ vec_len links) × (vec_len halves.writers ≡ vec_len links)) }
     ensures fault { IfErr result (λ fault. (workers : ℕ) → IsFaultOf (length links.items) workers fault) }

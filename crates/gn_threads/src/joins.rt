@@ -3,9 +3,9 @@
 ghost use Rattle.std.specs.Prelude.{◌≡◌, [], ℕ, map, vec_len, if◌then◌else◌, IfErr, IfOk};
 ghost use Rattle.gn_threads.specs.declared.fault.RunFault.TheVariants.{HistoryFull, NoMemory};
 ghost use Rattle.gn_threads.specs.Faults.{IsFaultOf};
-ghost use Rattle.gn_threads.specs.Halves.{inbound_of, reads_of, writes_of};
+ghost use Rattle.gn_threads.specs.Halves.{half_of, reads_of, writes_of};
 ghost use Rattle.gn_threads.specs.Joined.{AreJoined};
-ghost use Rattle.gn_threads.specs.Kept.{EachKeeps, ReaderPromises, WriterKeeps, reader_ended, writer_ended};
+ghost use Rattle.gn_threads.specs.Kept.{EachKeeps, ReaderPromises, WriterPromises, reader_ended, writer_ended};
 
 use crate::done::Done;
 use crate::ended::{Body, any_full};
@@ -67,9 +67,10 @@ fn join_readers<Rd: LinkReader, S: Site, L: Ledger, A: Allocator + Copy, R: Thre
     handles: Vec<ReaderHandle<Rd, S, L, A>, A>,
 ) -> Result<Vec<ReaderDone<Rd, S, L, A>, A>, Lost>
     ensures many { IfOk result (λ done. vec_len done ≡ vec_len handles) }
-    ensures kept { IfOk result (λ done. EachKeeps ReaderPromises
-        (map (λ h. inbound_of Rd.all_bytes h.promise.start.value.role h.promise.start.value.reader) handles.items)
-        (map (reader_ended (reads_of Rd.is_known Rd.bytes_read Rd.failures Rd.pieces Rd.has_ended)) done.items)) }
+    ensures kept { IfOk result (λ done. EachKeeps
+        (ReaderPromises (reads_of Rd.is_known Rd.bytes_read Rd.failures Rd.pieces Rd.has_ended) Rd.made_of Rd.gives)
+        (map (λ h. half_of h.promise.start.value.role h.promise.start.value.reader) handles.items)
+        (map reader_ended done.items)) }
 {
     match thread::join_promised(rt, handles) {
         Ok(done) => Ok(done),
@@ -83,8 +84,10 @@ fn join_writers<W: LinkWriter, L: Ledger, A: Allocator + Copy, R: Threads>(
     handles: Vec<WriterHandle<W, L, A>, A>,
 ) -> Result<Vec<WriterDone<W, L, A>, A>, Lost>
     ensures many { IfOk result (λ done. vec_len done ≡ vec_len handles) }
-    ensures kept { IfOk result (λ done. EachKeeps WriterKeeps (map (λ h. h.promise.role) handles.items)
-        (map (writer_ended (writes_of W.is_known W.bytes_written W.failures W.is_stuck W.is_finished)) done.items)) }
+    ensures kept { IfOk result (λ done. EachKeeps
+        (WriterPromises (writes_of W.is_known W.bytes_written W.failures W.is_stuck W.is_finished) W.made_of)
+        (map (λ h. half_of h.promise.start.value.role h.promise.start.value.writer) handles.items)
+        (map writer_ended done.items)) }
 {
     match thread::join_promised(rt, handles) {
         Ok(done) => Ok(done),
@@ -161,11 +164,11 @@ impl<Rd: LinkReader, W: LinkWriter, S: Site, L: Ledger, A: Allocator + Copy> Han
     /// or else memory.
     pub(crate) fn join<R: Threads>(self, rt: &R) -> Result<Done<Rd, W, S, L, A>, RunFault>
         ensures joined { IfOk result (λ done. AreJoined
-            (reads_of Rd.is_known Rd.bytes_read Rd.failures Rd.pieces Rd.has_ended)
-            (writes_of W.is_known W.bytes_written W.failures W.is_stuck W.is_finished)
-            (map (λ h. inbound_of Rd.all_bytes h.promise.start.value.role h.promise.start.value.reader)
-            self.readers.items)
-            (map (λ h. h.promise.role) self.writers.items) (vec_len self.workers) done) }
+            (ReaderPromises (reads_of Rd.is_known Rd.bytes_read Rd.failures Rd.pieces Rd.has_ended) Rd.made_of Rd.gives)
+            (WriterPromises (writes_of W.is_known W.bytes_written W.failures W.is_stuck W.is_finished) W.made_of)
+            (map (λ h. half_of h.promise.start.value.role h.promise.start.value.reader) self.readers.items)
+            (map (λ h. half_of h.promise.start.value.role h.promise.start.value.writer) self.writers.items)
+            (vec_len self.workers) done) }
         ensures fault { IfErr result (λ fault. (links workers : ℕ) → IsFaultOf links workers fault) }
     {
         let Handles {

@@ -2,7 +2,7 @@
 
 ghost use Rattle.std.specs.Prelude.{◌≡◌, ◌+◌, ◌*◌, ◌≤◌, map, vec_len, IfOk};
 ghost use Rattle.gn_service.specs.ActorState.{AreNew};
-ghost use Rattle.gn_threads.specs.Halves.{inbound_of};
+ghost use Rattle.gn_threads.specs.Halves.{half_of};
 
 use crate::halves::{ReaderHalf, WriterHalf};
 use crate::start::{ReaderStart, WorkerStart, WriterStart};
@@ -34,10 +34,9 @@ pub(crate) fn starts_of<Rd: LinkReader, W: LinkWriter, S: Site, L: Ledger, A: Al
     requires few { (vec_len readers ≤ 256) × (vec_len outlets ≤ 16) }
     requires actors { AreNew (2 * vec_len readers + vec_len outlets + 1) actors.items }
     ensures readers { IfOk result (λ made.
-        map (λ s. inbound_of Rd.all_bytes s.role s.reader) made.0.readers.items
-        ≡ map (λ h. inbound_of Rd.all_bytes h.role h.reader) readers.items) }
+        map (λ s. half_of s.role s.reader) made.0.readers.items ≡ map (λ h. half_of h.role h.reader) readers.items) }
     ensures writers { IfOk result (λ made.
-        map (λ s. s.role) made.0.writers.items ≡ map (λ h. h.role) writers.items) }
+        map (λ s. half_of s.role s.writer) made.0.writers.items ≡ map (λ h. half_of h.role h.writer) writers.items) }
     ensures many { IfOk result (λ made. (vec_len made.0.readers ≡ vec_len readers)
         × (vec_len made.0.writers ≡ vec_len writers) × (vec_len made.0.workers ≡ vec_len outlets)) }
 {
@@ -63,8 +62,8 @@ pub(crate) fn reader_starts<Rd: LinkReader, S: Site, L: Ledger, A: Allocator + C
     requires first { actors.old.next ≡ 0 }
     requires few { vec_len halves ≤ 256 }
     requires enough { (vec_len halves ≤ actors.old.left) × (vec_len intakes ≡ vec_len halves) }
-    ensures links { IfOk result (λ starts. map (λ s. inbound_of Rd.all_bytes s.role s.reader) starts.items
-        ≡ map (λ h. inbound_of Rd.all_bytes h.role h.reader) halves.items) }
+    ensures links { IfOk result (λ starts.
+        map (λ s. half_of s.role s.reader) starts.items ≡ map (λ h. half_of h.role h.reader) halves.items) }
     ensures many { IfOk result (λ starts. vec_len starts ≡ vec_len halves) }
     ensures left { IfOk result (λ _. actors.new.left + vec_len halves ≡ actors.old.left) }
 {
@@ -96,7 +95,8 @@ pub(crate) fn writer_starts<W: LinkWriter, L: Ledger, A: Allocator + Copy>(
 ) -> Result<Vec<WriterStart<W, L, A>, A>, AllocError>
     requires few { vec_len halves ≤ 256 }
     requires enough { vec_len halves ≤ actors.old.left }
-    ensures roles { IfOk result (λ starts. map (λ s. s.role) starts.items ≡ map (λ h. h.role) halves.items) }
+    ensures links { IfOk result (λ starts.
+        map (λ s. half_of s.role s.writer) starts.items ≡ map (λ h. half_of h.role h.writer) halves.items) }
     ensures many { IfOk result (λ starts. vec_len starts ≡ vec_len halves) }
     ensures left { IfOk result (λ _. actors.new.left + vec_len halves ≡ actors.old.left) }
 {

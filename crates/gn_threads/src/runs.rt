@@ -7,6 +7,7 @@ ghost use Rattle.gn_threads.specs.declared.fault.RunFault.TheVariants.{BadWorker
 ghost use Rattle.gn_threads.specs.Faults.{IsFaultOf};
 ghost use Rattle.gn_threads.specs.Halves.{reads_of, writes_of};
 ghost use Rattle.gn_threads.specs.Headline.{
+  AreMadeOf,
   HasCountedSteps,
   HasLegalHistory,
   HasOwnStats,
@@ -38,7 +39,8 @@ use std::thread::Threads;
 /// Runs a router over these links, each read and written by a thread of its own, with so many workers between them, 1 to 16,
 /// until all links are done; and reports what each actor did. At most 256 links.
 ///
-/// A fault is the first in the order of `RunFault` that was met. Whatever it is, no thread runs on.
+/// Of several faults it answers the one that it finds first, but a full history before memory where bodies met both. Whatever
+/// the fault, no thread runs on.
 pub fn run<
     C: RouterCore<A> + Drop + Send,
     K: Link,
@@ -71,7 +73,9 @@ where
         (map K.role_of links.items) report) }
     ensures bytes { IfOk result (λ report. LinksReadOwn
         (reads_of K.Reader.is_known K.Reader.bytes_read K.Reader.failures K.Reader.pieces K.Reader.has_ended)
-        (map K.all_bytes links.items) report) }
+        (map (λ link. K.Reader.gives (K.origin_of link)) links.items) report) }
+    ensures made { IfOk result (λ report. AreMadeOf K.Reader.made_of K.Writer.made_of
+        (map K.origin_of links.items) (map K.origin_of links.items) report) }
     ensures others { IfOk result (λ report. OthersRoute report) }
     ensures routed { IfOk result (λ report. RoutesEachOnce report) }
     ensures stats { IfOk result (λ report. HasOwnStats report) }
@@ -168,7 +172,10 @@ fn run_in<
         config.now halves.roles.items report) }
     ensures bytes { IfOk result (λ report. LinksReadOwn
         (reads_of Rd.is_known Rd.bytes_read Rd.failures Rd.pieces Rd.has_ended)
-        (map (λ half. Rd.all_bytes half.reader) halves.readers.items) report) }
+        (map (λ half. Rd.gives (Rd.made_of half.reader)) halves.readers.items) report) }
+    ensures made { IfOk result (λ report. AreMadeOf Rd.made_of W.made_of
+        (map (λ half. Rd.made_of half.reader) halves.readers.items)
+        (map (λ half. W.made_of half.writer) halves.writers.items) report) }
     ensures workers { IfOk result (λ report. vec_len report.workers ≡ workers) }
 {
     let Halves {

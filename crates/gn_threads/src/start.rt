@@ -2,8 +2,8 @@
 
 ghost use Rattle.std.specs.Prelude.{◌≡◌, ◌+◌, ◌++◌, ◌∷◌, [], true, map, vec_len};
 ghost use Rattle.gn_links.specs.Halves.{IsNewReader, IsNewWriter};
-ghost use Rattle.gn_threads.specs.Halves.{inbound_of, reads_of, writes_of};
-ghost use Rattle.gn_threads.specs.Kept.{ReaderPromises, WriterKeeps, reader_ended, writer_ended};
+ghost use Rattle.gn_threads.specs.Halves.{half_of, reads_of, writes_of};
+ghost use Rattle.gn_threads.specs.Kept.{ReaderPromises, WriterPromises, reader_ended, writer_ended};
 
 use gn_bodies::{ReaderDone, WorkerDone, WriterDone, reader_body, worker_body, writer_body};
 use gn_links::{Gate, LinkReader, LinkWriter};
@@ -59,25 +59,27 @@ pub(crate) struct Reads<Rd: LinkReader, S: Site, L: Ledger, A: Allocator = Globa
 
 impl<Rd: LinkReader, S: Site, L: Ledger, A: Allocator> Promise<ReaderDone<Rd, S, L, A>>
     for Reads<Rd, S, L, A> {
-    ghost use Rattle.gn_threads.specs.Halves.{inbound_of, reads_of};
+    ghost use Rattle.gn_threads.specs.Halves.{half_of, reads_of};
     ghost use Rattle.gn_threads.specs.Kept.{ReaderPromises, reader_ended};
 
-    ghost kept_by = { λ p r. ReaderPromises (inbound_of Rd.all_bytes p.start.value.role p.start.value.reader)
-        (reader_ended (reads_of Rd.is_known Rd.bytes_read Rd.failures Rd.pieces Rd.has_ended) r) };
+    ghost kept_by = { λ p r. ReaderPromises
+        (reads_of Rd.is_known Rd.bytes_read Rd.failures Rd.pieces Rd.has_ended) Rd.made_of Rd.gives
+        (half_of p.start.value.role p.start.value.reader) (reader_ended r) };
 }
 
-/// The promise of a writer's thread: what its body keeps, on a link of this role.
-#[derive(Clone, Copy)]
-pub(crate) struct Writes {
-    pub role: Role,
+/// The promise of a writer's thread: what its body keeps, from this start.
+#[derive(Drop)]
+pub(crate) struct Writes<W: LinkWriter, L: Ledger, A: Allocator = Global> {
+    pub start: Snapshot<WriterStart<W, L, A>>,
 }
 
-impl<W: LinkWriter, L: Ledger, A: Allocator> Promise<WriterDone<W, L, A>> for Writes {
-    ghost use Rattle.gn_threads.specs.Halves.{writes_of};
-    ghost use Rattle.gn_threads.specs.Kept.{WriterKeeps, writer_ended};
+impl<W: LinkWriter, L: Ledger, A: Allocator> Promise<WriterDone<W, L, A>> for Writes<W, L, A> {
+    ghost use Rattle.gn_threads.specs.Halves.{half_of, writes_of};
+    ghost use Rattle.gn_threads.specs.Kept.{WriterPromises, writer_ended};
 
-    ghost kept_by = { λ p r. WriterKeeps p.role
-        (writer_ended (writes_of W.is_known W.bytes_written W.failures W.is_stuck W.is_finished) r) };
+    ghost kept_by = { λ p r. WriterPromises
+        (writes_of W.is_known W.bytes_written W.failures W.is_stuck W.is_finished) W.made_of
+        (half_of p.start.value.role p.start.value.writer) (writer_ended r) };
 }
 
 /// The promise of a worker's thread: it made no event but routes.
@@ -96,7 +98,7 @@ pub(crate) type ReaderHandle<Rd, S, L, A> = PromisedHandle<
     Reads<Rd, S, L, A>,
 >;
 
-pub(crate) type WriterHandle<W, L, A> = PromisedHandle<WriterDone<W, L, A>, Writes>;
+pub(crate) type WriterHandle<W, L, A> = PromisedHandle<WriterDone<W, L, A>, Writes<W, L, A>>;
 
 pub(crate) type WorkerHandle<S, L, A> = PromisedHandle<WorkerDone<S, L, A>, Works>;
 
@@ -114,8 +116,8 @@ fn read_link<
     service: &Service<C, L, A>,
     start: ReaderStart<Rd, S, L, A>,
 ) -> ReaderDone<Rd, S, L, A>
-    ensures { ReaderPromises (inbound_of Rd.all_bytes start.role start.reader)
-        (reader_ended (reads_of Rd.is_known Rd.bytes_read Rd.failures Rd.pieces Rd.has_ended) result) }
+    ensures { ReaderPromises (reads_of Rd.is_known Rd.bytes_read Rd.failures Rd.pieces Rd.has_ended) Rd.made_of Rd.gives
+        (half_of start.role start.reader) (reader_ended result) }
 {
     let ReaderStart {
         actor,
@@ -199,8 +201,8 @@ fn write_link<W: LinkWriter, C: RouterCore<A> + Drop, L: Ledger, A: Allocator + 
     service: &Service<C, L, A>,
     start: WriterStart<W, L, A>,
 ) -> WriterDone<W, L, A>
-    ensures { WriterKeeps start.role
-        (writer_ended (writes_of W.is_known W.bytes_written W.failures W.is_stuck W.is_finished) result) }
+    ensures { WriterPromises (writes_of W.is_known W.bytes_written W.failures W.is_stuck W.is_finished) W.made_of
+        (half_of start.role start.writer) (writer_ended result) }
 {
     let WriterStart {
         actor,
@@ -228,17 +230,16 @@ pub(crate) fn start_writer<
     start: WriterStart<W, L, A>,
     handles: &mut Vec<WriterHandle<W, L, A>, A>,
 ) -> bool
-    ensures { result ≡ true → map (λ h. h.promise.role) handles.new.items
-        ≡ map (λ h. h.promise.role) handles.old.items ++ start.role ∷ [] }
+    ensures { result ≡ true → map (λ h. h.promise.start.value) handles.new.items
+        ≡ map (λ h. h.promise.start.value) handles.old.items ++ start ∷ [] }
 {
     if handles.reserve(1).is_err() {
         return false;
     }
-    let role = start.role;
-    match scope.spawn_with(
-        Writes { role },
-        move || write_link(rt, alloc, service, start),
-    ) {
+    let promise = Writes {
+        start: Snapshot::of(&start),
+    };
+    match scope.spawn_with(promise, move || write_link(rt, alloc, service, start)) {
         Ok(handle) => {
             handles.push_reserved(handle);
             true
@@ -265,7 +266,7 @@ pub(crate) fn start_writers<
     handles: &mut Vec<WriterHandle<W, L, A>, A>,
 ) -> bool
     requires none { handles.old.items ≡ [] }
-    ensures { result ≡ true → map (λ h. h.promise.role) handles.new.items ≡ map (λ s. s.role) starts.items }
+    ensures { result ≡ true → map (λ h. h.promise.start.value) handles.new.items ≡ starts.items }
 {
     for start in starts {
         if !start_writer(rt, alloc, scope, service, start, handles) {

@@ -4,6 +4,7 @@ ghost use Rattle.std.specs.Prelude.{◌≡◌, ◌<◌, ◌++◌, ◌∷◌, [],
 ghost use Rattle.gn_threads.specs.Faults.{IsFaultOf};
 ghost use Rattle.gn_threads.specs.Halves.{reads_of, writes_of};
 ghost use Rattle.gn_threads.specs.Joined.{AreJoinedOf};
+ghost use Rattle.gn_threads.specs.Kept.{ReaderPromises, WriterPromises};
 
 use crate::arrivals::Arrivals;
 use crate::done::Done;
@@ -45,8 +46,8 @@ fn start_link<
 ) -> Result<(), RunFault>
     ensures readers { OnOk result (map (λ h. h.promise.start.value.role) handles.new.readers.items
         ≡ map (λ h. h.promise.start.value.role) handles.old.readers.items ++ reading.role ∷ []) }
-    ensures writers { OnOk result (map (λ h. h.promise.role) handles.new.writers.items
-        ≡ map (λ h. h.promise.role) handles.old.writers.items ++ writing.role ∷ []) }
+    ensures writers { OnOk result (map (λ h. h.promise.start.value.role) handles.new.writers.items
+        ≡ map (λ h. h.promise.start.value.role) handles.old.writers.items ++ writing.role ∷ []) }
     ensures workers { handles.new.workers ≡ handles.old.workers }
     ensures fault { IfErr result (λ fault. (links workers : ℕ) → reading.link < links → IsFaultOf links workers fault) }
 {
@@ -89,7 +90,7 @@ fn start_links<
     requires none { (handles.old.readers.items ≡ []) × (handles.old.writers.items ≡ []) }
     ensures readers { OnOk result (map (λ h. h.promise.start.value.role) handles.new.readers.items
         ≡ map (λ p. p.role) readers.items) }
-    ensures writers { OnOk result (map (λ h. h.promise.role) handles.new.writers.items
+    ensures writers { OnOk result (map (λ h. h.promise.start.value.role) handles.new.writers.items
         ≡ map (λ p. p.role) writers.items) }
     ensures workers { handles.new.workers ≡ handles.old.workers }
     ensures fault { IfErr result (λ fault. (workers : ℕ) → IsFaultOf (vec_len readers) workers fault) }
@@ -136,7 +137,7 @@ fn start_all<
         × (handles.old.workers.items ≡ []) }
     ensures readers { OnOk result (map (λ h. h.promise.start.value.role) handles.new.readers.items
         ≡ map (λ p. p.role) places.readers.items) }
-    ensures writers { OnOk result (map (λ h. h.promise.role) handles.new.writers.items
+    ensures writers { OnOk result (map (λ h. h.promise.start.value.role) handles.new.writers.items
         ≡ map (λ p. p.role) places.writers.items) }
     ensures workers { OnOk result (vec_len handles.new.workers ≡ vec_len places.workers) }
     ensures fault { IfErr result (λ fault. (workers : ℕ) → IsFaultOf (vec_len places.readers) workers fault) }
@@ -178,8 +179,8 @@ fn welcome_in<
     places: Places<S, L, A>,
 ) -> Result<Done<Rd, W, S, L, A>, RunFault>
     ensures joined { IfOk result (λ done. AreJoinedOf
-        (reads_of Rd.is_known Rd.bytes_read Rd.failures Rd.pieces Rd.has_ended)
-        (writes_of W.is_known W.bytes_written W.failures W.is_stuck W.is_finished)
+        (ReaderPromises (reads_of Rd.is_known Rd.bytes_read Rd.failures Rd.pieces Rd.has_ended) Rd.made_of Rd.gives)
+        (WriterPromises (writes_of W.is_known W.bytes_written W.failures W.is_stuck W.is_finished) W.made_of)
         (map (λ p. p.role) places.readers.items) (map (λ p. p.role) places.writers.items)
         (vec_len places.workers) done) }
     ensures fault { IfErr result (λ fault. (workers : ℕ) → IsFaultOf (vec_len places.readers) workers fault) }
@@ -234,8 +235,8 @@ pub(crate) fn welcome<
     places: Places<S, L, A>,
 ) -> Result<Done<Rd, W, S, L, A>, RunFault>
     ensures joined { IfOk result (λ done. AreJoinedOf
-        (reads_of Rd.is_known Rd.bytes_read Rd.failures Rd.pieces Rd.has_ended)
-        (writes_of W.is_known W.bytes_written W.failures W.is_stuck W.is_finished)
+        (ReaderPromises (reads_of Rd.is_known Rd.bytes_read Rd.failures Rd.pieces Rd.has_ended) Rd.made_of Rd.gives)
+        (WriterPromises (writes_of W.is_known W.bytes_written W.failures W.is_stuck W.is_finished) W.made_of)
         (map (λ p. p.role) places.readers.items) (map (λ p. p.role) places.writers.items)
         (vec_len places.workers) done) }
     ensures fault { IfErr result (λ fault. (workers : ℕ) → IsFaultOf (vec_len places.readers) workers fault) }

@@ -12,11 +12,15 @@ pub(super) struct EndlessReader {
 }
 
 impl LinkReader for EndlessReader {
-    ghost use Rattle.std.specs.Prelude.{[], false};
+    type Origin = ();
+
+    ghost use Rattle.std.specs.Prelude.{[], false, true};
 
     ghost is_known = { false };
 
-    ghost all_bytes = { λ _. [] };
+    ghost made_of = { λ _. tt };
+
+    ghost gives = { λ _. record { bytes = []; may_fail = true } };
 
     ghost bytes_read = { λ _. [] };
 

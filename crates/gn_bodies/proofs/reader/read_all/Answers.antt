@@ -1,5 +1,5 @@
 use Rattle.std.proofs.Common.{rules, ◌≡◌, ◌∙◌, ◌++◌, ap, take, append-nil}
-use Rattle.gn_bodies.proofs.ReadingLemmas.{bytes_source, ended_row, failed_row, turns_row}
+use Rattle.gn_bodies.proofs.ReadingLemmas.{bytes_not_failed, bytes_source, end_not_failed, ended_row, failed_row, turns_row}
 use Rattle.gn_bodies.proofs.reader.read_all.Goals as goal
 
 pub returns-in-End-clause-source : goal.returns-in-End-clause-source
@@ -27,3 +27,12 @@ returns-in-Err-clause-row g c known =
     let bytes = g.Rd.LinkReader.bytes_read c.loop.reader in
     let same : g.Rd.LinkReader.bytes_read c.read.new.self ≡ bytes = c.in-Err.ensures.bytes known ∙ append-nil bytes in
     rw (c.connection.ensures, same) (failed_row c.greeting_is_told.ensures c.args.role c.loop.reading bytes c.loop.me.actor (was.is known) was.has)
+
+pub returns-in-End-clause-failed : goal.returns-in-End-clause-failed
+returns-in-End-clause-failed g c = bytes_not_failed c.in-End.end c.in-End.ensures.ends
+
+pub returns-in-End-take_piece-clause-failed : goal.returns-in-End-take_piece-clause-failed
+returns-in-End-take_piece-clause-failed g c = bytes_not_failed c.in-End-take_piece.end c.in-End-take_piece.ensures.ends
+
+pub returns-in-Ok-eq0-clause-failed : goal.returns-in-Ok-eq0-clause-failed
+returns-in-Ok-eq0-clause-failed g c = end_not_failed c.loop.reading _ c.end_of_bytes.ensures

@@ -9,8 +9,8 @@ invariant-loop g l = record {
   numbers : HasSameNumbers l.initial.me l.me;
   has : HasConnection l.reading l.me.actor;
   is : g.Rd.LinkReader.is_known ≡ true → IsReading l.fn.role l.reading (g.Rd.LinkReader.bytes_read l.reader) l.me.actor;
-  all : g.Rd.LinkReader.all_bytes l.reader ≡ g.Rd.LinkReader.all_bytes l.initial.reader;
-  prefix : g.Rd.LinkReader.is_known ≡ true → IsReadOf (g.Rd.LinkReader.all_bytes l.reader) (g.Rd.LinkReader.bytes_read l.reader) (g.Rd.LinkReader.has_ended l.reader);
+  made : g.Rd.LinkReader.made_of l.reader ≡ g.Rd.LinkReader.made_of l.initial.reader;
+  prefix : g.Rd.LinkReader.is_known ≡ true → IsReadOf (g.Rd.LinkReader.gives (g.Rd.LinkReader.made_of l.reader)).bytes (g.Rd.LinkReader.bytes_read l.reader) (g.Rd.LinkReader.has_ended l.reader);
   pieces : g.Rd.LinkReader.pieces l.reader ≡ l.counter;
   failures : g.Rd.LinkReader.failures l.reader ≡ 0;
   settled : StaysSettled l.initial.me l.me;

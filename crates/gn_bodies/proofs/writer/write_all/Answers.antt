@@ -1,4 +1,4 @@
-use Rattle.std.proofs.Common.{◌≡◌, ◌-◌, take, drop, length, arith}
+use Rattle.std.proofs.Common.{◌≡◌, ◌∙◌, ◌-◌, take, drop, length, arith}
 use Rattle.std.proofs.lemmas.Grind.{common_steps}
 use Rattle.gn_bodies.proofs.WrittenLemmas.{written_on}
 use Rattle.gn_bodies.proofs.writer.write_all.Goals as goal
@@ -10,5 +10,6 @@ loop-at-preserved g c =
     let all : take (length text - c.loop-at.at) (drop c.loop-at.at text) ≡ drop c.loop-at.at text = grind (arith, common_steps) in
     record {
       within = grind (arith, common_steps);
+      made = c.in-Ok.ensures.made ∙ was.made;
       bytes = λ known. written_on _ _ (g.W.LinkWriter.bytes_written c.args.writer.now) text (take (length text - c.loop-at.at) (drop c.loop-at.at text)) c.loop-at.at c.in-Ok.n all (was.bytes known) (c.in-Ok.ensures.bytes known);
     }

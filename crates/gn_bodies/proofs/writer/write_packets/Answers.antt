@@ -26,6 +26,7 @@ loop-preserved g c =
     let text : c.as_slice.result.now ≡ bytes_of packet = c.as_slice.ensures.value ∙ c.in-Ok.ensures c.loop.me.receipts index c.args.c packet (ap (λ w. w.receipts) got) in
     record {
       number = search rules;
+      made = c.write_all.ensures.made ∙ was.made;
       takes = takes_more c.args.c index packet c.loop.me c.take_next.new.me got was.takes;
       bytes = λ known.
           let more = c.if-not-write_all.ensures.yes (search rules) known in

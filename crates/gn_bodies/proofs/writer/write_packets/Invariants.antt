@@ -7,6 +7,7 @@ use Rattle.gn_bodies.proofs.writer.write_packets.Given as goal
 abbrev pub invariant-loop : goal.invariant-loop
 invariant-loop g l = record {
   number : l.me.number ≡ l.initial.me.number;
+  made : g.W.LinkWriter.made_of l.writer ≡ g.W.LinkWriter.made_of l.initial.writer;
   takes : AreTakes l.fn.c l.me;
   bytes : g.W.LinkWriter.is_known ≡ true → g.W.LinkWriter.bytes_written l.writer ≡ concat (texts l.fn.role (packets_of l.me));
 }

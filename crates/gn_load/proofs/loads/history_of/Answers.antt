@@ -2,7 +2,7 @@ use Rattle.gn_load.specs.declared.fault.LoadFault.TheVariants.{Run}
 use Rattle.gn_load.specs.Faults.{IsRunLoadFault}
 use Rattle.gn_load.specs.Loads.{load_of}
 use Rattle.gn_load.proofs.FewLemmas.{few_links}
-use Rattle.gn_load.proofs.LoadLemmas.{held, history_printed, made_of, on_err, refused_run}
+use Rattle.gn_load.proofs.LoadLemmas.{halves_made, held, history_printed, made_of, on_err, refused_run}
 use Rattle.gn_load.proofs.loads.history_of.Goals as goal
 
 pub run-requires-clause-few : goal.run-requires-clause-few
@@ -26,6 +26,6 @@ returns-clause-history g c =
     history_printed c.args.text.now c.in_ok-capture.capture c.args.workers links report c.new-history.result.items c.write_history.new.out.items c.deref-2.result.now
     c.in_ok-capture.ensures.read
     (made_of c.deref.result.now c.in_ok-capture.capture.lines.items _ c.deref.ensures.value c.in_ok-links.ensures)
-    (held c.in_ok-capture.capture.config links report ran.legal ran.counted ran.own ran.each.0 ran.links ran.others ran.routed ran.stats) ran.bytes ran.workers
+    (held c.in_ok-capture.capture.config links report ran.legal ran.counted ran.own ran.each.0 ran.links ran.others ran.routed ran.stats) ran.bytes (halves_made links report ran.made) ran.workers
     ran.each.1
     c.new-history.ensures.items c.deref-2.ensures.value c.in_ok-write_history.ensures.ok

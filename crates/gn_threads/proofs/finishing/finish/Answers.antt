@@ -3,8 +3,10 @@ use Rattle.std.specs.Prelude.{IfErr, IsOk}
 use Rattle.gn_bodies.specs.declared.worker.WorkerDone.{WorkerDone}
 use Rattle.gn_threads.specs.Faults.{IsFaultOf}
 use Rattle.std.proofs.lemmas.Result.{on_ok_weaker}
-use Rattle.gn_threads.specs.Kept.{EachKeeps, ReaderKeeps}
+use Rattle.gn_threads.specs.Halves.{reads_of}
+use Rattle.gn_threads.specs.Kept.{EachKeeps, ReaderKeeps, reader_ended, reader_homed, telling}
 use Rattle.gn_threads.proofs.FaultLemmas.{answer_below, below_more, handed_on, number_below, of_stop}
+use Rattle.gn_threads.proofs.KeptLemmas.{told_alike}
 use Rattle.gn_threads.proofs.finishing.finish.Goals as goal
 
 pub returns-in-Some-clause-fault : goal.returns-in-Some-clause-fault
@@ -14,7 +16,9 @@ pub returns-in_err-idle-clause-fault : goal.returns-in_err-idle-clause-fault
 returns-in_err-idle-clause-fault g c = handed_on _ c.from_residual-in_err-idle.result _ c.from_residual-in_err-idle.ensures.1 (c.in_err-idle.ensures.fault _ _ (omega (arith, c.len.ensures)))
 
 pub assemble-requires-clause-readers : goal.assemble-requires-clause-readers
-assemble-requires-clause-readers g c = subst (λ bodies. EachKeeps ReaderKeeps c.args.roles.now bodies) (sym c.in_ok-readers.ensures.readers) c.requires.readers
+assemble-requires-clause-readers g c =
+    subst (λ bodies. EachKeeps ReaderKeeps c.args.roles.now bodies)
+    (sym (told_alike reader_homed reader_ended (telling (reads_of g.Rd.LinkReader.is_known g.Rd.LinkReader.bytes_read g.Rd.LinkReader.failures g.Rd.LinkReader.pieces g.Rd.LinkReader.has_ended)) _ c.args.done.readers.items c.in_ok-readers.ensures.readers)) c.requires.readers
 
 pub assemble-requires-clause-suspect : goal.assemble-requires-clause-suspect
 assemble-requires-clause-suspect g c =

@@ -2,7 +2,6 @@ use Rattle.std.proofs.Common.{arith, subst, vec_len}
 use Rattle.std.specs.Vec.Iter.{into_iter_items}
 use Rattle.gn_threads.specs.Faults.{IsFaultOf}
 use Rattle.gn_threads.specs.Gathered.{reader_reported, writer_reported}
-use Rattle.gn_threads.specs.Halves.{reads_of, writes_of}
 use Rattle.gn_threads.specs.Kept.{reader_homed, writer_ended}
 use Rattle.gn_threads.proofs.FaultLemmas.{handed_on}
 use Rattle.gn_threads.proofs.KeptLemmas.{one_started}
@@ -21,6 +20,6 @@ loop-reader-preserved g c =
       number = omega (arith, was.number, c.in-Some.ensures.steps.1);
       writers_left = omega (arith, was.writers_left, c.in-Some.ensures.steps.1, c.in-Some-next.ensures.len);
       many = omega (arith, was.many, c.in_ok-linked.ensures.many);
-      readers = one_started (reader_reported (reads_of g.Rd.LinkReader.is_known g.Rd.LinkReader.bytes_read g.Rd.LinkReader.failures g.Rd.LinkReader.pieces g.Rd.LinkReader.has_ended)) (reader_homed (reads_of g.Rd.LinkReader.is_known g.Rd.LinkReader.bytes_read g.Rd.LinkReader.failures g.Rd.LinkReader.pieces g.Rd.LinkReader.has_ended)) before after (into_iter_items c.loop-reader.reader-iterator) (into_iter_items c.next.new.self) c.in-Some.reader _ c.in_ok-linked.ensures.reader c.in-Some.ensures.steps.0 was.readers;
-      writers = one_started (writer_reported (writes_of g.W.LinkWriter.is_known g.W.LinkWriter.bytes_written g.W.LinkWriter.failures g.W.LinkWriter.is_stuck g.W.LinkWriter.is_finished)) (writer_ended (writes_of g.W.LinkWriter.is_known g.W.LinkWriter.bytes_written g.W.LinkWriter.failures g.W.LinkWriter.is_stuck g.W.LinkWriter.is_finished)) before after (into_iter_items c.loop-reader.writers) (into_iter_items c.next-in-loop-reader.new.self) c.in-Some-next.writer _ c.in_ok-linked.ensures.writer c.in-Some-next.ensures.items was.writers;
+      readers = one_started reader_reported reader_homed before after (into_iter_items c.loop-reader.reader-iterator) (into_iter_items c.next.new.self) c.in-Some.reader _ c.in_ok-linked.ensures.reader c.in-Some.ensures.steps.0 was.readers;
+      writers = one_started writer_reported writer_ended before after (into_iter_items c.loop-reader.writers) (into_iter_items c.next-in-loop-reader.new.self) c.in-Some-next.writer _ c.in_ok-linked.ensures.writer c.in-Some-next.ensures.items was.writers;
     }

@@ -1,17 +1,14 @@
 use Rattle.std.proofs.Common.{◌≡◌, ◌+◌, ◌++◌, map, vec_items, vec_len}
 use Rattle.std.specs.Vec.Iter.{into_iter_items, into_iter_len}
-use Rattle.gn_threads.specs.Halves.{reads_of, writes_of}
 use Rattle.gn_threads.specs.Kept.{reader_homed, writer_ended}
 use Rattle.gn_threads.specs.Gathered.{reader_reported, writer_reported}
 use Rattle.gn_threads.proofs.gather.gather_links.Given as goal
 
 abbrev pub invariant-loop-reader : goal.invariant-loop-reader
-invariant-loop-reader g l =
-    let reads = reads_of g.Rd.LinkReader.is_known g.Rd.LinkReader.bytes_read g.Rd.LinkReader.failures g.Rd.LinkReader.pieces g.Rd.LinkReader.has_ended in
-    let writes = writes_of g.W.LinkWriter.is_known g.W.LinkWriter.bytes_written g.W.LinkWriter.failures g.W.LinkWriter.is_stuck g.W.LinkWriter.is_finished in record {
-      number : l.link + into_iter_len l.reader-iterator ≡ vec_len l.fn.readers;
-      writers_left : into_iter_len l.writers ≡ into_iter_len l.reader-iterator;
-      many : vec_len l.linked.links ≡ l.link;
-      readers : map (reader_reported reads) (vec_items l.linked.links) ++ map (reader_homed reads) (into_iter_items l.reader-iterator) ≡ map (reader_homed reads) (vec_items l.fn.readers);
-      writers : map (writer_reported writes) (vec_items l.linked.links) ++ map (writer_ended writes) (into_iter_items l.writers) ≡ map (writer_ended writes) (vec_items l.fn.writers);
-    }
+invariant-loop-reader g l = record {
+  number : l.link + into_iter_len l.reader-iterator ≡ vec_len l.fn.readers;
+  writers_left : into_iter_len l.writers ≡ into_iter_len l.reader-iterator;
+  many : vec_len l.linked.links ≡ l.link;
+  readers : map reader_reported (vec_items l.linked.links) ++ map reader_homed (into_iter_items l.reader-iterator) ≡ map reader_homed (vec_items l.fn.readers);
+  writers : map writer_reported (vec_items l.linked.links) ++ map writer_ended (into_iter_items l.writers) ≡ map writer_ended (vec_items l.fn.writers);
+}

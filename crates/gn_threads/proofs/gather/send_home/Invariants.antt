@@ -1,12 +1,10 @@
 use Rattle.std.proofs.Common.{◌≡◌, ◌+◌, ◌++◌, map, vec_items, vec_len}
 use Rattle.std.specs.Vec.Iter.{into_iter_items, into_iter_len}
-use Rattle.gn_threads.specs.Halves.{reads_of}
 use Rattle.gn_threads.specs.Kept.{reader_ended, reader_homed}
 use Rattle.gn_threads.proofs.gather.send_home.Given as goal
 
 abbrev pub invariant-loop-done : goal.invariant-loop-done
-invariant-loop-done g l =
-    let reads = reads_of g.Rd.LinkReader.is_known g.Rd.LinkReader.bytes_read g.Rd.LinkReader.failures g.Rd.LinkReader.pieces g.Rd.LinkReader.has_ended in record {
-      many : vec_len l.homed + into_iter_len l.done-iterator ≡ vec_len l.fn.readers;
-      readers : map (reader_homed reads) (vec_items l.homed) ++ map (reader_ended reads) (into_iter_items l.done-iterator) ≡ map (reader_ended reads) (vec_items l.fn.readers);
-    }
+invariant-loop-done g l = record {
+  many : vec_len l.homed + into_iter_len l.done-iterator ≡ vec_len l.fn.readers;
+  readers : map reader_homed (vec_items l.homed) ++ map reader_ended (into_iter_items l.done-iterator) ≡ map reader_ended (vec_items l.fn.readers);
+}

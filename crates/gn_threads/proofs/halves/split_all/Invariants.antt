@@ -9,7 +9,8 @@ invariant-loop-link g l = record {
   readers_many : vec_len l.readers ≡ l.number;
   writers_many : vec_len l.writers ≡ l.number;
   roles : vec_items l.roles ++ map g.K.Link.role_of (into_iter_items l.link-iterator) ≡ map g.K.Link.role_of (vec_items l.fn.links);
-  bytes : map (λ half. g.K.Reader.LinkReader.all_bytes half.reader) (vec_items l.readers) ++ map g.K.Link.all_bytes (into_iter_items l.link-iterator) ≡ map g.K.Link.all_bytes (vec_items l.fn.links);
+  read : map (λ half. g.K.Reader.LinkReader.made_of half.reader) (vec_items l.readers) ++ map g.K.Link.origin_of (into_iter_items l.link-iterator) ≡ map g.K.Link.origin_of (vec_items l.fn.links);
+  written : map (λ half. g.K.Writer.LinkWriter.made_of half.writer) (vec_items l.writers) ++ map g.K.Link.origin_of (into_iter_items l.link-iterator) ≡ map g.K.Link.origin_of (vec_items l.fn.links);
   readers : map (λ half. half.role) (vec_items l.readers) ≡ vec_items l.roles;
   writers : map (λ half. half.role) (vec_items l.writers) ≡ vec_items l.roles;
 }

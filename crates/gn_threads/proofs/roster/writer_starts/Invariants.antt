@@ -1,5 +1,6 @@
 use Rattle.std.proofs.Common.{◌≡◌, ◌+◌, ◌≤◌, ◌++◌, map, vec_items, vec_len}
 use Rattle.std.specs.Vec.Iter.{into_iter_items, into_iter_len}
+use Rattle.gn_threads.specs.Halves.{half_of}
 use Rattle.gn_threads.proofs.roster.writer_starts.Given as goal
 
 abbrev pub invariant-loop-half : goal.invariant-loop-half
@@ -7,5 +8,5 @@ invariant-loop-half g l = record {
   link : l.link + into_iter_len l.half-iterator ≡ vec_len l.fn.halves;
   starts : vec_len l.starts ≡ l.link;
   left : l.actors.left + l.link ≡ l.initial.actors.left;
-  roles : map (λ s. s.role) (vec_items l.starts) ++ map (λ h. h.role) (into_iter_items l.half-iterator) ≡ map (λ h. h.role) (vec_items l.fn.halves);
+  links : map (λ s. half_of s.role s.writer) (vec_items l.starts) ++ map (λ h. half_of h.role h.writer) (into_iter_items l.half-iterator) ≡ map (λ h. half_of h.role h.writer) (vec_items l.fn.halves);
 }

@@ -17,7 +17,7 @@ loop-reading-preserved g c =
       links = All-rest (λ p. p.link < vec_len c.args.readers) c.in-Some.reading (into_iter_items c.next.new.self) (into_iter_items c.loop-reading.reading-iterator) c.in-Some.ensures.steps.0 c.loop-reading.invariant.links;
       readers = one_started (λ h. h.promise.start.value.role) (λ p. p.role) c.loop-reading.handles.readers.items c.start_link.new.handles.readers.items (into_iter_items c.loop-reading.reading-iterator) (into_iter_items c.next.new.self) c.in-Some.reading _
           c.in-Ok.ensures.readers c.in-Some.ensures.steps.0 c.loop-reading.invariant.readers;
-      writers = one_started (λ h. h.promise.role) (λ p. p.role) c.loop-reading.handles.writers.items c.start_link.new.handles.writers.items (into_iter_items c.loop-reading.writers) (into_iter_items c.next-in-loop-reading.new.self) c.in-Some-next.writing _
+      writers = one_started (λ h. h.promise.start.value.role) (λ p. p.role) c.loop-reading.handles.writers.items c.start_link.new.handles.writers.items (into_iter_items c.loop-reading.writers) (into_iter_items c.next-in-loop-reading.new.self) c.in-Some-next.writing _
           c.in-Ok.ensures.writers (search rules) c.loop-reading.invariant.writers;
       workers = search rules;
     }
@@ -27,5 +27,5 @@ returns-clause-readers g c = all_started (λ h. h.promise.start.value.role) (λ 
     (omega (arith, c.loop-reading.reading-iterator.rest.ok, c.in-None.ensures.steps)) c.loop-reading.invariant.readers
 
 pub returns-clause-writers : goal.returns-clause-writers
-returns-clause-writers g c = all_started (λ h. h.promise.role) (λ p. p.role) c.loop-reading.handles.writers.items (into_iter_items c.loop-reading.writers) _
+returns-clause-writers g c = all_started (λ h. h.promise.start.value.role) (λ p. p.role) c.loop-reading.handles.writers.items (into_iter_items c.loop-reading.writers) _
     (omega (arith, c.loop-reading.reading-iterator.rest.ok, c.loop-reading.writers.rest.ok, c.loop-reading.invariant.many, c.in-None.ensures.steps)) c.loop-reading.invariant.writers

@@ -7,6 +7,6 @@ invariant-loop-reading g l = record {
   many : into_iter_len l.writers ≡ into_iter_len l.reading-iterator;
   links : All (λ p. p.link < vec_len l.fn.readers) (into_iter_items l.reading-iterator);
   readers : map (λ h. h.promise.start.value.role) (vec_items l.handles.readers) ++ map (λ p. p.role) (into_iter_items l.reading-iterator) ≡ map (λ p. p.role) (vec_items l.fn.readers);
-  writers : map (λ h. h.promise.role) (vec_items l.handles.writers) ++ map (λ p. p.role) (into_iter_items l.writers) ≡ map (λ p. p.role) (vec_items l.fn.writers);
+  writers : map (λ h. h.promise.start.value.role) (vec_items l.handles.writers) ++ map (λ p. p.role) (into_iter_items l.writers) ≡ map (λ p. p.role) (vec_items l.fn.writers);
   workers : l.handles.workers ≡ l.initial.handles.workers;
 }

@@ -1,8 +1,9 @@
 use Rattle.std.proofs.Common.{map, subst, vec_len, ◌∙◌}
 use Rattle.std.proofs.lemmas.Result.{IfOk-weaker}
 use Rattle.std.proofs.lemmas.Simd.{map-map}
-use Rattle.gn_threads.specs.Halves.{Inbound, inbound_of, reads_of, writes_of}
+use Rattle.gn_threads.specs.Halves.{half_of, reads_of, writes_of}
 use Rattle.gn_threads.specs.Joined.{AreJoined, AreJoinedOf}
+use Rattle.gn_threads.specs.Kept.{ReaderPromises, WriterPromises}
 use Rattle.gn_threads.proofs.welcome.welcome_in.Goals as goal
 
 pub returns-in-Err-clause-fault : goal.returns-in-Err-clause-fault
@@ -10,12 +11,18 @@ returns-in-Err-clause-fault g c = λ workers. c.first.ensures (vec_len c.args.pl
 
 pub returns-in-Ok-clause-joined : goal.returns-in-Ok-clause-joined
 returns-in-Ok-clause-joined g c =
-    let reads = reads_of g.Rd.LinkReader.is_known g.Rd.LinkReader.bytes_read g.Rd.LinkReader.failures g.Rd.LinkReader.pieces g.Rd.LinkReader.has_ended in
-    let writes = writes_of g.W.LinkWriter.is_known g.W.LinkWriter.bytes_written g.W.LinkWriter.failures g.W.LinkWriter.is_stuck g.W.LinkWriter.is_finished in
+    let reads = ReaderPromises {A = g.row.A.Denot} (reads_of g.Rd.LinkReader.is_known g.Rd.LinkReader.bytes_read g.Rd.LinkReader.failures g.Rd.LinkReader.pieces g.Rd.LinkReader.has_ended) g.Rd.LinkReader.made_of g.Rd.LinkReader.gives in
+    let writes = WriterPromises {A = g.row.A.Denot} (writes_of g.W.LinkWriter.is_known g.W.LinkWriter.bytes_written g.W.LinkWriter.failures g.W.LinkWriter.is_stuck g.W.LinkWriter.is_finished) g.W.LinkWriter.made_of in
     let handles = c.start_all.new.handles in
-    let reading = map (λ h. inbound_of g.Rd.LinkReader.all_bytes h.promise.start.value.role h.promise.start.value.reader) handles.readers.items in
-    let roles = map-map (λ (l : Inbound). l.role) (λ h. inbound_of g.Rd.LinkReader.all_bytes h.promise.start.value.role h.promise.start.value.reader) handles.readers.items ∙ c.in-Ok.ensures.readers in
+    let reading = map (λ h. half_of h.promise.start.value.role h.promise.start.value.reader) handles.readers.items in
+    let writing = map (λ h. half_of h.promise.start.value.role h.promise.start.value.writer) handles.writers.items in
     IfOk-weaker _ _ (λ done. AreJoinedOf reads writes (map (λ p. p.role) c.args.places.readers.items) (map (λ p. p.role) c.args.places.writers.items) (vec_len c.args.places.workers) done)
     (λ done joined.
-    (reading, roles, subst (λ xs. AreJoined reads writes reading xs (vec_len c.args.places.workers) done) c.in-Ok.ensures.writers (subst (λ n. AreJoined reads writes reading (map (λ h. h.promise.role) handles.writers.items) n done) c.in-Ok.ensures.workers joined)))
+    record {
+      reading = reading;
+      writing = writing;
+      reading_roles = map-map (λ l. l.role) (λ h. half_of h.promise.start.value.role h.promise.start.value.reader) handles.readers.items ∙ c.in-Ok.ensures.readers;
+      writing_roles = map-map (λ l. l.role) (λ h. half_of h.promise.start.value.role h.promise.start.value.writer) handles.writers.items ∙ c.in-Ok.ensures.writers;
+      joined = subst (λ n. AreJoined reads writes reading writing n done) c.in-Ok.ensures.workers joined;
+    })
     c.join.ensures.joined
