@@ -1,4 +1,5 @@
 pub mod ConfigLemmas
+pub mod DigitLemmas
 pub mod HeaderLemmas
 pub mod HexLemmas
 pub mod KeptLemmas
