@@ -1,18 +1,14 @@
--- One more line of those that aren't skipped.
-use Rattle.std.proofs.Common.{◌≡◌, refl, ℕ, ◌+◌, List, [], ◌∷◌, ◌++◌, map, true, false, append_assoc, Bor}
-use Rattle.std.proofs.lemmas.List.{map-append}
+-- The first of the lines that aren't skipped.
+use Rattle.std.proofs.Common.{◌≡◌, refl, ℕ, ◌+◌, List, ◌∷◌, true, false, ◌∙◌, sym}
 use Rattle.gn_text.specs.Lines.{is_skipped}
-use Rattle.gn_text.specs.Parsed.{line_seen, numbered_from}
+use Rattle.gn_text.specs.Parsed.{numbered_from}
 
--- what is known of the lines that say something, where those before line n are gone through
-abbrev pub known : List (ℕ × Bor (List ℕ)) → ℕ → List (List ℕ) → List (ℕ × List ℕ)
-known front n lines = map line_seen front ++ numbered_from n lines
+-- a line that is skipped is none of them
+pub line_skipped : (n : ℕ) (line : List ℕ) (lines more : List (List ℕ)) (all : List (ℕ × List ℕ)) → lines ≡ line ∷ more → is_skipped line ≡ true
+    → numbered_from n lines ≡ all → numbered_from (n + 1) more ≡ all
+line_skipped n line lines more all is skipped e = sym (rw (is, skipped) refl) ∙ e
 
-pub line_skipped : (front : List (ℕ × Bor (List ℕ))) (n : ℕ) (line : Bor (List ℕ)) (lines more : List (List ℕ)) → lines ≡ line.now ∷ more
-    → is_skipped line.now ≡ true → known front (n + 1) more ≡ known front n lines
-line_skipped front n line lines more is skipped = rw (is, skipped) refl
-
-pub line_parsed : (front : List (ℕ × Bor (List ℕ))) (n : ℕ) (line : Bor (List ℕ)) (lines more : List (List ℕ)) → lines ≡ line.now ∷ more
-    → is_skipped line.now ≡ false → known (front ++ (n, line) ∷ []) (n + 1) more ≡ known front n lines
-line_parsed front n line lines more is parsed =
-    rw (is, parsed, map-append line_seen front ((n, line) ∷ [])) (append_assoc (map line_seen front) ((n, line.now) ∷ []) (numbered_from (n + 1) more))
+-- another is the first
+pub line_parsed : (n : ℕ) (line : List ℕ) (lines more : List (List ℕ)) (all : List (ℕ × List ℕ)) → lines ≡ line ∷ more → is_skipped line ≡ false
+    → numbered_from n lines ≡ all → all ≡ (n, line) ∷ numbered_from (n + 1) more
+line_parsed n line lines more all is parsed e = sym e ∙ rw (is, parsed) refl
