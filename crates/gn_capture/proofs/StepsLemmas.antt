@@ -45,7 +45,9 @@ ended_by front after line more e = rw e refl
 -- the line `end`
 pub end_found : {A : Type 0} (front : List (Step A)) (after : ℕ) (line : ℕ × List ℕ) (lines more : List (ℕ × List ℕ)) (all : Result (List (Step A)) CaptureFault)
     → lines ≡ line ∷ more → known front after lines ≡ all → line_parsed {A = A} line ≡ Ok None → map_result (λ xs. front ++ xs) (ended more) ≡ all
-end_found front after line lines more all is e m = sym (rw is (ended_by front after line more m)) ∙ e
+end_found front after line lines more all is e m =
+    let same : known front after lines ≡ map_result (λ xs. front ++ xs) (ended more) = rw is (ended_by front after line more m) in
+    sym same ∙ e
 
 -- no line is left, and none was `end`
 pub end_missing : {A : Type 0} (front : List (Step A)) (after : ℕ) (lines : List (ℕ × List ℕ)) (all : Result (List (Step A)) CaptureFault)
