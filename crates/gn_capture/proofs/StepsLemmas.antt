@@ -1,5 +1,5 @@
 -- One more line of a history.
-use Rattle.std.proofs.Common.{◌≡◌, ℕ, List, [], ◌∷◌, ◌++◌, refl, sym, ap, ◌∙◌, append_assoc, Result, Ok, Err, Some, None}
+use Rattle.std.proofs.Common.{◌≡◌, ℕ, List, [], ◌∷◌, ◌++◌, refl, sym, ap, ◌∙◌, append_assoc, append-nil, Result, Ok, Err, Some, None}
 use Rattle.gn_rules.specs.declared.receipt.Step.{Step}
 use Rattle.gn_text.specs.declared.fault.Cause.TheVariants as cause
 use Rattle.gn_text.specs.declared.fault.CaptureFault.{CaptureFault}
@@ -53,3 +53,12 @@ end_found front after line lines more all is e m =
 pub end_missing : {A : Type 0} (front : List (Step A)) (after : ℕ) (lines : List (ℕ × List ℕ)) (all : Result (List (Step A)) CaptureFault)
     → lines ≡ [] → known front after lines ≡ all → all ≡ Err (fault_at after cause.End)
 end_missing front after lines all is e = sym e ∙ rw is refl
+
+-- nothing stands after the line `end`
+pub nothing_after : {A : Type 0} (steps : List (Step A)) (lines : List (ℕ × List ℕ)) → lines ≡ [] → map_result (λ more. steps ++ more) (ended lines) ≡ Ok steps
+nothing_after steps lines is = rw (is, append-nil steps) refl
+
+-- a line stands after it
+pub line_after_end : {A : Type 0} (steps : List (Step A)) (lines more : List (ℕ × List ℕ)) (line : ℕ × List ℕ) → lines ≡ line ∷ more
+    → map_result (λ more. steps ++ more) (ended lines) ≡ Err (fault_at line.0 cause.End)
+line_after_end steps lines more line is = rw is refl

@@ -32,6 +32,7 @@ fn read_line<'a, A: Allocator + Copy>(
 }
 
 /// These steps, where no line is left after the line `end`.
+#[tactic(auto, using(crate::proofs::StepsLemmas::nothing_after, crate::proofs::StepsLemmas::line_after_end))]
 fn read_end<A: Allocator>(
     lines: &mut NumberedLines,
     steps: Vec<Step<A>, A>,

@@ -44,14 +44,15 @@ fn write_explanation<A: Allocator + Copy>(
 }
 
 /// The line of a text before which so many stand, of those that aren't skipped.
+#[tactic(auto, using(crate::proofs::PassedLemmas::one_gone, crate::proofs::PassedLemmas::first_stands, crate::proofs::PassedLemmas::none_stands))]
 fn line_at(text: &[u8], index: usize) -> Option<NumberedLine>
     ensures { option_map line_seen result ≡ slice_get (parsed_of text.now) index }
 {
     let mut lines = NumberedLines::of(text);
     for _ in 0..index {
-        if lines.next_line().is_err() {
+        let Ok(_) = lines.next_line() else {
             return None;
-        }
+        };
     }
     match lines.next_line() {
         Ok(line) => Some(line),

@@ -39,6 +39,7 @@ impl<'a> NumberedLines<'a> {
     }
 
     /// The first of them, which is then gone. An `Err` is the number of the line after the last one: there is none.
+    #[tactic(auto, using(crate::proofs::ParsedLemmas::line_skipped, crate::proofs::ParsedLemmas::line_parsed, crate::proofs::ParsedLemmas::after_line, crate::proofs::ParsedLemmas::none_left, crate::proofs::ParsedLemmas::after_all))]
     pub fn next_line(&mut self) -> Result<NumberedLine<'a>, u64>
         ensures first { MatchResult result (λ line. self.old.lines ≡ line_seen line ∷ self.new.lines)
             (λ after. (self.old.lines ≡ []) × (self.old.after ≡ after)) }
