@@ -12,6 +12,7 @@ use crate::settings::{read_config, read_own};
 use gn_rules::Config;
 use std::alloc::Allocator;
 
+#[tactic(auto, using(crate::proofs::FirstLines::own_read, crate::proofs::FirstLines::own_refused, crate::proofs::FirstLines::own_missing))]
 fn read_own_line<A: Allocator + Copy>(
     alloc: A,
     mut config: Config,
@@ -33,6 +34,7 @@ fn read_own_line<A: Allocator + Copy>(
     }
 }
 
+#[tactic(auto, using(crate::proofs::FirstLines::config_read, crate::proofs::FirstLines::config_refused, crate::proofs::FirstLines::config_missing))]
 fn read_config_line<A: Allocator + Copy>(
     alloc: A,
     lines: &mut NumberedLines,
@@ -52,6 +54,7 @@ fn read_config_line<A: Allocator + Copy>(
 
 /// The configuration that the lines of a text begin with, which are then gone: the first line is the title, letter by
 /// letter, the second a `config` line, the third an `own` line. A missing one is at fault after the last line.
+#[tactic(auto, using(crate::proofs::FirstLines::title_read, crate::proofs::FirstLines::title_other, crate::proofs::FirstLines::title_missing))]
 pub fn read_header<A: Allocator + Copy>(
     alloc: A,
     title: &[u8],
