@@ -1,17 +1,16 @@
 -- One more line of a history.
-use Rattle.std.proofs.Common.{◌≡◌, ℕ, ◌+◌, ◌<◌, List, [], ◌∷◌, ◌++◌, length, drop, get_or, map, refl, sym, ap, ◌∙◌, append_assoc, Result, Ok, Err, Some, Bor}
-use Rattle.std.proofs.lemmas.List.{drop_more}
+use Rattle.std.proofs.Common.{◌≡◌, ℕ, List, [], ◌∷◌, ◌++◌, refl, sym, ap, ◌∙◌, append_assoc, append-nil, Result, Ok, Err, Some, None}
 use Rattle.gn_rules.specs.declared.receipt.Step.{Step}
+use Rattle.gn_text.specs.declared.fault.Cause.TheVariants as cause
 use Rattle.gn_text.specs.declared.fault.CaptureFault.{CaptureFault}
 use Rattle.gn_text.specs.declared.fault.CaptureRefusal.{CaptureRefusal}
 use Rattle.gn_text.specs.declared.fault.CaptureRefusal.TheVariants.{Fault, NoMemory}
-use Rattle.gn_text.specs.Faults.{IsRefused}
-use Rattle.gn_text.specs.Parsed.{line_seen}
-use Rattle.gn_capture.specs.Histories.{line_parsed, map_result, steps_from}
+use Rattle.gn_text.specs.Faults.{IsRefused, fault_at}
+use Rattle.gn_capture.specs.Histories.{ended, line_parsed, map_result, steps_from}
 
--- these steps, before those that the lines from i on say
-abbrev pub known : {A : Type 0} → List (Step A) → ℕ → ℕ → List (ℕ × Bor (List ℕ)) → Result (List (Step A)) CaptureFault
-known front after i lines = map_result (λ more. front ++ more) (steps_from after (map line_seen (drop i lines)))
+-- these steps, before those that lines say
+abbrev pub known : {A : Type 0} → List (Step A) → ℕ → List (ℕ × List ℕ) → Result (List (Step A)) CaptureFault
+known front after lines = map_result (λ more. front ++ more) (steps_from after lines)
 
 front_more : {X E : Type 0} (front : List X) (x : X) (read : Result (List X) E)
     → map_result (λ more. front ++ more) (map_result (λ xs. x ∷ xs) read) ≡ map_result (λ more. (front ++ x ∷ []) ++ more) read
@@ -23,20 +22,43 @@ told : {A : Type 0} (front : List (Step A)) (after : ℕ) (line : ℕ × List �
     → map_result (λ xs. front ++ xs) (steps_from after (line ∷ more)) ≡ map_result (λ xs. (front ++ step ∷ []) ++ xs) (steps_from after more)
 told front after line more step e = rw e (front_more front step (steps_from after more))
 
-pub step_more : {A : Type 0} (front : List (Step A)) (after i : ℕ) (lines : List (ℕ × Bor (List ℕ))) (d : ℕ × Bor (List ℕ)) (step : Step A)
-    → i < length lines → line_parsed (line_seen (get_or lines i d)) ≡ Ok (Some step)
-    → known (front ++ step ∷ []) after (i + 1) lines ≡ known front after i lines
-step_more front after i lines d step h m =
-    sym (rw (drop_more lines i d h) (told front after (line_seen (get_or lines i d)) (map line_seen (drop (i + 1) lines)) step m))
+-- a line that says a step
+pub step_more : {A : Type 0} (front : List (Step A)) (after : ℕ) (line : ℕ × List ℕ) (lines more : List (ℕ × List ℕ)) (step : Step A)
+    → lines ≡ line ∷ more → line_parsed line ≡ Ok (Some step) → known (front ++ step ∷ []) after more ≡ known front after lines
+step_more front after line lines more step is m = sym (rw is (told front after line more step m))
 
 failed : {A : Type 0} (front : List (Step A)) (after : ℕ) (line : ℕ × List ℕ) (more : List (ℕ × List ℕ)) (fault : CaptureFault)
     → line_parsed {A = A} line ≡ Err fault → map_result (λ xs. front ++ xs) (steps_from after (line ∷ more)) ≡ Err fault
 failed front after line more fault e = rw e refl
 
--- a refusal at line i is one of all lines
-pub refused_line : {A : Type 0} (front : List (Step A)) (after i : ℕ) (lines : List (ℕ × Bor (List ℕ))) (d : ℕ × Bor (List ℕ)) (refusal : CaptureRefusal)
-    (all : Result (List (Step A)) CaptureFault) → i < length lines → known front after i lines ≡ all
-    → IsRefused refusal (line_parsed {A = A} (line_seen (get_or lines i d))) → IsRefused refusal all
-refused_line front after i lines d NoMemory all h e m = _
-refused_line front after i lines d (Fault fault) all h e m =
-    sym e ∙ rw (drop_more lines i d h) (failed front after (line_seen (get_or lines i d)) (map line_seen (drop (i + 1) lines)) fault m)
+-- a refusal at the first line is one of all lines
+pub refused_line : {A : Type 0} (front : List (Step A)) (after : ℕ) (line : ℕ × List ℕ) (lines more : List (ℕ × List ℕ)) (refusal : CaptureRefusal)
+    (all : Result (List (Step A)) CaptureFault) → lines ≡ line ∷ more → known front after lines ≡ all
+    → IsRefused refusal (line_parsed {A = A} line) → IsRefused refusal all
+refused_line front after line lines more NoMemory all is e m = _
+refused_line front after line lines more (Fault fault) all is e m = sym e ∙ rw is (failed front after line more fault m)
+
+ended_by : {A : Type 0} (front : List (Step A)) (after : ℕ) (line : ℕ × List ℕ) (more : List (ℕ × List ℕ)) → line_parsed {A = A} line ≡ Ok None
+    → map_result (λ xs. front ++ xs) (steps_from {A = A} after (line ∷ more)) ≡ map_result (λ xs. front ++ xs) (ended more)
+ended_by front after line more e = rw e refl
+
+-- the line `end`
+pub end_found : {A : Type 0} (front : List (Step A)) (after : ℕ) (line : ℕ × List ℕ) (lines more : List (ℕ × List ℕ)) (all : Result (List (Step A)) CaptureFault)
+    → lines ≡ line ∷ more → known front after lines ≡ all → line_parsed {A = A} line ≡ Ok None → map_result (λ xs. front ++ xs) (ended more) ≡ all
+end_found front after line lines more all is e m =
+    let same : known front after lines ≡ map_result (λ xs. front ++ xs) (ended more) = rw is (ended_by front after line more m) in
+    sym same ∙ e
+
+-- no line is left, and none was `end`
+pub end_missing : {A : Type 0} (front : List (Step A)) (after : ℕ) (lines : List (ℕ × List ℕ)) (all : Result (List (Step A)) CaptureFault)
+    → lines ≡ [] → known front after lines ≡ all → all ≡ Err (fault_at after cause.End)
+end_missing front after lines all is e = sym e ∙ rw is refl
+
+-- nothing stands after the line `end`
+pub nothing_after : {A : Type 0} (steps : List (Step A)) (lines : List (ℕ × List ℕ)) → lines ≡ [] → map_result (λ more. steps ++ more) (ended lines) ≡ Ok steps
+nothing_after steps lines is = rw (is, append-nil steps) refl
+
+-- a line stands after it
+pub line_after_end : {A : Type 0} (steps : List (Step A)) (lines more : List (ℕ × List ℕ)) (line : ℕ × List ℕ) → lines ≡ line ∷ more
+    → map_result (λ more. steps ++ more) (ended lines) ≡ Err (fault_at line.0 cause.End)
+line_after_end steps lines more line is = rw is refl

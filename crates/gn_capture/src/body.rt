@@ -1,14 +1,13 @@
 //! The lines of a capture, one after another.
 
-ghost use Rattle.std.specs.Prelude.{◌≡◌, ◌<◌, ◌^◌, ◌-◌, map};
-ghost use Rattle.gn_text.specs.Parsed.{line_seen};
+ghost use Rattle.std.specs.Prelude.{◌≡◌, ◌<◌, ◌^◌, ◌-◌};
 ghost use Rattle.gn_capture.specs.CaptureLines.{links_after};
 ghost use Rattle.gn_capture.specs.Captures.{lines_from};
 ghost use Rattle.gn_text.specs.Faults.{IsRead};
 
 use crate::line::Line;
 use crate::read_line::read_numbered;
-use gn_text::{CaptureRefusal, NumberedLine};
+use gn_text::{CaptureRefusal, NumberedLines};
 use std::alloc::Allocator;
 
 /// How many links there are after a line.
@@ -22,21 +21,21 @@ fn links_after<A: Allocator>(links: u64, line: &Line<A>) -> u64
     }
 }
 
-/// What these lines say, each with its number.
-pub(crate) fn read_lines<'a, A: Allocator + Copy>(
+/// What the lines that are left of a text say, each with its number.
+pub(crate) fn read_lines<A: Allocator + Copy>(
     alloc: A,
-    lines: &[NumberedLine<'a>],
+    lines: &mut NumberedLines,
 ) -> Result<Vec<(u64, Line<A>), A>, CaptureRefusal>
-    ensures { IsRead (λ v. v.items) result (lines_from 0 (map line_seen lines.now)) }
+    ensures { IsRead (λ v. v.items) result (lines_from 0 lines.old.lines) }
 {
     let mut parsed = Vec::new(alloc);
     let mut fields = Vec::new(alloc);
     let mut links = 0;
-    for (number, text) in lines {
-        match read_numbered(alloc, &mut fields, links, *number, text) {
+    while let Ok((number, text)) = lines.next_line() {
+        match read_numbered(alloc, &mut fields, links, number, text) {
             Ok(line) => {
                 links = links_after(links, &line);
-                parsed.push((*number, line))?;
+                parsed.push((number, line))?;
             }
             Err(refusal) => return Err(refusal),
         }

@@ -8,7 +8,7 @@ ghost use Rattle.gn_capture.specs.FirstFaults.{TellsFirst};
 use crate::body::read_lines;
 use crate::line::Line;
 use gn_rules::Config;
-use gn_text::{CaptureRefusal, numbered_lines, read_header};
+use gn_text::{CaptureRefusal, NumberedLines, read_header};
 use std::alloc::{Allocator, Global};
 
 /// What a capture says: how the router is set up, and what happens to it.
@@ -29,9 +29,9 @@ pub fn read_capture<A: Allocator + Copy>(
     ensures read { IsRead capture_seen result (capture_of text.now) }
     ensures first { IfErr result (λ refusal. TellsFirst A text.now refusal) }
 {
-    let parsed = numbered_lines(alloc, text)?;
-    match read_header(alloc, b"gnutella-capture 1", &parsed.lines, parsed.after) {
-        Ok((config, lines)) => match read_lines(alloc, lines) {
+    let mut lines = NumberedLines::of(text);
+    match read_header(alloc, b"gnutella-capture 1", &mut lines) {
+        Ok(config) => match read_lines(alloc, &mut lines) {
             Ok(lines) => Ok(Capture { config, lines }),
             Err(refusal) => Err(refusal),
         },

@@ -4,9 +4,8 @@ ghost use Rattle.std.specs.Prelude.{◌≡◌, map};
 ghost use Rattle.gn_capture.specs.Outcomes.{IsLineRead};
 ghost use Rattle.gn_capture.specs.CaptureLines.{alone_of, data_of, link_of, number_alone};
 
-use crate::line::Line;
+use crate::line::{Line, PieceBytes};
 use crate::refusal::LineRefusal;
-use bytes::Bytes;
 use gn_text::{Cause, hex_bytes, number};
 use std::alloc::Allocator;
 
@@ -65,7 +64,7 @@ pub(crate) fn data_line<A: Allocator + Copy>(
             }
             Ok(Line::Piece {
                 link,
-                bytes: Bytes::from_vec(bytes)?,
+                bytes: PieceBytes::of(alloc, bytes)?,
             })
         }
         _ => Err(LineRefusal::Fault(Cause::Fields)),

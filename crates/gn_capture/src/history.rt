@@ -1,14 +1,14 @@
 //! What a history's text says.
 
-ghost use Rattle.std.specs.Prelude.{◌≡◌, map};
+ghost use Rattle.std.specs.Prelude.{◌≡◌, ◌++◌};
 ghost use Rattle.gn_text.specs.Faults.{IsRead};
 ghost use Rattle.gn_text.specs.Parsed.{line_seen};
-ghost use Rattle.gn_capture.specs.Histories.{ended, history_of, history_seen, line_parsed, steps_from};
+ghost use Rattle.gn_capture.specs.Histories.{ended, history_of, history_seen, line_parsed, map_result, steps_from};
 
 use crate::step::read_step;
 use gn_rules::{Config, Step};
 use gn_text::{
-    CaptureRefusal, Cause, NumberedLine, fields_into, is_word, numbered_lines, read_header,
+    CaptureRefusal, Cause, NumberedLine, NumberedLines, fields_into, is_word, read_header,
 };
 use std::alloc::Allocator;
 
@@ -31,28 +31,39 @@ fn read_line<'a, A: Allocator + Copy>(
     }
 }
 
-fn read_steps<'a, A: Allocator + Copy>(
-    alloc: A,
-    lines: &[NumberedLine<'a>],
-    after: u64,
+/// These steps, where no line is left after the line `end`.
+#[tactic(auto, using(crate::proofs::StepsLemmas::nothing_after, crate::proofs::StepsLemmas::line_after_end))]
+fn read_end<A: Allocator>(
+    lines: &mut NumberedLines,
+    steps: Vec<Step<A>, A>,
 ) -> Result<Vec<Step<A>, A>, CaptureRefusal>
-    ensures { IsRead (λ v. v.items) result (steps_from after (map line_seen lines.now)) }
+    ensures { IsRead (λ v. v.items) result (map_result (λ more. steps.items ++ more) (ended lines.old.lines)) }
+{
+    match lines.next_line() {
+        Ok((number, _)) => Err(CaptureRefusal::at(number, Cause::End)),
+        Err(_) => Ok(steps),
+    }
+}
+
+/// The steps that the lines left of a text say, up to the line `end`, which is the last one.
+fn read_steps<A: Allocator + Copy>(
+    alloc: A,
+    lines: &mut NumberedLines,
+) -> Result<Vec<Step<A>, A>, CaptureRefusal>
+    ensures { IsRead (λ v. v.items) result (steps_from lines.old.after lines.old.lines) }
 {
     let mut steps = Vec::new(alloc);
     let mut fields = Vec::new(alloc);
-    for (i, line) in lines.iter().enumerate() {
-        match read_line(alloc, &mut fields, line) {
-            Ok(Some(step)) => steps.push(step)?,
-            Ok(None) => {
-                return match lines.get(i + 1) {
-                    Some((number, _)) => Err(CaptureRefusal::at(*number, Cause::End)),
-                    None => Ok(steps),
-                };
-            }
-            Err(refusal) => return Err(refusal),
+    loop {
+        match lines.next_line() {
+            Ok(line) => match read_line(alloc, &mut fields, &line) {
+                Ok(Some(step)) => steps.push(step)?,
+                Ok(None) => return read_end(lines, steps),
+                Err(refusal) => return Err(refusal),
+            },
+            Err(after) => return Err(CaptureRefusal::at(after, Cause::End)),
         }
     }
-    Err(CaptureRefusal::at(after, Cause::End))
 }
 
 /// The configuration and the steps that a history's text says. An `Err` tells its first line that something is wrong
@@ -65,8 +76,8 @@ pub fn read_history<A: Allocator + Copy>(
 ) -> Result<(Config, Vec<Step<A>, A>), CaptureRefusal>
     ensures { IsRead (history_seen (λ v. v.items)) result (history_of text.now) }
 {
-    let parsed = numbered_lines(alloc, text)?;
-    let (config, lines) = read_header(alloc, b"gnutella-history 1", &parsed.lines, parsed.after)?;
-    let steps = read_steps(alloc, lines, parsed.after)?;
+    let mut lines = NumberedLines::of(text);
+    let config = read_header(alloc, b"gnutella-history 1", &mut lines)?;
+    let steps = read_steps(alloc, &mut lines)?;
     Ok((config, steps))
 }

@@ -7,7 +7,7 @@ ghost use Rattle.gn_text.specs.Faults.{IsRead};
 ghost use Rattle.gn_capture.specs.Outcomes.{IsLineRead, numbered};
 
 use crate::event_lines::{alone, data_line, link_line, number_alone};
-use crate::line::Line;
+use crate::line::{Line, LocalRequest};
 use crate::query_line::{ping_line, query_line};
 use crate::refusal::LineRefusal;
 use crate::word::{Word, word_in};
@@ -30,8 +30,8 @@ fn read_fields<A: Allocator + Copy>(
         Word::Route => Line::Route(number_alone(fields)?),
         Word::Take => Line::Take(number_alone(fields)?),
         Word::Close => Line::Close(number_alone(fields)?),
-        Word::Ping => Line::Originate(ping_line(alloc, fields)?),
-        Word::Query => Line::Originate(query_line(alloc, fields)?),
+        Word::Ping => Line::Originate(LocalRequest::of(alloc, ping_line(alloc, fields)?)?),
+        Word::Query => Line::Originate(LocalRequest::of(alloc, query_line(alloc, fields)?)?),
         Word::Stats => alone(Line::Stats, fields)?,
     })
 }

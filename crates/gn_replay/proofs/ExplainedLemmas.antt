@@ -1,11 +1,10 @@
 -- What explains a verdict, and that it was written.
-use Rattle.std.proofs.Common.{◌≡◌, ◌<◌, ◌+◌, ◌∙◌, ℕ, List, [], ◌++◌, map, get_or, append-nil, length, Option, Some, None, IfSome, IfErr, Result, Ok, Err, refl, sym, ap, subst}
-use Rattle.std.specs.Borrow.{Bor}
-use Rattle.std.specs.Prelude.{OnOk, option_map}
+use Rattle.std.proofs.Common.{◌≡◌, ◌<◌, ◌+◌, ◌∙◌, ⊥, ℕ, List, [], ◌++◌, get_or, append-nil, length, Option, Some, None, IfSome, IfErr, Result, Ok, Err, refl, sym, ap, subst}
+use Rattle.std.specs.Prelude.{OnOk}
 use Rattle.std.specs.Io.KnownBytes.{Appends}
 use Rattle.std.specs.List.{slice_get}
 use Rattle.std.specs.Result.{IsErrAnd}
-use Rattle.std.proofs.lemmas.Option.{slice_get-map, slice_get_read, slice_get_within}
+use Rattle.std.proofs.lemmas.Option.{none-some, slice_get-get_or, slice_get_within}
 use Rattle.gn_rules.specs.declared.config.Config.{Config}
 use Rattle.gn_rules.specs.declared.legality.Legality.{Legality}
 use Rattle.gn_rules.specs.declared.legality.Legality.TheVariants as verdict
@@ -14,7 +13,7 @@ use Rattle.gn_rules.specs.declared.refusal.Refusal.{Refusal}
 use Rattle.gn_rules.specs.declared.reply.Reply.{Reply}
 use Rattle.gn_rules.specs.Legality.{Tells}
 use Rattle.gn_text.specs.Lines.{fields_of}
-use Rattle.gn_text.specs.Parsed.{line_seen, parsed_of}
+use Rattle.gn_text.specs.Parsed.{parsed_of}
 use Rattle.gn_text.specs.Settings.{settings_of}
 use Rattle.gn_capture.specs.Histories.{history_of}
 use Rattle.gn_capture.specs.Steps.{step_parsed}
@@ -90,17 +89,17 @@ explained_wrong text judgement count legality line lines i rules judged found pr
     }
 
 -- what was appended explains the line at its place
-pub line_explained : {A X E : Type 0} (r : Result X E) (text : List ℕ) (i : ℕ) (items : List (ℕ × Bor (List ℕ))) (line : ℕ × Bor (List ℕ)) (out new : List ℕ) (rules : Result (Reply A) Refusal)
-    → map line_seen items ≡ parsed_of text → lines_before + i < length items → line ≡ get_or items (lines_before + i) line
-    → OnOk r (new ≡ out ++ explanation_text (line_seen line) rules)
+pub line_explained : {A X E : Type 0} (r : Result X E) (text : List ℕ) (i : ℕ) (line : ℕ × List ℕ) (out new : List ℕ) (rules : Result (Reply A) Refusal)
+    → Some line ≡ step_line_at text i → OnOk r (new ≡ out ++ explanation_text line rules)
     → OnOk r ((at : ℕ × List ℕ) × (step_line_at text i ≡ Some at) × (new ≡ out ++ explanation_text at rules))
-line_explained (Err e) text i items line out new rules all within is appended = _
-line_explained (Ok x) text i items line out new rules all within is appended =
-    let place : slice_get (parsed_of text) (lines_before + i) ≡ Some (line_seen line) =
-    ap (λ xs. slice_get xs (lines_before + i)) (sym all)
-    ∙ slice_get-map line_seen items (lines_before + i)
-    ∙ ap (option_map line_seen) (slice_get_read items (length items) (lines_before + i) line refl within is) in
-    (line_seen line, place, appended)
+line_explained (Err e) text i line out new rules is appended = _
+line_explained (Ok x) text i line out new rules is appended = (line, sym is, appended)
+
+-- a step's line is there
+pub line_there : (text : List ℕ) (i : ℕ) → None ≡ step_line_at text i → lines_before + i < length (parsed_of text) → ⊥
+line_there text i none within =
+    none-some (get_or (parsed_of text) (lines_before + i) (0, []))
+    (none ∙ slice_get-get_or (parsed_of text) (lines_before + i) (0, []) within)
 
 -- the verdict on the input was written, with what explains it
 pub explained_written : {A : Type 0} (rest : Option (List ℕ)) (input text bytes lines : List ℕ) (legality : Legality) (old new : Option (List ℕ))

@@ -5,6 +5,7 @@ pub mod JudgeLemmas
 pub mod LineLemmas
 pub mod LinkLemmas
 pub mod OneText
+pub mod PassedLemmas
 pub mod ReplayLemmas
 pub mod RunLemmas
 pub mod StepLines

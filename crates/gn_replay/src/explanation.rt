@@ -1,6 +1,6 @@
 //! The verdict on a history's text, with what explains its first wrong step.
 
-ghost use Rattle.std.specs.Prelude.{◌≡◌, ◌<◌, ◌+◌, ◌++◌, Some, length, IfOk, IfErr, OnOk};
+ghost use Rattle.std.specs.Prelude.{◌≡◌, ◌<◌, ◌+◌, ◌++◌, Some, length, option_map, slice_get, IfOk, IfErr, OnOk};
 ghost use Rattle.gn_text.specs.Faults.{IsRefused};
 ghost use Rattle.gn_text.specs.Parsed.{line_seen, parsed_of};
 ghost use Rattle.gn_capture.specs.Histories.{history_of};
@@ -9,7 +9,7 @@ ghost use Rattle.gn_replay.specs.Explained.{IsAuditExplained, answer_line, expla
 use crate::judgement::{Answer, Judgement};
 use crate::verdict::{judge_text, verdict};
 use gn_rules::{Legality, RouterCore};
-use gn_text::{CaptureRefusal, NumberedLine, numbered_lines, push_refusal, push_reply};
+use gn_text::{CaptureRefusal, NumberedLine, NumberedLines, push_refusal, push_reply};
 use std::alloc::{AllocError, Allocator};
 
 /// How many lines of a history that aren't skipped stand before its steps.
@@ -43,6 +43,23 @@ fn write_explanation<A: Allocator + Copy>(
     write_answer(out, rules)
 }
 
+/// The line of a text before which so many stand, of those that aren't skipped.
+#[tactic(auto, using(crate::proofs::PassedLemmas::one_gone, crate::proofs::PassedLemmas::first_stands, crate::proofs::PassedLemmas::none_stands))]
+fn line_at(text: &[u8], index: usize) -> Option<NumberedLine>
+    ensures { option_map line_seen result ≡ slice_get (parsed_of text.now) index }
+{
+    let mut lines = NumberedLines::of(text);
+    for _ in 0..index {
+        let Ok(_) = lines.next_line() else {
+            return None;
+        };
+    }
+    match lines.next_line() {
+        Ok(line) => Some(line),
+        Err(_) => None,
+    }
+}
+
 /// Appends what explains the wrong step at an index, which stands in a line of the text.
 fn explain<A: Allocator + Copy>(
     alloc: A,
@@ -55,9 +72,8 @@ fn explain<A: Allocator + Copy>(
     ensures { OnOk result ((line : _) × (step_line_at text.now index ≡ Some line)
         × (out.new.items ≡ out.old.items ++ explanation_text line rules.now)) }
 {
-    let parsed = numbered_lines(alloc, text)?;
-    match parsed.lines.get(LINES_BEFORE + index as usize) {
-        Some(line) => write_explanation(alloc, out, line, rules),
+    match line_at(text, LINES_BEFORE + index as usize) {
+        Some(line) => write_explanation(alloc, out, &line, rules),
         None => unreachable!(),
     }
 }

@@ -117,7 +117,9 @@ impl<A: Allocator + Copy, C: RouterCore<A>> Play<A, C> {
             Line::Route(t) => self.play_event(&Event::Route(*t)),
             Line::Take(c) => self.play_event(&Event::Take(*c)),
             Line::Close(c) => self.play_event(&Event::Close(*c)),
-            Line::Originate(d) => self.play_event(&Event::Originate(d.copy()?)),
+            Line::Originate(request) => {
+                self.play_event(&Event::Originate(request.descriptor().copy()?))
+            }
             Line::Stats => self.print_counters(),
         }
     }

@@ -22,7 +22,7 @@ fn bytes_of(alloc: Global, lines: &[(u64, Line)], number: u32) -> Result<Vec<u8>
     for (_, line) in lines {
         if let Line::Piece { link, bytes } = line {
             if *link == number {
-                all.extend_from_slice(bytes)?;
+                all.extend_from_slice(bytes.as_slice())?;
             }
         }
     }

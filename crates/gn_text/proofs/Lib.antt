@@ -1,4 +1,6 @@
 pub mod ConfigLemmas
+pub mod DigitLemmas
+pub mod FirstLines
 pub mod HeaderLemmas
 pub mod HexLemmas
 pub mod KeptLemmas

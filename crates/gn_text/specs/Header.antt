@@ -1,13 +1,12 @@
 -- The three lines that a text begins with.
-use Rattle.std.specs.Prelude.{ℕ, if◌then◌else◌, List, [], ◌∷◌, map, Result, Ok, Err}
-use Rattle.std.proofs.Common.{Bor}
+use Rattle.std.specs.Prelude.{ℕ, if◌then◌else◌, List, [], ◌∷◌, Result, Ok, Err}
 use Rattle.gn_rules.specs.declared.config.Config.{Config}
 use Rattle.gn_rules.specs.declared.config.Own.{Own}
 use Rattle.gn_text.specs.Lines.{fields_of, is_word}
 use Rattle.gn_text.specs.declared.fault.Cause.TheVariants as cause
 use Rattle.gn_text.specs.declared.fault.CaptureFault.{CaptureFault}
 use Rattle.gn_text.specs.Faults.{fault_at, numbered_at, ◌>>=◌}
-use Rattle.gn_text.specs.Parsed.{line_seen}
+use Rattle.gn_text.specs.Parsed.{Numbered}
 use Rattle.gn_text.specs.Settings.{Numbers, config_of, own_of, settings_of}
 
 -- the lines from the third on: the servent, beside the numbers that the second line said, and the lines after it
@@ -31,6 +30,6 @@ header_of title after [] = Err (fault_at after cause.Header)
 header_of title after (line ∷ more) =
     if is_word line.1 title then config_from after more else Err (fault_at line.0 cause.Header)
 
--- a header that was read, and what it refers to
-abbrev pub header_seen : Config × Bor (List (ℕ × Bor (List ℕ))) → (Numbers × Own) × List (ℕ × List ℕ)
-header_seen header = (settings_of header.0, map line_seen header.1.now)
+-- a header that was read, and the lines after it
+abbrev pub header_seen : Config → Numbered → (Numbers × Own) × List (ℕ × List ℕ)
+header_seen config left = (settings_of config, left.lines)

@@ -12,6 +12,15 @@ abbrev pub numbered_from : ℕ → List (List ℕ) → List (ℕ × List ℕ)
 numbered_from n [] = []
 numbered_from n (line ∷ more) = if is_skipped line then numbered_from (n + 1) more else (n, line) ∷ numbered_from (n + 1) more
 
+-- the lines that aren't skipped, each with its number, and the number of the line after the last one
+pub record Numbered : Type 0 where
+  pub lines : List (ℕ × List ℕ)
+  pub after : ℕ
+
+-- those of a text whose first line has number n
+abbrev pub numbered_text : ℕ → List ℕ → Numbered
+numbered_text n text = record { lines = numbered_from n (lines_of text); after = length (lines_of text) + n }
+
 -- the lines of a text that aren't skipped, each with its number, counted from 1 with the skipped ones
 abbrev pub parsed_of : List ℕ → List (ℕ × List ℕ)
 parsed_of text = numbered_from 1 (lines_of text)

@@ -1,72 +1,76 @@
 //! The three lines that a text begins with.
 
-ghost use Rattle.std.specs.Prelude.{◌≡◌, map};
+ghost use Rattle.std.specs.Prelude.{◌≡◌};
 ghost use Rattle.gn_text.specs.Faults.{IsRead};
 ghost use Rattle.gn_text.specs.Header.{config_from, header_of, header_seen, own_from};
-ghost use Rattle.gn_text.specs.Parsed.{line_seen};
 ghost use Rattle.gn_text.specs.Settings.{numbers_of};
 
 use crate::fault::{CaptureRefusal, Cause};
 use crate::line::{fields, is_word};
-use crate::parsed::NumberedLine;
+use crate::parsed::NumberedLines;
 use crate::settings::{read_config, read_own};
 use gn_rules::Config;
 use std::alloc::Allocator;
 
-fn read_own_line<'a, 'b, A: Allocator + Copy>(
+#[tactic(auto, using(crate::proofs::FirstLines::own_read, crate::proofs::FirstLines::own_refused, crate::proofs::FirstLines::own_missing))]
+fn read_own_line<A: Allocator + Copy>(
     alloc: A,
     mut config: Config,
-    lines: &'b [NumberedLine<'a>],
-    after: u64,
-) -> Result<(Config, &'b [NumberedLine<'a>]), CaptureRefusal>
-    ensures { IsRead header_seen result (own_from (numbers_of config) after (map line_seen lines.now)) }
+    lines: &mut NumberedLines,
+) -> Result<Config, CaptureRefusal>
+    ensures header { IsRead (λ whole. header_seen whole lines.new) result
+        (own_from (numbers_of config) lines.old.after lines.old.lines) }
+    ensures after { lines.new.after ≡ lines.old.after }
 {
-    match lines {
-        [] => Err(CaptureRefusal::at(after, Cause::Own)),
-        [(number, line), more @ ..] => match read_own(alloc, &fields(alloc, line)?)? {
+    match lines.next_line() {
+        Ok((number, line)) => match read_own(alloc, &fields(alloc, line)?)? {
             Some(own) => {
                 config.own = own;
-                Ok((config, more))
+                Ok(config)
             }
-            None => Err(CaptureRefusal::at(*number, Cause::Own)),
+            None => Err(CaptureRefusal::at(number, Cause::Own)),
         },
+        Err(after) => Err(CaptureRefusal::at(after, Cause::Own)),
     }
 }
 
-fn read_config_line<'a, 'b, A: Allocator + Copy>(
+#[tactic(auto, using(crate::proofs::FirstLines::config_read, crate::proofs::FirstLines::config_refused, crate::proofs::FirstLines::config_missing))]
+fn read_config_line<A: Allocator + Copy>(
     alloc: A,
-    lines: &'b [NumberedLine<'a>],
-    after: u64,
-) -> Result<(Config, &'b [NumberedLine<'a>]), CaptureRefusal>
-    ensures { IsRead header_seen result (config_from after (map line_seen lines.now)) }
+    lines: &mut NumberedLines,
+) -> Result<Config, CaptureRefusal>
+    ensures header { IsRead (λ config. header_seen config lines.new) result
+        (config_from lines.old.after lines.old.lines) }
+    ensures after { lines.new.after ≡ lines.old.after }
 {
-    match lines {
-        [] => Err(CaptureRefusal::at(after, Cause::Config)),
-        [(number, line), more @ ..] => match read_config(&fields(alloc, line)?) {
-            Some(config) => read_own_line(alloc, config, more, after),
-            None => Err(CaptureRefusal::at(*number, Cause::Config)),
+    match lines.next_line() {
+        Ok((number, line)) => match read_config(&fields(alloc, line)?) {
+            Some(config) => read_own_line(alloc, config, lines),
+            None => Err(CaptureRefusal::at(number, Cause::Config)),
         },
+        Err(after) => Err(CaptureRefusal::at(after, Cause::Config)),
     }
 }
 
-/// The configuration that a text begins with, and the lines after it: the first line is the title, letter by letter, the
-/// second a `config` line, the third an `own` line. The lines are those that aren't skipped; `after` is the number of the
-/// line after the last, where a missing one is at fault.
-pub fn read_header<'a, 'b, A: Allocator + Copy>(
+/// The configuration that the lines of a text begin with, which are then gone: the first line is the title, letter by
+/// letter, the second a `config` line, the third an `own` line. A missing one is at fault after the last line.
+#[tactic(auto, using(crate::proofs::FirstLines::title_read, crate::proofs::FirstLines::title_other, crate::proofs::FirstLines::title_missing))]
+pub fn read_header<A: Allocator + Copy>(
     alloc: A,
     title: &[u8],
-    lines: &'b [NumberedLine<'a>],
-    after: u64,
-) -> Result<(Config, &'b [NumberedLine<'a>]), CaptureRefusal>
-    ensures { IsRead header_seen result (header_of title.now after (map line_seen lines.now)) }
+    lines: &mut NumberedLines,
+) -> Result<Config, CaptureRefusal>
+    ensures header { IsRead (λ config. header_seen config lines.new) result
+        (header_of title.now lines.old.after lines.old.lines) }
+    ensures after { lines.new.after ≡ lines.old.after }
 {
-    match lines {
-        [] => Err(CaptureRefusal::at(after, Cause::Header)),
-        [(number, line), more @ ..] => {
+    match lines.next_line() {
+        Ok((number, line)) => {
             if !is_word(line, title) {
-                return Err(CaptureRefusal::at(*number, Cause::Header));
+                return Err(CaptureRefusal::at(number, Cause::Header));
             }
-            read_config_line(alloc, more, after)
+            read_config_line(alloc, lines)
         }
+        Err(after) => Err(CaptureRefusal::at(after, Cause::Header)),
     }
 }

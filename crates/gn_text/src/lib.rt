@@ -25,7 +25,7 @@ pub use line::{fields, fields_into, is_skipped, is_word};
 pub use link::{push_ended, push_frame_fault, push_greeting_refused};
 pub use numbers::{number, number_u8, number_u16};
 pub use octets::{guid, hex_bytes};
-pub use parsed::{NumberedLine, NumberedLines, numbered_lines};
+pub use parsed::{NumberedLine, NumberedLines};
 pub use push::{push_hex, push_ip, push_number};
 pub use refusal::push_refusal;
 pub use reply::push_reply;

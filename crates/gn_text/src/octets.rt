@@ -1,11 +1,55 @@
 //! Bytes in hex digits of either case.
 
-ghost use Rattle.std.specs.Prelude.{◌≡◌, IfOk, option_map};
+ghost use Rattle.std.specs.Prelude.{◌≡◌, ◌<◌, ◌*◌, IfOk, MatchOption, None, Some, if◌then◌else◌, length, option_map};
+ghost use Rattle.std.specs.Result.{result_ok};
+ghost use Rattle.hex.specs.Hex.{decode_of, decode_pairs, hex_digit_value};
 ghost use Rattle.gn_text.specs.Bytes.{bytes_parsed, guid_of};
 
 use gn_wire::Guid;
-use hex::FromHexError;
 use std::alloc::{AllocError, Allocator};
+
+/// The number that a hex digit of either case says, and 16 for another byte.
+fn digit_value(digit: u8) -> u8
+    ensures { MatchOption (hex_digit_value digit) (result ≡ 16) (λ number. (result ≡ number) × (number < 16)) }
+{
+    match digit {
+        b'A'..=b'F' => digit - b'A' + 10,
+        b'a'..=b'f' => digit - b'a' + 10,
+        b'0'..=b'9' => digit - b'0',
+        _ => 16,
+    }
+}
+
+/// Puts the bytes that pairs of hex digits say in place of what stands there. `false` where one isn't a digit.
+fn put_bytes(digits: &[u8], bytes: &mut [u8]) -> bool
+    requires { length digits.now ≡ 2 * length bytes.old }
+    ensures { result_ok (decode_pairs 0 digits.now) ≡ (if result then Some bytes.new else None) }
+{
+    let mut valid = true;
+    for i in 0..bytes.len() {
+        let high = digit_value(digits[2 * i]);
+        let low = digit_value(digits[2 * i + 1]);
+        // No branch and no early end, so that the compiler makes vector code of the loop.
+        valid = valid & (high < 16) & (low < 16);
+        bytes[i] = high % 16 * 16 + low % 16;
+    }
+    valid
+}
+
+/// The bytes that pairs of hex digits say. An `Err` is out of memory.
+fn decoded<A: Allocator>(alloc: A, digits: &[u8]) -> Result<Option<Vec<u8, A>>, AllocError>
+    ensures { IfOk result (λ found. option_map (λ v. v.items) found ≡ result_ok (decode_of digits.now)) }
+{
+    if digits.len() % 2 != 0 {
+        return Ok(None);
+    }
+    let mut bytes = vec![in alloc; 0u8; digits.len() / 2]?;
+    if put_bytes(digits, &mut bytes) {
+        Ok(Some(bytes))
+    } else {
+        Ok(None)
+    }
+}
 
 /// The bytes that pairs of hex digits say, or `-` for none; an empty field says nothing. An `Err` is out of memory.
 pub fn hex_bytes<A: Allocator + Copy>(
@@ -17,11 +61,7 @@ pub fn hex_bytes<A: Allocator + Copy>(
     match field {
         [] => Ok(None),
         [b'-'] => Ok(Some(Vec::new(alloc))),
-        _ => match hex::decode(alloc, field) {
-            Ok(bytes) => Ok(Some(bytes)),
-            Err(FromHexError::OutOfMemory) => Err(AllocError),
-            Err(_) => Ok(None),
-        },
+        _ => decoded(alloc, field),
     }
 }
 

@@ -1,40 +1,58 @@
 //! The lines of a text that aren't skipped.
 
-ghost use Rattle.std.specs.Prelude.{◌≡◌, map, IfOk};
-ghost use Rattle.gn_text.specs.Parsed.{line_after, line_seen, parsed_of};
+ghost use Rattle.std.specs.Prelude.{◌≡◌, ◌∷◌, [], MatchResult};
+ghost use Rattle.gn_text.specs.Parsed.{line_seen, numbered_text};
 
 use crate::line::{first_line, is_skipped};
-use std::alloc::{AllocError, Allocator, Global};
+use std::marker::Model;
 
 /// A line that isn't skipped, with its number. Lines count from 1, with the skipped ones.
 pub type NumberedLine<'a> = (u64, &'a [u8]);
 
-/// The lines of a text that say something.
+/// The lines of a text that say something, one after another. They are found as they are asked for, and nothing is kept
+/// of those that were given.
 #[derive(Debug, Drop)]
-pub struct NumberedLines<'a, A: Allocator = Global> {
-    /// Those that aren't skipped.
-    pub lines: Vec<NumberedLine<'a>, A>,
-    /// The number of the line after the last one.
-    pub after: u64,
+pub struct NumberedLines<'a> {
+    /// What of the text is left.
+    text: &'a [u8],
+    /// The number of the line that it begins with.
+    number: u64,
 }
 
-/// The lines of a text that say something. An `Err` is out of memory.
-pub fn numbered_lines<A: Allocator + Copy>(
-    alloc: A,
-    text: &[u8],
-) -> Result<NumberedLines<A>, AllocError>
-    ensures lines { IfOk result (λ parsed. map line_seen parsed.lines.items ≡ parsed_of text.now) }
-    ensures after { IfOk result (λ parsed. parsed.after ≡ line_after text.now) }
-{
-    let mut lines = Vec::new(alloc);
-    let mut after = 1;
-    let mut rest = text;
-    while let Some((line, more)) = first_line(rest) {
-        if !is_skipped(line) {
-            lines.push((after, line))?;
-        }
-        after += 1;
-        rest = more;
+impl<'a> Model for NumberedLines<'a> {
+    ghost use Rattle.std.specs.Prelude.{◌+◌, ◌<◌, ◌^◌, length};
+    ghost use Rattle.gn_text.specs.Parsed.{Numbered, numbered_text};
+
+    ghost Value = { Numbered };
+
+    ghost view = { λ l. numbered_text l.number l.text.now };
+
+    ghost invariant = { λ l. l.number + length l.text.now < 2 ^ 64 };
+}
+
+impl<'a> NumberedLines<'a> {
+    /// Those of a whole text.
+    pub fn of(text: &'a [u8]) -> Self
+        ensures { result ≡ numbered_text 1 text.now }
+    {
+        NumberedLines { text, number: 1 }
     }
-    Ok(NumberedLines { lines, after })
+
+    /// The first of them, which is then gone. An `Err` is the number of the line after the last one: there is none.
+    #[tactic(auto, using(crate::proofs::ParsedLemmas::line_skipped, crate::proofs::ParsedLemmas::line_parsed, crate::proofs::ParsedLemmas::after_line, crate::proofs::ParsedLemmas::none_left, crate::proofs::ParsedLemmas::after_all))]
+    pub fn next_line(&mut self) -> Result<NumberedLine<'a>, u64>
+        ensures first { MatchResult result (λ line. self.old.lines ≡ line_seen line ∷ self.new.lines)
+            (λ after. (self.old.lines ≡ []) × (self.old.after ≡ after)) }
+        ensures after { self.new.after ≡ self.old.after }
+    {
+        while let Some((line, rest)) = first_line(self.text) {
+            let number = self.number;
+            self.text = rest;
+            self.number += 1;
+            if !is_skipped(line) {
+                return Ok((number, line));
+            }
+        }
+        Err(self.number)
+    }
 }

@@ -178,7 +178,7 @@ fn are_each_word<A: Allocator>(lines: &[(u64, Line<A>)]) -> bool {
             let numbers = [*second, *first, *ticket, *taken, *closed];
             numbers == [2, 1, 0, 1, 4_294_967_295]
                 && one.as_slice() == b"\xa1".as_slice()
-                && none.is_empty()
+                && none.as_slice().is_empty()
         }
         _ => false,
     }
@@ -222,9 +222,10 @@ fn requests(rt: HostRuntime) -> Result<(), Fail> {
     for (line, kind, ttl, payload) in parsed {
         let text = joined(rt.alloc(), BEGUN, line)?;
         let capture = read_capture(rt.alloc(), &text).map_err(|_| "refused")?;
-        let [(_, Line::Originate(d))] = capture.lines.as_slice() else {
+        let [(_, Line::Originate(request))] = capture.lines.as_slice() else {
             return Err("no request")?;
         };
+        let d = request.descriptor();
         assert_eq!(rt; (d.id(), d.kind()), (Guid([0xd1; 16]), kind));
         assert_eq!(rt; (d.ttl(), d.hops()), (ttl, 0));
         assert_eq!(rt; d.payload().as_slice(), payload);

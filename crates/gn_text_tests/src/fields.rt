@@ -2,10 +2,9 @@
 
 use gn_text::{
     NumberedLines, fields, guid, hex_bytes, ip, is_skipped, is_word, number, number_u8, number_u16,
-    numbered_lines, push_hex, push_ip, push_number,
+    push_hex, push_ip, push_number,
 };
 use gn_wire::Guid;
-use std::alloc::Allocator;
 use std::test::Fail;
 
 #[test]
@@ -76,11 +75,19 @@ fn addresses(rt: HostRuntime) -> Result<(), Fail> {
     Ok(())
 }
 
-/// The last line of a text that isn't skipped, with its number; 0 where there is none.
-fn last_line<'a, A: Allocator>(found: &NumberedLines<'a, A>) -> (u64, &'a [u8]) {
-    match found.lines.last() {
-        Some((number, line)) => (*number, *line),
-        None => (0, b""),
+/// The last line of a text that isn't skipped, with its number, which is 0 where there is none; and the number of the line
+/// after the last one.
+fn last_line(text: &[u8]) -> (u64, &[u8], u64) {
+    let mut lines = NumberedLines::of(text);
+    let mut last: (u64, &[u8]) = (0, b"");
+    for _ in text {
+        if let Ok(line) = lines.next_line() {
+            last = line;
+        }
+    }
+    match lines.next_line() {
+        Ok(_) => (0, b"", 0),
+        Err(after) => (last.0, last.1, after),
     }
 }
 
@@ -95,9 +102,8 @@ fn lines_and_fields(rt: HostRuntime) -> Result<(), Fail> {
         (b"# one\n\nstats", 3, b"stats", 4),
     ];
     for (text, number, line, after) in cut {
-        let found = numbered_lines(alloc, text)?;
-        let last = last_line(&found);
-        assert_eq!(rt; (last.0, found.after), (number, after));
+        let last = last_line(text);
+        assert_eq!(rt; (last.0, last.2), (number, after));
         assert_eq!(rt; last.1, line);
     }
     let parts: [&[u8]; 4] = [b"", b"data", b"", b"1"];

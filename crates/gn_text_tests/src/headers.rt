@@ -2,7 +2,7 @@
 
 use gn_rules::{Config, Own};
 use gn_text::{
-    CaptureFault, CaptureRefusal, Cause, fields, ip, numbered_lines, read_config, read_header,
+    CaptureFault, CaptureRefusal, Cause, NumberedLines, fields, ip, read_config, read_header,
     read_own,
 };
 use gn_wire::Guid;
@@ -52,12 +52,17 @@ const FAULTS: [(&[u8], u64, Cause); 13] = [
     ),
 ];
 
-fn read(rt: &HostRuntime, text: &[u8]) -> Result<(Config, usize), CaptureRefusal> {
-    let parsed = numbered_lines(rt.alloc(), text)?;
-    match read_header(rt.alloc(), TITLE, &parsed.lines, parsed.after) {
-        Ok((config, more)) => Ok((config, more.len())),
-        Err(refusal) => Err(refusal),
+/// What the header says, and how many lines that aren't skipped stand after it.
+fn read(rt: &HostRuntime, text: &[u8]) -> Result<(Config, u32), CaptureRefusal> {
+    let mut lines = NumberedLines::of(text);
+    let config = read_header(rt.alloc(), TITLE, &mut lines)?;
+    let mut more = 0u32;
+    for _ in text {
+        if lines.next_line().is_ok() {
+            more = more.saturating_add(1);
+        }
     }
+    Ok((config, more))
 }
 
 #[test]

@@ -1,10 +1,13 @@
-use Rattle.std.proofs.Common.{◌≡◌, ◌≤◌, drop, map}
-use Rattle.gn_text.specs.Parsed.{line_seen}
-use Rattle.gn_capture.specs.Captures.{lines_from, with_front}
+use Rattle.std.proofs.Common.{◌≡◌, ◌≤◌, length, vec_len}
+use Rattle.gn_capture.specs.Captures.{lines_from}
+use Rattle.gn_capture.proofs.ParsedLemmas.{left}
 use Rattle.gn_capture.proofs.body.read_lines.Given as goal
 
 abbrev pub invariant-loop-number : goal.invariant-loop-number
 invariant-loop-number g l = record {
-  links : l.links ≤ l.number-index;
-  parsed : with_front l.parsed.items (lines_from l.links (drop l.number-index (map line_seen l.lines))) ≡ lines_from 0 (map line_seen l.lines);
+  links : l.links ≤ vec_len l.parsed;
+  parsed : left l.parsed.items l.links l.lines.lines ≡ lines_from 0 l.fn.lines.lines;
 }
+
+abbrev pub decreases-loop-number : goal.decreases-loop-number
+decreases-loop-number g l = length l.lines.lines

@@ -8,6 +8,6 @@ pub returns-in-Ok-clause-first : goal.returns-in-Ok-clause-first
 returns-in-Ok-clause-first g c =
     let text = c.args.text.now in
     let refusal = c.in-Err-read_lines.refusal in
-    let begun : capture_header text ≡ Ok (header_seen (c.in-Ok.config, c.in-Ok.lines)) =
-    rw (c.deref.ensures.value, c.in_ok-parsed.ensures.lines, c.in_ok-parsed.ensures.after) at c.in-Ok.ensures in
-    told_first _ text refusal (body_refused _ text (header_seen (c.in-Ok.config, c.in-Ok.lines)) refusal begun c.in-Err-read_lines.ensures)
+    let header = header_seen c.in-Ok.config c.read_header.new.lines in
+    let begun : capture_header text ≡ Ok header = rw c.of-lines.ensures at c.in-Ok.ensures.header in
+    told_first _ text refusal (body_refused _ text header refusal begun c.in-Err-read_lines.ensures)

@@ -1,8 +1,13 @@
-use Rattle.std.specs.Prelude.{◌≡◌, ◌++◌, drop, map}
-use Rattle.gn_text.specs.Parsed.{line_seen}
-use Rattle.gn_capture.specs.Histories.{map_result, steps_from}
+use Rattle.std.specs.Prelude.{◌≡◌, length}
+use Rattle.gn_capture.specs.Histories.{steps_from}
+use Rattle.gn_capture.proofs.StepsLemmas.{known}
 use Rattle.gn_capture.proofs.history.read_steps.Given as goal
 
-abbrev pub invariant-loop-i : goal.invariant-loop-i
-invariant-loop-i g l =
-    map_result (λ more. l.steps.items ++ more) (steps_from l.fn.after (map line_seen (drop l.i l.lines))) ≡ steps_from l.fn.after (map line_seen l.lines)
+abbrev pub invariant-loop-line : goal.invariant-loop-line
+invariant-loop-line g l = record {
+  after : l.lines.after ≡ l.fn.lines.after;
+  known : known l.steps.items l.fn.lines.after l.lines.lines ≡ steps_from l.fn.lines.after l.fn.lines.lines;
+}
+
+abbrev pub decreases-loop-line : goal.decreases-loop-line
+decreases-loop-line g l = length l.lines.lines
