@@ -28,11 +28,21 @@ impl<A: Allocator + Copy> TableRouter<A> {
         ensures settings { self.new.settings ≡ self.old.settings }
     {
         let index = self.history.len() as u32;
-        let (step, receipt) = Step::with_receipt(self.alloc, index, actor, event, reply)?;
+        let kept = event.copy()?;
+        let told = event.copy()?;
+        let answer = reply.copy(self.alloc)?;
         self.history.reserve(1)?;
-        self.tables.follow(self.alloc, event, &receipt.reply)?;
-        self.history.push_reserved(step);
-        Ok(receipt)
+        self.tables.follow(self.alloc, event, &reply)?;
+        self.history.push_reserved(Step {
+            actor,
+            event: kept,
+            reply,
+        });
+        Ok(Receipt {
+            index,
+            event: told,
+            reply: answer,
+        })
     }
 }
 
