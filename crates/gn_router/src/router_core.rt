@@ -1,7 +1,8 @@
 //! The table router keeps what every router promises.
 
-ghost use Rattle.std.specs.Prelude.{◌≡◌, ◌∷◌, ◌++◌, [], Ok, length, IfOk, OnErr};
+ghost use Rattle.std.specs.Prelude.{◌≡◌, ◌∷◌, ◌++◌, [], Ok, length, IfOk, IfErr, OnErr};
 ghost use Rattle.gn_rules.specs.Answer.{answer};
+ghost use Rattle.gn_rules.specs.declared.refusal.Refusal.TheVariants.{NoMemory};
 ghost use Rattle.gn_router.specs.Tabled.{past_of};
 
 use crate::table_router::TableRouter;
@@ -11,13 +12,13 @@ use gn_rules::{Config, ConnId, Event, Receipt, Refusal, Reply, RouterCore, Stats
 use std::alloc::{AllocError, Allocator};
 
 impl<A: Allocator + Copy> TableRouter<A> {
-    /// Makes the step of an event whose reply was found. An `Err` is out of memory, and changes nothing.
+    /// Makes the step of an event whose reply was found. The one refusal is out of memory, and changes nothing.
     fn enter(
         &mut self,
         actor: u32,
         event: &Event<A>,
         reply: Reply<A>,
-    ) -> Result<Receipt<A>, AllocError>
+    ) -> Result<Receipt<A>, Refusal>
         requires { answer self.old.settings (past_of self.old) event.now ≡ Ok reply }
         ensures reply { IfOk result (λ receipt. receipt.reply ≡ reply) }
         ensures step { IfOk result (λ receipt. self.new.steps
@@ -25,14 +26,25 @@ impl<A: Allocator + Copy> TableRouter<A> {
         ensures index { IfOk result (λ receipt. receipt.index ≡ length self.old.steps) }
         ensures event { IfOk result (λ receipt. receipt.event ≡ event.now) }
         ensures err { OnErr result (self.new.steps ≡ self.old.steps) }
+        ensures refusal { IfErr result (λ refusal. refusal ≡ NoMemory) }
         ensures settings { self.new.settings ≡ self.old.settings }
     {
         let index = self.history.len() as u32;
-        let (step, receipt) = Step::with_receipt(self.alloc, index, actor, event, reply)?;
+        let kept = event.copy()?;
+        let told = event.copy()?;
+        let answer = reply.copy(self.alloc)?;
         self.history.reserve(1)?;
-        self.tables.follow(self.alloc, event, &receipt.reply)?;
-        self.history.push_reserved(step);
-        Ok(receipt)
+        self.tables.follow(self.alloc, event, &reply)?;
+        self.history.push_reserved(Step {
+            actor,
+            event: kept,
+            reply,
+        });
+        Ok(Receipt {
+            index,
+            event: told,
+            reply: answer,
+        })
     }
 }
 
@@ -47,7 +59,7 @@ impl<A: Allocator + Copy> RouterCore<A> for TableRouter<A> {
 
     fn apply(&mut self, actor: u32, event: &Event<A>) -> Result<Receipt<A>, Refusal> {
         let reply = find(self.alloc, self, event)?;
-        Ok(self.enter(actor, event, reply)?)
+        self.enter(actor, event, reply)
     }
 
     fn route(
@@ -57,7 +69,7 @@ impl<A: Allocator + Copy> RouterCore<A> for TableRouter<A> {
         checked: &Checked<A>,
     ) -> Result<Receipt<A>, Refusal> {
         let reply = find_checked(self.alloc, self, ticket, checked)?;
-        Ok(self.enter(actor, &Event::Route(ticket), reply)?)
+        self.enter(actor, &Event::Route(ticket), reply)
     }
 
     fn config(&self) -> &Config {

@@ -91,7 +91,7 @@ impl<A: Allocator + Copy> Sends<A> {
     pub fn copied(alloc: A, sends: &[Sending<A>]) -> Result<Self, AllocError>
         ensures { IfOk result (λ s. s ≡ sends.now) }
     {
-        let mut items = Vec::new(alloc);
+        let mut items = Vec::with_capacity(alloc, sends.len())?;
         for sending in sends {
             items.push(sending.copy()?)?;
         }
