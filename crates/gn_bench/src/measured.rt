@@ -1,4 +1,4 @@
-//! What a load took, and how that is told.
+//! What a load took, and how that is stated.
 
 use crate::memory::most_kilobytes;
 use std::io::{self, ErrorKind};

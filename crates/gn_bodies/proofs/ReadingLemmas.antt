@@ -7,7 +7,7 @@ use Rattle.gn_frames.specs.Frames.{Frames, frames_of, no_frames}
 use Rattle.gn_rules.specs.declared.event.Event.TheVariants.{Connect}
 use Rattle.gn_shake.specs.declared.shake.ShakeState.{ShakeState}
 use Rattle.gn_shake.specs.declared.shake.ShakeState.TheVariants.{More, Done}
-use Rattle.gn_shake.specs.Greeting.{GreetingIsTold, greeting_state}
+use Rattle.gn_shake.specs.Greeting.{GreetingIsKnown, greeting_state}
 use Rattle.gn_shake.specs.Shaking.{Shaking, answer_of, fed, used_of, shake_of, PiecesAreOneStream}
 use Rattle.gn_rules.specs.declared.event.Event.{Event}
 use Rattle.gn_bodies.specs.declared.ends.ReaderEnd.{ReaderEnd}
@@ -24,32 +24,32 @@ use Rattle.gn_bodies.specs.ReaderRows.{ConnectedRow, SourceRow, WithClose}
 use Rattle.gn_bodies.specs.Reading.{HasConnection, IsOffering, IsReading, ReadRow, OpenRow, reading_connection, end_of_bytes, is_of_bytes, closes}
 
 -- a stream that begins with the greeting has it accepted
-pub accepted : GreetingIsTold → (role : Role) (b s : List ℕ) → b ≡ greeting_of role ++ s → greeting_state (greeting_of role) b ≡ Done
-accepted told role b s whole = sym ((told (greeting_of role) b Done).0 (s, whole))
+pub accepted : GreetingIsKnown → (role : Role) (b s : List ℕ) → b ≡ greeting_of role ++ s → greeting_state (greeting_of role) b ≡ Done
+accepted known role b s whole = sym ((known (greeting_of role) b Done).0 (s, whole))
 
 -- the frames after the greeting, where it is accepted
-pub after_greeting : GreetingIsTold → (role : Role) (b s : List ℕ) → b ≡ greeting_of role ++ s → frames_after role b ≡ frames_of s
-after_greeting told role b s whole =
+pub after_greeting : GreetingIsKnown → (role : Role) (b s : List ℕ) → b ≡ greeting_of role ++ s → frames_after role b ≡ frames_of s
+after_greeting known role b s whole =
     let g = greeting_of role in
-    ap (λ (w : ShakeState). cond (is_done w) (frames_of (drop (length g) b)) (no_frames [] None)) (accepted told role b s whole)
+    ap (λ (w : ShakeState). cond (is_done w) (frames_of (drop (length g) b)) (no_frames [] None)) (accepted known role b s whole)
     ∙ ap frames_of (ap (drop (length g)) whole ∙ drop_at g s (length g) refl)
 
 -- a joined link goes on
 pub whole_more : (role : Role) (b s piece : List ℕ) → b ≡ greeting_of role ++ s → b ++ piece ≡ greeting_of role ++ (s ++ piece)
 whole_more role b s piece whole = ap (λ w. w ++ piece) whole ∙ append_assoc (greeting_of role) s piece
 
-pub fault_row : {A : Type 0} → GreetingIsTold → (role : Role) (b s : List ℕ) (c : ℕ) (f : FrameFault) (me : ActorState A) → b ≡ greeting_of role ++ s
+pub fault_row : {A : Type 0} → GreetingIsKnown → (role : Role) (b s : List ℕ) (c : ℕ) (f : FrameFault) (me : ActorState A) → b ≡ greeting_of role ++ s
     → (frames_of s).fault ≡ Some f → link_events me ≡ offered_events c (frames_of s).descriptors → ReadRow role (Fault f) (Some c) (link_events me) b
-fault_row told role b s c f me whole ends events =
-    let is = after_greeting told role b s whole in
+fault_row known role b s c f me whole ends events =
+    let is = after_greeting known role b s whole in
     let all = ap (λ (w : Frames). offered_events c w.descriptors) (sym is) in
-    (accepted told role b s whole, (ap (λ (w : Frames). w.fault) is ∙ ends, events ∙ all))
+    (accepted known role b s whole, (ap (λ (w : Frames). w.fault) is ∙ ends, events ∙ all))
 
-pub not_live_row : {A : Type 0} → GreetingIsTold → (role : Role) (b s : List ℕ) (c : ℕ) (me : ActorState A) → b ≡ greeting_of role ++ s
+pub not_live_row : {A : Type 0} → GreetingIsKnown → (role : Role) (b s : List ℕ) (c : ℕ) (me : ActorState A) → b ≡ greeting_of role ++ s
     → ((n : ℕ) × (n < length (frames_of s).descriptors) × (link_events me ≡ offered_events c (take n (frames_of s).descriptors))) → ReadRow role NotLive (Some c) (link_events me) b
-not_live_row told role b s c me whole part =
-    let row = subst (λ (w : Frames). (n : ℕ) × (n < length w.descriptors) × (link_events me ≡ offered_events c (take n w.descriptors))) (sym (after_greeting told role b s whole)) part in
-    (accepted told role b s whole, row)
+not_live_row known role b s c me whole part =
+    let row = subst (λ (w : Frames). (n : ℕ) × (n < length w.descriptors) × (link_events me ≡ offered_events c (take n w.descriptors))) (sym (after_greeting known role b s whole)) part in
+    (accepted known role b s whole, row)
 
 -- a link that just connected
 pub just_joined : {A : Type 0} (c : ℕ) (frames : Option (List ℕ)) (me : ActorState A) → frames ≡ Some [] → link_events me ≡ Connect ∷ [] → IsOffering [] c frames me
@@ -70,10 +70,10 @@ greeted g b piece before after state one start answered then_kept =
     }
 
 -- the bytes after a greeting that is done
-pub rest_after : (g b piece rest : List ℕ) (used : ℕ) (before : Shaking) → PiecesAreOneStream → GreetingIsTold → before ≡ shake_of g b → greeting_state g b ≡ More
+pub rest_after : (g b piece rest : List ℕ) (used : ℕ) (before : Shaking) → PiecesAreOneStream → GreetingIsKnown → before ≡ shake_of g b → greeting_state g b ≡ More
     → greeting_state g (b ++ piece) ≡ Done → used ≡ used_of before piece → rest ≡ drop used piece → b ++ piece ≡ g ++ rest
-rest_after g b piece rest used before one told start more done used_is rest_is =
-    let (s, whole) = (told g (b ++ piece) Done).1 (sym done) in
+rest_after g b piece rest used before one known start more done used_is rest_is =
+    let (s, whole) = (known g (b ++ piece) Done).1 (sym done) in
     let here : rest ≡ drop (length g) (b ++ piece) =
     rest_is ∙ ap (λ (n : ℕ). drop n piece) (used_is ∙ ap (λ (k : Shaking). used_of k piece) start) ∙ (one g b piece).rest more done in
     whole ∙ ap (λ w. g ++ w) (sym (here ∙ ap (drop (length g)) whole ∙ drop_at g s (length g) refl))
@@ -82,25 +82,25 @@ rest_after g b piece rest used before one told start more done used_is rest_is =
 pub none_done : {A : Type 0} (me : ActorState A) → me.receipts ≡ [] → link_events me ≡ []
 none_done me none = ap link_events_in none
 
-pub failed_row : {A : Type 0} → GreetingIsTold → (role : Role) (r : Reading A) (b : List ℕ) (me : ActorState A) → IsReading role r b me → HasConnection r me
+pub failed_row : {A : Type 0} → GreetingIsKnown → (role : Role) (r : Reading A) (b : List ℕ) (me : ActorState A) → IsReading role r b me → HasConnection r me
     → ReadRow role ReadFailed (reading_connection r) (link_events me) b
-failed_row told role (reading.Greeting shake) b me (kept, more) has = (more, none_done me has)
-failed_row told role (reading.Joined c frames) b me is has =
-    (accepted told role b is.stream is.whole, is.offering.events ∙ ap (λ (w : Frames). offered_events c w.descriptors) (sym (after_greeting told role b is.stream is.whole)))
+failed_row known role (reading.Greeting shake) b me (kept, more) has = (more, none_done me has)
+failed_row known role (reading.Joined c frames) b me is has =
+    (accepted known role b is.stream is.whole, is.offering.events ∙ ap (λ (w : Frames). offered_events c w.descriptors) (sym (after_greeting known role b is.stream is.whole)))
 
-pub turns_row : {A : Type 0} → GreetingIsTold → (role : Role) (r : Reading A) (b : List ℕ) (me : ActorState A) → IsReading role r b me → HasConnection r me
+pub turns_row : {A : Type 0} → GreetingIsKnown → (role : Role) (r : Reading A) (b : List ℕ) (me : ActorState A) → IsReading role r b me → HasConnection r me
     → ReadRow role Turns (reading_connection r) (link_events me) b
-turns_row told role (reading.Greeting shake) b me (kept, more) has = (more, none_done me has)
-turns_row told role (reading.Joined c frames) b me is has =
-    (accepted told role b is.stream is.whole, is.offering.events ∙ ap (λ (w : Frames). offered_events c w.descriptors) (sym (after_greeting told role b is.stream is.whole)))
+turns_row known role (reading.Greeting shake) b me (kept, more) has = (more, none_done me has)
+turns_row known role (reading.Joined c frames) b me is has =
+    (accepted known role b is.stream is.whole, is.offering.events ∙ ap (λ (w : Frames). offered_events c w.descriptors) (sym (after_greeting known role b is.stream is.whole)))
 
-pub ended_row : {A : Type 0} → GreetingIsTold → (role : Role) (r : Reading A) (b : List ℕ) (me : ActorState A) → IsReading role r b me → HasConnection r me
+pub ended_row : {A : Type 0} → GreetingIsKnown → (role : Role) (r : Reading A) (b : List ℕ) (me : ActorState A) → IsReading role r b me → HasConnection r me
     → ReadRow role (end_of_bytes r) (reading_connection r) (link_events me) b
-ended_row told role (reading.Greeting shake) b me (kept, more) has = (more, none_done me has)
-ended_row told role (reading.Joined c frames) b me is has =
-    let same = after_greeting told role b is.stream is.whole in
+ended_row known role (reading.Greeting shake) b me (kept, more) has = (more, none_done me has)
+ended_row known role (reading.Joined c frames) b me is has =
+    let same = after_greeting known role b is.stream is.whole in
     let all = ap (λ (w : Frames). offered_events c w.descriptors) (sym same) in
-    (accepted told role b is.stream is.whole, (ap (λ (w : Frames). w.fault) same ∙ is.offering.clean, is.offering.events ∙ all))
+    (accepted known role b is.stream is.whole, (ap (λ (w : Frames). w.fault) same ∙ is.offering.clean, is.offering.events ∙ all))
 
 pub conn_of_reading : {A : Type 0} (r : Reading A) (me : ActorState A) → HasConnection r me → connection_of me ≡ reading_connection r
 conn_of_reading (reading.Greeting shake) me none = ap (λ w. connection_of (record { number = me.number; receipts = w })) none

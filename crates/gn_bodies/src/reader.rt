@@ -95,7 +95,7 @@ fn read_all<
         (Rd.has_ended reader.new)) }
     ensures settled { StaysSettled me.old me.new }
 {
-    gn_shake::greeting_is_told();
+    gn_shake::greeting_is_known();
     let mut reading = match begin(rt, alloc, service, me, link, role) {
         Piece::More(reading) => reading,
         Piece::End { connection, end } => return Ok((connection, end)),

@@ -68,7 +68,7 @@ fn deliver_on<S: Site, C: RouterCore<A> + Drop, L: Ledger, A: Allocator + Copy, 
         → IsTaken role result (b ++ piece.now) me.new.actor }
     ensures settled { StaysSettled me.old me.new }
 {
-    gn_shake::greeting_is_told();
+    gn_shake::greeting_is_known();
     let mut frames = frames;
     match deliver(rt, service, me, c, &mut frames, piece) {
         Delivery::More => Piece::More(Reading::Joined {
@@ -106,7 +106,7 @@ pub(crate) fn open<S: Site, C: RouterCore<A> + Drop, L: Ledger, A: Allocator + C
         → IsTaken role result b me.new.actor }
     ensures settled { StaysSettled me.old me.new }
 {
-    gn_shake::greeting_is_told();
+    gn_shake::greeting_is_known();
     match me.connect(rt, service, link) {
         Err(why) => Piece::Stop(why),
         Ok(None) => Piece::End {
@@ -141,7 +141,7 @@ fn greet<S: Site, C: RouterCore<A> + Drop, L: Ledger, A: Allocator + Copy, R: Wa
     ensures settled { StaysSettled me.old me.new }
 {
     gn_shake::pieces_are_one_stream();
-    gn_shake::greeting_is_told();
+    gn_shake::greeting_is_known();
     let mut shake = shake;
     let shaken = shake.feed(piece);
     match shaken.state {

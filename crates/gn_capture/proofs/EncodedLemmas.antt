@@ -20,8 +20,8 @@ header_by bs h (Some fault) e = absurd (cc)
 header_read : (bs : List ℕ) (h : Header) → reading bs ≡ Ok h → header_at bs ≡ h
 header_read bs h e = header_by bs h (fault_of (header_at bs).kind (header_at bs).length) e
 
-front_fits : (bs : List ℕ) → 23 ≤ length bs → IsBytes bs → (k : ℕ) → get_or (take 23 bs) k 0 < 256
-front_fits bs long h k =
+head_fits : (bs : List ℕ) → 23 ≤ length bs → IsBytes bs → (k : ℕ) → get_or (take 23 bs) k 0 < 256
+head_fits bs long h k =
     let size = length-take-le 23 bs long in
     elim (cases_lt k 23) [ inl below ↦ rw (get_or-take 23 bs k 0 below) (h k) | inr above ↦ rw (get_or_past (take 23 bs) k 0 (omega arith)) (omega arith) ]
 
@@ -32,9 +32,9 @@ header_kept h payload size =
 whole_of : (bs : List ℕ) (h : Header) → 23 ≤ length bs → IsBytes bs → reading (take 23 bs) ≡ Ok h → h.length ≡ length (drop 23 bs)
     → bytes_of (packet_from h (drop 23 bs)) ≡ bs
 whole_of bs h long fits e size =
-    let front : header_bytes h ≡ take 23 bs =
-    ap header_bytes (sym (header_read (take 23 bs) h e)) ∙ header_bytes-header_at (take 23 bs) (length-take-le 23 bs long) (front_fits bs long fits) in
-    ap (λ (x : Header). header_bytes x ++ drop 23 bs) (header_kept h (drop 23 bs) size) ∙ ap (λ (x : List ℕ). x ++ drop 23 bs) front ∙ take-append-drop 23 bs
+    let head : header_bytes h ≡ take 23 bs =
+    ap header_bytes (sym (header_read (take 23 bs) h e)) ∙ header_bytes-header_at (take 23 bs) (length-take-le 23 bs long) (head_fits bs long fits) in
+    ap (λ (x : Header). header_bytes x ++ drop 23 bs) (header_kept h (drop 23 bs) size) ∙ ap (λ (x : List ℕ). x ++ drop 23 bs) head ∙ take-append-drop 23 bs
 
 fitting : (bs : List ℕ) (h : Header) (d : Packet) (b : Bool) → 23 ≤ length bs → IsBytes bs → reading (take 23 bs) ≡ Ok h
     → (h.length == length (drop 23 bs)) ≡ b → (if b then Some (packet_from h (drop 23 bs)) else None) ≡ Some d → bytes_of d ≡ bs

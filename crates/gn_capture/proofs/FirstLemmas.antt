@@ -11,7 +11,7 @@ use Rattle.gn_text.specs.Settings.{Numbers}
 use Rattle.gn_capture.specs.declared.line.Line.{Line}
 use Rattle.gn_capture.specs.CaptureLines.{line_of, links_after}
 use Rattle.gn_capture.specs.Captures.{capture_header, capture_of, lines_from, parsed_by}
-use Rattle.gn_capture.specs.FirstFaults.{IsFirstFault, TellsFirst}
+use Rattle.gn_capture.specs.FirstFaults.{IsFirstFault, NamesFirst}
 use Rattle.gn_capture.specs.Outcomes.{numbered}
 
 -- a fault of what is joined to others is one of the others
@@ -49,14 +49,14 @@ first_in ((n, text) ∷ more) links fault e =
     first_line links n text more fault (line_of links (fields_of text)) refl e (λ after h. first_in more after fault h)
 
 first_of : {A : Type 0} (text : List ℕ) (fault : CaptureFault) (header : Result ((Numbers × Own) × List (ℕ × List ℕ)) CaptureFault)
-    → capture_header text ≡ header → (header >>= parsed_by {A = A}) ≡ Err fault → TellsFirst A text (Fault fault)
+    → capture_header text ≡ header → (header >>= parsed_by {A = A}) ≡ Err fault → NamesFirst A text (Fault fault)
 first_of text fault (Err other) q e = let same : other ≡ fault = cc in inl (q ∙ ap Err same)
 first_of {A} text fault (Ok header) q e =
     inr (header, q, first_in header.1 0 fault (unjoined (λ lines. record { numbers = header.0.0; own = header.0.1; lines = lines }) (lines_from {A = A} 0 header.1) fault e))
 
-pub told_first : (A : Type 0) (text : List ℕ) (refusal : CaptureRefusal) → IsRefused refusal (capture_of {A = A} text) → TellsFirst A text refusal
-told_first A text NoMemory h = _
-told_first A text (Fault fault) h = first_of {A = A} text fault (capture_header text) refl h
+pub known_first : (A : Type 0) (text : List ℕ) (refusal : CaptureRefusal) → IsRefused refusal (capture_of {A = A} text) → NamesFirst A text refusal
+known_first A text NoMemory h = _
+known_first A text (Fault fault) h = first_of {A = A} text fault (capture_header text) refl h
 
 -- a refusal of the lines after the first three is one of the capture
 pub body_refused : (A : Type 0) (text : List ℕ) (header : (Numbers × Own) × List (ℕ × List ℕ)) (refusal : CaptureRefusal)

@@ -5,16 +5,16 @@ use Rattle.std.proofs.lemmas.List.{take_all}
 
 one_more : {X : Type 0} (P : X → Type 0) (xs : List X) (i : ℕ) (x : X) → i < length xs → x ≡ get_or xs i x → AllByRecursion P (take i xs) → P x
     → AllByRecursion P (take (suc i) xs)
-one_more P [] i x below is front holds = absurd (omega arith)
-one_more P (y ∷ ys) zero x below is front holds = (subst P is holds, tt)
-one_more P (y ∷ ys) (suc i) x below is front holds = (front.0, one_more P ys i x (omega arith) is front.1 holds)
+one_more P [] i x below is head holds = absurd (omega arith)
+one_more P (y ∷ ys) zero x below is head holds = (subst P is holds, tt)
+one_more P (y ∷ ys) (suc i) x below is head holds = (head.0, one_more P ys i x (omega arith) is head.1 holds)
 
 -- one element more
 pub all_more : {X : Type 0} (P : X → Type 0) (xs : List X) (i : ℕ) (x : X) → i < length xs → x ≡ get_or xs i x → AllByRecursion P (take i xs) → P x
     → AllByRecursion P (take (i + 1) xs)
-all_more P xs i x below is front holds =
-    let next : suc i ≡ i + 1 = omega arith in subst (λ n. AllByRecursion P (take n xs)) next (one_more P xs i x below is front holds)
+all_more P xs i x below is head holds =
+    let next : suc i ≡ i + 1 = omega arith in subst (λ n. AllByRecursion P (take n xs)) next (one_more P xs i x below is head holds)
 
 -- all of them
 pub all_taken : {X : Type 0} (P : X → Type 0) (xs : List X) (i : ℕ) → length xs ≤ i → AllByRecursion P (take i xs) → AllByRecursion P xs
-all_taken {X = X} P xs i past front = let of : List X → Type 0 = λ ys. AllByRecursion P ys in subst of (take_all i xs past) front
+all_taken {X = X} P xs i past head = let of : List X → Type 0 = λ ys. AllByRecursion P ys in subst of (take_all i xs past) head

@@ -10,7 +10,7 @@ use Rattle.gn_text.specs.Parsed.{parsed_of, line_after}
 use Rattle.gn_text.specs.Settings.{Numbers}
 use Rattle.gn_capture.specs.Histories.{history_of, steps_from, title}
 
--- what was appended to a text leaves it in front
+-- what was appended to a text leaves it first
 begins : (old more new : List ℕ) → new ≡ old ++ more → take (length old) new ≡ old
 begins old more new is = rw is (take-append_seam old more)
 

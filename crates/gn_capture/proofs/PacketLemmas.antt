@@ -34,24 +34,24 @@ made_from h payload d stored made =
     without_fault (packet_fault e) e d made ∙ ap of (sym stored)
 
 -- the bytes after a header of their length are the payload of the descriptor that they encode
-pub packet_made : (bs front : List ℕ) (h : Header) (payload : List ℕ) (d : Packet) → 23 ≤ length bs → front ≡ take 23 bs → reading front ≡ Ok h
+pub packet_made : (bs head : List ℕ) (h : Header) (payload : List ℕ) (d : Packet) → 23 ≤ length bs → head ≡ take 23 bs → reading head ≡ Ok h
     → h.length ≡ length (cut bs) → payload ≡ cut bs → d ≡ packet_from h payload → Some d ≡ packet_of bs
 unfolding packet_of
-packet_made bs front h payload d long front_is m size payload_is made =
+packet_made bs head h payload d long head_is m size payload_is made =
     let enough : nat_lt (length bs) 23 ≡ false = grind (arith, nat_tests) in
     let sized : h.length ≡ length (drop 23 bs) = size ∙ ap length (all_after bs) in
     let fits : (h.length == length (drop 23 bs)) ≡ true = grind (arith, nat_tests) in
-    let read : reading (take 23 bs) ≡ Ok h = ap reading (sym front_is) ∙ m in
+    let read : reading (take 23 bs) ≡ Ok h = ap reading (sym head_is) ∙ m in
     let back : payload ≡ drop 23 bs = payload_is ∙ all_after bs in
     rw (enough, read, fits, made, back) refl
 
 -- they encode none where a header has another length
-pub other_length : (bs front : List ℕ) (h : Header) → 23 ≤ length bs → front ≡ take 23 bs → reading front ≡ Ok h
+pub other_length : (bs head : List ℕ) (h : Header) → 23 ≤ length bs → head ≡ take 23 bs → reading head ≡ Ok h
     → (h.length ≡ length (cut bs) → ⊥) → None ≡ packet_of bs
 unfolding packet_of
-other_length bs front h long front_is m differs =
+other_length bs head h long head_is m differs =
     let enough : nat_lt (length bs) 23 ≡ false = grind (arith, nat_tests) in
     let apart : h.length ≡ length (drop 23 bs) → ⊥ = λ same. differs (same ∙ sym (ap length (all_after bs))) in
     let misfit : (h.length == length (drop 23 bs)) ≡ false = grind (arith, nat_tests) in
-    let read : reading (take 23 bs) ≡ Ok h = ap reading (sym front_is) ∙ m in
+    let read : reading (take 23 bs) ≡ Ok h = ap reading (sym head_is) ∙ m in
     rw (enough, read, misfit) refl

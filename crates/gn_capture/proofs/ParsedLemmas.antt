@@ -7,40 +7,40 @@ use Rattle.gn_text.specs.declared.fault.CaptureRefusal.TheVariants.{Fault, NoMem
 use Rattle.gn_capture.specs.declared.line.Line.{Line}
 use Rattle.gn_capture.specs.declared.line.Line.TheVariants.{Join, Greeted, Piece, Route, Take, Close, Originate, Stats}
 use Rattle.gn_capture.specs.CaptureLines.{line_of, links_after}
-use Rattle.gn_capture.specs.Captures.{lines_from, with_front}
+use Rattle.gn_capture.specs.Captures.{lines_from, with_first}
 use Rattle.gn_text.specs.Faults.{◌>>=◌, IsRefused}
 use Rattle.gn_capture.specs.Outcomes.{numbered}
 
 -- what lines say, after what was read
 abbrev pub left : {A : Type 0} → List (ℕ × Line A) → ℕ → List (ℕ × List ℕ) → Result (List (ℕ × Line A)) CaptureFault
-left front links lines = with_front front (lines_from links lines)
+left head links lines = with_first head (lines_from links lines)
 
-front_more : {X E : Type 0} (front : List X) (x : X) (read : Result (List X) E)
-    → with_front front (read >>= λ others. Ok (x ∷ others)) ≡ with_front (front ++ x ∷ []) read
-front_more front x (Ok others) = ap Ok (sym (append_assoc front (x ∷ []) others))
-front_more front x (Err e) = refl
+head_more : {X E : Type 0} (head : List X) (x : X) (read : Result (List X) E)
+    → with_first head (read >>= λ others. Ok (x ∷ others)) ≡ with_first (head ++ x ∷ []) read
+head_more head x (Ok others) = ap Ok (sym (append_assoc head (x ∷ []) others))
+head_more head x (Err e) = refl
 
-told : {A : Type 0} (front : List (ℕ × Line A)) (links n : ℕ) (text : List ℕ) (more : List (ℕ × List ℕ)) (line : Line A)
+found : {A : Type 0} (head : List (ℕ × Line A)) (links n : ℕ) (text : List ℕ) (more : List (ℕ × List ℕ)) (line : Line A)
     → numbered n (line_of links (fields_of text)) ≡ Ok line
-    → with_front front (lines_from links ((n, text) ∷ more)) ≡ with_front (front ++ (n, line) ∷ []) (lines_from (links_after links line) more)
-told front links n text more line e = rw e (front_more front (n, line) (lines_from (links_after links line) more))
+    → with_first head (lines_from links ((n, text) ∷ more)) ≡ with_first (head ++ (n, line) ∷ []) (lines_from (links_after links line) more)
+found head links n text more line e = rw e (head_more head (n, line) (lines_from (links_after links line) more))
 
 -- the first line is read
-pub numbered_more : {A : Type 0} (front : List (ℕ × Line A)) (links n : ℕ) (text : List ℕ) (lines more : List (ℕ × List ℕ)) (line : Line A) → lines ≡ (n, text) ∷ more
+pub numbered_more : {A : Type 0} (head : List (ℕ × Line A)) (links n : ℕ) (text : List ℕ) (lines more : List (ℕ × List ℕ)) (line : Line A) → lines ≡ (n, text) ∷ more
     → numbered n (line_of links (fields_of text)) ≡ Ok line
-    → left front links lines ≡ left (front ++ (n, line) ∷ []) (links_after links line) more
-numbered_more front links n text lines more line is e = rw is (told front links n text more line e)
+    → left head links lines ≡ left (head ++ (n, line) ∷ []) (links_after links line) more
+numbered_more head links n text lines more line is e = rw is (found head links n text more line e)
 
-failed : {A : Type 0} (front : List (ℕ × Line A)) (links n : ℕ) (text : List ℕ) (more : List (ℕ × List ℕ)) (fault : CaptureFault)
-    → numbered n (line_of {A = A} links (fields_of text)) ≡ Err fault → with_front front (lines_from links ((n, text) ∷ more)) ≡ Err fault
-failed front links n text more fault e = rw e refl
+failed : {A : Type 0} (head : List (ℕ × Line A)) (links n : ℕ) (text : List ℕ) (more : List (ℕ × List ℕ)) (fault : CaptureFault)
+    → numbered n (line_of {A = A} links (fields_of text)) ≡ Err fault → with_first head (lines_from links ((n, text) ∷ more)) ≡ Err fault
+failed head links n text more fault e = rw e refl
 
 -- a refusal of the first line is one of all lines
-pub refused_line : {A : Type 0} (front : List (ℕ × Line A)) (links n : ℕ) (text : List ℕ) (lines more : List (ℕ × List ℕ)) (refusal : CaptureRefusal)
-    (all : Result (List (ℕ × Line A)) CaptureFault) → lines ≡ (n, text) ∷ more → left front links lines ≡ all
+pub refused_line : {A : Type 0} (head : List (ℕ × Line A)) (links n : ℕ) (text : List ℕ) (lines more : List (ℕ × List ℕ)) (refusal : CaptureRefusal)
+    (all : Result (List (ℕ × Line A)) CaptureFault) → lines ≡ (n, text) ∷ more → left head links lines ≡ all
     → IsRefused refusal (numbered n (line_of {A = A} links (fields_of text))) → IsRefused refusal all
-refused_line front links n text lines more NoMemory all is e m = _
-refused_line front links n text lines more (Fault fault) all is e m = sym e ∙ rw is (failed front links n text more fault m)
+refused_line head links n text lines more NoMemory all is e m = _
+refused_line head links n text lines more (Fault fault) all is e m = sym e ∙ rw is (failed head links n text more fault m)
 
 pub links_grow : {A : Type 0} (links : ℕ) (line : Line A) → links_after links line ≤ links + 1
 links_grow links Join = omega arith
@@ -53,5 +53,5 @@ links_grow links (Originate d) = omega arith
 links_grow links Stats = omega arith
 
 -- no line is left
-pub all_parsed : {A : Type 0} (front : List (ℕ × Line A)) (links : ℕ) (lines : List (ℕ × List ℕ)) → lines ≡ [] → left front links lines ≡ Ok front
-all_parsed front links lines is = rw (is, append-nil front) refl
+pub all_parsed : {A : Type 0} (head : List (ℕ × Line A)) (links : ℕ) (lines : List (ℕ × List ℕ)) → lines ≡ [] → left head links lines ≡ Ok head
+all_parsed head links lines is = rw (is, append-nil head) refl

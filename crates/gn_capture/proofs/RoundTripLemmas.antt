@@ -34,9 +34,9 @@ joined t c o s e = simp append_assoc
 
 history_fed : {A : Type 0} (s : Config) (steps : List (Step A)) → history_text s steps ≡ fed (title ∷ lines_after s steps)
 history_fed s steps =
-    let front : List ℕ → List ℕ = λ t. codes "gnutella-history 1\n" ++ ((config_line s ++ codes "\n") ++ ((own_line s.own ++ codes "\n") ++ t)) in
+    let head : List ℕ → List ℕ = λ t. codes "gnutella-history 1\n" ++ ((config_line s ++ codes "\n") ++ ((own_line s.own ++ codes "\n") ++ t)) in
     joined (codes "gnutella-history 1\n") (config_line s ++ codes "\n") (own_line s.own ++ codes "\n") (steps_text steps) (codes "end\n")
-    ∙ ap front (step_lines_fed steps)
+    ∙ ap head (step_lines_fed steps)
 
 step_lines_are : {A : Type 0} (steps : List (Step A)) → AllByRecursion IsStep steps → AllByRecursion IsLine (step_lines steps)
 step_lines_are [] h = (refl, tt)

@@ -49,5 +49,5 @@ capture_seen capture =
     record { numbers = (settings_of capture.config).0; own = capture.config.own; lines = capture.lines.items }
 
 -- these lines, before those that are read
-abbrev pub with_front : {X E : Type 0} → List X → Result (List X) E → Result (List X) E
-with_front front read = read >>= λ others. Ok (front ++ others)
+abbrev pub with_first : {X E : Type 0} → List X → Result (List X) E → Result (List X) E
+with_first head read = read >>= λ others. Ok (head ++ others)

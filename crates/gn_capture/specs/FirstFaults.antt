@@ -31,6 +31,6 @@ IsBodyFault A text fault =
     (header : (Numbers × Own) × List (ℕ × List ℕ)) × (capture_header text ≡ Ok header) × IsFirstFault A 0 header.1 fault
 
 -- a refusal's fault is the first of a capture: one of its first three lines, or the first after them
-abbrev pub TellsFirst : (A : Type 0) → List ℕ → CaptureRefusal → Type 0
-TellsFirst A text NoMemory = Unit {0}
-TellsFirst A text (Fault fault) = (capture_header text ≡ Err fault) ⊎ IsBodyFault A text fault
+abbrev pub NamesFirst : (A : Type 0) → List ℕ → CaptureRefusal → Type 0
+NamesFirst A text NoMemory = Unit {0}
+NamesFirst A text (Fault fault) = (capture_header text ≡ Err fault) ⊎ IsBodyFault A text fault

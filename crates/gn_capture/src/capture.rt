@@ -3,7 +3,7 @@
 ghost use Rattle.std.specs.Prelude.{IfErr};
 ghost use Rattle.gn_text.specs.Faults.{IsRead};
 ghost use Rattle.gn_capture.specs.Captures.{capture_of, capture_seen};
-ghost use Rattle.gn_capture.specs.FirstFaults.{TellsFirst};
+ghost use Rattle.gn_capture.specs.FirstFaults.{NamesFirst};
 
 use crate::body::read_lines;
 use crate::line::Line;
@@ -27,7 +27,7 @@ pub fn read_capture<A: Allocator + Copy>(
     text: &[u8],
 ) -> Result<Capture<A>, CaptureRefusal>
     ensures read { IsRead capture_seen result (capture_of text.now) }
-    ensures first { IfErr result (λ refusal. TellsFirst A text.now refusal) }
+    ensures first { IfErr result (λ refusal. NamesFirst A text.now refusal) }
 {
     let mut lines = NumberedLines::of(text);
     match read_header(alloc, b"gnutella-capture 1", &mut lines) {

@@ -66,7 +66,7 @@ fn read_steps<A: Allocator + Copy>(
     }
 }
 
-/// The configuration and the steps that a history's text says. An `Err` tells its first line that something is wrong
+/// The configuration and the steps that a history's text says. An `Err` names its first line that something is wrong
 /// with: the first line isn't `gnutella-history 1` (`Header`), a bad or missing `config` or `own` line, a line that is no
 /// step (`Field`), a missing `end` or something after it (`End`); or out of memory. Empty lines and comments are
 /// skipped, also after `end`. Whether the replies are right isn't looked at.

@@ -11,7 +11,7 @@ use gn_text::{push_settings, push_step};
 use gn_wire::whole_or_none;
 use std::alloc::{AllocError, Allocator};
 
-/// Appends a line for each step. An `Err` is out of memory, and leaves what stood there before in front.
+/// Appends a line for each step. An `Err` is out of memory, and leaves what stood there before as it was.
 fn write_steps<A: Allocator, B: Allocator>(
     out: &mut Vec<u8, B>,
     steps: &[Step<A>],
@@ -25,7 +25,7 @@ fn write_steps<A: Allocator, B: Allocator>(
     Ok(())
 }
 
-/// Appends the text of a history. An `Err` is out of memory, and leaves what stood there before in front.
+/// Appends the text of a history. An `Err` is out of memory, and leaves what stood there before as it was.
 fn write_text<A: Allocator, B: Allocator>(
     config: &Config,
     steps: &[Step<A>],

@@ -1,4 +1,4 @@
-//! Laws of a history's text that no one call shows.
+//! Laws of a history's text that no one call proves.
 
 ghost use Rattle.gn_capture.specs.RoundTrip.{IsReadBack, ReadIsEncoded, WrittenIsRead};
 

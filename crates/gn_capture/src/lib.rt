@@ -1,4 +1,4 @@
-//! Both texts whole: captures, which tell what links deliver and what the local servent does, and histories, written and
+//! Both texts whole: captures, which say what links deliver and what the local servent does, and histories, written and
 //! read.
 #![tactic(auto)]
 

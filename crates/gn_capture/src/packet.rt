@@ -17,11 +17,11 @@ fn packet_in<A: Allocator + Copy>(
 ) -> Result<Option<Descriptor<A>>, AllocError>
     ensures { IfOk result (λ found. found ≡ packet_of bytes.now) }
 {
-    let Some(front) = bytes.first_chunk::<HEADER_BYTES>() else {
+    let Some(head) = bytes.first_chunk::<HEADER_BYTES>() else {
         return Ok(None);
     };
     let payload = &bytes[HEADER_BYTES..];
-    match read_header(front) {
+    match read_header(head) {
         Err(_) => Ok(None),
         Ok(header) if header.length as usize != payload.len() => Ok(None),
         Ok(header) => {

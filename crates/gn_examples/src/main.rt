@@ -85,7 +85,7 @@ fn printed<
     }
 }
 
-/// Whether a command prints what is wanted, told in words.
+/// Whether a command prints what is wanted, stated in words.
 fn compared<
     R: Threads + Wait + Net<Listener = TcpListener, Stream = TcpStream> + Sync + AllocGlobal,
 >(rt: &R, words: &[&str], input: &[u8], status: u8, wanted: &[u8]) -> &'static str {
@@ -95,7 +95,7 @@ fn compared<
     }
 }
 
-/// Whether the history that a command prints of a capture is legal, told in words.
+/// Whether the history that a command prints of a capture is legal, stated in words.
 fn judged<R: Threads + Wait + Net<Listener = TcpListener, Stream = TcpStream> + Sync + AllocGlobal>(
     rt: &R,
     words: &[&str],

@@ -1,5 +1,5 @@
 pub mod FramesLemmas
-pub mod FrontLemmas
+pub mod HeadLemmas
 pub mod PiecesLemmas
 pub mod ReadingLemmas
 pub mod StreamLemmas

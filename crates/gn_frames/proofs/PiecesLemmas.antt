@@ -5,12 +5,12 @@ use Rattle.gn_wire.specs.declared.header.FrameFault.{FrameFault}
 use Rattle.gn_wire.specs.declared.header.Header.{Header}
 use Rattle.gn_wire.specs.Packet.{Packet}
 use Rattle.gn_wire.specs.Encoding.{packet_from}
-use Rattle.gn_frames.specs.declared.front.Front.TheVariants.{Open, Faulty, Whole}
-use Rattle.gn_frames.specs.Front.{front_of}
+use Rattle.gn_frames.specs.declared.head.Head.TheVariants.{Open, Faulty, Whole}
+use Rattle.gn_frames.specs.Head.{head_of}
 use Rattle.gn_frames.specs.Frames.{Frames, no_frames, prepended, frames_of}
 use Rattle.gn_frames.specs.Held.{IsHeld}
 use Rattle.gn_frames.specs.Pieces.{IsFound, IsTaken}
-use Rattle.gn_frames.proofs.FrontLemmas.{whole}
+use Rattle.gn_frames.proofs.HeadLemmas.{whole}
 use Rattle.gn_frames.proofs.FramesLemmas.{frames_open, frames_faulty, frames_whole, prepended_twice, rest_open}
 
 -- no more descriptors
@@ -24,46 +24,46 @@ taken_last bytes left before after found last so_far =
       fault = sym (ap (λ (f : Frames). f.fault) same);
     }
 
-pub taken_open : (bytes left : List ℕ) (before after : List Packet) → front_of left ≡ Open
+pub taken_open : (bytes left : List ℕ) (before after : List Packet) → head_of left ≡ Open
     → prepended after (frames_of left) ≡ prepended before (frames_of bytes) → IsTaken bytes before after left None
-taken_open bytes left before after front so_far = taken_last bytes left before after None (frames_open left front) so_far
+taken_open bytes left before after head so_far = taken_last bytes left before after None (frames_open left head) so_far
 
-pub taken_faulty : (bytes left : List ℕ) (before after : List Packet) (fault : FrameFault) → front_of left ≡ Faulty fault
+pub taken_faulty : (bytes left : List ℕ) (before after : List Packet) (fault : FrameFault) → head_of left ≡ Faulty fault
     → prepended after (frames_of left) ≡ prepended before (frames_of bytes) → IsTaken bytes before after left (Some fault)
-taken_faulty bytes left before after fault front so_far = taken_last bytes left before after (Some fault) (frames_faulty left fault front) so_far
+taken_faulty bytes left before after fault head so_far = taken_last bytes left before after (Some fault) (frames_faulty left fault head) so_far
 
 payload_is_long : (after payload : List ℕ) (n : ℕ) → payload ≡ take n after → n ≤ length after → length payload ≡ n
 payload_is_long after payload n is fits = ap length is ∙ length-take-le n after fits
 
 -- the payload of a whole descriptor, cut out of what stands after its header
-pub payload_size : (bytes after payload : List ℕ) (h : Header) → front_of bytes ≡ Whole h → after ≡ drop 23 bytes → payload ≡ take h.length after
+pub payload_size : (bytes after payload : List ℕ) (h : Header) → head_of bytes ≡ Whole h → after ≡ drop 23 bytes → payload ≡ take h.length after
     → length payload ≡ h.length
-payload_size bytes after payload h front after_is payload_is =
-    let fits = (whole bytes h front).fits in
+payload_size bytes after payload h head after_is payload_is =
+    let fits = (whole bytes h head).fits in
     let size = length-drop 23 bytes in
     payload_is_long after payload h.length payload_is (rw after_is (omega (arith, size, fits)))
 
 -- what stands after a whole descriptor is shorter
-pub left_shorter : (bytes after left : List ℕ) (h : Header) → front_of bytes ≡ Whole h → after ≡ drop 23 bytes → left ≡ drop h.length after
+pub left_shorter : (bytes after left : List ℕ) (h : Header) → head_of bytes ≡ Whole h → after ≡ drop 23 bytes → left ≡ drop h.length after
     → length left < length bytes
-left_shorter bytes after left h front after_is left_is =
-    let fits = (whole bytes h front).fits in
+left_shorter bytes after left h head after_is left_is =
+    let fits = (whole bytes h head).fits in
     let size : length after ≡ length bytes - 23 = ap length after_is ∙ length-drop 23 bytes in
     let rest : length left ≡ length after - h.length = ap length left_is ∙ length-drop h.length after in
     omega arith
 
 -- one descriptor more, of a payload and what is later
-pub taken_more : (left : List ℕ) (h : Header) (before after : List Packet) (d : Packet) (payload later : List ℕ) → front_of left ≡ Whole h
+pub taken_more : (left : List ℕ) (h : Header) (before after : List Packet) (d : Packet) (payload later : List ℕ) → head_of left ≡ Whole h
     → after ≡ before ++ d ∷ [] → d ≡ packet_from h payload → payload ≡ take h.length (drop 23 left) → later ≡ drop h.length (drop 23 left)
     → prepended after (frames_of later) ≡ prepended before (frames_of left)
-taken_more left h before after d payload later front added d_is payload_is later_is =
+taken_more left h before after d payload later head added d_is payload_is later_is =
     let rest : later ≡ drop (23 + h.length) left = later_is ∙ drop-drop h.length 23 left in
     let items : after ≡ before ++ packet_from h (take h.length (drop 23 left)) ∷ [] =
     added ∙ ap (λ x. before ++ x ∷ []) (d_is ∙ ap (packet_from h) payload_is) in
     ap (λ xs. prepended xs (frames_of later)) items
     ∙ prepended_twice before (packet_from h (take h.length (drop 23 left)) ∷ []) (frames_of later)
     ∙ ap (λ xs. prepended before (prepended (packet_from h (take h.length (drop 23 left)) ∷ []) (frames_of xs))) rest
-    ∙ ap (prepended before) (sym (frames_whole left h front))
+    ∙ ap (prepended before) (sym (frames_whole left h head))
 
 -- what was taken of a copy of some bytes was found in them
 pub found_taken : (bytes copied left kept : List ℕ) (before ds : List Packet) (found : Option FrameFault) → copied ≡ bytes → before ≡ []
@@ -77,24 +77,24 @@ found_taken bytes copied left kept before ds found same none taken kept_is =
     }
 
 -- open bytes have no descriptor, and all of them are kept
-pub found_open : (bytes kept slice : List ℕ) (ds : List Packet) → kept ≡ bytes → slice ≡ kept → front_of slice ≡ Open → ds ≡ [] → IsFound bytes ds None kept
-found_open bytes kept slice ds kept_is slice_is front none =
-    let same : frames_of bytes ≡ no_frames bytes None = frames_open bytes (ap front_of (sym kept_is ∙ sym slice_is) ∙ front) in
+pub found_open : (bytes kept slice : List ℕ) (ds : List Packet) → kept ≡ bytes → slice ≡ kept → head_of slice ≡ Open → ds ≡ [] → IsFound bytes ds None kept
+found_open bytes kept slice ds kept_is slice_is head none =
+    let same : frames_of bytes ≡ no_frames bytes None = frames_open bytes (ap head_of (sym kept_is ∙ sym slice_is) ∙ head) in
     record {
       all = none ∙ ap (λ (f : Frames). f.descriptors) (sym same);
       fault = ap (λ (f : Frames). f.fault) (sym same);
       rest = λ _. kept_is ∙ ap (λ (f : Frames). f.rest) (sym same);
     }
 
--- an option that a test tells none
-told_none : (found : Option FrameFault) (b : Bool) → b ≡ is_some found → b ≡ false → found ≡ None
-told_none None b is given = refl
-told_none (Some fault) b is given = let told : false ≡ true = sym given ∙ is in cc
+-- an option that is none by a test
+known_none : (found : Option FrameFault) (b : Bool) → b ≡ is_some found → b ≡ false → found ≡ None
+known_none None b is given = refl
+known_none (Some fault) b is given = let known : false ≡ true = sym given ∙ is in cc
 
 -- what is kept without a fault is open
 pub stays_open : (bytes kept : List ℕ) (ds : List Packet) (found : Option FrameFault) (b ended : Bool) → IsFound bytes ds found kept
     → b ≡ is_some found → b ≡ false → ended ≡ false → IsHeld ended kept
 stays_open bytes kept ds found b ended is test given going =
-    let none : found ≡ None = told_none found b test given in
-    let front : front_of kept ≡ Open = ap front_of (is.rest none) ∙ rest_open bytes (sym is.fault ∙ none) in
-    subst (λ (e : Bool). IsHeld e kept) (sym going) front
+    let none : found ≡ None = known_none found b test given in
+    let head : head_of kept ≡ Open = ap head_of (is.rest none) ∙ rest_open bytes (sym is.fault ∙ none) in
+    subst (λ (e : Bool). IsHeld e kept) (sym going) head

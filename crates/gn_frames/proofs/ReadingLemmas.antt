@@ -13,22 +13,22 @@ use Rattle.gn_wire.specs.Encoding.{bytes_of, header_at, header_bytes, header_of,
 use Rattle.gn_wire.proofs.HeaderLemmas.{header_bytes-header_at}
 use Rattle.gn_wire.proofs.KindLemmas.{stored-kind_of}
 use Rattle.gn_wire.proofs.EncodingLemmas.{header_at-stream, drop-stream, length-header_bytes}
-use Rattle.gn_frames.specs.declared.front.Front.{Front}
-use Rattle.gn_frames.specs.declared.front.Front.TheVariants.{Open, Faulty, Whole}
-use Rattle.gn_frames.specs.Front.{front_of}
+use Rattle.gn_frames.specs.declared.head.Head.{Head}
+use Rattle.gn_frames.specs.declared.head.Head.TheVariants.{Open, Faulty, Whole}
+use Rattle.gn_frames.specs.Head.{head_of}
 use Rattle.gn_frames.specs.Frames.{no_frames, prepended, frames_of, named_length, IsRest, IsFrames, FramesAreOne}
 use Rattle.gn_frames.proofs.FramesLemmas.{frames_open, frames_faulty, frames_whole, shorter}
-use Rattle.gn_frames.proofs.FrontLemmas.{below_or_not, IsWhole, whole, front_whole, front_open, front_faulty, is_open, is_faulty}
+use Rattle.gn_frames.proofs.HeadLemmas.{below_or_not, IsWhole, whole, head_whole, head_open, head_faulty, is_open, is_faulty}
 
--- a string that begins with a descriptor has a whole front
-whole_stream : (d : Packet) (rest : List ℕ) → IsDescriptor d → front_of (bytes_of d ++ rest) ≡ Whole (header_of d)
+-- a string that begins with a descriptor has a whole head
+whole_stream : (d : Packet) (rest : List ℕ) → IsDescriptor d → head_of (bytes_of d ++ rest) ≡ Whole (header_of d)
 whole_stream d rest kept =
     let same : header_at (take 23 (bytes_of d ++ rest)) ≡ header_of d = header_at-stream d rest kept in
     let n : named_length (bytes_of d ++ rest) ≡ length d.payload = ap (λ (h : Header). h.length) same in
     let header : length (header_bytes (header_of d)) ≡ 23 = length-header_bytes (header_of d) kept.id_size in
     let size : length (bytes_of d ++ rest) ≡ 23 + length d.payload + length rest =
     length-append (bytes_of d) rest ∙ ap (λ (k : ℕ). k + length rest) (length-append (header_bytes (header_of d)) d.payload ∙ ap (λ (k : ℕ). k + length d.payload) header) in
-    front_whole (bytes_of d ++ rest) (ap (λ (h : Header). fault_of h.kind h.length) same ∙ kept.valid) (omega arith)
+    head_whole (bytes_of d ++ rest) (ap (λ (h : Header). fault_of h.kind h.length) same ∙ kept.valid) (omega arith)
     ∙ ap Whole same
 
 -- and its frames are the descriptor and those of what stands after it
@@ -45,8 +45,8 @@ frames_stream d rest kept =
 
 -- a reading is the one that the function gives
 ends : (r : List ℕ) (fault : Option FrameFault) → IsRest r fault → frames_of r ≡ no_frames r fault
-ends r None ended = frames_open r (front_open r ended)
-ends r (Some fault) ended = frames_faulty r fault (front_faulty r fault ended)
+ends r None ended = frames_open r (head_open r ended)
+ends r (Some fault) ended = frames_faulty r fault (head_faulty r fault ended)
 
 only : (ds : List Packet) (r : List ℕ) (fault : Option FrameFault) → All IsDescriptor ds → IsRest r fault
     → frames_of (flat_map bytes_of ds ++ r) ≡ record { descriptors = ds; rest = r; fault = fault }
@@ -63,14 +63,14 @@ byte_at s bytes k = elim (below_or_not k (length s)) [
   | inr past ↦ rw (get_or_past s k 0 past) (lit< tt)
 ]
 
--- the payload of a whole front
+-- the payload of a whole head
 payload_size : (s : List ℕ) (h : Header) → IsWhole s h → length (take h.length (drop 23 s)) ≡ h.length
 payload_size s h is = length-take-le h.length (drop 23 s) (let fits = is.fits in rw length-drop (omega arith))
 
--- the descriptor of a whole front encodes it
-told_whole : (s : List ℕ) (h : Header) → All (λ b. b < 256) s → IsWhole s h
+-- the descriptor of a whole head encodes it
+known_whole : (s : List ℕ) (h : Header) → All (λ b. b < 256) s → IsWhole s h
     → bytes_of (packet_from h (take h.length (drop 23 s))) ++ drop (23 + h.length) s ≡ s
-told_whole s h bytes is =
+known_whole s h bytes is =
     let fits = is.fits in
     let start = take 23 s in
     let payload = take h.length (drop 23 s) in
@@ -83,8 +83,8 @@ told_whole s h bytes is =
     ∙ sym (take-add 23 h.length s) in
     ap (λ xs. xs ++ drop (23 + h.length) s) encoded ∙ take-append-drop (23 + h.length) s
 
-told_descriptor : (s : List ℕ) (h : Header) → All (λ b. b < 256) s → IsWhole s h → IsDescriptor (packet_from h (take h.length (drop 23 s)))
-told_descriptor s h bytes is =
+known_descriptor : (s : List ℕ) (h : Header) → All (λ b. b < 256) s → IsWhole s h → IsDescriptor (packet_from h (take h.length (drop 23 s)))
+known_descriptor s h bytes is =
     let fits = is.fits in
     let start = take 23 s in
     let size : length start ≡ 23 = length-take-le 23 s (omega arith) in
@@ -98,26 +98,26 @@ told_descriptor s h bytes is =
     }
 
 -- the function gives a reading
-told : (s : List ℕ) (n : ℕ) → length s ≤ n → All (λ b. b < 256) s → (front : Front) → front_of s ≡ front → IsFrames s (frames_of s)
-told s n size bytes Open e =
+known : (s : List ℕ) (n : ℕ) → length s ≤ n → All (λ b. b < 256) s → (head : Head) → head_of s ≡ head → IsFrames s (frames_of s)
+known s n size bytes Open e =
     subst (IsFrames s) (sym (frames_open s e)) (record { encoded = refl; valid = λ k d h. absurd (omega arith); ended = is_open s e })
-told s n size bytes (Faulty fault) e =
+known s n size bytes (Faulty fault) e =
     subst (IsFrames s) (sym (frames_faulty s fault e)) (record { encoded = refl; valid = λ k d h. absurd (omega arith); ended = is_faulty s fault e })
-told s zero size bytes (Whole h) e = let fits = (whole s h e).fits in absurd (omega arith)
-told s (suc n) size bytes (Whole h) e =
+known s zero size bytes (Whole h) e = let fits = (whole s h e).fits in absurd (omega arith)
+known s (suc n) size bytes (Whole h) e =
     let is = whole s h e in
     let d = packet_from h (take h.length (drop 23 s)) in
     let rest = drop (23 + h.length) s in
-    let there = told rest n (shorter s n h.length size) (All-drop (λ b. b < 256) (23 + h.length) s bytes) (front_of rest) refl in
+    let there = known rest n (shorter s n h.length size) (All-drop (λ b. b < 256) (23 + h.length) s bytes) (head_of rest) refl in
     let f = frames_of rest in
     subst (IsFrames s) (sym (frames_whole s h e)) (record {
-      encoded = sym (told_whole s h bytes is) ∙ ap (λ xs. bytes_of d ++ xs) there.encoded ∙ sym (append_assoc (bytes_of d) (flat_map bytes_of f.descriptors) f.rest);
-      valid = All-cons IsDescriptor d f.descriptors (told_descriptor s h bytes is) there.valid;
+      encoded = sym (known_whole s h bytes is) ∙ ap (λ xs. bytes_of d ++ xs) there.encoded ∙ sym (append_assoc (bytes_of d) (flat_map bytes_of f.descriptors) f.rest);
+      valid = All-cons IsDescriptor d f.descriptors (known_descriptor s h bytes is) there.valid;
       ended = there.ended;
     })
 
 pub frames_are_one : FramesAreOne
 frames_are_one s bytes f = (
   λ reading. sym (ap frames_of reading.encoded ∙ only f.descriptors f.rest f.fault reading.valid reading.ended),
-  λ e. subst (IsFrames s) (sym e) (told s (length s) (omega arith) bytes (front_of s) refl),
+  λ e. subst (IsFrames s) (sym e) (known s (length s) (omega arith) bytes (head_of s) refl),
 )

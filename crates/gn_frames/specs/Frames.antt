@@ -5,9 +5,9 @@ use Rattle.gn_wire.specs.declared.header.FrameFault.{FrameFault}
 use Rattle.gn_wire.specs.Lengths.{fault_of, IsDescriptor}
 use Rattle.gn_wire.specs.Packet.{Packet}
 use Rattle.gn_wire.specs.Encoding.{bytes_of, header_at, packet_from}
-use Rattle.gn_frames.specs.declared.front.Front.{Front}
-use Rattle.gn_frames.specs.declared.front.Front.TheVariants.{Open, Faulty, Whole}
-use Rattle.gn_frames.specs.Front.{front_of}
+use Rattle.gn_frames.specs.declared.head.Head.{Head}
+use Rattle.gn_frames.specs.declared.head.Head.TheVariants.{Open, Faulty, Whole}
+use Rattle.gn_frames.specs.Head.{head_of}
 
 -- the descriptors of a string, the bytes after them, and the fault that ends it, where one does
 pub record Frames : Type 0 where
@@ -50,8 +50,8 @@ no_frames s fault = record { descriptors = []; rest = s; fault = fault }
 abbrev pub prepended : List Packet → Frames → Frames
 prepended ds f = record { descriptors = ds ++ f.descriptors; rest = f.rest; fault = f.fault }
 
--- the frames of a string by its front, where those of what stands after a descriptor are known
-abbrev pub frames_by : (List ℕ → Frames) → List ℕ → Front → Frames
+-- the frames of a string by its head, where those of what stands after a descriptor are known
+abbrev pub frames_by : (List ℕ → Frames) → List ℕ → Head → Frames
 frames_by later s Open = no_frames s None
 frames_by later s (Faulty fault) = no_frames s (Some fault)
 frames_by later s (Whole h) = prepended (packet_from h (take h.length (drop 23 s)) ∷ []) (later (drop (23 + h.length) s))
@@ -59,7 +59,7 @@ frames_by later s (Whole h) = prepended (packet_from h (take h.length (drop 23 s
 -- the frames of a string of at most n bytes
 abbrev pub frames_within : ℕ → List ℕ → Frames
 frames_within zero s = no_frames s None
-frames_within (suc n) s = frames_by (frames_within n) s (front_of s)
+frames_within (suc n) s = frames_by (frames_within n) s (head_of s)
 
 -- the frames of a string, as a function
 unfoldable pub frames_of : List ℕ → Frames

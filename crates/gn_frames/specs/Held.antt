@@ -1,7 +1,7 @@
 -- What a reassembler keeps.
 use Rattle.std.specs.Prelude.{◌≡◌, ℕ, Bool, true, false, List, [], Option, Some, None}
-use Rattle.gn_frames.specs.declared.front.Front.TheVariants.{Open}
-use Rattle.gn_frames.specs.Front.{front_of}
+use Rattle.gn_frames.specs.declared.head.Head.TheVariants.{Open}
+use Rattle.gn_frames.specs.Head.{head_of}
 
 -- its value: the bytes that are held, or none once a fault ended the stream
 abbrev pub held_view : Bool → List ℕ → Option (List ℕ)
@@ -10,5 +10,5 @@ held_view true held = None
 
 -- what is held begins no whole descriptor, and is nothing once the stream ended
 abbrev pub IsHeld : Bool → List ℕ → Type 0
-IsHeld false held = front_of held ≡ Open
+IsHeld false held = head_of held ≡ Open
 IsHeld true held = held ≡ []

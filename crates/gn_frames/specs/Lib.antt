@@ -1,5 +1,5 @@
 pub mod Frames
-pub mod Front
+pub mod Head
 pub mod Held
 pub mod Pieces
 pub mod Reassembly

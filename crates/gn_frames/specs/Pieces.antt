@@ -1,4 +1,4 @@
--- The frames of bytes, on the way to those of what is held and a piece.
+-- The frames of bytes, on the path to those of what is held and a piece.
 use Rattle.std.specs.Prelude.{◌≡◌, ℕ, List, ◌++◌, Option, None}
 use Rattle.gn_wire.specs.declared.header.FrameFault.{FrameFault}
 use Rattle.gn_wire.specs.Packet.{Packet}

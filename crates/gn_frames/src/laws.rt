@@ -1,9 +1,9 @@
-//! Laws of frames that no one call shows.
+//! Laws of frames that no one call proves.
 
 ghost use Rattle.gn_frames.specs.Frames.{FramesAreCut, FramesAreOne};
 ghost use Rattle.gn_frames.specs.Reassembly.{PiecesAreOneStream};
 
-/// The law that a string of bytes has just one reading as descriptors and a rest, so that a stream's frames are told by its
+/// The law that a string of bytes has just one reading as descriptors and a rest, so that a stream's frames are stated by its
 /// bytes alone.
 pub fn frames_are_one()
     ensures { FramesAreOne }

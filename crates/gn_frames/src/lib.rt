@@ -1,7 +1,7 @@
 //! Descriptors out of a stream of bytes that comes in pieces of any sizes.
 #![tactic(auto)]
 
-mod front;
+mod head;
 mod laws;
 mod pieces;
 mod reassembler;

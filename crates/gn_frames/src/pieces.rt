@@ -1,11 +1,11 @@
 //! The descriptors that bytes begin with, and a piece that goes on with the bytes of an unfinished one.
 
 ghost use Rattle.std.specs.Prelude.{◌≡◌, ◌<◌, ◌++◌, length, take, IfOk, OnOk, OnErr};
-ghost use Rattle.gn_frames.specs.Front.{front_of};
+ghost use Rattle.gn_frames.specs.Head.{head_of};
 ghost use Rattle.gn_frames.specs.Frames.{prepended, frames_of};
 ghost use Rattle.gn_frames.specs.Pieces.{IsFound, IsTaken};
 
-use crate::front::{Front, front_of, whole};
+use crate::head::{Head, head_of, whole};
 use crate::reassembler::Fed;
 use bytes::{Bytes, BytesMut};
 use gn_wire::{Descriptor, FrameFault, HEADER_BYTES, Header};
@@ -18,7 +18,7 @@ fn take_one<A: Allocator + Copy>(
     bytes: &mut Bytes<A>,
     descriptors: &mut Vec<Descriptor<A>, A>,
 ) -> Result<(), AllocError>
-    requires { front_of bytes.old ≡ Front.Whole header }
+    requires { head_of bytes.old ≡ Head.Whole header }
     ensures taken { OnOk result (
         prepended descriptors.new.items (frames_of bytes.new) ≡ prepended descriptors.old.items (frames_of bytes.old)) }
     ensures shorter { OnOk result (length bytes.new < length bytes.old) }
@@ -39,10 +39,10 @@ fn take_frames<A: Allocator + Copy>(
         IsTaken bytes.old descriptors.old.items descriptors.new.items bytes.new fault) }
 {
     loop {
-        match front_of(bytes.as_slice()) {
-            Front::Open => return Ok(None),
-            Front::Faulty(fault) => return Ok(Some(fault)),
-            Front::Whole(header) => take_one(header, bytes, descriptors)?,
+        match head_of(bytes.as_slice()) {
+            Head::Open => return Ok(None),
+            Head::Faulty(fault) => return Ok(Some(fault)),
+            Head::Whole(header) => take_one(header, bytes, descriptors)?,
         }
     }
 }
@@ -63,7 +63,7 @@ fn frames_in<A: Allocator + Copy>(
 }
 
 /// The frames of what is held with the piece after it; what no descriptor has is held from then on. An `Err` is out of
-/// memory: what was held stays in front.
+/// memory: what was held stays first.
 pub(crate) fn take_piece<A: Allocator + Copy>(
     alloc: A,
     held: &mut BytesMut<A>,
@@ -79,12 +79,12 @@ pub(crate) fn take_piece<A: Allocator + Copy>(
         return Ok(fed);
     }
     held.extend_from_slice(piece)?;
-    match front_of(held.as_slice()) {
-        Front::Open => Ok(Fed {
+    match head_of(held.as_slice()) {
+        Head::Open => Ok(Fed {
             descriptors: Vec::new(alloc),
             fault: None,
         }),
-        Front::Faulty(_) | Front::Whole(_) => {
+        Head::Faulty(_) | Head::Whole(_) => {
             let (fed, rest) = frames_in(alloc, held.as_slice())?;
             *held = rest;
             Ok(fed)

@@ -32,8 +32,8 @@ any_from_count p xs h =
 pub count-reverse : {X : Type 0} (p : X → Bool) (xs : List X) → count_by p (reverse xs) ≡ count_by p xs
 count-reverse p xs = sum_by-IsPermutation (λ x. cond (p x) 1 0) xs (reverse xs) (IsPermutation-reverse xs)
 
-pub same_either_way : (a b : ℕ) → (a == b) ≡ (b == a)
-same_either_way a b = grind (arith, common_steps)
+pub same_in_both : (a b : ℕ) → (a == b) ≡ (b == a)
+same_in_both a b = grind (arith, common_steps)
 
 -- a count one item further
 pub count_step : {X : Type 0} (p : X → Bool) (xs : List X) (i : ℕ) (x : X) → i < length xs → x ≡ get_or xs i x → count_by p (take (i + 1) xs) ≡ count_by p (take i xs) + tally (p x)

@@ -53,7 +53,7 @@ part_more r s receipts own is part = record {
   same = λ h. ap (λ x. x ∷ receipts) is ∙ ap (λ xs. s ∷ xs) (part.same (omega (arith, h)));
 }
 
--- one of the actor's own that no receipt tells
+-- one of the actor's own that no receipt names
 part_less : {A : Type 0} (b : Bool) (s : Receipt A) (receipts own : List (Receipt A)) → IsPart receipts own → IsPart receipts (cond b (s ∷ own) own)
 part_less true s receipts own part = record { few = omega (arith, part.few); same = λ h. absurd (omega (arith, part.few, h)) }
 part_less false s receipts own part = part

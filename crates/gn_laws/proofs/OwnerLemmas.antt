@@ -1,4 +1,4 @@
--- What a link's actors were told is all that the history says of the link's connection.
+-- What a link's actors were answered is all that the history says of the link's connection.
 use Rattle.std.proofs.Common.{◌≡◌, ◌≤◌, ◌<◌, ◌+◌, ◌-◌, ◌==◌, ◌↔◌, ℕ, zero, suc, Bool, true, false, ◌&&◌, ◌||◌, nat_lt, cond, List, [], ◌∷◌, ◌++◌, length, get_or, reverse, is_some, Option, Some, None, Ok, inl, inr, refl, sym, ap, ◌∙◌, arith}
 use Rattle.std.specs.List.{All, AllByRecursion, cons_option, count_by, filter_map, list_all, list_any}
 use Rattle.std.specs.Option.{option_or, option_to_list}
@@ -21,10 +21,10 @@ use Rattle.gn_rules.specs.History.{closed_of, connected_of, is_at, is_close, is_
 use Rattle.gn_rules.specs.Legal.{IsLegal}
 use Rattle.gn_rules.specs.Mine.{mine, mine_from}
 use Rattle.gn_rules.specs.Output.{taken, took}
-use Rattle.gn_laws.specs.Owners.{told_conn, receipts_below, packets_of, offered_on, is_readers, is_writers, AreCompared, ClosedByOne, ConnectedToOne, LinksAreTold, ReceiptsAddUp}
+use Rattle.gn_laws.specs.Owners.{known_conn, receipts_below, packets_of, offered_on, is_readers, is_writers, AreCompared, ClosedByOne, ConnectedToOne, LinksAgree, ReceiptsAddUp}
 use Rattle.gn_rules.proofs.AnswerLemmas.{answered}
 use Rattle.gn_laws.proofs.ConnectionLemmas.{closed_stays_closed, connections_count}
-use Rattle.gn_laws.proofs.CountLemmas.{tally, count-cons, count_some, count-reverse, same_either_way}
+use Rattle.gn_laws.proofs.CountLemmas.{tally, count-cons, count_some, count-reverse, same_in_both}
 use Rattle.gn_laws.proofs.PacketLemmas.{drained_took_all}
 
 -- an actor has as many receipts as steps
@@ -98,28 +98,28 @@ two_actors {A} q j k apart i (step ∷ steps) =
     ] refl
 
 pub connected_to_one : (A : Type 0) → ConnectedToOne A
-connected_to_one A s steps c j k legal told_j told_k =
+connected_to_one A s steps c j k legal known_j known_k =
     elim (cases_eq j k) as (λ x. j ≡ k) [
       | inl same ↦ same
       | inr apart ↦
           let q : Event A → Reply A → Bool = λ event reply. is_at c (connected_of reply) in
           let both = two_actors q j k apart 0 steps in
-          let first = count_some (λ (r : Receipt A). q r.event r.reply) (mine steps j) told_j in
-          let second = count_some (λ (r : Receipt A). q r.event r.reply) (mine steps k) told_k in
+          let first = count_some (λ (r : Receipt A). q r.event r.reply) (mine steps j) known_j in
+          let second = count_some (λ (r : Receipt A). q r.event r.reply) (mine steps k) known_k in
           let once = (connections_count A s (reverse steps) legal).once c in
           let same = count-reverse (λ (x : Step A). q x.event x.reply) steps in
           absurd (omega (arith, both, first, second, once, same))
     ]
 
 pub closed_by_one : (A : Type 0) → ClosedByOne A
-closed_by_one A s steps c j k legal told_j told_k =
+closed_by_one A s steps c j k legal known_j known_k =
     elim (cases_eq j k) as (λ x. j ≡ k) [
       | inl same ↦ same
       | inr apart ↦
           let q : Event A → Reply A → Bool = λ event reply. is_close c event in
           let both = two_actors q j k apart 0 steps in
-          let first = count_some (λ (r : Receipt A). q r.event r.reply) (mine steps j) told_j in
-          let second = count_some (λ (r : Receipt A). q r.event r.reply) (mine steps k) told_k in
+          let first = count_some (λ (r : Receipt A). q r.event r.reply) (mine steps j) known_j in
+          let second = count_some (λ (r : Receipt A). q r.event r.reply) (mine steps k) known_k in
           let once = (closed_stays_closed A s (reverse steps) c legal).once in
           let same = count-reverse (λ (x : Step A). q x.event x.reply) steps in
           absurd (omega (arith, both, first, second, once, same))
@@ -138,18 +138,18 @@ taken_in_order (step ∷ past) c =
     one None = refl
     one (Some p) = refl
 
--- what g finds in actor a's steps as h finds it in its receipts, and in no other's steps, is told by its receipts, in order
-record TellsBy {A Y : Type 0} (h : Event A → Reply A → Option Y) (g : Step A → Option Y) (a : ℕ) (step : Step A) : Type 0 where
+-- what g finds in actor a's steps as h finds it in its receipts, and in no other's steps, is stated by its receipts, in order
+record IsVerdictBy {A Y : Type 0} (h : Event A → Reply A → Option Y) (g : Step A → Option Y) (a : ℕ) (step : Step A) : Type 0 where
   own : step.actor ≡ a → h step.event step.reply ≡ g step
   other : (step.actor ≡ a → ⊥) → g step ≡ None
 
-mine_tells : {A Y : Type 0} (h : Event A → Reply A → Option Y) (g : Step A → Option Y) (a i : ℕ) (steps : List (Step A)) → AllByRecursion (TellsBy h g a) steps
+mine_agrees : {A Y : Type 0} (h : Event A → Reply A → Option Y) (g : Step A → Option Y) (a i : ℕ) (steps : List (Step A)) → AllByRecursion (IsVerdictBy h g a) steps
     → filter_map (λ r. h r.event r.reply) (mine_from a i steps) ≡ filter_map g steps
-mine_tells h g a i [] each = refl
-mine_tells {A} h g a i (step ∷ steps) each =
+mine_agrees h g a i [] each = refl
+mine_agrees {A} h g a i (step ∷ steps) each =
     let f : Receipt A → Option _ = λ r. h r.event r.reply in
     let r : Receipt A = record { index = i; event = step.event; reply = step.reply } in
-    let rest = mine_tells h g a (i + 1) steps each.1 in
+    let rest = mine_agrees h g a (i + 1) steps each.1 in
     elim (step.actor == a) as (λ b. (step.actor == a) ≡ b → filter_map f (cond b (r ∷ mine_from a (i + 1) steps) (mine_from a (i + 1) steps)) ≡ cons_option (g step) (filter_map g steps)) [
       | true ↦ λ e. ap (λ o. cons_option o (filter_map f (mine_from a (i + 1) steps))) (each.0.own (exact_unsigned_eq step.actor a e)) ∙ ap (cons_option (g step)) rest
       | false ↦ λ e. rest ∙ ap (λ o. cons_option o (filter_map g steps)) (sym (each.0.other (eqb-false step.actor a e)))
@@ -238,12 +238,12 @@ record IsLink {A : Type 0} (s : Config) (steps : List (Step A)) (conns : List (O
   inside : k < length conns
   conn : get_or conns k None ≡ Some c
 
--- the connection that receipts tell is that of one of them
-told_some : {A : Type 0} (receipts : List (Receipt A)) (c : ℕ) → told_conn receipts ≡ Some c → list_any (λ r. is_at c (connected_of r.reply)) receipts ≡ true
-told_some [] c h = cc
-told_some (r ∷ receipts) c h =
-    elim (connected_of r.reply) as (λ o. option_or o (told_conn receipts) ≡ Some c → (is_at c o || list_any (λ r. is_at c (connected_of r.reply)) receipts) ≡ true) [
-      | None ↦ λ e. told_some receipts c e
+-- the connection that receipts name is that of one of them
+known_some : {A : Type 0} (receipts : List (Receipt A)) (c : ℕ) → known_conn receipts ≡ Some c → list_any (λ r. is_at c (connected_of r.reply)) receipts ≡ true
+known_some [] c h = cc
+known_some (r ∷ receipts) c h =
+    elim (connected_of r.reply) as (λ o. option_or o (known_conn receipts) ≡ Some c → (is_at c o || list_any (λ r. is_at c (connected_of r.reply)) receipts) ≡ true) [
+      | None ↦ λ e. known_some receipts c e
       | Some d ↦ λ e. let is : d ≡ c = cc in rw is (rw (itself c) refl)
     ] h
   where
@@ -253,7 +253,7 @@ told_some (r ∷ receipts) c h =
 -- two links of one connection are one
 one_link : {A : Type 0} (s : Config) (steps : List (Step A)) (conns : List (Option ℕ)) (j k c : ℕ) → IsLink s steps conns k c → j < length conns → get_or conns j None ≡ Some c → j ≡ k
 one_link {A} s steps conns j k c link within same =
-    connected_to_one A s steps c j k link.legal (told_some (mine steps j) c (sym (link.compared.connected j within) ∙ same)) (told_some (mine steps k) c (sym (link.compared.connected k link.inside) ∙ link.conn))
+    connected_to_one A s steps c j k link.legal (known_some (mine steps j) c (sym (link.compared.connected j within) ∙ same)) (known_some (mine steps k) c (sym (link.compared.connected k link.inside) ∙ link.conn))
 
 -- each Take(c) is of the link's writer
 taken_by : {A : Type 0} (s : Config) (steps : List (Step A)) (conns : List (Option ℕ)) (k c : ℕ) → IsLink s steps conns k c
@@ -308,7 +308,7 @@ none_unless None h = refl
 none_unless (Some x) h = absurd (h refl)
 
 turned : (d c : ℕ) → (d == c) ≡ true → (c == d) ≡ true
-turned d c h = same_either_way c d ∙ h
+turned d c h = same_in_both c d ∙ h
 
 -- a writer's own packet is taken from its connection
 own_packet : {A : Type 0} (event : Event A) (reply : Reply A) (c : ℕ) → is_writers (Some c) event ≡ true → (is_close c event ≡ true → taken_of reply ≡ None) → taken_of reply ≡ cond (is_take c event) (taken_of reply) None
@@ -316,8 +316,8 @@ own_packet (Take d) reply c writes even = ap (λ b. cond b (taken_of reply) None
 own_packet (Close d) reply c writes even = even (turned d c writes)
 own_packet event reply c writes even = absurd (cc)
 
-pub links_are_told : (A : Type 0) → LinksAreTold A
-links_are_told A s steps conns k c legal compared inside conn =
+pub links_agree : (A : Type 0) → LinksAgree A
+links_agree A s steps conns k c legal compared inside conn =
     let n = length conns in
     let link : IsLink s steps conns k c = record { legal = legal; compared = compared; inside = inside; conn = conn } in
     let offering : Event A → Reply A → Option Packet = λ event reply. offered_of event in
@@ -325,20 +325,20 @@ links_are_told A s steps conns k c legal compared inside conn =
     let on : Step A → Option Packet = λ step. offered_on c step.event in
     let even = each_even s steps c legal in
     let takes : packets_of (mine steps (n + k)) ≡ taken (reverse steps) c =
-    mine_tells giving (took c) (n + k) 0 steps (recursion_from_All (TellsBy giving (took c) (n + k)) steps (λ i d below. record {
+    mine_agrees giving (took c) (n + k) 0 steps (recursion_from_All (IsVerdictBy giving (took c) (n + k)) steps (λ i d below. record {
       own = λ is. own_packet (get_or steps i d).event (get_or steps i d).reply c (ap (λ o. is_writers o (get_or steps i d).event) (sym conn) ∙ at_mine (is_writers (get_or conns k None)) (n + k) 0 steps (compared.writers k inside) i d below is) (All-get_or (IsEven c) steps i d below even);
       other = λ isnt. ap (λ b. cond b (taken_of (get_or steps i d).reply) None) (false_from_ne_true (is_take c (get_or steps i d).event) (λ taking. isnt (taken_by s steps conns k c link i d below taking)));
     }))
     ∙ ap (filter_map (took c)) (sym (reverse-reverse steps))
     ∙ sym (taken_in_order (reverse steps) c) in
     record {
-      offers = mine_tells offering on k 0 steps (recursion_from_All (TellsBy offering on k) steps (λ i d below. record {
+      offers = mine_agrees offering on k 0 steps (recursion_from_All (IsVerdictBy offering on k) steps (λ i d below. record {
         own = λ is. own_offer (get_or steps i d).event c (ap (λ o. is_readers o (get_or steps i d).event) (sym conn) ∙ at_mine (is_readers (get_or conns k None)) k 0 steps (compared.readers k inside) i d below is);
         other = λ isnt. none_unless (offered_on c (get_or steps i d).event) (λ offers. isnt (offered_by s steps conns k c link i d below offers));
       }));
       takes = takes;
-      drained = λ told.
+      drained = λ known.
           let drains : Event A → Reply A → Bool = λ event reply. is_close c event && is_at 0 (closed_of reply) in
-          let there = any_mine drains (n + k) 0 steps told in
+          let there = any_mine drains (n + k) 0 steps known in
           takes ∙ drained_took_all A s (reverse steps) c legal (sym (list_any-IsPermutation (λ (x : Step A). drains x.event x.reply) steps (reverse steps) (IsPermutation-reverse steps)) ∙ there);
     }

@@ -6,7 +6,7 @@ use Rattle.std.proofs.lemmas.Map.Views.{exact_unsigned_eq}
 use Rattle.gn_rules.specs.declared.receipt.Receipt.{Receipt}
 use Rattle.gn_rules.specs.declared.receipt.Step.{Step}
 use Rattle.gn_rules.specs.Mine.{mine, mine_from, step_of}
-use Rattle.gn_laws.specs.Owners.{indices_ascend, IndicesTell, ReceiptsInOrder}
+use Rattle.gn_laws.specs.Owners.{indices_ascend, IndicesAgree, ReceiptsInOrder}
 
 -- where a receipt's step stands among steps of which the first has index i
 record StandsAt {A : Type 0} (a i : ℕ) (steps : List (Step A)) (d : Step A) (r : Receipt A) : Type 0 where
@@ -53,7 +53,7 @@ receipts_in_order A steps a = record {
   ascend = ascend_from a 0 0 steps (omega arith);
 }
 
--- all receipts' indices are below k where all steps of the actor stand below it, and the other way
+-- all receipts' indices are below k where all steps of the actor stand below it, and the reverse
 indices_from : {A : Type 0} (a i k : ℕ) (steps : List (Step A)) → list_all (λ r. nat_lt r.index k) (mine_from a i steps) ≡ true
     → (p : ℕ) (d : Step A) → p < length steps → (get_or steps p d).actor ≡ a → i + p < k
 indices_from a i k [] all p d below is = absurd (omega (arith, below))
@@ -79,8 +79,8 @@ places_from {A} a i k (step ∷ steps) each =
       | false ↦ λ e. rest
     ] refl
 
-pub indices_tell : (A : Type 0) → IndicesTell A
-indices_tell A steps a k = (
+pub indices_agree : (A : Type 0) → IndicesAgree A
+indices_agree A steps a k = (
   (λ all p d below is. let low = indices_from a 0 k steps all p d below is in omega (arith, low)),
   (λ each. places_from a 0 k steps (λ p d below is. let low = each p d below is in omega (arith, low))),
 )

@@ -16,7 +16,7 @@ use Rattle.gn_rules.specs.History.{admitted_of, is_at, ticket_of}
 use Rattle.gn_rules.specs.Legal.{IsLegal}
 use Rattle.gn_rules.proofs.LegalLemmas.{legal_take}
 use Rattle.gn_laws.specs.Tickets.{admitted, is_route_reply, routed}
-use Rattle.gn_laws.specs.Runs.{is_admitted, EachIsRouted, RoutesAll, settled_from, CountsTell, CountsTellFlight, EqualCountsRouteAll, PrefixesAreLegal, NoneFlies, SettledTells}
+use Rattle.gn_laws.specs.Runs.{is_admitted, EachIsRouted, RoutesAll, settled_from, CountsAgree, CountsGiveFlight, EqualCountsRouteAll, PrefixesAreLegal, NoneFlies, SettledAgrees}
 use Rattle.gn_laws.proofs.CountLemmas.{count_some, count-reverse, tally}
 use Rattle.gn_laws.proofs.TicketLemmas.{admitted_once, each_routed, flights_balance, none_flies as none_left, route_replied, routed_once}
 
@@ -38,17 +38,17 @@ balance {A} s steps legal =
     let past = flights_balance A s (reverse steps) legal in
     omega (arith, past, count-reverse (λ (x : Step A). is_some (admitted_of x.reply)) steps, count-reverse (λ (x : Step A). is_some (ticket_of x.event)) steps)
 
-pub counts_tell : (A : Type 0) → CountsTell A
-counts_tell A s steps legal =
+pub counts_agree : (A : Type 0) → CountsAgree A
+counts_agree A s steps legal =
     let even = balance s steps legal in
     let turn = each-reverse steps in
     ((λ same. turn.1 (each_routed (reverse steps) (omega (arith, even, same)))), (λ each. omega (arith, even, none_left (reverse steps) (turn.0 each))))
 
--- the same, told by a test
-pub test_tells : (A : Type 0) (s : Config) (steps : List (Step A)) → IsLegal s (reverse steps) → ((admitted steps == routed steps) ≡ true) ↔ EachIsRouted steps
-test_tells A s steps legal =
-    let tells = counts_tell A s steps legal in
-    ((λ e. tells.0 (eqb-true (admitted steps) (routed steps) e)), (λ each. eq-eqb (admitted steps) (routed steps) (tells.1 each)))
+-- the same, stated by a test
+pub test_agrees : (A : Type 0) (s : Config) (steps : List (Step A)) → IsLegal s (reverse steps) → ((admitted steps == routed steps) ≡ true) ↔ EachIsRouted steps
+test_agrees A s steps legal =
+    let verdict = counts_agree A s steps legal in
+    ((λ e. verdict.0 (eqb-true (admitted steps) (routed steps) e)), (λ each. eq-eqb (admitted steps) (routed steps) (verdict.1 each)))
 
 -- each step of a legal history, where it is a Route, is replied Routed or Dropped
 abbrev IsReplied : {A : Type 0} → Step A → Type 0
@@ -69,7 +69,7 @@ equal_counts_route_all A s steps legal same =
           let routing : Step A → Bool = λ x. is_route t x.event in
           let here : is_at t (admitted_of (get_or steps k d).reply) ≡ true = ap (λ r. is_at t (admitted_of r)) is ∙ itself t in
           let was : is_admitted steps t ≡ true = list_any_at admitting steps k d below here in
-          let some = count_some routing steps ((counts_tell A s steps legal).0 same t was) in
+          let some = count_some routing steps ((counts_agree A s steps legal).0 same t was) in
           let most = routed_once A s past t legal in
           let once = admitted_once A s past t legal in
           omega (arith, some, most, once, count-reverse routing steps);
@@ -85,8 +85,8 @@ equal_counts_route_all A s steps legal same =
 pub prefixes_are_legal : (A : Type 0) → PrefixesAreLegal A
 prefixes_are_legal A s steps k legal = legal_take s steps k legal
 
-pub counts_tell_flight : (A : Type 0) → CountsTellFlight A
-counts_tell_flight A s steps k legal =
+pub counts_give_flight : (A : Type 0) → CountsGiveFlight A
+counts_give_flight A s steps k legal =
     let even = balance s (take k steps) (prefixes_are_legal A s steps k legal) in
     ((λ same. empty (flying (reverse (take k steps))) (omega (arith, even, same))), (λ none. omega (arith, even, ap length none)))
   where
@@ -131,11 +131,11 @@ settles {A} asked before (step ∷ steps) =
         rw (append-nil before) (eqb-true (admitted before) (routed before) equal)
     at (suc k) d below is now later = rw (append_assoc before (step ∷ []) (take k steps)) at (later k d (omega (arith, below)) is)
 
-pub settled_tells : (A : Type 0) → SettledTells A
-settled_tells A s steps asked legal =
+pub settled_agrees : (A : Type 0) → SettledAgrees A
+settled_agrees A s steps asked legal =
     let both = settles asked [] steps in (
-      (λ e k d below is. (counts_tell_flight A s steps k legal).0 (both.0 e k d below is)),
-      (λ each. both.1 (λ k d below is. (counts_tell_flight A s steps k legal).1 (each k d below is))),
+      (λ e k d below is. (counts_give_flight A s steps k legal).0 (both.0 e k d below is)),
+      (λ each. both.1 (λ k d below is. (counts_give_flight A s steps k legal).1 (each k d below is))),
     )
 
 pub none_flies : (A : Type 0) → NoneFlies A

@@ -1,4 +1,4 @@
--- The statistics tell as many admissions as routes and tickets in flight.
+-- The statistics have as many admissions as routes and tickets in flight.
 use Rattle.std.proofs.Common.{◌≡◌, ◌+◌, Bool, true, false, List, [], ◌∷◌, is_some, Ok, inl, inr, refl, ap, ◌∙◌, arith}
 use Rattle.gn_rules.specs.declared.config.Config.{Config}
 use Rattle.gn_rules.specs.declared.event.Event.{Event}

@@ -25,7 +25,7 @@ use Rattle.gn_rules.proofs.FlightLemmas.{flying_more, gives_next, moves_tickets,
 use Rattle.gn_rules.proofs.StepLemmas.{filter_both}
 use Rattle.gn_laws.specs.Tickets.{admissions, routes, is_route_reply, AdmittedOnce, FlightsBalance, FlyingAscend, RoutedOnce, RoutesAreReplied, TicketsCount}
 use Rattle.gn_laws.specs.Runs.{EachIsRouted}
-use Rattle.gn_laws.proofs.CountLemmas.{tally, count-cons, count_none, count_some, any_from_count, same_either_way}
+use Rattle.gn_laws.proofs.CountLemmas.{tally, count-cons, count_none, count_some, any_from_count, same_in_both}
 
 pub tickets_count : (A : Type 0) → TicketsCount A
 tickets_count A s past k legal within = tickets_counted s past legal k within ∙ omega arith
@@ -113,7 +113,7 @@ listed_as_admitted {A} (step ∷ past) t =
   where
     one : (o : Option ℕ) → count_by (λ u. u == t) (option_to_list o) ≡ tally (is_at t o)
     one None = refl
-    one (Some u) = omega arith ∙ ap tally (same_either_way u t)
+    one (Some u) = omega arith ∙ ap tally (same_in_both u t)
 
 -- a ticket that isn't routed stands as often among those in flight as it was admitted
 flies_as_admitted : {A : Type 0} (past : List (Step A)) (t : ℕ) → is_routed past t ≡ false → count_by (λ u. u == t) (flying past) ≡ admissions past t

@@ -22,9 +22,9 @@ receipts_below steps zero = 0
 receipts_below steps (suc n) = receipts_below steps n + length (mine steps n)
 
 -- the connection of the first reply Connected among receipts
-abbrev pub told_conn : {A : Type 0} → List (Receipt A) → Option ℕ
-told_conn [] = None
-told_conn (r ∷ receipts) = option_or (connected_of r.reply) (told_conn receipts)
+abbrev pub known_conn : {A : Type 0} → List (Receipt A) → Option ℕ
+known_conn [] = None
+known_conn (r ∷ receipts) = option_or (connected_of r.reply) (known_conn receipts)
 
 -- whether an event may be a reader's whose link has this connection: Connect, Admit and Close of the connection, and
 -- Route
@@ -44,7 +44,7 @@ is_writers conn event = false
 -- what is compared of each actor's steps, where link k's connection is `conns` at k
 pub record AreCompared {A : Type 0} (steps : List (Step A)) (conns : List (Option ℕ)) : Type 0 where
   -- a link's connection is the one that its reader was given
-  pub connected : (k : ℕ) → k < length conns → slice_index_or conns k None ≡ told_conn (mine steps k)
+  pub connected : (k : ℕ) → k < length conns → slice_index_or conns k None ≡ known_conn (mine steps k)
   -- readers' events
   pub readers : (k : ℕ) → k < length conns
       → list_all (λ r. is_readers (slice_index_or conns k None) r.event) (mine steps k) ≡ true
@@ -69,8 +69,8 @@ abbrev pub offers_of : {A : Type 0} → List (Receipt A) → List Packet
 offers_of receipts = filter_map (λ r. offered_of r.event) receipts
 
 -- among receipts is a Close(c) replied Closed(0)
-abbrev pub tells_drained : {A : Type 0} → List (Receipt A) → ℕ → Bool
-tells_drained receipts c = list_any (λ r. is_close c r.event && is_at 0 (closed_of r.reply)) receipts
+abbrev pub is_drained_by : {A : Type 0} → List (Receipt A) → ℕ → Bool
+is_drained_by receipts c = list_any (λ r. is_close c r.event && is_at 0 (closed_of r.reply)) receipts
 
 -- the actors below n have as many receipts as the history has steps exactly where no step is of another actor
 abbrev pub ReceiptsAddUp : Type 0 → Type 0
@@ -113,26 +113,26 @@ ClosedByOne A =
     → j ≡ k
 
 -- what a link's two actors have receipts of, about its connection c
-pub record LinkIsTold {A : Type 0} (steps : List (Step A)) (reader writer c : ℕ) : Type 0 where
+pub record LinkAgrees {A : Type 0} (steps : List (Step A)) (reader writer c : ℕ) : Type 0 where
   -- the descriptors that the reader's receipts offer are all that the history offers on c, in order
   pub offers : offers_of (mine steps reader) ≡ filter_map (λ step. offered_on c step.event) steps
   -- the packets that the writer's receipts took are all that the history took from c, in order
   pub takes : packets_of (mine steps writer) ≡ taken (reverse steps) c
   -- where one of the writer's receipts is of a Close(c) replied Closed(0), these packets are all that the history ever
   -- queued to c
-  pub drained : tells_drained (mine steps writer) c ≡ true → packets_of (mine steps writer) ≡ queued (reverse steps) c
+  pub drained : is_drained_by (mine steps writer) c ≡ true → packets_of (mine steps writer) ≡ queued (reverse steps) c
 
 -- in a legal history whose actors' steps are as compared, the two actors of a link that has a connection have receipts of
 -- all of it
-abbrev pub LinksAreTold : Type 0 → Type 0
-LinksAreTold A =
+abbrev pub LinksAgree : Type 0 → Type 0
+LinksAgree A =
     (s : Config) (steps : List (Step A)) (conns : List (Option ℕ)) (k c : ℕ)
     → IsLegal s (reverse steps) → AreCompared steps conns → k < length conns → slice_index_or conns k None ≡ Some c
-    → LinkIsTold steps k (length conns + k) c
+    → LinkAgrees steps k (length conns + k) c
 
 -- all receipts of an actor have an index below k exactly where all its steps stand before place k
-abbrev pub IndicesTell : Type 0 → Type 0
-IndicesTell A =
+abbrev pub IndicesAgree : Type 0 → Type 0
+IndicesAgree A =
     (steps : List (Step A)) (a k : ℕ)
     → (list_all (λ r. nat_lt r.index k) (mine steps a) ≡ true)
     ↔ ((p : ℕ) (d : Step A) → p < length steps → (slice_index_or steps p d).actor ≡ a → p < k)

@@ -1,4 +1,4 @@
--- Laws of whole histories in order: two counts tell whether every admitted ticket is routed.
+-- Laws of whole histories in order: two counts say whether every admitted ticket is routed.
 --
 -- Here `steps` is a history in order, the oldest step first, and `reverse steps` the past that the definitions of the rules
 -- are given. Counts are the same of both.
@@ -21,8 +21,8 @@ abbrev pub EachIsRouted : {A : Type 0} → List (Step A) → Type 0
 EachIsRouted steps = (t : ℕ) → is_admitted steps t ≡ true → is_routed steps t ≡ true
 
 -- in a legal history every admitted ticket is routed exactly where as many steps are replied Admitted as are a Route
-abbrev pub CountsTell : Type 0 → Type 0
-CountsTell A =
+abbrev pub CountsAgree : Type 0 → Type 0
+CountsAgree A =
     (s : Config) (steps : List (Step A)) → IsLegal s (reverse steps)
     → (admitted steps ≡ routed steps) ↔ EachIsRouted steps
 
@@ -52,8 +52,8 @@ PrefixesAreLegal A =
 
 -- in a legal history nothing is in flight after the first k steps exactly where as many of these are replied Admitted as
 -- are a Route
-abbrev pub CountsTellFlight : Type 0 → Type 0
-CountsTellFlight A =
+abbrev pub CountsGiveFlight : Type 0 → Type 0
+CountsGiveFlight A =
     (s : Config) (steps : List (Step A)) (k : ℕ) → IsLegal s (reverse steps)
     → (admitted (take k steps) ≡ routed (take k steps)) ↔ (flying (reverse (take k steps)) ≡ [])
 
@@ -70,8 +70,8 @@ settled_from asked admissions routes (step ∷ steps) =
 
 -- in a legal history nothing is in flight before each step that `asked` names exactly where one pass with two counts says
 -- so
-abbrev pub SettledTells : Type 0 → Type 0
-SettledTells A =
+abbrev pub SettledAgrees : Type 0 → Type 0
+SettledAgrees A =
     (s : Config) (steps : List (Step A)) (asked : Step A → Bool) → IsLegal s (reverse steps)
     → (settled_from asked 0 0 steps ≡ true)
     ↔ ((k : ℕ) (d : Step A) → k < length steps → asked (slice_index_or steps k d) ≡ true

@@ -1,6 +1,6 @@
 //! Laws of whose steps are whose, and which events are a reader's or a writer's.
 
-ghost use Rattle.gn_laws.specs.Owners.{ClosedByOne, ConnectedToOne, FittingAreMine, FittingIsMine, IndicesTell, LinksAreTold, ReceiptsAddUp, ReceiptsInOrder, StrangersHaveNone, is_readers, is_writers};
+ghost use Rattle.gn_laws.specs.Owners.{ClosedByOne, ConnectedToOne, FittingAreMine, FittingIsMine, IndicesAgree, LinksAgree, ReceiptsAddUp, ReceiptsInOrder, StrangersHaveNone, is_readers, is_writers};
 ghost use Rattle.std.specs.Prelude.{◌≡◌};
 
 use gn_rules::{ConnId, Event};
@@ -22,8 +22,8 @@ pub fn closed_by_one<A: Allocator>()
 {}
 
 /// The law that a link's reader and writer have receipts of all that the history says of its connection.
-pub fn links_are_told<A: Allocator>()
-    ensures { LinksAreTold A }
+pub fn links_agree<A: Allocator>()
+    ensures { LinksAgree A }
 {}
 
 /// The law that an actor's receipts stand in the history at their indices, which ascend.
@@ -31,9 +31,9 @@ pub fn receipts_in_order<A: Allocator>()
     ensures { ReceiptsInOrder A }
 {}
 
-/// The law that an actor's receipts tell by their indices whether all its steps stand before a place.
-pub fn indices_tell<A: Allocator>()
-    ensures { IndicesTell A }
+/// The law that an actor's receipts say by their indices whether all its steps stand before a place.
+pub fn indices_agree<A: Allocator>()
+    ensures { IndicesAgree A }
 {}
 
 /// The law that all actors' receipts are their own steps where each fits the history and they are as many as its steps.

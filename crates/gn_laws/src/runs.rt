@@ -1,6 +1,6 @@
 //! Laws of whole histories in order, and the count that they allow.
 
-ghost use Rattle.gn_laws.specs.Runs.{CountsTell, CountsTellFlight, EachIsRouted, EqualCountsRouteAll, PrefixesAreLegal, NoneFlies, RoutesAll, SettledTells};
+ghost use Rattle.gn_laws.specs.Runs.{CountsAgree, CountsGiveFlight, EachIsRouted, EqualCountsRouteAll, PrefixesAreLegal, NoneFlies, RoutesAll, SettledAgrees};
 ghost use Rattle.std.specs.Prelude.{◌≡◌, ◌==◌, ◌↔◌, true, reverse};
 ghost use Rattle.gn_rules.specs.declared.config.Config.{Config};
 ghost use Rattle.gn_rules.specs.Legal.{IsLegal};
@@ -10,8 +10,8 @@ use gn_rules::{RouterCore, Step};
 use std::alloc::Allocator;
 
 /// The law that every admitted ticket is routed exactly where as many steps are replied Admitted as are a Route.
-pub fn counts_tell<A: Allocator>()
-    ensures { CountsTell A }
+pub fn counts_agree<A: Allocator>()
+    ensures { CountsAgree A }
 {}
 
 /// The law that nothing is in flight exactly where every admitted ticket is routed.
@@ -29,14 +29,14 @@ pub fn prefixes_are_legal<A: Allocator>()
     ensures { PrefixesAreLegal A }
 {}
 
-/// The law that the same counts of the first steps tell whether anything is in flight after them.
-pub fn counts_tell_flight<A: Allocator>()
-    ensures { CountsTellFlight A }
+/// The law that the same counts of the first steps say whether anything is in flight after them.
+pub fn counts_give_flight<A: Allocator>()
+    ensures { CountsGiveFlight A }
 {}
 
-/// The law that one pass tells whether nothing is in flight at each step that is asked about.
-pub fn settled_tells<A: Allocator>()
-    ensures { SettledTells A }
+/// The law that one pass says whether nothing is in flight at each step that is asked about.
+pub fn settled_agrees<A: Allocator>()
+    ensures { SettledAgrees A }
 {}
 
 /// Whether every admitted ticket of a legal history is routed: it counts the admissions and the routes in one pass.

@@ -34,7 +34,7 @@ pub fn flights_balance<A: Allocator>()
     ensures { FlightsBalance A }
 {}
 
-/// The law that the statistics tell as many admissions as routes and tickets in flight.
+/// The law that the statistics have as many admissions as routes and tickets in flight.
 pub fn stats_balance<A: Allocator>()
     ensures { StatsBalance A }
 {}

@@ -24,7 +24,7 @@ pub struct LinkFault;
 
 /// The half of a link that gives the bytes of its other side. Its counts go up to the last u64 and stay there.
 pub trait LinkReader: Drop {
-    /// What it tells of the link that it was split from.
+    /// What it says of the link that it was split from.
     type Origin;
 
     /// Whether its bytes are known.
@@ -75,7 +75,7 @@ pub trait LinkReader: Drop {
 
 /// The half of a link that takes the bytes for its other side. Its count goes up to the last u64 and stays there.
 pub trait LinkWriter: Drop {
-    /// What it tells of the link that it was split from.
+    /// What it says of the link that it was split from.
     type Origin;
 
     /// Whether its bytes are known.
@@ -115,7 +115,7 @@ pub trait LinkWriter: Drop {
 
 /// What a run reads from and writes to.
 pub trait Link: Drop {
-    /// What its halves tell of it.
+    /// What its halves say of it.
     type Origin;
 
     type Reader: LinkReader<Origin = Self::Origin>;
@@ -125,7 +125,7 @@ pub trait Link: Drop {
     /// How it begins.
     ghost role_of: { Self → Role };
 
-    /// The link itself, as its halves tell of it.
+    /// The link itself, as its halves say of it.
     ghost origin_of: { Self → Self.Origin };
 
     /// How it begins.

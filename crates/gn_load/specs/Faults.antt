@@ -17,7 +17,7 @@ pub record IsRunFault (links workers : ℕ) (fault : RunFault) : Type 0 where
   pub bad : (fault ≡ BadWorkers) ↔ (¬ IsWithin workers 16)
   pub other : IsWithin workers 16 → IsFaultOf links workers fault
 
--- when a text has no history. `read` is what a load reads of it: Capture tells of its very fault, a run has a fault only where
+-- when a text has no history. `read` is what a load reads of it: Capture names its very fault, a run has a fault only where
 -- there is none; memory may run out at any time
 abbrev pub IsRunLoadFault : {X L : Type 0} → ℕ → LoadFault → Result (X × List L) CaptureFault → Type 0
 IsRunLoadFault workers (Text (Capture fault)) read = read ≡ Err fault

@@ -28,7 +28,7 @@ load_of A input = do
   parsed ← capture_of {A = A} input
   map_result (λ links. ((parsed.numbers, parsed.own), links)) (links_from [] parsed.lines)
 
--- what the reading half of a link over memory tells
+-- what the reading half of a link over memory says
 abbrev pub half_read : MemoryReading → ReadHalf
 half_read half =
     record {
@@ -39,7 +39,7 @@ half_read half =
       has_ended = half.has_ended;
     }
 
--- what its writing half tells
+-- what its writing half says
 abbrev pub half_written : MemoryWriting → WrittenHalf
 half_written half =
     record {

@@ -39,7 +39,7 @@ fn history_of<
 /// link is one over memory with all its bytes, which are read 4,096 at a time.
 ///
 /// Nothing is written before the run has ended; `Write` leaves a prefix of the history, any other `Err` nothing. A line that
-/// isn't taken is told where the capture has no other fault.
+/// isn't taken is stated where the capture has no other fault.
 pub fn load<
     A: Allocator + Copy + Send + Sync,
     C: RouterCore<A> + Drop + Send,

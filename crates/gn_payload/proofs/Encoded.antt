@@ -13,15 +13,15 @@ use Rattle.gn_payload.specs.Refusals.{has_zero}
 use Rattle.gn_payload.specs.Encoding.{pong_bytes, push_bytes, query_bytes}
 
 -- a number after other bytes
-pub number_there : (width place n : ℕ) (front rest : List ℕ) → length front ≡ place → n < 256 ^ width
-    → n ≡ number_at width place (front ++ (little_bytes width n ++ rest))
-number_there width place n front rest at fits =
-    sym (ap (λ (xs : List ℕ). little_number width xs) (drop_at front (little_bytes width n ++ rest) place at) ∙ little_number-reads_back width n rest fits)
+pub number_there : (width place n : ℕ) (head rest : List ℕ) → length head ≡ place → n < 256 ^ width
+    → n ≡ number_at width place (head ++ (little_bytes width n ++ rest))
+number_there width place n head rest at fits =
+    sym (ap (λ (xs : List ℕ). little_number width xs) (drop_at head (little_bytes width n ++ rest) place at) ∙ little_number-reads_back width n rest fits)
 
 -- bytes after other bytes
-pub bytes_there : (count place : ℕ) (front xs rest : List ℕ) → length front ≡ place → length xs ≡ count → xs ≡ bytes_at count place (front ++ (xs ++ rest))
-bytes_there count place front xs rest at size =
-    sym (ap (λ (ys : List ℕ). take count ys) (drop_at front (xs ++ rest) place at) ∙ take_at xs rest count size)
+pub bytes_there : (count place : ℕ) (head xs rest : List ℕ) → length head ≡ place → length xs ≡ count → xs ≡ bytes_at count place (head ++ (xs ++ rest))
+bytes_there count place head xs rest at size =
+    sym (ap (λ (ys : List ℕ). take count ys) (drop_at head (xs ++ rest) place at) ∙ take_at xs rest count size)
 
 -- a text in which no zero byte was found
 pub text_clear : (text : List ℕ) → has_zero text ≡ false → IsText text

@@ -8,12 +8,12 @@ use Rattle.gn_payload.specs.Fields.{ResultFields}
 use Rattle.gn_payload.specs.Encoding.{HasNumbers, result_bytes, results_bytes}
 use Rattle.gn_payload.specs.Views.{result_fields}
 
--- a test of what entries tell, as one of the entries
+-- a test of what entries say, as one of the entries
 pub any_mapped : (p : ResultFields → Bool) (xs : List HitResult) → list_any p (map result_fields xs) ≡ list_any (λ x. p (result_fields x)) xs
 any_mapped p [] = refl
 any_mapped p (x ∷ xs) = ap (λ b. p (result_fields x) || b) (any_mapped p xs)
 
--- what entries tell, one entry more
+-- what entries say, one entry more
 mapped_more : (xs : List HitResult) (i : ℕ) (x : HitResult) → i < length xs → x ≡ get_or xs i x → map result_fields (take (i + 1) xs) ≡ map result_fields (take i xs) ++ result_fields x ∷ []
 mapped_more xs i x h e =
     ap (λ (ys : List HitResult). map result_fields ys) (take_more xs i x h) ∙ map-append result_fields (take i xs) (get_or xs i x ∷ [])

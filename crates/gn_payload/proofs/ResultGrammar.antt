@@ -44,11 +44,11 @@ read_result bytes r rest e =
     rw (← parts.0, ← parts.1) (record { file = refl; size = refl; texts = (name.1, name_ends, extra_ends) })))
 
 -- one result before others
-abbrev with_front : ResultFields → List ResultFields × List ℕ → Option (List ResultFields × List ℕ)
-with_front r others = Some (r ∷ others.0, others.1)
+abbrev with_first : ResultFields → List ResultFields × List ℕ → Option (List ResultFields × List ℕ)
+with_first r others = Some (r ∷ others.0, others.1)
 
 abbrev after : ℕ → ResultFields × List ℕ → Option (List ResultFields × List ℕ)
-after n first = results_reading n first.1 >>= with_front first.0
+after n first = results_reading n first.1 >>= with_first first.0
 
 -- results of the grammar are read so
 pub results_read : (rs : List ResultFields) (bytes rest : List ℕ) → AreResults bytes rs rest → results_reading (length rs) bytes ≡ Some (rs, rest)
@@ -57,7 +57,7 @@ results_read (r ∷ rs) bytes rest h =
     let first = result_read bytes r h.0 h.1 in
     let others = results_read rs h.0 rest h.2 in
     ap (λ (o : Option (ResultFields × List ℕ)). o >>= after (length rs)) first
-    ∙ ap (λ (o : Option (List ResultFields × List ℕ)). o >>= with_front r) others
+    ∙ ap (λ (o : Option (List ResultFields × List ℕ)). o >>= with_first r) others
 
 -- what is read are results of the grammar
 pub read_results : (n : ℕ) (bytes : List ℕ) (rs : List ResultFields) (rest : List ℕ) → results_reading n bytes ≡ Some (rs, rest)
@@ -67,17 +67,17 @@ read_results zero bytes rs rest e =
     rw (← parts.0) (refl, parts.1)
 read_results (suc n) bytes rs rest e =
     option_and_then_some (after n) (result_reading bytes) (rs, rest) e (λ first first_is others_are.
-    option_and_then_some (with_front first.0) (results_reading n first.1) (rs, rest) others_are (λ others others_is whole_is.
+    option_and_then_some (with_first first.0) (results_reading n first.1) (rs, rest) others_are (λ others others_is whole_is.
     let parts = some_pair_parts (first.0 ∷ others.0) rs others.1 rest whole_is in
     let one = read_result bytes first.0 first.1 first_is in
     let more = read_results n first.1 others.0 others.1 others_is in
     rw (← parts.0, ← parts.1) (ap suc more.0, (first.1, one, more.1))))
 
 -- a result without what follows the rest
-result_cut : (bytes : List ℕ) (r : ResultFields) (front rest : List ℕ) → IsResult bytes r (front ++ rest)
-    → (whole : List ℕ) × (bytes ≡ whole ++ rest) × IsResult whole r front
-result_cut bytes r front rest h =
-    let texts = r.name ++ 0 ∷ (r.extra ++ 0 ∷ front) in
+result_cut : (bytes : List ℕ) (r : ResultFields) (head rest : List ℕ) → IsResult bytes r (head ++ rest)
+    → (whole : List ℕ) × (bytes ≡ whole ++ rest) × IsResult whole r head
+result_cut bytes r head rest h =
+    let texts = r.name ++ 0 ∷ (r.extra ++ 0 ∷ head) in
     let whole = take 8 bytes ++ texts in
     let name = h.texts.1 in
     let extra = h.texts.2 in
@@ -94,7 +94,7 @@ result_cut bytes r front rest h =
       record {
         file = h.file ∙ same_number 4 0 8 bytes whole (omega arith) (sym seam);
         size = h.size ∙ same_number 4 4 8 bytes whole (omega arith) (sym seam);
-        texts = (r.extra ++ 0 ∷ front, record { encoded = back; nonzero = name.nonzero }, record { encoded = refl; nonzero = extra.nonzero });
+        texts = (r.extra ++ 0 ∷ head, record { encoded = back; nonzero = name.nonzero }, record { encoded = refl; nonzero = extra.nonzero });
       },
     )
 
@@ -110,24 +110,24 @@ results_cut (r ∷ rs) bytes rest h =
 
 -- the head of bytes that begin with so many results, up to what follows them, is just these results
 pub results_split : (n : ℕ) (bytes rest : List ℕ) (rs : List ResultFields) → results_reading n bytes ≡ Some (rs, rest)
-    → let front = take (length bytes - length rest) bytes in (length rest ≤ length bytes) × AreJust n front × (rs ≡ results_in n front)
+    → let head = take (length bytes - length rest) bytes in (length rest ≤ length bytes) × AreJust n head × (rs ≡ results_in n head)
 results_split n bytes rest rs e =
     let read = read_results n bytes rs rest e in
     let cut = results_cut rs bytes rest read.1 in
     let whole = cut.0 in
     let lengths : length bytes ≡ length whole + length rest = ap length cut.1 ∙ length-append whole rest in
     let sized : length bytes - length rest ≡ length whole = omega arith in
-    let front_is : take (length bytes - length rest) bytes ≡ whole =
+    let head_is : take (length bytes - length rest) bytes ≡ whole =
     ap (λ (k : ℕ). take k bytes) sized ∙ ap (λ (xs : List ℕ). take (length whole) xs) cut.1 ∙ take-append_seam whole rest in
-    let front = take (length bytes - length rest) bytes in
-    let just : results_reading n front ≡ Some (rs, []) =
-    ap (λ (xs : List ℕ). results_reading n xs) front_is ∙ ap (λ (k : ℕ). results_reading k whole) (sym read.0) ∙ results_read rs whole [] cut.2 in
-    let those : results_in n front ≡ rs = ap (λ (o : Option (List ResultFields × List ℕ)). (unwrap_or o ([], [])).0) just in
+    let head = take (length bytes - length rest) bytes in
+    let just : results_reading n head ≡ Some (rs, []) =
+    ap (λ (xs : List ℕ). results_reading n xs) head_is ∙ ap (λ (k : ℕ). results_reading k whole) (sym read.0) ∙ results_read rs whole [] cut.2 in
+    let those : results_in n head ≡ rs = ap (λ (o : Option (List ResultFields × List ℕ)). (unwrap_or o ([], [])).0) just in
     (omega arith, just ∙ ap (λ (xs : List ResultFields). Some (xs, [])) (sym those), sym those)
 
 -- the same by what follows the results alone
 split_of : (n : ℕ) (bytes rest : List ℕ) (o : Option (List ResultFields × List ℕ)) → results_reading n bytes ≡ o → past o ≡ Some rest
-    → let front = take (length bytes - length rest) bytes in (length rest ≤ length bytes) × AreJust n front × (results_reading n bytes ≡ Some (results_in n front, rest))
+    → let head = take (length bytes - length rest) bytes in (length rest ≤ length bytes) × AreJust n head × (results_reading n bytes ≡ Some (results_in n head, rest))
 split_of n bytes rest None is e = absurd (none-some _ e)
 split_of n bytes rest (Some x) is e =
     let rest_is : x.1 ≡ rest = same_Some x.1 rest e in
@@ -136,7 +136,7 @@ split_of n bytes rest (Some x) is e =
     (split.0, split.1, read ∙ ap (λ (rs : List ResultFields). Some (rs, rest)) split.2)
 
 pub split_past : (n : ℕ) (bytes rest : List ℕ) → past (results_reading n bytes) ≡ Some rest
-    → let front = take (length bytes - length rest) bytes in (length rest ≤ length bytes) × AreJust n front × (results_reading n bytes ≡ Some (results_in n front, rest))
+    → let head = take (length bytes - length rest) bytes in (length rest ≤ length bytes) × AreJust n head × (results_reading n bytes ≡ Some (results_in n head, rest))
 split_past n bytes rest e = split_of n bytes rest (results_reading n bytes) refl e
 
 -- bytes that are just so many results encode them

@@ -13,7 +13,7 @@ around bytes k = (take k bytes, drop (k + 1) bytes)
 abbrev place : ℕ → ℕ → Option ℕ
 place k n = cond (nat_lt k n) (Some k) None
 
--- one byte more in front
+-- one byte more first
 further : (b : ℕ) (bs : List ℕ) (k : ℕ) → Some (b ∷ take k bs, drop (k + 1) bs) ≡ Some (around (b ∷ bs) (1 + k))
 further b bs k = grind (arith, common_steps)
 

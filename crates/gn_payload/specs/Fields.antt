@@ -1,4 +1,4 @@
--- What payloads tell, as plain values.
+-- What payloads say, as plain values.
 use Rattle.std.specs.Prelude.{ℕ, List}
 use Rattle.gn_wire.specs.declared.kind.Guid.{Guid}
 

@@ -3,7 +3,7 @@
 ghost use Rattle.std.specs.Prelude.{◌≡◌, ◌↔◌, IsTrue, Ok, reverse};
 ghost use Rattle.gn_rules.specs.Answer.{answer};
 ghost use Rattle.gn_rules.specs.Legal.{IsLegal};
-ghost use Rattle.gn_rules.specs.Legality.{Tells};
+ghost use Rattle.gn_rules.specs.Legality.{IsVerdict};
 
 use crate::past::Past;
 use gn_decide::is_answered;
@@ -21,7 +21,7 @@ fn is_next<A: Allocator>(config: &Config, earlier: &[Step<A>], step: &Step<A>) -
 /// Whether each reply is the rules' answer after the steps before it; else the first step that is wrong. Takes no
 /// memory.
 pub fn legal<A: Allocator>(config: &Config, steps: &[Step<A>]) -> Legality
-    ensures { Tells config.now steps.now result }
+    ensures { IsVerdict config.now steps.now result }
 {
     for i in 0..steps.len() {
         if !is_next(config, &steps[..i], &steps[i]) {

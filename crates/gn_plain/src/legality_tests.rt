@@ -31,7 +31,7 @@ fn history(alloc: Global) -> Result<Vec<Step>, Fail> {
 }
 
 #[test]
-fn the_first_wrong_step_is_told(rt: HostRuntime) -> Result<(), Fail> {
+fn the_first_wrong_step_is_found(rt: HostRuntime) -> Result<(), Fail> {
     let steps = history(rt.alloc())?;
     let others = Own { files: 6, ..OWN };
     let rows = [
@@ -41,7 +41,7 @@ fn the_first_wrong_step_is_told(rt: HostRuntime) -> Result<(), Fail> {
         (config(4, 8, 3, OWN)?, 0, Legality::WrongAt(3)),
         // the second Connect is one too many
         (config(1, 8, 100, OWN)?, 0, Legality::WrongAt(1)),
-        // the own Pong tells other files
+        // the own Pong names other files
         (config(4, 8, 100, others)?, 0, Legality::WrongAt(3)),
         // the second Connect was given number 2, as the first one
         (config(4, 8, 100, OWN)?, 1, Legality::WrongAt(0)),

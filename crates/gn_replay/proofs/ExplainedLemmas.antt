@@ -11,7 +11,7 @@ use Rattle.gn_rules.specs.declared.legality.Legality.TheVariants as verdict
 use Rattle.gn_rules.specs.declared.receipt.Step.{Step}
 use Rattle.gn_rules.specs.declared.refusal.Refusal.{Refusal}
 use Rattle.gn_rules.specs.declared.reply.Reply.{Reply}
-use Rattle.gn_rules.specs.Legality.{Tells}
+use Rattle.gn_rules.specs.Legality.{IsVerdict}
 use Rattle.gn_text.specs.Lines.{fields_of}
 use Rattle.gn_text.specs.Parsed.{parsed_of}
 use Rattle.gn_text.specs.Settings.{settings_of}
@@ -26,7 +26,7 @@ use Rattle.gn_replay.specs.declared.fault.ReplayFault.TheVariants.{Write}
 use Rattle.gn_replay.specs.declared.judgement.Judgement.{Judgement}
 use Rattle.gn_replay.specs.declared.judgement.Judgement.TheVariants.{Legal, WrongAt}
 use Rattle.gn_replay.proofs.StepLines.{step_stands}
-use Rattle.gn_replay.proofs.VerdictLemmas.{audited, tells_of}
+use Rattle.gn_replay.proofs.VerdictLemmas.{audited, verdict_of}
 
 -- what explains a judgement: nothing of a legal history, the lines of the wrong step of another
 explained_by : {A : Type 0} (s : Config) (steps : List (Step A)) (text : List ℕ) (i : ℕ) (rules : Result (Reply A) Refusal) (line : ℕ × List ℕ) (explanation : List ℕ)
@@ -64,7 +64,7 @@ explained_legal text judgement count legality line lines judged found printed sa
       steps = line_of.steps;
       explanation = [];
       parsed = line_of.parsed;
-      tells = line_of.tells;
+      agrees = line_of.agrees;
       explains = subst (λ (x : Legality). Explains line_of.settings line_of.steps text x []) (sym legality_is) refl;
       printed = same ∙ line_of.printed ∙ sym (append-nil (verdict_text legality (length line_of.steps)));
     }
@@ -83,7 +83,7 @@ explained_wrong text judgement count legality line lines i rules judged found pr
       steps = judged.steps;
       explanation = explanation_text explained.0 rules;
       parsed = judged.parsed;
-      tells = subst (λ (x : Legality). Tells judged.settings judged.steps x) (sym found) (tells_of judged.settings judged.steps judgement judged.judged);
+      agrees = subst (λ (x : Legality). IsVerdict judged.settings judged.steps x) (sym found) (verdict_of judged.settings judged.steps judgement judged.judged);
       explains = subst (λ (x : Legality). Explains judged.settings judged.steps text x (explanation_text explained.0 rules)) (sym legality_is) more;
       printed = explained.2 ∙ ap (λ head. head ++ explanation_text explained.0 rules) (printed ∙ ap (verdict_text legality) judged.counted);
     }

@@ -12,7 +12,7 @@ use Rattle.gn_capture.proofs.ConfigLemmas.{HasConfig, capture_configured}
 use Rattle.gn_replay.specs.Events.{Played, nothing}
 use Rattle.gn_replay.specs.ReplayText.{IsReplayOf, IsReplayText, ReplayTextIsOne, capture_plays}
 
--- a number is within its limit in one way
+-- a number is within its limit in one manner
 within_is_one : {n most : ℕ} (a b : IsWithin n most) → a ≡ b
 within_is_one {n} {most} a b =
     ap (λ (least : 1 ≤ n). record { least = least; greatest = a.greatest }) (le_prop a.least b.least)

@@ -6,7 +6,7 @@ use Rattle.gn_rules.specs.declared.legality.Legality.{Legality}
 use Rattle.gn_rules.specs.declared.legality.Legality.TheVariants as verdict
 use Rattle.gn_rules.specs.declared.receipt.Step.{Step}
 use Rattle.gn_rules.specs.Legal.{IsLegal}
-use Rattle.gn_rules.specs.Legality.{Tells}
+use Rattle.gn_rules.specs.Legality.{IsVerdict}
 use Rattle.gn_replay.specs.Audits.{IsAudited, verdict_text}
 use Rattle.gn_replay.specs.Judgements.{IsJudged, IsTrueOf, legality_of}
 use Rattle.gn_replay.specs.declared.judgement.Judgement.{Judgement}
@@ -27,9 +27,9 @@ judged_of s now steps lent judgement same whole judged =
     subst (λ (z : Config). IsTrueOf z steps judgement) same (subst (λ (xs : List (Step _)). IsTrueOf now xs judgement) whole judged)
 
 -- the verdict is true where the judgement is
-pub tells_of : {A : Type 0} (s : Config) (steps : List (Step A)) (judgement : Judgement A) → IsTrueOf s steps judgement → Tells s steps (legality_of judgement)
-tells_of s steps Legal judged = judged
-tells_of s steps (WrongAt i rules) judged = judged.0
+pub verdict_of : {A : Type 0} (s : Config) (steps : List (Step A)) (judgement : Judgement A) → IsTrueOf s steps judgement → IsVerdict s steps (legality_of judgement)
+verdict_of s steps Legal judged = judged
+verdict_of s steps (WrongAt i rules) judged = judged.0
 
 -- the line of what was judged
 pub audited : {A : Type 0} (text : List ℕ) (judgement : Judgement A) (count : ℕ) (legality : Legality) (line : List ℕ) → IsJudged A text judgement count
@@ -38,6 +38,6 @@ audited text judgement count legality line judged is printed = record {
   settings = judged.settings;
   steps = judged.steps;
   parsed = judged.parsed;
-  tells = subst (λ (x : Legality). Tells judged.settings judged.steps x) (sym is) (tells_of judged.settings judged.steps judgement judged.judged);
+  agrees = subst (λ (x : Legality). IsVerdict judged.settings judged.steps x) (sym is) (verdict_of judged.settings judged.steps judgement judged.judged);
   printed = printed ∙ ap (verdict_text legality) judged.counted;
 }

@@ -10,7 +10,7 @@ use Rattle.gn_replay.specs.declared.fault.ReplayFault.{ReplayFault}
 use Rattle.gn_replay.specs.declared.fault.ReplayFault.TheVariants.{Write}
 use Rattle.gn_rules.specs.declared.legality.Legality.{Legality}
 use Rattle.gn_rules.specs.declared.legality.Legality.TheVariants.{Legal, WrongAt}
-use Rattle.gn_rules.specs.Legality.{Tells}
+use Rattle.gn_rules.specs.Legality.{IsVerdict}
 
 -- the line of a verdict on a history of so many steps: how many they are, or the index of the first wrong one
 abbrev pub verdict_text : Legality → ℕ → List ℕ
@@ -22,7 +22,7 @@ pub record IsAudited (A : Type 0) (text : List ℕ) (legality : Legality) (line 
   pub settings : Config
   pub steps : List (Step A)
   pub parsed : history_of text ≡ Ok (settings_of settings, steps)
-  pub tells : Tells settings steps legality
+  pub agrees : IsVerdict settings steps legality
   pub printed : line ≡ verdict_text legality (length steps)
 
 -- known bytes grew by the line of this verdict on the history that a text says

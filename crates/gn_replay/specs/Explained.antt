@@ -9,7 +9,7 @@ use Rattle.gn_rules.specs.declared.receipt.Step.{Step}
 use Rattle.gn_rules.specs.declared.refusal.Refusal.{Refusal}
 use Rattle.gn_rules.specs.declared.reply.Reply.{Reply}
 use Rattle.gn_rules.specs.Answer.{answer}
-use Rattle.gn_rules.specs.Legality.{Tells}
+use Rattle.gn_rules.specs.Legality.{IsVerdict}
 use Rattle.gn_text.specs.Lines.{fields_of}
 use Rattle.gn_text.specs.Parsed.{parsed_of}
 use Rattle.gn_text.specs.Refusals.{refusal_text}
@@ -62,7 +62,7 @@ pub record IsAuditExplained (A : Type 0) (text : List ℕ) (legality : Legality)
   pub steps : List (Step A)
   pub explanation : List ℕ
   pub parsed : history_of text ≡ Ok (settings_of settings, steps)
-  pub tells : Tells settings steps legality
+  pub agrees : IsVerdict settings steps legality
   pub explains : Explains settings steps text legality explanation
   pub printed : lines ≡ verdict_text legality (length steps) ++ explanation
 

@@ -1,4 +1,4 @@
--- What the tables tell of the steps.
+-- What the tables say of the steps.
 use Rattle.std.proofs.Common.{◌≡◌, ℕ, ◌+◌, ◌<◌, ◌==◌, ◌||◌, true, false, cond, if◌then◌else◌, List, [], ◌∷◌, ◌++◌, IfSome, length, map, take, zero, suc, Option, Some, None, nat_eq, refl, sym, ap, ◌∙◌, arith, drop, Bool, filter}
 use Rattle.std.specs.Borrow.{Bor}
 use Rattle.std.specs.List.{list_any, slice_get}
@@ -82,16 +82,16 @@ module _ {A : Type 0} (s : Config) (past : List (Step A)) (t : Tables A) (are : 
       ap (option_map length) (output_there c)
       ∙ elim (live past c) as (λ b. option_map length (cond b (Some (out past c)) None) ≡ cond b (Some (length (out past c))) None) [ true ↦ refl | false ↦ refl ]
 
-  pub count_told : length t.neighbours.rows ≡ length (live_connections past)
-  count_told = ap (λ l. length l.rows) are.neighbours_are ∙ length-map (live_connections past) (λ c. (c, out past c))
+  pub count_known : length t.neighbours.rows ≡ length (live_connections past)
+  count_known = ap (λ l. length l.rows) are.neighbours_are ∙ length-map (live_connections past) (λ c. (c, out past c))
 
-  pub number_told : (i : ℕ) → slice_get (keys_of t.neighbours.rows) i ≡ slice_get (live_connections past) i
-  number_told i = ap (λ l. slice_get (keys_of l.rows) i) are.neighbours_are ∙ ap (λ ns. slice_get ns i) (keys_are past)
+  pub number_known : (i : ℕ) → slice_get (keys_of t.neighbours.rows) i ≡ slice_get (live_connections past) i
+  number_known i = ap (λ l. slice_get (keys_of l.rows) i) are.neighbours_are ∙ ap (λ ns. slice_get ns i) (keys_are past)
 
   -- the first packet that waits is the first of the output
-  pub first_told : (c : ℕ) (r : Option (Bor Packet)) → live past c ≡ true → option_copied r ≡ first_of c t.neighbours
+  pub first_known : (c : ℕ) (r : Option (Bor Packet)) → live past c ≡ true → option_copied r ≡ first_of c t.neighbours
       → option_copied r ≡ slice_get (out past c) 0
-  first_told c r alive h =
+  first_known c r alive h =
       let there : output_of c t.neighbours ≡ Some (out past c) = output_there c ∙ ap (λ b. cond b (Some (out past c)) None) alive in
       h ∙ ap (option_and_then (λ packets. slice_get packets 0)) there
 

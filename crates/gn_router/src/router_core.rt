@@ -31,7 +31,7 @@ impl<A: Allocator + Copy> TableRouter<A> {
     {
         let index = self.history.len() as u32;
         let kept = event.copy()?;
-        let told = event.copy()?;
+        let known = event.copy()?;
         let answer = reply.copy(self.alloc)?;
         self.history.reserve(1)?;
         self.tables.follow(self.alloc, event, &reply)?;
@@ -42,7 +42,7 @@ impl<A: Allocator + Copy> TableRouter<A> {
         });
         Ok(Receipt {
             index,
-            event: told,
+            event: known,
             reply: answer,
         })
     }

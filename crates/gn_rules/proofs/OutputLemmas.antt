@@ -18,7 +18,7 @@ use Rattle.gn_rules.specs.declared.refusal.Refusal.TheVariants.{HistoryFull, Not
 use Rattle.gn_rules.specs.declared.statistics.Counter.{Counter}
 use Rattle.gn_rules.specs.declared.statistics.Counter.TheVariants as counter
 use Rattle.gn_rules.specs.declared.statistics.Stats.{Stats}
-use Rattle.gn_rules.specs.Statistics.{counter_of, raised, stats_of, told}
+use Rattle.gn_rules.specs.Statistics.{counter_of, raised, stats_of, count_in}
 use Rattle.gn_rules.specs.Output.{out, queued, takes, queued_to}
 
 -- what waits is the queue without the packets that were taken, and no more were taken than queued
@@ -93,7 +93,7 @@ output_is_untaken A s past c legal = (all_untaken s past c legal).rest
 
 -- the sum of all counters
 total : Stats → ℕ
-total n = sum (map (λ k. told k n)
+total n = sum (map (λ k. count_in k n)
     (counter.Connected ∷ counter.TooMany ∷ counter.Closed ∷ counter.Admitted ∷ counter.Busy ∷ counter.Routed ∷ counter.UnknownKind
     ∷ counter.Malformed ∷ counter.Duplicate ∷ counter.NoRoute ∷ counter.RouteGone ∷ counter.BackToSender ∷ counter.Expired
     ∷ counter.Taken ∷ counter.Sent ∷ []))

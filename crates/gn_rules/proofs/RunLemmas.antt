@@ -37,9 +37,9 @@ answered : {A : Type 0} (s : Config) (steps later : List (Step A)) (event : Even
     → IfOk result (λ receipt. later ≡ steps ++ record { actor = 0; event = event; reply = receipt.reply } ∷ [])
     → IfOk result (λ receipt. receipt.index ≡ length steps) → IfOk result (λ receipt. receipt.event ≡ event) → OnErr result (later ≡ steps)
     → IsAnswered s (reverse steps) event result × (reverse later ≡ past_after (reverse steps) event result)
-answered s steps later event (Ok receipt) found step index told err =
-    (record { found = found; told = (index ∙ sym (length-reverse steps), told) }, ap reverse step ∙ past_push steps (record { actor = 0; event = event; reply = receipt.reply }))
-answered s steps later event (Err refusal) found step index told err = (record { found = found; told = tt }, ap reverse err)
+answered s steps later event (Ok receipt) found step index known err =
+    (record { found = found; known = (index ∙ sym (length-reverse steps), known) }, ap reverse step ∙ past_push steps (record { actor = 0; event = event; reply = receipt.reply }))
+answered s steps later event (Err refusal) found step index known err = (record { found = found; known = tt }, ap reverse err)
 
 -- a run that has come one event further
 pub running_more : {A : Type 0} (s now next : Config) (past : List (Step A)) (events : List (Event A)) (i : ℕ) (results more : List (Result (Receipt A) Refusal)) (steps later : List (Step A)) (event : Event A) (result : Result (Receipt A) Refusal) (capacity wider : ℕ)
@@ -49,9 +49,9 @@ pub running_more : {A : Type 0} (s now next : Config) (past : List (Step A)) (ev
     → IfOk result (λ receipt. later ≡ steps ++ record { actor = 0; event = event; reply = receipt.reply } ∷ [])
     → IfOk result (λ receipt. receipt.index ≡ length steps) → IfOk result (λ receipt. receipt.event ≡ event) → OnErr result (later ≡ steps)
     → IsRunning s next past (take (i + 1) events) more (reverse later) (length events) wider
-running_more s now next past events i results more steps later event result capacity wider running inside item kept pushed grown found step index told err =
+running_more s now next past events i results more steps later event result capacity wider running inside item kept pushed grown found step index known err =
     let here = subst (λ (z : Config). Finds (reply_of result) (answer z (reverse steps) event)) running.same found in
-    let both : IsAnswered s (reverse steps) event result × (reverse later ≡ past_after (reverse steps) event result) = answered s steps later event result here step index told err in
+    let both : IsAnswered s (reverse steps) event result × (reverse later ≡ past_after (reverse steps) event result) = answered s steps later event result here step index known err in
     let taken : take (i + 1) events ≡ take i events ++ event ∷ [] = take_more events i event inside ∙ ap (λ (e : Event _). take i events ++ e ∷ []) (sym item) in
     record {
       same = kept ∙ running.same;
@@ -74,21 +74,21 @@ found_is (Err NoMemory) rules found had = absurd (cc)
 
 -- receipts of equal replies at one place are equal
 same_result : {A : Type 0} (past : List (Step A)) (event : Event A) (x y : Result (Receipt A) Refusal) → reply_of x ≡ reply_of y → IsReceipt past event x → IsReceipt past event y → x ≡ y
-same_result past event (Ok x) (Ok y) same told_x told_y =
-    same_receipt x.index y.index x.event y.event x.reply y.reply (told_x.0 ∙ sym told_y.0) (told_x.1 ∙ sym told_y.1) (cc)
+same_result past event (Ok x) (Ok y) same known_x known_y =
+    same_receipt x.index y.index x.event y.event x.reply y.reply (known_x.0 ∙ sym known_y.0) (known_x.1 ∙ sym known_y.1) (cc)
   where
     same_receipt : {A : Type 0} (i j : ℕ) (d e : Event A) (p q : Reply A) → i ≡ j → d ≡ e → p ≡ q
         → ◌≡◌ {A = Result (Receipt A) Refusal} (Ok (record { index = i; event = d; reply = p })) (Ok (record { index = j; event = e; reply = q }))
     same_receipt i j d e p q e1 e2 e3 = rw (e1, e2, e3) refl
-same_result past event (Ok x) (Err y) same told_x told_y = absurd (cc)
-same_result past event (Err x) (Ok y) same told_x told_y = absurd (cc)
-same_result past event (Err x) (Err y) same told_x told_y = cc
+same_result past event (Ok x) (Err y) same known_x known_y = absurd (cc)
+same_result past event (Err x) (Ok y) same known_x known_y = absurd (cc)
+same_result past event (Err x) (Err y) same known_x known_y = cc
 
 -- two results with memory after the same steps are equal
 agreed : {A : Type 0} (s : Config) (past : List (Step A)) (e : Event A) (x y : Result (Receipt A) Refusal)
     → IsAnswered s past e x → IsAnswered s past e y → had_memory x ≡ true → had_memory y ≡ true → x ≡ y
 agreed s past e x y of_x of_y had_x had_y =
-    same_result past e x y (sym (found_is x (answer s past e) of_x.found had_x) ∙ found_is y (answer s past e) of_y.found had_y) of_x.told of_y.told
+    same_result past e x y (sym (found_is x (answer s past e) of_x.found had_x) ∙ found_is y (answer s past e) of_y.found had_y) of_x.known of_y.known
 
 -- two runs agree: event by event
 pub runs_agree : (A : Type 0) → RunsAgree A

@@ -1,6 +1,6 @@
--- What one step of a history tells.
+-- What one step of a history says.
 --
--- A history is the list of a router's steps. Contracts tell it in order. The definitions of the rules are given the
+-- A history is the list of a router's steps. Contracts have it in order. The definitions of the rules are given the
 -- steps before an event with the newest first: there the newest step is the head, and "the steps before it" the tail.
 use Rattle.std.specs.Prelude.{ℕ, Bool, true, false, ◌==◌, List, [], Option, Some, None}
 use Rattle.gn_wire.specs.Packet.{Packet}
@@ -72,7 +72,7 @@ abbrev pub offered_of : {A : Type 0} → Event A → Option Packet
 offered_of (Admit c packet) = Some packet
 offered_of event = None
 
--- whether a number is the one that is told
+-- whether a number is the one that is stated
 abbrev pub is_at : ℕ → Option ℕ → Bool
 is_at n None = false
 is_at n (Some m) = n == m

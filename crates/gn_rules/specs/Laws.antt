@@ -13,7 +13,7 @@ use Rattle.gn_rules.specs.Legal.{IsLegal}
 use Rattle.gn_rules.specs.Live.{live_connections}
 use Rattle.gn_rules.specs.Output.{out, queued, takes}
 use Rattle.gn_rules.specs.Runs.{Ran, had_memory}
-use Rattle.gn_rules.specs.Statistics.{counter_of, is_same_counter, stats_of, told}
+use Rattle.gn_rules.specs.Statistics.{counter_of, is_same_counter, stats_of, count_in}
 
 -- in a legal history the output of c is all that was queued to it, without as many first packets as there are takes from c
 abbrev pub OutputIsUntaken : Type 0 → Type 0
@@ -58,7 +58,7 @@ RunsAgree A =
 abbrev pub CountersAddUp : Type 0 → Type 0
 CountersAddUp A =
     (past : List (Step A))
-    → sum (map (λ k. told k (stats_of past))
+    → sum (map (λ k. count_in k (stats_of past))
     (counter.Connected ∷ counter.TooMany ∷ counter.Closed ∷ counter.Admitted ∷ counter.Busy ∷ counter.Routed ∷ counter.UnknownKind
     ∷ counter.Malformed ∷ counter.Duplicate ∷ counter.NoRoute ∷ counter.RouteGone ∷ counter.BackToSender ∷ counter.Expired
     ∷ counter.Taken ∷ counter.Sent ∷ [])) ≡ length past
@@ -67,4 +67,4 @@ CountersAddUp A =
 abbrev pub CountersCount : Type 0 → Type 0
 CountersCount A =
     (past : List (Step A)) (k : Counter)
-    → told k (stats_of past) ≡ length (filter (λ step. is_same_counter (counter_of step.reply) k) past)
+    → count_in k (stats_of past) ≡ length (filter (λ step. is_same_counter (counter_of step.reply) k) past)

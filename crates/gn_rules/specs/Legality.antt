@@ -1,4 +1,4 @@
--- What the test of a history tells.
+-- What the test of a history says.
 use Rattle.std.specs.Prelude.{◌+◌, ◌<◌, ℕ, List, length, reverse, take}
 use Rattle.gn_rules.specs.declared.config.Config.{Config}
 use Rattle.gn_rules.specs.declared.receipt.Step.{Step}
@@ -12,7 +12,7 @@ pub record IsFirstWrong {A : Type 0} (s : Config) (steps : List (Step A)) (i : �
   pub before : IsLegal s (reverse (take i steps))
   pub wrong : IsLegal s (reverse (take (i + 1) steps)) → ⊥
 
--- what is told of a history is true: Legal of a legal one, WrongAt of the first wrong step of another
-abbrev pub Tells : {A : Type 0} → Config → List (Step A) → Legality → Type 0
-Tells s steps Legal = IsLegal s (reverse steps)
-Tells s steps (WrongAt i) = IsFirstWrong s steps i
+-- what is stated of a history is true: Legal of a legal one, WrongAt of the first wrong step of another
+abbrev pub IsVerdict : {A : Type 0} → Config → List (Step A) → Legality → Type 0
+IsVerdict s steps Legal = IsLegal s (reverse steps)
+IsVerdict s steps (WrongAt i) = IsFirstWrong s steps i

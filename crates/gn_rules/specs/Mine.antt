@@ -16,6 +16,6 @@ mine_from a i (step ∷ steps) =
 abbrev pub mine : {A : Type 0} → List (Step A) → ℕ → List (Receipt A)
 mine steps a = mine_from a 0 steps
 
--- the step of actor a that a receipt tells
+-- the step of actor a that a receipt names
 abbrev pub step_of : {A : Type 0} → ℕ → Receipt A → Step A
 step_of a r = record { actor = a; event = r.event; reply = r.reply }

@@ -13,7 +13,7 @@ abbrev pub past_after : {A : Type 0} → List (Step A) → Event A → Result (R
 past_after past event (Ok receipt) = record { actor = 0; event = event; reply = receipt.reply } ∷ past
 past_after past event (Err refusal) = past
 
--- a receipt tells where its step stands, and its event
+-- a receipt says where its step stands, and its event
 abbrev pub IsReceipt : {A : Type 0} → List (Step A) → Event A → Result (Receipt A) Refusal → Type 0
 IsReceipt past event (Ok receipt) = (receipt.index ≡ length past) × (receipt.event ≡ event)
 IsReceipt past event (Err refusal) = Unit {0}
@@ -21,7 +21,7 @@ IsReceipt past event (Err refusal) = Unit {0}
 -- the result of an event is what the rules answer after these steps, or out of memory where they give a reply
 pub record IsAnswered {A : Type 0} (s : Config) (past : List (Step A)) (event : Event A) (result : Result (Receipt A) Refusal) : Type 0 where
   pub found : Finds (reply_of result) (answer s past event)
-  pub told : IsReceipt past event result
+  pub known : IsReceipt past event result
 
 -- a run: each event has its result after the steps that stand there, and these steps stand at the end
 abbrev pub Ran : {A : Type 0} → Config → List (Step A) → List (Event A) → List (Result (Receipt A) Refusal) → List (Step A) → Type 0

@@ -1,4 +1,4 @@
--- The servents whose Query Hits were routed, and the way to them.
+-- The servents whose Query Hits were routed, and the route to them.
 use Rattle.std.specs.Prelude.{ℕ, Bool, true, false, ◌&&◌, if◌then◌else◌, List, [], ◌∷◌, take, Option, Some, None}
 use Rattle.std.specs.Option.{option_and_then}
 use Rattle.std.specs.Map.{lookup, remove_entry}
@@ -20,12 +20,12 @@ abbrev pub is_query_hit : Kind → Bool
 is_query_hit QueryHit = true
 is_query_hit kind = false
 
--- the servent that a routed Query Hit tells, and the connection that admitted it
+-- the servent that a routed Query Hit names, and the connection that admitted it
 abbrev pub route_hit : {A : Type 0} → Reply A → Admission → Option (Guid × ℕ)
 route_hit reply a =
     if is_query_hit a.packet.kind && is_routed_reply reply then Some (hit_servent a.packet.payload, a.origin) else None
 
--- the servent and the connection that a step tells: those of a Query Hit that it routed
+-- the servent and the connection that a step names: those of a Query Hit that it routed
 abbrev pub hit_of : {A : Type 0} → List (Step A) → Event A → Reply A → Option (Guid × ℕ)
 hit_of earlier (Route t) reply = option_and_then (route_hit reply) (admission earlier t)
 hit_of earlier event reply = None

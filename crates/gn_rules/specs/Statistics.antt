@@ -53,23 +53,23 @@ counter_place counter.Sent = 14
 abbrev pub is_same_counter : Counter → Counter → Bool
 is_same_counter j k = counter_place j == counter_place k
 
--- the number that statistics tell of a counter
-abbrev pub told : Counter → Stats → ℕ
-told counter.Connected n = n.connected
-told counter.TooMany n = n.toomany
-told counter.Closed n = n.closed
-told counter.Admitted n = n.admitted
-told counter.Busy n = n.busy
-told counter.Routed n = n.routed
-told counter.UnknownKind n = n.unknownkind
-told counter.Malformed n = n.malformed
-told counter.Duplicate n = n.duplicate
-told counter.NoRoute n = n.noroute
-told counter.RouteGone n = n.routegone
-told counter.BackToSender n = n.backtosender
-told counter.Expired n = n.expired
-told counter.Taken n = n.taken
-told counter.Sent n = n.sent
+-- the number of a counter in statistics
+abbrev pub count_in : Counter → Stats → ℕ
+count_in counter.Connected n = n.connected
+count_in counter.TooMany n = n.toomany
+count_in counter.Closed n = n.closed
+count_in counter.Admitted n = n.admitted
+count_in counter.Busy n = n.busy
+count_in counter.Routed n = n.routed
+count_in counter.UnknownKind n = n.unknownkind
+count_in counter.Malformed n = n.malformed
+count_in counter.Duplicate n = n.duplicate
+count_in counter.NoRoute n = n.noroute
+count_in counter.RouteGone n = n.routegone
+count_in counter.BackToSender n = n.backtosender
+count_in counter.Expired n = n.expired
+count_in counter.Taken n = n.taken
+count_in counter.Sent n = n.sent
 
 -- statistics with one more of a counter
 abbrev pub raised : Counter → Stats → Stats

@@ -5,7 +5,7 @@ ghost use Rattle.gn_rules.specs.Limits.{IsWithin};
 
 use gn_wire::Guid;
 
-/// The router's own servent, as its Pongs tell it.
+/// The router's own servent, as its Pongs describe it.
 #[derive(Clone, Copy, Debug, PartialEq, Eq)]
 pub struct Own {
     pub servent: Guid,

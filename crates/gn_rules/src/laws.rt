@@ -1,4 +1,4 @@
-//! Laws of the rules that no one call shows.
+//! Laws of the rules that no one call proves.
 
 ghost use Rattle.gn_rules.specs.Fits.{AnswersFit, CheckedAnswersFit};
 ghost use Rattle.gn_rules.specs.Laws.{CountersAddUp, CountersCount, LiveConnectionsRise, OutputIsUntaken, RunsAgree, RunsAgreeSoFar, RunsStayLegal};

@@ -1,4 +1,4 @@
-//! Whether two events or replies are equal, and whether a receipt tells a step. None of it takes memory.
+//! Whether two events or replies are equal, and whether a receipt is that of a step. None of it takes memory.
 
 ghost use Rattle.std.specs.Prelude.{◌≡◌, ◌↔◌, IsTrue};
 ghost use Rattle.gn_rules.specs.Mine.{step_of};
@@ -50,7 +50,7 @@ pub fn is_same_reply<A: Allocator>(a: &Reply<A>, b: &Reply<A>) -> bool
     }
 }
 
-/// Whether the step is the actor's, with the event and the reply that the receipt tells.
+/// Whether the step is the actor's, with the event and the reply of the receipt.
 pub fn is_step_of<A: Allocator>(step: &Step<A>, actor: u32, receipt: &Receipt<A>) -> bool
     ensures { IsTrue result ↔ (step.now ≡ step_of actor receipt.now) }
 {

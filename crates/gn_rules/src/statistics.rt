@@ -1,7 +1,7 @@
 //! How many steps had each reply.
 
 ghost use Rattle.std.specs.Prelude.{◌≡◌, ◌<◌, ◌+◌, ◌^◌};
-ghost use Rattle.gn_rules.specs.Statistics.{counter_of, drop_counter, no_stats, raised, told};
+ghost use Rattle.gn_rules.specs.Statistics.{counter_of, drop_counter, no_stats, raised, count_in};
 
 use crate::reply::{DropReason, Reply};
 use std::alloc::Allocator;
@@ -125,7 +125,7 @@ impl Stats {
 
     /// The number of a counter.
     pub fn get(&self, counter: Counter) -> u32
-        ensures { result ≡ told counter self.now }
+        ensures { result ≡ count_in counter self.now }
     {
         match counter {
             Counter::Connected => self.connected,
@@ -148,8 +148,8 @@ impl Stats {
 
     /// Counts one more, at most up to the last u32, which no history reaches.
     pub fn raise(&mut self, counter: Counter)
-        ensures more { told counter self.old + 1 < 2 ^ 32 → self.new ≡ raised counter self.old }
-        ensures last { told counter self.old + 1 ≡ 2 ^ 32 → self.new ≡ self.old }
+        ensures more { count_in counter self.old + 1 < 2 ^ 32 → self.new ≡ raised counter self.old }
+        ensures last { count_in counter self.old + 1 ≡ 2 ^ 32 → self.new ≡ self.old }
     {
         match counter {
             Counter::Connected => self.connected = one_more(self.connected),

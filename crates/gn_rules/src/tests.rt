@@ -131,7 +131,7 @@ fn replies_are_compared(rt: HostRuntime) -> Result<(), Fail> {
 }
 
 #[test]
-fn a_receipt_tells_its_step(rt: HostRuntime) -> Result<(), Fail> {
+fn a_receipt_has_its_step(rt: HostRuntime) -> Result<(), Fail> {
     let event = Event::Admit(2, ping(rt.alloc(), 6, 1)?);
     let (step, mut receipt) = Step::with_receipt(rt.alloc(), 3, 4, &event, Reply::Admitted(0))?;
     assert!(rt; is_step_of(&step, 4, &receipt) && !is_step_of(&step, 3, &receipt));

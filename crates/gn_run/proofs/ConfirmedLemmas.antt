@@ -14,10 +14,10 @@ use Rattle.gn_shake.specs.declared.role.Role.TheVariants.{Plain}
 use Rattle.gn_shake.specs.Roles.{is_calling}
 use Rattle.gn_bodies.specs.declared.ends.WriterEnd.TheVariants.{Drained}
 use Rattle.gn_rules.specs.Mine.{mine}
-use Rattle.gn_laws.specs.Owners.{AreCompared, is_readers, is_writers, packets_of, tells_drained, told_conn}
+use Rattle.gn_laws.specs.Owners.{AreCompared, is_readers, is_writers, packets_of, is_drained_by, known_conn}
 use Rattle.gn_rules.specs.History.{closed_of}
 use Rattle.gn_laws.proofs.FittingLemmas.{strangers_have_none}
-use Rattle.gn_laws.proofs.OwnerLemmas.{links_are_told}
+use Rattle.gn_laws.proofs.OwnerLemmas.{links_agree}
 use Rattle.gn_run.specs.declared.report.LinkReport.{LinkReport}
 use Rattle.gn_run.specs.declared.report.Report.{Report}
 use Rattle.gn_run.specs.Actors.{actors}
@@ -112,7 +112,7 @@ compared {Rd} {W} {A} settled roles report all =
     record {
       connected = λ k below.
           let reader = reader_at settled roles report all k Plain (some k below) (omega (arith, many, below)) in
-          conn k below ∙ reader.conn ∙ ap told_conn reader.own;
+          conn k below ∙ reader.conn ∙ ap known_conn reader.own;
       readers = λ k below.
           let reader = reader_at settled roles report all k Plain (some k below) (omega (arith, many, below)) in
           subst (λ o. list_all (λ (r : Receipt A). is_readers o r.event) (mine steps k) ≡ true) (sym (conn k below))
@@ -142,12 +142,12 @@ took_all {Rd} {W} {A} s settled roles report legal all k below d c drained is =
     let conns : List (Option ℕ) = map (λ (l : LinkReport Rd W A). l.conn) links in
     let many : length conns ≡ length links = length-map links (λ (l : LinkReport Rd W A). l.conn) in
     let conn : get_or conns k None ≡ Some c = get_or-map (λ (l : LinkReport Rd W A). l.conn) links k d None below ∙ is in
-    let told = links_are_told A s steps conns k c legal (compared settled roles report all) (omega (arith, many, below)) conn in
+    let known = links_agree A s steps conns k c legal (compared settled roles report all) (omega (arith, many, below)) conn in
     let at : length conns + k ≡ length links + k = omega (arith, many) in
     let own : mine steps (length conns + k) ≡ link.writer_receipts.items = ap (mine steps) at ∙ sym writer.own in
     let end : is_writer_end settled roles steps (length links + k) (get_or roles k Plain) link.writer_receipts.items Drained (Some c) ≡ true =
     subst (λ o. is_writer_end settled roles steps (length links + k) (get_or roles k Plain) link.writer_receipts.items Drained o ≡ true) is
     (subst (λ e. is_writer_end settled roles steps (length links + k) (get_or roles k Plain) link.writer_receipts.items e link.conn ≡ true) drained writer.end) in
-    let says : tells_drained link.writer_receipts.items c ≡ true =
+    let says : is_drained_by link.writer_receipts.items c ≡ true =
     any_weaker (λ (r : Receipt A). is_last_close settled roles steps c r) (λ (r : Receipt A). is_close c r.event && is_at 0 (closed_of r.reply)) (λ r e. grind (arith, common_steps, e)) link.writer_receipts.items end in
-    ap packets_of (sym own) ∙ told.drained (subst (λ rs. tells_drained rs c ≡ true) (sym own) says)
+    ap packets_of (sym own) ∙ known.drained (subst (λ rs. is_drained_by rs c ≡ true) (sym own) says)

@@ -14,7 +14,7 @@ use Rattle.gn_bodies.specs.declared.ends.WriterEnd.{WriterEnd}
 use Rattle.gn_bodies.specs.declared.ends.WriterEnd.TheVariants.{Drained, WriteFailed, Closed, NeverOpened}
 use Rattle.gn_rules.specs.History.{closed_of}
 use Rattle.gn_laws.specs.Tickets.{admitted, routed}
-use Rattle.gn_laws.proofs.RunLemmas.{counts_tell_flight}
+use Rattle.gn_laws.proofs.RunLemmas.{counts_give_flight}
 use Rattle.gn_run.specs.declared.report.LinkReport.{LinkReport}
 use Rattle.gn_run.specs.declared.report.Report.{Report}
 use Rattle.gn_run.specs.Actors.{is_awaited}
@@ -33,10 +33,10 @@ empty (x ∷ xs) e = absurd (omega arith)
 -- in a legal history the counts are equal exactly where nothing is in flight
 pub balanced_is_settled : {A : Type 0} (s : Config) (steps : List (Step A)) → IsLegal s (reverse steps) → (k : ℕ) → is_balanced steps k ≡ is_settled steps k
 balanced_is_settled {A} s steps legal k =
-    let tells = counts_tell_flight A s steps k legal in
+    let verdict = counts_give_flight A s steps k legal in
     same_test (is_balanced steps k) (is_settled steps k)
-    (λ e. ap (λ ts. length ts == 0) (tells.0 (eqb-true (admitted (take k steps)) (routed (take k steps)) e)))
-    (λ e. eq-eqb (admitted (take k steps)) (routed (take k steps)) (tells.1 (empty (flying (reverse (take k steps))) (eqb-true (length (flying (reverse (take k steps)))) 0 e))))
+    (λ e. ap (λ ts. length ts == 0) (verdict.0 (eqb-true (admitted (take k steps)) (routed (take k steps)) e)))
+    (λ e. eq-eqb (admitted (take k steps)) (routed (take k steps)) (verdict.1 (empty (flying (reverse (take k steps))) (eqb-true (length (flying (reverse (take k steps)))) 0 e))))
 
 any_same : {X : Type 0} (p q : X → Bool) → ((x : X) → p x ≡ q x) → (xs : List X) → list_any p xs ≡ list_any q xs
 any_same p q each [] = refl
@@ -57,17 +57,17 @@ end_same p q each roles steps writer role own WriteFailed None = refl
 end_same p q each roles steps writer role own NeverOpened (Some c) = refl
 end_same p q each roles steps writer role own NeverOpened None = refl
 
-each_way : {P P2 Q Q2 : Type 0} (b : Bool) → (P → P2) → (Q → Q2) → MatchBool b P Q → MatchBool b P2 Q2
-each_way true f g h = f h
-each_way false f g h = g h
+each_case : {P P2 Q Q2 : Type 0} (b : Bool) → (P → P2) → (Q → Q2) → MatchBool b P Q → MatchBool b P2 Q2
+each_case true f g h = f h
+each_case false f g h = g h
 
 -- what is compared by one is compared by the other
 pub confirmed_same : {Rd W A : Type 0} (p q : ℕ → Bool) → ((k : ℕ) → p k ≡ q k) → (roles : List Role) (report : Report Rd W A) (a : ℕ) → IsConfirmed p roles report a → IsConfirmed q roles report a
 confirmed_same {Rd} {W} {A} p q each roles report a =
     let n = length report.links.items in
-    each_way (nat_lt a n) (λ h. h)
-    (each_way (nat_lt a (n + n)) (λ h r d. writer (h r d))
-    (each_way (nat_lt a (n + n + length report.workers.items)) (λ h. h) house))
+    each_case (nat_lt a n) (λ h. h)
+    (each_case (nat_lt a (n + n)) (λ h r d. writer (h r d))
+    (each_case (nat_lt a (n + n + length report.workers.items)) (λ h. h) house))
   where
     writer : {role : Role} {link : LinkReport Rd W A} → WriterConfirmed p roles report.history.items a role link → WriterConfirmed q roles report.history.items a role link
     writer {role} {link} h = record {

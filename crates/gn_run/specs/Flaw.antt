@@ -9,7 +9,7 @@ use Rattle.gn_shake.specs.declared.role.Role.{Role}
 use Rattle.gn_shake.specs.Roles.{is_calling}
 use Rattle.gn_bodies.specs.declared.ends.WriterEnd.TheVariants.{Drained}
 use Rattle.gn_rules.specs.Mine.{mine}
-use Rattle.gn_laws.specs.Owners.{is_readers, is_writers, packets_of, told_conn}
+use Rattle.gn_laws.specs.Owners.{is_readers, is_writers, packets_of, known_conn}
 use Rattle.gn_run.specs.declared.report.LinkReport.{LinkReport}
 use Rattle.gn_run.specs.declared.report.Report.{Report}
 use Rattle.gn_run.specs.Actors.{actors}
@@ -20,7 +20,7 @@ pub record ReaderConfirmed {Rd W A : Type 0} (steps : List (Step A)) (all_call :
   -- its receipts are its own steps
   pub own : link.reader_receipts.items ≡ mine steps k
   -- the link's connection is the one that it got
-  pub conn : link.conn ≡ told_conn link.reader_receipts.items
+  pub conn : link.conn ≡ known_conn link.reader_receipts.items
   -- its events are Connect, Admit and Close of the connection, and Route
   pub events : list_all (λ r. is_readers link.conn r.event) link.reader_receipts.items ≡ true
   -- it connected at most once

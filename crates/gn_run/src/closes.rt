@@ -44,7 +44,7 @@ fn is_close_at<A: Allocator>(closer: Closer, c: ConnId, steps: &[Step<A>], index
 }
 
 /// Whether a step at one of the receipts' indices is.
-fn is_close_told<A: Allocator>(
+fn is_close_known<A: Allocator>(
     closer: Closer,
     c: ConnId,
     steps: &[Step<A>],
@@ -71,7 +71,7 @@ pub fn has_close<A: Allocator>(
 ) -> bool
     ensures { result ≡ closes.has_close closer steps.now c }
 {
-    is_close_told(closer, c, steps, first)
-        || is_close_told(closer, c, steps, then)
+    is_close_known(closer, c, steps, first)
+        || is_close_known(closer, c, steps, then)
         || steps.iter().any(|step| is_close_by(closer, c, step))
 }

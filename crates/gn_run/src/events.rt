@@ -3,7 +3,7 @@
 ghost use Rattle.std.specs.Prelude.{◌≡◌, is_some, true};
 ghost use Rattle.std.specs.List.{count_by, list_all, list_any};
 ghost use Rattle.gn_rules.specs.History.{is_at, is_close, ticket_of};
-ghost use Rattle.gn_laws.specs.Owners.{is_readers, is_writers, told_conn};
+ghost use Rattle.gn_laws.specs.Owners.{is_readers, is_writers, known_conn};
 ghost use Rattle.gn_rules.specs.History.{closed_of};
 ghost use Rattle.gn_run.specs.Ends as ends;
 
@@ -82,7 +82,7 @@ pub fn is_turned_away<A: Allocator>(receipts: &[Receipt<A>]) -> bool
 
 /// The connection of the first reply Connected.
 pub fn conn_of<A: Allocator>(receipts: &[Receipt<A>]) -> Option<ConnId>
-    ensures { result ≡ told_conn receipts.now }
+    ensures { result ≡ known_conn receipts.now }
 {
     for r in receipts {
         if let Some(c) = r.reply.connected() {

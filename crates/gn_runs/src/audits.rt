@@ -23,7 +23,7 @@ const ROUTE: &str = "0 route 0 = routed local \
     1+a1a1a1a1a1a1a1a1a1a1a1a1a1a1a1a10101000e000000ca187f0000010500000028000000 \
     2+a1a1a1a1a1a1a1a1a1a1a1a1a1a1a1a100060100000000\n";
 
-/// The steps of a history, what its audit tells, and what it writes.
+/// The steps of a history, what its audit says, and what it writes.
 const AUDITS: [(&[&str], Legality, &[u8]); 4] = [
     (
         &[CONNECT, SECOND, ADMIT, "0\n", ROUTE],
@@ -60,18 +60,18 @@ fn audited<C: RouterCore<Global> + Drop>(
     text.push_str(end)?;
     let mut source = ReaderSource::new(text.as_bytes());
     let mut sink = WriterSink::new(Vec::new(alloc));
-    let told = audit::<_, C, _, _>(alloc, &mut source, &mut sink);
-    Ok((told, sink.into_inner()))
+    let known = audit::<_, C, _, _>(alloc, &mut source, &mut sink);
+    Ok((known, sink.into_inner()))
 }
 
 #[test]
 fn histories_of_one_ping(rt: HostRuntime) -> Result<(), Fail> {
     for (steps, legality, line) in AUDITS {
-        let (told, written) = audited::<PlainRouter>(rt.alloc(), steps, "end\n")?;
-        assert_eq!(rt; told, Ok(legality));
+        let (known, written) = audited::<PlainRouter>(rt.alloc(), steps, "end\n")?;
+        assert_eq!(rt; known, Ok(legality));
         assert_eq!(rt; written.as_slice(), line);
-        let (told, written) = audited::<TableRouter>(rt.alloc(), steps, "end\n")?;
-        assert_eq!(rt; told, Ok(legality));
+        let (known, written) = audited::<TableRouter>(rt.alloc(), steps, "end\n")?;
+        assert_eq!(rt; known, Ok(legality));
         assert_eq!(rt; written.as_slice(), line);
     }
     Ok(())
@@ -79,12 +79,12 @@ fn histories_of_one_ping(rt: HostRuntime) -> Result<(), Fail> {
 
 #[test]
 fn a_history_without_its_end(rt: HostRuntime) -> Result<(), Fail> {
-    let (told, written) = audited::<PlainRouter>(rt.alloc(), AUDITS[0].0, "")?;
+    let (known, written) = audited::<PlainRouter>(rt.alloc(), AUDITS[0].0, "")?;
     let fault = CaptureFault {
         line: 8,
         cause: Cause::End,
     };
-    assert_eq!(rt; told, Err(ReplayFault::Capture(fault)));
+    assert_eq!(rt; known, Err(ReplayFault::Capture(fault)));
     assert!(rt; written.is_empty());
     Ok(())
 }

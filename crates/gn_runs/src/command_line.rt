@@ -237,7 +237,7 @@ fn output_fails(rt: HostRuntime) {
 }
 
 #[test]
-fn faults_cant_be_told(rt: HostRuntime) {
+fn faults_cant_be_written(rt: HostRuntime) {
     for (words, status) in [(["gn", "audit"], 1), (["gn", "serve"], 2)] {
         let mut reader = ReaderSource::new(JOINED.as_bytes());
         let mut writer = WriterSink::new(Vec::new(rt.alloc()));

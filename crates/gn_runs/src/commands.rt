@@ -56,7 +56,7 @@ const FAULTY: [Case; 6] = [
     ),
 ];
 
-/// A history of one Ping, right, and spoiled: a wrong ticket, no second connection, an admission told twice, no last line.
+/// A history of one Ping, right, and spoiled: a wrong ticket, no second connection, an admission stated twice, no last line.
 const AUDITED: [Case; 5] = [
     (
         "gnutella-history 1; config 4 8 4 8 8 100; own <ee> 127.0.0.1 6346 5 40; \
@@ -172,12 +172,12 @@ fn answers<
     let mut faults = WriterSink::new(Vec::new(alloc));
     let found = command(rt, alloc, words, &mut reader, &mut writer, &mut faults);
     assert!(rt; found == status, "{short}: status {found}");
-    for (sink, told) in [(writer, printed), (faults, fault)] {
+    for (sink, known) in [(writer, printed), (faults, fault)] {
         same(
             rt,
             short,
             &sink.into_inner(),
-            encoded(alloc, told)?.as_bytes(),
+            encoded(alloc, known)?.as_bytes(),
         );
     }
     Ok(())

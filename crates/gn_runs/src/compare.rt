@@ -2,8 +2,8 @@
 
 use std::process::Abort;
 
-/// Ends the test where two texts differ, and tells the one that was found.
+/// Ends the test where two texts differ, and says the one that was found.
 pub(crate) fn same<R: Abort>(rt: &R, name: &str, found: &[u8], wanted: &[u8]) {
-    let told = str::from_utf8(found).unwrap_or("no text");
-    assert!(rt; found == wanted, "{name}: {told}");
+    let known = str::from_utf8(found).unwrap_or("no text");
+    assert!(rt; found == wanted, "{name}: {known}");
 }

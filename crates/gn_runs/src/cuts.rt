@@ -54,7 +54,7 @@ const CUTS: [Cut; 2] = [
     },
 ];
 
-/// The `data` lines of a piece: cut before one byte, or with none told before each.
+/// The `data` lines of a piece: cut before one byte, or with none named before each.
 fn push_pieces(
     text: &mut Vec<u8>,
     link: &str,

@@ -1,4 +1,4 @@
-//! Runs of requests as lists of events: both routers answer each event as the capture's text tells.
+//! Runs of requests as lists of events: both routers answer each event as the capture's text says.
 
 use crate::compare::same;
 use crate::encoding::encoded;

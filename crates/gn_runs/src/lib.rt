@@ -1,4 +1,4 @@
-//! The worked runs: captures, what they print, and what is told of their histories. Tests alone.
+//! The worked runs: captures, what they print, and what is stated of their histories. Tests alone.
 #![tactic(auto)]
 
 #[cfg(test)]

@@ -16,7 +16,7 @@ use std::alloc::Global;
 use std::process::Abort;
 use std::test::Fail;
 
-/// Compares what a router's history is read back as, and what is told of it.
+/// Compares what a router's history is read back as, and what is stated of it.
 fn history_is_kept<C: RouterCore<Global> + Drop, R: Abort + AllocGlobal>(
     rt: &R,
     name: &'static str,
@@ -32,8 +32,8 @@ fn history_is_kept<C: RouterCore<Global> + Drop, R: Abort + AllocGlobal>(
     assert!(rt; legal(&config, &steps) == Legality::Legal, "{name}");
     let mut source = ReaderSource::new(written.as_slice());
     let mut sink = WriterSink::new(Vec::new(alloc));
-    let told = audit::<Global, C, _, _>(alloc, &mut source, &mut sink);
-    assert!(rt; told == Ok(Legality::Legal), "{name}");
+    let known = audit::<Global, C, _, _>(alloc, &mut source, &mut sink);
+    assert!(rt; known == Ok(Legality::Legal), "{name}");
     let line = format!(in alloc; "legal {}\n", steps.len())?;
     same(rt, name, &sink.into_inner(), line.as_bytes());
     Ok(())

@@ -17,7 +17,7 @@ pub(crate) const OWN: Own = Own {
 /// The numbers of the configuration that most runs have.
 pub(crate) const USUAL: &str = "4 8 4 8 8 100";
 
-/// A capture, and what is printed of it. The texts are short ones, as told in `encoding`.
+/// A capture, and what is printed of it. The texts are short ones, as stated in `encoding`.
 #[derive(Clone, Copy)]
 pub(crate) struct Run {
     pub name: &'static str,

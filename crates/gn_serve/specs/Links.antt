@@ -9,10 +9,10 @@ use Rattle.gn_threads.specs.Halves.{ReadHalf, WrittenHalf, reads_of, writes_of}
 abbrev pub roles_of : ℕ → ℕ → List Role
 roles_of calls links = replicate calls Calling ++ replicate (links - calls) Accepting
 
--- what a half tells that was read from a socket: its bytes aren't known
+-- what a half says that was read from a socket: its bytes aren't known
 abbrev pub tcp_reads : TcpReading → ReadHalf
 tcp_reads = reads_of false (λ _. []) (λ r. r.failures) (λ r. r.pieces) (λ r. r.has_ended)
 
--- what a half tells that was written to a socket: its bytes aren't known
+-- what a half says that was written to a socket: its bytes aren't known
 abbrev pub tcp_writes : TcpWriting → WrittenHalf
 tcp_writes = writes_of false (λ _. []) (λ w. w.failures) (λ w. w.is_stuck) (λ w. w.is_finished)

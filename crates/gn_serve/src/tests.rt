@@ -107,7 +107,7 @@ fn two_clients<N: Net<Listener = TcpListener, Stream = TcpStream>>(
     Ok(good)
 }
 
-/// Two clients, and what they met.
+/// Two clients, and what they saw.
 fn two_are_served<R: Threads + Wait + Net<Listener = TcpListener, Stream = TcpStream> + Sync>(
     rt: &R,
     alloc: Global,
@@ -166,7 +166,7 @@ fn a_stranger_and_a_client<N: Net<Listener = TcpListener, Stream = TcpStream>>(
     Ok(good)
 }
 
-/// A stranger and a client, and what they met.
+/// A stranger and a client, and what they saw.
 fn both_are_served<R: Threads + Wait + Net<Listener = TcpListener, Stream = TcpStream> + Sync>(
     rt: &R,
     alloc: Global,
@@ -210,7 +210,7 @@ fn consents(listener: &TcpListener) -> io::Result<bool> {
     Ok(good)
 }
 
-/// A peer that is called, and what it met.
+/// A peer that is called, and what it saw.
 fn one_is_called<R: Threads + Wait + Net<Listener = TcpListener, Stream = TcpStream> + Sync>(
     rt: &R,
     alloc: Global,
@@ -247,7 +247,7 @@ fn is_let_go(listener: &TcpListener) -> io::Result<bool> {
     Ok(good)
 }
 
-/// A peer that is called before one that isn't there, and what it met.
+/// A peer that is called before one that isn't there, and what it saw.
 fn one_is_missing<R: Threads + Wait + Net<Listener = TcpListener, Stream = TcpStream> + Sync>(
     rt: &R,
     alloc: Global,

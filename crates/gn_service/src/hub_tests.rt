@@ -110,7 +110,7 @@ pub(crate) fn stands_in<L: Ledger>(me: &Actor<L>, history: &[Step]) -> bool {
 #[derive(Drop)]
 struct Worked {
     are_answered: bool,
-    are_told: bool,
+    are_known: bool,
     book: u64,
     shares: Vec<u64>,
     history: Vec<Step>,
@@ -148,10 +148,10 @@ fn work<C: RouterCore<Global> + Drop, L: Ledger>(
     let book = hub.book();
     let history = hub.into_router().into_history();
     let shares = actors.iter().map(|me| me.share()).collect(alloc)?;
-    let are_told = actors.iter().all(|me| stands_in(me, history.as_slice()));
+    let are_known = actors.iter().all(|me| stands_in(me, history.as_slice()));
     Ok(Worked {
         are_answered,
-        are_told,
+        are_known,
         book,
         shares,
         history,
@@ -207,7 +207,7 @@ fn is_same_step(step: &Step, wanted: &Step) -> bool {
 #[test]
 fn a_ping_through_the_lent_hub(rt: HostRuntime) -> Result<(), Fail> {
     let worked = work_plain(rt.alloc())?;
-    assert!(rt; worked.are_answered && worked.are_told);
+    assert!(rt; worked.are_answered && worked.are_known);
     assert_eq!(rt; worked.book, 8);
     assert_eq!(rt; worked.shares.as_slice(), [2, 1, 2, 2, 1, 0].as_slice());
     let wanted = wanted(rt.alloc())?;

@@ -104,7 +104,7 @@ impl<C: RouterCore<A> + Drop, L: Ledger, A: Allocator + Copy> Service<C, L, A> {
         unreachable!()
     }
 
-    /// Waits until the door of the link is met or shut, or the run has failed. The connection, where it is met.
+    /// Waits until the door of the link is open or shut, or the run has failed. The connection, where it is open.
     pub fn meet<R: Wait>(&self, rt: &R, link: u32) -> Option<ConnId> {
         let mut hub = self.hub.lock(rt);
         for _ in rt.forever() {

@@ -1,4 +1,4 @@
--- The matching bytes of a greeting and a stream, and the states that they tell.
+-- The matching bytes of a greeting and a stream, and the states that they lead to.
 use Rattle.std.proofs.Common.{◌≡◌, ◌≢◌, ℕ, zero, suc, ◌+◌, ◌<◌, ◌≤◌, Bool, true, false, cond, List, [], ◌∷◌, ◌++◌, length, get_or, take, drop, refl, sym, ap, ◌∙◌, arith, inl, inr, nat_eq, length-drop}
 use Rattle.std.proofs.lemmas.Grind.{common_steps}
 use Rattle.std.proofs.lemmas.List.{take-append-drop, take_all}
@@ -7,7 +7,7 @@ use Rattle.std.proofs.Math.Nat.{eq-or-lt_of_le}
 use Rattle.std.proofs.lemmas.List.Sums.{common_prefix_len-le}
 use Rattle.gn_shake.specs.declared.shake.ShakeState.{ShakeState}
 use Rattle.gn_shake.specs.declared.shake.ShakeState.TheVariants.{More, Done, Refused}
-use Rattle.gn_shake.specs.Greeting.{matching, greeting_state, IsAccepted, IsRefused, IsState, GreetingIsTold}
+use Rattle.gn_shake.specs.Greeting.{matching, greeting_state, IsAccepted, IsRefused, IsState, GreetingIsKnown}
 
 pub matching-le : (g s : List ℕ) → (matching g s ≤ length g) × (matching g s ≤ length s)
 matching-le g s = common_prefix_len-le nat_eq g s
@@ -50,10 +50,10 @@ matching-same (x ∷ xs) (y ∷ ys) =
     same_step (nat_eq x y) x y (matching xs ys) xs ys (Decides-eqb x y).0 (matching-same xs ys)
 
 -- a beginning of the greeting matches it
-pub matching-front : (g : List ℕ) (n : ℕ) → n ≤ length g → matching g (take n g) ≡ n
-matching-front [] n h = omega arith
-matching-front (x ∷ xs) zero h = refl
-matching-front (x ∷ xs) (suc n) h = grind (arith, nat_tests, common_steps, matching-front xs n)
+pub matching-head : (g : List ℕ) (n : ℕ) → n ≤ length g → matching g (take n g) ≡ n
+matching-head [] n h = omega arith
+matching-head (x ∷ xs) zero h = refl
+matching-head (x ∷ xs) (suc n) h = grind (arith, nat_tests, common_steps, matching-head xs n)
 
 -- a place where the two differ lies past what matches
 pub differs_past : (g s : List ℕ) (i : ℕ) → i < length g → i < length s → get_or g i 0 ≢ get_or s i 0 → matching g s ≤ i
@@ -103,9 +103,9 @@ accepted_matches (x ∷ xs) rest = grind (arith, nat_tests, common_steps, accept
 -- and a stream that matches all of it is accepted
 matches_accepted : (g s : List ℕ) → matching g s ≡ length g → IsAccepted g s
 matches_accepted g s e =
-    let front : g ≡ take (length g) s =
+    let head : g ≡ take (length g) s =
     sym (take_all (length g) g (omega arith)) ∙ ap (λ n. take n g) (sym e) ∙ matching-same g s ∙ ap (λ n. take n s) e in
-    (drop (length g) s, sym (ap (λ xs. xs ++ drop (length g) s) front ∙ take-append-drop (length g) s))
+    (drop (length g) s, sym (ap (λ xs. xs ++ drop (length g) s) head ∙ take-append-drop (length g) s))
 
 accepted_full : (g s : List ℕ) → IsAccepted g s → matching g s ≡ length g
 accepted_full g s (rest, e) = rw e (accepted_matches g rest)
@@ -115,8 +115,8 @@ refused_short g s (i, hg, hs, d) =
     let past = differs_past g s i hg hs d in (omega arith, omega arith)
 
 -- the function gives a state that the stream has
-pub told : (g s : List ℕ) → IsState g s (greeting_state g s)
-told g s = elim (standing g s) [
+pub known : (g s : List ℕ) → IsState g s (greeting_state g s)
+known g s = elim (standing g s) [
   | ended e is ↦ rw is (matches_accepted g s e)
   | going e h is ↦ rw is (
     (λ accepted. let full = accepted_full g s accepted in absurd (omega arith)),
@@ -135,5 +135,5 @@ only g s More neither = elim (standing g s) [
   | broken hg hs is ↦ absurd (neither.1 (matching g s, hg, hs, differs_after g s hg hs))
 ]
 
-pub greeting_is_told : GreetingIsTold
-greeting_is_told g s state = (only g s state, λ e. rw e (told g s))
+pub greeting_is_known : GreetingIsKnown
+greeting_is_known g s state = (only g s state, λ e. rw e (known g s))

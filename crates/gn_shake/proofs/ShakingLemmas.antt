@@ -7,14 +7,14 @@ use Rattle.gn_shake.specs.declared.shake.ShakeState.{ShakeState}
 use Rattle.gn_shake.specs.declared.shake.ShakeState.TheVariants.{More, Done, Refused}
 use Rattle.gn_shake.specs.Greeting.{matching, greeting_state}
 use Rattle.gn_shake.specs.Shaking.{Shaking, is_refusal, answer_of, used_of, fed, shake_of, IsOneStream, PiecesAreOneStream}
-use Rattle.gn_shake.proofs.GreetingLemmas.{matching-le, matching-append, matching-stops, matching-same, matching-front, state_done, state_more, state_refused, standing}
+use Rattle.gn_shake.proofs.GreetingLemmas.{matching-le, matching-append, matching-stops, matching-same, matching-head, state_done, state_more, state_refused, standing}
 use Rattle.gn_shake.proofs.GreetingLemmas.Standing.{ended, going, broken}
 
 -- a piece after the beginning of a greeting
 pub matching_piece : (g p : List ℕ) (n : ℕ) → n ≤ length g → matching g (take n g ++ p) ≡ n + matching (drop n g) p
 matching_piece g p n h =
     let size : length (take n g) ≡ n = length-take-le n g h in
-    matching-append g (take n g) p (matching-front g n h ∙ sym size) ∙ rw size refl
+    matching-append g (take n g) p (matching-head g n h ∙ sym size) ∙ rw size refl
 
 -- what has come of the greeting, with what a piece has of it
 pub take_piece : (g p : List ℕ) (n : ℕ) → take (n + matching (drop n g) p) g ≡ take n g ++ take (matching (drop n g) p) p
@@ -101,7 +101,7 @@ ended_stream g s p e is =
     let stays : matching g (s ++ p) ≡ length g = ended_matches g s p e in
     let now : greeting_state g (s ++ p) ≡ Done = state_done g (s ++ p) stays in
     let here : shake_of g s ≡ record { greeting = g; matched = g; refused = false } = shake_is g s g Done whole is in
-    let self : matching g g ≡ length g = ap (λ xs. matching g xs) (sym (take-length g)) ∙ matching-front g (length g) (omega arith) in
+    let self : matching g g ≡ length g = ap (λ xs. matching g xs) (sym (take-length g)) ∙ matching-head g (length g) (omega arith) in
     let answer : greeting_state g (g ++ p) ≡ Done = state_done g (g ++ p) (ended_matches g g p self) in
     let none : matching (drop (length g) g) p ≡ 0 = ap (λ xs. matching xs p) (drop_all (length g) g (omega arith)) in
     let grown : take (matching g (s ++ p)) (s ++ p) ≡ g = sym (matching-same g (s ++ p)) ∙ ap (λ n. take n g) stays ∙ take-length g in

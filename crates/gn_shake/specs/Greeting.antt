@@ -30,6 +30,6 @@ IsState greeting stream Refused = IsRefused greeting stream
 IsState greeting stream More = (¬ IsAccepted greeting stream) × (¬ IsRefused greeting stream)
 
 -- a stream has just one state, and the function gives it
-abbrev pub GreetingIsTold : Type 0
-GreetingIsTold =
+abbrev pub GreetingIsKnown : Type 0
+GreetingIsKnown =
     (greeting stream : List ℕ) (state : ShakeState) → IsState greeting stream state ↔ (state ≡ greeting_state greeting stream)

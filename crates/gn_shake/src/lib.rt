@@ -6,7 +6,7 @@ mod role;
 mod shake;
 mod texts;
 
-pub use laws::{greeting_is_told, pieces_are_one_stream};
+pub use laws::{greeting_is_known, pieces_are_one_stream};
 pub use role::Role;
 pub use shake::{Shake, ShakeState, Shaken};
 pub use texts::{consent, request};

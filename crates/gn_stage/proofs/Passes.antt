@@ -1,16 +1,16 @@
 -- What the desk knows, as its parts.
 use Rattle.std.proofs.Common.{◌≡◌, ℕ, ◌+◌, length, sym, ap, ◌∙◌, arith}
 use Rattle.gn_stage.specs.Rule.{Role, Known, IsDeskOf, new_pass, new_desk, with_intake, with_outlet, one_made}
-use Rattle.gn_stage.specs.Settled.{told}
+use Rattle.gn_stage.specs.Settled.{capped}
 
 module _ {J : Type 0} where
   -- a new pass is its parts
-  pub new_parts : (role : Role) (room p : ℕ) (v : Known J) → v ≡ new_pass role room p → (v.role ≡ role) × (v.room ≡ room) × (p ≡ v.end.number) × (0 ≡ told (length v.end.jobs))
+  pub new_parts : (role : Role) (room p : ℕ) (v : Known J) → v ≡ new_pass role room p → (v.role ≡ role) × (v.room ≡ room) × (p ≡ v.end.number) × (0 ≡ capped (length v.end.jobs))
   new_parts role room p v e = (
     ap (λ (v : Known J). v.role) e,
     ap (λ (v : Known J). v.room) e,
     sym (ap (λ (v : Known J). v.end.number) e),
-    sym (ap (λ (v : Known J). told (length v.end.jobs)) e),
+    sym (ap (λ (v : Known J). capped (length v.end.jobs)) e),
   )
 
   pub desk_begins : (capacity : ℕ) (v : Known J) → v ≡ new_desk → IsDeskOf 0 0 capacity v

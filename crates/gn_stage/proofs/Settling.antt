@@ -5,7 +5,7 @@ use mathlib.Core.Option.{none}
 use Rattle.gn_stage.specs.Ends.{End, AreAllHome}
 use Rattle.gn_stage.specs.Lessons.{IsDraining}
 use Rattle.gn_stage.specs.Rule.{of_desk, Known, Gathered, FitsSide, IsDeskOf, AreHome, jobs_of, with_drained, with_intakes_home, with_outlets_home}
-use Rattle.gn_stage.specs.Settled.{IsSettled, told}
+use Rattle.gn_stage.specs.Settled.{IsSettled, capped}
 use Rattle.gn_stage.proofs.Interleavings.{interleaves, counts}
 
 module _ {J : Type 0} where
@@ -28,12 +28,12 @@ module _ {J : Type 0} where
   homes intakes outlets v ins outs known all_in all_out = (subst AreHome (sym known.0) all_in, subst AreHome (sym known.1) all_out)
 
   -- a count of these jobs is a count of the same
-  pub count_at : (count : ℕ) (now was : List (End J)) → now ≡ was → count ≡ told (sum_by (λ e. length e.jobs) now) → count ≡ told (sum_by (λ e. length e.jobs) was)
-  count_at count now was same is = is ∙ ap (λ (l : List (End J)). told (sum_by (λ e. length e.jobs) l)) same
+  pub count_at : (count : ℕ) (now was : List (End J)) → now ≡ was → count ≡ capped (sum_by (λ e. length e.jobs) now) → count ≡ capped (sum_by (λ e. length e.jobs) was)
+  count_at count now was same is = is ∙ ap (λ (l : List (End J)). capped (sum_by (λ e. length e.jobs) l)) same
 
   pub settles : (intakes outlets put taken : ℕ) (v w : Known J) (ins outs : List (End J)) (drained : List J)
       → home_desk intakes outlets v ins outs → w ≡ with_drained v drained → IsDraining w []
-      → AreAllHome intakes ins → AreAllHome outlets outs → put ≡ told (sum_by (λ e. length e.jobs) ins) → taken ≡ told (sum_by (λ e. length e.jobs) outs)
+      → AreAllHome intakes ins → AreAllHome outlets outs → put ≡ capped (sum_by (λ e. length e.jobs) ins) → taken ≡ capped (sum_by (λ e. length e.jobs) outs)
       → IsSettled ins outs put taken drained
   settles intakes outlets put taken v w ins outs drained known now h all_in all_out put_is taken_is =
       let ins_are = ap (λ (v : Known J). v.ins) now ∙ known.0 in
@@ -46,6 +46,6 @@ module _ {J : Type 0} where
         order = h.order ∙ append-nil _ ∙ ap (λ (v : Known J). jobs_of h.taken ++ v.end.jobs) now;
         puts = interleaves _ _ h.put all_in in_side;
         takes = interleaves _ _ h.taken all_out out_side;
-        put_count = put_is ∙ ap told (counts _ _ h.put all_in in_side);
-        taken_count = taken_is ∙ ap told (counts _ _ h.taken all_out out_side);
+        put_count = put_is ∙ ap capped (counts _ _ h.put all_in in_side);
+        taken_count = taken_is ∙ ap capped (counts _ _ h.taken all_out out_side);
       }

@@ -5,9 +5,9 @@ use Rattle.gn_stage.specs.Interleaving.{IsInterleaving}
 use Rattle.gn_stage.specs.declared.settle.StageFault.{StageFault}
 use Rattle.gn_stage.specs.declared.settle.StageFault.TheVariants.{Missing, NoMemory}
 
--- a count as a u64 tells it: the last u64 where it is greater
-abbrev pub told : ℕ → ℕ
-told n = min n (2 ^ 64 - 1)
+-- a count as a u64 holds it: the last u64 where it is greater
+abbrev pub capped : ℕ → ℕ
+capped n = min n (2 ^ 64 - 1)
 
 -- each job was put as often as it was taken or drained: the queue got an interleaving of what the intakes put, of which
 -- the outlets took a first part, interleaved, and the rest was drained
@@ -17,8 +17,8 @@ pub record IsSettled {J : Type 0} (intakes outlets : List (End J)) (put taken : 
   pub order : queued ≡ passed ++ drained
   pub puts : IsInterleaving queued intakes
   pub takes : IsInterleaving passed outlets
-  pub put_count : put ≡ told (length queued)
-  pub taken_count : taken ≡ told (length passed)
+  pub put_count : put ≡ capped (length queued)
+  pub taken_count : taken ≡ capped (length passed)
 
 -- every end that was made for the stage is among these
 pub record AreWhole {J : Type 0} (desk : Layout) (intakes outlets : List (End J)) : Type 0 where

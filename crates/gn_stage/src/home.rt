@@ -6,7 +6,7 @@ ghost use Rattle.gn_stage.specs.Ends.{with_job};
 ghost use Rattle.gn_stage.specs.Lessons.{WasEmpty};
 ghost use Rattle.gn_stage.specs.Opened.{IsLineOf, IsPassOf, knows};
 ghost use Rattle.gn_stage.specs.Rule.{new_pass};
-ghost use Rattle.gn_stage.specs.Settled.{told};
+ghost use Rattle.gn_stage.specs.Settled.{capped};
 
 use crate::job::Job;
 use crate::rule::{Law, Putting, Taking, View};
@@ -54,7 +54,7 @@ impl<D: Direction, S: Site, A: Allocator> Model for Home<D, S, A> {
     ghost use Rattle.std.specs.Prelude.{◌≡◌, length};
     ghost use Rattle.gn_stage.specs.Ends.{End};
     ghost use Rattle.gn_stage.specs.Opened.{IsPassOf, knows};
-    ghost use Rattle.gn_stage.specs.Settled.{told};
+    ghost use Rattle.gn_stage.specs.Settled.{capped};
     ghost use Rattle.gn_stage.specs.Jobs.{Queued};
 
     ghost Value = { End Queued };
@@ -65,7 +65,7 @@ impl<D: Direction, S: Site, A: Allocator> Model for Home<D, S, A> {
         × ((knows h.pass).role ≡ D.role)
         × ((knows h.pass).room ≡ S.stage.capacity)
         × (h.number ≡ (knows h.pass).end.number)
-        × (h.count ≡ told (length (knows h.pass).end.jobs)) };
+        × (h.count ≡ capped (length (knows h.pass).end.jobs)) };
 }
 
 impl<D: Direction, S: Site, A: Allocator> Home<D, S, A> {
@@ -91,7 +91,7 @@ impl<D: Direction, S: Site, A: Allocator> Home<D, S, A> {
 
     /// How many jobs it has seen.
     pub(crate) fn count(&self) -> u64
-        ensures { result ≡ told (length self.now.jobs) }
+        ensures { result ≡ capped (length self.now.jobs) }
     {
         self.count
     }

@@ -75,7 +75,7 @@ impl<S: Site, A: Allocator> Outlet<S, A> {
         unreachable!()
     }
 
-    /// Takes the job at the front. `None` also comes to an outlet whose job another took: one that found the stage closed
+    /// Takes the job at the head. `None` also comes to an outlet whose job another took: one that found the stage closed
     /// takes what it can, whoever has the token.
     fn take_one<R: Wait>(&mut self, rt: &R) -> Option<Job<A>>
         ensures { MatchOption result

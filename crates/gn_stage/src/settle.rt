@@ -6,7 +6,7 @@ ghost use Rattle.gn_stage.specs.Ends.{AreAllHome};
 ghost use Rattle.gn_stage.specs.Opened.{IsLineOf, IsPassOf, knows};
 ghost use Rattle.gn_stage.specs.Rule.{AreHome, of_desk, with_drained, with_intakes_home, with_outlets_home};
 ghost use Rattle.gn_stage.specs.Lessons.{IsDraining};
-ghost use Rattle.gn_stage.specs.Settled.{AreWhole, FaultComes, IsSettled, told};
+ghost use Rattle.gn_stage.specs.Settled.{AreWhole, FaultComes, IsSettled, capped};
 
 use crate::desk::Desk;
 use crate::home::{Direction, Home, IntakeHome, OutletHome};
@@ -67,7 +67,7 @@ fn are_all_home<D: Direction, S: Site, A: Allocator>(homes: &[Home<D, S, A>], ma
 
 /// How many jobs these have seen.
 fn count_of<D: Direction, S: Site, A: Allocator>(homes: &[Home<D, S, A>]) -> u64
-    ensures { result ≡ told (sum_by (λ e. length e.jobs) homes.now) }
+    ensures { result ≡ capped (sum_by (λ e. length e.jobs) homes.now) }
 {
     let mut count = 0u64;
     for home in homes {

@@ -23,7 +23,7 @@ fn job<A: Allocator>(ticket: u32) -> Result<Job<A>, AllocError> {
 }
 
 /// What a settled stage says: how many jobs were put and taken, and the tickets that were drained.
-fn told<A: Allocator>(
+fn capped<A: Allocator>(
     alloc: Global,
     settled: &Settled<A>,
 ) -> Result<(u64, u64, Vec<u32>), AllocError> {
@@ -90,7 +90,7 @@ fn in_one_thread<R: Wait>(
 fn stage_settles(rt: HostRuntime) -> Result<(), Fail> {
     for (intakes, want) in [(1, None), (2, Some(StageFault::Missing))] {
         let (first, fault, settled) = in_one_thread(&rt, rt.alloc(), intakes)?;
-        let (put, taken, drained) = told(rt.alloc(), &settled)?;
+        let (put, taken, drained) = capped(rt.alloc(), &settled)?;
         assert_eq!(rt; first, Some(0));
         assert_eq!(rt; fault, want);
         assert_eq!(rt; (put, taken), (2, 1));
@@ -146,7 +146,7 @@ fn no_memory_hands_all_back(rt: HostRuntime) -> Result<(), Fail> {
     );
     let (fault, settled) = on_two_heaps(&rt, &poor, &rich)?;
     assert_eq!(rt; fault, StageFault::NoMemory);
-    assert_eq!(rt; told(rt.alloc(), &settled)?, (0, 0, Vec::new(rt.alloc())));
+    assert_eq!(rt; capped(rt.alloc(), &settled)?, (0, 0, Vec::new(rt.alloc())));
     Ok(())
 }
 
@@ -244,7 +244,7 @@ fn counted<R: Threads + Wait + Sync>(
     let (mut tickets, settled) = many_threads::<Brand, R>(
         rt, alloc, stage, intakes, outlets, count,
     )?;
-    let (put, taken, drained) = told(alloc, &settled)?;
+    let (put, taken, drained) = capped(alloc, &settled)?;
     tickets.extend_from_slice(drained.as_slice())?;
     tickets.sort()?;
     Ok(((put, taken, drained.len()), tickets))
@@ -326,7 +326,7 @@ fn left<R: Threads + Wait + Sync + Clock>(
 #[test]
 fn a_put_that_waits_gets_its_job_back(rt: HostRuntime) -> Result<(), Fail> {
     let (back, settled) = left(&rt, rt.alloc())?;
-    let (put, taken, drained) = told(rt.alloc(), &settled)?;
+    let (put, taken, drained) = capped(rt.alloc(), &settled)?;
     assert_eq!(rt; back, Some(1));
     assert_eq!(rt; (put, taken), (1, 0));
     assert_eq!(rt; drained.as_slice(), [0].as_slice());

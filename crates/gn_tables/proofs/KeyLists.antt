@@ -38,8 +38,8 @@ module _ {K X : Type 0} where
       ] none
 
   -- a new key before the first n
-  pub apart_in_front : {eq : K → K → Bool} (laws : IsEquivalence eq) (k : K) (es : List (K × X)) (n : ℕ) → IsDistinct eq (keys_of es) → lookup (eq k) es ≡ None
+  pub apart_in_first : {eq : K → K → Bool} (laws : IsEquivalence eq) (k : K) (es : List (K × X)) (n : ℕ) → IsDistinct eq (keys_of es) → lookup (eq k) es ≡ None
       → IsDistinct eq (k ∷ keys_of (take n es))
-  apart_in_front {eq} laws k es n apart none =
+  apart_in_first {eq} laws k es n apart none =
       IsDistinct-cons eq k (keys_of (take n es)) (differs eq k es n none)
       (rw (← take-map (λ (e : K × X). e.0) n es) (distinct-take laws n (keys_of es) apart))

@@ -1,4 +1,4 @@
--- What a table of rings shows, and what it keeps.
+-- What a table of rings gives, and what it keeps.
 use Rattle.std.proofs.Common.{◌≡◌, ◌<◌, ◌≤◌, ◌==◌, ℕ, Bool, true, false, not, cond, eqb, nat_eq, nat_lt, List, [], ◌∷◌, ◌++◌, map, filter, length, Some, None, Result, Ok, Err, IsOk, OnOk, IfErr, refl, sym, ap, ◌∙◌, arith, length-append, length-drop, ◌+◌, subst, drop, ⊎_elim, ◌↔◌}
 use Rattle.std.specs.Option.{option_map, IfSome}
 use Rattle.std.specs.List.{All, IsDistinct, slice_get}
@@ -154,7 +154,7 @@ removed c most room es fs are is =
       rw rows_are refl,
     )
 
--- ---- what a table shows
+-- ---- what a table gives
 
 -- the output queues of a table are as output queues are
 pub outputs_are : (most room : ℕ) (es : List (ℕ × Buffer Packet)) → AreRings es most room → AreOutputs (outputs_of most room es)

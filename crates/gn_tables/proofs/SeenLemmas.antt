@@ -11,7 +11,7 @@ use Rattle.gn_wire.specs.declared.key.Key.{Key}
 use Rattle.gn_wire.specs.contracts.key.KeyPartialEq.TheImpl as derived
 use Rattle.gn_wire.specs.Keys.{is_same_key}
 use Rattle.gn_wire.proofs.KeyLemmas.{same_test, key_laws}
-use Rattle.gn_tables.proofs.KeyLists.{apart_in_front}
+use Rattle.gn_tables.proofs.KeyLists.{apart_in_first}
 use Rattle.gn_tables.specs.Remembered.{AreSources, forgotten}
 
 -- the entries after w is written at the key, by the derived `==`
@@ -56,7 +56,7 @@ fallen_is (e ∷ es) (suc n) q distinct few =
       | false ↦ λ t. rest
     ] refl
 
--- one more seen entry in front, and the sources without the one that fell out
+-- one more seen entry first, and the sources without the one that fell out
 entered : (sources left after seen_entries : List (Key × ℕ)) (n : ℕ) (key : Key) (from : ℕ) → AreSources sources seen_entries (suc n) → lookup (is_same_key key) seen_entries ≡ None
     → ((q : Key) → lookup (is_same_key q) left ≡ forgotten (slice_get seen_entries n) q (lookup (is_same_key q) sources))
     → ((q : Key) → lookup (is_same_key q) after ≡ cond (is_same_key key q) (Some from) (lookup (is_same_key q) left))
@@ -64,7 +64,7 @@ entered : (sources left after seen_entries : List (Key × ℕ)) (n : ℕ) (key :
 entered sources left after seen_entries n key from are none gone put = record {
   positive = are.positive;
   few = omega (arith, length-take n seen_entries);
-  distinct = apart_in_front key_laws key seen_entries n are.distinct none;
+  distinct = apart_in_first key_laws key seen_entries n are.distinct none;
   same = λ q. put q ∙ rw (gone q, are.same q, key_laws.symm key q, ← fallen_is seen_entries n q are.distinct (omega (arith, are.few))) refl;
 }
 

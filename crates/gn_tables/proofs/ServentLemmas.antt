@@ -12,7 +12,7 @@ use Rattle.lru.specs.LruCache.{LruCache, lru_cache, put_entries}
 use Rattle.gn_wire.specs.declared.kind.Guid.{Guid}
 use Rattle.gn_wire.specs.Keys.{is_same_id}
 use Rattle.gn_wire.specs.contracts.kind.GuidPartialEq.TheImpl as derived
-use Rattle.gn_tables.proofs.KeyLists.{apart_in_front, apart_without}
+use Rattle.gn_tables.proofs.KeyLists.{apart_in_first, apart_without}
 use Rattle.gn_tables.specs.Servents.{AreServents, Servents, learned}
 
 servent_laws : IsEquivalence is_same_id
@@ -55,7 +55,7 @@ module _ (x : Guid) where
         | false ↦ λ h. ap (λ xs. d ∷ xs) (all_others es h)
       ] none
 
--- what `put` leaves is the list with the servent in front
+-- what `put` leaves is the list with the servent first
 put_is : (c : LruCache Guid ℕ) (n : ℕ) (x : Guid) (from : ℕ) → c.cap ≡ suc n → length c.entries ≤ suc n
     → put_entries is_same_id c x from ≡ take c.cap ((x, from) ∷ remove_entry (is_same_id x) c.entries)
 put_is c n x from size few =
@@ -79,7 +79,7 @@ learned_first es n x from distinct =
     ∙ ap (λ b. cond b None (lookup (is_same_id x) es)) (servent_laws.refl x) in
     record {
       few = omega (arith, length-take n rest);
-      distinct = apart_in_front servent_laws x rest n (apart_without is_same_id (is_same_id x) es distinct) gone;
+      distinct = apart_in_first servent_laws x rest n (apart_without is_same_id (is_same_id x) es distinct) gone;
     }
 
 pub learned_in : (c new : LruCache Guid ℕ) (x : Guid) (from : ℕ) → 0 < c.cap → AreServents (shown c) → new ≡ lru_cache (put_entries (derived.eq-value).it c x from) c.cap

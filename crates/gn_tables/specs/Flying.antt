@@ -19,6 +19,6 @@ module _ {Flight : Type 0} where
   abbrev pub without_flight : ℕ → Flying Flight → Flying Flight
   without_flight ticket f = record f { flights = map.remove f.flights ticket }
 
-  -- how what is in flight is told as one value, for comparisons
+  -- what is in flight as one value, for comparisons
   abbrev pub flying_code : Coded Flight → Coded (Flying Flight)
   flying_code c = code_by (FinMap nat_cmp Flight × ℕ) (coded× (map.code coded_ℕ c) coded_ℕ) (λ f. (f.flights, f.most)) (λ p. record { flights = p.0; most = p.1 }) (λ _. refl)

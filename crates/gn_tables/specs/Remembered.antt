@@ -11,7 +11,7 @@ pub record Remembered : Type 0 where
   pub seen_entries : List (Key × ℕ)
   pub most : ℕ
 
--- the table with one more seen entry in front; where it was full, the last one is forgotten
+-- the table with one more seen entry first; where it was full, the last one is forgotten
 abbrev pub with_entry : Key → ℕ → Remembered → Remembered
 with_entry key from t = record t { seen_entries = take t.most ((key, from) ∷ t.seen_entries) }
 

@@ -1,4 +1,4 @@
--- The way to the servents whose answers were routed.
+-- The route to the servents whose answers were routed.
 use Rattle.std.specs.Prelude.{◌≤◌, ℕ, List, ◌∷◌, length, take}
 use Rattle.std.specs.List.{IsDistinct}
 use Rattle.std.specs.Map.{keys_of, remove_entry}
@@ -10,7 +10,7 @@ pub record Servents : Type 0 where
   pub routes : List (Guid × ℕ)
   pub most : ℕ
 
--- the table with the servent in front, at its new source; where there are too many then, the last one is forgotten
+-- the table with the servent first, at its new source; where there are too many then, the last one is forgotten
 abbrev pub learned : Guid → ℕ → Servents → Servents
 learned servent from t = record t { routes = take t.most ((servent, from) ∷ remove_entry (is_same_id servent) t.routes) }
 

@@ -59,7 +59,7 @@ impl<A: Allocator + Copy> Neighbours<A> {
         })
     }
 
-    /// How many neighbours there are. What every table keeps is told here too.
+    /// How many neighbours there are. What every table keeps is stated here too.
     pub fn len(&self) -> u32
         ensures value { result ≡ length self.now.rows }
         ensures kept { AreOutputs self.now }
@@ -106,7 +106,7 @@ impl<A: Allocator + Copy> Neighbours<A> {
         Ok(())
     }
 
-    /// Takes the connection out, and tells how many packets were discarded with it. `None` where it isn't there.
+    /// Takes the connection out, and says how many packets were discarded with it. `None` where it isn't there.
     pub fn remove(&mut self, connection: u32) -> Option<u32>
         ensures value { result ≡ option_map length (output_of connection self.old) }
         ensures rest { self.new ≡ left connection self.old }

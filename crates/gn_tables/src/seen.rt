@@ -48,7 +48,7 @@ impl<A: Allocator + Copy> SeenTable<A> {
         })
     }
 
-    /// Where the descriptor of this kind and ID came from, where it is still kept. What every table keeps is told here too.
+    /// Where the descriptor of this kind and ID came from, where it is still kept. What every table keeps is stated here too.
     pub fn source(&self, kind: Kind, id: &Guid) -> Option<u32>
         ensures value { result ≡ lookup (is_same_key (record { kind = kind; id = id.now })) self.now.seen_entries }
         ensures kept { IsRemembered self.now }
@@ -56,7 +56,7 @@ impl<A: Allocator + Copy> SeenTable<A> {
         self.sources.get(&Key { kind, id: *id }).copied()
     }
 
-    /// Keeps a new key in front; a full table forgets its oldest one. An `Err` is out of memory, and changes nothing.
+    /// Keeps a new key first; a full table forgets its oldest one. An `Err` is out of memory, and changes nothing.
     pub fn keep(&mut self, kind: Kind, id: Guid, from: u32) -> Result<(), AllocError>
         requires { lookup (is_same_key (record { kind = kind; id = id })) self.old.seen_entries ≡ None }
         ensures ok { OnOk result (self.new ≡ with_entry (record { kind = kind; id = id }) from self.old) }

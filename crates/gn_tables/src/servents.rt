@@ -46,7 +46,7 @@ impl<A: Allocator + Copy> ServentTable<A> {
     }
 
     /// Which connection the servent's last answer came from, where it is still known. The order stays as it is.
-    /// What every table keeps is told here too.
+    /// What every table keeps is stated here too.
     pub fn route(&self, servent: &Guid) -> Option<u32>
         ensures value { result ≡ lookup (is_same_id servent.now) self.now.routes }
         ensures kept { AreServents self.now }
@@ -54,7 +54,7 @@ impl<A: Allocator + Copy> ServentTable<A> {
         self.routes.peek(servent).copied()
     }
 
-    /// Puts the servent in front, with its new source; above the table's size the last one is forgotten. An `Err` is out
+    /// Puts the servent first, with its new source; above the table's size the last one is forgotten. An `Err` is out
     /// of memory, comes only for a servent that wasn't known, and changes nothing.
     pub fn learn(&mut self, servent: Guid, from: u32) -> Result<(), AllocError>
         ensures ok { OnOk result (self.new ≡ learned servent from self.old) }

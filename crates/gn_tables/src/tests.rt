@@ -117,7 +117,7 @@ fn forgotten_servents(rt: HostRuntime) -> Result<(), Fail> {
     for (byte, route) in [(0x6f, None), (0x7f, Some(2)), (0x5e, Some(3))] {
         assert_eq!(rt; servents.route(&id(byte)), route, "to {byte}");
     }
-    // Asking for 5e, the last, did not bring it to the front.
+    // Asking for 5e, the last, did not bring it to the head.
     servents.learn(id(0x8f), 1)?;
     assert_eq!(rt; servents.route(&id(0x5e)), None);
     Ok(())

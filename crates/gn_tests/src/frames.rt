@@ -67,9 +67,9 @@ fn cut_descriptors(rt: HostRuntime) -> Result<(), Fail> {
 #[test]
 fn each_cut(rt: HostRuntime) -> Result<(), Fail> {
     for at in 0..=HIT.len() {
-        let (front, back) = HIT.split_at(at);
+        let (head, back) = HIT.split_at(at);
         let mut reassembler = Reassembler::new(rt.alloc())?;
-        let first = reassembler.feed(front)?;
+        let first = reassembler.feed(head)?;
         let second = reassembler.feed(back)?;
         let whole = if at == HIT.len() { &first } else { &second };
         assert_eq!(rt;
@@ -215,9 +215,9 @@ fn invalid_lengths(rt: HostRuntime) -> Result<(), Fail> {
     for (code, length, fault) in faults {
         for at in [0, 5, 22] {
             let bytes = header(code, length);
-            let (front, back) = bytes.split_at(at);
+            let (head, back) = bytes.split_at(at);
             let mut reassembler = Reassembler::new(rt.alloc())?;
-            assert_eq!(rt; reassembler.feed(front)?.fault, None);
+            assert_eq!(rt; reassembler.feed(head)?.fault, None);
             assert_eq!(rt; reassembler.feed(back)?.fault, Some(fault));
             assert_eq!(rt; reassembler.pending(), 0);
         }

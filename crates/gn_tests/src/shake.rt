@@ -44,13 +44,13 @@ fn each_cut(rt: HostRuntime) {
     ];
     for (calls, stream, used, state) in streams {
         for at in 0..=stream.len() {
-            let (front, back) = stream.split_at(at);
+            let (head, back) = stream.split_at(at);
             let mut shake = if calls {
                 Shake::calling()
             } else {
                 Shake::accepting()
             };
-            let first = shake.feed(front);
+            let first = shake.feed(head);
             let second = shake.feed(back);
             assert_eq!(rt; first.used, used.min(at), "at {at}");
             assert_eq!(rt; second.used, used - used.min(at), "at {at}");

@@ -11,7 +11,7 @@ use Rattle.gn_text.specs.Settings.{Numbers, are_within, config_of, numbers_parse
 
 -- the settings are those of a configuration
 abbrev pub IsConfigured : Numbers × Own → Type 0
-IsConfigured told = (s : Config) × (settings_of s ≡ told)
+IsConfigured known = (s : Config) × (settings_of s ≡ known)
 
 -- numbers are within their limits
 abbrev pub AreWithin : Numbers → Type 0

@@ -36,11 +36,11 @@ letter_digit n above below =
     letter ∙ eqb-true (97 + k) (slice_index lower_digits (10 + k)) (all_below-at is_letter 6 k refl (omega arith))
     ∙ ap (λ (m : ℕ). slice_index lower_digits m) is
 
-joined_by : (digits front back : List ℕ) → encode_with digits (front ++ back) ≡ encode_with digits front ++ encode_with digits back
+joined_by : (digits head back : List ℕ) → encode_with digits (head ++ back) ≡ encode_with digits head ++ encode_with digits back
 unfolding encode_with
 joined_by digits [] back = refl
-joined_by digits (b ∷ front) back = rw (joined_by digits front back) refl
+joined_by digits (b ∷ head) back = rw (joined_by digits head back) refl
 
 -- the digits of two texts, one after the other, are those of both
-pub joined : (front back : List ℕ) → encode_lower (front ++ back) ≡ encode_lower front ++ encode_lower back
-joined front back = joined_by lower_digits front back
+pub joined : (head back : List ℕ) → encode_lower (head ++ back) ≡ encode_lower head ++ encode_lower back
+joined head back = joined_by lower_digits head back

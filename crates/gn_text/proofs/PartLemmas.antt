@@ -42,20 +42,20 @@ same_last : (line : List ℕ) (b : ℕ) (more : List ℕ)
 same_last line b more = grind (arith, common_steps)
 
 -- the last byte goes behind the first
-front_of : (x : ℕ) (rest : List ℕ) → 0 < length rest → take (length (x ∷ rest) - 1) (x ∷ rest) ≡ x ∷ take (length rest - 1) rest
-front_of x rest some =
+head_of : (x : ℕ) (rest : List ℕ) → 0 < length rest → take (length (x ∷ rest) - 1) (x ∷ rest) ≡ x ∷ take (length rest - 1) rest
+head_of x rest some =
     let place : length (x ∷ rest) - 1 ≡ suc (length rest - 1) = omega arith in
     ap (λ (n : ℕ). take n (x ∷ rest)) place
 
-same_front : (line : List ℕ) (b : ℕ) (more : List ℕ)
+same_first : (line : List ℕ) (b : ℕ) (more : List ℕ)
     → take (length (line ++ 10 ∷ b ∷ more) - 1) (line ++ 10 ∷ b ∷ more) ≡ line ++ 10 ∷ take (length (b ∷ more) - 1) (b ∷ more)
-same_front [] b more = front_of 10 (b ∷ more) (omega arith)
-same_front (x ∷ line) b more =
-    front_of x (line ++ 10 ∷ b ∷ more) (omega (arith, length-append line (10 ∷ b ∷ more))) ∙ ap (λ (xs : List ℕ). x ∷ xs) (same_front line b more)
+same_first [] b more = head_of 10 (b ∷ more) (omega arith)
+same_first (x ∷ line) b more =
+    head_of x (line ++ 10 ∷ b ∷ more) (omega (arith, length-append line (10 ∷ b ∷ more))) ∙ ap (λ (xs : List ℕ). x ∷ xs) (same_first line b more)
 
-chosen : (front xs ys : List ℕ) (t : Bool) → (if t then front ++ 10 ∷ xs else front ++ 10 ∷ ys) ≡ front ++ 10 ∷ (if t then xs else ys)
-chosen front xs ys true = refl
-chosen front xs ys false = refl
+chosen : (head xs ys : List ℕ) (t : Bool) → (if t then head ++ 10 ∷ xs else head ++ 10 ∷ ys) ≡ head ++ 10 ∷ (if t then xs else ys)
+chosen head xs ys true = refl
+chosen head xs ys false = refl
 
 -- a line feed that isn't the last byte stays
 feed_stays : (line : List ℕ) (b : ℕ) (more : List ℕ) → without_last_feed (line ++ 10 ∷ b ∷ more) ≡ line ++ 10 ∷ without_last_feed (b ∷ more)
@@ -63,7 +63,7 @@ feed_stays line b more =
     let text = line ++ 10 ∷ b ∷ more in
     let last = slice_index (b ∷ more) (length (b ∷ more) - 1) in
     ap (λ (x : ℕ). if x == 10 then take (length text - 1) text else text) (same_last line b more)
-    ∙ ap (λ (xs : List ℕ). if last == 10 then xs else text) (same_front line b more)
+    ∙ ap (λ (xs : List ℕ). if last == 10 then xs else text) (same_first line b more)
     ∙ chosen line _ (b ∷ more) (last == 10)
 
 -- a line feed that is the last byte goes
@@ -103,14 +103,14 @@ abbrev pub referred : Option (Bor (List ℕ)) → Option (List ℕ)
 referred rest = option_map (λ x. x.now) rest
 
 -- one part more
-pub part_added : (front parts : List (Bor (List ℕ))) (part : Bor (List ℕ)) (mark : ℕ) (text : List ℕ) (more : Option (Bor (List ℕ)))
-    → All (λ b. b ≢ mark) part.now → IfSome more (λ rest. text ≡ part.now ++ mark ∷ rest.now) → IfNone more (text ≡ part.now) → parts ≡ front ++ part ∷ []
-    → map (λ x. x.now) parts ++ parts_after mark (referred more) ≡ map (λ x. x.now) front ++ slice_split (λ b. b == mark) text
-part_added front parts part mark text more h cut last is =
+pub part_added : (head parts : List (Bor (List ℕ))) (part : Bor (List ℕ)) (mark : ℕ) (text : List ℕ) (more : Option (Bor (List ℕ)))
+    → All (λ b. b ≢ mark) part.now → IfSome more (λ rest. text ≡ part.now ++ mark ∷ rest.now) → IfNone more (text ≡ part.now) → parts ≡ head ++ part ∷ []
+    → map (λ x. x.now) parts ++ parts_after mark (referred more) ≡ map (λ x. x.now) head ++ slice_split (λ b. b == mark) text
+part_added head parts part mark text more h cut last is =
     let seen : List (Bor (List ℕ)) → List (List ℕ) = map (λ x. x.now) in
-    let added : seen parts ≡ seen front ++ part.now ∷ [] = ap seen is ∙ map-append (λ x. x.now) front (part ∷ []) in
-    ap (λ xs. xs ++ parts_after mark (referred more)) added ∙ append_assoc (seen front) (part.now ∷ []) (parts_after mark (referred more))
-    ∙ ap (λ xs. seen front ++ xs) (sym (first_and_more more cut last))
+    let added : seen parts ≡ seen head ++ part.now ∷ [] = ap seen is ∙ map-append (λ x. x.now) head (part ∷ []) in
+    ap (λ xs. xs ++ parts_after mark (referred more)) added ∙ append_assoc (seen head) (part.now ∷ []) (parts_after mark (referred more))
+    ∙ ap (λ xs. seen head ++ xs) (sym (first_and_more more cut last))
   where
     first_and_more : (more : Option (Bor (List ℕ))) → IfSome more (λ rest. text ≡ part.now ++ mark ∷ rest.now) → IfNone more (text ≡ part.now)
         → slice_split (λ b. b == mark) text ≡ part.now ∷ parts_after mark (referred more)

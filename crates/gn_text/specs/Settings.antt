@@ -21,7 +21,7 @@ pub record Numbers : Type 0 where
 abbrev pub numbers_of : Config → Numbers
 numbers_of s = record { neighbours = s.neighbours; seen = s.seen; servents = s.servents; stage = s.stage; out = s.out; steps = s.steps }
 
--- what a configuration tells: its numbers and its own servent
+-- what a configuration says: its numbers and its own servent
 abbrev pub settings_of : Config → Numbers × Own
 settings_of s = (numbers_of s, s.own)
 

@@ -4,7 +4,7 @@ use Rattle.std.specs.List.{flat_map}
 use Rattle.gn_rules.specs.declared.statistics.Counter.{Counter}
 use Rattle.gn_rules.specs.declared.statistics.Counter.TheVariants.{Connected, TooMany, Closed, Admitted, Busy, Routed, UnknownKind, Malformed, Duplicate, NoRoute, RouteGone, BackToSender, Expired, Taken, Sent}
 use Rattle.gn_rules.specs.declared.statistics.Stats.{Stats}
-use Rattle.gn_rules.specs.Statistics.{told}
+use Rattle.gn_rules.specs.Statistics.{count_in}
 
 -- the name of a counter
 abbrev pub counter_text : Counter → List ℕ
@@ -32,7 +32,7 @@ counters =
 
 -- a counter's name and number
 abbrev pub count_text : Stats → Counter → List ℕ
-count_text n counter = codes " " ++ counter_text counter ++ codes " " ++ decimal (told counter n)
+count_text n counter = codes " " ++ counter_text counter ++ codes " " ++ decimal (count_in counter n)
 
 -- some counters' names and numbers
 abbrev pub counts_text : Stats → List Counter → List ℕ

@@ -11,7 +11,7 @@ pub enum Cause {
     Header,
     /// The second line isn't a configuration, or one of its numbers is out of its limit.
     Config,
-    /// The third line doesn't tell the own servent.
+    /// The third line doesn't name the own servent.
     Own,
     /// The first field isn't a word of a capture.
     Word,

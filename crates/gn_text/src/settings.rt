@@ -93,7 +93,7 @@ pub fn read_own<A: Allocator + Copy>(alloc: A, fields: &[&[u8]]) -> Result<Optio
     ensures { IfOk result (λ own. own ≡ own_of (map (λ x. x.now) fields.now)) }
 {
     match fields {
-        [word, told @ ..] if is_word(word, b"own") => read_servent(alloc, told),
+        [word, known @ ..] if is_word(word, b"own") => read_servent(alloc, known),
         _ => Ok(None),
     }
 }

@@ -13,10 +13,10 @@ const BEGUN: &[u8] =
 /// A text of two parts.
 fn joined<A: Allocator + Copy>(
     alloc: A,
-    front: &[u8],
+    head: &[u8],
     rest: &[u8],
 ) -> Result<Vec<u8, A>, AllocError> {
-    let mut text = Vec::from_slice(alloc, front)?;
+    let mut text = Vec::from_slice(alloc, head)?;
     text.extend_from_slice(rest)?;
     Ok(text)
 }
@@ -62,9 +62,9 @@ fn second_and_third_lines(rt: HostRuntime) -> Result<(), Fail> {
             Cause::Own,
         ),
     ];
-    for (front, lines, number, cause) in begun {
+    for (head, lines, number, cause) in begun {
         for line in lines.split(|b| *b == b'\n') {
-            let text = joined(rt.alloc(), front, line)?;
+            let text = joined(rt.alloc(), head, line)?;
             assert_eq!(rt;
                 fault(read_capture(rt.alloc(), &text)),
                 Some((number, cause))
@@ -117,10 +117,10 @@ fn faults_after_a_join(rt: HostRuntime) -> Result<(), Fail> {
         ),
         (Cause::Link, b"data 3 00\ndata 0 00\ndata 2 -"),
     ];
-    let front = joined(rt.alloc(), BEGUN, b"join\n")?;
+    let head = joined(rt.alloc(), BEGUN, b"join\n")?;
     for (cause, lines) in faults {
         for line in lines.split(|b| *b == b'\n') {
-            let text = joined(rt.alloc(), &front, line)?;
+            let text = joined(rt.alloc(), &head, line)?;
             assert_eq!(rt; fault(read_capture(rt.alloc(), &text)), Some((5, cause)));
         }
     }

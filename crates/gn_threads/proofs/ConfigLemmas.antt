@@ -19,7 +19,7 @@ pub record Parts : Type 0 where
 abbrev parts_of : Config → Parts
 parts_of s = record { neighbours = s.neighbours; seen = s.seen; servents = s.servents; stage = s.stage; out = s.out; steps = s.steps; own = s.own }
 
--- a number is within its limit in one way
+-- a number is within its limit in one manner
 within_is_one : {n most : ℕ} (a b : IsWithin n most) → a ≡ b
 within_is_one {n} {most} a b =
     ap (λ (least : 1 ≤ n). record { least = least; greatest = a.greatest }) (le_prop a.least b.least)

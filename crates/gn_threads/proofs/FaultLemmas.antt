@@ -12,7 +12,7 @@ pub handed_on : {T : Type 0} (P : RunFault → Type 0) (r : Result T RunFault) (
 handed_on P r fault at holds = let p = err_from_is_err_and r at in subst (λ x. IfErr x P) (sym p.1) (subst P (sym p.2) holds)
 
 -- the fault of a run whose bodies can't be had
-pub of_lost : (met_full : Bool) (fault : RunFault) → fault ≡ (if met_full then HistoryFull else NoMemory) → (links workers : ℕ) → IsFaultOf links workers fault
+pub of_lost : (found_full : Bool) (fault : RunFault) → fault ≡ (if found_full then HistoryFull else NoMemory) → (links workers : ℕ) → IsFaultOf links workers fault
 of_lost true fault is links workers = subst (λ x. IsFaultOf links workers x) (sym is) tt
 of_lost false fault is links workers = subst (λ x. IsFaultOf links workers x) (sym is) tt
 

@@ -21,10 +21,10 @@ use Rattle.gn_bodies.specs.declared.writer.WriterDone.{WriterDone}
 use Rattle.gn_links.specs.Halves.{Source}
 use Rattle.gn_bodies.specs.ReaderRows.{SourceRow}
 use Rattle.gn_bodies.specs.Events.{connection_from, link_events_in, packets_in}
-use Rattle.gn_laws.specs.Owners.{LinkIsTold, packets_of, told_conn}
+use Rattle.gn_laws.specs.Owners.{LinkAgrees, packets_of, known_conn}
 use Rattle.gn_laws.specs.Tickets.{admitted, routed}
 use Rattle.gn_laws.specs.Runs.{RoutesAll}
-use Rattle.gn_laws.proofs.OwnerLemmas.{links_are_told}
+use Rattle.gn_laws.proofs.OwnerLemmas.{links_agree}
 use Rattle.gn_laws.proofs.RunLemmas.{equal_counts_route_all}
 use Rattle.gn_run.specs.declared.report.LinkReport.{LinkReport}
 use Rattle.gn_run.specs.declared.report.Report.{Report}
@@ -34,10 +34,10 @@ use Rattle.gn_run.specs.Flaw.{IsFlaw}
 use Rattle.gn_run.proofs.ConfirmedLemmas.{compared, house_at, reader_at, took_all, worker_at, writer_at}
 use Rattle.gn_threads.specs.Halves.{Half, ReadsAs, WrittenHalf, ReadHalf, WritesAs}
 use Rattle.gn_threads.specs.Headline.{AreMadeOf, HasOwnSteps, LinkHolds, LinksHold, LinksReadOwn, OthersRoute, ReadsOwn, RoutesEachOnce}
-use Rattle.gn_threads.specs.Kept.{EachKeeps, Ended, ReaderKeeps, ReaderPromises, WriterKeeps, WriterPromises, reader_ended, telling, writer_ended}
+use Rattle.gn_threads.specs.Kept.{EachKeeps, Ended, ReaderKeeps, ReaderPromises, WriterKeeps, WriterPromises, reader_ended, halved, writer_ended}
 use Rattle.gn_threads.specs.Gathered.{reader_reported, writer_reported}
-use Rattle.gn_threads.proofs.KeptLemmas.{keeps_less, some_of, told_of}
-use Rattle.gn_threads.proofs.ReceiptLemmas.{connection_is_told, packets_are_told}
+use Rattle.gn_threads.proofs.KeptLemmas.{keeps_less, some_of, known_of}
+use Rattle.gn_threads.proofs.ReceiptLemmas.{connection_is_known, packets_are_known}
 
 -- the actor of a flaw is one of the run's
 pub flaw_below : {Rd W A : Type 0} (settled : ℕ → Bool) (roles : List Role) (report : Report Rd W A) (flaw : Option ℕ) → IsFlaw settled roles report flaw → IfSome flaw (λ a. a < actors report)
@@ -73,46 +73,46 @@ routes_each_once {Rd} {W} {A} s roles report legal all =
     equal_counts_route_all A s steps legal (subst (λ (x : List (Step A)). admitted x ≡ routed x) (take-length steps) counts)
 
 -- what the reader of a link kept, in the words of its report
-read_holds : {Rd W A : Type 0} (reads : Rd → ReadHalf) (roles : List Role) (links : List (LinkReport Rd W A)) → EachKeeps ReaderKeeps roles (map (λ l. telling reads (reader_reported l)) links)
-    → (k : ℕ) (role : Role) (link : LinkReport Rd W A) → k < length links → (get_or links k link).conn ≡ told_conn (get_or links k link).reader_receipts.items
+read_holds : {Rd W A : Type 0} (reads : Rd → ReadHalf) (roles : List Role) (links : List (LinkReport Rd W A)) → EachKeeps ReaderKeeps roles (map (λ l. halved reads (reader_reported l)) links)
+    → (k : ℕ) (role : Role) (link : LinkReport Rd W A) → k < length links → (get_or links k link).conn ≡ known_conn (get_or links k link).reader_receipts.items
     → ReadsAs (get_or roles k role) (get_or links k link).reader_end (get_or links k link).conn (link_events_in (get_or links k link).reader_receipts.items) (reads (get_or links k link).reader)
 read_holds {Rd} {W} {A} reads roles links kept k role link below conn =
     let it = get_or links k link in
-    let told : LinkReport Rd W A → Ended A ReaderEnd ReadHalf = λ l. telling reads (reader_reported l) in
-    let there = get_or-map told links k link (told link) below in
-    let keeps : ReaderKeeps (get_or roles k role) (told it) = subst (λ body. ReaderKeeps (get_or roles k role) body) there (kept k role (told link) (omega (arith, below, length-map links told))) in
-    subst (λ o. ReadsAs (get_or roles k role) it.reader_end o (link_events_in it.reader_receipts.items) (reads it.reader)) (connection_is_told it.reader_receipts.items ∙ sym conn)
+    let agrees : LinkReport Rd W A → Ended A ReaderEnd ReadHalf = λ l. halved reads (reader_reported l) in
+    let there = get_or-map agrees links k link (agrees link) below in
+    let keeps : ReaderKeeps (get_or roles k role) (agrees it) = subst (λ body. ReaderKeeps (get_or roles k role) body) there (kept k role (agrees link) (omega (arith, below, length-map links agrees))) in
+    subst (λ o. ReadsAs (get_or roles k role) it.reader_end o (link_events_in it.reader_receipts.items) (reads it.reader)) (connection_is_known it.reader_receipts.items ∙ sym conn)
     (record { row = keeps.0; counts = keeps.1 })
 
 -- the same of its writer
-written_holds : {Rd W A : Type 0} (writes : W → WrittenHalf) (roles : List Role) (links : List (LinkReport Rd W A)) → EachKeeps WriterKeeps roles (map (λ l. telling writes (writer_reported l)) links)
+written_holds : {Rd W A : Type 0} (writes : W → WrittenHalf) (roles : List Role) (links : List (LinkReport Rd W A)) → EachKeeps WriterKeeps roles (map (λ l. halved writes (writer_reported l)) links)
     → (k : ℕ) (role : Role) (link : LinkReport Rd W A) → k < length links
     → WritesAs (get_or roles k role) (get_or links k link).writer_end (packets_of (get_or links k link).writer_receipts.items) (writes (get_or links k link).writer)
 written_holds {Rd} {W} {A} writes roles links kept k role link below =
     let it = get_or links k link in
-    let told : LinkReport Rd W A → Ended A WriterEnd WrittenHalf = λ l. telling writes (writer_reported l) in
-    let there = get_or-map told links k link (told link) below in
-    let keeps : WriterKeeps (get_or roles k role) (told it) = subst (λ body. WriterKeeps (get_or roles k role) body) there (kept k role (told link) (omega (arith, below, length-map links told))) in
-    subst (λ ps. WritesAs (get_or roles k role) it.writer_end ps (writes it.writer)) (packets_are_told it.writer_receipts.items)
+    let agrees : LinkReport Rd W A → Ended A WriterEnd WrittenHalf = λ l. halved writes (writer_reported l) in
+    let there = get_or-map agrees links k link (agrees link) below in
+    let keeps : WriterKeeps (get_or roles k role) (agrees it) = subst (λ body. WriterKeeps (get_or roles k role) body) there (kept k role (agrees link) (omega (arith, below, length-map links agrees))) in
+    subst (λ ps. WritesAs (get_or roles k role) it.writer_end ps (writes it.writer)) (packets_are_known it.writer_receipts.items)
     (record { row = keeps.0; hurt = keeps.1; finished = keeps.2 })
 
 -- a link's two bodies have receipts of all that the history says of its connection
-link_told : {Rd W A : Type 0} (s : Config) (settled : ℕ → Bool) (roles : List Role) (report : Report Rd W A) → IsLegal s (reverse report.history.items) → IsFlaw settled roles report None
+link_agrees : {Rd W A : Type 0} (s : Config) (settled : ℕ → Bool) (roles : List Role) (report : Report Rd W A) → IsLegal s (reverse report.history.items) → IsFlaw settled roles report None
     → (k : ℕ) (link : LinkReport Rd W A) (c : ℕ) → k < length report.links.items → (get_or report.links.items k link).conn ≡ Some c
-    → LinkIsTold report.history.items k (length report.links.items + k) c
-link_told {Rd} {W} {A} s settled roles report legal all k link c below is =
+    → LinkAgrees report.history.items k (length report.links.items + k) c
+link_agrees {Rd} {W} {A} s settled roles report legal all k link c below is =
     let links = report.links.items in
     let conns : List (Option ℕ) = map (λ (l : LinkReport Rd W A). l.conn) links in
     let many : length conns ≡ length links = length-map links (λ (l : LinkReport Rd W A). l.conn) in
     let conn : get_or conns k None ≡ Some c = get_or-map (λ (l : LinkReport Rd W A). l.conn) links k link None below ∙ is in
-    let told = links_are_told A s report.history.items conns k c legal (compared settled roles report all) (omega (arith, many, below)) conn in
+    let agrees = links_agree A s report.history.items conns k c legal (compared settled roles report all) (omega (arith, many, below)) conn in
     let at : length conns + k ≡ length links + k = omega (arith, many) in
-    subst (λ w. LinkIsTold report.history.items k w c) at told
+    subst (λ w. LinkAgrees report.history.items k w c) at agrees
 
 pub links_hold : {Rd W A : Type 0} (s : Config) (reads : Rd → ReadHalf) (writes : W → WrittenHalf) (roles : List Role) (report : Report Rd W A) → IsLegal s (reverse report.history.items)
     → IsFlaw (is_settled report.history.items) roles report None
-    → EachKeeps ReaderKeeps roles (map (λ l. telling reads (reader_reported l)) report.links.items)
-    → EachKeeps WriterKeeps roles (map (λ l. telling writes (writer_reported l)) report.links.items)
+    → EachKeeps ReaderKeeps roles (map (λ l. halved reads (reader_reported l)) report.links.items)
+    → EachKeeps WriterKeeps roles (map (λ l. halved writes (writer_reported l)) report.links.items)
     → LinksHold reads writes roles report
 links_hold {Rd} {W} {A} s reads writes roles report legal all readers writers = λ k role link below.
     let settled = is_settled report.history.items in
@@ -122,31 +122,31 @@ links_hold {Rd} {W} {A} s reads writes roles report legal all readers writers = 
       reader = reader;
       written = written_holds writes roles report.links.items writers k role link below;
       writer = writer_at settled roles report all k role link below;
-      told = λ c is. link_told s settled roles report legal all k link c below is;
+      agrees = λ c is. link_agrees s settled roles report legal all k link c below is;
       took = λ c drained is. took_all s settled roles report legal all k below link c drained is;
     }
 
 -- readers that keep what their threads promised keep what their bodies do
 pub readers_keep : {Rd S L A O : Type 0} (reads : Rd → ReadHalf) (made_of : Rd → O) (gives : O → Source) (links : List (Half Rd)) (roles : List Role) (done : List (ReaderDone Rd S L A))
     → map (λ (h : Half Rd). h.role) links ≡ roles → length done ≡ length links → EachKeeps (ReaderPromises reads made_of gives) links (map reader_ended done)
-    → EachKeeps ReaderKeeps roles (map (λ d. telling reads (reader_ended d)) done)
+    → EachKeeps ReaderKeeps roles (map (λ d. halved reads (reader_ended d)) done)
 readers_keep {Rd} {S} {L} {A} reads made_of gives links roles done are many kept =
     let ended : ReaderDone Rd S L A → Ended A ReaderEnd Rd = λ d. reader_ended d in
-    let tells : Ended A ReaderEnd Rd → Ended A ReaderEnd ReadHalf = λ body. telling reads body in
-    let less = keeps_less (λ (h : Half Rd). h.role) tells (ReaderPromises reads made_of gives) ReaderKeeps links (map ended done) (length-map done ended ∙ many) (λ link body promised. promised.kept) kept in
-    subst (λ (rs : List Role). EachKeeps ReaderKeeps rs (map (λ d. tells (ended d)) done)) are
-    (subst (λ (bs : List (Ended A ReaderEnd ReadHalf)). EachKeeps ReaderKeeps (map (λ (h : Half Rd). h.role) links) bs) (map-map tells ended done) less)
+    let view : Ended A ReaderEnd Rd → Ended A ReaderEnd ReadHalf = λ body. halved reads body in
+    let less = keeps_less (λ (h : Half Rd). h.role) view (ReaderPromises reads made_of gives) ReaderKeeps links (map ended done) (length-map done ended ∙ many) (λ link body promised. promised.kept) kept in
+    subst (λ (rs : List Role). EachKeeps ReaderKeeps rs (map (λ d. view (ended d)) done)) are
+    (subst (λ (bs : List (Ended A ReaderEnd ReadHalf)). EachKeeps ReaderKeeps (map (λ (h : Half Rd). h.role) links) bs) (map-map view ended done) less)
 
 -- the same of writers
 pub writers_keep : {W L A O : Type 0} (writes : W → WrittenHalf) (made_of : W → O) (links : List (Half W)) (roles : List Role) (done : List (WriterDone W L A))
     → map (λ (h : Half W). h.role) links ≡ roles → length done ≡ length links → EachKeeps (WriterPromises writes made_of) links (map writer_ended done)
-    → EachKeeps WriterKeeps roles (map (λ d. telling writes (writer_ended d)) done)
+    → EachKeeps WriterKeeps roles (map (λ d. halved writes (writer_ended d)) done)
 writers_keep {W} {L} {A} writes made_of links roles done are many kept =
     let ended : WriterDone W L A → Ended A WriterEnd W = λ d. writer_ended d in
-    let tells : Ended A WriterEnd W → Ended A WriterEnd WrittenHalf = λ body. telling writes body in
-    let less = keeps_less (λ (h : Half W). h.role) tells (WriterPromises writes made_of) WriterKeeps links (map ended done) (length-map done ended ∙ many) (λ link body promised. promised.kept) kept in
-    subst (λ (rs : List Role). EachKeeps WriterKeeps rs (map (λ d. tells (ended d)) done)) are
-    (subst (λ (bs : List (Ended A WriterEnd WrittenHalf)). EachKeeps WriterKeeps (map (λ (h : Half W). h.role) links) bs) (map-map tells ended done) less)
+    let view : Ended A WriterEnd W → Ended A WriterEnd WrittenHalf = λ body. halved writes body in
+    let less = keeps_less (λ (h : Half W). h.role) view (WriterPromises writes made_of) WriterKeeps links (map ended done) (length-map done ended ∙ many) (λ link body promised. promised.kept) kept in
+    subst (λ (rs : List Role). EachKeeps WriterKeeps rs (map (λ d. view (ended d)) done)) are
+    (subst (λ (bs : List (Ended A WriterEnd WrittenHalf)). EachKeeps WriterKeeps (map (λ (h : Half W). h.role) links) bs) (map-map view ended done) less)
 
 -- what one reader promised is what the headline says of its link
 read_own : {A Rd O : Type 0} (reads : Rd → ReadHalf) (made_of : Rd → O) (gives : O → Source) (link : Half Rd) (end : ReaderEnd) (body : Ended A ReaderEnd Rd) → body.end ≡ Ok end
@@ -187,9 +187,9 @@ pub are_made_of : {Rd W A O P : Type 0} (reads : Rd → ReadHalf) (reader_of : R
     → map reader_reported report.links.items ≡ read → map writer_reported report.links.items ≡ written → AreMadeOf reader_of writer_of readers writers report
 are_made_of {Rd} {W} {A} reads reader_of gives writes writer_of reading writing read written readers writers report own theirs many more kept held is are =
     record {
-      readers = told_of (ReaderPromises reads reader_of gives) (λ (l : LinkReport Rd W A). reader_reported l) (λ (b : Ended A ReaderEnd Rd). reader_of b.half) (λ (h : Half Rd). reader_of h.half)
+      readers = known_of (ReaderPromises reads reader_of gives) (λ (l : LinkReport Rd W A). reader_reported l) (λ (b : Ended A ReaderEnd Rd). reader_of b.half) (λ (h : Half Rd). reader_of h.half)
           report.links.items reading read readers (λ link body promised. promised.made) many is kept own;
-      writers = told_of (WriterPromises writes writer_of) (λ (l : LinkReport Rd W A). writer_reported l) (λ (b : Ended A WriterEnd W). writer_of b.half) (λ (h : Half W). writer_of h.half)
+      writers = known_of (WriterPromises writes writer_of) (λ (l : LinkReport Rd W A). writer_reported l) (λ (b : Ended A WriterEnd W). writer_of b.half) (λ (h : Half W). writer_of h.half)
           report.links.items writing written writers (λ link body promised. promised.made) more are held theirs;
     }
 

@@ -19,19 +19,19 @@ keeps_each {H} {D} {K} role_of body_of P hs ds many each k role body below =
     let here = get_or-map role_of hs k at.0 role (omega (arith, low, many)) in
     subst (λ b. P (get_or (map role_of hs) k role) b) (sym there) (subst (λ (r : K). P r (body_of (get_or ds k d))) (ap role_of at.1 ∙ sym here) at.2)
 
--- each keeps also what follows of that, of its link's part and of what its body tells
-pub keeps_less : {K J B D : Type 0} (part : K → J) (tell : B → D) (P : K → B → Type 0) (Q : J → D → Type 0) (links : List K) (bodies : List B) → length bodies ≡ length links
-    → ((link : K) (body : B) → P link body → Q (part link) (tell body)) → EachKeeps P links bodies → EachKeeps Q (map part links) (map tell bodies)
-keeps_less {K} {J} {B} {D} part tell P Q links bodies many less each k d told below =
-    let low : k < length bodies = omega (arith, below, length-map bodies tell) in
+-- each keeps also what follows of that, of its link's part and of what its body says
+pub keeps_less : {K J B D : Type 0} (part : K → J) (view : B → D) (P : K → B → Type 0) (Q : J → D → Type 0) (links : List K) (bodies : List B) → length bodies ≡ length links
+    → ((link : K) (body : B) → P link body → Q (part link) (view body)) → EachKeeps P links bodies → EachKeeps Q (map part links) (map view bodies)
+keeps_less {K} {J} {B} {D} part view P Q links bodies many less each k d known below =
+    let low : k < length bodies = omega (arith, below, length-map bodies view) in
     let link = some_of links (omega (arith, low, many)) in
     let body = some_of bodies (omega (arith, low)) in
     let here = get_or-map part links k link d (omega (arith, low, many)) in
-    let there = get_or-map tell bodies k body told low in
-    subst (λ (x : J). Q x (get_or (map tell bodies) k told)) (sym here)
+    let there = get_or-map view bodies k body known low in
+    subst (λ (x : J). Q x (get_or (map view bodies) k known)) (sym here)
     (subst (λ (y : D). Q (part (get_or links k link)) y) (sym there) (less (get_or links k link) (get_or bodies k body) (each k link body low)))
 
--- where each body tells what its link told, all do
+-- where each body says what its link stated, all do
 pub alike : {K B O : Type 0} (P : K → B → Type 0) (of_link : K → O) (of_body : B → O) (links : List K) (bodies : List B) → length bodies ≡ length links
     → ((link : K) (body : B) → P link body → of_body body ≡ of_link link) → EachKeeps P links bodies → map of_body bodies ≡ map of_link links
 alike P of_link of_body [] [] many same each = refl
@@ -43,19 +43,19 @@ alike P of_link of_body (link ∷ links) (body ∷ bodies) many same each =
     ap (λ x. x ∷ map of_body bodies) first ∙ ap (λ xs. of_link link ∷ xs) rest
 
 -- so do those that are reported, where they are these bodies
-pub told_of : {X K B O : Type 0} (P : K → B → Type 0) (body_of : X → B) (of_body : B → O) (of_link : K → O) (reported : List X) (links : List K) (bodies : List B) (origins : List O)
+pub known_of : {X K B O : Type 0} (P : K → B → Type 0) (body_of : X → B) (of_body : B → O) (of_link : K → O) (reported : List X) (links : List K) (bodies : List B) (origins : List O)
     → ((link : K) (body : B) → P link body → of_body body ≡ of_link link) → length bodies ≡ length links → map body_of reported ≡ bodies → EachKeeps P links bodies
     → map of_link links ≡ origins → map (λ x. of_body (body_of x)) reported ≡ origins
-told_of P body_of of_body of_link reported links bodies origins same many is kept own =
+known_of P body_of of_body of_link reported links bodies origins same many is kept own =
     sym (map-map of_body body_of reported) ∙ ap (λ bs. map of_body bs) is ∙ alike P of_link of_body links bodies many same kept ∙ own
 
--- what is told of a list of images
-pub told_after : {Y B C : Type 0} (k : Y → B) (t : B → C) (bs : List B) (ys : List Y) → bs ≡ map k ys → map t bs ≡ map (λ y. t (k y)) ys
-told_after k t bs ys is = ap (λ xs. map t xs) is ∙ map-map t k ys
+-- what is stated of a list of images
+pub known_after : {Y B C : Type 0} (k : Y → B) (t : B → C) (bs : List B) (ys : List Y) → bs ≡ map k ys → map t bs ≡ map (λ y. t (k y)) ys
+known_after k t bs ys is = ap (λ xs. map t xs) is ∙ map-map t k ys
 
--- what is told of two lists with the same images
-pub told_alike : {X Y B C : Type 0} (f : X → B) (k : Y → B) (t : B → C) (xs : List X) (ys : List Y) → map f xs ≡ map k ys → map (λ x. t (f x)) xs ≡ map (λ y. t (k y)) ys
-told_alike f k t xs ys is = sym (map-map t f xs) ∙ told_after k t (map f xs) ys is
+-- what is stated of two lists with the same images
+pub known_alike : {X Y B C : Type 0} (f : X → B) (k : Y → B) (t : B → C) (xs : List X) (ys : List Y) → map f xs ≡ map k ys → map (λ x. t (f x)) xs ≡ map (λ y. t (k y)) ys
+known_alike f k t xs ys is = sym (map-map t f xs) ∙ known_after k t (map f xs) ys is
 
 -- one more was taken from what is left, and its image stands after the others
 pub one_started : {H S X : Type 0} (f : H → X) (k : S → X) (hs more : List H) (rest left : List S) (x : S) (all : List X) → map f more ≡ map f hs ++ k x ∷ [] → rest ≡ x ∷ left

@@ -8,7 +8,7 @@ use Rattle.gn_rules.specs.declared.reply.Reply.{Reply}
 use Rattle.gn_rules.specs.declared.reply.Reply.TheVariants.{Connected, TooMany, Closed, Admitted, Busy, Routed, Dropped, Taken, Sent}
 use Rattle.gn_rules.specs.History.{connected_of, taken_of}
 use Rattle.gn_bodies.specs.Events.{connection_after, connection_from, packet_of, packets_in}
-use Rattle.gn_laws.specs.Owners.{packets_of, told_conn}
+use Rattle.gn_laws.specs.Owners.{packets_of, known_conn}
 use Rattle.gn_run.specs.declared.report.LinkReport.{LinkReport}
 use Rattle.gn_threads.specs.Gathered.{link_receipts, worker_receipts}
 
@@ -16,14 +16,14 @@ stays : {A : Type 0} (c : ℕ) (receipts : List (Receipt A)) → connection_from
 stays c [] = refl
 stays c (r ∷ receipts) = stays c receipts
 
-made_or_later : {A : Type 0} (made : Option ℕ) (receipts : List (Receipt A)) → connection_from None receipts ≡ told_conn receipts → connection_from made receipts ≡ option_or made (told_conn receipts)
+made_or_later : {A : Type 0} (made : Option ℕ) (receipts : List (Receipt A)) → connection_from None receipts ≡ known_conn receipts → connection_from made receipts ≡ option_or made (known_conn receipts)
 made_or_later None receipts later = later
 made_or_later (Some c) receipts later = stays c receipts
 
 -- the connection that the bodies speak of is the one that is compared
-pub connection_is_told : {A : Type 0} (receipts : List (Receipt A)) → connection_from None receipts ≡ told_conn receipts
-connection_is_told [] = refl
-connection_is_told (r ∷ receipts) = made_or_later (connected_of r.reply) receipts (connection_is_told receipts)
+pub connection_is_known : {A : Type 0} (receipts : List (Receipt A)) → connection_from None receipts ≡ known_conn receipts
+connection_is_known [] = refl
+connection_is_known (r ∷ receipts) = made_or_later (connected_of r.reply) receipts (connection_is_known receipts)
 
 taken_alone : {A : Type 0} (reply : Reply A) (receipts : List (Receipt A)) (r : Receipt A) → r.reply ≡ reply → packets_in receipts ≡ packets_of receipts → packets_in (r ∷ receipts) ≡ packets_of (r ∷ receipts)
 taken_alone (Connected c) receipts r is same = rw is same
@@ -37,9 +37,9 @@ taken_alone (Taken p) receipts r is same = rw is (ap (λ ps. p ∷ ps) same)
 taken_alone (Sent sends) receipts r is same = rw is same
 
 -- the packets that the bodies speak of are those that are compared
-pub packets_are_told : {A : Type 0} (receipts : List (Receipt A)) → packets_in receipts ≡ packets_of receipts
-packets_are_told [] = refl
-packets_are_told (r ∷ receipts) = taken_alone r.reply receipts r refl (packets_are_told receipts)
+pub packets_are_known : {A : Type 0} (receipts : List (Receipt A)) → packets_in receipts ≡ packets_of receipts
+packets_are_known [] = refl
+packets_are_known (r ∷ receipts) = taken_alone r.reply receipts r refl (packets_are_known receipts)
 
 sum_along : {X Y : Type 0} (f : Y → ℕ) (g : X → Y) (xs : List X) → sum_by f (map g xs) ≡ sum_by (λ x. f (g x)) xs
 sum_along f g [] = refl

@@ -1,4 +1,4 @@
--- What the two halves of a link tell once their bodies are done, and what each body says of its half.
+-- What the two halves of a link say once their bodies are done, and what each body says of its half.
 use Rattle.std.specs.Prelude.{◌≡◌, ℕ, Bool, true, List, Option}
 use Rattle.gn_wire.specs.Packet.{Packet}
 use Rattle.gn_rules.specs.declared.event.Event.{Event}
@@ -37,7 +37,7 @@ pub record Half (H : Type 0) : Type 0 where
 abbrev pub half_of : {H : Type 0} → Role → H → Half H
 half_of role half = record { role = role; half = half }
 
--- what a reading half of this type tells
+-- what a reading half of this type says
 abbrev pub reads_of :
     {Rd : Type 0} → Bool → (Rd → List ℕ) → (Rd → ℕ) → (Rd → ℕ) → (Rd → Bool) → Rd → ReadHalf
 reads_of known bytes failures pieces ended half =
@@ -49,7 +49,7 @@ reads_of known bytes failures pieces ended half =
       has_ended = ended half;
     }
 
--- what a writing half of this type tells
+-- what a writing half of this type says
 abbrev pub writes_of :
     {W : Type 0} → Bool → (W → List ℕ) → (W → ℕ) → (W → Bool) → (W → Bool) → W → WrittenHalf
 writes_of known bytes failures stuck finished half =

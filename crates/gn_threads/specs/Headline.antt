@@ -16,7 +16,7 @@ use Rattle.gn_bodies.specs.declared.ends.ReaderEnd.{ReaderEnd}
 use Rattle.gn_bodies.specs.declared.ends.ReaderEnd.TheVariants.{Bytes, ReadFailed}
 use Rattle.gn_bodies.specs.declared.ends.WriterEnd.TheVariants.{Drained}
 use Rattle.gn_bodies.specs.Events.{link_events_in}
-use Rattle.gn_laws.specs.Owners.{LinkIsTold, packets_of}
+use Rattle.gn_laws.specs.Owners.{LinkAgrees, packets_of}
 use Rattle.gn_laws.specs.Runs.{RoutesAll}
 use Rattle.gn_run.specs.declared.report.LinkReport.{LinkReport}
 use Rattle.gn_run.specs.declared.report.Report.{Report}
@@ -55,7 +55,7 @@ pub record LinkHolds {Rd W A : Type 0} (reads : Rd → ReadHalf) (writes : W →
       link
   -- the two have receipts of all that the history says of the link's connection: of each descriptor that was offered on it,
   -- and of each packet that was taken from it
-  pub told : (c : ℕ) → link.conn ≡ Some c → LinkIsTold report.history.items k (length report.links.items + k) c
+  pub agrees : (c : ℕ) → link.conn ≡ Some c → LinkAgrees report.history.items k (length report.links.items + k) c
   -- a writer that ended Drained took all packets that were ever queued to the connection
   pub took : (c : ℕ) → link.writer_end ≡ Drained → link.conn ≡ Some c
       → packets_of link.writer_receipts.items ≡ queued (reverse report.history.items) c
@@ -83,8 +83,8 @@ LinksReadOwn {Rd} {W} {A} reads sources report =
     → ReadsOwn (slice_index_or sources k source) (slice_index_or report.links.items k link).reader_end
     (reads (slice_index_or report.links.items k link).reader)
 
--- the two halves in each link's report were split from that very link: what the readers and the writers tell of their link
--- is what their links tell, in the links' order
+-- the two halves in each link's report were split from that very link: what the readers and the writers say of their link
+-- is what their links say, in the links' order
 pub record AreMadeOf {Rd W A O P : Type 0} (reader_of : Rd → O) (writer_of : W → P) (reading : List O) (writing : List P)
     (report : Report Rd W A) : Type 0 where
   pub readers : map (λ (link : LinkReport Rd W A). reader_of link.reader) report.links.items ≡ reading

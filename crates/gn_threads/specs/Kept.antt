@@ -16,15 +16,15 @@ use Rattle.gn_bodies.specs.Events.{connection_from, link_events_in, packets_in}
 use Rattle.gn_threads.specs.declared.gather.HomedReader.{HomedReader}
 use Rattle.gn_threads.specs.Halves.{Half, IsReadFrom, ReadHalf, WrittenHalf}
 
--- a body as it ended: its receipts, its half or what the half tells, and its end
+-- a body as it ended: its receipts, its half or what the half says, and its end
 pub record Ended (A E H : Type 0) : Type 0 where
   pub receipts : List (Receipt A)
   pub half : H
   pub end : Result E BodyFault
 
--- the same body, with what its half tells
-abbrev pub telling : {A E H T : Type 0} → (H → T) → Ended A E H → Ended A E T
-telling tells body = record { receipts = body.receipts; half = tells body.half; end = body.end }
+-- the same body, with what its half says
+abbrev pub halved : {A E H T : Type 0} → (H → T) → Ended A E H → Ended A E T
+halved view body = record { receipts = body.receipts; half = view body.half; end = body.end }
 
 -- what the body of a reader keeps: its events and bytes are as the table of ends says, and its half as the end says
 abbrev pub ReaderKeeps : {A : Type 0} → Role → Ended A ReaderEnd ReadHalf → Type 0
@@ -44,7 +44,7 @@ WriterKeeps role body =
 -- split from the same link; that what was read are the bytes of that link; and that a read failed only where one may
 pub record ReaderPromises {A Rd O : Type 0} (reads : Rd → ReadHalf) (made_of : Rd → O) (gives : O → Source)
     (link : Half Rd) (body : Ended A ReaderEnd Rd) : Type 0 where
-  pub kept : ReaderKeeps link.role (telling reads body)
+  pub kept : ReaderKeeps link.role (halved reads body)
   pub made : made_of body.half ≡ made_of link.half
   pub own : IsReadFrom (gives (made_of link.half)).bytes (reads body.half)
   pub failed : IfOk body.end (λ end. end ≡ ReadFailed → (gives (made_of link.half)).may_fail ≡ true)
@@ -53,7 +53,7 @@ pub record ReaderPromises {A Rd O : Type 0} (reads : Rd → ReadHalf) (made_of :
 -- was split from the same link
 pub record WriterPromises {A W O : Type 0} (writes : W → WrittenHalf) (made_of : W → O) (link : Half W)
     (body : Ended A WriterEnd W) : Type 0 where
-  pub kept : WriterKeeps link.role (telling writes body)
+  pub kept : WriterKeeps link.role (halved writes body)
   pub made : made_of body.half ≡ made_of link.half
 
 -- each body keeps what it promises of its link, which stands at the same place

@@ -23,7 +23,7 @@ ghost use Rattle.gn_threads.specs.Faults.{IsFaultOf};
 ghost use Rattle.gn_threads.specs.Gathered.{reader_reported, writer_reported};
 ghost use Rattle.gn_threads.specs.Halves.{reads_of, writes_of};
 ghost use Rattle.gn_threads.specs.Headline.{HasCountedSteps, HasLegalHistory, HasOwnStats, Holds};
-ghost use Rattle.gn_threads.specs.Kept.{EachKeeps, ReaderKeeps, WriterKeeps, telling};
+ghost use Rattle.gn_threads.specs.Kept.{EachKeeps, ReaderKeeps, WriterKeeps, halved};
 ghost use Rattle.gn_threads.specs.Shares.{amount_of, parts_of};
 
 use crate::fault::RunFault;
@@ -123,10 +123,10 @@ pub(crate) fn report<
     requires roles { length roles.now ≡ length linked.links.items }
     requires few { (vec_len linked.links ≤ 256) × (vec_len worked.receipts ≤ 16) }
     requires readers { EachKeeps ReaderKeeps roles.now
-        (map (λ l. telling (reads_of Rd.is_known Rd.bytes_read Rd.failures Rd.pieces Rd.has_ended) (reader_reported l))
+        (map (λ l. halved (reads_of Rd.is_known Rd.bytes_read Rd.failures Rd.pieces Rd.has_ended) (reader_reported l))
         linked.links.items) }
     requires writers { EachKeeps WriterKeeps roles.now
-        (map (λ l. telling (writes_of W.is_known W.bytes_written W.failures W.is_stuck W.is_finished) (writer_reported l))
+        (map (λ l. halved (writes_of W.is_known W.bytes_written W.failures W.is_stuck W.is_finished) (writer_reported l))
         linked.links.items) }
     requires parts { L.parts ≡ vec_len linked.links + vec_len linked.links + vec_len worked.receipts + 1 }
     requires suspect { IfSome suspect (λ a. a < length roles.now + length roles.now + vec_len worked.receipts + 1) }
@@ -178,10 +178,10 @@ fn confirmed<Rd: LinkReader, W: LinkWriter, A: Allocator>(
     requires counted { HasCountedSteps report }
     requires stats { HasOwnStats report }
     requires readers { EachKeeps ReaderKeeps roles.now
-        (map (λ l. telling (reads_of Rd.is_known Rd.bytes_read Rd.failures Rd.pieces Rd.has_ended) (reader_reported l))
+        (map (λ l. halved (reads_of Rd.is_known Rd.bytes_read Rd.failures Rd.pieces Rd.has_ended) (reader_reported l))
         report.links.items) }
     requires writers { EachKeeps WriterKeeps roles.now
-        (map (λ l. telling (writes_of W.is_known W.bytes_written W.failures W.is_stuck W.is_finished) (writer_reported l))
+        (map (λ l. halved (writes_of W.is_known W.bytes_written W.failures W.is_stuck W.is_finished) (writer_reported l))
         report.links.items) }
     requires suspect { IfSome suspect (λ a. a < length roles.now + length roles.now + vec_len report.workers + 1) }
     ensures fault { IfErr result (λ fault. IsFaultOf (length roles.now) (vec_len report.workers) fault) }

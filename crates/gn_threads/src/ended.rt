@@ -27,32 +27,32 @@ fn is_out_of_memory<E>(end: &Result<E, BodyFault>) -> bool
 /// What the body of a thread gives back.
 pub(crate) trait Body: Drop {
     /// Whether it ended because the history was full.
-    ghost met_full: { Self → Bool };
+    ghost found_full: { Self → Bool };
 
     /// Whether it ended out of memory.
-    ghost met_no_memory: { Self → Bool };
+    ghost found_no_memory: { Self → Bool };
 
     /// Whether it ended because the history was full.
-    fn met_full(&self) -> bool
-        ensures { result ≡ met_full self.now };
+    fn found_full(&self) -> bool
+        ensures { result ≡ found_full self.now };
 
     /// Whether it ended out of memory.
-    fn met_no_memory(&self) -> bool
-        ensures { result ≡ met_no_memory self.now };
+    fn found_no_memory(&self) -> bool
+        ensures { result ≡ found_no_memory self.now };
 }
 
 impl<Rd: LinkReader, S: Site, L: Ledger, A: Allocator> Body for ReaderDone<Rd, S, L, A> {
     ghost use Rattle.gn_threads.specs.Faults.{is_full, is_out_of_memory};
 
-    ghost met_full = { λ done. is_full done.end };
+    ghost found_full = { λ done. is_full done.end };
 
-    ghost met_no_memory = { λ done. is_out_of_memory done.end };
+    ghost found_no_memory = { λ done. is_out_of_memory done.end };
 
-    fn met_full(&self) -> bool {
+    fn found_full(&self) -> bool {
         is_full(&self.end)
     }
 
-    fn met_no_memory(&self) -> bool {
+    fn found_no_memory(&self) -> bool {
         is_out_of_memory(&self.end)
     }
 }
@@ -60,15 +60,15 @@ impl<Rd: LinkReader, S: Site, L: Ledger, A: Allocator> Body for ReaderDone<Rd, S
 impl<W: LinkWriter, L: Ledger, A: Allocator> Body for WriterDone<W, L, A> {
     ghost use Rattle.gn_threads.specs.Faults.{is_full, is_out_of_memory};
 
-    ghost met_full = { λ done. is_full done.end };
+    ghost found_full = { λ done. is_full done.end };
 
-    ghost met_no_memory = { λ done. is_out_of_memory done.end };
+    ghost found_no_memory = { λ done. is_out_of_memory done.end };
 
-    fn met_full(&self) -> bool {
+    fn found_full(&self) -> bool {
         is_full(&self.end)
     }
 
-    fn met_no_memory(&self) -> bool {
+    fn found_no_memory(&self) -> bool {
         is_out_of_memory(&self.end)
     }
 }
@@ -76,29 +76,29 @@ impl<W: LinkWriter, L: Ledger, A: Allocator> Body for WriterDone<W, L, A> {
 impl<S: Site, L: Ledger, A: Allocator> Body for WorkerDone<S, L, A> {
     ghost use Rattle.gn_threads.specs.Faults.{is_full, is_out_of_memory};
 
-    ghost met_full = { λ done. is_full done.end };
+    ghost found_full = { λ done. is_full done.end };
 
-    ghost met_no_memory = { λ done. is_out_of_memory done.end };
+    ghost found_no_memory = { λ done. is_out_of_memory done.end };
 
-    fn met_full(&self) -> bool {
+    fn found_full(&self) -> bool {
         is_full(&self.end)
     }
 
-    fn met_no_memory(&self) -> bool {
+    fn found_no_memory(&self) -> bool {
         is_out_of_memory(&self.end)
     }
 }
 
 /// Whether one of these bodies ended because the history was full.
 pub(crate) fn any_full<T: Body>(bodies: &[T]) -> bool
-    ensures { result ≡ list_any T.met_full bodies.now }
+    ensures { result ≡ list_any T.found_full bodies.now }
 {
-    bodies.iter().any(|body| body.met_full())
+    bodies.iter().any(|body| body.found_full())
 }
 
 /// Whether one of these bodies ended out of memory.
 pub(crate) fn any_out_of_memory<T: Body>(bodies: &[T]) -> bool
-    ensures { result ≡ list_any T.met_no_memory bodies.now }
+    ensures { result ≡ list_any T.found_no_memory bodies.now }
 {
-    bodies.iter().any(|body| body.met_no_memory())
+    bodies.iter().any(|body| body.found_no_memory())
 }

@@ -4,7 +4,7 @@ use gn_bodies::BodyFault;
 use gn_stage::StageFault;
 use std::alloc::{AllocError, AllocFailed};
 
-/// Why a run has no report. It stops at the first that it finds; of those that its bodies met, a full history is told before
+/// Why a run has no report. It stops at the first that it finds; of those that its bodies ran into, a full history is stated before
 /// memory. No clause says which of several is answered.
 #[derive(Clone, Copy, Debug, PartialEq, Eq)]
 pub enum RunFault {

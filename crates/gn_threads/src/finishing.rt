@@ -28,7 +28,7 @@ ghost use Rattle.gn_threads.specs.Kept.{
   WriterKeeps,
   reader_ended,
   reader_homed,
-  telling,
+  halved,
   writer_ended,
 };
 ghost use Rattle.gn_threads.specs.Shares.{parts_of};
@@ -72,10 +72,10 @@ pub(crate) fn finish<
     requires few { (length roles.now ≤ 256) × (vec_len done.workers ≤ 16) }
     requires many { (vec_len done.readers ≡ length roles.now) × (vec_len done.writers ≡ length roles.now) }
     requires readers { EachKeeps ReaderKeeps roles.now
-        (map (λ d. telling (reads_of Rd.is_known Rd.bytes_read Rd.failures Rd.pieces Rd.has_ended) (reader_ended d))
+        (map (λ d. halved (reads_of Rd.is_known Rd.bytes_read Rd.failures Rd.pieces Rd.has_ended) (reader_ended d))
         done.readers.items) }
     requires writers { EachKeeps WriterKeeps roles.now
-        (map (λ d. telling (writes_of W.is_known W.bytes_written W.failures W.is_stuck W.is_finished) (writer_ended d))
+        (map (λ d. halved (writes_of W.is_known W.bytes_written W.failures W.is_stuck W.is_finished) (writer_ended d))
         done.writers.items) }
     ensures fault { IfErr result (λ fault. IsFaultOf (length roles.now) (vec_len done.workers) fault) }
     ensures holds { IfOk result (λ report. Holds
@@ -156,10 +156,10 @@ fn assemble<L: Ledger, C: RouterCore<A> + Drop, Rd: LinkReader, W: LinkWriter, A
     requires few { (length roles.now ≤ 256) × (vec_len worked.receipts ≤ 16) }
     requires many { (vec_len readers ≡ length roles.now) × (vec_len writers ≡ length roles.now) }
     requires readers { EachKeeps ReaderKeeps roles.now
-        (map (λ d. telling (reads_of Rd.is_known Rd.bytes_read Rd.failures Rd.pieces Rd.has_ended) (reader_homed d))
+        (map (λ d. halved (reads_of Rd.is_known Rd.bytes_read Rd.failures Rd.pieces Rd.has_ended) (reader_homed d))
         readers.items) }
     requires writers { EachKeeps WriterKeeps roles.now
-        (map (λ d. telling (writes_of W.is_known W.bytes_written W.failures W.is_stuck W.is_finished) (writer_ended d))
+        (map (λ d. halved (writes_of W.is_known W.bytes_written W.failures W.is_stuck W.is_finished) (writer_ended d))
         writers.items) }
     requires suspect { IfSome suspect (λ a. a < length roles.now + length roles.now + vec_len worked.receipts + 1) }
     ensures fault { IfErr result (λ fault. IsFaultOf (length roles.now) (vec_len worked.receipts) fault) }

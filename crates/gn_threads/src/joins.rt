@@ -25,8 +25,8 @@ use std::thread::{Promise, PromisedHandle, Threads};
 /// What is known of threads that were joined where there was no memory for what they gave back.
 #[derive(Clone, Copy, Drop)]
 struct Lost {
-    /// Whether one of them met a full history.
-    met_full: bool,
+    /// Whether one of them found a full history.
+    found_full: bool,
 }
 
 /// Joins each of these threads, and lets go what it gave back.
@@ -34,27 +34,27 @@ fn join_all<T: Body, P: Promise<T>, A: Allocator, R: Threads>(
     rt: &R,
     handles: Vec<PromisedHandle<T, P>, A>,
 ) -> Lost {
-    let mut met_full = false;
+    let mut found_full = false;
     for handle in handles {
         let done = handle.join(rt);
-        met_full |= done.met_full();
+        found_full |= done.found_full();
     }
-    Lost { met_full }
+    Lost { found_full }
 }
 
-/// Whether one of these bodies met a full history.
-fn met_full<T: Body, A: Allocator>(joined: &Result<Vec<T, A>, Lost>) -> bool {
+/// Whether one of these bodies found a full history.
+fn found_full<T: Body, A: Allocator>(joined: &Result<Vec<T, A>, Lost>) -> bool {
     match joined {
         Ok(done) => any_full(done.as_slice()),
-        Err(lost) => lost.met_full,
+        Err(lost) => lost.found_full,
     }
 }
 
-/// The fault of a run whose bodies can't be had, where one of them met a full history or not.
-fn fault_of(met_full: bool) -> RunFault
-    ensures { result ≡ (if met_full then HistoryFull else NoMemory) }
+/// The fault of a run whose bodies can't be had, where one of them found a full history or not.
+fn fault_of(found_full: bool) -> RunFault
+    ensures { result ≡ (if found_full then HistoryFull else NoMemory) }
 {
-    if met_full {
+    if found_full {
         RunFault::HistoryFull
     } else {
         RunFault::NoMemory
@@ -157,10 +157,10 @@ impl<Rd: LinkReader, W: LinkWriter, S: Site, L: Ledger, A: Allocator + Copy> Han
         let readers = join_all(rt, readers);
         let writers = join_all(rt, writers);
         let workers = join_all(rt, workers);
-        fault_of(readers.met_full || writers.met_full || workers.met_full)
+        fault_of(readers.found_full || writers.found_full || workers.found_full)
     }
 
-    /// Joins all threads. Where there is no memory for what they give back, the fault is a full history that one of them met,
+    /// Joins all threads. Where there is no memory for what they give back, the fault is a full history that one of them found,
     /// or else memory.
     pub(crate) fn join<R: Threads>(self, rt: &R) -> Result<Done<Rd, W, S, L, A>, RunFault>
         ensures joined { IfOk result (λ done. AreJoined
@@ -179,7 +179,7 @@ impl<Rd: LinkReader, W: LinkWriter, S: Site, L: Ledger, A: Allocator + Copy> Han
         let readers = join_readers(rt, readers);
         let writers = join_writers(rt, writers);
         let workers = join_workers(rt, workers);
-        let is_full = met_full(&readers) || met_full(&writers) || met_full(&workers);
+        let is_full = found_full(&readers) || found_full(&writers) || found_full(&workers);
         let (Ok(readers), Ok(writers), Ok(workers)) = (readers, writers, workers) else {
             return Err(fault_of(is_full));
         };

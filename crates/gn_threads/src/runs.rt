@@ -39,7 +39,7 @@ use std::thread::Threads;
 /// Runs a router over these links, each read and written by a thread of its own, with so many workers between them, 1 to 16,
 /// until all links are done; and reports what each actor did. At most 256 links.
 ///
-/// Of several faults it answers the one that it finds first, but a full history before memory where bodies met both. Whatever
+/// Of several faults it answers the one that it finds first, but a full history before memory where bodies ran into both. Whatever
 /// the fault, no thread runs on.
 pub fn run<
     C: RouterCore<A> + Drop + Send,

@@ -198,19 +198,19 @@ fn welcome_in<
     ) {
         Ok(()) => handles.join(rt),
         Err(fault) => {
-            let met = handles.give_up(rt, service);
-            Err(first(fault, met))
+            let found = handles.give_up(rt, service);
+            Err(first(fault, found))
         }
     }
 }
 
 /// The first of two faults, where the second is a full history or memory.
-fn first(fault: RunFault, met: RunFault) -> RunFault
-    ensures { (links workers : ℕ) → IsFaultOf links workers fault → IsFaultOf links workers met
+fn first(fault: RunFault, found: RunFault) -> RunFault
+    ensures { (links workers : ℕ) → IsFaultOf links workers fault → IsFaultOf links workers found
         → IsFaultOf links workers result }
 {
     match fault {
-        RunFault::NoMemory => met,
+        RunFault::NoMemory => found,
         _ => fault,
     }
 }

@@ -13,7 +13,7 @@ use Rattle.gn_wire.specs.Packet.{Packet}
 use Rattle.gn_wire.specs.Encoding.{header_bytes, header_of, header_at, bytes_of, EncodingsPart}
 use Rattle.gn_wire.proofs.HeaderLemmas.{header_at-header_bytes}
 
--- a valid payload has a length that a u32 tells
+-- a valid payload has a length that a u32 holds
 pub valid_short : (kind : Kind) (n : ℕ) → fault_of kind n ≡ None → n < 2 ^ 32
 valid_short Ping n e = grind (arith, nat_tests)
 valid_short Pong n e = grind (arith, nat_tests)

@@ -24,10 +24,10 @@ header_written id c t h w e =
     let third = set-append_right id (c ∷ t ∷ 0 ∷ 0 ∷ 0 ∷ 0 ∷ 0 ∷ []) 16 18 h e (omega arith) in
     let whole = id ++ (c ∷ t ∷ h ∷ 0 ∷ 0 ∷ 0 ∷ 0 ∷ []) in
     let at : 19 ≡ length id + 3 = omega arith in
-    let front : take 19 whole ≡ id ++ (c ∷ t ∷ h ∷ []) = take-append_past id (c ∷ t ∷ h ∷ 0 ∷ 0 ∷ 0 ∷ 0 ∷ []) 3 19 at in
+    let head : take 19 whole ≡ id ++ (c ∷ t ∷ h ∷ []) = take-append_past id (c ∷ t ∷ h ∷ 0 ∷ 0 ∷ 0 ∷ 0 ∷ []) 3 19 at in
     let back : drop 19 whole ≡ 0 ∷ 0 ∷ 0 ∷ 0 ∷ [] =
     ap (λ (n : ℕ). drop n whole) at ∙ drop-append-add id (c ∷ t ∷ h ∷ 0 ∷ 0 ∷ 0 ∷ 0 ∷ []) 3 in
-    rw (first, second, third, front, back) (simp (append_assoc, append-nil))
+    rw (first, second, third, head, back) (simp (append_assoc, append-nil))
 
 -- the same with what each part is known to be
 pub header_encoded : (id id' : List ℕ) (c c' t h : ℕ) (w w' : List ℕ) → length id ≡ 16 → id ≡ id' → c ≡ c' → w ≡ w'
@@ -49,7 +49,7 @@ header_read bs e fits =
     ∙ ap (λ (z : List ℕ). take 16 bs ++ z) (sym at_16)
     ∙ take-append-drop 16 bs
 
--- the bytes are the encoding of the header that they tell
+-- the bytes are the encoding of the header that they say
 pub header_bytes-header_at : (bs : List ℕ) → length bs ≡ 23 → ((k : ℕ) → get_or bs k 0 < 256) → header_bytes (header_at bs) ≡ bs
 header_bytes-header_at bs e fits =
     ap (λ (x : ℕ). take 16 bs ++ (x ∷ get_or bs 17 0 ∷ get_or bs 18 0 ∷ little_bytes 4 (little_number 4 (drop 19 bs)))) (code_of-kind_of (get_or bs 16 0))
@@ -64,7 +64,7 @@ header_is : (i j : List ℕ) (k l : Kind) (t u a b n m : ℕ) → i ≡ j → k 
     → ◌≡◌ {A = Header} (record { id = record { 0 = i }; kind = k; ttl = t; hops = a; length = n }) (record { id = record { 0 = j }; kind = l; ttl = u; hops = b; length = m })
 header_is i j k l t u a b n m e1 e2 e3 e4 e5 = rw (e1, e2, e3, e4, e5) refl
 
--- the header that an encoding tells
+-- the header of an encoding
 pub header_at-header_bytes : (h : Header) → length h.id.0 ≡ 16 → h.length < 2 ^ 32 → IsStored h.kind → header_at (header_bytes h) ≡ h
 header_at-header_bytes h e fits stored =
     let tail = code_of h.kind ∷ h.ttl ∷ h.hops ∷ little_bytes 4 h.length in

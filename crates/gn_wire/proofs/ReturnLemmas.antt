@@ -9,10 +9,10 @@ use Rattle.gn_wire.proofs.HeaderLemmas.{header_at-header_bytes, header_bytes-hea
 use Rattle.gn_wire.proofs.KindLemmas.{stored-kind_of}
 use Rattle.gn_wire.proofs.EncodingLemmas.{valid_short}
 
--- what is read is what the bytes tell
-told_by : (fault : Option FrameFault) (g h : Header) → unless_fault fault g ≡ Ok h → g ≡ h
-told_by None g h is = cc
-told_by (Some fault) g h is = absurd (cc)
+-- what is read is what the bytes say
+known_by : (fault : Option FrameFault) (g h : Header) → unless_fault fault g ≡ Ok h → g ≡ h
+known_by None g h is = cc
+known_by (Some fault) g h is = absurd (cc)
 
 written : (h : Header) → IsHeader h → reading (header_bytes h) ≡ Ok h
 written h is =
@@ -21,16 +21,16 @@ written h is =
 
 read : (bytes : List ℕ) (h : Header) → length bytes ≡ 23 → ((k : ℕ) → get_or bytes k 0 < 256) → reading bytes ≡ Ok h → header_bytes h ≡ bytes
 read bytes h e fits is =
-    ap header_bytes (sym (told_by (fault_of (header_at bytes).kind (header_at bytes).length) (header_at bytes) h is)) ∙ header_bytes-header_at bytes e fits
+    ap header_bytes (sym (known_by (fault_of (header_at bytes).kind (header_at bytes).length) (header_at bytes) h is)) ∙ header_bytes-header_at bytes e fits
 
 -- what is read has no fault
 valid_by : (fault : Option FrameFault) (g h : Header) → unless_fault fault g ≡ Ok h → fault ≡ None
 valid_by None g h is = refl
 valid_by (Some fault) g h is = absurd (cc)
 
--- what 23 bytes tell is a header, where its length is valid
-told_is_header : (bytes : List ℕ) → length bytes ≡ 23 → fault_of (header_at bytes).kind (header_at bytes).length ≡ None → IsHeader (header_at bytes)
-told_is_header bytes e valid =
+-- what 23 bytes say is a header, where its length is valid
+known_is_header : (bytes : List ℕ) → length bytes ≡ 23 → fault_of (header_at bytes).kind (header_at bytes).length ≡ None → IsHeader (header_at bytes)
+known_is_header bytes e valid =
     record {
       id_size = length-take-le 16 bytes (omega arith);
       stored = stored-kind_of (get_or bytes 16 0);
@@ -41,7 +41,7 @@ told_is_header bytes e valid =
 found : (bytes : List ℕ) (h : Header) → length bytes ≡ 23 → ((k : ℕ) → get_or bytes k 0 < 256) → reading bytes ≡ Ok h → IsHeader h
 found bytes h e fits is =
     let fault = fault_of (header_at bytes).kind (header_at bytes).length in
-    subst IsHeader (told_by fault (header_at bytes) h is) (told_is_header bytes e (valid_by fault (header_at bytes) h is))
+    subst IsHeader (known_by fault (header_at bytes) h is) (known_is_header bytes e (valid_by fault (header_at bytes) h is))
 
 pub headers_return : HeadersReturn
 headers_return = record { written = written; read = read; found = found }

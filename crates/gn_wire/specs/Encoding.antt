@@ -23,7 +23,7 @@ packet_from h payload = record { id = h.id; kind = h.kind; ttl = h.ttl; hops = h
 abbrev pub bytes_of : Packet → List ℕ
 bytes_of d = header_bytes (header_of d) ++ d.payload
 
--- the header that 23 bytes tell, each field at its place
+-- the header that 23 bytes say, each field at its place
 abbrev pub header_at : List ℕ → Header
 header_at bytes =
     record { id = record { 0 = take 16 bytes }; kind = kind_of (slice_index bytes 16); ttl = slice_index bytes 17; hops = slice_index bytes 18; length = little_number 4 (drop 19 bytes) }

@@ -29,7 +29,7 @@ abbrev pub unless_fault : {T : Type 0} → Option FrameFault → T → Result T 
 unless_fault None x = Ok x
 unless_fault (Some fault) x = Err fault
 
--- the fault of a descriptor's length; one that no u32 tells is told as the last u32
+-- the fault of a descriptor's length; one that no u32 holds is given as the last u32
 abbrev pub packet_fault : Packet → Option FrameFault
 packet_fault d = fault_of d.kind (min (length d.payload) 4294967295)
 

@@ -42,7 +42,7 @@ impl<A: Allocator> Descriptor<A> {
     ghost use Rattle.gn_wire.specs.Encoding.{bytes_of, header_of, packet_from};
 
     /// A descriptor of these parts, where the payload's length is valid; else the fault. The kind is kept as the one
-    /// that its code names. A payload longer than a u32 can tell is told as 4,294,967,295 bytes.
+    /// that its code names. A payload longer than a u32 holds is given as 4,294,967,295 bytes.
     pub fn new(
         id: Guid,
         kind: Kind,
@@ -69,7 +69,7 @@ impl<A: Allocator> Descriptor<A> {
     }
 
     /// The descriptor of a header's fields and a payload, where the payload's length is valid; else the fault. The length that
-    /// the header tells isn't looked at.
+    /// the header says isn't looked at.
     pub fn from_header(header: Header, payload: Bytes<A>) -> Result<Self, FrameFault>
         ensures { let d = packet_from (record header { kind = kind_of (code_of header.kind) }) payload in
             result ≡ unless_fault (packet_fault d) d }
@@ -105,7 +105,7 @@ impl<A: Allocator> Descriptor<A> {
         self.hops
     }
 
-    /// The bytes after its header. What every descriptor keeps is told here too.
+    /// The bytes after its header. What every descriptor keeps is stated here too.
     pub fn payload(&self) -> &Bytes<A>
         ensures value { result.now ≡ self.now.payload }
         ensures kept { IsDescriptor self.now }
@@ -160,7 +160,7 @@ impl<A: Allocator> Descriptor<A> {
         whole_or_none(out, start, appended)
     }
 
-    /// Appends the header and then the payload. An `Err` is out of memory, and leaves what stood there before in front.
+    /// Appends the header and then the payload. An `Err` is out of memory, and leaves what stood there before as it was.
     fn append_to<B: Allocator>(&self, out: &mut Vec<u8, B>) -> Result<(), AllocError>
         ensures ok { OnOk result (out.new.items ≡ out.old.items ++ bytes_of self.now) }
         ensures err { OnErr result (take (length out.old.items) out.new.items ≡ out.old.items) }

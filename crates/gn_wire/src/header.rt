@@ -10,7 +10,7 @@ use byteorder::{ByteOrder, LittleEndian};
 /// The bytes of a header.
 pub const HEADER_BYTES: usize = 23;
 
-/// What a descriptor's first 23 bytes tell (Gnutella v0.4, "Descriptor header").
+/// What a descriptor's first 23 bytes say (Gnutella v0.4, "Descriptor header").
 #[derive(Clone, Copy, Debug, PartialEq, Eq)]
 pub struct Header {
     pub id: Guid,
@@ -61,7 +61,7 @@ pub fn write_header(header: &Header) -> [u8; HEADER_BYTES]
     bytes
 }
 
-/// The header that the bytes tell, whatever its length.
+/// The header that the bytes say, whatever its length.
 fn header_in(bytes: &[u8; HEADER_BYTES]) -> Header
     ensures { result ≡ header_at bytes.now }
 {
@@ -76,7 +76,7 @@ fn header_in(bytes: &[u8; HEADER_BYTES]) -> Header
     }
 }
 
-/// The header that the bytes tell; where its length isn't valid, the fault.
+/// The header that the bytes say; where its length isn't valid, the fault.
 pub fn read_header(bytes: &[u8; HEADER_BYTES]) -> Result<Header, FrameFault>
     ensures value { result ≡ reading bytes.now }
     ensures header { IfOk result IsHeader }

@@ -1,4 +1,4 @@
-//! Laws of encodings and headers that no one call shows.
+//! Laws of encodings and headers that no one call proves.
 
 ghost use Rattle.gn_wire.specs.Equality.{SameIsEqual};
 ghost use Rattle.gn_wire.specs.Encoding.{HeadersReturn, EncodingsPart};
@@ -14,7 +14,7 @@ pub fn same_is_equal()
     ensures { SameIsEqual }
 {}
 
-/// The law that no encoding begins another, so that a stream of descriptors is cut in one way.
+/// The law that no encoding begins another, so that a stream of descriptors is cut in one manner.
 pub fn encodings_part()
     ensures { EncodingsPart }
 {}

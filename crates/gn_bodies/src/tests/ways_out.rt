@@ -1,4 +1,4 @@
-//! Each way out of a body: what is closed, what is shut, and what fails the run.
+//! Each exit of a body: what is closed, what is shut, and what fails the run.
 
 use super::fakes::EndlessReader;
 use super::{PING, Ran, Setting, USUAL, run, run_link};

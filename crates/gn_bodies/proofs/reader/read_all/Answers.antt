@@ -14,19 +14,19 @@ returns-in-Ok-eq0-clause-row g c known =
     let bytes = g.Rd.LinkReader.bytes_read c.loop.reader in
     let zero : c.in-Ok-eq0.field-0 ≡ 0 = search rules in
     let same : g.Rd.LinkReader.bytes_read c.read.new.self ≡ bytes = c.in-Ok-eq0.ensures.bytes known ∙ ap (λ n. bytes ++ take n c.read.new.buffer) zero ∙ append-nil bytes in
-    rw (c.end_of_bytes.ensures, c.connection-in-Ok-eq0.ensures, same) (ended_row c.greeting_is_told.ensures c.args.role c.loop.reading bytes c.loop.me.actor (was.is known) was.has)
+    rw (c.end_of_bytes.ensures, c.connection-in-Ok-eq0.ensures, same) (ended_row c.greeting_is_known.ensures c.args.role c.loop.reading bytes c.loop.me.actor (was.is known) was.has)
 
 pub returns-clause-row : goal.returns-clause-row
 returns-clause-row g c known =
     let was = c.loop.invariant in
-    rw c.connection-2.ensures (turns_row c.greeting_is_told.ensures c.args.role c.loop.reading (g.Rd.LinkReader.bytes_read c.loop.reader) c.loop.me.actor (was.is known) was.has)
+    rw c.connection-2.ensures (turns_row c.greeting_is_known.ensures c.args.role c.loop.reading (g.Rd.LinkReader.bytes_read c.loop.reader) c.loop.me.actor (was.is known) was.has)
 
 pub returns-in-Err-clause-row : goal.returns-in-Err-clause-row
 returns-in-Err-clause-row g c known =
     let was = c.loop.invariant in
     let bytes = g.Rd.LinkReader.bytes_read c.loop.reader in
     let same : g.Rd.LinkReader.bytes_read c.read.new.self ≡ bytes = c.in-Err.ensures.bytes known ∙ append-nil bytes in
-    rw (c.connection.ensures, same) (failed_row c.greeting_is_told.ensures c.args.role c.loop.reading bytes c.loop.me.actor (was.is known) was.has)
+    rw (c.connection.ensures, same) (failed_row c.greeting_is_known.ensures c.args.role c.loop.reading bytes c.loop.me.actor (was.is known) was.has)
 
 pub returns-in-End-clause-failed : goal.returns-in-End-clause-failed
 returns-in-End-clause-failed g c = bytes_not_failed c.in-End.end c.in-End.ensures.ends

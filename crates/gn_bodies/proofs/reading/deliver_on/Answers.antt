@@ -9,8 +9,8 @@ returns-in-More-clause-taken g c role b s whole was =
 pub returns-in-Fault-clause-taken : goal.returns-in-Fault-clause-taken
 returns-in-Fault-clause-taken g c role b s whole was =
     let (ends, events) = c.in-Fault.ensures.delivered s was in
-    fault_row c.greeting_is_told.ensures role (b ++ c.args.piece.now) (s ++ c.args.piece.now) c.args.c c.in-Fault.fault c.deliver.new.me.actor (whole_more role b s c.args.piece.now whole) ends events
+    fault_row c.greeting_is_known.ensures role (b ++ c.args.piece.now) (s ++ c.args.piece.now) c.args.c c.in-Fault.fault c.deliver.new.me.actor (whole_more role b s c.args.piece.now whole) ends events
 
 pub returns-in-NotLive-clause-taken : goal.returns-in-NotLive-clause-taken
 returns-in-NotLive-clause-taken g c role b s whole was =
-    not_live_row c.greeting_is_told.ensures role (b ++ c.args.piece.now) (s ++ c.args.piece.now) c.args.c c.deliver.new.me.actor (whole_more role b s c.args.piece.now whole) (c.in-NotLive.ensures.delivered s was)
+    not_live_row c.greeting_is_known.ensures role (b ++ c.args.piece.now) (s ++ c.args.piece.now) c.args.c c.deliver.new.me.actor (whole_more role b s c.args.piece.now whole) (c.in-NotLive.ensures.delivered s was)

@@ -12,4 +12,4 @@ returns-in-Ok-clause-taken g c role b whole =
 
 pub returns-in-Ok-None-clause-taken : goal.returns-in-Ok-None-clause-taken
 returns-in-Ok-None-clause-taken g c role b whole =
-    (accepted c.greeting_is_told.ensures role b c.args.piece.now whole, search rules)
+    (accepted c.greeting_is_known.ensures role b c.args.piece.now whole, search rules)

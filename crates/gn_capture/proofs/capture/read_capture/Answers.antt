@@ -1,7 +1,7 @@
 use Rattle.std.proofs.Common.{◌≡◌, Ok}
 use Rattle.gn_text.specs.Header.{header_seen}
 use Rattle.gn_capture.specs.Captures.{capture_header}
-use Rattle.gn_capture.proofs.FirstLemmas.{body_refused, told_first}
+use Rattle.gn_capture.proofs.FirstLemmas.{body_refused, known_first}
 use Rattle.gn_capture.proofs.capture.read_capture.Goals as goal
 
 pub returns-in-Ok-clause-first : goal.returns-in-Ok-clause-first
@@ -10,4 +10,4 @@ returns-in-Ok-clause-first g c =
     let refusal = c.in-Err-read_lines.refusal in
     let header = header_seen c.in-Ok.config c.read_header.new.lines in
     let begun : capture_header text ≡ Ok header = rw c.of-lines.ensures at c.in-Ok.ensures.header in
-    told_first _ text refusal (body_refused _ text header refusal begun c.in-Err-read_lines.ensures)
+    known_first _ text refusal (body_refused _ text header refusal begun c.in-Err-read_lines.ensures)

@@ -4,9 +4,9 @@ use Rattle.gn_bodies.specs.declared.worker.WorkerDone.{WorkerDone}
 use Rattle.gn_threads.specs.Faults.{IsFaultOf}
 use Rattle.std.proofs.lemmas.Result.{on_ok_weaker}
 use Rattle.gn_threads.specs.Halves.{reads_of}
-use Rattle.gn_threads.specs.Kept.{EachKeeps, ReaderKeeps, reader_ended, reader_homed, telling}
+use Rattle.gn_threads.specs.Kept.{EachKeeps, ReaderKeeps, reader_ended, reader_homed, halved}
 use Rattle.gn_threads.proofs.FaultLemmas.{answer_below, below_more, handed_on, number_below, of_stop}
-use Rattle.gn_threads.proofs.KeptLemmas.{told_alike}
+use Rattle.gn_threads.proofs.KeptLemmas.{known_alike}
 use Rattle.gn_threads.proofs.finishing.finish.Goals as goal
 
 pub returns-in-Some-clause-fault : goal.returns-in-Some-clause-fault
@@ -18,7 +18,7 @@ returns-in_err-idle-clause-fault g c = handed_on _ c.from_residual-in_err-idle.r
 pub assemble-requires-clause-readers : goal.assemble-requires-clause-readers
 assemble-requires-clause-readers g c =
     subst (λ bodies. EachKeeps ReaderKeeps c.args.roles.now bodies)
-    (sym (told_alike reader_homed reader_ended (telling (reads_of g.Rd.LinkReader.is_known g.Rd.LinkReader.bytes_read g.Rd.LinkReader.failures g.Rd.LinkReader.pieces g.Rd.LinkReader.has_ended)) _ c.args.done.readers.items c.in_ok-readers.ensures.readers)) c.requires.readers
+    (sym (known_alike reader_homed reader_ended (halved (reads_of g.Rd.LinkReader.is_known g.Rd.LinkReader.bytes_read g.Rd.LinkReader.failures g.Rd.LinkReader.pieces g.Rd.LinkReader.has_ended)) _ c.args.done.readers.items c.in_ok-readers.ensures.readers)) c.requires.readers
 
 pub assemble-requires-clause-suspect : goal.assemble-requires-clause-suspect
 assemble-requires-clause-suspect g c =

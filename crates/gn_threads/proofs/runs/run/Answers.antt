@@ -3,7 +3,7 @@ use Rattle.gn_rules.specs.Limits.{IsWithin}
 use Rattle.gn_threads.specs.Halves.{reads_of, writes_of}
 use Rattle.gn_threads.specs.Headline.{LinksHold, LinksReadOwn}
 use Rattle.gn_threads.proofs.FaultLemmas.{handed_on, not_bad_workers}
-use Rattle.gn_threads.proofs.KeptLemmas.{told_alike}
+use Rattle.gn_threads.proofs.KeptLemmas.{known_alike}
 use Rattle.gn_threads.proofs.runs.run.Goals as goal
 
 pub returns-clause-links : goal.returns-clause-links
@@ -12,7 +12,7 @@ returns-clause-links g c = subst (λ roles. LinksHold (reads_of g.K.Reader.LinkR
 pub returns-clause-bytes : goal.returns-clause-bytes
 returns-clause-bytes g c =
     subst (λ sources. LinksReadOwn (reads_of g.K.Reader.LinkReader.is_known g.K.Reader.LinkReader.bytes_read g.K.Reader.LinkReader.failures g.K.Reader.LinkReader.pieces g.K.Reader.LinkReader.has_ended) sources c.in_ok-report.report)
-    (told_alike (λ half. g.K.Reader.LinkReader.made_of half.reader) g.K.Link.origin_of g.K.Reader.LinkReader.gives c.in_ok-halves.halves.readers.items c.args.links.items c.in_ok-halves.ensures.made.0)
+    (known_alike (λ half. g.K.Reader.LinkReader.made_of half.reader) g.K.Link.origin_of g.K.Reader.LinkReader.gives c.in_ok-halves.halves.readers.items c.args.links.items c.in_ok-halves.ensures.made.0)
     c.in_ok-report.ensures.bytes
 
 pub returns-clause-made : goal.returns-clause-made

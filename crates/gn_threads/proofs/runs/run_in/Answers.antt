@@ -7,14 +7,14 @@ use Rattle.gn_threads.specs.Halves.{half_of, reads_of, writes_of}
 use Rattle.gn_threads.specs.Kept.{reader_ended, writer_ended}
 use Rattle.gn_threads.proofs.FaultLemmas.{handed_on}
 use Rattle.gn_threads.proofs.HoldsLemmas.{are_made_of, both_ok, links_read_own, readers_keep, writers_keep}
-use Rattle.gn_threads.proofs.KeptLemmas.{told_after}
+use Rattle.gn_threads.proofs.KeptLemmas.{known_after}
 use Rattle.gn_threads.proofs.runs.run_in.Goals as goal
 
 pub finish-requires-clause-readers : goal.finish-requires-clause-readers
 finish-requires-clause-readers g c =
     let reading = map (λ s. half_of s.role s.reader) c.in_ok-starts.starts.readers.items in
     let joined = c.in_ok-done.ensures.joined in
-    let roles = told_after (λ h. half_of h.role h.reader) (λ l. l.role) reading c.args.halves.readers.items c.in_ok-starts.ensures.readers in
+    let roles = known_after (λ h. half_of h.role h.reader) (λ l. l.role) reading c.args.halves.readers.items c.in_ok-starts.ensures.readers in
     readers_keep (reads_of g.Rd.LinkReader.is_known g.Rd.LinkReader.bytes_read g.Rd.LinkReader.failures g.Rd.LinkReader.pieces g.Rd.LinkReader.has_ended) g.Rd.LinkReader.made_of g.Rd.LinkReader.gives reading _ c.in_ok-done.done.readers.items (roles ∙ c.args.halves.reader_roles ∙ sym c.as_slice-2.ensures.value)
     (omega (arith, c.in_ok-done.done.readers.ok, joined.read)) joined.readers
 
@@ -22,7 +22,7 @@ pub finish-requires-clause-writers : goal.finish-requires-clause-writers
 finish-requires-clause-writers g c =
     let writing = map (λ s. half_of s.role s.writer) c.in_ok-starts.starts.writers.items in
     let joined = c.in_ok-done.ensures.joined in
-    let roles = told_after (λ h. half_of h.role h.writer) (λ l. l.role) writing c.args.halves.writers.items c.in_ok-starts.ensures.writers in
+    let roles = known_after (λ h. half_of h.role h.writer) (λ l. l.role) writing c.args.halves.writers.items c.in_ok-starts.ensures.writers in
     writers_keep (writes_of g.W.LinkWriter.is_known g.W.LinkWriter.bytes_written g.W.LinkWriter.failures g.W.LinkWriter.is_stuck g.W.LinkWriter.is_finished) g.W.LinkWriter.made_of writing _ c.in_ok-done.done.writers.items (roles ∙ c.args.halves.writer_roles ∙ sym c.as_slice-2.ensures.value)
     (omega (arith, c.in_ok-done.done.writers.ok, joined.written)) joined.writers
 
@@ -32,7 +32,7 @@ returns-clause-bytes g c =
     let bodies = map reader_ended c.in_ok-done.done.readers.items in
     let joined = c.in_ok-done.ensures.joined in
     let many : length bodies ≡ length reading = omega (arith, length-map c.in_ok-done.done.readers.items reader_ended, c.in_ok-done.done.readers.ok, joined.read) in
-    let own = told_after (λ h. half_of h.role h.reader) (λ l. g.Rd.LinkReader.gives (g.Rd.LinkReader.made_of l.half)) reading c.args.halves.readers.items c.in_ok-starts.ensures.readers in
+    let own = known_after (λ h. half_of h.role h.reader) (λ l. g.Rd.LinkReader.gives (g.Rd.LinkReader.made_of l.half)) reading c.args.halves.readers.items c.in_ok-starts.ensures.readers in
     IfOk-weaker _ _ _ (λ report read. links_read_own (reads_of g.Rd.LinkReader.is_known g.Rd.LinkReader.bytes_read g.Rd.LinkReader.failures g.Rd.LinkReader.pieces g.Rd.LinkReader.has_ended) g.Rd.LinkReader.made_of g.Rd.LinkReader.gives reading _ bodies report own many read joined.readers) c.finish.ensures.read
 
 pub returns-clause-made : goal.returns-clause-made
@@ -44,8 +44,8 @@ returns-clause-made g c =
     let joined = c.in_ok-done.ensures.joined in
     let many : length read ≡ length reading = omega (arith, length-map c.in_ok-done.done.readers.items reader_ended, c.in_ok-done.done.readers.ok, joined.read) in
     let more : length written ≡ length writing = omega (arith, length-map c.in_ok-done.done.writers.items writer_ended, c.in_ok-done.done.writers.ok, joined.written) in
-    let own = told_after (λ h. half_of h.role h.reader) (λ l. g.Rd.LinkReader.made_of l.half) reading c.args.halves.readers.items c.in_ok-starts.ensures.readers in
-    let theirs = told_after (λ h. half_of h.role h.writer) (λ l. g.W.LinkWriter.made_of l.half) writing c.args.halves.writers.items c.in_ok-starts.ensures.writers in
+    let own = known_after (λ h. half_of h.role h.reader) (λ l. g.Rd.LinkReader.made_of l.half) reading c.args.halves.readers.items c.in_ok-starts.ensures.readers in
+    let theirs = known_after (λ h. half_of h.role h.writer) (λ l. g.W.LinkWriter.made_of l.half) writing c.args.halves.writers.items c.in_ok-starts.ensures.writers in
     both_ok _ _ _ c.finish.result
     (λ report is are. are_made_of (reads_of g.Rd.LinkReader.is_known g.Rd.LinkReader.bytes_read g.Rd.LinkReader.failures g.Rd.LinkReader.pieces g.Rd.LinkReader.has_ended) g.Rd.LinkReader.made_of g.Rd.LinkReader.gives (writes_of g.W.LinkWriter.is_known g.W.LinkWriter.bytes_written g.W.LinkWriter.failures g.W.LinkWriter.is_stuck g.W.LinkWriter.is_finished) g.W.LinkWriter.made_of reading writing read written _ _ report own theirs many more joined.readers joined.writers is are)
     c.finish.ensures.read c.finish.ensures.written

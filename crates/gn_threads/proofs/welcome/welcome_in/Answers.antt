@@ -7,7 +7,7 @@ use Rattle.gn_threads.specs.Kept.{ReaderPromises, WriterPromises}
 use Rattle.gn_threads.proofs.welcome.welcome_in.Goals as goal
 
 pub returns-in-Err-clause-fault : goal.returns-in-Err-clause-fault
-returns-in-Err-clause-fault g c = λ workers. c.first.ensures (vec_len c.args.places.readers) workers (c.in-Err.ensures.fault workers) (c.give_up-met.ensures (vec_len c.args.places.readers) workers)
+returns-in-Err-clause-fault g c = λ workers. c.first.ensures (vec_len c.args.places.readers) workers (c.in-Err.ensures.fault workers) (c.give_up-found.ensures (vec_len c.args.places.readers) workers)
 
 pub returns-in-Ok-clause-joined : goal.returns-in-Ok-clause-joined
 returns-in-Ok-clause-joined g c =

@@ -4,7 +4,7 @@ ghost use Rattle.std.specs.Prelude.{◌≡◌, ◌<◌, ◌≤◌, None, length}
 ghost use Rattle.gn_wire.specs.Kinds.{IsStored};
 ghost use Rattle.gn_wire.specs.Lengths.{fault_of};
 ghost use Rattle.gn_wire.specs.Encoding.{packet_from};
-ghost use Rattle.gn_frames.specs.Front.{front_of};
+ghost use Rattle.gn_frames.specs.Head.{head_of};
 
 use bytes::Bytes;
 use gn_wire::{Descriptor, FrameFault, HEADER_BYTES, Header, read_header};
@@ -12,7 +12,7 @@ use std::alloc::Allocator;
 
 /// What a slice of bytes begins with.
 #[derive(Clone, Copy, Debug, PartialEq, Eq)]
-pub enum Front {
+pub enum Head {
     /// Too few bytes for a descriptor.
     Open,
     /// A header whose length isn't valid.
@@ -22,16 +22,16 @@ pub enum Front {
 }
 
 /// What the bytes begin with.
-pub(crate) fn front_of(bytes: &[u8]) -> Front
-    ensures { result ≡ front_of bytes.now }
+pub(crate) fn head_of(bytes: &[u8]) -> Head
+    ensures { result ≡ head_of bytes.now }
 {
     let Some(start) = bytes.first_chunk::<HEADER_BYTES>() else {
-        return Front::Open;
+        return Head::Open;
     };
     match read_header(start) {
-        Err(fault) => Front::Faulty(fault),
-        Ok(header) if bytes.len() - HEADER_BYTES < header.length as usize => Front::Open,
-        Ok(header) => Front::Whole(header),
+        Err(fault) => Head::Faulty(fault),
+        Ok(header) if bytes.len() - HEADER_BYTES < header.length as usize => Head::Open,
+        Ok(header) => Head::Whole(header),
     }
 }
 

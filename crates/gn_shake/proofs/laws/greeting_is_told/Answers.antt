@@ -1,5 +1,0 @@
-use Rattle.gn_shake.proofs.GreetingLemmas.{greeting_is_told}
-use Rattle.gn_shake.proofs.laws.greeting_is_told.Goals as goal
-
-pub returns : goal.returns
-returns c = greeting_is_told
