@@ -7,7 +7,7 @@ use Rattle.gn_text.specs.Faults.{◌>>=◌}
 use Rattle.gn_text.specs.Parsed.{line_after, parsed_of}
 use Rattle.gn_text.specs.Settings.{Numbers}
 use Rattle.gn_text.proofs.ConfigLemmas.{IsConfigured}
-use Rattle.gn_text.proofs.HeaderLemmas.{Told, header_configured}
+use Rattle.gn_text.proofs.HeaderLemmas.{ParsedHeader, header_configured}
 use Rattle.gn_capture.specs.declared.line.Line.{Line}
 use Rattle.gn_capture.specs.Captures.{Parsed, capture_header, capture_of, lines_from, parsed_by}
 
@@ -20,7 +20,7 @@ lines_configured : {A : Type 0} (settings : Numbers × Own) (read : Result (List
 lines_configured settings (Ok lines) h = h
 lines_configured settings (Err fault) h = _
 
-configured_after : (A : Type 0) (read : Result Told CaptureFault) → IfOk read (λ (header : Told). IsConfigured header.0)
+configured_after : (A : Type 0) (read : Result ParsedHeader CaptureFault) → IfOk read (λ (header : ParsedHeader). IsConfigured header.0)
     → IfOk (read >>= parsed_by {A = A}) (λ (parsed : Parsed A). HasConfig parsed)
 configured_after A (Ok header) h = lines_configured header.0 (lines_from {A = A} 0 header.1) h
 configured_after A (Err fault) h = _

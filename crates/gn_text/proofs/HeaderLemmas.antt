@@ -10,34 +10,34 @@ use Rattle.gn_text.specs.Settings.{Numbers, config_of, own_of}
 use Rattle.gn_text.proofs.ConfigLemmas.{AreWithin, IsConfigured, config_is_within, made}
 
 -- the settings that a text's first lines say, and the lines after them
-abbrev pub Told : Type 0
-Told = (Numbers × Own) × List (ℕ × List ℕ)
+abbrev pub ParsedHeader : Type 0
+ParsedHeader = (Numbers × Own) × List (ℕ × List ℕ)
 
 own_line : (numbers : Numbers) (n : ℕ) (more : List (ℕ × List ℕ)) (own : Option Own) → AreWithin numbers
-    → IfOk (numbered_at n cause.Own own >>= λ own. Ok ((numbers, own), more)) (λ (header : Told). IsConfigured header.0)
+    → IfOk (numbered_at n cause.Own own >>= λ own. Ok ((numbers, own), more)) (λ (header : ParsedHeader). IsConfigured header.0)
 own_line numbers n more None h = _
 own_line numbers n more (Some own) h = made numbers own h
 
 own_configured : (numbers : Numbers) (after : ℕ) (lines : List (ℕ × List ℕ)) → AreWithin numbers
-    → IfOk (own_from numbers after lines) (λ (header : Told). IsConfigured header.0)
+    → IfOk (own_from numbers after lines) (λ (header : ParsedHeader). IsConfigured header.0)
 own_configured numbers after [] h = _
 own_configured numbers after (line ∷ more) h = own_line numbers line.0 more (own_of (fields_of line.1)) h
 
 config_line : (n after : ℕ) (more : List (ℕ × List ℕ)) (numbers : Option Numbers) → IfSome numbers AreWithin
-    → IfOk (numbered_at n cause.Config numbers >>= λ numbers. own_from numbers after more) (λ (header : Told). IsConfigured header.0)
+    → IfOk (numbered_at n cause.Config numbers >>= λ numbers. own_from numbers after more) (λ (header : ParsedHeader). IsConfigured header.0)
 config_line n after more None h = _
 config_line n after more (Some numbers) h = own_configured numbers after more h
 
-config_configured : (after : ℕ) (lines : List (ℕ × List ℕ)) → IfOk (config_from after lines) (λ (header : Told). IsConfigured header.0)
+config_configured : (after : ℕ) (lines : List (ℕ × List ℕ)) → IfOk (config_from after lines) (λ (header : ParsedHeader). IsConfigured header.0)
 config_configured after [] = _
 config_configured after (line ∷ more) =
     config_line line.0 after more (config_of (fields_of line.1)) (config_is_within (fields_of line.1))
 
 -- the settings that a text's first three lines say are those of a configuration
-pub header_configured : (title : List ℕ) (after : ℕ) (lines : List (ℕ × List ℕ)) → IfOk (header_of title after lines) (λ (header : Told). IsConfigured header.0)
+pub header_configured : (title : List ℕ) (after : ℕ) (lines : List (ℕ × List ℕ)) → IfOk (header_of title after lines) (λ (header : ParsedHeader). IsConfigured header.0)
 header_configured title after [] = _
 header_configured title after (line ∷ more) =
-    elim (is_word line.1 title) as (λ b. IfOk (if b then config_from after more else Err (fault_at line.0 cause.Header)) (λ (header : Told). IsConfigured header.0)) [
+    elim (is_word line.1 title) as (λ b. IfOk (if b then config_from after more else Err (fault_at line.0 cause.Header)) (λ (header : ParsedHeader). IsConfigured header.0)) [
       | true ↦ config_configured after more
       | false ↦ _
     ]

@@ -41,7 +41,7 @@ same_last : (line : List ℕ) (b : ℕ) (more : List ℕ)
     → slice_index (line ++ 10 ∷ b ∷ more) (length (line ++ 10 ∷ b ∷ more) - 1) ≡ slice_index (b ∷ more) (length (b ∷ more) - 1)
 same_last line b more = grind (arith, common_steps)
 
--- the last byte goes behind the first
+-- the last byte goes after the first
 head_of : (x : ℕ) (rest : List ℕ) → 0 < length rest → take (length (x ∷ rest) - 1) (x ∷ rest) ≡ x ∷ take (length rest - 1) rest
 head_of x rest some =
     let place : length (x ∷ rest) - 1 ≡ suc (length rest - 1) = omega arith in

@@ -9,7 +9,7 @@ use Rattle.gn_text.specs.Faults.{fault_at, numbered_at, ◌>>=◌}
 use Rattle.gn_text.specs.Parsed.{Numbered}
 use Rattle.gn_text.specs.Settings.{Numbers, config_of, own_of, settings_of}
 
--- the lines from the third on: the servent, beside the numbers that the second line said, and the lines after it
+-- the lines from the third on: the servent, beside the numbers of the second line, and the lines after it
 abbrev pub own_from : Numbers → ℕ → List (ℕ × List ℕ) → Result ((Numbers × Own) × List (ℕ × List ℕ)) CaptureFault
 own_from numbers after [] = Err (fault_at after cause.Own)
 own_from numbers after (line ∷ more) = do

@@ -7,7 +7,7 @@ use Rattle.gn_threads.specs.declared.fault.RunFault.{RunFault}
 use Rattle.gn_threads.specs.declared.fault.RunFault.TheVariants.{BadWorkers, HistoryFull, NoMemory}
 use Rattle.gn_threads.specs.Faults.{IsFaultOf, stop_of}
 
--- where a `?` hands a fault on, what is said of the fault is said of the result
+-- where a `?` hands a fault on, what holds of the fault holds of the result
 pub handed_on : {T : Type 0} (P : RunFault → Type 0) (r : Result T RunFault) (fault : RunFault) → IsErrAnd r (λ e. e ≡ fault) → P fault → IfErr r P
 handed_on P r fault at holds = let p = err_from_is_err_and r at in subst (λ x. IfErr x P) (sym p.1) (subst P (sym p.2) holds)
 
