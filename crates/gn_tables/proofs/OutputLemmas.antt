@@ -1,24 +1,21 @@
 -- What a table of rings gives, and what it keeps.
-use Rattle.std.proofs.Common.{◌≡◌, ◌<◌, ◌≤◌, ◌==◌, ℕ, Bool, true, false, not, cond, eqb, nat_eq, nat_lt, List, [], ◌∷◌, ◌++◌, map, filter, length, Some, None, Result, Ok, Err, IsOk, OnOk, IfErr, refl, sym, ap, ◌∙◌, arith, length-append, length-drop, ◌+◌, subst, drop, ⊎_elim, ◌↔◌}
+use Rattle.std.proofs.Common.{◌≡◌, ◌<◌, ◌≤◌, ◌==◌, ℕ, Bool, true, false, not, cond, nat_eq, nat_lt, List, [], ◌∷◌, ◌++◌, map, filter, get_or, length, Some, None, Result, Ok, Err, IsOk, OnOk, IfErr, refl, sym, ap, ◌∙◌, arith, length-append, length-drop, ◌+◌, subst, drop, ⊎_elim, ◌↔◌}
 use Rattle.std.specs.Option.{option_map, IfSome}
 use Rattle.std.specs.List.{All, IsDistinct, slice_get}
 use Rattle.std.specs.List.Sorted.{IsStrictlyIncreasing}
 use Rattle.std.specs.Map.{lookup, keys_of, values_of, set_value, remove_entry}
 use Rattle.std.specs.Cmp.{nat_eq_equiv}
 use Rattle.std.specs.Ordering.{nat_cmp}
-use Rattle.std.proofs.lemmas.Bool.{cases_lt, lt-ltb, le-ltb}
-use Rattle.std.proofs.lemmas.Grind.{common_steps}
+use Rattle.std.proofs.lemmas.Bool.{cases_lt, lt-ltb, le-ltb, ltb-true}
 use Rattle.std.proofs.lemmas.List.{map-append, length-map, get_or_append_left, get_or_at}
 use Rattle.std.proofs.lemmas.List.Elements.{All-push, All-head, All-tail, All-map, All-nil, All-cons}
 use Rattle.std.proofs.lemmas.List.Kept.{IsStrictlyIncreasing-filter}
-use Rattle.std.proofs.lemmas.Option.{slice_get-map}
-use Rattle.std.proofs.lemmas.Map.{lookup-none}
+use Rattle.std.proofs.lemmas.Option.{slice_get-map, slice_get_read}
+use Rattle.std.proofs.lemmas.Map.{keys-set_value, length-set_value, lookup-none}
 use Rattle.std.proofs.lemmas.Map.Entries.{none_past_head}
 use Rattle.std.proofs.lemmas.Map.Keys.{IsDistinct-tail, IsDistinct-from_sorted, sorted_from_strictly_increasing}
 use Rattle.std.proofs.lemmas.Map.Views.{All-values-set_value, All-map-remove_entry, IfSome-lookup_from_All}
 use Rattle.circular_buffer.specs.Buffer.{Buffer, buffer}
-use Rattle.indexmap.specs.IndexMap.{IndexMap, insert_entry}
-use Rattle.indexmap.proofs.CallerLemmas.{insert_entry-new}
 use Rattle.gn_wire.specs.Packet.{Packet}
 use Rattle.gn_tables.proofs.MapLemmas.{same_test}
 use Rattle.gn_tables.specs.Outputs.{AreOutputs, AreRings, IsRing, has_room, joined, left, outputs_of, popped, pushed, row_of, row_with, rows_of}
@@ -34,16 +31,6 @@ lookup_rows c (e ∷ es) =
       | true ↦ refl
       | false ↦ rest
     ]
-
-other : (c d : ℕ) → d < c → eqb c d ≡ false
-other c d h = grind (arith, common_steps)
-
--- a number above all keys is none of them
-lookup_above : {X : Type 0} (c : ℕ) (es : List (ℕ × X)) → All (λ e. e.0 < c) es → lookup (nat_eq c) es ≡ None
-lookup_above c [] below = refl
-lookup_above c (e ∷ es) below =
-    let here : eqb c e.0 ≡ false = other c e.0 (All-head (λ e. e.0 < c) e es below) in
-    rw here (lookup_above c es (All-tail (λ e. e.0 < c) e es below))
 
 -- the ring that is found is one of the table's
 pub found_ring : (c most room : ℕ) (es : List (ℕ × Buffer Packet)) (v : Buffer Packet) → AreRings es most room → lookup (nat_eq c) es ≡ Some v → IsRing room v
@@ -65,24 +52,23 @@ all_unmapped f P [] h = All-nil (λ x. P (f x))
 all_unmapped f P (x ∷ xs) h = All-cons (λ y. P (f y)) x xs (All-head P (f x) (map f xs) h) (all_unmapped f P xs (All-tail P (f x) (map f xs) h))
 
 -- a neighbour that is added, with an empty ring
-pub added : {S : Type 0} (m : IndexMap ℕ (Buffer Packet) S) (fs : List (ℕ × Buffer Packet)) (most room c : ℕ) (b : Buffer Packet) → AreRings m.entries most room → length (rows_of m.entries) < most
-    → All (λ r. r.0 < c) (rows_of m.entries) → b ≡ buffer [] room → fs ≡ insert_entry nat_eq m.entries c b
-    → AreRings fs most room × (outputs_of most room fs ≡ joined c (outputs_of most room m.entries))
-added m fs most room c b are few below b_is is =
-    let above : All (λ e. e.0 < c) m.entries = all_unmapped row_of (λ r. r.0 < c) m.entries below in
-    let keys_below : All (λ k. k < c) (keys_of m.entries) = All-map (λ k. k < c) (λ (e : ℕ × Buffer Packet). e.0) m.entries above in
+pub added : (es fs : List (ℕ × Buffer Packet)) (most room c : ℕ) (b : Buffer Packet) → AreRings es most room → length (rows_of es) < most → All (λ r. r.0 < c) (rows_of es) → b ≡ buffer [] room
+    → fs ≡ es ++ (c, b) ∷ [] → AreRings fs most room × (outputs_of most room fs ≡ joined c (outputs_of most room es))
+added es fs most room c b are few below b_is is =
+    let above : All (λ e. e.0 < c) es = all_unmapped row_of (λ r. r.0 < c) es below in
+    let keys_below : All (λ k. k < c) (keys_of es) = All-map (λ k. k < c) (λ (e : ℕ × Buffer Packet). e.0) es above in
     let empty : Buffer Packet = buffer [] room in
     let empty_fits : IsRing room empty = (refl, omega arith) in
-    let fs_is : fs ≡ m.entries ++ (c, empty) ∷ [] = is ∙ ap (insert_entry nat_eq m.entries c) b_is ∙ insert_entry-new nat_eq m c empty (lookup_above c m.entries above) in
+    let fs_is : fs ≡ es ++ (c, empty) ∷ [] = is ∙ ap (λ ring. es ++ (c, ring) ∷ []) b_is in
     rw fs_is (
       record {
-        few = omega (arith, length-append m.entries ((c, empty) ∷ []), length-map m.entries row_of);
+        few = omega (arith, length-append es ((c, empty) ∷ []), length-map es row_of);
         most_fits = are.most_fits;
         room_fits = are.room_fits;
-        ascending = rw (map-append (λ (e : ℕ × Buffer Packet). e.0) m.entries ((c, empty) ∷ [])) (ascending_push c (keys_of m.entries) are.ascending keys_below);
-        rings = rw (map-append (λ (e : ℕ × Buffer Packet). e.1) m.entries ((c, empty) ∷ [])) (All-push (IsRing room) (values_of m.entries) empty are.rings empty_fits);
+        ascending = rw (map-append (λ (e : ℕ × Buffer Packet). e.0) es ((c, empty) ∷ [])) (ascending_push c (keys_of es) are.ascending keys_below);
+        rings = rw (map-append (λ (e : ℕ × Buffer Packet). e.1) es ((c, empty) ∷ [])) (All-push (IsRing room) (values_of es) empty are.rings empty_fits);
       },
-      rw (map-append row_of m.entries ((c, empty) ∷ [])) refl,
+      rw (map-append row_of es ((c, empty) ∷ [])) refl,
     )
 
 -- ---- a neighbour less
@@ -91,7 +77,7 @@ differs : (c d : ℕ) → nat_eq c d ≡ false → (d == c) ≡ false
 differs c d h = nat_eq_equiv.symm d c ∙ h
 
 -- no row of c is there to be left out
-none_left_out : (c : ℕ) (es : List (ℕ × Buffer Packet)) → lookup (nat_eq c) es ≡ None → filter (λ r. not (r.0 == c)) (rows_of es) ≡ rows_of es
+pub none_left_out : (c : ℕ) (es : List (ℕ × Buffer Packet)) → lookup (nat_eq c) es ≡ None → filter (λ r. not (r.0 == c)) (rows_of es) ≡ rows_of es
 none_left_out c [] none = refl
 none_left_out c (e ∷ es) none =
     elim (nat_eq c e.0) as (λ b. nat_eq c e.0 ≡ b → cond b (Some e.1) (lookup (nat_eq c) es) ≡ None → filter (λ r. not (r.0 == c)) (rows_of (e ∷ es)) ≡ rows_of (e ∷ es)) [
@@ -166,9 +152,14 @@ outputs_are most room es are =
       short = All-map (λ r. length r.1 ≤ room) row_of es (λ k d h. (rings k d h).1);
     }
 
--- the connection at a place
-pub number_is : (es : List (ℕ × Buffer Packet)) (i : ℕ) → slice_get (keys_of (rows_of es)) i ≡ option_map (λ e. e.0) (slice_get es i)
+number_is : (es : List (ℕ × Buffer Packet)) (i : ℕ) → slice_get (keys_of (rows_of es)) i ≡ option_map (λ e. e.0) (slice_get es i)
 number_is es i = ap (λ ks. slice_get ks i) (keys_of_rows es) ∙ slice_get-map (λ (e : ℕ × Buffer Packet). e.0) es i
+
+-- the connection at a place of the entries ds, which are these
+pub number_at : (es ds : List (ℕ × Buffer Packet)) (i : ℕ) (e : ℕ × Buffer Packet) → ds ≡ es → true ≡ nat_lt i (length ds) → e ≡ get_or ds i e → Some e.0 ≡ slice_get (keys_of (rows_of es)) i
+number_at es ds i e are low is =
+    let at : slice_get ds i ≡ Some e = slice_get_read ds (length ds) i e refl (ltb-true i (length ds) (sym low)) is in
+    sym (number_is es i ∙ ap (λ xs. option_map (λ (x : ℕ × Buffer Packet). x.0) (slice_get xs i)) (sym are) ∙ ap (option_map (λ (x : ℕ × Buffer Packet). x.0)) at)
 
 -- ---- a ring that is written
 
@@ -208,23 +199,20 @@ set_same c (e ∷ es) v h =
 -- a table after one of its rings is written: fs are its entries, v was the ring, and w is the ring now
 pub record IsRewritten (c : ℕ) (es fs : List (ℕ × Buffer Packet)) (v w : Buffer Packet) : Type 0 where
   pub found : lookup (nat_eq c) es ≡ Some v
-  pub distinct : IsDistinct nat_eq (keys_of es)
   pub is : fs ≡ set_value (nat_eq c) es w
-  pub keys : keys_of fs ≡ keys_of es
-  pub len : length fs ≡ length es
 
 module _ (c most room : ℕ) (es fs : List (ℕ × Buffer Packet)) (v w : Buffer Packet) (are : AreRings es most room) (wrote : IsRewritten c es fs v w) where
   pub rings_written : IsRing room w → AreRings fs most room
   rings_written fits = record {
-    few = omega (arith, are.few, wrote.len);
+    few = omega (arith, are.few, ap (λ (ds : List (ℕ × Buffer Packet)). length ds) wrote.is, length-set_value (nat_eq c) es w);
     most_fits = are.most_fits;
     room_fits = are.room_fits;
-    ascending = rw wrote.keys are.ascending;
+    ascending = rw (wrote.is, keys-set_value (nat_eq c) es w) are.ascending;
     rings = rw wrote.is (All-values-set_value (nat_eq c) (IsRing room) es w are.rings fits);
   }
 
   changed : (change : List Packet → List Packet) → w.items ≡ change v.items → outputs_of most room fs ≡ record (outputs_of most room es) { rows = map (row_with c change) (rows_of es) }
-  changed change is = rw (wrote.is, rows_written c change es v w wrote.distinct wrote.found is) refl
+  changed change is = rw (wrote.is, rows_written c change es v w (ascending_differ (keys_of es) are.ascending) wrote.found is) refl
 
   -- after a pop
   pub popped_row : w ≡ buffer (drop 1 v.items) v.capacity → AreRings fs most room × (outputs_of most room fs ≡ popped c (outputs_of most room es))

@@ -1,34 +1,28 @@
 //! The live connections, ascending, each with the packets that wait for it.
 
-ghost use Rattle.std.specs.Prelude.{◌≡◌, ◌<◌, ◌≤◌, [], length, true, false, slice_get, IfErr, IfOk, OnErr, OnOk};
-ghost use Rattle.std.specs.List.{All};
+ghost use Rattle.std.specs.Prelude.{◌≡◌, ◌<◌, ◌≤◌, [], length, nat_eq, true, false, slice_get, IfErr, IfOk, OnErr, OnOk};
+ghost use Rattle.std.specs.List.{All, position};
 ghost use Rattle.std.specs.Map.{keys_of};
 ghost use Rattle.std.specs.Option.{option_copied, option_map};
 ghost use Rattle.gn_tables.specs.Outputs.{AreOutputs, first_of, has_room, joined, left, output_of, popped, pushed};
 
 use circular_buffer::HeapCircularBuffer;
 use gn_wire::Descriptor;
-use indexmap::IndexMap;
 use std::alloc::{AllocError, Allocator, Global};
-use std::hash::{BuildHasherDefault, FoldHasher};
 use std::marker::Model;
 
-type Rows<A> = IndexMap<
-    u32,
-    HeapCircularBuffer<Descriptor<A>, A>,
-    BuildHasherDefault<FoldHasher>,
-    A,
->;
+/// A connection, and the ring of the packets that wait for it.
+type Row<A> = (u32, HeapCircularBuffer<Descriptor<A>, A>);
 
-/// The live connections, ascending, each with the packets that wait for it, the first to go first. Connections are hashed
-/// with a fixed seed. A connection's ring takes its memory at once when it is added, 64 bytes for each packet that may
-/// wait: 262,144 bytes for 4,096 packets, and 16,777,216 bytes for 64 connections of these.
+/// The live connections, ascending, each with the packets that wait for it, the first to go first. A connection is searched
+/// from the first on: there are at most 64. Its ring takes its memory at once when it is added, 64 bytes for each packet
+/// that may wait: 262,144 bytes for 4,096 packets, and 16,777,216 bytes for 64 connections of these.
 #[derive(Drop)]
 pub struct Neighbours<A: Allocator + Copy = Global> {
     alloc: A,
     most: u32,
     room: u32,
-    rows: Rows<A>,
+    rows: Vec<Row<A>, A>,
 }
 
 impl<A: Allocator + Copy> Model for Neighbours<A> {
@@ -36,9 +30,16 @@ impl<A: Allocator + Copy> Model for Neighbours<A> {
 
     ghost Value = { Outputs };
 
-    ghost view = { λ n. outputs_of n.most n.room n.rows.entries };
+    ghost view = { λ n. outputs_of n.most n.room n.rows.items };
 
-    ghost invariant = { λ n. AreRings n.rows.entries n.most n.room };
+    ghost invariant = { λ n. AreRings n.rows.items n.most n.room };
+}
+
+/// The place of a connection among the rows.
+fn place_of<A: Allocator>(rows: &[Row<A>], connection: u32) -> Option<usize>
+    ensures { result ≡ position (λ r. nat_eq connection r.0) rows.now }
+{
+    rows.iter().position(|row| row.0 == connection)
 }
 
 impl<A: Allocator + Copy> Neighbours<A> {
@@ -55,7 +56,7 @@ impl<A: Allocator + Copy> Neighbours<A> {
             alloc,
             most,
             room,
-            rows: IndexMap::with_capacity(alloc, most as usize)?,
+            rows: Vec::with_capacity(alloc, most as usize)?,
         })
     }
 
@@ -71,7 +72,7 @@ impl<A: Allocator + Copy> Neighbours<A> {
     pub fn number(&self, index: u32) -> Option<u32>
         ensures { result ≡ slice_get (keys_of self.now.rows) index }
     {
-        let (connection, _) = self.rows.get_index(index as usize)?;
+        let (connection, _) = self.rows.get(index as usize)?;
         Some(*connection)
     }
 
@@ -79,18 +80,16 @@ impl<A: Allocator + Copy> Neighbours<A> {
     pub fn waiting(&self, connection: u32) -> Option<u32>
         ensures { result ≡ option_map length (output_of connection self.now) }
     {
-        let row = self.rows.get(&connection)?;
-        Some(row.len() as u32)
+        let place = place_of(&self.rows, connection)?;
+        Some(self.rows[place].1.len() as u32)
     }
 
     /// The packet that has waited longest for the connection. `None` where there is none, or no such connection.
     pub fn first(&self, connection: u32) -> Option<&Descriptor<A>>
         ensures { option_copied result ≡ first_of connection self.now }
     {
-        match self.rows.get(&connection) {
-            Some(row) => row.front(),
-            None => None,
-        }
+        let place = place_of(&self.rows, connection)?;
+        self.rows[place].1.front()
     }
 
     /// Adds a connection that is greater than all there, and makes the room that its packets fill. An `Err` is out of
@@ -101,8 +100,8 @@ impl<A: Allocator + Copy> Neighbours<A> {
         ensures ok { OnOk result (self.new ≡ joined connection self.old) }
         ensures err { OnErr result (self.new ≡ self.old) }
     {
-        let row = HeapCircularBuffer::with_capacity(self.alloc, self.room as usize)?;
-        self.rows.insert(connection, row)?;
+        let ring = HeapCircularBuffer::with_capacity(self.alloc, self.room as usize)?;
+        self.rows.push((connection, ring))?;
         Ok(())
     }
 
@@ -111,8 +110,9 @@ impl<A: Allocator + Copy> Neighbours<A> {
         ensures value { result ≡ option_map length (output_of connection self.old) }
         ensures rest { self.new ≡ left connection self.old }
     {
-        let row = self.rows.shift_remove(&connection)?;
-        Some(row.len() as u32)
+        let place = place_of(&self.rows, connection)?;
+        let (_, ring) = self.rows.remove(place);
+        Some(ring.len() as u32)
     }
 
     /// Puts a packet after the others of the connection. An `Err` hands it back: the connection isn't there, or its output
@@ -123,10 +123,10 @@ impl<A: Allocator + Copy> Neighbours<A> {
         ensures err { IfErr result (λ d.
             (has_room connection self.old ≡ false) × (d ≡ packet) × (self.new ≡ self.old)) }
     {
-        let Some(row) = self.rows.get_mut(&connection) else {
+        let Some(place) = place_of(&self.rows, connection) else {
             return Err(packet);
         };
-        row.try_push_back(packet)
+        self.rows[place].1.try_push_back(packet)
     }
 
     /// Takes the packet that has waited longest for the connection. `None` where there is none, or no such connection.
@@ -134,7 +134,7 @@ impl<A: Allocator + Copy> Neighbours<A> {
         ensures first { result ≡ first_of connection self.old }
         ensures rest { self.new ≡ popped connection self.old }
     {
-        let row = self.rows.get_mut(&connection)?;
-        row.pop_front()
+        let place = place_of(&self.rows, connection)?;
+        self.rows[place].1.pop_front()
     }
 }

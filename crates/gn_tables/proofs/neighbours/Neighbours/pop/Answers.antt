@@ -1,28 +1,33 @@
-use Rattle.std.proofs.Common.{drop, refl, sym}
+use Rattle.std.proofs.Common.{drop, refl}
 use Rattle.gn_tables.proofs.OutputLemmas.{popped_row, none_changed, lookup_rows}
+use Rattle.gn_tables.proofs.PlaceLemmas.{placed, unplaced, written}
 use Rattle.gn_tables.proofs.neighbours.Neighbours.pop.Goals as goal
 
-pub returns-in_err-row-clause-first : goal.returns-in_err-row-clause-first
-returns-in_err-row-clause-first g c =
-    rw (← c.self.view_is, lookup_rows c.args.connection c.self.inside.rows.entries, ← c.in_err-row.ensures.value) c.from_residual.ensures
+pub returns-in_err-place-clause-first : goal.returns-in_err-place-clause-first
+returns-in_err-place-clause-first g c =
+    rw (← c.self.view_is, lookup_rows c.args.connection c.self.inside.rows.items, unplaced c.args.connection c.self.inside.rows.items c.deref.result.now c.deref.ensures.value c.in_err-place.ensures) c.from_residual.ensures
 
-pub returns-in_err-row-clause-rest : goal.returns-in_err-row-clause-rest
-returns-in_err-row-clause-rest g c =
-    rw (← c.self.view_is, c.get_mut.follows.holds-at-none, none_changed c.args.connection (drop 1) c.self.inside.rows.entries (sym c.in_err-row.ensures.value)) refl
+pub returns-in_err-place-clause-rest : goal.returns-in_err-place-clause-rest
+returns-in_err-place-clause-rest g c =
+    rw (← c.self.view_is, none_changed c.args.connection (drop 1) c.self.inside.rows.items (unplaced c.args.connection c.self.inside.rows.items c.deref.result.now c.deref.ensures.value c.in_err-place.ensures)) refl
 
-pub invariant_of-self-2 : goal.invariant_of-self-2
-invariant_of-self-2 g c =
-    let holds = c.get_mut.follows.holds c.pop_front.new.self in
-    (popped_row c.args.connection c.self.inside.most c.self.inside.room c.self.inside.rows.entries _ c.in_ok-row.row.now c.pop_front.new.self c.self.invariant
-    (record { found = sym c.in_ok-row.ensures.value; distinct = c.get_mut.ensures.unique; is = holds.0; keys = holds.1; len = holds.2 }) c.pop_front.ensures.items).0
+pub invariant_of-self : goal.invariant_of-self
+invariant_of-self g c =
+    (popped_row c.args.connection c.self.inside.most c.self.inside.room c.self.inside.rows.items _ c.index_mut.result.now.1 c.pop_front.new.self c.self.invariant
+    (record {
+      found = placed c.args.connection c.self.inside.rows.items c.deref.result.now c.deref.ensures.value c.in_ok-place.place c.in_ok-place.ensures c.index_mut.result.now c.index_mut.ensures.value;
+      is = written c.args.connection c.self.inside.rows.items c.deref.result.now c.deref.ensures.value c.in_ok-place.place c.in_ok-place.ensures c.index_mut.result.now c.pop_front.new.self c.index_mut.ensures.value;
+    }) c.pop_front.ensures.items).0
 
 pub returns-clause-first : goal.returns-clause-first
 returns-clause-first g c =
-    rw (← c.self.view_is, lookup_rows c.args.connection c.self.inside.rows.entries, ← c.in_ok-row.ensures.value) c.pop_front.ensures.value
+    rw (← c.self.view_is, lookup_rows c.args.connection c.self.inside.rows.items, placed c.args.connection c.self.inside.rows.items c.deref.result.now c.deref.ensures.value c.in_ok-place.place c.in_ok-place.ensures c.index_mut.result.now c.index_mut.ensures.value) c.pop_front.ensures.value
 
 pub returns-clause-rest : goal.returns-clause-rest
 returns-clause-rest g c =
-    let holds = c.get_mut.follows.holds c.pop_front.new.self in
     rw (← c.self.view_is)
-    (popped_row c.args.connection c.self.inside.most c.self.inside.room c.self.inside.rows.entries _ c.in_ok-row.row.now c.pop_front.new.self c.self.invariant
-    (record { found = sym c.in_ok-row.ensures.value; distinct = c.get_mut.ensures.unique; is = holds.0; keys = holds.1; len = holds.2 }) c.pop_front.ensures.items).1
+    (popped_row c.args.connection c.self.inside.most c.self.inside.room c.self.inside.rows.items _ c.index_mut.result.now.1 c.pop_front.new.self c.self.invariant
+    (record {
+      found = placed c.args.connection c.self.inside.rows.items c.deref.result.now c.deref.ensures.value c.in_ok-place.place c.in_ok-place.ensures c.index_mut.result.now c.index_mut.ensures.value;
+      is = written c.args.connection c.self.inside.rows.items c.deref.result.now c.deref.ensures.value c.in_ok-place.place c.in_ok-place.ensures c.index_mut.result.now c.pop_front.new.self c.index_mut.ensures.value;
+    }) c.pop_front.ensures.items).1

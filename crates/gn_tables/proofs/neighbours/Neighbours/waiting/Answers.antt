@@ -1,11 +1,19 @@
-use Rattle.std.proofs.Common.{refl}
-use Rattle.gn_tables.proofs.OutputLemmas.{lookup_rows}
+use Rattle.std.proofs.Common.{arith, refl}
+use Rattle.gn_tables.specs.Outputs.{IsRing}
+use Rattle.gn_tables.proofs.OutputLemmas.{found_ring, lookup_rows}
+use Rattle.gn_tables.proofs.PlaceLemmas.{placed, unplaced}
 use Rattle.gn_tables.proofs.neighbours.Neighbours.waiting.Goals as goal
 
-pub returns-in_err-row : goal.returns-in_err-row
-returns-in_err-row g c =
-    rw (← c.self.view_is, lookup_rows c.args.connection c.self.inside.rows.entries, ← c.in_err-row.ensures.value) c.from_residual.ensures
+pub returns-in_err-place : goal.returns-in_err-place
+returns-in_err-place g c =
+    rw (← c.self.view_is, lookup_rows c.args.connection c.self.inside.rows.items, unplaced c.args.connection c.self.inside.rows.items c.deref.result.now c.deref.ensures.value c.in_err-place.ensures) c.from_residual.ensures
+
+pub overflow_cast-result : goal.overflow_cast-result
+overflow_cast-result g c =
+    let ring : IsRing c.self.inside.room c.index.result.now.1 =
+    found_ring c.args.connection c.self.inside.most c.self.inside.room c.self.inside.rows.items c.index.result.now.1 c.self.invariant (placed c.args.connection c.self.inside.rows.items c.deref.result.now c.deref.ensures.value c.in_ok-place.place c.in_ok-place.ensures c.index.result.now c.index.ensures) in
+    omega (arith, ring.1, c.self.invariant.room_fits, c.len.ensures.len)
 
 pub returns : goal.returns
 returns g c =
-    rw (← c.self.view_is, lookup_rows c.args.connection c.self.inside.rows.entries, ← c.in_ok-row.ensures.value, c.len.ensures.len) refl
+    rw (← c.self.view_is, lookup_rows c.args.connection c.self.inside.rows.items, placed c.args.connection c.self.inside.rows.items c.deref.result.now c.deref.ensures.value c.in_ok-place.place c.in_ok-place.ensures c.index.result.now c.index.ensures, c.len.ensures.len) refl
