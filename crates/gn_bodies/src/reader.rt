@@ -24,7 +24,7 @@ use std::sync::ledger::Ledger;
 
 /// What the body of a reader gives back.
 #[derive(Drop)]
-pub struct ReaderDone<Rd: LinkReader, S: Site, L: Ledger, A: Allocator = Global> {
+pub struct ReaderDone<Rd, S: Site, L: Ledger, A: Allocator = Global> {
     pub actor: Actor<L, A>,
     pub role: Role,
     pub reader: Rd,

@@ -27,7 +27,7 @@ use std::sync::ledger::Ledger;
 
 /// What the body of a writer gives back.
 #[derive(Drop)]
-pub struct WriterDone<W: LinkWriter, L: Ledger, A: Allocator = Global> {
+pub struct WriterDone<W, L: Ledger, A: Allocator = Global> {
     pub actor: Actor<L, A>,
     pub role: Role,
     pub writer: W,

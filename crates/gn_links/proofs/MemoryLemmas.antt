@@ -1,11 +1,10 @@
--- What a reader over memory gives, and when it may fail.
-use Rattle.std.proofs.Common.{◌≡◌, ℕ, ◌+◌, ◌<◌, Bool, true, List, ◌++◌, take, drop, Option, Some, None, refl, ap, ◌∙◌, sym}
-use Rattle.std.specs.Prelude.{is_some}
+-- What a reader over memory gives.
+use Rattle.std.proofs.Common.{◌≡◌, ℕ, ◌+◌, ◌<◌, Bool, List, ◌++◌, take, drop, ap, ◌∙◌, sym}
 use Rattle.std.proofs.Math.Seq.{drop-length, take-add}
 use Rattle.std.proofs.lemmas.List.{take-append-drop}
 use Rattle.std.proofs.lemmas.List.Elements.{All-take}
 use Rattle.gn_links.specs.Halves.{IsReadOf}
-use Rattle.gn_links.specs.Memory.{is_failing, IsGiving}
+use Rattle.gn_links.specs.Memory.{IsGiving}
 
 -- all that was given, with one piece more, is a prefix again
 pub given_more : (bytes piece : List ℕ) (given n : ℕ) → piece ≡ take n (drop given bytes)
@@ -22,8 +21,3 @@ given_of_all bytes given ended is =
       whole = sym (take-append-drop given bytes);
       ended = λ e. ap (λ n. drop n bytes) (is.ended e) ∙ drop-length bytes;
     }
-
--- a call fails only where there is a number from which on calls fail
-pub allowed_to_fail : (from : Option ℕ) (call : ℕ) → is_failing from call ≡ true → is_some from ≡ true
-allowed_to_fail None call is = absurd (cc)
-allowed_to_fail (Some n) call is = refl

@@ -15,7 +15,7 @@ use std::sync::ledger::Ledger;
 
 /// What all bodies of a run gave back.
 #[derive(Drop)]
-pub(crate) struct Done<Rd: LinkReader, W: LinkWriter, S: Site, L: Ledger, A: Allocator = Global> {
+pub(crate) struct Done<Rd, W, S: Site, L: Ledger, A: Allocator = Global> {
     pub readers: Vec<ReaderDone<Rd, S, L, A>, A>,
     pub writers: Vec<WriterDone<W, L, A>, A>,
     pub workers: Vec<WorkerDone<S, L, A>, A>,

@@ -36,3 +36,9 @@ returns-in-End-take_piece-clause-failed g c = bytes_not_failed c.in-End-take_pie
 
 pub returns-in-Ok-eq0-clause-failed : goal.returns-in-Ok-eq0-clause-failed
 returns-in-Ok-eq0-clause-failed g c = end_not_failed c.loop.reading _ c.end_of_bytes.ensures
+
+pub returns-in-Err-clause-failed : goal.returns-in-Err-clause-failed
+returns-in-Err-clause-failed g c = λ _. c.in-Err.ensures.allowed
+
+pub returns-clause-failed : goal.returns-clause-failed
+returns-clause-failed g c = λ ends. absurd (cc)
