@@ -5,6 +5,9 @@ use Rattle.std.specs.Result.{is_ok}
 use Rattle.std.proofs.Math.Seq.{take-append_seam}
 use Rattle.gn_rules.specs.declared.config.Own.{Own}
 use Rattle.gn_rules.specs.declared.receipt.Step.{Step}
+use Rattle.gn_text.specs.declared.fault.CaptureRefusal.{CaptureRefusal}
+use Rattle.gn_text.specs.declared.fault.CaptureRefusal.TheVariants.{Fault, NoMemory}
+use Rattle.gn_text.specs.Faults.{IsRefused}
 use Rattle.gn_text.specs.Header.{header_of}
 use Rattle.gn_text.specs.Parsed.{parsed_of, line_after}
 use Rattle.gn_text.specs.Settings.{Numbers}
@@ -37,3 +40,9 @@ pub history_read : {A : Type 0} (text : List ℕ) (lines : List (ℕ × List ℕ
     → history_of text ≡ Ok (settings, steps)
 history_read text lines after settings more steps e f h s =
     rw (← e, ← f, h, s) refl
+
+-- a refusal of the header is one of the history
+pub header_refused : (A : Type 0) (text : List ℕ) (lines : List (ℕ × List ℕ)) (after : ℕ) (refusal : CaptureRefusal) → lines ≡ parsed_of text → after ≡ line_after text
+    → IsRefused refusal (header_of title after lines) → IsRefused refusal (history_of {A = A} text)
+header_refused A text lines after NoMemory e f h = _
+header_refused A text lines after (Fault fault) e f h = rw (← e, ← f, h) refl

@@ -4,8 +4,8 @@ use Rattle.gn_capture.proofs.body.read_lines.Goals as goal
 
 pub loop-number-preserved : goal.loop-number-preserved
 loop-number-preserved g c = record {
-  links = rw (c.links_after-links.ensures, c.in_ok-push-in-Ok.ensures.len) (omega (arith, links_grow c.loop-number.links c.in-Ok-read_numbered.line, c.loop-number.invariant.links));
-  parsed = rw (c.links_after-links.ensures, c.in_ok-push-in-Ok.ensures.items) (sym (numbered_more c.loop-number.parsed.items c.loop-number.links c.in-Ok.number c.in-Ok.text.now c.loop-number.lines.lines c.next_line.new.self.lines c.in-Ok-read_numbered.line c.in-Ok.ensures.first c.in-Ok-read_numbered.ensures) ∙ c.loop-number.invariant.parsed);
+  links = rw (c.links_after-links.ensures, c.in_ok-push-in-Ok-read_numbered.ensures.len) (omega (arith, links_grow c.loop-number.links c.in-Ok-read_numbered.line, c.loop-number.invariant.links));
+  parsed = rw (c.links_after-links.ensures, c.in_ok-push-in-Ok-read_numbered.ensures.items) (sym (numbered_more c.loop-number.parsed.items c.loop-number.links c.in-Ok.number c.in-Ok.text.now c.loop-number.lines.lines c.next_line.new.self.lines c.in-Ok-read_numbered.line c.in-Ok.ensures.first c.in-Ok-read_numbered.ensures) ∙ c.loop-number.invariant.parsed);
 }
 
 pub returns-in-Err : goal.returns-in-Err

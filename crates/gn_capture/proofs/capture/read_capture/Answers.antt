@@ -4,8 +4,8 @@ use Rattle.gn_capture.specs.Captures.{capture_header}
 use Rattle.gn_capture.proofs.FirstLemmas.{body_refused, known_first}
 use Rattle.gn_capture.proofs.capture.read_capture.Goals as goal
 
-pub returns-in-Ok-clause-first : goal.returns-in-Ok-clause-first
-returns-in-Ok-clause-first g c =
+pub returns-in-Err-read_lines-clause-first : goal.returns-in-Err-read_lines-clause-first
+returns-in-Err-read_lines-clause-first g c =
     let text = c.args.text.now in
     let refusal = c.in-Err-read_lines.refusal in
     let header = header_seen c.in-Ok.config c.read_header.new.lines in

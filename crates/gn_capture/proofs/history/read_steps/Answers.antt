@@ -8,8 +8,8 @@ pub loop-line-preserved : goal.loop-line-preserved
 loop-line-preserved g c = record {
   after = c.next_line.ensures.after ∙ c.loop-line.invariant.after;
   known = rw c.in_ok-push-in-Ok-Some.ensures.items
-    (step_more c.loop-line.steps.items c.args.lines.now.after (line_seen c.in-Ok.line) c.loop-line.lines.lines c.next_line.new.self.lines c.in-Ok-Some.step c.in-Ok.ensures.first
-    (c.in-Ok-Some.ensures ∙ ap Ok c.in-Ok-Some.field-0-is) ∙ c.loop-line.invariant.known);
+      (step_more c.loop-line.steps.items c.args.lines.now.after (line_seen c.in-Ok.line) c.loop-line.lines.lines c.next_line.new.self.lines c.in-Ok-Some.step c.in-Ok.ensures.first
+      (c.in-Ok-Some.ensures ∙ ap Ok c.in-Ok-Some.field-0-is) ∙ c.loop-line.invariant.known);
 }
 
 pub returns-in-Err-read_line : goal.returns-in-Err-read_line
@@ -25,5 +25,5 @@ returns-in-Ok-None g c =
 
 pub returns-in-Err : goal.returns-in-Err
 returns-in-Err g c =
-    rw (sym c.in-Err.ensures.first.1 ∙ c.loop-line.invariant.after)
+    rw (c.at.ensures, sym c.in-Err.ensures.first.1 ∙ c.loop-line.invariant.after)
     (end_missing c.loop-line.steps.items c.args.lines.now.after c.loop-line.lines.lines _ c.in-Err.ensures.first.0 c.loop-line.invariant.known)
