@@ -1,3 +1,4 @@
 pub mod FirstLemmas
+pub mod MostLemmas
 pub mod RestLemmas
 pub mod SendLemmas

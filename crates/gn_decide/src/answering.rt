@@ -1,6 +1,6 @@
 //! The answers that plans stand for, with their packets made.
 
-ghost use Rattle.std.specs.Prelude.{◌≡◌, ◌∷◌, ◌++◌, [], Ok, IfOk};
+ghost use Rattle.std.specs.Prelude.{◌≡◌, ◌≤◌, ◌∷◌, ◌++◌, [], Ok, IfOk, length};
 ghost use Rattle.gn_rules.specs.Answer as rules;
 ghost use Rattle.gn_rules.specs.declared.event.Event.TheVariants.{Route};
 ghost use Rattle.gn_decide.specs.Planned.{outgoing_sends, plan_reply};
@@ -13,6 +13,7 @@ use crate::planning::{plan_checked, plan_of};
 use crate::sending::send_all;
 use gn_payload::Checked;
 use gn_rules::{ConnId, Event, Refusal, Reply, Sending, Sends, Ticket};
+use gn_wire::Kind;
 use std::alloc::{AllocError, Allocator};
 use std::marker::Model;
 
@@ -43,7 +44,22 @@ impl<A: Allocator + Copy> Outbox<A> for Maker<A> {
     }
 }
 
-/// The packets that are outgoing. An `Err` is out of memory.
+/// How many packets are outgoing at most. Takes no memory.
+fn most_sends<A: Allocator, L: Lookup<A>>(past: &L, outgoing: &Outgoing<'_, A>) -> u32
+    ensures { length (outgoing_sends (L.settings past.now) (L.past past.now) outgoing.now) ≤ result }
+{
+    match outgoing {
+        Outgoing::Nothing => 0,
+        Outgoing::One(_, _, _) => 1,
+        Outgoing::Flood(_, packet) => match packet.forwarded() {
+            None => u32::from(packet.kind() == Kind::Ping),
+            Some(_) => past.live_count(),
+        },
+        Outgoing::Each(_) => past.live_count(),
+    }
+}
+
+/// The packets that are outgoing, in room that is made once. An `Err` is out of memory.
 fn sends_of<A: Allocator + Copy, L: Lookup<A>>(
     alloc: A,
     past: &L,
@@ -51,9 +67,10 @@ fn sends_of<A: Allocator + Copy, L: Lookup<A>>(
 ) -> Result<Sends<A>, AllocError>
     ensures { IfOk result (λ sends. sends ≡ outgoing_sends (L.settings past.now) (L.past past.now) outgoing.now) }
 {
+    let room = Vec::with_capacity(alloc, most_sends(past, outgoing) as usize)?;
     let mut maker = Maker {
         alloc,
-        sends: Sends::new(alloc),
+        sends: Sends::from_vec(room),
     };
     send_all(past, outgoing, &mut maker)?;
     Ok(maker.sends)
