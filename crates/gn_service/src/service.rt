@@ -17,6 +17,9 @@ use std::sync::ledger::Ledger;
 use std::sync::{Condvar, Mutex, MutexGuard, Wait};
 use std::thread::yield_now;
 
+/// How often a thread tries to take the lock before it sleeps.
+const TRIES: u32 = 32;
+
 /// The hub under one lock, and the condition variable that is notified where a change may have brought what a thread waits
 /// for: a door, a packet, the end of a connection, the closing of the run, or its failure.
 #[derive(Drop)]
@@ -34,12 +37,14 @@ impl<C: RouterCore<A> + Drop, L: Ledger, A: Allocator + Copy> Service<C, L, A> {
         }
     }
 
-    /// The hub. A thread that finds it taken lets another one run and tries again, before it sleeps.
+    /// The hub. A thread that finds it taken lets others run and tries again, so many times, before it sleeps.
     fn lock<R: Wait>(&self, rt: &R) -> MutexGuard<'_, Hub<C, L, A>> {
-        if let Some(hub) = self.hub.try_lock() {
-            return hub;
+        for _ in 0..TRIES {
+            if let Some(hub) = self.hub.try_lock() {
+                return hub;
+            }
+            yield_now();
         }
-        yield_now();
         self.hub.lock(rt)
     }
 
