@@ -23,6 +23,9 @@ const LINKS: u32 = 16;
 /// The neighbours that its router may have.
 const NEIGHBOURS: u32 = 64;
 
+/// How often a writer that was woken looks before it sleeps again.
+const LOOKS: u64 = 2;
+
 /// The connection that writers wait for, which gets no packet.
 const AWAITED: ConnId = 1;
 
@@ -187,7 +190,8 @@ fn report<R: Runtime + Threads + Wait + Sync>(rt: &R, alloc: Global, load: Load)
     let name = if load.closes { "closing" } else { "quiet" };
     let (threads, waiting, steps) = (load.threads, load.waiting, made.steps);
     let each = made.time.as_nanos() / u128::from(steps.max(1));
-    let wakes = made.looks.saturating_sub(u64::from(waiting));
+    // After its last wake a writer looks once, but as often as after any other before its first sleep.
+    let wakes = made.looks.saturating_sub(u64::from(waiting)) / LOOKS;
     let wakes = wakes.saturating_mul(1_000) / steps.max(1);
     println!(rt; "hub {threads}, {waiting} waiting, {name}: {steps} steps")?;
     eprintln!(rt;

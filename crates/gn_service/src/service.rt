@@ -14,7 +14,11 @@ use gn_payload::Checked;
 use gn_rules::{ConnId, Event, Refusal, RouterCore, Ticket};
 use std::alloc::{Allocator, Global};
 use std::sync::ledger::Ledger;
-use std::sync::{Condvar, Mutex, Wait};
+use std::sync::{Condvar, Mutex, MutexGuard, Wait};
+use std::thread::yield_now;
+
+/// How often a thread tries to take the lock before it sleeps.
+const TRIES: u32 = 32;
 
 /// The hub under one lock, and the condition variable that is notified where a change may have brought what a thread waits
 /// for: a door, a packet, the end of a connection, the closing of the run, or its failure.
@@ -33,6 +37,17 @@ impl<C: RouterCore<A> + Drop, L: Ledger, A: Allocator + Copy> Service<C, L, A> {
         }
     }
 
+    /// The hub. A thread that finds it taken lets others run and tries again, so many times, before it sleeps.
+    fn lock<R: Wait>(&self, rt: &R) -> MutexGuard<'_, Hub<C, L, A>> {
+        for _ in 0..TRIES {
+            if let Some(hub) = self.hub.try_lock() {
+                return hub;
+            }
+            yield_now();
+        }
+        self.hub.lock(rt)
+    }
+
     /// An actor's event.
     pub fn call<R: Wait>(
         &self,
@@ -44,7 +59,7 @@ impl<C: RouterCore<A> + Drop, L: Ledger, A: Allocator + Copy> Service<C, L, A> {
             (λ _. HasReceipt event.now me.old me.new)
             (λ refusal. (refuses event.now refusal ≡ true) × (me.new ≡ me.old)) }
     {
-        let Answered { answer, wakes } = self.hub.lock(rt).call_answered(me, event);
+        let Answered { answer, wakes } = self.lock(rt).call_answered(me, event);
         self.wake(wakes);
         answer
     }
@@ -61,7 +76,7 @@ impl<C: RouterCore<A> + Drop, L: Ledger, A: Allocator + Copy> Service<C, L, A> {
             (λ _. HasReceipt (Route ticket) me.old me.new)
             (λ refusal. (refuses {A = A} (Route ticket) refusal ≡ true) × (me.new ≡ me.old)) }
     {
-        let Answered { answer, wakes } = self.hub.lock(rt).route_answered(me, ticket, checked);
+        let Answered { answer, wakes } = self.lock(rt).route_answered(me, ticket, checked);
         self.wake(wakes);
         answer
     }
@@ -73,7 +88,7 @@ impl<C: RouterCore<A> + Drop, L: Ledger, A: Allocator + Copy> Service<C, L, A> {
             (λ _. HasReceipt Connect me.old me.new)
             (λ refusal. (refuses {A = A} Connect refusal ≡ true) × (me.new ≡ me.old)) }
     {
-        let Answered { answer, wakes } = self.hub.lock(rt).connect_answered(me, link);
+        let Answered { answer, wakes } = self.lock(rt).connect_answered(me, link);
         self.wake(wakes);
         answer
     }
@@ -90,23 +105,29 @@ impl<C: RouterCore<A> + Drop, L: Ledger, A: Allocator + Copy> Service<C, L, A> {
         ensures over { IfOk result (λ found. found ≡ false → MayHaveClosed c me.old me.new) }
         ensures refused { IfErr result (λ refusal. (is_stop refusal ≡ true) × (me.new ≡ me.old)) }
     {
-        let mut hub = self.hub.lock(rt);
+        let mut has_yielded = false;
         for _ in rt.forever() {
+            let mut hub = self.lock(rt);
             let Answered { answer, wakes } = hub.next_answered(me, c);
             self.wake(wakes);
             match answer? {
                 Next::Packet => return Ok(true),
                 Next::Over => return Ok(false),
-                Next::Later => {}
+                // Letting others run costs less than to sleep and be woken, and often brings a packet.
+                Next::Later if !has_yielded => {
+                    drop(hub);
+                    yield_now();
+                }
+                Next::Later => drop(self.changed.wait(rt, hub)),
             }
-            hub = self.changed.wait(rt, hub);
+            has_yielded = !has_yielded;
         }
         unreachable!()
     }
 
     /// Waits until the door of the link is open or shut, or the run has failed. The connection, where it is open.
     pub fn meet<R: Wait>(&self, rt: &R, link: u32) -> Option<ConnId> {
-        let mut hub = self.hub.lock(rt);
+        let mut hub = self.lock(rt);
         for _ in rt.forever() {
             match hub.door(link) {
                 Door::Met(c) => return Some(c),
@@ -123,19 +144,19 @@ impl<C: RouterCore<A> + Drop, L: Ledger, A: Allocator + Copy> Service<C, L, A> {
 
     /// The link won't connect.
     pub fn shut<R: Wait>(&self, rt: &R, link: u32) {
-        self.hub.lock(rt).shut(link);
+        self.lock(rt).shut(link);
         self.changed.notify_all();
     }
 
     /// The reader of the link is done.
     pub fn reader_done<R: Wait>(&self, rt: &R, link: u32) {
-        self.hub.lock(rt).reader_done(link);
+        self.lock(rt).reader_done(link);
         self.changed.notify_all();
     }
 
     /// The run has failed.
     pub fn fail<R: Wait>(&self, rt: &R) {
-        self.hub.lock(rt).fail();
+        self.lock(rt).fail();
         self.changed.notify_all();
     }
 
