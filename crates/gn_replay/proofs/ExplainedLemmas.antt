@@ -1,5 +1,5 @@
 -- What explains a verdict, and that it was written.
-use Rattle.std.proofs.Common.{◌≡◌, ◌<◌, ◌+◌, ◌∙◌, ⊥, ℕ, List, [], ◌++◌, get_or, append-nil, length, Option, Some, None, IfSome, IfErr, Result, Ok, Err, refl, sym, ap, subst}
+use Rattle.std.proofs.Common.{◌≡◌, ◌<◌, ◌+◌, ◌∙◌, ℕ, List, [], ◌++◌, get_or, append-nil, length, Option, Some, None, IfSome, IfErr, Result, Ok, Err, refl, sym, ap, subst}
 use Rattle.std.specs.Prelude.{OnOk}
 use Rattle.std.specs.Io.KnownBytes.{Appends}
 use Rattle.std.specs.List.{slice_get}

@@ -1,5 +1,5 @@
 -- What is left of a list that is gone through from its head.
-use Rattle.std.proofs.Common.{◌≡◌, ◌≤◌, ◌+◌, ◌∙◌, ℕ, zero, suc, List, [], ◌∷◌, drop, drop-drop, sym, ap, absurd, refl, arith, Some, None}
+use Rattle.std.proofs.Common.{◌≡◌, ◌≤◌, ◌+◌, ◌∙◌, ℕ, zero, suc, List, [], ◌∷◌, drop, drop-drop, sym, ap, refl, arith, Some, None}
 use Rattle.std.specs.List.{slice_get}
 
 -- one more is gone
