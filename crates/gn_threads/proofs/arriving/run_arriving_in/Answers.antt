@@ -1,4 +1,4 @@
-use Rattle.std.proofs.Common.{◌∙◌, length, vec_len, ap, sym, subst, arith}
+use Rattle.std.proofs.Common.{◌≡◌, ◌∙◌, length, vec_len, ap, sym, subst, arith}
 use Rattle.std.proofs.lemmas.List.{length-map}
 use Rattle.std.specs.Prelude.{IfErr, IfOk}
 use Rattle.gn_threads.specs.Faults.{IsFaultOf}
