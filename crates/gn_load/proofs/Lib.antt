@@ -1,3 +1,5 @@
 pub mod FewLemmas
 pub mod UnfailedLemmas
+pub mod LineLemmas
+pub mod SendLemmas
 pub mod LoadLemmas

@@ -1,3 +1,5 @@
+use denote.Param.Send.{sendable}
+use Rattle.gn_load.proofs.SendLemmas.{reader_send, writer_send}
 use Rattle.gn_load.specs.declared.fault.LoadFault.TheVariants.{Run}
 use Rattle.gn_load.specs.Faults.{IsRunLoadFault}
 use Rattle.gn_load.specs.Loads.{load_of}
@@ -29,3 +31,9 @@ returns-clause-history g c =
     (held c.in_ok-capture.capture.config links report ran.legal ran.counted ran.own ran.each.0 ran.links ran.others ran.routed ran.stats) ran.bytes (halves_made links report ran.made) ran.workers
     ran.each.1
     c.new-history.ensures.items c.deref-2.ensures.value c.in_ok-write_history.ensures.ok
+
+pub run-requires-send-K-Reader : goal.run-requires-send-K-Reader
+run-requires-send-K-Reader g c κs within = search (sendable, reader_send) depth 40
+
+pub run-requires-send-K-Writer : goal.run-requires-send-K-Writer
+run-requires-send-K-Writer g c κs within = search (sendable, writer_send) depth 40
