@@ -11,8 +11,8 @@ pub use connections::{
     closed_stays_closed, connections_count, live_is_open, nothing_after_close, packets_go_to_live,
 };
 pub use owners::{
-    closed_by_one, connected_to_one, fitting_are_mine, fitting_is_mine, indices_agree,
-    links_agree, may_read, may_write, receipts_add_up, receipts_in_order, strangers_have_none,
+    closed_by_one, connected_to_one, fitting_are_mine, fitting_is_mine, indices_agree, links_agree,
+    may_read, may_write, receipts_add_up, receipts_in_order, strangers_have_none,
 };
 pub use packets::{drained_took_all, queued_is_taken_and_waiting};
 pub use runs::{
