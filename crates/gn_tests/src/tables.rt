@@ -26,7 +26,7 @@ fn keep_new<A: Allocator + Copy>(
     }
 }
 
-/// Whether keeping these keys of Pings, each from a connection, finds each one new or not or not as wanted.
+/// Whether keeping these keys of Pings, each from a connection, finds each one new or not, as wanted.
 fn are_kept<A: Allocator + Copy>(
     seen: &mut SeenTable<A>,
     rows: &[(u8, u32, bool)],
