@@ -10,8 +10,6 @@ mod ends;
 mod piece;
 mod reader;
 mod reading;
-#[cfg(test)]
-mod tests;
 mod worker;
 mod writer;
 

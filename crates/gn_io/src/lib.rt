@@ -8,8 +8,6 @@ mod nowhere;
 mod reader_source;
 mod sink;
 mod source;
-#[cfg(test)]
-mod tests;
 mod write;
 mod writer_sink;
 

@@ -6,8 +6,6 @@ mod link;
 mod memory;
 mod memory_reader;
 mod memory_writer;
-#[cfg(test)]
-mod tests;
 
 pub use gate::{Gate, NoGate};
 pub use link::{Link, LinkFault, LinkReader, LinkWriter};

@@ -15,10 +15,3 @@ mod servents;
 pub use legality::legal;
 pub use past::Past;
 pub use plain::PlainRouter;
-
-#[cfg(test)]
-mod decision_tests;
-#[cfg(test)]
-mod legality_tests;
-#[cfg(test)]
-mod tests;

@@ -14,8 +14,6 @@ mod runs;
 mod same;
 mod sends;
 mod statistics;
-#[cfg(test)]
-mod tests;
 
 pub use config::{BadConfig, Config, Field, Own};
 pub use event::{ConnId, Event, Ticket};

@@ -8,8 +8,6 @@ mod events;
 mod own;
 mod report;
 mod survey;
-#[cfg(test)]
-mod tests;
 
 pub use events::conn_of;
 pub use report::{LinkReport, Report};

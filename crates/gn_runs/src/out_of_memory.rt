@@ -1,7 +1,7 @@
 //! Each event where no memory is left: it is refused and changes nothing, and it is answered once there is some.
 
-use crate::run::OWN;
 use bytes::Bytes;
+use gn_fixtures::OWN;
 use gn_plain::PlainRouter;
 use gn_router::TableRouter;
 use gn_rules::{Config, Event, Refusal, RouterCore};

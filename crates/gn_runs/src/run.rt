@@ -1,18 +1,7 @@
 //! What a run is.
 
 use crate::encoding::encoded;
-use gn_rules::Own;
-use gn_wire::Guid;
 use std::alloc::{AllocError, Global};
-
-/// The servent of each run, as `capture_text` says it.
-pub(crate) const OWN: Own = Own {
-    servent: Guid([0xee; 16]),
-    ip: [127, 0, 0, 1],
-    port: 6346,
-    files: 5,
-    kbytes: 40,
-};
 
 /// The numbers of the configuration that most runs have.
 pub(crate) const USUAL: &str = "4 8 4 8 8 100";

@@ -5,8 +5,6 @@ mod fault;
 mod histories;
 mod peers;
 mod serve;
-#[cfg(test)]
-mod tests;
 
 pub use fault::ServeFault;
 pub use histories::serve_history;

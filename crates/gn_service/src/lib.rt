@@ -4,14 +4,10 @@
 mod actor;
 mod answered;
 mod hub;
-#[cfg(test)]
-mod hub_tests;
 mod mark;
 mod next;
 mod opening;
 mod service;
-#[cfg(test)]
-mod service_tests;
 
 pub use actor::Actor;
 pub use gn_shake::Role;

@@ -11,8 +11,6 @@ mod rule;
 mod settle;
 mod site;
 mod stage;
-#[cfg(test)]
-mod tests;
 
 pub use desk::Desk;
 pub use home::{IntakeHome, OutletHome};

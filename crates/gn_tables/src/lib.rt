@@ -10,6 +10,3 @@ pub use flights::{Flight, Flights};
 pub use neighbours::Neighbours;
 pub use seen::SeenTable;
 pub use servents::ServentTable;
-
-#[cfg(test)]
-mod tests;

@@ -3,8 +3,6 @@
 
 mod link;
 mod reader;
-#[cfg(test)]
-mod tests;
 mod writer;
 
 pub use link::{TcpLink, listen};

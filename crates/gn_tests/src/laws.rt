@@ -1,16 +1,10 @@
 //! Each law is called once, and each function on a short history.
 
-use bytes::Bytes;
+use gn_fixtures::ping;
 use gn_laws::*;
 use gn_rules::{DropReason, Event, Reply, Step};
-use gn_wire::{Descriptor, Guid, Kind};
 use std::alloc::Global;
 use std::test::Fail;
-
-fn ping() -> Result<Descriptor, Fail> {
-    let ping = Descriptor::new(Guid([0xa1; 16]), Kind::Ping, 1, 0, Bytes::new());
-    Ok(ping.map_err(|_| "a Ping")?)
-}
 
 fn add(steps: &mut Vec<Step>, actor: u32, event: Event, reply: Reply) -> Result<(), Fail> {
     steps.push(Step {
@@ -59,8 +53,18 @@ fn an_admitted_ticket_waits_for_its_route(rt: HostRuntime) -> Result<(), Fail> {
     let mut steps = Vec::new(rt.alloc());
     add(&mut steps, 0, Event::Connect, Reply::Connected(1))?;
     assert!(rt; all_routed(&steps));
-    add(&mut steps, 0, Event::Admit(1, ping()?), Reply::Admitted(0))?;
-    add(&mut steps, 0, Event::Admit(1, ping()?), Reply::Busy)?;
+    add(
+        &mut steps,
+        0,
+        Event::Admit(1, ping(0xa1, 1, 0)?),
+        Reply::Admitted(0),
+    )?;
+    add(
+        &mut steps,
+        0,
+        Event::Admit(1, ping(0xa1, 1, 0)?),
+        Reply::Busy,
+    )?;
     assert!(rt; !all_routed(&steps));
     let dropped = Reply::Dropped(DropReason::Expired);
     add(&mut steps, 2, Event::Route(0), dropped)?;
@@ -70,7 +74,7 @@ fn an_admitted_ticket_waits_for_its_route(rt: HostRuntime) -> Result<(), Fail> {
 
 #[test]
 fn readers_and_writers_have_their_events(rt: HostRuntime) -> Result<(), Fail> {
-    let admit = Event::Admit(2, ping()?);
+    let admit: Event = Event::Admit(2, ping(0xa1, 1, 0)?);
     assert!(rt;
         may_read(&admit, Some(2)) && !may_read(&admit, Some(1)) && !may_write(&admit, Some(2))
     );

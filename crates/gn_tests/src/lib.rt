@@ -1,15 +1,27 @@
-//! The tests of the crates of one thread, each over its crate's public calls. Tests alone.
+//! The tests of the crates of one thread but the texts, each over its crate's public calls. Tests alone.
 #![tactic(auto)]
 
+#[cfg(test)]
+mod answers;
+#[cfg(test)]
+mod decisions;
 #[cfg(test)]
 mod frames;
 #[cfg(test)]
 mod laws;
 #[cfg(test)]
+mod legality;
+#[cfg(test)]
 mod payload;
 #[cfg(test)]
 mod router;
 #[cfg(test)]
+mod rules;
+#[cfg(test)]
 mod shake;
+#[cfg(test)]
+mod streams;
+#[cfg(test)]
+mod tables;
 #[cfg(test)]
 mod wire;

@@ -1,6 +1,7 @@
 //! Captures of each word, and the first fault of each kind.
 
 use gn_capture::{Capture, CaptureRefusal, Cause, Line, read_capture};
+use gn_fixtures::OWN;
 use gn_rules::Own;
 use gn_wire::{Guid, Kind};
 use std::alloc::{AllocError, Allocator};
@@ -80,13 +81,7 @@ fn settings(rt: HostRuntime) -> Result<(), Fail> {
         b"# own settings\ngnutella-capture 1\nconfig 01 2 3 4 5 6\nown EeeeeeeeeeeeeeeeeeeeeeeeeeeeeeeE 127.000.0.1 0 5 40";
     let capture = read_capture(rt.alloc(), text).map_err(|_| "refused")?;
     let config = capture.config;
-    let own = Own {
-        servent: Guid([0xee; 16]),
-        ip: [127, 0, 0, 1],
-        port: 0,
-        files: 5,
-        kbytes: 40,
-    };
+    let own = Own { port: 0, ..OWN };
     assert_eq!(rt;
         (config.neighbours, config.seen, config.servents),
         (1, 2, 3)

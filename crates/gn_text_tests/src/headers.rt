@@ -1,11 +1,11 @@
 //! Headers, valid and not.
 
+use gn_fixtures::OWN;
 use gn_rules::{Config, Own};
 use gn_text::{
     CaptureFault, CaptureRefusal, Cause, NumberedLines, fields, ip, read_config, read_header,
     read_own,
 };
-use gn_wire::Guid;
 use std::test::Fail;
 
 const TITLE: &[u8] = b"gnutella-capture 1";
@@ -84,11 +84,9 @@ fn valid(rt: HostRuntime) -> Result<(), Fail> {
         [4, 8, 4, 4_096, 8, 1_000_000]
     );
     let own = Own {
-        servent: Guid([0xee; 16]),
-        ip: [127, 0, 0, 1],
         port: 0,
-        files: 5,
         kbytes: 4_294_967_295,
+        ..OWN
     };
     assert_eq!(rt; config.own, own);
     assert_eq!(rt; more, 2);

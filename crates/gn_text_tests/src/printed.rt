@@ -1,24 +1,14 @@
 //! The texts, byte for byte.
 
-use bytes::Bytes;
-use gn_rules::{
-    Config, Counter, DropReason, Event, Own, Refusal, Reply, Sending, Sends, Stats, Step,
-};
+use gn_fixtures::{ping, usual};
+use gn_rules::{Counter, DropReason, Event, Refusal, Reply, Sending, Sends, Stats, Step};
 use gn_text::{
     ip, number, push_ended, push_frame_fault, push_greeting_refused, push_refusal, push_reply,
     push_settings, push_stats, push_step, push_step_of,
 };
-use gn_wire::{Descriptor, FrameFault, Guid, Kind};
+use gn_wire::{Descriptor, FrameFault, Kind};
 use std::alloc::Global;
 use std::test::Fail;
-
-fn ping(rt: &HostRuntime, byte: u8, ttl: u8, hops: u8) -> Result<Descriptor, Fail> {
-    let payload = Bytes::copy_from_slice(rt.alloc(), b"")?;
-    match Descriptor::new(Guid([byte; 16]), Kind::Ping, ttl, hops, payload) {
-        Ok(ping) => Ok(ping),
-        Err(_) => Err(Fail::new("a Ping has no payload")),
-    }
-}
 
 fn send(to: u32, packet: Descriptor, queued: bool) -> Sending {
     Sending { to, packet, queued }
@@ -43,18 +33,14 @@ fn steps_without_sends(rt: HostRuntime) -> Result<(), Fail> {
         line(&rt, Event::Connect, Reply::Connected(1))?,
         line(&rt, Event::Connect, Reply::TooMany)?,
         line(&rt, Event::Close(4_294_967_295), Reply::Closed(0))?,
-        line(
-            &rt,
-            Event::Admit(1, ping(&rt, 0xa1, 7, 0)?),
-            Reply::Admitted(0),
-        )?,
-        line(&rt, Event::Admit(1, ping(&rt, 0xa1, 7, 0)?), Reply::Busy)?,
+        line(&rt, Event::Admit(1, ping(0xa1, 7, 0)?), Reply::Admitted(0))?,
+        line(&rt, Event::Admit(1, ping(0xa1, 7, 0)?), Reply::Busy)?,
         line(
             &rt,
             Event::Route(2),
             Reply::Dropped(DropReason::BackToSender),
         )?,
-        line(&rt, Event::Take(1), Reply::Taken(ping(&rt, 0xa1, 7, 0)?))?,
+        line(&rt, Event::Take(1), Reply::Taken(ping(0xa1, 7, 0)?))?,
     ];
     let texts: [&[u8]; 7] = [
         b"0 connect = connected 1\n",
@@ -75,8 +61,8 @@ fn steps_without_sends(rt: HostRuntime) -> Result<(), Fail> {
 fn steps_with_sends(rt: HostRuntime) -> Result<(), Fail> {
     let alloc = rt.alloc();
     let mut both = Sends::new(alloc);
-    both.push(send(1, ping(&rt, 0xa1, 6, 1)?, true))?;
-    both.push(send(12, ping(&rt, 0xa2, 255, 0)?, false))?;
+    both.push(send(1, ping(0xa1, 6, 1)?, true))?;
+    both.push(send(12, ping(0xa2, 255, 0)?, false))?;
     let (sends, none) = (both.copy(alloc)?, Sends::new(alloc));
     let lines = [
         line(&rt, Event::Route(0), Reply::Routed { sends, local: true })?,
@@ -88,11 +74,7 @@ fn steps_with_sends(rt: HostRuntime) -> Result<(), Fail> {
                 local: false,
             },
         )?,
-        line(
-            &rt,
-            Event::Originate(ping(&rt, 0xd1, 5, 0)?),
-            Reply::Sent(both),
-        )?,
+        line(&rt, Event::Originate(ping(0xd1, 5, 0)?), Reply::Sent(both))?,
     ];
     let texts: [&[u8]; 3] = [
         b"0 route 0 = routed local 1+a1a1a1a1a1a1a1a1a1a1a1a1a1a1a1a100060100000000 \
@@ -131,17 +113,7 @@ fn other_lines(rt: HostRuntime) -> Result<(), Fail> {
     push_frame_fault(&mut out, 3, FrameFault::TooLong(65_537))?;
     push_greeting_refused(&mut out, 2)?;
     push_ended(&mut out, 2)?;
-    let own = Own {
-        servent: Guid([0xee; 16]),
-        ip: [127, 0, 0, 1],
-        port: 6_346,
-        files: 5,
-        kbytes: 40,
-    };
-    let Ok(config) = Config::new(4, 8, 4, 8, 8, 100, own) else {
-        return Err(Fail::new("each number is in its limit"));
-    };
-    push_settings(&mut out, &config)?;
+    push_settings(&mut out, &usual(100)?)?;
     push_step_of(&mut out, 7, &Event::Connect, &Reply::<Global>::TooMany)?;
     push_reply(&mut out, &Reply::<Global>::Admitted(12))?;
     assert_eq!(rt;

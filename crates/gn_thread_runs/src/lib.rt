@@ -1,4 +1,4 @@
-//! Runs of many threads over links in memory, and loads of captures. Tests alone.
+//! Runs of many threads, over links in memory and over TCP, and loads of captures. Tests alone.
 #![tactic(auto)]
 
 #[cfg(test)]
@@ -7,3 +7,5 @@ mod in_step;
 mod loads;
 #[cfg(test)]
 mod runs;
+#[cfg(test)]
+mod serves;

@@ -3,9 +3,10 @@
 use crate::in_step::{Meeting, PacedLink};
 use bytes::Bytes;
 use gn_bodies::{ReaderEnd, WriterEnd};
+use gn_fixtures::OWN;
 use gn_links::{Gate, Link, MemoryLink, NoGate};
 use gn_router::TableRouter;
-use gn_rules::{Config, Own};
+use gn_rules::Config;
 use gn_run::Report;
 use gn_shake::Role;
 use gn_threads::{RunFault, run};
@@ -14,14 +15,6 @@ use std::alloc::Global;
 use std::sync::{Barrier, Wait};
 use std::test::Fail;
 use std::thread::Threads;
-
-const OWN: Own = Own {
-    servent: Guid([0xee; 16]),
-    ip: [127, 0, 0, 1],
-    port: 6346,
-    files: 5,
-    kbytes: 40,
-};
 
 /// Pings with these numbers in their IDs, TTL 7 and Hops 0, one after another.
 fn pings(alloc: Global, link: u8, count: u8) -> Result<Vec<u8>, Fail> {

@@ -1,0 +1,252 @@
+//! Runs over the loopback, with both ends in one process.
+
+use gn_bodies::{ReaderEnd, WriterEnd};
+use gn_fixtures::{OWN_PONG, PING, usual};
+use gn_links::NoGate;
+use gn_router::TableRouter;
+use gn_run::Report;
+use gn_serve::serve_on;
+use gn_tcp::{TcpReader, TcpWriter, listen};
+use gn_threads::RunFault;
+use std::alloc::Global;
+use std::io::{ErrorKind, Read, Write};
+use std::net::{Net, Shutdown, SocketAddr, TcpListener, TcpStream};
+use std::sync::Wait;
+use std::test::Fail;
+use std::thread::Threads;
+use std::time::Duration;
+use std::{io, thread};
+
+type Served = Result<Report<TcpReader, TcpWriter>, RunFault>;
+
+/// The Ping forwarded: TTL 6 and Hops 1.
+const FORWARDED: [u8; 23] = [
+    0xa1, 0xa1, 0xa1, 0xa1, 0xa1, 0xa1, 0xa1, 0xa1, 0xa1, 0xa1, 0xa1, 0xa1, 0xa1, 0xa1, 0xa1, 0xa1,
+    0, 6, 1, 0, 0, 0, 0,
+];
+
+/// A run over the table router with one worker.
+fn serve<R: Threads + Wait + Net<Listener = TcpListener, Stream = TcpStream> + Sync>(
+    rt: &R,
+    alloc: Global,
+    listener: &TcpListener,
+    accept: u32,
+    peers: &[SocketAddr],
+) -> Served {
+    let Ok(config) = usual(100) else {
+        return Err(RunFault::BadWorkers);
+    };
+    if accept > 128 || peers.len() > 64 {
+        return Err(RunFault::BadWorkers);
+    }
+    serve_on::<TableRouter, _, _, _>(
+        rt, alloc, listener, &config, accept, peers, None, 1, &NoGate,
+    )
+}
+
+/// How the two bodies of a link ended.
+fn ends_of(report: &Report<TcpReader, TcpWriter>, link: usize) -> Option<(ReaderEnd, WriterEnd)> {
+    let link = report.links.get(link)?;
+    Some((link.reader_end, link.writer_end))
+}
+
+/// Whether exactly these bytes come next.
+fn hears(peer: &mut TcpStream, bytes: &[u8]) -> io::Result<bool> {
+    let mut heard = [0u8; 64];
+    let n = bytes.len().min(64);
+    peer.read_exact(&mut heard[..n])?;
+    Ok(&heard[..n] == bytes)
+}
+
+/// Whether no more bytes come.
+fn hears_the_end(peer: &mut TcpStream) -> io::Result<bool> {
+    let mut heard = [0u8; 1];
+    Ok(peer.read(&mut heard)? == 0)
+}
+
+/// Two clients: the first sends a Ping, which the second hears and sends too.
+fn two_clients<N: Net<Listener = TcpListener, Stream = TcpStream>>(
+    net: &N,
+    at: SocketAddr,
+) -> io::Result<bool> {
+    let mut first = TcpStream::connect(net, at)?;
+    first.write_all(gn_shake::request())?;
+    let mut good = hears(&mut first, gn_shake::consent())?;
+    let mut second = TcpStream::connect(net, at)?;
+    second.write_all(gn_shake::request())?;
+    good &= hears(&mut second, gn_shake::consent())?;
+    first.write_all(PING)?;
+    good &= hears(&mut first, OWN_PONG)?;
+    good &= hears(&mut second, &FORWARDED)?;
+    second.write_all(PING)?;
+    first.shutdown(Shutdown::Write)?;
+    second.shutdown(Shutdown::Write)?;
+    good &= hears_the_end(&mut first)?;
+    good &= hears_the_end(&mut second)?;
+    Ok(good)
+}
+
+/// Two clients, and what they saw.
+fn two_are_served<R: Threads + Wait + Net<Listener = TcpListener, Stream = TcpStream> + Sync>(
+    rt: &R,
+    alloc: Global,
+) -> Result<(Option<bool>, Served), Fail> {
+    let listener = listen(rt, 0).map_err(|_| "a listener")?;
+    let at = listener.local_addr()?;
+    let listener = &listener;
+    Ok(thread::join(
+        rt,
+        move || two_clients(rt, at).ok(),
+        move || serve(rt, alloc, listener, 2, &[]),
+    ))
+}
+
+#[test]
+fn two_clients_are_served(rt: HostRuntime) -> Result<(), Fail> {
+    let (good, served) = two_are_served(&rt, rt.alloc())?;
+    assert_eq!(rt; good, Some(true));
+    let report = served.map_err(|_| "a report")?;
+    assert_eq!(rt; report.history.len(), 10);
+    assert_eq!(rt; (report.stats.connected, report.stats.admitted), (2, 2));
+    assert_eq!(rt; (report.stats.routed, report.stats.duplicate), (1, 1));
+    assert_eq!(rt; (report.stats.taken, report.stats.closed), (2, 2));
+    for link in &report.links {
+        assert_eq!(rt; link.reader_end, ReaderEnd::Bytes);
+        assert_eq!(rt; link.writer_end, WriterEnd::Drained);
+    }
+    Ok(())
+}
+
+/// Whether the system refuses what this peer goes on sending.
+fn is_refused(peer: &mut TcpStream) -> io::Result<bool> {
+    peer.set_write_timeout(Some(Duration::from_secs(10)))?;
+    for _ in 0..8192 {
+        if let Err(why) = peer.write(&[7u8; 4096]) {
+            return Ok(why.kind() != ErrorKind::WouldBlock);
+        }
+    }
+    Ok(false)
+}
+
+/// A stranger that doesn't greet, and after it a client: the run isn't over when the stranger is let go.
+fn a_stranger_and_a_client<N: Net<Listener = TcpListener, Stream = TcpStream>>(
+    net: &N,
+    at: SocketAddr,
+) -> io::Result<bool> {
+    let mut stranger = TcpStream::connect(net, at)?;
+    stranger.write_all(b"HTTP")?;
+    let mut good = hears_the_end(&mut stranger)?;
+    good &= is_refused(&mut stranger)?;
+    let mut client = TcpStream::connect(net, at)?;
+    client.write_all(gn_shake::request())?;
+    good &= hears(&mut client, gn_shake::consent())?;
+    client.shutdown(Shutdown::Write)?;
+    good &= hears_the_end(&mut client)?;
+    Ok(good)
+}
+
+/// A stranger and a client, and what they saw.
+fn both_are_served<R: Threads + Wait + Net<Listener = TcpListener, Stream = TcpStream> + Sync>(
+    rt: &R,
+    alloc: Global,
+) -> Result<(Option<bool>, Served), Fail> {
+    let listener = listen(rt, 0).map_err(|_| "a listener")?;
+    let at = listener.local_addr()?;
+    let listener = &listener;
+    Ok(thread::join(
+        rt,
+        move || a_stranger_and_a_client(rt, at).ok(),
+        move || serve(rt, alloc, listener, 2, &[]),
+    ))
+}
+
+#[test]
+fn a_stranger_is_let_go(rt: HostRuntime) -> Result<(), Fail> {
+    let (good, served) = both_are_served(&rt, rt.alloc())?;
+    assert_eq!(rt; good, Some(true));
+    let report = served.map_err(|_| "a report")?;
+    assert_eq!(rt; report.history.len(), 2);
+    assert_eq!(rt;
+        ends_of(&report, 0),
+        Some((ReaderEnd::GreetingRefused, WriterEnd::NeverOpened))
+    );
+    assert_eq!(rt;
+        ends_of(&report, 1),
+        Some((ReaderEnd::Bytes, WriterEnd::Drained))
+    );
+    Ok(())
+}
+
+/// A peer that is called: it consents, sends a Ping, and hears the Pong and the end.
+fn consents(listener: &TcpListener) -> io::Result<bool> {
+    let (mut caller, _) = listener.accept()?;
+    let mut good = hears(&mut caller, gn_shake::request())?;
+    caller.write_all(gn_shake::consent())?;
+    caller.write_all(PING)?;
+    caller.shutdown(Shutdown::Write)?;
+    good &= hears(&mut caller, OWN_PONG)?;
+    good &= hears_the_end(&mut caller)?;
+    Ok(good)
+}
+
+/// A peer that is called, and what it saw.
+fn one_is_called<R: Threads + Wait + Net<Listener = TcpListener, Stream = TcpStream> + Sync>(
+    rt: &R,
+    alloc: Global,
+) -> Result<(Option<bool>, Served), Fail> {
+    let listener = listen(rt, 0).map_err(|_| "a listener")?;
+    let theirs = listen(rt, 0).map_err(|_| "a listener")?;
+    let at = [theirs.local_addr()?];
+    let (listener, theirs, at) = (&listener, &theirs, &at);
+    Ok(thread::join(
+        rt,
+        move || consents(theirs).ok(),
+        move || serve(rt, alloc, listener, 0, at.as_slice()),
+    ))
+}
+
+#[test]
+fn a_peer_is_called(rt: HostRuntime) -> Result<(), Fail> {
+    let (good, served) = one_is_called(&rt, rt.alloc())?;
+    assert_eq!(rt; good, Some(true));
+    let report = served.map_err(|_| "a report")?;
+    assert_eq!(rt; report.history.len(), 5);
+    assert_eq!(rt;
+        ends_of(&report, 0),
+        Some((ReaderEnd::Bytes, WriterEnd::Drained))
+    );
+    Ok(())
+}
+
+/// A peer that is called, and waits for the end.
+fn is_let_go(listener: &TcpListener) -> io::Result<bool> {
+    let (mut caller, _) = listener.accept()?;
+    let mut good = hears(&mut caller, gn_shake::request())?;
+    good &= hears_the_end(&mut caller)?;
+    Ok(good)
+}
+
+/// A peer that is called before one that isn't there, and what it saw.
+fn one_is_missing<R: Threads + Wait + Net<Listener = TcpListener, Stream = TcpStream> + Sync>(
+    rt: &R,
+    alloc: Global,
+) -> Result<(Option<bool>, Served), Fail> {
+    let listener = listen(rt, 0).map_err(|_| "a listener")?;
+    let theirs = listen(rt, 0).map_err(|_| "a listener")?;
+    let nobody = listen(rt, 0).map_err(|_| "a listener")?.local_addr()?;
+    let at = [theirs.local_addr()?, nobody];
+    let (listener, theirs, at) = (&listener, &theirs, &at);
+    Ok(thread::join(
+        rt,
+        move || is_let_go(theirs).ok(),
+        move || serve(rt, alloc, listener, 1, at.as_slice()),
+    ))
+}
+
+#[test]
+fn a_peer_that_is_not_there_ends_the_run(rt: HostRuntime) -> Result<(), Fail> {
+    let (good, served) = one_is_missing(&rt, rt.alloc())?;
+    assert_eq!(rt; good, Some(true));
+    assert_eq!(rt; served.err(), Some(RunFault::Call(1)));
+    Ok(())
+}

@@ -1,0 +1,337 @@
+//! Runs of whole stages.
+
+ghost use Rattle.std.specs.Prelude.{◌≡◌, ◌<◌, ◌≤◌};
+
+use bytes::Bytes;
+use gn_stage::*;
+use gn_wire::{Descriptor, Guid, Kind};
+use linked_list_allocator::LocalHeap;
+use std::alloc::{AllocError, Allocator, Global};
+use std::marker::Brand;
+use std::sync::Wait;
+use std::test::Fail;
+use std::thread;
+use std::thread::Threads;
+use std::time::{Clock, Duration};
+
+/// A Ping with this ticket.
+fn job<A: Allocator>(ticket: u32) -> Result<Job<A>, AllocError> {
+    match Descriptor::new(Guid([0; 16]), Kind::Ping, 5, 0, Bytes::new()) {
+        Ok(descriptor) => Ok(Job { ticket, descriptor }),
+        Err(_) => Err(AllocError),
+    }
+}
+
+/// What a settled stage says: how many jobs were put and taken, and the tickets that were drained.
+fn summary_of<A: Allocator>(
+    alloc: Global,
+    settled: &Settled<A>,
+) -> Result<(u64, u64, Vec<u32>), AllocError> {
+    let mut tickets = Vec::new(alloc);
+    for job in &settled.drained {
+        tickets.push(job.ticket)?;
+    }
+    Ok((settled.put, settled.taken, tickets))
+}
+
+/// Two jobs are put and one is taken. With two intakes the second comes home late.
+fn one_thread<S: Site, R: Wait>(
+    rt: &R,
+    alloc: Global,
+    stage: Stage,
+    intakes: u32,
+) -> Result<(Option<u32>, Option<StageFault>, Settled), AllocError>
+    requires { stage ≡ S.stage }
+{
+    let (mut ins, mut outs, desk) = stage.ends::<S>(alloc, intakes, 1)?;
+    let late = if intakes == 2 { ins.pop() } else { None };
+    let (Some(mut intake), Some(mut outlet)) = (ins.pop(), outs.pop()) else {
+        return Err(AllocError);
+    };
+    for ticket in 0..2 {
+        if intake.put(rt, job(ticket)?).is_err() {
+            return Err(AllocError);
+        }
+    }
+    let first = outlet.take(rt).map(|job| job.ticket);
+    let (mut ins, mut outs) = (Vec::new(alloc), Vec::new(alloc));
+    ins.push(intake.finish())?;
+    outs.push(outlet.finish())?;
+    match desk.settle(rt, alloc, ins, outs) {
+        Ok(settled) => Ok((first, None, settled)),
+        Err(
+            Unsettled {
+                fault,
+                desk,
+                intakes: mut ins,
+                outlets: outs,
+            },
+        ) => {
+            if let Some(late) = late {
+                ins.insert(0, late.finish())?;
+            }
+            match desk.settle(rt, alloc, ins, outs) {
+                Ok(settled) => Ok((first, Some(fault), settled)),
+                Err(_) => Err(AllocError),
+            }
+        }
+    }
+}
+
+fn in_one_thread<R: Wait>(
+    rt: &R,
+    alloc: Global,
+    intakes: u32,
+) -> Result<(Option<u32>, Option<StageFault>, Settled), AllocError> {
+    one_thread::<Brand, R>(rt, alloc, Stage::new(alloc, 2)?, intakes)
+}
+
+#[test]
+fn stage_settles(rt: HostRuntime) -> Result<(), Fail> {
+    for (intakes, want) in [(1, None), (2, Some(StageFault::Missing))] {
+        let (first, fault, settled) = in_one_thread(&rt, rt.alloc(), intakes)?;
+        let (put, taken, drained) = summary_of(rt.alloc(), &settled)?;
+        assert_eq!(rt; first, Some(0));
+        assert_eq!(rt; fault, want);
+        assert_eq!(rt; (put, taken), (2, 1));
+        assert_eq!(rt; drained.as_slice(), [1].as_slice());
+    }
+    Ok(())
+}
+
+/// The desk is first given a heap with no room, then the one that the stage was made on.
+fn poor_then_rich<A: Allocator + Copy, S: Site, R: Wait>(
+    rt: &R,
+    poor: A,
+    rich: A,
+    stage: Stage<A>,
+) -> Result<(StageFault, Settled<A>), AllocError>
+    requires { stage ≡ S.stage }
+{
+    let (mut ins, _, desk) = stage.ends::<S>(rich, 1, 0)?;
+    let mut homes = Vec::new(rich);
+    if let Some(intake) = ins.pop() {
+        homes.push(intake.finish())?;
+    }
+    let Err(
+        Unsettled {
+            fault,
+            desk,
+            intakes,
+            outlets,
+        },
+    ) = desk.settle(rt, poor, homes, Vec::new(rich))
+    else {
+        return Err(AllocError);
+    };
+    match desk.settle(rt, rich, intakes, outlets) {
+        Ok(settled) => Ok((fault, settled)),
+        Err(_) => Err(AllocError),
+    }
+}
+
+fn on_two_heaps<A: Allocator + Copy, R: Wait>(
+    rt: &R,
+    poor: A,
+    rich: A,
+) -> Result<(StageFault, Settled<A>), AllocError> {
+    poor_then_rich::<A, Brand, R>(rt, poor, rich, Stage::new(rich, 64)?)
+}
+
+#[test]
+fn no_memory_hands_all_back(rt: HostRuntime) -> Result<(), Fail> {
+    let (poor, rich) = (
+        LocalHeap::new(rt.alloc(), 64)?,
+        LocalHeap::new(rt.alloc(), 65_536)?,
+    );
+    let (fault, settled) = on_two_heaps(&rt, &poor, &rich)?;
+    assert_eq!(rt; fault, StageFault::NoMemory);
+    assert_eq!(rt;
+        summary_of(rt.alloc(), &settled)?,
+        (0, 0, Vec::new(rt.alloc()))
+    );
+    Ok(())
+}
+
+fn put_all<S: Site, R: Wait>(
+    rt: &R,
+    mut intake: Intake<S>,
+    first: u32,
+    count: u32,
+) -> IntakeHome<S> {
+    for i in 0..count {
+        let Ok(job) = job(first.wrapping_add(i)) else {
+            break;
+        };
+        if intake.put(rt, job).is_err() {
+            break;
+        }
+    }
+    intake.finish()
+}
+
+fn take_all<S: Site, R: Wait>(
+    rt: &R,
+    alloc: Global,
+    mut outlet: Outlet<S>,
+) -> (OutletHome<S>, Vec<u32>) {
+    let mut tickets = Vec::new(alloc);
+    for _ in rt.forever() {
+        let Some(job) = outlet.take(rt) else {
+            break;
+        };
+        if tickets.push(job.ticket).is_err() {
+            break;
+        }
+    }
+    (outlet.finish(), tickets)
+}
+
+/// A thread for each end: each intake puts so many jobs, each outlet takes until there are no more. It gives what was
+/// taken, too.
+fn many_threads<S: Site + Send, R: Threads + Wait + Sync>(
+    rt: &R,
+    alloc: Global,
+    stage: Stage,
+    intakes: u32,
+    outlets: u32,
+    count: u32,
+) -> Result<(Vec<u32>, Settled), AllocError>
+    requires { stage ≡ S.stage }
+{
+    let (ins, outs, desk) = stage.ends::<S>(alloc, intakes, outlets)?;
+    let mut tickets = Vec::new(alloc);
+    let (ins, outs) = thread::scope(
+        thread::scope_env(),
+        rt,
+        |scope| -> Result<(Vec<IntakeHome<S>>, Vec<OutletHome<S>>), AllocError> {
+            let (mut putting, mut taking) = (Vec::new(alloc), Vec::new(alloc));
+            for outlet in outs {
+                taking.push(scope.spawn(move || take_all(rt, alloc, outlet))?)?;
+            }
+            let mut first = 0u32;
+            for intake in ins {
+                putting.push(scope.spawn(move || put_all(rt, intake, first, count))?)?;
+                first = first.wrapping_add(count);
+            }
+            let (mut ins, mut outs) = (Vec::new(alloc), Vec::new(alloc));
+            for thread in putting {
+                ins.push(thread.join(rt))?;
+            }
+            for thread in taking {
+                let (home, taken) = thread.join(rt);
+                tickets.extend_from_slice(taken.as_slice())?;
+                outs.push(home)?;
+            }
+            Ok((ins, outs))
+        },
+    )?;
+    match desk.settle(rt, alloc, ins, outs) {
+        Ok(settled) => Ok((tickets, settled)),
+        Err(_) => Err(AllocError),
+    }
+}
+
+/// How many jobs were put, taken and drained, with all tickets in order.
+fn counted<R: Threads + Wait + Sync>(
+    rt: &R,
+    alloc: Global,
+    capacity: usize,
+    intakes: u32,
+    outlets: u32,
+    count: u32,
+) -> Result<((u64, u64, usize), Vec<u32>), AllocError>
+    requires { (0 < capacity) × (capacity ≤ 4096) }
+{
+    let stage = Stage::new(alloc, capacity)?;
+    let (mut tickets, settled) = many_threads::<Brand, R>(
+        rt, alloc, stage, intakes, outlets, count,
+    )?;
+    let (put, taken, drained) = summary_of(alloc, &settled)?;
+    tickets.extend_from_slice(drained.as_slice())?;
+    tickets.sort()?;
+    Ok(((put, taken, drained.len()), tickets))
+}
+
+#[test]
+fn each_job_is_there_once(rt: HostRuntime) -> Result<(), Fail> {
+    for (capacity, intakes, outlets, count, want) in [
+        (2, 2, 2, 100, (200, 200, 0)),
+        (1, 1, 1, 100, (100, 100, 0)),
+        (4096, 0, 2, 100, (0, 0, 0)),
+        (4096, 2, 0, 100, (0, 0, 0)),
+        (4096, 0, 0, 100, (0, 0, 0)),
+    ] {
+        let (counts, tickets) = counted(&rt, rt.alloc(), capacity, intakes, outlets, count)?;
+        assert_eq!(rt; counts, want);
+        for i in 0..tickets.len() {
+            assert_eq!(rt; tickets[i] as usize, i);
+        }
+    }
+    Ok(())
+}
+
+#[test]
+fn seven_put_and_five_take_a_hundred_times(rt: HostRuntime) -> Result<(), Fail> {
+    for _ in 0..100 {
+        let (counts, tickets) = counted(&rt, rt.alloc(), 1, 7, 5, 10)?;
+        assert_eq!(rt; counts, (70, 70, 0));
+        for i in 0..tickets.len() {
+            assert_eq!(rt; tickets[i] as usize, i);
+        }
+    }
+    Ok(())
+}
+
+/// A thread waits at a full queue of one while the only outlet finishes. It gives the ticket that came back.
+fn outlet_leaves<S: Site + Send, R: Threads + Wait + Sync + Clock>(
+    rt: &R,
+    alloc: Global,
+    stage: Stage,
+) -> Result<(Option<u32>, Settled), AllocError>
+    requires { stage ≡ S.stage }
+{
+    let (mut ins, mut outs, desk) = stage.ends::<S>(alloc, 1, 1)?;
+    let (Some(mut intake), Some(outlet)) = (ins.pop(), outs.pop()) else {
+        return Err(AllocError);
+    };
+    let (ins, outs, back) = thread::scope(
+        thread::scope_env(),
+        rt,
+        |scope| -> Result<(Vec<IntakeHome<S>>, Vec<OutletHome<S>>, Option<u32>), AllocError> {
+            let _ = intake.put(rt, job(0)?);
+            let second = job(1)?;
+            let putting = scope.spawn(move || {
+                let back = intake.put(rt, second).err().map(|job| job.ticket);
+                (intake.finish(), back)
+            })?;
+            thread::sleep(rt, Duration::from_millis(100));
+            let (mut ins, mut outs) = (Vec::new(alloc), Vec::new(alloc));
+            outs.push(outlet.finish())?;
+            let (home, back) = putting.join(rt);
+            ins.push(home)?;
+            Ok((ins, outs, back))
+        },
+    )?;
+    match desk.settle(rt, alloc, ins, outs) {
+        Ok(settled) => Ok((back, settled)),
+        Err(_) => Err(AllocError),
+    }
+}
+
+fn left<R: Threads + Wait + Sync + Clock>(
+    rt: &R,
+    alloc: Global,
+) -> Result<(Option<u32>, Settled), AllocError> {
+    outlet_leaves::<Brand, R>(rt, alloc, Stage::new(alloc, 1)?)
+}
+
+#[test]
+fn a_put_that_waits_gets_its_job_back(rt: HostRuntime) -> Result<(), Fail> {
+    let (back, settled) = left(&rt, rt.alloc())?;
+    let (put, taken, drained) = summary_of(rt.alloc(), &settled)?;
+    assert_eq!(rt; back, Some(1));
+    assert_eq!(rt; (put, taken), (1, 0));
+    assert_eq!(rt; drained.as_slice(), [0].as_slice());
+    Ok(())
+}
