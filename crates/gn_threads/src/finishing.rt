@@ -83,7 +83,8 @@ pub(crate) fn finish<
         (writes_of W.is_known W.bytes_written W.failures W.is_stuck W.is_finished)
         config.now roles.now report) }
     ensures workers { IfOk result (λ report. vec_len report.workers ≡ vec_len done.workers) }
-    ensures read { IfOk result (λ report. map reader_reported report.links.items ≡ map reader_ended done.readers.items) }
+    ensures read { IfOk result (λ report.
+        map reader_reported report.links.items ≡ map reader_ended done.readers.items) }
     ensures written { IfOk result (λ report.
         map writer_reported report.links.items ≡ map writer_ended done.writers.items) }
     ensures clean { IfOk result (λ _. (k : ℕ) (d : WorkerDone S L A) → k < vec_len done.workers
