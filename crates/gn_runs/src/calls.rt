@@ -1,7 +1,7 @@
 //! What only calls can ask of a router.
 
-use crate::run::OWN;
 use bytes::Bytes;
+use gn_fixtures::OWN;
 use gn_payload::Checked;
 use gn_plain::PlainRouter;
 use gn_router::TableRouter;

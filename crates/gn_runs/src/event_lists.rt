@@ -3,7 +3,8 @@
 use crate::compare::same;
 use crate::encoding::encoded;
 use crate::request_runs::request_run;
-use crate::run::{OWN, Run};
+use crate::run::Run;
+use gn_fixtures::OWN;
 use gn_frames::Reassembler;
 use gn_plain::PlainRouter;
 use gn_router::TableRouter;
