@@ -1,7 +1,7 @@
 //! The lines of a capture, played on a router one after the other.
 
 ghost use Rattle.std.specs.Prelude.{◌≡◌, ◌++◌, [], List, reverse, IfOk, IfErr, OnOk, OnErr};
-ghost use Rattle.gn_io.specs.Parts.{AppendsPart, LeavesToWrite, WaitsPart};
+ghost use Rattle.gn_io.specs.Parts.{AppendsPart, WaitsPart};
 ghost use Rattle.gn_io.specs.Streams.{NoWriteFailed};
 ghost use Rattle.gn_replay.specs.Links.{AreLinks, LinkState};
 ghost use Rattle.gn_replay.specs.ReplayText.{capture_plays, plays};

@@ -1,16 +1,13 @@
 -- From what each body keeps and what is compared of a report to the headline.
-use Rattle.std.proofs.Common.{◌≡◌, ◌==◌, ◌<◌, ◌+◌, ◌++◌, ℕ, Bool, true, List, length, map, get_or, reverse, take, Option, Some, None, refl, sym, ap, ◌∙◌, subst, arith}
-use Rattle.std.specs.List.{list_all, sum_by}
+use Rattle.std.proofs.Common.{◌≡◌, ◌<◌, ◌+◌, ◌++◌, ℕ, Bool, true, List, length, map, get_or, reverse, take, Option, Some, None, refl, sym, ap, ◌∙◌, subst, arith}
 use Rattle.std.specs.Prelude.{IfOk, IfSome, Ok, Err, Result}
 use Rattle.std.proofs.Math.Seq.{take-length}
 use Rattle.std.proofs.lemmas.Bool.{eqb-true}
 use Rattle.std.proofs.lemmas.List.{append-nil, get_or-map, length-map}
 use Rattle.std.proofs.lemmas.Simd.{map-map}
 use Rattle.gn_rules.specs.declared.config.Config.{Config}
-use Rattle.gn_rules.specs.declared.receipt.Receipt.{Receipt}
 use Rattle.gn_rules.specs.declared.receipt.Step.{Step}
 use Rattle.gn_rules.specs.Legal.{IsLegal}
-use Rattle.gn_rules.specs.Mine.{mine}
 use Rattle.gn_shake.specs.declared.role.Role.{Role}
 use Rattle.gn_shake.specs.declared.role.Role.TheVariants.{Plain}
 use Rattle.gn_bodies.specs.declared.ends.ReaderEnd.{ReaderEnd}
@@ -20,10 +17,9 @@ use Rattle.gn_bodies.specs.declared.reader.ReaderDone.{ReaderDone}
 use Rattle.gn_bodies.specs.declared.writer.WriterDone.{WriterDone}
 use Rattle.gn_links.specs.Halves.{Source}
 use Rattle.gn_bodies.specs.ReaderRows.{SourceRow}
-use Rattle.gn_bodies.specs.Events.{connection_from, link_events_in, packets_in}
+use Rattle.gn_bodies.specs.Events.{link_events_in}
 use Rattle.gn_laws.specs.Owners.{LinkAgrees, packets_of, known_conn}
 use Rattle.gn_laws.specs.Tickets.{admitted, routed}
-use Rattle.gn_laws.specs.Runs.{RoutesAll}
 use Rattle.gn_laws.proofs.OwnerLemmas.{links_agree}
 use Rattle.gn_laws.proofs.RunLemmas.{equal_counts_route_all}
 use Rattle.gn_run.specs.declared.report.LinkReport.{LinkReport}
@@ -33,7 +29,7 @@ use Rattle.gn_run.specs.Ends.{is_balanced, is_settled}
 use Rattle.gn_run.specs.Flaw.{IsFlaw}
 use Rattle.gn_run.proofs.ConfirmedLemmas.{compared, house_at, reader_at, took_all, worker_at, writer_at}
 use Rattle.gn_threads.specs.Halves.{Half, ReadsAs, WrittenHalf, ReadHalf, WritesAs}
-use Rattle.gn_threads.specs.Headline.{AreMadeOf, HasOwnSteps, LinkHolds, LinksHold, LinksReadOwn, OthersRoute, ReadsOwn, RoutesEachOnce}
+use Rattle.gn_threads.specs.Headline.{AreMadeOf, HasOwnSteps, LinksHold, LinksReadOwn, OthersRoute, ReadsOwn, RoutesEachOnce}
 use Rattle.gn_threads.specs.Kept.{EachKeeps, Ended, ReaderKeeps, ReaderPromises, WriterKeeps, WriterPromises, reader_ended, halved, writer_ended}
 use Rattle.gn_threads.specs.Gathered.{reader_reported, writer_reported}
 use Rattle.gn_threads.proofs.KeptLemmas.{keeps_less, some_of, known_of}

@@ -1,13 +1,13 @@
 -- Two words for the connection and for the packets of receipts, and the receipts of all actors, counted.
-use Rattle.std.proofs.Common.{◌≡◌, ◌+◌, ◌++◌, ℕ, List, [], ◌∷◌, length, map, Vec, Option, Some, None, refl, sym, ap, ◌∙◌, arith}
-use Rattle.std.specs.List.{filter_map, sum_by}
+use Rattle.std.proofs.Common.{◌≡◌, ◌+◌, ◌++◌, ℕ, List, [], ◌∷◌, length, map, Vec, Option, Some, None, refl, ap, arith}
+use Rattle.std.specs.List.{sum_by}
 use Rattle.std.specs.Option.{option_or}
 use Rattle.std.proofs.lemmas.List.Sums.{sum_by-append, sum_by-cons}
 use Rattle.gn_rules.specs.declared.receipt.Receipt.{Receipt}
 use Rattle.gn_rules.specs.declared.reply.Reply.{Reply}
 use Rattle.gn_rules.specs.declared.reply.Reply.TheVariants.{Connected, TooMany, Closed, Admitted, Busy, Routed, Dropped, Taken, Sent}
-use Rattle.gn_rules.specs.History.{connected_of, taken_of}
-use Rattle.gn_bodies.specs.Events.{connection_after, connection_from, packet_of, packets_in}
+use Rattle.gn_rules.specs.History.{connected_of}
+use Rattle.gn_bodies.specs.Events.{connection_from, packets_in}
 use Rattle.gn_laws.specs.Owners.{packets_of, known_conn}
 use Rattle.gn_run.specs.declared.report.LinkReport.{LinkReport}
 use Rattle.gn_threads.specs.Gathered.{link_receipts, worker_receipts}

@@ -1,5 +1,5 @@
 use Rattle.gn_text.specs.Parsed.{line_seen}
-use Rattle.gn_replay.proofs.ExplainedLemmas.{line_explained, line_there}
+use Rattle.gn_replay.proofs.ExplainedLemmas.{line_explained}
 use Rattle.gn_replay.proofs.explanation.explain.Goals as goal
 
 pub returns : goal.returns
