@@ -40,6 +40,10 @@ impl<C: RouterCore<A>, A: Allocator + Copy> RouterCore<A> for Looked<C> {
         self.core.apply(actor, event)
     }
 
+    fn enter(&mut self, actor: u32, event: Event<A>) -> Result<(), Refusal> {
+        self.core.enter(actor, event)
+    }
+
     fn route(
         &mut self,
         actor: u32,

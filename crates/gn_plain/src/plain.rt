@@ -44,10 +44,24 @@ impl<A: Allocator + Copy> PlainRouter<A> {
         Past::with_flights(&self.config, &self.history, self.flying.len())
     }
 
+    /// Adds a step with the rules' reply. An `Err` is out of memory, and changes nothing.
+    #[tactic(auto, using(gn_rules::proofs::PastLemmas::past_length, gn_rules::proofs::PastLemmas::past_push, gn_rules::proofs::LegalLemmas::legal_within))]
+    fn add(&mut self, step: Step<A>) -> Result<(), AllocError>
+        requires { rules.answer self.old.settings (reverse self.old.steps) step.event ≡ Ok step.reply }
+        ensures step { OnOk result (self.new.steps ≡ self.old.steps ++ step ∷ []) }
+        ensures err { OnErr result (self.new.steps ≡ self.old.steps) }
+        ensures settings { self.new.settings ≡ self.old.settings }
+    {
+        self.history.reserve(1)?;
+        self.flying.reserve(1)?;
+        follow(&mut self.flying, &step.event, &step.reply);
+        self.history.push_reserved(step);
+        Ok(())
+    }
+
     /// Adds the step of an event and the rules' reply, and gives its receipt. An `Err` is out of memory, and changes
     /// nothing.
-    #[tactic(auto, using(gn_rules::proofs::PastLemmas::past_length, gn_rules::proofs::PastLemmas::past_push, gn_rules::proofs::LegalLemmas::legal_within))]
-    fn add(
+    fn add_with_receipt(
         &mut self,
         actor: u32,
         event: &Event<A>,
@@ -61,17 +75,9 @@ impl<A: Allocator + Copy> PlainRouter<A> {
         ensures err { OnErr result (self.new.steps ≡ self.old.steps) }
         ensures settings { self.new.settings ≡ self.old.settings }
     {
-        let (step, receipt) = Step::with_receipt(
-            self.alloc,
-            self.history.len() as u32,
-            actor,
-            event,
-            reply,
-        )?;
-        self.history.reserve(1)?;
-        self.flying.reserve(1)?;
-        follow(&mut self.flying, event, &receipt.reply);
-        self.history.push_reserved(step);
+        let index = self.history.len() as u32;
+        let (step, receipt) = Step::with_receipt(self.alloc, index, actor, event, reply)?;
+        self.add(step)?;
         Ok(receipt)
     }
 }
@@ -92,7 +98,17 @@ impl<A: Allocator + Copy> RouterCore<A> for PlainRouter<A> {
 
     fn apply(&mut self, actor: u32, event: &Event<A>) -> Result<Receipt<A>, Refusal> {
         let reply = find(self.alloc, &self.past(), event)?;
-        Ok(self.add(actor, event, reply)?)
+        Ok(self.add_with_receipt(actor, event, reply)?)
+    }
+
+    fn enter(&mut self, actor: u32, event: Event<A>) -> Result<(), Refusal> {
+        let reply = find(self.alloc, &self.past(), &event)?;
+        self.add(Step {
+            actor,
+            event,
+            reply,
+        })?;
+        Ok(())
     }
 
     fn route(
@@ -102,7 +118,7 @@ impl<A: Allocator + Copy> RouterCore<A> for PlainRouter<A> {
         checked: &Checked<A>,
     ) -> Result<Receipt<A>, Refusal> {
         let reply = find_checked(self.alloc, &self.past(), ticket, checked)?;
-        Ok(self.add(actor, &Event::Route(ticket), reply)?)
+        Ok(self.add_with_receipt(actor, &Event::Route(ticket), reply)?)
     }
 
     fn config(&self) -> &Config {

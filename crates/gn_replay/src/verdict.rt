@@ -49,7 +49,7 @@ pub(crate) fn judge_text<A: Allocator + Copy, C: RouterCore<A> + Drop>(
 {
     let (config, steps) = read_history(alloc, text)?;
     let mut core = C::make(alloc, &config)?;
-    let judgement = judge(&mut core, &steps)?;
+    let judgement = judge(alloc, &mut core, &steps)?;
     Ok((judgement, steps.len()))
 }
 
