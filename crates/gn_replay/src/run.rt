@@ -70,8 +70,8 @@ impl<A: Allocator + Copy, C: RouterCore<A>> Play<A, C> {
         ensures cause { IfErr result (λ fault. IsPlayFault fault (W.state sink.old) (W.state sink.new)) }
         ensures writes { OnOk result (NoWriteFailed (W.state sink.old) (W.state sink.new)) }
     {
-        for (_, line) in lines {
-            self.write_line(&line, block, sink)?;
+        for numbered in lines {
+            self.write_line(&numbered.1, block, sink)?;
         }
         Ok(())
     }
