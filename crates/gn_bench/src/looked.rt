@@ -40,6 +40,14 @@ impl<C: RouterCore<A>, A: Allocator + Copy> RouterCore<A> for Looked<C> {
         self.core.apply(actor, event)
     }
 
+    fn is_answered(&self, step: &Step<A>) -> bool {
+        self.core.is_answered(step)
+    }
+
+    fn add(&mut self, step: Step<A>) -> Result<(), AllocError> {
+        self.core.add(step)
+    }
+
     fn enter(&mut self, actor: u32, event: Event<A>) -> Result<(), Refusal> {
         self.core.enter(actor, event)
     }

@@ -1,6 +1,6 @@
 //! A router that keeps its history and searches it for every answer.
 
-ghost use Rattle.std.specs.Prelude.{◌≡◌, ◌≤◌, ◌++◌, ◌∷◌, [], Ok, length, reverse, IfOk, OnErr, OnOk};
+ghost use Rattle.std.specs.Prelude.{◌≡◌, ◌≤◌, ◌++◌, ◌∷◌, [], Ok, length, reverse, IfOk, OnErr};
 ghost use Rattle.gn_rules.specs.declared.config.Config.{Config};
 ghost use Rattle.gn_plain.specs.Kept.{IsKept};
 
@@ -8,7 +8,7 @@ use crate::counting::stats_in;
 use crate::flying::follow;
 use crate::live;
 use crate::past::Past;
-use gn_decide::{Lookup, find, find_checked};
+use gn_decide::{Lookup, find, find_checked, is_answered};
 use gn_payload::Checked;
 use gn_rules::{Config, ConnId, Event, Receipt, Refusal, Reply, RouterCore, Stats, Step, Ticket};
 use std::alloc::{AllocError, Allocator, Global};
@@ -42,21 +42,6 @@ impl<A: Allocator + Copy> PlainRouter<A> {
         ensures { result ≡ self.now }
     {
         Past::with_flights(&self.config, &self.history, self.flying.len())
-    }
-
-    /// Adds a step with the rules' reply. An `Err` is out of memory, and changes nothing.
-    #[tactic(auto, using(gn_rules::proofs::PastLemmas::past_length, gn_rules::proofs::PastLemmas::past_push, gn_rules::proofs::LegalLemmas::legal_within))]
-    fn add(&mut self, step: Step<A>) -> Result<(), AllocError>
-        requires { rules.answer self.old.settings (reverse self.old.steps) step.event ≡ Ok step.reply }
-        ensures step { OnOk result (self.new.steps ≡ self.old.steps ++ step ∷ []) }
-        ensures err { OnErr result (self.new.steps ≡ self.old.steps) }
-        ensures settings { self.new.settings ≡ self.old.settings }
-    {
-        self.history.reserve(1)?;
-        self.flying.reserve(1)?;
-        follow(&mut self.flying, &step.event, &step.reply);
-        self.history.push_reserved(step);
-        Ok(())
     }
 
     /// Adds the step of an event and the rules' reply, and gives its receipt. An `Err` is out of memory, and changes
@@ -99,6 +84,19 @@ impl<A: Allocator + Copy> RouterCore<A> for PlainRouter<A> {
     fn apply(&mut self, actor: u32, event: &Event<A>) -> Result<Receipt<A>, Refusal> {
         let reply = find(self.alloc, &self.past(), event)?;
         Ok(self.add_with_receipt(actor, event, reply)?)
+    }
+
+    fn is_answered(&self, step: &Step<A>) -> bool {
+        is_answered(&self.past(), step)
+    }
+
+    #[tactic(auto, using(gn_rules::proofs::PastLemmas::past_length, gn_rules::proofs::PastLemmas::past_push, gn_rules::proofs::LegalLemmas::legal_within))]
+    fn add(&mut self, step: Step<A>) -> Result<(), AllocError> {
+        self.history.reserve(1)?;
+        self.flying.reserve(1)?;
+        follow(&mut self.flying, &step.event, &step.reply);
+        self.history.push_reserved(step);
+        Ok(())
     }
 
     fn enter(&mut self, actor: u32, event: Event<A>) -> Result<(), Refusal> {

@@ -1,30 +1,17 @@
 //! The table router keeps what every router promises.
 
-ghost use Rattle.std.specs.Prelude.{◌≡◌, ◌∷◌, ◌++◌, [], Ok, length, IfOk, IfErr, OnErr, OnOk};
+ghost use Rattle.std.specs.Prelude.{◌≡◌, ◌∷◌, ◌++◌, [], Ok, length, IfOk, IfErr, OnErr};
 ghost use Rattle.gn_rules.specs.Answer.{answer};
 ghost use Rattle.gn_rules.specs.declared.refusal.Refusal.TheVariants.{NoMemory};
 ghost use Rattle.gn_router.specs.Tabled.{past_of};
 
 use crate::table_router::TableRouter;
-use gn_decide::{Lookup, find, find_checked};
+use gn_decide::{Lookup, find, find_checked, is_answered};
 use gn_payload::Checked;
 use gn_rules::{Config, ConnId, Event, Receipt, Refusal, Reply, RouterCore, Stats, Step, Ticket};
 use std::alloc::{AllocError, Allocator};
 
 impl<A: Allocator + Copy> TableRouter<A> {
-    /// Makes a step whose reply was found. An `Err` is out of memory, and changes nothing.
-    fn add(&mut self, step: Step<A>) -> Result<(), AllocError>
-        requires { answer self.old.settings (past_of self.old) step.event ≡ Ok step.reply }
-        ensures step { OnOk result (self.new.steps ≡ self.old.steps ++ step ∷ []) }
-        ensures err { OnErr result (self.new.steps ≡ self.old.steps) }
-        ensures settings { self.new.settings ≡ self.old.settings }
-    {
-        self.history.reserve(1)?;
-        self.tables.follow(self.alloc, &step.event, &step.reply)?;
-        self.history.push_reserved(step);
-        Ok(())
-    }
-
     /// Makes the step of an event whose reply was found, and gives its receipt. The one refusal is out of memory, and
     /// changes nothing.
     fn add_with_receipt(
@@ -70,6 +57,17 @@ impl<A: Allocator + Copy> RouterCore<A> for TableRouter<A> {
     fn apply(&mut self, actor: u32, event: &Event<A>) -> Result<Receipt<A>, Refusal> {
         let reply = find(self.alloc, self, event)?;
         self.add_with_receipt(actor, event, reply)
+    }
+
+    fn is_answered(&self, step: &Step<A>) -> bool {
+        is_answered(self, step)
+    }
+
+    fn add(&mut self, step: Step<A>) -> Result<(), AllocError> {
+        self.history.reserve(1)?;
+        self.tables.follow(self.alloc, &step.event, &step.reply)?;
+        self.history.push_reserved(step);
+        Ok(())
     }
 
     fn enter(&mut self, actor: u32, event: Event<A>) -> Result<(), Refusal> {

@@ -1,6 +1,6 @@
 //! What every router promises.
 
-ghost use Rattle.std.specs.Prelude.{◌≡◌, ◌∷◌, ◌++◌, [], List, Ok, Err, length, reverse, IfErr, IfOk, OnErr, OnOk};
+ghost use Rattle.std.specs.Prelude.{◌≡◌, ◌↔◌, ◌∷◌, ◌++◌, [], List, Ok, Err, length, reverse, IfErr, IfOk, IsTrue, OnErr, OnOk};
 ghost use Rattle.gn_rules.specs.Answer.{Finds, answer, checked_answer, reply_of};
 ghost use Rattle.gn_rules.specs.Flight.{flying};
 ghost use Rattle.gn_rules.specs.Legal.{IsLegal};
@@ -51,6 +51,18 @@ pub trait RouterCore<A: Allocator + Copy> {
             × (steps self.new ≡ steps self.old ++ record { actor = actor; event = event; reply = reply } ∷ [])) }
         ensures refusal { IfErr result (λ refusal.
             Finds (Err refusal) (answer (settings self.old) (reverse (steps self.old)) event)) }
+        ensures err { OnErr result (steps self.new ≡ steps self.old) }
+        ensures settings { settings self.new ≡ settings self.old };
+
+    /// Whether a step's reply is the rules' answer to its event. Takes no memory.
+    fn is_answered(&self, step: &Step<A>) -> bool
+        ensures { IsTrue result
+            ↔ (answer (settings self.now) (reverse (steps self.now)) step.now.event ≡ Ok step.now.reply) };
+
+    /// Adds a step whose reply is the rules' answer to its event. An `Err` is out of memory, and changes nothing.
+    fn add(&mut self, step: Step<A>) -> Result<(), AllocError>
+        requires { answer (settings self.old) (reverse (steps self.old)) step.event ≡ Ok step.reply }
+        ensures step { OnOk result (steps self.new ≡ steps self.old ++ step ∷ []) }
         ensures err { OnErr result (steps self.new ≡ steps self.old) }
         ensures settings { settings self.new ≡ settings self.old };
 
