@@ -14,7 +14,7 @@ use std::alloc::{AllocError, Allocator};
 fn packet_in<A: Allocator + Copy>(bytes: Vec<u8, A>) -> Result<Option<Descriptor<A>>, AllocError>
     ensures { IfOk result (λ found. found ≡ packet_of bytes.items) }
 {
-    let Some(head) = bytes.first_chunk::<HEADER_BYTES>() else {
+    let Some(head) = bytes.as_slice().first_chunk::<HEADER_BYTES>() else {
         return Ok(None);
     };
     match read_header(head) {

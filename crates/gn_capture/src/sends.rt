@@ -84,9 +84,10 @@ fn read_sending<A: Allocator + Copy>(
 fn hex_of(field: &[u8]) -> &[u8]
     ensures { result.now ≡ drop (mark_place field.now + 1) field.now }
 {
-    match field.split_at(mark_place(field)) {
-        (_, [_, hex @ ..]) => hex,
-        _ => &[],
+    let (_, marked) = field.split_at(mark_place(field));
+    match marked {
+        [_, hex @ ..] => hex,
+        [] => &[],
     }
 }
 
