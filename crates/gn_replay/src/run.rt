@@ -107,9 +107,9 @@ impl<A: Allocator + Copy, C: RouterCore<A>> Play<A, C> {
     }
 }
 
-/// Makes a router as the capture's first lines say, plays its lines on it, each of which is gone once it was played, and writes what they print in blocks of at
-/// least 32,768 bytes, the last one shorter. An `Err` is a write that failed or took nothing, or out of memory: a
-/// prefix of that text was written.
+/// Makes a router as the capture's first lines say, plays its lines on it, each of which is gone then, and writes what
+/// they print in blocks of at least 32,768 bytes, the last one shorter. An `Err` is a write that failed or took nothing,
+/// or out of memory: a prefix of that text was written.
 pub fn play<A: Allocator + Copy, C: RouterCore<A> + Drop, W: Sink>(
     alloc: A,
     capture: Capture<A>,
