@@ -24,6 +24,27 @@ pub(crate) fn write_packet<A: Allocator, B: Allocator>(
     whole_or_none(out, start, written)
 }
 
+/// Appends a copy of what stands at this place, from the first index up to the second. An `Err` is out of memory, and changes
+/// nothing.
+fn append_copy<B: Allocator>(
+    out: &mut Vec<u8, B>,
+    place: (usize, usize),
+) -> Result<(), AllocError>
+    requires ends { place.0 ≤ place.1 }
+    requires within { place.1 ≤ length out.old.items }
+    ensures ok { OnOk result (out.new.items ≡ out.old.items ++ slice_range out.old.items place.0 place.1) }
+    ensures err { OnErr result (out.new.items ≡ out.old.items) }
+{
+    let start = out.len();
+    let Some(end) = start.checked_add(place.1 - place.0) else {
+        return Err(AllocError);
+    };
+    out.resize(end, 0)?;
+    let (head, copy) = out.as_mut_slice().split_at_mut(start);
+    copy.copy_from_slice(&head[place.0..place.1]);
+    Ok(())
+}
+
 /// Appends the text of a packet. It is copied where the packet before is the same, whose text stands at this place, from the
 /// first index up to the second. An `Err` is out of memory, and changes nothing.
 fn write_next<A: Allocator, B: Allocator>(
@@ -39,7 +60,7 @@ fn write_next<A: Allocator, B: Allocator>(
     ensures err { OnErr result (out.new.items ≡ out.old.items) }
 {
     match before {
-        Some(before) if packet.is_same(before) => out.extend_from_within(place.0..place.1),
+        Some(before) if packet.is_same(before) => append_copy(out, place),
         _ => write_packet(out, packet),
     }
 }
