@@ -60,7 +60,8 @@ impl<C: RouterCore<A>, A: Allocator + Copy> RouterCore<A> for Looked<C> {
     fn enter(&mut self, actor: u32, event: Event<A>) -> Result<(), Refusal>
         ensures step { OnOk result ((reply : Reply A)
             × (answer (C.settings self.old.core) (reverse (C.steps self.old.core)) event ≡ Ok reply)
-            × (C.steps self.new.core ≡ C.steps self.old.core ++ record { actor = actor; event = event; reply = reply } ∷ [])) }
+            × (C.steps self.new.core
+            ≡ C.steps self.old.core ++ record { actor = actor; event = event; reply = reply } ∷ [])) }
         ensures refusal { IfErr result (λ refusal.
             Finds (Err refusal) (answer (C.settings self.old.core) (reverse (C.steps self.old.core)) event)) }
         ensures err { OnErr result (C.steps self.new.core ≡ C.steps self.old.core) }
