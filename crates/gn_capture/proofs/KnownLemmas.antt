@@ -1,6 +1,6 @@
 -- A packet that is sent again.
-use Rattle.std.proofs.Common.{◌≡◌, ℕ, zero, suc, ◌-◌, ◌==◌, Bool, true, List, [], ◌∷◌, ◌++◌, length, take, drop, refl, sym, ap, ◌∙◌, arith, Option, Some, None, length-append}
-use Rattle.std.specs.Prelude.{slice_get}
+use Rattle.std.proofs.Common.{◌≡◌, ℕ, zero, suc, ◌-◌, ◌==◌, Bool, true, List, [], ◌∷◌, ◌++◌, length, take, drop, refl, sym, subst, ap, ◌∙◌, arith, Option, Some, None, length-append}
+use Rattle.std.specs.Prelude.{IfSome, slice_get}
 use lib.Pointwise.{bytes_decides}
 use Rattle.gn_wire.specs.Packet.{Packet}
 use Rattle.gn_rules.specs.declared.sends.Sending.{Sending}
@@ -33,6 +33,12 @@ last_of [] x zero is = refl
 last_of [] x (suc n) is = absurd (omega (arith, is))
 last_of (y ∷ head) x zero is = absurd (omega (arith, is))
 last_of (y ∷ head) x (suc n) is = last_of head x n (omega (arith, is))
+
+-- the last send is known
+pub known_last : {A : Type 0} (sends : List (Sending A)) (hex : List ℕ) (last : Sending A) → Some last ≡ slice_get sends (length sends - 1)
+    → SaysLast hex sends → packet_parsed hex ≡ Some last.packet
+known_last {A = A} sends hex last is says =
+    subst (λ (o : Option (Sending A)). IfSome o (λ s. packet_parsed hex ≡ Some s.packet)) (sym is) says
 
 -- a field's hex digits say the packet of the send that the field says
 pub says_sent : {A : Type 0} (head now : List (Sending A)) (field : List ℕ) (s : Sending A) → now ≡ head ++ s ∷ [] → Some s ≡ sending_parsed field

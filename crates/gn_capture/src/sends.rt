@@ -94,6 +94,7 @@ fn hex_of(field: &[u8]) -> &[u8]
 }
 
 /// The last of these packets, beside the hex digits that say it.
+#[tactic(auto, using(crate::proofs::KnownLemmas::known_last))]
 fn last_known<'a, A: Allocator>(
     sends: &'a [Sending<A>],
     hex: &'a [u8],

@@ -1,7 +1,7 @@
 -- A part of a text that is copied to its end.
-use Rattle.std.proofs.Common.{◌≡◌, ℕ, ◌-◌, ◌≤◌, List, ◌++◌, length, take, drop, sym, ap, ◌∙◌, arith, length-append, length-drop}
+use Rattle.std.proofs.Common.{◌≡◌, ℕ, ◌-◌, ◌≤◌, List, ◌++◌, length, take, drop, sym, ap, ◌∙◌, append_assoc, arith, length-append, length-drop}
 use Rattle.std.specs.Prelude.{slice_range, IfSome, Option, Some, None}
-use Rattle.std.proofs.lemmas.List.{drop_at, drop-append-le, take-append-le, take_all}
+use Rattle.std.proofs.lemmas.List.{drop_at, drop-append-le, take_at, take-append-le, take_all}
 
 -- a part stays where it is, whatever is appended
 pub part_stays : (old more : List ℕ) (from to : ℕ) → from ≤ to → to ≤ length old → slice_range (old ++ more) from to ≡ slice_range old from to
@@ -14,6 +14,19 @@ pub part_appended : (old more : List ℕ) (from to : ℕ) → from ≡ length ol
 part_appended old more from to start end =
     let long = length-append old more in
     ap (take (to - from)) (drop_at old more from (sym start)) ∙ take_all (to - from) more (omega arith)
+
+-- a copy that was put behind a text, in place of what stood there
+pub copied : (old zeros mid new : List ℕ) (start from to : ℕ) → mid ≡ old ++ zeros → start ≡ length old → from ≤ to → to ≤ length old
+    → new ≡ take start mid ++ slice_range mid from to → new ≡ old ++ slice_range old from to
+copied old zeros mid new start from to grown at ends within is =
+    is ∙ ap (λ xs. take start xs ++ slice_range xs from to) grown
+    ∙ ap (λ xs. xs ++ slice_range (old ++ zeros) from to) (take_at old zeros start (sym at))
+    ∙ ap (λ xs. old ++ xs) (part_stays old zeros from to ends within)
+
+-- a text that was appended to three times
+pub thrice : {a b c d : List ℕ} (x y z : List ℕ) → b ≡ a ++ x → c ≡ b ++ y → d ≡ c ++ z → d ≡ a ++ (x ++ (y ++ z))
+thrice {a} {b} {c} {d} x y z first second third =
+    third ∙ ap (λ xs. xs ++ z) (second ∙ ap (λ xs. xs ++ y) first) ∙ append_assoc (a ++ x) y z ∙ append_assoc a x (y ++ z)
 
 -- the part that is a packet's text stays that, whatever is appended
 pub text_stays : {X : Type 0} (text : X → List ℕ) (before : Option X) (old more new : List ℕ) (from to : ℕ) → from ≤ to → to ≤ length old
