@@ -16,12 +16,15 @@ pub said_again : (hex digits : List ℕ) (packet : Packet) → is_word hex digit
     → Some packet ≡ packet_parsed hex
 said_again hex digits packet same says = sym (ap packet_parsed ((bytes_decides hex digits).0 same) ∙ says)
 
+abbrev sent : {A : Type 0} → ℕ → Bool → Packet → Sending A
+sent c queued packet = record { to = c; packet = packet; queued = queued }
+
 packet_in_it : {A : Type 0} (to : Option ℕ) (packet : Option Packet) (queued : Bool) (s : Sending A)
-    → (to >>= λ c. packet >>= λ p. Some (record { to = c; packet = p; queued = queued })) ≡ Some s → packet ≡ Some s.packet
+    → (to >>= λ c. packet >>= λ p. Some (sent {A = A} c queued p)) ≡ Some s → packet ≡ Some s.packet
 packet_in_it None packet queued s e = absurd (cc)
 packet_in_it (Some c) None queued s e = absurd (cc)
 packet_in_it {A = A} (Some c) (Some p) queued s e =
-    let same : ◌≡◌ {A = Sending A} (record { to = c; packet = p; queued = queued }) s = cc in
+    let same : sent {A = A} c queued p ≡ s = cc in
     ap (λ (x : Sending A). Some x.packet) same
 
 marked_packet : {A : Type 0} (to marked : List ℕ) (s : Sending A) → marked_parsed to marked ≡ Some s → packet_parsed (drop 1 marked) ≡ Some s.packet
@@ -43,8 +46,11 @@ known_last {A = A} sends hex last is says =
 -- a field's hex digits say the packet of the send that the field says
 pub says_sent : {A : Type 0} (head now : List (Sending A)) (field : List ℕ) (s : Sending A) → now ≡ head ++ s ∷ [] → Some s ≡ sending_parsed field
     → SaysLast (hex_of field) now
-says_sent head now field s is sent =
-    let says = marked_packet (take (mark_place field) field) (drop (mark_place field) field) s (sym sent) in
+says_sent {A = A} head now field s is says =
+    let packet = marked_packet (take (mark_place field) field) (drop (mark_place field) field) s (sym says) in
     let long = length-append head (s ∷ []) in
     let at : length (head ++ s ∷ []) - 1 ≡ length head = omega arith in
-    rw is (rw (last_of head s (length (head ++ s ∷ []) - 1) at) says)
+    let last : slice_get (head ++ s ∷ []) (length (head ++ s ∷ []) - 1) ≡ Some s = last_of head s (length (head ++ s ∷ []) - 1) at in
+    let known : SaysLast (hex_of field) (head ++ s ∷ []) =
+    subst (λ (o : Option (Sending A)). IfSome o (λ x. packet_parsed (hex_of field) ≡ Some x.packet)) (sym last) packet in
+    subst (λ (xs : List (Sending A)). SaysLast (hex_of field) xs) (sym is) known

@@ -1,5 +1,5 @@
 -- The descriptor that bytes encode.
-use Rattle.std.proofs.Common.{◌≡◌, ℕ, ◌+◌, ◌-◌, ◌≤◌, ◌<◌, List, length, take, drop, false, true, refl, sym, ap, ◌∙◌, arith, Ok, Err, Some, None, length-drop}
+use Rattle.std.proofs.Common.{◌≡◌, ℕ, ◌-◌, ◌≤◌, ◌<◌, List, length, take, drop, false, true, refl, sym, ap, ◌∙◌, arith, Ok, Err, Some, None, length-drop}
 use Rattle.std.specs.Prelude.{min, nat_lt, ◌==◌}
 use Rattle.std.proofs.lemmas.Bool.Decides.{nat_tests}
 use Rattle.gn_wire.specs.declared.header.FrameFault.{FrameFault}
@@ -62,7 +62,7 @@ made_whole bs h payload alone is =
     let same : of (kind_of (code_of h.kind)) ≡ packet_from h (drop 23 bs) = ap of (sym alone.header.stored) ∙ ap (packet_from h) is in
     let long = length-drop 23 bs in
     let size = alone.size in
-    let below = alone.header.length_fits in
+    let below : h.length < 4294967296 = alone.header.length_fits in
     let fits : min (length (drop 23 bs)) 4294967295 ≡ h.length = omega arith in
     let valid : packet_fault (packet_from h (drop 23 bs)) ≡ None = ap (fault_of h.kind) fits ∙ alone.header.valid in
-    ap (λ (d : Packet). unless_fault (packet_fault d) d) same ∙ rw valid refl
+    ap (λ (d : Packet). unless_fault (packet_fault d) d) same ∙ ap (λ fault. unless_fault fault (packet_from h (drop 23 bs))) valid
