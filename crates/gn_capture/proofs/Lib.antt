@@ -5,6 +5,7 @@ pub mod EncodedLemmas
 pub mod FirstLemmas
 pub mod FittingLemmas
 pub mod HistoryLemmas
+pub mod KnownLemmas
 pub mod LinesAgain
 pub mod NumbersAgain
 pub mod PacketLemmas

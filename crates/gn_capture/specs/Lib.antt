@@ -3,6 +3,7 @@ pub mod Captures
 pub mod Events
 pub mod FirstFaults
 pub mod Histories
+pub mod Known
 pub mod Outcomes
 pub mod Packets
 pub mod Replies

@@ -31,6 +31,10 @@ marked_parsed to (mark ∷ hex) = do
 abbrev pub sending_parsed : {A : Type 0} → List ℕ → Option (Sending A)
 sending_parsed field = marked_parsed (take (mark_place field) field) (drop (mark_place field) field)
 
+-- what of a field stands after the mark
+abbrev pub hex_of : List ℕ → List ℕ
+hex_of field = drop 1 (drop (mark_place field) field)
+
 -- the sends that fields say, one each
 abbrev pub sends_parsed : {A : Type 0} → List (List ℕ) → Option (List (Sending A))
 sends_parsed [] = Some []

@@ -1,33 +1,40 @@
 //! Descriptors in hex.
 
-ghost use Rattle.std.specs.Prelude.{◌≡◌, IfOk, option_map, map};
+ghost use Rattle.std.specs.Prelude.{◌≡◌, IfOk, MatchOption, None, option_map, map};
 ghost use Rattle.gn_capture.specs.Events.{first_seen, number_first, packet_first};
-ghost use Rattle.gn_capture.specs.Packets.{packet_of, packet_parsed};
+ghost use Rattle.gn_capture.specs.Packets.{IsHeaderAlone, packet_of, packet_parsed};
 
 use bytes::Bytes;
 use gn_text::{hex_bytes, number};
-use gn_wire::{Descriptor, HEADER_BYTES, read_header};
+use gn_wire::{Descriptor, HEADER_BYTES, Header, read_header};
 use std::alloc::{AllocError, Allocator};
 
-/// The descriptor that bytes encode, from the first to the last.
-#[tactic(auto, unfolding(crate::specs::Packets::packet_of))]
+/// The header of the descriptor that bytes encode, from the first to the last.
+#[tactic(auto, using(crate::proofs::PacketLemmas::too_short, crate::proofs::PacketLemmas::faulty, crate::proofs::PacketLemmas::other_length, crate::proofs::PacketLemmas::header_found))]
+fn header_alone(bytes: &[u8]) -> Option<Header>
+    ensures { MatchOption result (packet_of bytes.now ≡ None) (IsHeaderAlone bytes.now) }
+{
+    let head = bytes.first_chunk::<HEADER_BYTES>()?;
+    match read_header(head) {
+        Err(_) => None,
+        Ok(header) if header.length as usize != bytes.len() - HEADER_BYTES => None,
+        Ok(header) => Some(header),
+    }
+}
+
+/// The descriptor that bytes encode, from the first to the last. An `Err` is out of memory.
+#[tactic(auto, using(crate::proofs::PacketLemmas::made_whole))]
 fn packet_in<A: Allocator + Copy>(bytes: Vec<u8, A>) -> Result<Option<Descriptor<A>>, AllocError>
     ensures { IfOk result (λ found. found ≡ packet_of bytes.items) }
 {
-    let Some(head) = bytes.as_slice().first_chunk::<HEADER_BYTES>() else {
+    let Some(header) = header_alone(&bytes) else {
         return Ok(None);
     };
-    match read_header(head) {
-        Err(_) => Ok(None),
-        Ok(header) if header.length as usize != bytes.len() - HEADER_BYTES => Ok(None),
-        Ok(header) => {
-            let mut payload = Bytes::from_vec(bytes)?;
-            payload.advance(HEADER_BYTES);
-            match Descriptor::from_header(header, payload) {
-                Ok(descriptor) => Ok(Some(descriptor)),
-                Err(_) => unreachable!(),
-            }
-        }
+    let mut payload = Bytes::from_vec(bytes)?;
+    payload.advance(HEADER_BYTES);
+    match Descriptor::from_header(header, payload) {
+        Ok(descriptor) => Ok(Some(descriptor)),
+        Err(_) => unreachable!(),
     }
 }
 

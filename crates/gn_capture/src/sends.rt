@@ -1,8 +1,9 @@
 //! The packets that a reply sends.
 
-ghost use Rattle.std.specs.Prelude.{◌≡◌, ◌≤◌, ◌+◌, IfOk, IfSome, Some, drop, length, map};
+ghost use Rattle.std.specs.Prelude.{◌≡◌, ◌≤◌, IfOk, length, map};
 ghost use Rattle.gn_capture.specs.Packets.{packet_parsed};
-ghost use Rattle.gn_capture.specs.Replies.{is_unmarked, mark_place, marked_parsed, sending_parsed, sends_parsed};
+ghost use Rattle.gn_capture.specs.Replies.{hex_of, is_unmarked, mark_place, marked_parsed, sending_parsed, sends_parsed};
+ghost use Rattle.gn_capture.specs.Known.{IsKnown, SaysLast};
 
 use crate::packet::read_packet;
 use gn_rules::{Sending, Sends};
@@ -29,12 +30,13 @@ fn mark_place(field: &[u8]) -> usize
 }
 
 /// The packet that hex digits say. It is copied where the packet before has the same digits. An `Err` is out of memory.
+#[tactic(auto, using(crate::proofs::KnownLemmas::said_again))]
 fn read_next<A: Allocator + Copy>(
     alloc: A,
     hex: &[u8],
     before: Option<(&[u8], &Descriptor<A>)>,
 ) -> Result<Option<Descriptor<A>>, AllocError>
-    requires { IfSome before (λ b. packet_parsed b.0.now ≡ Some b.1.now) }
+    requires { IsKnown before }
     ensures { IfOk result (λ found. found ≡ packet_parsed hex.now) }
 {
     match before {
@@ -49,7 +51,7 @@ fn read_marked<A: Allocator + Copy>(
     marked: &[u8],
     before: Option<(&[u8], &Descriptor<A>)>,
 ) -> Result<Option<Sending<A>>, AllocError>
-    requires { IfSome before (λ b. packet_parsed b.0.now ≡ Some b.1.now) }
+    requires { IsKnown before }
     ensures { IfOk result (λ found. found ≡ marked_parsed to.now marked.now) }
 {
     let [mark, hex @ ..] = marked else {
@@ -73,7 +75,7 @@ fn read_sending<A: Allocator + Copy>(
     field: &[u8],
     before: Option<(&[u8], &Descriptor<A>)>,
 ) -> Result<Option<Sending<A>>, AllocError>
-    requires { IfSome before (λ b. packet_parsed b.0.now ≡ Some b.1.now) }
+    requires { IsKnown before }
     ensures { IfOk result (λ found. found ≡ sending_parsed field.now) }
 {
     let (to, marked) = field.split_at(mark_place(field));
@@ -82,7 +84,7 @@ fn read_sending<A: Allocator + Copy>(
 
 /// What of a field stands after its mark.
 fn hex_of(field: &[u8]) -> &[u8]
-    ensures { result.now ≡ drop (mark_place field.now + 1) field.now }
+    ensures { result.now ≡ hex_of field.now }
 {
     let (_, marked) = field.split_at(mark_place(field));
     match marked {
@@ -91,7 +93,21 @@ fn hex_of(field: &[u8]) -> &[u8]
     }
 }
 
+/// The last of these packets, beside the hex digits that say it.
+#[tactic(auto, using(crate::proofs::KnownLemmas::known_last))]
+fn last_known<'a, A: Allocator>(
+    sends: &'a [Sending<A>],
+    hex: &'a [u8],
+) -> Option<(&'a [u8], &'a Descriptor<A>)>
+    requires { SaysLast hex.now sends.now }
+    ensures { IsKnown result }
+{
+    let last = sends.last()?;
+    Some((hex, &last.packet))
+}
+
 /// The sends that fields say, one each. An `Err` is out of memory.
+#[tactic(auto, using(crate::proofs::KnownLemmas::says_sent))]
 pub(crate) fn read_sends<A: Allocator + Copy>(
     alloc: A,
     fields: &[&[u8]],
@@ -101,10 +117,7 @@ pub(crate) fn read_sends<A: Allocator + Copy>(
     let mut sends: Sends<A> = Sends::new(alloc);
     let mut hex: &[u8] = &[];
     for field in fields {
-        let before = match sends.as_slice().last() {
-            Some(last) => Some((hex, &last.packet)),
-            None => None,
-        };
+        let before = last_known(sends.as_slice(), hex);
         match read_sending(alloc, field, before)? {
             Some(sending) => sends.push(sending)?,
             None => return Ok(None),

@@ -1,4 +1,5 @@
 pub mod ConfigLemmas
+pub mod CopiedLemmas
 pub mod DigitLemmas
 pub mod FirstLines
 pub mod HeaderLemmas

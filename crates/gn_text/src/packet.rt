@@ -1,7 +1,7 @@
 //! Descriptors in hex, and the packets that a reply sends.
 #![tactic(auto, using(crate::proofs::KeptLemmas::kept))]
 
-ghost use Rattle.std.specs.Prelude.{◌≡◌, ◌≤◌, ◌++◌, length, slice_range, take, IfSome, OnOk, OnErr};
+ghost use Rattle.std.specs.Prelude.{◌≡◌, ◌+◌, ◌-◌, ◌≤◌, ◌++◌, length, slice_range, take, IfSome, OnOk, OnErr};
 ghost use Rattle.gn_text.specs.Steps.{packet_text, sends_text};
 
 use crate::push::{push_hex, push_number};
@@ -24,8 +24,20 @@ pub(crate) fn write_packet<A: Allocator, B: Allocator>(
     whole_or_none(out, start, written)
 }
 
+/// Puts what stands at a place, from the first index up to the second, in place of what stands from `start` on.
+fn put_copy(text: &mut [u8], start: usize, place: (usize, usize))
+    requires ends { place.0 ≤ place.1 }
+    requires within { place.1 ≤ start }
+    requires room { start + (place.1 - place.0) ≡ length text.old }
+    ensures { text.new ≡ take start text.old ++ slice_range text.old place.0 place.1 }
+{
+    let (head, copy) = text.split_at_mut(start);
+    copy.copy_from_slice(&head[place.0..place.1]);
+}
+
 /// Appends a copy of what stands at this place, from the first index up to the second. An `Err` is out of memory, and changes
 /// nothing.
+#[tactic(auto, using(std::proofs::lemmas::List::with_items_is, crate::proofs::CopiedLemmas::part_stays))]
 fn append_copy<B: Allocator>(
     out: &mut Vec<u8, B>,
     place: (usize, usize),
@@ -40,8 +52,7 @@ fn append_copy<B: Allocator>(
         return Err(AllocError);
     };
     out.resize(end, 0)?;
-    let (head, copy) = out.as_mut_slice().split_at_mut(start);
-    copy.copy_from_slice(&head[place.0..place.1]);
+    put_copy(out.as_mut_slice(), start, place);
     Ok(())
 }
 
