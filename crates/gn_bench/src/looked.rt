@@ -1,5 +1,9 @@
 //! A router that counts how often those that wait for a packet look.
 
+ghost use Rattle.std.specs.Prelude.{◌≡◌, ◌∷◌, ◌++◌, [], Err, Ok, reverse, IfErr, OnErr, OnOk};
+ghost use Rattle.gn_rules.specs.Answer.{Finds, answer};
+ghost use Rattle.gn_rules.specs.declared.reply.Reply.{Reply};
+
 use gn_payload::Checked;
 use gn_rules::{Config, ConnId, Event, Receipt, Refusal, RouterCore, Stats, Step, Ticket};
 use std::alloc::{AllocError, Allocator};
@@ -38,6 +42,31 @@ impl<C: RouterCore<A>, A: Allocator + Copy> RouterCore<A> for Looked<C> {
 
     fn apply(&mut self, actor: u32, event: &Event<A>) -> Result<Receipt<A>, Refusal> {
         self.core.apply(actor, event)
+    }
+
+    fn is_answered(&self, step: &Step<A>) -> bool {
+        self.core.is_answered(step)
+    }
+
+    fn add(&mut self, step: Step<A>) -> Result<(), AllocError>
+        requires { answer (C.settings self.old.core) (reverse (C.steps self.old.core)) step.event ≡ Ok step.reply }
+        ensures step { OnOk result (C.steps self.new.core ≡ C.steps self.old.core ++ step ∷ []) }
+        ensures err { OnErr result (C.steps self.new.core ≡ C.steps self.old.core) }
+        ensures settings { C.settings self.new.core ≡ C.settings self.old.core }
+    {
+        self.core.add(step)
+    }
+
+    fn enter(&mut self, actor: u32, event: Event<A>) -> Result<(), Refusal>
+        ensures step { OnOk result ((reply : Reply A)
+            × (answer (C.settings self.old.core) (reverse (C.steps self.old.core)) event ≡ Ok reply)
+            × (C.steps self.new.core ≡ C.steps self.old.core ++ record { actor = actor; event = event; reply = reply } ∷ [])) }
+        ensures refusal { IfErr result (λ refusal.
+            Finds (Err refusal) (answer (C.settings self.old.core) (reverse (C.steps self.old.core)) event)) }
+        ensures err { OnErr result (C.steps self.new.core ≡ C.steps self.old.core) }
+        ensures settings { C.settings self.new.core ≡ C.settings self.old.core }
+    {
+        self.core.enter(actor, event)
     }
 
     fn route(

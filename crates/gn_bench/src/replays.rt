@@ -65,10 +65,9 @@ fn time_run<R: Runtime<A: Copy>, C: RouterCore<R::A> + Drop>(
     let start = Instant::now(rt)?;
     let capture = read_capture(rt.alloc(), text.as_bytes()).map_err(fault)?;
     let mut sink = WriterSink::new(Discarded { bytes: 0 });
-    let replayed = play::<R::A, C, _>(rt.alloc(), &capture, &mut sink).map_err(fault)?;
-    let replay = Measured::since(rt, text.lines().count(), &start)?;
     let config = capture.config;
-    drop(capture);
+    let replayed = play::<R::A, C, _>(rt.alloc(), capture, &mut sink).map_err(fault)?;
+    let replay = Measured::since(rt, text.lines().count(), &start)?;
     let (audit, is_legal) = time_audit::<R, C>(rt, &config, replayed.core.into_history())?;
     Ok(Run {
         replay,

@@ -11,21 +11,18 @@ use std::alloc::{AllocError, Allocator};
 
 /// The descriptor that bytes encode, from the first to the last.
 #[tactic(auto, unfolding(crate::specs::Packets::packet_of))]
-fn packet_in<A: Allocator + Copy>(
-    alloc: A,
-    bytes: &[u8],
-) -> Result<Option<Descriptor<A>>, AllocError>
-    ensures { IfOk result (λ found. found ≡ packet_of bytes.now) }
+fn packet_in<A: Allocator + Copy>(bytes: Vec<u8, A>) -> Result<Option<Descriptor<A>>, AllocError>
+    ensures { IfOk result (λ found. found ≡ packet_of bytes.items) }
 {
-    let Some(head) = bytes.first_chunk::<HEADER_BYTES>() else {
+    let Some(head) = bytes.as_slice().first_chunk::<HEADER_BYTES>() else {
         return Ok(None);
     };
-    let payload = &bytes[HEADER_BYTES..];
     match read_header(head) {
         Err(_) => Ok(None),
-        Ok(header) if header.length as usize != payload.len() => Ok(None),
+        Ok(header) if header.length as usize != bytes.len() - HEADER_BYTES => Ok(None),
         Ok(header) => {
-            let payload = Bytes::copy_from_slice(alloc, payload)?;
+            let mut payload = Bytes::from_vec(bytes)?;
+            payload.advance(HEADER_BYTES);
             match Descriptor::from_header(header, payload) {
                 Ok(descriptor) => Ok(Some(descriptor)),
                 Err(_) => unreachable!(),
@@ -43,7 +40,7 @@ pub(crate) fn read_packet<A: Allocator + Copy>(
 {
     match hex_bytes(alloc, field)? {
         None => Ok(None),
-        Some(bytes) => packet_in(alloc, &bytes),
+        Some(bytes) => packet_in(bytes),
     }
 }
 

@@ -1,11 +1,13 @@
 //! The packets that a reply sends.
 
-ghost use Rattle.std.specs.Prelude.{◌≡◌, ◌≤◌, IfOk, length, map};
+ghost use Rattle.std.specs.Prelude.{◌≡◌, ◌≤◌, ◌+◌, IfOk, IfSome, Some, drop, length, map};
+ghost use Rattle.gn_capture.specs.Packets.{packet_parsed};
 ghost use Rattle.gn_capture.specs.Replies.{is_unmarked, mark_place, marked_parsed, sending_parsed, sends_parsed};
 
 use crate::packet::read_packet;
 use gn_rules::{Sending, Sends};
-use gn_text::number;
+use gn_text::{is_word, number};
+use gn_wire::Descriptor;
 use std::alloc::{AllocError, Allocator};
 
 fn is_unmarked(byte: u8) -> bool
@@ -26,11 +28,28 @@ fn mark_place(field: &[u8]) -> usize
     field.len()
 }
 
+/// The packet that hex digits say. It is copied where the packet before has the same digits. An `Err` is out of memory.
+fn read_next<A: Allocator + Copy>(
+    alloc: A,
+    hex: &[u8],
+    before: Option<(&[u8], &Descriptor<A>)>,
+) -> Result<Option<Descriptor<A>>, AllocError>
+    requires { IfSome before (λ b. packet_parsed b.0.now ≡ Some b.1.now) }
+    ensures { IfOk result (λ found. found ≡ packet_parsed hex.now) }
+{
+    match before {
+        Some((digits, packet)) if is_word(hex, digits) => Ok(Some(packet.copy()?)),
+        _ => read_packet(alloc, hex),
+    }
+}
+
 fn read_marked<A: Allocator + Copy>(
     alloc: A,
     to: &[u8],
     marked: &[u8],
+    before: Option<(&[u8], &Descriptor<A>)>,
 ) -> Result<Option<Sending<A>>, AllocError>
+    requires { IfSome before (λ b. packet_parsed b.0.now ≡ Some b.1.now) }
     ensures { IfOk result (λ found. found ≡ marked_parsed to.now marked.now) }
 {
     let [mark, hex @ ..] = marked else {
@@ -39,7 +58,7 @@ fn read_marked<A: Allocator + Copy>(
     let Some(to) = number(to) else {
         return Ok(None);
     };
-    match read_packet(alloc, hex)? {
+    match read_next(alloc, hex, before)? {
         Some(packet) => Ok(Some(Sending {
             to,
             packet,
@@ -52,11 +71,24 @@ fn read_marked<A: Allocator + Copy>(
 fn read_sending<A: Allocator + Copy>(
     alloc: A,
     field: &[u8],
+    before: Option<(&[u8], &Descriptor<A>)>,
 ) -> Result<Option<Sending<A>>, AllocError>
+    requires { IfSome before (λ b. packet_parsed b.0.now ≡ Some b.1.now) }
     ensures { IfOk result (λ found. found ≡ sending_parsed field.now) }
 {
     let (to, marked) = field.split_at(mark_place(field));
-    read_marked(alloc, to, marked)
+    read_marked(alloc, to, marked, before)
+}
+
+/// What of a field stands after its mark.
+fn hex_of(field: &[u8]) -> &[u8]
+    ensures { result.now ≡ drop (mark_place field.now + 1) field.now }
+{
+    let (_, marked) = field.split_at(mark_place(field));
+    match marked {
+        [_, hex @ ..] => hex,
+        [] => &[],
+    }
 }
 
 /// The sends that fields say, one each. An `Err` is out of memory.
@@ -66,12 +98,18 @@ pub(crate) fn read_sends<A: Allocator + Copy>(
 ) -> Result<Option<Sends<A>>, AllocError>
     ensures { IfOk result (λ found. found ≡ sends_parsed (map (λ x. x.now) fields.now)) }
 {
-    let mut sends = Sends::new(alloc);
+    let mut sends: Sends<A> = Sends::new(alloc);
+    let mut hex: &[u8] = &[];
     for field in fields {
-        match read_sending(alloc, field)? {
+        let before = match sends.as_slice().last() {
+            Some(last) => Some((hex, &last.packet)),
+            None => None,
+        };
+        match read_sending(alloc, field, before)? {
             Some(sending) => sends.push(sending)?,
             None => return Ok(None),
         }
+        hex = hex_of(field);
     }
     Ok(Some(sends))
 }

@@ -1,6 +1,6 @@
 //! A router that keeps its history and searches it for every answer.
 
-ghost use Rattle.std.specs.Prelude.{◌≡◌, ◌≤◌, ◌++◌, ◌∷◌, [], Ok, length, reverse, IfOk, OnErr};
+ghost use Rattle.std.specs.Prelude.{◌≡◌, ◌≤◌, ◌++◌, ◌∷◌, [], Err, Ok, length, reverse, IfErr, IfOk, OnErr, OnOk};
 ghost use Rattle.gn_rules.specs.declared.config.Config.{Config};
 ghost use Rattle.gn_plain.specs.Kept.{IsKept};
 
@@ -8,7 +8,7 @@ use crate::counting::stats_in;
 use crate::flying::follow;
 use crate::live;
 use crate::past::Past;
-use gn_decide::{Lookup, find, find_checked};
+use gn_decide::{Lookup, find, find_checked, is_answered};
 use gn_payload::Checked;
 use gn_rules::{Config, ConnId, Event, Receipt, Refusal, Reply, RouterCore, Stats, Step, Ticket};
 use std::alloc::{AllocError, Allocator, Global};
@@ -46,8 +46,7 @@ impl<A: Allocator + Copy> PlainRouter<A> {
 
     /// Adds the step of an event and the rules' reply, and gives its receipt. An `Err` is out of memory, and changes
     /// nothing.
-    #[tactic(auto, using(gn_rules::proofs::PastLemmas::past_length, gn_rules::proofs::PastLemmas::past_push, gn_rules::proofs::LegalLemmas::legal_within))]
-    fn add(
+    fn add_with_receipt(
         &mut self,
         actor: u32,
         event: &Event<A>,
@@ -61,22 +60,17 @@ impl<A: Allocator + Copy> PlainRouter<A> {
         ensures err { OnErr result (self.new.steps ≡ self.old.steps) }
         ensures settings { self.new.settings ≡ self.old.settings }
     {
-        let (step, receipt) = Step::with_receipt(
-            self.alloc,
-            self.history.len() as u32,
-            actor,
-            event,
-            reply,
-        )?;
-        self.history.reserve(1)?;
-        self.flying.reserve(1)?;
-        follow(&mut self.flying, event, &receipt.reply);
-        self.history.push_reserved(step);
+        let index = self.history.len() as u32;
+        let (step, receipt) = Step::with_receipt(self.alloc, index, actor, event, reply)?;
+        self.add(step)?;
         Ok(receipt)
     }
 }
 
 impl<A: Allocator + Copy> RouterCore<A> for PlainRouter<A> {
+    ghost use Rattle.gn_rules.specs.Answer as rules;
+    ghost use Rattle.gn_rules.specs.declared.reply.Reply.{Reply};
+
     ghost settings = { λ r. r.settings };
 
     ghost steps = { λ r. r.steps };
@@ -92,7 +86,43 @@ impl<A: Allocator + Copy> RouterCore<A> for PlainRouter<A> {
 
     fn apply(&mut self, actor: u32, event: &Event<A>) -> Result<Receipt<A>, Refusal> {
         let reply = find(self.alloc, &self.past(), event)?;
-        Ok(self.add(actor, event, reply)?)
+        Ok(self.add_with_receipt(actor, event, reply)?)
+    }
+
+    fn is_answered(&self, step: &Step<A>) -> bool {
+        is_answered(&self.past(), step)
+    }
+
+    #[tactic(auto, using(gn_rules::proofs::PastLemmas::past_length, gn_rules::proofs::PastLemmas::past_push, gn_rules::proofs::LegalLemmas::legal_within))]
+    fn add(&mut self, step: Step<A>) -> Result<(), AllocError>
+        requires { rules.answer self.old.settings (reverse self.old.steps) step.event ≡ Ok step.reply }
+        ensures step { OnOk result (self.new.steps ≡ self.old.steps ++ step ∷ []) }
+        ensures err { OnErr result (self.new.steps ≡ self.old.steps) }
+        ensures settings { self.new.settings ≡ self.old.settings }
+    {
+        self.history.reserve(1)?;
+        self.flying.reserve(1)?;
+        follow(&mut self.flying, &step.event, &step.reply);
+        self.history.push_reserved(step);
+        Ok(())
+    }
+
+    fn enter(&mut self, actor: u32, event: Event<A>) -> Result<(), Refusal>
+        ensures step { OnOk result ((reply : Reply A)
+            × (rules.answer self.old.settings (reverse self.old.steps) event ≡ Ok reply)
+            × (self.new.steps ≡ self.old.steps ++ record { actor = actor; event = event; reply = reply } ∷ [])) }
+        ensures refusal { IfErr result (λ refusal.
+            rules.Finds (Err refusal) (rules.answer self.old.settings (reverse self.old.steps) event)) }
+        ensures err { OnErr result (self.new.steps ≡ self.old.steps) }
+        ensures settings { self.new.settings ≡ self.old.settings }
+    {
+        let reply = find(self.alloc, &self.past(), &event)?;
+        self.add(Step {
+            actor,
+            event,
+            reply,
+        })?;
+        Ok(())
     }
 
     fn route(
@@ -102,7 +132,7 @@ impl<A: Allocator + Copy> RouterCore<A> for PlainRouter<A> {
         checked: &Checked<A>,
     ) -> Result<Receipt<A>, Refusal> {
         let reply = find_checked(self.alloc, &self.past(), ticket, checked)?;
-        Ok(self.add(actor, &Event::Route(ticket), reply)?)
+        Ok(self.add_with_receipt(actor, &Event::Route(ticket), reply)?)
     }
 
     fn config(&self) -> &Config {

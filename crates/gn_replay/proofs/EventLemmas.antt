@@ -1,10 +1,19 @@
 -- Events that are played.
-use Rattle.std.proofs.Common.{◌≡◌, List, [], ◌∷◌, ◌++◌, reverse, Result, Ok, Err, refl}
-use Rattle.std.proofs.lemmas.List.{reverse-append}
+use Rattle.std.proofs.Common.{◌≡◌, ◌∙◌, List, [], ◌∷◌, ◌++◌, reverse, Result, Ok, Err, ap, refl, sym}
+use Rattle.std.specs.Prelude.{IfOk, OnOk}
+use Rattle.std.specs.AllocError.{AllocError}
+use Rattle.std.proofs.lemmas.List.{reverse-append, reverse-reverse}
+use Rattle.gn_rules.specs.declared.event.Event.{Event}
+use Rattle.gn_rules.specs.declared.receipt.Step.{Step}
 use Rattle.gn_rules.specs.declared.reply.Reply.{Reply}
 use Rattle.gn_rules.specs.declared.refusal.Refusal.{Refusal}
 use Rattle.gn_rules.specs.declared.refusal.Refusal.TheVariants.{HistoryFull, NotLive, NoTicket, Strange, NothingWaiting, BadOrigin, Remembered, NoMemory}
-use Rattle.gn_rules.specs.Answer.{Finds}
+use Rattle.gn_rules.specs.Answer.{Finds, answer}
+use Rattle.gn_text.specs.Steps.{step_text}
+use Rattle.gn_replay.specs.declared.outcome.Outcome.{Outcome}
+use Rattle.gn_replay.specs.Events.{happens, made}
+use Rattle.gn_replay.specs.Outcomes.{IsOutcome}
+use Rattle.gn_replay.specs.Playing.{Playing, after_playing}
 
 -- unless memory ran out, what was found is the rules' answer
 pub found : {A : Type 0} (r rules : Result (Reply A) Refusal) → Finds r rules → (r ≡ Err NoMemory → ⊥) → rules ≡ r
@@ -21,3 +30,22 @@ found (Err NoMemory) rules h n = absurd (n refl)
 -- the newest step comes first
 pub past_push : {X : Type 0} (xs : List X) (x : X) → reverse (xs ++ x ∷ []) ≡ x ∷ reverse xs
 past_push xs x = reverse-append xs (x ∷ [])
+
+-- the newest step is the last
+pub last_is : {X : Type 0} (xs before : List X) (x : X) → reverse xs ≡ x ∷ before → xs ≡ reverse before ++ x ∷ []
+last_is xs before x is = sym (reverse-reverse xs) ∙ ap reverse is ∙ reverse-append (x ∷ []) before
+
+-- a step was made of an event and printed
+pub outcome_then : {A : Type 0} (r : Result Outcome AllocError) (past before : List (Step A)) (step : Step A) (rules : Result (Reply A) Refusal) → past ≡ step ∷ before → rules ≡ Ok step.reply
+    → IfOk r (λ o. (s : Step A) → (b : List (Step A)) → past ≡ s ∷ b → IsOutcome o (Ok s.reply)) → IfOk r (λ o. IsOutcome o rules)
+outcome_then (Ok o) past before step rules is answered h = rw answered (h step before is)
+outcome_then (Err e) past before step rules is answered h = h
+
+pub played_then : {A : Type 0} (r : Result Outcome AllocError) (old now new : Playing A) (event : Event A) (reply : Reply A) → answer old.settings old.past event ≡ Ok reply
+    → now ≡ record old { past = made event reply ∷ old.past }
+    → OnOk r ((step : Step A) → (before : List (Step A)) → now.past ≡ step ∷ before → new ≡ record now { out = now.out ++ step_text step })
+    → OnOk r (new ≡ after_playing old (happens old.settings old.past event))
+played_then (Ok o) old now new event reply answered is h =
+    let printed = h (made event reply) old.past (ap (λ (v : Playing _). v.past) is) in
+    rw answered (printed ∙ ap (λ (v : Playing _). record v { out = v.out ++ step_text (made event reply) }) is)
+played_then (Err e) old now new event reply answered is h = h

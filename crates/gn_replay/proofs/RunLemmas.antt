@@ -1,6 +1,5 @@
 -- Lines that are played and written one by one.
-use Rattle.std.proofs.Common.{◌≡◌, ◌<◌, ◌+◌, ◌++◌, ℕ, suc, List, [], ◌∷◌, length, get_or, drop, Option, Result, Ok, Err, OnErr, refl, sym, ap, ◌∙◌, subst, add-one, append-nil}
-use Rattle.std.proofs.Math.Seq.{drop-cons}
+use Rattle.std.proofs.Common.{◌≡◌, ◌++◌, ℕ, List, [], ◌∷◌, length, Option, Result, Ok, Err, OnErr, refl, sym, ap, ◌∙◌, subst, append-nil, arith}
 use Rattle.std.specs.Io.KnownBytes.{Appends}
 use Rattle.gn_io.specs.Parts.{LeavesToWrite, AppendsPart, WaitsPart}
 use Rattle.gn_io.proofs.StreamLemmas.{leaves_all, leaves_rest, leaves_text, leaves_waits, rest_cut, waits_text}
@@ -67,19 +66,16 @@ pub record IsRunning {A : Type 0} (s : Config) (now : Playing A) (first last : O
   pub refusals : refused_more (play_lines s now.past states left).refusals now.refusals ≡ refused_more (capture_plays s all).refusals 0
   pub leaves : LeavesToWrite first last (waiting ++ (play_lines s now.past states left).text) (capture_plays s all).text
 
--- the next line is the first of those that are left
-pub next_of : {X : Type 0} (xs : List X) (i : ℕ) (x : X) → i < length xs → x ≡ get_or xs i x → drop i xs ≡ x ∷ drop (i + 1) xs
-next_of xs i x inside is = rw (add-one, drop-cons xs i x) (ap (λ y. y ∷ drop (suc i) xs) (sym is))
-
 -- no line was played yet
-pub running_start : {A : Type 0} (v : Playing A) (old : Option (List ℕ)) (waiting : List ℕ) (all : List (ℕ × Line A)) → IsNew v → waiting ≡ [] → IsRunning v.settings v old old waiting all all
-running_start v old waiting all new empty = record {
+pub running_start : {A : Type 0} (v : Playing A) (old : Option (List ℕ)) (waiting : List ℕ) (all left : List (ℕ × Line A)) → left ≡ all → IsNew v → waiting ≡ []
+    → IsRunning v.settings v old old waiting left all
+running_start v old waiting all left whole new empty = record {
   states = [];
   links = rw new.links tt;
   settings = refl;
-  past = rw new.past refl;
-  refusals = rw (new.past, new.refusals) refl;
-  leaves = rw (new.past, empty) (leaves_all old (capture_plays v.settings all).text);
+  past = rw (new.past, whole) refl;
+  refusals = rw (new.past, new.refusals, whole) refl;
+  leaves = rw (new.past, empty, whole) (leaves_all old (capture_plays v.settings all).text);
 }
 
 -- what a line did, by the configuration of the loop
@@ -117,6 +113,11 @@ pub running_all : {A : Type 0} (s : Config) (now : Playing A) (first last : Opti
     → HasPassed (capture_plays s all) now.past now.refusals first last waiting
 running_all s now first last waiting all r =
     record { past = r.past; refusals = r.refusals; leaves = subst (λ (xs : List ℕ). LeavesToWrite first last xs (capture_plays s all).text) (append-nil waiting) r.leaves }
+
+pub running_done : {A : Type 0} (s : Config) (now : Playing A) (first last : Option (List ℕ)) (waiting : List ℕ) (left all : List (ℕ × Line A)) → length left ≡ 0
+    → IsRunning s now first last waiting left all → HasPassed (capture_plays s all) now.past now.refusals first last waiting
+running_done s now first last waiting [] all none r = running_all s now first last waiting all r
+running_done s now first last waiting (x ∷ left) all none r = absurd (omega arith)
 
 -- the next line wasn't played, or not all of its text was taken
 pub running_part : {A : Type 0} (s : Config) (now : Playing A) (first mid last : Option (List ℕ)) (waited waiting : List ℕ) (n : ℕ) (line : Line A) (left all : List (ℕ × Line A))

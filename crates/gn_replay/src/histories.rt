@@ -28,11 +28,12 @@ fn history_text<A: Allocator + Copy, C: RouterCore<A> + Drop>(
     ensures refused { IfErr result (λ refusal. IsRefused refusal (capture_of {A = A} text.now)) }
 {
     let capture = read_capture(alloc, text)?;
-    let Ok(replayed) = play::<A, C, Nowhere>(alloc, &capture, &mut Nowhere) else {
+    let config = capture.config;
+    let Ok(replayed) = play::<A, C, Nowhere>(alloc, capture, &mut Nowhere) else {
         return Err(CaptureRefusal::NoMemory);
     };
     let mut history = Vec::new(alloc);
-    write_history(&capture.config, replayed.core.history(), &mut history)?;
+    write_history(&config, replayed.core.history(), &mut history)?;
     Ok((exit_of::<A, C>(&replayed), history))
 }
 

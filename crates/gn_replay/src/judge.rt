@@ -1,49 +1,45 @@
 //! Steps that a router is asked for again.
 
-ghost use Rattle.std.specs.Prelude.{◌≡◌, ◌∷◌, ◌++◌, [], IfOk, IfNone, reverse};
+ghost use Rattle.std.specs.Prelude.{◌≡◌, [], IfOk, reverse};
 ghost use Rattle.gn_rules.specs.Answer.{answer};
-ghost use Rattle.gn_replay.specs.Judgements.{IsOther, IsTrueOf};
+ghost use Rattle.gn_replay.specs.Judgements.{IsTrueOf};
 
 use crate::judgement::{Answer, Judgement};
-use gn_rules::{Refusal, RouterCore, Step, is_same_reply};
+use gn_rules::{Event, Refusal, RouterCore, Step};
 use std::alloc::{AllocError, Allocator};
 
-/// What a router answers to a step's event, where that isn't the step's reply; else it has made the very step. An `Err`
-/// is out of memory.
-fn other_answer<A: Allocator + Copy, C: RouterCore<A>>(
+/// What a router answers to an event. An `Err` is out of memory.
+fn answer_to<A: Allocator + Copy, C: RouterCore<A>>(
     core: &mut C,
-    step: &Step<A>,
-) -> Result<Option<Answer<A>>, AllocError>
-    ensures other { IfOk result (λ other. IsOther other
-        (answer (C.settings core.old) (reverse (C.steps core.old)) step.now.event) step.now.reply) }
-    ensures step { IfOk result (λ other. IfNone other (C.steps core.new ≡ C.steps core.old ++ step.now ∷ [])) }
-    ensures settings { C.settings core.new ≡ C.settings core.old }
+    actor: u32,
+    event: &Event<A>,
+) -> Result<Answer<A>, AllocError>
+    ensures { IfOk result (λ found. answer (C.settings core.old) (reverse (C.steps core.old)) event.now ≡ found) }
 {
-    match core.apply(step.actor, &step.event) {
-        Ok(receipt) => {
-            if is_same_reply(&receipt.reply, &step.reply) {
-                Ok(None)
-            } else {
-                Ok(Some(Ok(receipt.reply)))
-            }
-        }
+    match core.apply(actor, event) {
+        Ok(receipt) => Ok(Ok(receipt.reply)),
         Err(Refusal::NoMemory) => Err(AllocError),
-        Err(refusal) => Ok(Some(Err(refusal))),
+        Err(refusal) => Ok(Err(refusal)),
     }
 }
 
-/// The judgement of a new router on steps, by answering their events itself. An `Err` is out of memory.
+/// The judgement of a new router on steps, by looking at each reply, and then making the step itself. An `Err` is out of
+/// memory.
 pub(crate) fn judge<A: Allocator + Copy, C: RouterCore<A>>(
     core: &mut C,
-    steps: &[Step<A>],
+    steps: Vec<Step<A>, A>,
 ) -> Result<Judgement<A>, AllocError>
     requires { C.steps core.old ≡ [] }
-    ensures { IfOk result (IsTrueOf (C.settings core.old) steps.now) }
+    ensures { IfOk result (IsTrueOf (C.settings core.old) steps.items) }
 {
-    for (i, step) in steps.iter().enumerate() {
-        if let Some(rules) = other_answer(core, step)? {
-            return Ok(Judgement::WrongAt(i as u32, rules));
+    let mut index = 0u32;
+    for step in steps {
+        if !core.is_answered(&step) {
+            let rules = answer_to(core, step.actor, &step.event)?;
+            return Ok(Judgement::WrongAt(index, rules));
         }
+        core.add(step)?;
+        index += 1;
     }
     Ok(Judgement::Legal)
 }

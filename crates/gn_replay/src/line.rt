@@ -114,11 +114,11 @@ impl<A: Allocator + Copy, C: RouterCore<A>> Play<A, C> {
             Line::Join => self.add_joined(),
             Line::Greeted => self.add_greeted(),
             Line::Piece { link, bytes } => self.play_piece(*link, bytes.as_slice()),
-            Line::Route(t) => self.play_event(&Event::Route(*t)),
-            Line::Take(c) => self.play_event(&Event::Take(*c)),
-            Line::Close(c) => self.play_event(&Event::Close(*c)),
+            Line::Route(t) => self.play_event(Event::Route(*t)),
+            Line::Take(c) => self.play_event(Event::Take(*c)),
+            Line::Close(c) => self.play_event(Event::Close(*c)),
             Line::Originate(request) => {
-                self.play_event(&Event::Originate(request.descriptor().copy()?))
+                self.play_event(Event::Originate(request.descriptor().copy()?))
             }
             Line::Stats => self.print_counters(),
         }

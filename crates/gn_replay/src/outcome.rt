@@ -1,9 +1,9 @@
 //! What the answer to an event says of a link.
 
-ghost use Rattle.gn_rules.specs.Answer.{reply_of};
+ghost use Rattle.std.specs.Prelude.{Err, Ok};
 ghost use Rattle.gn_replay.specs.Outcomes.{IsOutcome};
 
-use gn_rules::{ConnId, Receipt, Refusal};
+use gn_rules::{ConnId, Refusal, Reply};
 use std::alloc::Allocator;
 
 /// What the answer to an event says of a link: the connection that it made, and whether its connection isn't live.
@@ -13,18 +13,24 @@ pub(crate) struct Outcome {
     pub(crate) is_not_live: bool,
 }
 
-/// What an answer says of a link.
-pub(crate) fn outcome_of<A: Allocator>(answer: &Result<Receipt<A>, Refusal>) -> Outcome
-    ensures { IsOutcome result (reply_of answer.now) }
-{
-    match answer {
-        Ok(receipt) => Outcome {
-            connection: receipt.reply.connected(),
+impl Outcome {
+    /// What a reply says of a link.
+    pub(crate) fn of_reply<A: Allocator>(reply: &Reply<A>) -> Outcome
+        ensures { IsOutcome result (Ok reply.now) }
+    {
+        Outcome {
+            connection: reply.connected(),
             is_not_live: false,
-        },
-        Err(refusal) => Outcome {
+        }
+    }
+
+    /// What a refusal says of a link.
+    pub(crate) fn of_refusal(refusal: Refusal) -> Outcome
+        ensures { (A : Type 0) → IsOutcome {A = A} result (Err refusal) }
+    {
+        Outcome {
             connection: None,
-            is_not_live: *refusal == Refusal::NotLive,
-        },
+            is_not_live: refusal == Refusal::NotLive,
+        }
     }
 }

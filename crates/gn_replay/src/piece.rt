@@ -21,12 +21,16 @@ use std::alloc::{AllocError, Allocator};
 
 impl<A: Allocator + Copy, C: RouterCore<A>> Play<A, C> {
     /// Admits descriptors in order, until one is refused since the connection isn't live. Answers whether one was.
-    fn admit_all(&mut self, c: ConnId, descriptors: &[Descriptor<A>]) -> Result<bool, AllocError>
+    fn admit_all(
+        &mut self,
+        c: ConnId,
+        descriptors: Vec<Descriptor<A>, A>,
+    ) -> Result<bool, AllocError>
         ensures { IfOk result (λ closed. HasAdmitted closed self.old self.new
-            (admits self.old.settings self.old.past c descriptors.now)) }
+            (admits self.old.settings self.old.past c descriptors.items)) }
     {
         for descriptor in descriptors {
-            let outcome = self.happen(&Event::Admit(c, descriptor.copy()?))?;
+            let outcome = self.happen(Event::Admit(c, descriptor))?;
             if outcome.is_not_live {
                 return Ok(true);
             }
@@ -40,7 +44,7 @@ impl<A: Allocator + Copy, C: RouterCore<A>> Play<A, C> {
             (fault_plays self.old.settings self.old.past i connection fault)) }
     {
         push_frame_fault(&mut self.out, i, fault)?;
-        self.happen(&Event::Close(connection))?;
+        self.happen(Event::Close(connection))?;
         Ok(())
     }
 
@@ -50,14 +54,14 @@ impl<A: Allocator + Copy, C: RouterCore<A>> Play<A, C> {
         i: u32,
         connection: ConnId,
         frames: Reassembler<A>,
-        fed: &Fed<A>,
+        fed: Fed<A>,
     ) -> Result<Link<A>, AllocError>
         ensures { IfOk result (λ link. (bytes : List ℕ)
-            → (fed.now.fault ≡ None → IsLink {A = A} (Joined connection frames) (joined connection bytes))
+            → (fed.fault ≡ None → IsLink {A = A} (Joined connection frames) (joined connection bytes))
             → HasLinked link self.old self.new (delivers_these self.old.settings self.old.past i connection bytes
-            fed.now.descriptors.items fed.now.fault)) }
+            fed.descriptors.items fed.fault)) }
     {
-        if self.admit_all(connection, &fed.descriptors)? {
+        if self.admit_all(connection, fed.descriptors)? {
             return Ok(Link::Ended);
         }
         match fed.fault {
@@ -84,7 +88,7 @@ impl<A: Allocator + Copy, C: RouterCore<A>> Play<A, C> {
     {
         frames_are_cut();
         match frames.feed(piece) {
-            Ok(fed) => self.finish_piece(i, connection, frames, &fed),
+            Ok(fed) => self.finish_piece(i, connection, frames, fed),
             Err(FeedRefusal::Ended) => Ok(Link::Ended),
             Err(FeedRefusal::NoMemory) => Err(AllocError),
         }
@@ -95,7 +99,7 @@ impl<A: Allocator + Copy, C: RouterCore<A>> Play<A, C> {
         ensures { IfOk result (λ link. HasLinked link self.old self.new
             (connects self.old.settings self.old.past i piece.now)) }
     {
-        match self.happen(&Event::Connect)?.connection {
+        match self.happen(Event::Connect)?.connection {
             None => Ok(Link::Ended),
             Some(connection) => {
                 let frames = Reassembler::new(self.alloc)?;
@@ -108,7 +112,7 @@ impl<A: Allocator + Copy, C: RouterCore<A>> Play<A, C> {
     pub(crate) fn join(&mut self) -> Result<Link<A>, AllocError>
         ensures { IfOk result (λ link. HasLinked link self.old self.new (joins self.old.settings self.old.past)) }
     {
-        let Some(connection) = self.happen(&Event::Connect)?.connection else {
+        let Some(connection) = self.happen(Event::Connect)?.connection else {
             return Ok(Link::Ended);
         };
         let frames = Reassembler::new(self.alloc)?;

@@ -1,15 +1,18 @@
 //! A replay as it stands, and what an event does to it.
 
-ghost use Rattle.std.specs.Prelude.{◌≡◌, IfOk, OnOk};
-ghost use Rattle.gn_rules.specs.Answer.{answer, reply_of};
-ghost use Rattle.gn_replay.specs.Events.{happens, past_then};
+ghost use Rattle.std.specs.Prelude.{◌≡◌, ◌<◌, ◌++◌, ◌∷◌, Err, List, Ok, length, IfOk, OnOk};
+ghost use Rattle.gn_rules.specs.Answer.{answer};
+ghost use Rattle.gn_rules.specs.declared.receipt.Step.{Step};
+ghost use Rattle.gn_text.specs.Refusals.{refusal_text};
+ghost use Rattle.gn_text.specs.Steps.{step_text};
+ghost use Rattle.gn_replay.specs.Events.{happens};
 ghost use Rattle.gn_replay.specs.Outcomes.{IsOutcome};
-ghost use Rattle.gn_replay.specs.Playing.{after_playing, after_printing};
+ghost use Rattle.gn_replay.specs.Playing.{after_playing, refused_more};
 
 use crate::link::Link;
-use crate::outcome::{Outcome, outcome_of};
-use gn_rules::{Event, Receipt, Refusal, RouterCore};
-use gn_text::{push_refusal, push_step_of};
+use crate::outcome::Outcome;
+use gn_rules::{Event, Refusal, RouterCore};
+use gn_text::{push_refusal, push_step};
 use std::alloc::{AllocError, Allocator};
 use std::marker::Model;
 
@@ -39,52 +42,51 @@ impl<A: Allocator + Copy, C: RouterCore<A>> Model for Play<A, C> {
 }
 
 impl<A: Allocator + Copy, C: RouterCore<A>> Play<A, C> {
-    /// The router's answer to an event. An `Err` is out of memory.
-    #[tactic(auto, using(crate::proofs::EventLemmas::found, crate::proofs::EventLemmas::past_push))]
-    fn ask(&mut self, event: &Event<A>) -> Result<Result<Receipt<A>, Refusal>, AllocError>
-        ensures answer { IfOk result (λ a. answer self.old.settings self.old.past event.now ≡ reply_of a) }
-        ensures after { IfOk result (λ a.
-            self.new ≡ record self.old { past = past_then self.old.past event.now (reply_of a) }) }
+    /// Prints the step that the router made last.
+    fn print_step(&mut self) -> Result<Outcome, AllocError>
+        requires { 0 < length self.old.past }
+        ensures outcome { IfOk result (λ o. (step : Step A) → (before : List (Step A))
+            → self.old.past ≡ step ∷ before → IsOutcome o (Ok step.reply)) }
+        ensures after { OnOk result ((step : Step A) → (before : List (Step A))
+            → self.old.past ≡ step ∷ before → self.new ≡ record self.old { out = self.old.out ++ step_text step }) }
     {
-        match self.core.apply(0, event) {
-            Err(Refusal::NoMemory) => Err(AllocError),
-            Err(refusal) => Ok(Err(refusal)),
-            Ok(receipt) => Ok(Ok(receipt)),
+        match self.core.history().last() {
+            Some(step) => {
+                push_step(&mut self.out, step)?;
+                Ok(Outcome::of_reply(&step.reply))
+            }
+            None => unreachable!(),
         }
     }
 
-    /// Prints the answer to an event, and counts a refusal.
-    fn print(
-        &mut self,
-        event: &Event<A>,
-        answer: &Result<Receipt<A>, Refusal>,
-    ) -> Result<(), AllocError>
-        ensures { OnOk result (self.new ≡ after_printing self.old event.now (reply_of answer.now)) }
+    /// Prints a refusal, and counts it.
+    fn print_refusal(&mut self, refusal: Refusal) -> Result<Outcome, AllocError>
+        ensures outcome { IfOk result (λ o. IsOutcome {A = A} o (Err refusal)) }
+        ensures after { OnOk result (self.new ≡ record self.old {
+            out = self.old.out ++ refusal_text refusal; refusals = refused_more 1 self.old.refusals }) }
     {
-        match answer {
-            Ok(receipt) => push_step_of(&mut self.out, 0, event, &receipt.reply),
-            Err(refusal) => {
-                self.refusals = self.refusals.saturating_add(1);
-                push_refusal(&mut self.out, *refusal)
-            }
-        }
+        self.refusals = self.refusals.saturating_add(1);
+        push_refusal(&mut self.out, refusal)?;
+        Ok(Outcome::of_refusal(refusal))
     }
 
     /// Lets an event happen, and prints its answer.
-    pub(crate) fn happen(&mut self, event: &Event<A>) -> Result<Outcome, AllocError>
-        ensures outcome { IfOk result (λ o. IsOutcome o (answer self.old.settings self.old.past event.now)) }
+    pub(crate) fn happen(&mut self, event: Event<A>) -> Result<Outcome, AllocError>
+        ensures outcome { IfOk result (λ o. IsOutcome o (answer self.old.settings self.old.past event)) }
         ensures after { OnOk result (self.new ≡ after_playing self.old
-            (happens self.old.settings self.old.past event.now)) }
+            (happens self.old.settings self.old.past event)) }
     {
-        let answer = self.ask(event)?;
-        self.print(event, &answer)?;
-        Ok(outcome_of(&answer))
+        match self.core.enter(0, event) {
+            Ok(()) => self.print_step(),
+            Err(Refusal::NoMemory) => Err(AllocError),
+            Err(refusal) => self.print_refusal(refusal),
+        }
     }
 
     /// Lets an event of a line happen.
-    pub(crate) fn play_event(&mut self, event: &Event<A>) -> Result<(), AllocError>
+    pub(crate) fn play_event(&mut self, event: Event<A>) -> Result<(), AllocError>
         ensures { OnOk result (self.new ≡ after_playing self.old
-            (happens self.old.settings self.old.past event.now)) }
+            (happens self.old.settings self.old.past event)) }
     {
         self.happen(event)?;
         Ok(())

@@ -35,24 +35,25 @@ pub(crate) fn exit_of<A: Allocator + Copy, C: RouterCore<A>>(replayed: &Replayed
     }
 }
 
-/// Replays a capture that is read whole.
+/// Replays a capture that is read whole. Its text is gone before the first line is played.
 fn replay_text<A: Allocator + Copy, C: RouterCore<A> + Drop, W: Sink>(
     alloc: A,
-    text: &[u8],
+    text: Vec<u8, A>,
     sink: &mut W,
 ) -> Result<Exit, ReplayFault>
-    requires { length text.now ≤ input_limit }
-    ensures valid { OnOk result (IsOk (capture_of {A = A} text.now)) }
-    ensures written { OnOk result (AppendsReplay A text.now (W.state sink.old).written (W.state sink.new).written) }
-    ensures counted { IfOk result (λ exit. IsCounted A text.now exit) }
+    requires { length text.items ≤ input_limit }
+    ensures valid { OnOk result (IsOk (capture_of {A = A} text.items)) }
+    ensures written { OnOk result (AppendsReplay A text.items (W.state sink.old).written (W.state sink.new).written) }
+    ensures counted { IfOk result (λ exit. IsCounted A text.items exit) }
     ensures writes { OnOk result (NoWriteFailed (W.state sink.old) (W.state sink.new)) }
-    ensures stopped { IfErr result (λ fault. HasStopped A fault (Some text.now)
+    ensures stopped { IfErr result (λ fault. HasStopped A fault (Some text.items)
         (W.state sink.old).written (W.state sink.new).written) }
     ensures fault { IfErr result (λ fault. IsReplayFault fault (capture_of {A = A})
-        (streams (input_of text.now) (input_of text.now) (W.state sink.old) (W.state sink.new))) }
+        (streams (input_of text.items) (input_of text.items) (W.state sink.old) (W.state sink.new))) }
 {
-    let capture = read_capture(alloc, text)?;
-    let replayed = play::<A, C, W>(alloc, &capture, sink)?;
+    let capture = read_capture(alloc, &text)?;
+    drop(text);
+    let replayed = play::<A, C, W>(alloc, capture, sink)?;
     Ok(exit_of::<A, C>(&replayed))
 }
 
@@ -73,5 +74,5 @@ pub fn replay<A: Allocator + Copy, C: RouterCore<A> + Drop, S: Source, W: Sink>(
         (W.state sink.old).written (W.state sink.new).written) }
 {
     let text = read_input(alloc, source)?;
-    replay_text::<A, C, W>(alloc, &text, sink)
+    replay_text::<A, C, W>(alloc, text, sink)
 }

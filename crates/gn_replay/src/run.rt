@@ -56,22 +56,22 @@ impl<A: Allocator + Copy, C: RouterCore<A>> Play<A, C> {
     /// Plays lines in order. Their text is written in blocks, and what is over waits.
     fn pass_lines<W: Sink>(
         &mut self,
-        lines: &[(u64, Line<A>)],
+        lines: Vec<(u64, Line<A>), A>,
         block: &mut Block<A>,
         sink: &mut W,
     ) -> Result<(), ReplayFault>
         requires new { IsNew self.old }
         requires empty { block.old ≡ [] }
-        ensures ok { OnOk result (HasPassed (capture_plays self.old.settings lines.now) self.new.past self.new.refusals
+        ensures ok { OnOk result (HasPassed (capture_plays self.old.settings lines.items) self.new.past self.new.refusals
             (W.state sink.old).written (W.state sink.new).written block.new) }
         ensures err { OnErr result (WaitsPart (W.state sink.old).written (W.state sink.new).written block.new
-            (capture_plays self.old.settings lines.now).text) }
+            (capture_plays self.old.settings lines.items).text) }
         ensures settings { OnOk result (self.new.settings ≡ self.old.settings) }
         ensures cause { IfErr result (λ fault. IsPlayFault fault (W.state sink.old) (W.state sink.new)) }
         ensures writes { OnOk result (NoWriteFailed (W.state sink.old) (W.state sink.new)) }
     {
-        for (_, line) in lines {
-            self.write_line(line, block, sink)?;
+        for numbered in lines {
+            self.write_line(&numbered.1, block, sink)?;
         }
         Ok(())
     }
@@ -80,14 +80,14 @@ impl<A: Allocator + Copy, C: RouterCore<A>> Play<A, C> {
     /// of all lines before that is written too.
     fn write_lines<W: Sink>(
         &mut self,
-        lines: &[(u64, Line<A>)],
+        lines: Vec<(u64, Line<A>), A>,
         sink: &mut W,
     ) -> Result<(), ReplayFault>
         requires { IsNew self.old }
-        ensures ok { OnOk result (HasRun (capture_plays self.old.settings lines.now) self.new.past self.new.refusals
+        ensures ok { OnOk result (HasRun (capture_plays self.old.settings lines.items) self.new.past self.new.refusals
             (W.state sink.old).written (W.state sink.new).written) }
         ensures err { OnErr result (AppendsPart (W.state sink.old).written (W.state sink.new).written
-            (capture_plays self.old.settings lines.now).text) }
+            (capture_plays self.old.settings lines.items).text) }
         ensures settings { OnOk result (self.new.settings ≡ self.old.settings) }
         ensures cause { IfErr result (λ fault. IsPlayFault fault (W.state sink.old) (W.state sink.new)) }
         ensures writes { OnOk result (NoWriteFailed (W.state sink.old) (W.state sink.new)) }
@@ -107,19 +107,19 @@ impl<A: Allocator + Copy, C: RouterCore<A>> Play<A, C> {
     }
 }
 
-/// Makes a router as the capture's first lines say, plays its lines on it, and writes what they print in blocks of at
-/// least 32,768 bytes, the last one shorter. An `Err` is a write that failed or took nothing, or out of memory: a
-/// prefix of that text was written.
+/// Makes a router as the capture's first lines say, plays its lines on it, each of which is gone then, and writes what
+/// they print in blocks of at least 32,768 bytes, the last one shorter. An `Err` is a write that failed or took nothing,
+/// or out of memory: a prefix of that text was written.
 pub fn play<A: Allocator + Copy, C: RouterCore<A> + Drop, W: Sink>(
     alloc: A,
-    capture: &Capture<A>,
+    capture: Capture<A>,
     sink: &mut W,
 ) -> Result<Replayed<C>, ReplayFault>
-    ensures settings { IfOk result (λ replayed. C.settings replayed.core ≡ capture.now.config) }
-    ensures played { IfOk result (λ replayed. HasRun (capture_plays capture.now.config capture.now.lines.items)
+    ensures settings { IfOk result (λ replayed. C.settings replayed.core ≡ capture.config) }
+    ensures played { IfOk result (λ replayed. HasRun (capture_plays capture.config capture.lines.items)
         (reverse (C.steps replayed.core)) replayed.refusals (W.state sink.old).written (W.state sink.new).written) }
     ensures err { OnErr result (AppendsPart (W.state sink.old).written (W.state sink.new).written
-        (capture_plays capture.now.config capture.now.lines.items).text) }
+        (capture_plays capture.config capture.lines.items).text) }
     ensures writes { OnOk result (NoWriteFailed (W.state sink.old) (W.state sink.new)) }
     ensures cause { IfErr result (λ fault. IsPlayFault fault (W.state sink.old) (W.state sink.new)) }
 {
@@ -130,7 +130,7 @@ pub fn play<A: Allocator + Copy, C: RouterCore<A> + Drop, W: Sink>(
         out: Vec::new(alloc),
         refusals: 0,
     };
-    play.write_lines(&capture.lines, sink)?;
+    play.write_lines(capture.lines, sink)?;
     Ok(Replayed {
         core: play.core,
         refusals: play.refusals,

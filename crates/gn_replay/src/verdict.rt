@@ -49,8 +49,9 @@ pub(crate) fn judge_text<A: Allocator + Copy, C: RouterCore<A> + Drop>(
 {
     let (config, steps) = read_history(alloc, text)?;
     let mut core = C::make(alloc, &config)?;
-    let judgement = judge(&mut core, &steps)?;
-    Ok((judgement, steps.len()))
+    let count = steps.len();
+    let judgement = judge(&mut core, steps)?;
+    Ok((judgement, count))
 }
 
 /// The verdict of a new router on the history that a text says, and its line.

@@ -1,19 +1,21 @@
 //! The table router keeps what every router promises.
 
-ghost use Rattle.std.specs.Prelude.{◌≡◌, ◌∷◌, ◌++◌, [], Ok, length, IfOk, IfErr, OnErr};
-ghost use Rattle.gn_rules.specs.Answer.{answer};
+ghost use Rattle.std.specs.Prelude.{◌≡◌, ◌∷◌, ◌++◌, [], Err, Ok, length, IfOk, IfErr, OnErr, OnOk};
+ghost use Rattle.gn_rules.specs.Answer.{Finds, answer};
 ghost use Rattle.gn_rules.specs.declared.refusal.Refusal.TheVariants.{NoMemory};
+ghost use Rattle.gn_rules.specs.declared.reply.Reply.{Reply};
 ghost use Rattle.gn_router.specs.Tabled.{past_of};
 
 use crate::table_router::TableRouter;
-use gn_decide::{Lookup, find, find_checked};
+use gn_decide::{Lookup, find, find_checked, is_answered};
 use gn_payload::Checked;
 use gn_rules::{Config, ConnId, Event, Receipt, Refusal, Reply, RouterCore, Stats, Step, Ticket};
 use std::alloc::{AllocError, Allocator};
 
 impl<A: Allocator + Copy> TableRouter<A> {
-    /// Makes the step of an event whose reply was found. The one refusal is out of memory, and changes nothing.
-    fn enter(
+    /// Makes the step of an event whose reply was found, and gives its receipt. The one refusal is out of memory, and
+    /// changes nothing.
+    fn add_with_receipt(
         &mut self,
         actor: u32,
         event: &Event<A>,
@@ -29,22 +31,18 @@ impl<A: Allocator + Copy> TableRouter<A> {
         ensures refusal { IfErr result (λ refusal. refusal ≡ NoMemory) }
         ensures settings { self.new.settings ≡ self.old.settings }
     {
-        let index = self.history.len() as u32;
-        let kept = event.copy()?;
-        let known = event.copy()?;
-        let answer = reply.copy(self.alloc)?;
-        self.history.reserve(1)?;
-        self.tables.follow(self.alloc, event, &reply)?;
-        self.history.push_reserved(Step {
+        let receipt = Receipt {
+            index: self.history.len() as u32,
+            event: event.copy()?,
+            reply: reply.copy(self.alloc)?,
+        };
+        let event = event.copy()?;
+        self.add(Step {
             actor,
-            event: kept,
+            event,
             reply,
-        });
-        Ok(Receipt {
-            index,
-            event: known,
-            reply: answer,
-        })
+        })?;
+        Ok(receipt)
     }
 }
 
@@ -59,7 +57,40 @@ impl<A: Allocator + Copy> RouterCore<A> for TableRouter<A> {
 
     fn apply(&mut self, actor: u32, event: &Event<A>) -> Result<Receipt<A>, Refusal> {
         let reply = find(self.alloc, self, event)?;
-        self.enter(actor, event, reply)
+        self.add_with_receipt(actor, event, reply)
+    }
+
+    fn is_answered(&self, step: &Step<A>) -> bool {
+        is_answered(self, step)
+    }
+
+    fn add(&mut self, step: Step<A>) -> Result<(), AllocError>
+        requires { answer self.old.settings (past_of self.old) step.event ≡ Ok step.reply }
+        ensures step { OnOk result (self.new.steps ≡ self.old.steps ++ step ∷ []) }
+        ensures err { OnErr result (self.new.steps ≡ self.old.steps) }
+        ensures settings { self.new.settings ≡ self.old.settings }
+    {
+        self.history.reserve(1)?;
+        self.tables.follow(self.alloc, &step.event, &step.reply)?;
+        self.history.push_reserved(step);
+        Ok(())
+    }
+
+    fn enter(&mut self, actor: u32, event: Event<A>) -> Result<(), Refusal>
+        ensures step { OnOk result ((reply : Reply A) × (answer self.old.settings (past_of self.old) event ≡ Ok reply)
+            × (self.new.steps ≡ self.old.steps ++ record { actor = actor; event = event; reply = reply } ∷ [])) }
+        ensures refusal { IfErr result (λ refusal.
+            Finds (Err refusal) (answer self.old.settings (past_of self.old) event)) }
+        ensures err { OnErr result (self.new.steps ≡ self.old.steps) }
+        ensures settings { self.new.settings ≡ self.old.settings }
+    {
+        let reply = find(self.alloc, self, &event)?;
+        self.add(Step {
+            actor,
+            event,
+            reply,
+        })?;
+        Ok(())
     }
 
     fn route(
@@ -69,7 +100,7 @@ impl<A: Allocator + Copy> RouterCore<A> for TableRouter<A> {
         checked: &Checked<A>,
     ) -> Result<Receipt<A>, Refusal> {
         let reply = find_checked(self.alloc, self, ticket, checked)?;
-        self.enter(actor, &Event::Route(ticket), reply)
+        self.add_with_receipt(actor, &Event::Route(ticket), reply)
     }
 
     fn config(&self) -> &Config {

@@ -1,6 +1,6 @@
 //! What every router promises.
 
-ghost use Rattle.std.specs.Prelude.{◌≡◌, ◌∷◌, ◌++◌, [], List, length, reverse, IfOk, OnErr};
+ghost use Rattle.std.specs.Prelude.{◌≡◌, ◌↔◌, ◌∷◌, ◌++◌, [], List, Ok, Err, length, reverse, IfErr, IfOk, IsTrue, OnErr, OnOk};
 ghost use Rattle.gn_rules.specs.Answer.{Finds, answer, checked_answer, reply_of};
 ghost use Rattle.gn_rules.specs.Flight.{flying};
 ghost use Rattle.gn_rules.specs.Legal.{IsLegal};
@@ -10,6 +10,7 @@ ghost use Rattle.gn_rules.specs.Statistics.{stats_of};
 ghost use Rattle.gn_rules.specs.declared.config.Config.{Config};
 ghost use Rattle.gn_rules.specs.declared.event.Event.TheVariants.{Route};
 ghost use Rattle.gn_rules.specs.declared.receipt.Step.{Step};
+ghost use Rattle.gn_rules.specs.declared.reply.Reply.{Reply};
 
 use crate::config::Config;
 use crate::event::{ConnId, Event, Ticket};
@@ -40,6 +41,28 @@ pub trait RouterCore<A: Allocator + Copy> {
             ≡ steps self.old ++ record { actor = actor; event = event.now; reply = receipt.reply } ∷ []) }
         ensures index { IfOk result (λ receipt. receipt.index ≡ length (steps self.old)) }
         ensures event { IfOk result (λ receipt. receipt.event ≡ event.now) }
+        ensures err { OnErr result (steps self.new ≡ steps self.old) }
+        ensures settings { settings self.new ≡ settings self.old };
+
+    /// As `apply`, with the event for keeps and without a receipt: where it is answered, its step is the last of the history.
+    fn enter(&mut self, actor: u32, event: Event<A>) -> Result<(), Refusal>
+        ensures step { OnOk result ((reply : Reply A)
+            × (answer (settings self.old) (reverse (steps self.old)) event ≡ Ok reply)
+            × (steps self.new ≡ steps self.old ++ record { actor = actor; event = event; reply = reply } ∷ [])) }
+        ensures refusal { IfErr result (λ refusal.
+            Finds (Err refusal) (answer (settings self.old) (reverse (steps self.old)) event)) }
+        ensures err { OnErr result (steps self.new ≡ steps self.old) }
+        ensures settings { settings self.new ≡ settings self.old };
+
+    /// Whether a step's reply is the rules' answer to its event. Takes no memory.
+    fn is_answered(&self, step: &Step<A>) -> bool
+        ensures { IsTrue result
+            ↔ (answer (settings self.now) (reverse (steps self.now)) step.now.event ≡ Ok step.now.reply) };
+
+    /// Adds a step whose reply is the rules' answer to its event. An `Err` is out of memory, and changes nothing.
+    fn add(&mut self, step: Step<A>) -> Result<(), AllocError>
+        requires { answer (settings self.old) (reverse (steps self.old)) step.event ≡ Ok step.reply }
+        ensures step { OnOk result (steps self.new ≡ steps self.old ++ step ∷ []) }
         ensures err { OnErr result (steps self.new ≡ steps self.old) }
         ensures settings { settings self.new ≡ settings self.old };
 

@@ -5,7 +5,7 @@ use bytes::Bytes;
 use gn_payload::Checked;
 use gn_plain::PlainRouter;
 use gn_router::TableRouter;
-use gn_rules::{Config, Event, Refusal, Reply, RouterCore};
+use gn_rules::{Config, Event, Refusal, Reply, RouterCore, Step};
 use gn_wire::{Descriptor, Guid, Kind};
 use std::alloc::Global;
 use std::process::Abort;
@@ -66,4 +66,31 @@ fn connects<C: RouterCore<Global> + Drop, R: Abort + AllocGlobal>(rt: &R) -> Res
 fn connections_at_the_limit(rt: HostRuntime) -> Result<(), Fail> {
     connects::<TableRouter, _>(&rt)?;
     connects::<PlainRouter, _>(&rt)
+}
+
+/// The step of an event that is entered is the rules' answer to another router too, which adds it; then it is so no more.
+fn repeats<C: RouterCore<Global> + Drop, R: Abort + AllocGlobal>(rt: &R) -> Result<(), Fail> {
+    let config = Config::new(4, 8, 4, 8, 8, 100, OWN).map_err(|_| "a configuration")?;
+    let mut core = C::make(rt.alloc(), &config)?;
+    core.enter(0, Event::Connect).map_err(|_| "a connection")?;
+    assert!(rt; matches!(core.enter(0, Event::Route(0)), Err(Refusal::NoTicket)));
+    let mut again = C::make(rt.alloc(), &config)?;
+    for step in core.into_history() {
+        assert!(rt; again.is_answered(&step));
+        again.add(step)?;
+    }
+    let first = Step {
+        actor: 0,
+        event: Event::Connect,
+        reply: Reply::Connected(1),
+    };
+    assert!(rt; !again.is_answered(&first));
+    assert!(rt; again.history().len() == 1);
+    Ok(())
+}
+
+#[test]
+fn steps_are_repeated(rt: HostRuntime) -> Result<(), Fail> {
+    repeats::<TableRouter, _>(&rt)?;
+    repeats::<PlainRouter, _>(&rt)
 }

@@ -47,7 +47,7 @@ fn plays<C: RouterCore<Global> + Drop, R: Abort + AllocGlobal>(
     let text = capture_text(alloc, run.numbers, run.capture)?;
     let capture = read_capture(alloc, text.as_bytes()).map_err(|_| run.name)?;
     let mut sink = WriterSink::new(Vec::new(alloc));
-    let replayed: Replayed<C> = play(alloc, &capture, &mut sink).map_err(|_| run.name)?;
+    let replayed: Replayed<C> = play(alloc, capture, &mut sink).map_err(|_| run.name)?;
     let printed = encoded(alloc, run.printed)?;
     same(rt, run.name, &sink.into_inner(), printed.as_bytes());
     history_is_kept::<C, R>(rt, run.name, &replayed.core)

@@ -90,7 +90,7 @@ fn the_router_is_given_back(rt: HostRuntime) -> Result<(), Fail> {
     let text = capture_of(alloc, b"join\nping d1d1d1d1d1d1d1d1d1d1d1d1d1d1d1d1 5\n")?;
     let capture = read_capture(alloc, &text).map_err(|_| "capture")?;
     let mut sink = WriterSink::new(Vec::new(alloc));
-    let replayed: Replayed<TableRouter> = play(alloc, &capture, &mut sink).map_err(|_| "play")?;
+    let replayed: Replayed<TableRouter> = play(alloc, capture, &mut sink).map_err(|_| "play")?;
     assert_eq!(rt; replayed.core.history().len(), 2);
     assert_eq!(rt; replayed.core.waiting(1), 1);
     assert_eq!(rt; replayed.refusals, 0);

@@ -1,5 +1,6 @@
 -- Hex digits of lower case, and those of bytes that are put together.
-use Rattle.std.proofs.Common.{◌≡◌, ℕ, zero, suc, ◌+◌, ◌-◌, ◌<◌, ◌≤◌, ◌==◌, ◌&&◌, Bool, true, inl, inr, List, [], ◌∷◌, ◌++◌, slice_index, refl, ap, ◌∙◌, arith}
+use Rattle.std.proofs.Common.{◌≡◌, ℕ, zero, suc, ◌+◌, ◌-◌, ◌<◌, ◌≤◌, ◌==◌, ◌&&◌, Bool, true, inl, inr, List, [], ◌∷◌, ◌++◌, length, slice_index, refl, sym, ap, ◌∙◌, arith}
+use Rattle.std.specs.Prelude.{decimal}
 use Rattle.std.proofs.lemmas.Bool.{and_parts, cases_lt, eqb-true}
 use Rattle.hex.specs.Hex.{encode_lower, encode_with, lower_digits}
 
@@ -35,6 +36,20 @@ letter_digit n above below =
     let letter : 87 + n ≡ 97 + k = omega arith in
     letter ∙ eqb-true (97 + k) (slice_index lower_digits (10 + k)) (all_below-at is_letter 6 k refl (omega arith))
     ∙ ap (λ (m : ℕ). slice_index lower_digits m) is
+
+-- a number of one digit
+abbrev is_digit_alone : ℕ → Bool
+is_digit_alone k = (length (decimal k) == 1) && (48 + k == slice_index (decimal k) 0)
+
+one_of : (xs : List ℕ) (d : ℕ) → length xs ≡ 1 → slice_index xs 0 ≡ d → xs ≡ d ∷ []
+one_of [] d long is = absurd (omega (arith, long))
+one_of (x ∷ []) d long is = ap (λ (y : ℕ). y ∷ []) is
+one_of (x ∷ y ∷ xs) d long is = absurd (omega (arith, long))
+
+pub one_digit : (n : ℕ) → n < 10 → decimal n ≡ (48 + n) ∷ []
+one_digit n below =
+    let parts = and_parts (length (decimal n) == 1) (48 + n == slice_index (decimal n) 0) (all_below-at is_digit_alone 10 n refl below) in
+    one_of (decimal n) (48 + n) (eqb-true (length (decimal n)) 1 parts.0) (sym (eqb-true (48 + n) (slice_index (decimal n) 0) parts.1))
 
 joined_by : (digits head back : List ℕ) → encode_with digits (head ++ back) ≡ encode_with digits head ++ encode_with digits back
 unfolding encode_with

@@ -1,7 +1,7 @@
 //! Descriptors in hex, and the packets that a reply sends.
 #![tactic(auto, using(crate::proofs::KeptLemmas::kept))]
 
-ghost use Rattle.std.specs.Prelude.{◌≡◌, ◌++◌, length, take, OnOk, OnErr};
+ghost use Rattle.std.specs.Prelude.{◌≡◌, ◌≤◌, ◌++◌, length, slice_range, take, IfSome, OnOk, OnErr};
 ghost use Rattle.gn_text.specs.Steps.{packet_text, sends_text};
 
 use crate::push::{push_hex, push_number};
@@ -24,6 +24,47 @@ pub(crate) fn write_packet<A: Allocator, B: Allocator>(
     whole_or_none(out, start, written)
 }
 
+/// Appends a copy of what stands at this place, from the first index up to the second. An `Err` is out of memory, and changes
+/// nothing.
+fn append_copy<B: Allocator>(
+    out: &mut Vec<u8, B>,
+    place: (usize, usize),
+) -> Result<(), AllocError>
+    requires ends { place.0 ≤ place.1 }
+    requires within { place.1 ≤ length out.old.items }
+    ensures ok { OnOk result (out.new.items ≡ out.old.items ++ slice_range out.old.items place.0 place.1) }
+    ensures err { OnErr result (out.new.items ≡ out.old.items) }
+{
+    let start = out.len();
+    let Some(end) = start.checked_add(place.1 - place.0) else {
+        return Err(AllocError);
+    };
+    out.resize(end, 0)?;
+    let (head, copy) = out.as_mut_slice().split_at_mut(start);
+    copy.copy_from_slice(&head[place.0..place.1]);
+    Ok(())
+}
+
+/// Appends the text of a packet. It is copied where the packet before is the same, whose text stands at this place, from the
+/// first index up to the second. An `Err` is out of memory, and changes nothing.
+fn write_next<A: Allocator, B: Allocator>(
+    out: &mut Vec<u8, B>,
+    packet: &Descriptor<A>,
+    before: Option<&Descriptor<A>>,
+    place: (usize, usize),
+) -> Result<(), AllocError>
+    requires ends { place.0 ≤ place.1 }
+    requires within { place.1 ≤ length out.old.items }
+    requires before { IfSome before (λ b. slice_range out.old.items place.0 place.1 ≡ packet_text b.now) }
+    ensures ok { OnOk result (out.new.items ≡ out.old.items ++ packet_text packet.now) }
+    ensures err { OnErr result (out.new.items ≡ out.old.items) }
+{
+    match before {
+        Some(before) if packet.is_same(before) => append_copy(out, place),
+        _ => write_packet(out, packet),
+    }
+}
+
 pub(crate) fn write_sends<A: Allocator, B: Allocator>(
     out: &mut Vec<u8, B>,
     sends: &[Sending<A>],
@@ -31,11 +72,16 @@ pub(crate) fn write_sends<A: Allocator, B: Allocator>(
     ensures ok { OnOk result (out.new.items ≡ out.old.items ++ sends_text sends.now) }
     ensures err { OnErr result (take (length out.old.items) out.new.items ≡ out.old.items) }
 {
+    let mut before = None;
+    let mut place = (0, 0);
     for sending in sends {
         out.extend_from_slice(b" ")?;
         push_number(out, sending.to)?;
         out.extend_from_slice(if sending.queued { b"+" } else { b"-" })?;
-        write_packet(out, &sending.packet)?;
+        let start = out.len();
+        write_next(out, &sending.packet, before, place)?;
+        before = Some(&sending.packet);
+        place = (start, out.len());
     }
     Ok(())
 }

@@ -10,10 +10,15 @@ use itoa::Buffer;
 use std::alloc::{AllocError, Allocator};
 
 /// Appends a number in decimal digits without leading zeros. An `Err` is out of memory.
+#[tactic(auto, using(crate::proofs::HexLemmas::one_digit))]
 pub fn push_number<B: Allocator>(out: &mut Vec<u8, B>, number: u32) -> Result<(), AllocError>
     ensures ok { OnOk result (out.new.items ≡ out.old.items ++ decimal number) }
     ensures err { OnErr result (out.new.items ≡ out.old.items) }
 {
+    if number < 10 {
+        out.push(b'0' + number as u8)?;
+        return Ok(());
+    }
     let mut buffer = Buffer::new();
     out.extend_from_slice(buffer.format(number).as_bytes())
 }

@@ -1,33 +1,38 @@
-use Rattle.std.proofs.Common.{◌+◌, ◌∙◌, drop, refl}
-use Rattle.gn_replay.proofs.RunLemmas.{next_of, on_err, running_more, running_part, running_start}
+use Rattle.std.proofs.Common.{◌∙◌, arith, refl, subst, sym}
+use Rattle.std.specs.Vec.Iter.{into_iter_items}
+use Rattle.gn_replay.proofs.RunLemmas.{on_err, running_done, running_more, running_part, running_start}
 use Rattle.gn_replay.proofs.playing.Play.pass_lines.Goals as goal
 
-pub loop-line-init : goal.loop-line-init
-loop-line-init g c = record {
+pub loop-numbered-init : goal.loop-numbered-init
+loop-numbered-init g c = record {
   running =
-      running_start c.args.self.now (g.W.Sink.state c.args.sink.now).written c.args.block.now c.args.lines.now
+      running_start c.args.self.now (g.W.Sink.state c.args.sink.now).written c.args.block.now c.args.lines.items
+      (into_iter_items c.into_iter-numbered-iterator.result) c.into_iter-numbered-iterator.ensures.into_iter_gives.0
       (record { past = c.requires.new.past; links = c.requires.new.links; refusals = c.requires.new.refusals }) c.requires.empty;
   unfailed = (refl, refl);
 }
 
 pub returns-in_err-write_line-clause-err : goal.returns-in_err-write_line-clause-err
 returns-in_err-write_line-clause-err g c =
-    let next = next_of c.args.lines.now c.loop-line.line-index c.loop-line-item.result c.loop-line-test.true c.loop-line-item.is in
     on_err c.from_residual.result
-    (running_part c.args.self.now.settings c.loop-line.self (g.W.Sink.state c.args.sink.now).written (g.W.Sink.state c.loop-line.sink).written (g.W.Sink.state c.write_line.new.sink).written
-    c.loop-line.block c.write_line.new.block
-    c.loop-line-item.result.0 c.loop-line-item.result.1 (drop (c.loop-line.line-index + 1) c.args.lines.now) c.args.lines.now (rw next at c.loop-line.invariant.running)
+    (running_part c.args.self.now.settings c.loop-numbered.self (g.W.Sink.state c.args.sink.now).written (g.W.Sink.state c.loop-numbered.sink).written (g.W.Sink.state c.write_line.new.sink).written
+    c.loop-numbered.block c.write_line.new.block
+    c.in-Some.numbered.0 c.in-Some.numbered.1 (into_iter_items c.next.new.self) c.args.lines.items (rw c.in-Some.ensures.steps.0 at c.loop-numbered.invariant.running)
     c.in_err-write_line.ensures.err)
 
-pub loop-line-preserved : goal.loop-line-preserved
-loop-line-preserved g c =
-    let next = next_of c.args.lines.now c.loop-line.line-index c.loop-line-item.result c.loop-line-test.true c.loop-line-item.is in
-    record {
-      running =
-          running_more c.args.self.now.settings c.loop-line.self c.write_line.new.self (g.W.Sink.state c.args.sink.now).written (g.W.Sink.state c.loop-line.sink).written (g.W.Sink.state c.write_line.new.sink).written
-          c.loop-line.block c.write_line.new.block
-          c.loop-line-item.result.0 c.loop-line-item.result.1 (drop (c.loop-line.line-index + 1) c.args.lines.now) c.args.lines.now (rw next at c.loop-line.invariant.running)
-          c.in_ok-write_line.ensures.ok;
-      unfailed =
-          (c.in_ok-write_line.ensures.writes.0 ∙ c.loop-line.invariant.unfailed.0, c.in_ok-write_line.ensures.writes.1 ∙ c.loop-line.invariant.unfailed.1);
-    }
+pub loop-numbered-preserved : goal.loop-numbered-preserved
+loop-numbered-preserved g c = record {
+  running =
+      running_more c.args.self.now.settings c.loop-numbered.self c.write_line.new.self (g.W.Sink.state c.args.sink.now).written (g.W.Sink.state c.loop-numbered.sink).written (g.W.Sink.state c.write_line.new.sink).written
+      c.loop-numbered.block c.write_line.new.block
+      c.in-Some.numbered.0 c.in-Some.numbered.1 (into_iter_items c.next.new.self) c.args.lines.items (rw c.in-Some.ensures.steps.0 at c.loop-numbered.invariant.running)
+      c.in_ok-write_line.ensures.ok;
+  unfailed =
+      (c.in_ok-write_line.ensures.writes.0 ∙ c.loop-numbered.invariant.unfailed.0, c.in_ok-write_line.ensures.writes.1 ∙ c.loop-numbered.invariant.unfailed.1);
+}
+
+pub returns-clause-ok : goal.returns-clause-ok
+returns-clause-ok g c =
+    running_done c.args.self.now.settings c.loop-numbered.self (g.W.Sink.state c.args.sink.now).written (g.W.Sink.state c.loop-numbered.sink).written c.loop-numbered.block
+    (into_iter_items c.loop-numbered.numbered-iterator) c.args.lines.items (omega (arith, c.loop-numbered.numbered-iterator.rest.ok, c.in-None.ensures.steps))
+    c.loop-numbered.invariant.running

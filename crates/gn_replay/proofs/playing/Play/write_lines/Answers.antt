@@ -6,7 +6,7 @@ use Rattle.gn_replay.proofs.playing.Play.write_lines.Goals as goal
 pub returns-in_err-write_rest-in-Ok-clause-err : goal.returns-in_err-write_rest-in-Ok-clause-err
 returns-in_err-write_rest-in-Ok-clause-err g c =
     on_err c.from_residual.result
-    (run_cut (capture_plays c.args.self.now.settings c.args.lines.now) c.pass_lines.new.self.past c.pass_lines.new.self.refusals
+    (run_cut (capture_plays c.args.self.now.settings c.args.lines.items) c.pass_lines.new.self.past c.pass_lines.new.self.refusals
     (g.W.Sink.state c.args.sink.now).written (g.W.Sink.state c.pass_lines.new.sink).written (g.W.Sink.state c.write_rest.new.sink).written c.pass_lines.new.block
     c.in-Ok.ensures.ok c.in_err-write_rest-in-Ok.ensures.err)
 
@@ -14,4 +14,4 @@ pub returns-in_err-write_rest-in-Err-NoMemory-clause-err : goal.returns-in_err-w
 returns-in_err-write_rest-in-Err-NoMemory-clause-err g c =
     on_err c.from_residual-in_err-write_rest-in-Err-NoMemory.result
     (rest_cut (g.W.Sink.state c.args.sink.now).written (g.W.Sink.state c.pass_lines.new.sink).written (g.W.Sink.state c.write_rest-in-Err-NoMemory.new.sink).written c.pass_lines.new.block
-    (capture_plays c.args.self.now.settings c.args.lines.now).text c.in-Err-NoMemory.ensures.err c.in_err-write_rest-in-Err-NoMemory.ensures.err)
+    (capture_plays c.args.self.now.settings c.args.lines.items).text c.in-Err-NoMemory.ensures.err c.in_err-write_rest-in-Err-NoMemory.ensures.err)
