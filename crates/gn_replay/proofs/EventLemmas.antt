@@ -1,8 +1,10 @@
 -- Events that are played.
-use Rattle.std.proofs.Common.{◌≡◌, ◌∙◌, List, [], ◌∷◌, ◌++◌, reverse, Result, Ok, Err, ap, refl, sym}
+use Rattle.std.proofs.Common.{◌≡◌, ◌<◌, ◌-◌, ◌∙◌, List, [], ◌∷◌, ◌++◌, length, get_or, reverse, slice_get, Result, Ok, Err, Some, ap, arith, length-append, refl, sym, subst}
 use Rattle.std.specs.Prelude.{IfOk, OnOk}
 use Rattle.std.specs.AllocError.{AllocError}
-use Rattle.std.proofs.lemmas.List.{reverse-append, reverse-reverse}
+use Rattle.std.proofs.Math.Seq.{get_or-append_seam}
+use Rattle.std.proofs.lemmas.List.{length-reverse, reverse-append, reverse-reverse}
+use Rattle.std.proofs.lemmas.Option.{get_or_from_slice_get}
 use Rattle.gn_rules.specs.declared.event.Event.{Event}
 use Rattle.gn_rules.specs.declared.receipt.Step.{Step}
 use Rattle.gn_rules.specs.declared.reply.Reply.{Reply}
@@ -34,6 +36,18 @@ past_push xs x = reverse-append xs (x ∷ [])
 -- the newest step is the last
 pub last_is : {X : Type 0} (xs before : List X) (x : X) → reverse xs ≡ x ∷ before → xs ≡ reverse before ++ x ∷ []
 last_is xs before x is = sym (reverse-reverse xs) ∙ ap reverse is ∙ reverse-append (x ∷ []) before
+
+-- the last is the newest
+pub newest_is : {X : Type 0} (xs before : List X) (x y : X) → reverse xs ≡ x ∷ before → slice_get xs (length xs - 1) ≡ Some y → y ≡ x
+newest_is {X} xs before x y is last =
+    let whole : xs ≡ reverse before ++ x ∷ [] = last_is xs before x is in
+    let count : length xs - 1 ≡ length (reverse before) = omega (arith, ap length whole, length-append (reverse before) (x ∷ [])) in
+    sym (get_or_from_slice_get xs (length xs - 1) y x last) ∙ ap (λ n. get_or xs n x) count
+    ∙ ap (λ (ys : List X). get_or ys (length (reverse before)) x) whole ∙ get_or-append_seam (reverse before) x [] x
+
+-- where there is a step, there is a last one
+pub one_there : {X : Type 0} (xs : List X) → 0 < length (reverse xs) → 0 < length xs
+one_there xs some = omega (arith, some, length-reverse xs)
 
 -- a step was made of an event and printed
 pub outcome_then : {A : Type 0} (r : Result Outcome AllocError) (past before : List (Step A)) (step : Step A) (rules : Result (Reply A) Refusal) → past ≡ step ∷ before → rules ≡ Ok step.reply
