@@ -1,10 +1,11 @@
 -- Events that are played.
-use Rattle.std.proofs.Common.{◌≡◌, ◌<◌, ◌-◌, ◌∙◌, List, [], ◌∷◌, ◌++◌, length, get_or, reverse, slice_get, Result, Ok, Err, Some, ap, arith, length-append, refl, sym, subst}
+use Rattle.std.proofs.Common.{◌≡◌, ◌<◌, ◌-◌, ◌∙◌, ℕ, List, [], ◌∷◌, ◌++◌, length, get_or, reverse, slice_get, Result, Ok, Err, Some, ap, arith, length-append, refl, sym, subst}
 use Rattle.std.specs.Prelude.{IfOk, OnOk}
 use Rattle.std.specs.AllocError.{AllocError}
 use Rattle.std.proofs.Math.Seq.{get_or-append_seam}
 use Rattle.std.proofs.lemmas.List.{length-reverse, reverse-append, reverse-reverse}
 use Rattle.std.proofs.lemmas.Option.{get_or_from_slice_get}
+use Rattle.gn_rules.specs.declared.config.Config.{Config}
 use Rattle.gn_rules.specs.declared.event.Event.{Event}
 use Rattle.gn_rules.specs.declared.receipt.Step.{Step}
 use Rattle.gn_rules.specs.declared.reply.Reply.{Reply}
@@ -45,9 +46,21 @@ newest_is {X} xs before x y is last =
     sym (get_or_from_slice_get xs (length xs - 1) y x last) ∙ ap (λ n. get_or xs n x) count
     ∙ ap (λ (ys : List X). get_or ys (length (reverse before)) x) whole ∙ get_or-append_seam (reverse before) x [] x
 
+-- the step that was printed was the newest one
+pub step_printed : {A : Type 0} (v : Playing A) (now : List ℕ) (printed : Step A) → now ≡ v.out ++ step_text printed
+    → ((step : Step A) → (before : List (Step A)) → v.past ≡ step ∷ before → printed ≡ step)
+    → (step : Step A) → (before : List (Step A)) → v.past ≡ step ∷ before → record v { out = now } ≡ record v { out = v.out ++ step_text step }
+step_printed v now printed text newest step before is =
+    ap (λ (out : List ℕ). record v { out = out }) (text ∙ ap (λ (s : Step _). v.out ++ step_text s) (newest step before is))
+
 -- where there is a step, there is a last one
 pub one_there : {X : Type 0} (xs : List X) → 0 < length (reverse xs) → 0 < length xs
 one_there xs some = omega (arith, some, length-reverse xs)
+
+-- one step more stands, and the configuration stays
+pub entered : {A : Type 0} (v : Playing A) (settings : Config) (past : List (Step A)) (step : Step A) → settings ≡ v.settings → past ≡ step ∷ v.past
+    → record v { settings = settings; past = past } ≡ record v { past = step ∷ v.past }
+entered v settings past step same more = rw (same, more) refl
 
 -- a step was made of an event and printed
 pub outcome_then : {A : Type 0} (r : Result Outcome AllocError) (past before : List (Step A)) (step : Step A) (rules : Result (Reply A) Refusal) → past ≡ step ∷ before → rules ≡ Ok step.reply

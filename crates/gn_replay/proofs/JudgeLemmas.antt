@@ -25,6 +25,11 @@ stands [] left (suc i) x is = absurd cc
 stands (y ∷ ys) left zero x is = let same : x ≡ y = cc in (omega arith, same)
 stands (y ∷ ys) left (suc i) x is = let later = stands ys left i x is in (omega (arith, later.0), later.1)
 
+-- where none is left, all were taken
+all_taken : {X : Type 0} (all left : List X) (i : ℕ) → left ≡ drop i all → length left ≡ 0 → take i all ≡ all
+all_taken all [] i is none = sym (append-nil (take i all)) ∙ ap (λ xs. take i all ++ xs) is ∙ take-append-drop i all
+all_taken all (x ∷ left) i is none = absurd (omega (arith, none))
+
 -- a router of these settings has made the first i steps, and they are legal
 pub record IsRepeating {A : Type 0} (s now : Config) (steps made : List (Step A)) (i : ℕ) : Type 0 where
   pub same : now ≡ s
@@ -36,11 +41,15 @@ pub repeating_start : {A : Type 0} (s : Config) (steps made : List (Step A)) →
 repeating_start s steps made none = record { same = refl; repeated = none; legal = tt }
 
 -- all steps were made
-pub all_legal : {A : Type 0} (s now : Config) (steps made left : List (Step A)) (i : ℕ) → left ≡ drop i steps → length left ≡ 0 → IsRepeating s now steps made i → IsLegal s (reverse steps)
-all_legal s now steps made [] i is none so_far =
-    let whole : take i steps ≡ steps = sym (append-nil (take i steps)) ∙ ap (λ xs. take i steps ++ xs) is ∙ take-append-drop i steps in
-    subst (λ (xs : List (Step _)). IsLegal s (reverse xs)) whole so_far.legal
-all_legal s now steps made (x ∷ left) i is none so_far = absurd (omega (arith, none))
+module _ {A : Type 0} (s now : Config) (steps made left : List (Step A)) (i : ℕ) (is_left : left ≡ drop i steps) (none : length left ≡ 0) (so_far : IsRepeating s now steps made i) where
+  whole : take i steps ≡ steps
+  whole = all_taken steps left i is_left none
+
+  pub all_legal : IsLegal s (reverse steps)
+  all_legal = subst (λ (xs : List (Step A)). IsLegal s (reverse xs)) whole so_far.legal
+
+  pub all_made : made ≡ steps
+  all_made = so_far.repeated ∙ whole
 
 -- the next step is the first of those that are left
 module _ {A : Type 0} (s now : Config) (steps made here left : List (Step A)) (i : ℕ) (step : Step A) (is_left : here ≡ drop i steps) (next : here ≡ step ∷ left) (so_far : IsRepeating s now steps made i) where
