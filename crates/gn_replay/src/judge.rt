@@ -10,6 +10,7 @@ use gn_rules::{Event, Refusal, RouterCore, Step};
 use std::alloc::{AllocError, Allocator};
 
 /// What a router answers to an event. An `Err` is out of memory.
+#[tactic(auto, using(crate::proofs::EventLemmas::found))]
 fn answer_to<A: Allocator + Copy, C: RouterCore<A>>(
     core: &mut C,
     actor: u32,

@@ -71,6 +71,7 @@ impl<A: Allocator + Copy, C: RouterCore<A>> Play<A, C> {
     }
 
     /// Lets an event happen, and prints its answer.
+    #[tactic(auto, using(crate::proofs::EventLemmas::found))]
     pub(crate) fn happen(&mut self, event: Event<A>) -> Result<Outcome, AllocError>
         ensures outcome { IfOk result (λ o. IsOutcome o (answer self.old.settings self.old.past event)) }
         ensures after { OnOk result (self.new ≡ after_playing self.old

@@ -1,12 +1,12 @@
-use Rattle.std.proofs.Common.{◌∙◌, ap, reverse}
+use Rattle.std.proofs.Common.{◌∙◌, Err, ap, reverse, rules}
 use Rattle.gn_replay.specs.Events.{made}
-use Rattle.gn_replay.proofs.EventLemmas.{entered, outcome_then, past_push, played_then}
+use Rattle.gn_replay.proofs.EventLemmas.{entered, found, outcome_then, past_push, played_then, refused_then, some_past}
 use Rattle.gn_replay.proofs.playing.Play.happen.Goals as goal
 
 pub returns-in-Ok-clause-outcome : goal.returns-in-Ok-clause-outcome
 returns-in-Ok-clause-outcome g c =
     let reply = c.in-Ok.ensures.step.0 in
-    let before = g.C.RouterCore.steps c.self.core in
+    let before = g.C.RouterCore.steps c.self.inside.core in
     rw (← c.self.view_is)
     (outcome_then c.print_step.result (reverse (g.C.RouterCore.steps c.enter.new.self)) (reverse before) (made c.args.event reply) _
     (ap reverse c.in-Ok.ensures.step.1.1 ∙ past_push before (made c.args.event reply)) c.in-Ok.ensures.step.1.0 c.print_step.ensures.outcome)
@@ -14,8 +14,22 @@ returns-in-Ok-clause-outcome g c =
 pub returns-in-Ok-clause-after : goal.returns-in-Ok-clause-after
 returns-in-Ok-clause-after g c =
     let reply = c.in-Ok.ensures.step.0 in
-    let before = g.C.RouterCore.steps c.self.core in
+    let before = g.C.RouterCore.steps c.self.inside.core in
     rw (← c.self.view_is)
     (played_then c.print_step.result _ _ c.print_step.new.self c.args.event reply c.in-Ok.ensures.step.1.0
     (entered _ (g.C.RouterCore.settings c.enter.new.self) (reverse (g.C.RouterCore.steps c.enter.new.self)) (made c.args.event reply) c.in-Ok.ensures.settings
     (ap reverse c.in-Ok.ensures.step.1.1 ∙ past_push before (made c.args.event reply))) c.print_step.ensures.after)
+
+pub print_step-requires : goal.print_step-requires
+print_step-requires g c =
+    some_past (g.C.RouterCore.steps c.enter.new.self) (g.C.RouterCore.steps c.self.inside.core) (made c.args.event c.in-Ok.ensures.step.0) c.in-Ok.ensures.step.1.1
+
+pub returns-in-Err-clause-outcome : goal.returns-in-Err-clause-outcome
+returns-in-Err-clause-outcome g c =
+    rw (← c.self.view_is, found (Err c.in-Err.refusal) _ c.in-Err.ensures.refusal (search rules)) c.print_refusal.ensures.outcome
+
+pub returns-in-Err-clause-after : goal.returns-in-Err-clause-after
+returns-in-Err-clause-after g c =
+    rw (← c.self.view_is)
+    (refused_then c.print_refusal.result _ c.print_refusal.new.self (g.C.RouterCore.settings c.enter.new.self) (reverse (g.C.RouterCore.steps c.enter.new.self)) c.args.event c.in-Err.refusal
+    c.in-Err.ensures.settings (ap reverse c.in-Err.ensures.err) (found (Err c.in-Err.refusal) _ c.in-Err.ensures.refusal (search rules)) c.print_refusal.ensures.after)
