@@ -1,7 +1,12 @@
 use Rattle.std.proofs.Common.{◌∙◌, Err, ap, reverse, rules}
 use Rattle.gn_replay.specs.Events.{made}
+use Rattle.gn_replay.specs.Playing.{Playing}
 use Rattle.gn_replay.proofs.EventLemmas.{entered, found, outcome_then, past_push, played_then, refused_then, some_past}
 use Rattle.gn_replay.proofs.playing.Play.happen.Goals as goal
+
+pub print_step-requires : goal.print_step-requires
+print_step-requires g c =
+    some_past (g.C.RouterCore.steps c.enter.new.self) (g.C.RouterCore.steps c.self.inside.core) (made c.args.event c.in-Ok.ensures.step.0) c.in-Ok.ensures.step.1.1
 
 pub returns-in-Ok-clause-outcome : goal.returns-in-Ok-clause-outcome
 returns-in-Ok-clause-outcome g c =
@@ -14,15 +19,16 @@ returns-in-Ok-clause-outcome g c =
 pub returns-in-Ok-clause-after : goal.returns-in-Ok-clause-after
 returns-in-Ok-clause-after g c =
     let reply = c.in-Ok.ensures.step.0 in
-    let before = g.C.RouterCore.steps c.self.inside.core in
+    let play = c.self.inside in
+    let before = g.C.RouterCore.steps play.core in
+    let settings = g.C.RouterCore.settings c.enter.new.self in
+    let past = reverse (g.C.RouterCore.steps c.enter.new.self) in
+    let old : Playing _ =
+    record { settings = g.C.RouterCore.settings play.core; past = reverse before; links = play.links.items; out = play.out.items; refusals = play.refusals } in
     rw (← c.self.view_is)
-    (played_then c.print_step.result _ _ c.print_step.new.self c.args.event reply c.in-Ok.ensures.step.1.0
-    (entered _ (g.C.RouterCore.settings c.enter.new.self) (reverse (g.C.RouterCore.steps c.enter.new.self)) (made c.args.event reply) c.in-Ok.ensures.settings
-    (ap reverse c.in-Ok.ensures.step.1.1 ∙ past_push before (made c.args.event reply))) c.print_step.ensures.after)
-
-pub print_step-requires : goal.print_step-requires
-print_step-requires g c =
-    some_past (g.C.RouterCore.steps c.enter.new.self) (g.C.RouterCore.steps c.self.inside.core) (made c.args.event c.in-Ok.ensures.step.0) c.in-Ok.ensures.step.1.1
+    (played_then c.print_step.result old (record old { settings = settings; past = past }) c.print_step.new.self c.args.event reply c.in-Ok.ensures.step.1.0
+    (entered old settings past (made c.args.event reply) c.in-Ok.ensures.settings (ap reverse c.in-Ok.ensures.step.1.1 ∙ past_push before (made c.args.event reply)))
+    c.print_step.ensures.after)
 
 pub returns-in-Err-clause-outcome : goal.returns-in-Err-clause-outcome
 returns-in-Err-clause-outcome g c =
@@ -30,6 +36,11 @@ returns-in-Err-clause-outcome g c =
 
 pub returns-in-Err-clause-after : goal.returns-in-Err-clause-after
 returns-in-Err-clause-after g c =
+    let play = c.self.inside in
+    let settings = g.C.RouterCore.settings c.enter.new.self in
+    let past = reverse (g.C.RouterCore.steps c.enter.new.self) in
+    let old : Playing _ =
+    record { settings = g.C.RouterCore.settings play.core; past = reverse (g.C.RouterCore.steps play.core); links = play.links.items; out = play.out.items; refusals = play.refusals } in
     rw (← c.self.view_is)
-    (refused_then c.print_refusal.result _ c.print_refusal.new.self (g.C.RouterCore.settings c.enter.new.self) (reverse (g.C.RouterCore.steps c.enter.new.self)) c.args.event c.in-Err.refusal
+    (refused_then c.print_refusal.result old c.print_refusal.new.self settings past c.args.event c.in-Err.refusal
     c.in-Err.ensures.settings (ap reverse c.in-Err.ensures.err) (found (Err c.in-Err.refusal) _ c.in-Err.ensures.refusal (search rules)) c.print_refusal.ensures.after)

@@ -13,6 +13,9 @@ returns-clause-outcome g c = λ step before is.
 
 pub returns-clause-after : goal.returns-clause-after
 returns-clause-after g c =
+    let play = c.self.inside in
+    let v : Playing _ =
+    record { settings = g.C.RouterCore.settings play.core; past = reverse (g.C.RouterCore.steps play.core); links = play.links.items; out = play.out.items; refusals = play.refusals } in
     rw (← c.self.view_is)
-    (step_printed _ c.push_step.new.out.items c.in-Some.step.now c.in_ok-push_step.ensures.ok
+    (step_printed v c.push_step.new.out.items c.in-Some.step.now c.in_ok-push_step.ensures.ok
     (λ step before is. newest_is c.history.result.now before step c.in-Some.step.now (ap reverse c.history.ensures.value ∙ is) (sym c.in-Some.ensures.value)))
