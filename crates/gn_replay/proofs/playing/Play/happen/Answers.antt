@@ -1,4 +1,5 @@
 use Rattle.std.proofs.Common.{◌∙◌, Err, ap, reverse, rules}
+use Rattle.gn_rules.specs.Answer.{answer}
 use Rattle.gn_replay.specs.Events.{made}
 use Rattle.gn_replay.specs.Playing.{Playing}
 use Rattle.gn_replay.proofs.EventLemmas.{entered, found, outcome_then, past_push, played_then, refused_then, some_past}
@@ -32,7 +33,10 @@ returns-in-Ok-clause-after g c =
 
 pub returns-in-Err-clause-outcome : goal.returns-in-Err-clause-outcome
 returns-in-Err-clause-outcome g c =
-    rw (← c.self.view_is, found (Err c.in-Err.refusal) _ c.in-Err.ensures.refusal (search rules)) c.print_refusal.ensures.outcome
+    let core = c.self.inside.core in
+    let refused =
+    found (Err c.in-Err.refusal) (answer (g.C.RouterCore.settings core) (reverse (g.C.RouterCore.steps core)) c.args.event) c.in-Err.ensures.refusal (search rules) in
+    rw (← c.self.view_is, refused) c.print_refusal.ensures.outcome
 
 pub returns-in-Err-clause-after : goal.returns-in-Err-clause-after
 returns-in-Err-clause-after g c =
@@ -41,6 +45,7 @@ returns-in-Err-clause-after g c =
     let past = reverse (g.C.RouterCore.steps c.enter.new.self) in
     let old : Playing _ =
     record { settings = g.C.RouterCore.settings play.core; past = reverse (g.C.RouterCore.steps play.core); links = play.links.items; out = play.out.items; refusals = play.refusals } in
+    let refused = found (Err c.in-Err.refusal) (answer old.settings old.past c.args.event) c.in-Err.ensures.refusal (search rules) in
     rw (← c.self.view_is)
     (refused_then c.print_refusal.result old c.print_refusal.new.self settings past c.args.event c.in-Err.refusal
-    c.in-Err.ensures.settings (ap reverse c.in-Err.ensures.err) (found (Err c.in-Err.refusal) _ c.in-Err.ensures.refusal (search rules)) c.print_refusal.ensures.after)
+    c.in-Err.ensures.settings (ap reverse c.in-Err.ensures.err) refused c.print_refusal.ensures.after)
