@@ -51,7 +51,7 @@ impl<A: Allocator + Copy, C: RouterCore<A>> Play<A, C> {
             → self.old.past ≡ step ∷ before → self.new ≡ record self.old { out = self.old.out ++ step_text step }) }
     {
         let Some(step) = self.core.history().last() else {
-            unreachable!();
+            unreachable!()
         };
         push_step(&mut self.out, step)?;
         Ok(Outcome::of_reply(&step.reply))
