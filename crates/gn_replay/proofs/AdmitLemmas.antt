@@ -1,10 +1,12 @@
 -- Descriptors that are admitted one by one.
-use Rattle.std.proofs.Common.{◌≡◌, ◌+◌, ℕ, true, false, List, [], ◌∷◌, refl, sym, ap, ◌∙◌, arith, append_assoc, append-nil}
+use Rattle.std.proofs.Common.{◌≡◌, ◌+◌, ℕ, true, false, List, [], ◌∷◌, length, refl, sym, ap, ◌∙◌, arith, subst, append_assoc, append-nil}
 use Rattle.std.proofs.lemmas.Bool.Decides.{nat_tests}
 use Rattle.gn_wire.specs.Packet.{Packet}
 use Rattle.gn_rules.specs.declared.event.Event.TheVariants.{Admit}
 use Rattle.gn_rules.specs.Answer.{answer}
+use Rattle.gn_replay.specs.declared.outcome.Outcome.{Outcome}
 use Rattle.gn_replay.specs.Events.{Played, nothing, followed, happens, is_not_live}
+use Rattle.gn_replay.specs.Outcomes.{IsOutcome}
 use Rattle.gn_replay.specs.Pieces.{Admits, admits}
 use Rattle.gn_replay.specs.Playing.{Playing, HasAdmitted, after_playing, refused_more}
 
@@ -28,6 +30,13 @@ after_playing_nothing v = rw (append-nil v.out) refl
 pub record IsAdmitting {A : Type 0} (before now : Playing A) (c : ℕ) (left all : List Packet) : Type 0 where
   pub played : after_playing now (admits now.settings now.past c left).played ≡ after_playing before (admits before.settings before.past c all).played
   pub closed : (admits now.settings now.past c left).closed ≡ (admits before.settings before.past c all).closed
+
+-- none was admitted yet
+pub admitting_start : {A : Type 0} (v : Playing A) (c : ℕ) (left all : List Packet) → left ≡ all → IsAdmitting v v c left all
+admitting_start v c left all whole = record {
+  played = ap (λ (ds : List Packet). after_playing v (admits v.settings v.past c ds).played) whole;
+  closed = ap (λ (ds : List Packet). (admits v.settings v.past c ds).closed) whole;
+}
 
 -- the next descriptor is admitted, and the connection is live
 pub admitting_more : {A : Type 0} (before now : Playing A) (c : ℕ) (d : Packet) (left all : List Packet) → is_not_live (answer now.settings now.past (Admit c d)) ≡ false
@@ -57,3 +66,27 @@ admitting_closed before now c d left all gone so_far =
 pub admitting_all : {A : Type 0} (before now : Playing A) (c : ℕ) (all : List Packet) → IsAdmitting before now c [] all
     → HasAdmitted false before now (admits before.settings before.past c all)
 admitting_all before now c all so_far = record { played = sym (after_playing_nothing now) ∙ so_far.played; found = so_far.closed }
+
+-- none of those that were left is
+pub admitting_done : {A : Type 0} (before now : Playing A) (c : ℕ) (left all : List Packet) → length left ≡ 0 → IsAdmitting before now c left all
+    → HasAdmitted false before now (admits before.settings before.past c all)
+admitting_done before now c [] all none so_far = admitting_all before now c all so_far
+admitting_done before now c (d ∷ left) all none so_far = absurd (omega (arith, none))
+
+-- the next descriptor was admitted, with this outcome
+module _ {A : Type 0} (before now after : Playing A) (c : ℕ) (d : Packet) (here left all : List Packet) (o : Outcome) (next : here ≡ d ∷ left) (so_far : IsAdmitting before now c here all)
+    (outcome : IsOutcome o (answer now.settings now.past (Admit c d))) (done : after ≡ after_playing now (happens now.settings now.past (Admit c d))) where
+  from_here : IsAdmitting before now c (d ∷ left) all
+  from_here = subst (λ (ds : List Packet). IsAdmitting before now c ds all) next so_far
+
+  -- the connection is live
+  pub admitted_one : o.is_not_live ≡ false → IsAdmitting before after c left all
+  admitted_one live =
+      subst (λ (v : Playing A). IsAdmitting before v c left all) (sym done)
+      (admitting_more before now c d left all (sym outcome.not_live ∙ live) from_here)
+
+  -- the connection is closed
+  pub admitted_last : o.is_not_live ≡ true → HasAdmitted true before after (admits before.settings before.past c all)
+  admitted_last gone =
+      subst (λ (v : Playing A). HasAdmitted true before v (admits before.settings before.past c all)) (sym done)
+      (admitting_closed before now c d left all (sym outcome.not_live ∙ gone) from_here)

@@ -21,10 +21,9 @@ legal_fits s steps Legal judged is =
     let whole = subst (λ (xs : List (Step _)). IsLegal s (reverse xs)) (sym (take_all (length steps) steps (omega arith))) judged in
     omega (arith, most, steps_before s steps (length steps) (omega arith) whole)
 
--- what was found with the settings that a router was made with, and of steps as they were lent
-pub judged_of : {A : Type 0} (s now : Config) (steps lent : List (Step A)) (judgement : Judgement A) → now ≡ s → lent ≡ steps → IsTrueOf now lent judgement → IsTrueOf s steps judgement
-judged_of s now steps lent judgement same whole judged =
-    subst (λ (z : Config). IsTrueOf z steps judgement) same (subst (λ (xs : List (Step _)). IsTrueOf now xs judgement) whole judged)
+-- what was found with the settings that a router was made with
+pub judged_of : {A : Type 0} (s now : Config) (steps : List (Step A)) (judgement : Judgement A) → now ≡ s → IsTrueOf now steps judgement → IsTrueOf s steps judgement
+judged_of s now steps judgement same judged = subst (λ (z : Config). IsTrueOf z steps judgement) same judged
 
 -- the verdict is true where the judgement is
 pub verdict_of : {A : Type 0} (s : Config) (steps : List (Step A)) (judgement : Judgement A) → IsTrueOf s steps judgement → IsVerdict s steps (legality_of judgement)

@@ -3,12 +3,14 @@
 ghost use Rattle.std.specs.Prelude.{◌≡◌, [], IfOk, reverse};
 ghost use Rattle.gn_rules.specs.Answer.{answer};
 ghost use Rattle.gn_replay.specs.Judgements.{IsTrueOf};
+ghost use Rattle.gn_replay.specs.declared.judgement.Judgement.TheVariants.{Legal};
 
 use crate::judgement::{Answer, Judgement};
 use gn_rules::{Event, Refusal, RouterCore, Step};
 use std::alloc::{AllocError, Allocator};
 
 /// What a router answers to an event. An `Err` is out of memory.
+#[tactic(auto, using(crate::proofs::EventLemmas::found))]
 fn answer_to<A: Allocator + Copy, C: RouterCore<A>>(
     core: &mut C,
     actor: u32,
@@ -23,14 +25,15 @@ fn answer_to<A: Allocator + Copy, C: RouterCore<A>>(
     }
 }
 
-/// The judgement of a new router on steps, by looking at each reply, and then making the step itself. An `Err` is out of
+/// The judgement of a new router on steps, by looking at each reply, and then adding the step itself. An `Err` is out of
 /// memory.
 pub(crate) fn judge<A: Allocator + Copy, C: RouterCore<A>>(
     core: &mut C,
     steps: Vec<Step<A>, A>,
 ) -> Result<Judgement<A>, AllocError>
     requires { C.steps core.old ≡ [] }
-    ensures { IfOk result (IsTrueOf (C.settings core.old) steps.items) }
+    ensures judged { IfOk result (IsTrueOf (C.settings core.old) steps.items) }
+    ensures made { IfOk result (λ judgement. judgement ≡ Legal → C.steps core.new ≡ steps.items) }
 {
     let mut index = 0u32;
     for step in steps {

@@ -50,13 +50,11 @@ impl<A: Allocator + Copy, C: RouterCore<A>> Play<A, C> {
         ensures after { OnOk result ((step : Step A) → (before : List (Step A))
             → self.old.past ≡ step ∷ before → self.new ≡ record self.old { out = self.old.out ++ step_text step }) }
     {
-        match self.core.history().last() {
-            Some(step) => {
-                push_step(&mut self.out, step)?;
-                Ok(Outcome::of_reply(&step.reply))
-            }
-            None => unreachable!(),
-        }
+        let Some(step) = self.core.history().last() else {
+            unreachable!()
+        };
+        push_step(&mut self.out, step)?;
+        Ok(Outcome::of_reply(&step.reply))
     }
 
     /// Prints a refusal, and counts it.
@@ -71,6 +69,7 @@ impl<A: Allocator + Copy, C: RouterCore<A>> Play<A, C> {
     }
 
     /// Lets an event happen, and prints its answer.
+    #[tactic(auto, using(crate::proofs::EventLemmas::found))]
     pub(crate) fn happen(&mut self, event: Event<A>) -> Result<Outcome, AllocError>
         ensures outcome { IfOk result (λ o. IsOutcome o (answer self.old.settings self.old.past event)) }
         ensures after { OnOk result (self.new ≡ after_playing self.old

@@ -3,13 +3,17 @@ use Rattle.gn_replay.proofs.replays.replay_text.Goals as goal
 
 pub returns-in_err-replayed-clause-stopped : goal.returns-in_err-replayed-clause-stopped
 returns-in_err-replayed-clause-stopped g c =
+    let read = rw c.deref.ensures.value at c.in_ok-capture.ensures.read in
     stopped c.from_residual-in_err-replayed.result c.in_err-replayed.field-0.0 c.args.text.items c.in_ok-capture.capture _ _ _ _ c.requires
-    c.from_residual-in_err-replayed.ensures.1 c.in_err-replayed.ensures.cause c.in_ok-capture.ensures.read c.in_err-replayed.ensures.err
+    c.from_residual-in_err-replayed.ensures.1 c.in_err-replayed.ensures.cause read c.in_err-replayed.ensures.err
 
 pub returns-clause-written : goal.returns-clause-written
-returns-clause-written g c = replayed c.args.text.items c.in_ok-capture.capture _ _ _ _ c.in_ok-capture.ensures.read c.in_ok-replayed.ensures.played
+returns-clause-written g c =
+    let read = rw c.deref.ensures.value at c.in_ok-capture.ensures.read in
+    replayed c.args.text.items c.in_ok-capture.capture _ _ _ _ read c.in_ok-replayed.ensures.played
 
 pub returns-clause-counted : goal.returns-clause-counted
 returns-clause-counted g c =
-    counted c.args.text.items c.in_ok-capture.capture c.exit_of.result _ _ _ _ c.in_ok-capture.ensures.read c.in_ok-replayed.ensures.played
+    let read = rw c.deref.ensures.value at c.in_ok-capture.ensures.read in
+    counted c.args.text.items c.in_ok-capture.capture c.exit_of.result _ _ _ _ read c.in_ok-replayed.ensures.played
     c.exit_of.ensures.steps c.exit_of.ensures.refusals

@@ -8,11 +8,11 @@ returns-clause-judged g c = record {
   steps = c.in_ok-config.steps.items;
   parsed = c.in_ok-config.ensures;
   judged =
-      judged_of c.in_ok-config.config (g.C.RouterCore.settings c.in_ok-core.core) c.in_ok-config.steps.items c.deref.result.now c.in_ok-judgement.judgement
-      c.in_ok-core.ensures.settings c.deref.ensures.value c.in_ok-judgement.ensures;
+      judged_of c.in_ok-config.config (g.C.RouterCore.settings c.in_ok-core.core) c.in_ok-config.steps.items c.in_ok-judgement.judgement
+      c.in_ok-core.ensures.settings c.in_ok-judgement.ensures.judged;
   counted = search rules;
 }
 
 pub returns-clause-few : goal.returns-clause-few
 returns-clause-few g c = λ is.
-    omega (arith, legal_fits (g.C.RouterCore.settings c.in_ok-core.core) c.deref.result.now c.in_ok-judgement.judgement c.in_ok-judgement.ensures is, c.deref.ensures.len, c.len.ensures)
+    omega (arith, legal_fits (g.C.RouterCore.settings c.in_ok-core.core) c.in_ok-config.steps.items c.in_ok-judgement.judgement c.in_ok-judgement.ensures.judged is, c.len-count.ensures)
