@@ -61,7 +61,9 @@ impl<A: Allocator + Copy, C: RouterCore<A>> Play<A, C> {
     fn print_refusal(&mut self, refusal: Refusal) -> Result<Outcome, AllocError>
         ensures outcome { IfOk result (λ o. IsOutcome {A = A} o (Err refusal)) }
         ensures after { OnOk result (self.new ≡ record self.old {
-            out = self.old.out ++ refusal_text refusal; refusals = refused_more 1 self.old.refusals }) }
+          out = self.old.out ++ refusal_text refusal;
+          refusals = refused_more 1 self.old.refusals;
+        }) }
     {
         self.refusals = self.refusals.saturating_add(1);
         push_refusal(&mut self.out, refusal)?;

@@ -38,10 +38,7 @@ fn put_copy(text: &mut [u8], start: usize, place: (usize, usize))
 /// Appends a copy of what stands at this place, from the first index up to the second. An `Err` is out of memory, and changes
 /// nothing.
 #[tactic(auto, using(std::proofs::lemmas::List::with_items_is, crate::proofs::CopiedLemmas::part_stays))]
-fn append_copy<B: Allocator>(
-    out: &mut Vec<u8, B>,
-    place: (usize, usize),
-) -> Result<(), AllocError>
+fn append_copy<B: Allocator>(out: &mut Vec<u8, B>, place: (usize, usize)) -> Result<(), AllocError>
     requires ends { place.0 ≤ place.1 }
     requires within { place.1 ≤ length out.old.items }
     ensures ok { OnOk result (out.new.items ≡ out.old.items ++ slice_range out.old.items place.0 place.1) }
