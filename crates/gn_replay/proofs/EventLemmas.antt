@@ -1,7 +1,7 @@
 -- Events that are played.
 use Rattle.std.proofs.Common.{◌≡◌, ◌<◌, ◌≤◌, ◌-◌, ◌∙◌, ℕ, List, [], ◌∷◌, ◌++◌, length, get_or, reverse, slice_get, Result, Ok, Err, Some, ap, arith, length-append, refl, sym, subst}
 use Rattle.std.specs.Prelude.{IfOk, OnOk}
-use Rattle.std.specs.AllocError.{AllocError}
+use Rattle.std.specs.declared.alloc.AllocError.{AllocError}
 use Rattle.std.proofs.Math.Seq.{get_or-append_seam}
 use Rattle.std.proofs.lemmas.List.{length-reverse, reverse-append, reverse-reverse}
 use Rattle.std.proofs.lemmas.Option.{get_or_from_slice_get}

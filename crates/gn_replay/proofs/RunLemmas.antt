@@ -142,6 +142,10 @@ pub run_cut : {A : Type 0} (played : Played A) (steps : List (Step A)) (count : 
 run_cut played steps count first mid last waiting p rest =
     rest_cut first mid last waiting played.text (leaves_waits first mid waiting played.text p.leaves) rest
 
+-- what waited before a line that wasn't played was
+pub run_stopped : (first mid last : Option (List ℕ)) (waiting all : List ℕ) → WaitsPart first mid waiting all → Appends mid last waiting → AppendsPart first last all
+run_stopped first mid last waiting all w rest = rest_cut first mid last waiting all w ([], (waiting, rest, append-nil waiting))
+
 -- nothing of it was
 pub run_left : (first last : Option (List ℕ)) (waiting all : List ℕ) → WaitsPart first last waiting all → AppendsPart first last all
 run_left first last waiting all w = (waiting ++ w.0, w.1)

@@ -25,8 +25,8 @@ impl Outcome {
     }
 
     /// What a refusal says of a link.
-    pub(crate) fn of_refusal(refusal: Refusal) -> Outcome
-        ensures { (A : Type 0) → IsOutcome {A = A} result (Err refusal) }
+    pub(crate) fn of_refusal<A: Allocator>(refusal: Refusal) -> Outcome
+        ensures { IsOutcome {A = A} result (Err refusal) }
     {
         Outcome {
             connection: None,

@@ -67,7 +67,7 @@ impl<A: Allocator + Copy, C: RouterCore<A>> Play<A, C> {
     {
         self.refusals = self.refusals.saturating_add(1);
         push_refusal(&mut self.out, refusal)?;
-        Ok(Outcome::of_refusal(refusal))
+        Ok(Outcome::of_refusal::<A>(refusal))
     }
 
     /// Lets an event happen, and prints its answer.

@@ -7,7 +7,7 @@ use Rattle.gn_replay.proofs.playing.Play.happen.Goals as goal
 
 pub print_step-requires : goal.print_step-requires
 print_step-requires g c =
-    some_past (g.C.RouterCore.steps c.enter.new.self) (g.C.RouterCore.steps c.self.inside.core) (made c.args.event c.in-Ok.ensures.step.0) c.in-Ok.ensures.step.1.1
+    some_past (g.C.RouterCore.steps c.enter.new.self) (g.C.RouterCore.steps c.self.inside.core) (made c.args.event c.in-Ok.ensures.step.0) c.in-Ok.ensures.step.2
 
 pub returns-in-Ok-clause-outcome : goal.returns-in-Ok-clause-outcome
 returns-in-Ok-clause-outcome g c =
@@ -15,7 +15,7 @@ returns-in-Ok-clause-outcome g c =
     let before = g.C.RouterCore.steps c.self.inside.core in
     rw (← c.self.view_is)
     (outcome_then c.print_step.result (reverse (g.C.RouterCore.steps c.enter.new.self)) (reverse before) (made c.args.event reply) _
-    (ap reverse c.in-Ok.ensures.step.1.1 ∙ past_push before (made c.args.event reply)) c.in-Ok.ensures.step.1.0 c.print_step.ensures.outcome)
+    (ap reverse c.in-Ok.ensures.step.2 ∙ past_push before (made c.args.event reply)) c.in-Ok.ensures.step.1 c.print_step.ensures.outcome)
 
 pub returns-in-Ok-clause-after : goal.returns-in-Ok-clause-after
 returns-in-Ok-clause-after g c =
@@ -27,8 +27,8 @@ returns-in-Ok-clause-after g c =
     let old : Playing _ =
     record { settings = g.C.RouterCore.settings play.core; past = reverse before; links = play.links.items; out = play.out.items; refusals = play.refusals } in
     rw (← c.self.view_is)
-    (played_then c.print_step.result old (record old { settings = settings; past = past }) c.print_step.new.self c.args.event reply c.in-Ok.ensures.step.1.0
-    (entered old settings past (made c.args.event reply) c.in-Ok.ensures.settings (ap reverse c.in-Ok.ensures.step.1.1 ∙ past_push before (made c.args.event reply)))
+    (played_then c.print_step.result old (record old { settings = settings; past = past }) c.print_step.new.self c.args.event reply c.in-Ok.ensures.step.1
+    (entered old settings past (made c.args.event reply) c.in-Ok.ensures.settings (ap reverse c.in-Ok.ensures.step.2 ∙ past_push before (made c.args.event reply)))
     c.print_step.ensures.after)
 
 pub returns-in-Err-clause-outcome : goal.returns-in-Err-clause-outcome

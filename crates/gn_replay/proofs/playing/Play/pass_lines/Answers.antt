@@ -20,6 +20,28 @@ returns-in_err-write_line-clause-err g c =
     c.in-Some.numbered.0 c.in-Some.numbered.1 (into_iter_items c.next.new.self) c.args.lines.items (rw c.in-Some.ensures.steps.0 at c.loop-numbered.invariant.running)
     c.in_err-write_line.ensures.err)
 
+pub loop-numbered-preserved-in_ok-write_line : goal.loop-numbered-preserved-in_ok-write_line
+loop-numbered-preserved-in_ok-write_line g c = record {
+  running =
+      running_more c.args.self.now.settings c.loop-numbered.self c.write_line.new.self (g.W.Sink.state c.args.sink.now).written (g.W.Sink.state c.loop-numbered.sink).written (g.W.Sink.state c.write_line.new.sink).written
+      c.loop-numbered.block c.write_line.new.block
+      c.in-Some.numbered.0 c.in-Some.numbered.1 (into_iter_items c.next.new.self) c.args.lines.items (rw c.in-Some.ensures.steps.0 at c.loop-numbered.invariant.running)
+      c.in_ok-write_line.ensures.ok;
+  unfailed =
+      (c.in_ok-write_line.ensures.writes.0 ∙ c.loop-numbered.invariant.unfailed.0, c.in_ok-write_line.ensures.writes.1 ∙ c.loop-numbered.invariant.unfailed.1);
+}
+
+pub loop-numbered-preserved-in_ok-write_line-2 : goal.loop-numbered-preserved-in_ok-write_line-2
+loop-numbered-preserved-in_ok-write_line-2 g c = record {
+  running =
+      running_more c.args.self.now.settings c.loop-numbered.self c.write_line.new.self (g.W.Sink.state c.args.sink.now).written (g.W.Sink.state c.loop-numbered.sink).written (g.W.Sink.state c.write_line.new.sink).written
+      c.loop-numbered.block c.write_line.new.block
+      c.in-Some.numbered.0 c.in-Some.numbered.1 (into_iter_items c.next.new.self) c.args.lines.items (rw c.in-Some.ensures.steps.0 at c.loop-numbered.invariant.running)
+      c.in_ok-write_line.ensures.ok;
+  unfailed =
+      (c.in_ok-write_line.ensures.writes.0 ∙ c.loop-numbered.invariant.unfailed.0, c.in_ok-write_line.ensures.writes.1 ∙ c.loop-numbered.invariant.unfailed.1);
+}
+
 pub loop-numbered-preserved : goal.loop-numbered-preserved
 loop-numbered-preserved g c = record {
   running =
