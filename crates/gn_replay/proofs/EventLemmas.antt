@@ -1,5 +1,5 @@
 -- Events that are played.
-use Rattle.std.proofs.Common.{◌≡◌, ◌<◌, ◌≤◌, ◌-◌, ◌∙◌, ℕ, List, [], ◌∷◌, ◌++◌, length, get_or, reverse, slice_get, Result, Ok, Err, Some, ap, arith, length-append, refl, sym, subst}
+use Rattle.std.proofs.Common.{◌≡◌, ◌<◌, ◌≤◌, ◌-◌, ◌∙◌, ℕ, List, [], ◌∷◌, ◌++◌, length, get_or, reverse, slice_get, Result, Ok, Err, Some, ap, arith, length-append, refl, sym}
 use Rattle.std.specs.Prelude.{IfOk, OnOk}
 use Rattle.std.specs.declared.alloc.AllocError.{AllocError}
 use Rattle.std.proofs.Math.Seq.{get_or-append_seam}
@@ -40,11 +40,11 @@ pub last_is : {X : Type 0} (xs before : List X) (x : X) → reverse xs ≡ x ∷
 last_is xs before x is = sym (reverse-reverse xs) ∙ ap reverse is ∙ reverse-append (x ∷ []) before
 
 -- the last is the newest
-pub newest_is : {X : Type 0} (xs before : List X) (x y : X) → reverse xs ≡ x ∷ before → slice_get xs (length xs - 1) ≡ Some y → y ≡ x
+pub newest_is : {X : Type 0} (xs before : List X) (x y : X) → reverse xs ≡ x ∷ before → Some y ≡ slice_get xs (length xs - 1) → y ≡ x
 newest_is {X} xs before x y is last =
     let whole : xs ≡ reverse before ++ x ∷ [] = last_is xs before x is in
     let count : length xs - 1 ≡ length (reverse before) = omega (arith, ap length whole, length-append (reverse before) (x ∷ [])) in
-    sym (get_or_from_slice_get xs (length xs - 1) y x last) ∙ ap (λ n. get_or xs n x) count
+    sym (get_or_from_slice_get xs (length xs - 1) y x (sym last)) ∙ ap (λ n. get_or xs n x) count
     ∙ ap (λ (ys : List X). get_or ys (length (reverse before)) x) whole ∙ get_or-append_seam (reverse before) x [] x
 
 -- the step that was printed was the newest one

@@ -1,4 +1,4 @@
-use Rattle.std.proofs.Common.{◌∙◌, arith, refl, subst, sym}
+use Rattle.std.proofs.Common.{◌∙◌, arith, refl}
 use Rattle.std.specs.Vec.Iter.{into_iter_items}
 use Rattle.gn_replay.proofs.RunLemmas.{on_err, running_done, running_more, running_part, running_start}
 use Rattle.gn_replay.proofs.playing.Play.pass_lines.Goals as goal
