@@ -54,10 +54,6 @@ pub step_printed : {A : Type 0} (v : Playing A) (now : List ℕ) (printed : Step
 step_printed v now printed text newest step before is =
     ap (λ (out : List ℕ). record v { out = out }) (text ∙ ap (λ (s : Step _). v.out ++ step_text s) (newest step before is))
 
--- where there is a step, there is a last one
-pub one_there : {X : Type 0} (xs : List X) → 0 < length (reverse xs) → length xs ≤ 0 → ⊥
-one_there xs some none = omega (arith, some, none, length-reverse xs)
-
 -- after a step there is one
 pub some_past : {X : Type 0} (xs before : List X) (x : X) → xs ≡ before ++ x ∷ [] → 0 < length (reverse xs)
 some_past xs before x is = omega (arith, length-reverse xs, ap length is, length-append before (x ∷ []))
