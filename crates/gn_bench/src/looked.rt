@@ -1,12 +1,13 @@
-//! A router that counts how often those that wait for a packet look.
+//! A router over tables that counts how often those that wait for a packet look.
 
 ghost use Rattle.std.specs.Prelude.{◌≡◌, ◌∷◌, ◌++◌, [], Err, Ok, reverse, IfErr, OnErr, OnOk};
 ghost use Rattle.gn_rules.specs.Answer.{Finds, answer};
 ghost use Rattle.gn_rules.specs.declared.reply.Reply.{Reply};
 
 use gn_payload::Checked;
+use gn_router::TableRouter;
 use gn_rules::{Config, ConnId, Event, Receipt, Refusal, RouterCore, Stats, Step, Ticket};
-use std::alloc::{AllocError, Allocator};
+use std::alloc::{AllocError, Allocator, Global};
 use std::sync::atomic::{AtomicU64, Ordering};
 
 /// What was looked at, so many times.
@@ -17,25 +18,25 @@ pub(crate) trait Looks {
 
 /// A router, and how often it was asked whether a connection is live.
 #[derive(Drop)]
-pub(crate) struct Looked<C> {
-    core: C,
+pub(crate) struct Looked<A: Allocator + Copy = Global> {
+    core: TableRouter<A>,
     looks: AtomicU64,
 }
 
-impl<C> Looks for Looked<C> {
+impl<A: Allocator + Copy> Looks for Looked<A> {
     fn looks(&self) -> u64 {
         self.looks.load(Ordering::SeqCst)
     }
 }
 
-impl<C: RouterCore<A>, A: Allocator + Copy> RouterCore<A> for Looked<C> {
-    ghost settings = { λ r. C.settings r.core };
+impl<A: Allocator + Copy> RouterCore<A> for Looked<A> {
+    ghost settings = { λ r. r.core.settings };
 
-    ghost steps = { λ r. C.steps r.core };
+    ghost steps = { λ r. r.core.steps };
 
     fn make(alloc: A, config: &Config) -> Result<Self, AllocError> {
         Ok(Looked {
-            core: C::make(alloc, config)?,
+            core: TableRouter::make(alloc, config)?,
             looks: AtomicU64::new(0),
         })
     }
@@ -49,23 +50,23 @@ impl<C: RouterCore<A>, A: Allocator + Copy> RouterCore<A> for Looked<C> {
     }
 
     fn add(&mut self, step: Step<A>) -> Result<(), AllocError>
-        requires { answer (C.settings self.old.core) (reverse (C.steps self.old.core)) step.event ≡ Ok step.reply }
-        ensures step { OnOk result (C.steps self.new.core ≡ C.steps self.old.core ++ step ∷ []) }
-        ensures err { OnErr result (C.steps self.new.core ≡ C.steps self.old.core) }
-        ensures settings { C.settings self.new.core ≡ C.settings self.old.core }
+        requires { answer self.old.core.settings (reverse self.old.core.steps) step.event ≡ Ok step.reply }
+        ensures step { OnOk result (self.new.core.steps ≡ self.old.core.steps ++ step ∷ []) }
+        ensures err { OnErr result (self.new.core.steps ≡ self.old.core.steps) }
+        ensures settings { self.new.core.settings ≡ self.old.core.settings }
     {
         self.core.add(step)
     }
 
     fn enter(&mut self, actor: u32, event: Event<A>) -> Result<(), Refusal>
         ensures step { OnOk result ((reply : Reply A)
-            × (answer (C.settings self.old.core) (reverse (C.steps self.old.core)) event ≡ Ok reply)
-            × (C.steps self.new.core
-            ≡ C.steps self.old.core ++ record { actor = actor; event = event; reply = reply } ∷ [])) }
+            × (answer self.old.core.settings (reverse self.old.core.steps) event ≡ Ok reply)
+            × (self.new.core.steps
+            ≡ self.old.core.steps ++ record { actor = actor; event = event; reply = reply } ∷ [])) }
         ensures refusal { IfErr result (λ refusal.
-            Finds (Err refusal) (answer (C.settings self.old.core) (reverse (C.steps self.old.core)) event)) }
-        ensures err { OnErr result (C.steps self.new.core ≡ C.steps self.old.core) }
-        ensures settings { C.settings self.new.core ≡ C.settings self.old.core }
+            Finds (Err refusal) (answer self.old.core.settings (reverse self.old.core.steps) event)) }
+        ensures err { OnErr result (self.new.core.steps ≡ self.old.core.steps) }
+        ensures settings { self.new.core.settings ≡ self.old.core.settings }
     {
         self.core.enter(actor, event)
     }
