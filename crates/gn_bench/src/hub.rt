@@ -5,6 +5,7 @@ ghost use Rattle.std.specs.Prelude.{◌≡◌};
 use crate::looked::{Looked, Looks};
 use crate::measured::fault;
 use crate::setup::config;
+use gn_router::TableRouter;
 use gn_rules::{ConnId, Event, RouterCore};
 use gn_service::{Actor, Role, Service};
 use std::alloc::{AllocError, Global};
@@ -180,7 +181,7 @@ fn play_on_tables<R: Threads + Wait + Sync + Clock>(
     alloc: Global,
     load: Load,
 ) -> io::Result<Made> {
-    play::<Looked, Brand, R>(rt, alloc, Blank::new(34), load)
+    play::<Looked<TableRouter>, Brand, R>(rt, alloc, Blank::new(34), load)
 }
 
 /// What a load's steps took.

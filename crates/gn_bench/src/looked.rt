@@ -1,13 +1,8 @@
-//! A router over tables that counts how often those that wait for a packet look.
-
-ghost use Rattle.std.specs.Prelude.{◌≡◌, ◌∷◌, ◌++◌, [], Err, Ok, reverse, IfErr, OnErr, OnOk};
-ghost use Rattle.gn_rules.specs.Answer.{Finds, answer};
-ghost use Rattle.gn_rules.specs.declared.reply.Reply.{Reply};
+//! A router that counts how often those that wait for a packet look.
 
 use gn_payload::Checked;
-use gn_router::TableRouter;
 use gn_rules::{Config, ConnId, Event, Receipt, Refusal, RouterCore, Stats, Step, Ticket};
-use std::alloc::{AllocError, Allocator, Global};
+use std::alloc::{AllocError, Allocator};
 use std::sync::atomic::{AtomicU64, Ordering};
 
 /// What was looked at, so many times.
@@ -18,25 +13,25 @@ pub(crate) trait Looks {
 
 /// A router, and how often it was asked whether a connection is live.
 #[derive(Drop)]
-pub(crate) struct Looked<A: Allocator + Copy = Global> {
-    core: TableRouter<A>,
+pub(crate) struct Looked<C> {
+    core: C,
     looks: AtomicU64,
 }
 
-impl<A: Allocator + Copy> Looks for Looked<A> {
+impl<C> Looks for Looked<C> {
     fn looks(&self) -> u64 {
         self.looks.load(Ordering::SeqCst)
     }
 }
 
-impl<A: Allocator + Copy> RouterCore<A> for Looked<A> {
-    ghost settings = { λ r. r.core.settings };
+impl<C: RouterCore<A>, A: Allocator + Copy> RouterCore<A> for Looked<C> {
+    ghost settings = { λ r. C.settings r.core };
 
-    ghost steps = { λ r. r.core.steps };
+    ghost steps = { λ r. C.steps r.core };
 
     fn make(alloc: A, config: &Config) -> Result<Self, AllocError> {
         Ok(Looked {
-            core: TableRouter::make(alloc, config)?,
+            core: C::make(alloc, config)?,
             looks: AtomicU64::new(0),
         })
     }
@@ -49,25 +44,11 @@ impl<A: Allocator + Copy> RouterCore<A> for Looked<A> {
         self.core.is_answered(step)
     }
 
-    fn add(&mut self, step: Step<A>) -> Result<(), AllocError>
-        requires { answer self.old.core.settings (reverse self.old.core.steps) step.event ≡ Ok step.reply }
-        ensures step { OnOk result (self.new.core.steps ≡ self.old.core.steps ++ step ∷ []) }
-        ensures err { OnErr result (self.new.core.steps ≡ self.old.core.steps) }
-        ensures settings { self.new.core.settings ≡ self.old.core.settings }
-    {
+    fn add(&mut self, step: &mut Step<A>) -> Result<(), AllocError> {
         self.core.add(step)
     }
 
-    fn enter(&mut self, actor: u32, event: Event<A>) -> Result<(), Refusal>
-        ensures step { OnOk result ((reply : Reply A)
-            × (answer self.old.core.settings (reverse self.old.core.steps) event ≡ Ok reply)
-            × (self.new.core.steps
-            ≡ self.old.core.steps ++ record { actor = actor; event = event; reply = reply } ∷ [])) }
-        ensures refusal { IfErr result (λ refusal.
-            Finds (Err refusal) (answer self.old.core.settings (reverse self.old.core.steps) event)) }
-        ensures err { OnErr result (self.new.core.steps ≡ self.old.core.steps) }
-        ensures settings { self.new.core.settings ≡ self.old.core.settings }
-    {
+    fn enter(&mut self, actor: u32, event: &mut Event<A>) -> Result<(), Refusal> {
         self.core.enter(actor, event)
     }
 

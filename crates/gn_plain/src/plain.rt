@@ -1,6 +1,6 @@
 //! A router that keeps its history and searches it for every answer.
 
-ghost use Rattle.std.specs.Prelude.{◌≡◌, ◌≤◌, ◌++◌, ◌∷◌, [], Err, Ok, length, reverse, IfErr, IfOk, OnErr, OnOk};
+ghost use Rattle.std.specs.Prelude.{◌≡◌, ◌≤◌, ◌++◌, ◌∷◌, [], Ok, length, reverse, IfOk, OnErr, OnOk};
 ghost use Rattle.gn_rules.specs.declared.config.Config.{Config};
 ghost use Rattle.gn_plain.specs.Kept.{IsKept};
 
@@ -62,15 +62,27 @@ impl<A: Allocator + Copy> PlainRouter<A> {
     {
         let index = self.history.len() as u32;
         let (step, receipt) = Step::with_receipt(self.alloc, index, actor, event, reply)?;
-        self.add(step)?;
+        self.keep(step)?;
         Ok(receipt)
+    }
+
+    /// Makes a step of the rules' reply the last of the history. An `Err` is out of memory, and changes nothing.
+    #[tactic(auto, using(gn_rules::proofs::PastLemmas::past_length, gn_rules::proofs::PastLemmas::past_push, gn_rules::proofs::LegalLemmas::legal_within))]
+    fn keep(&mut self, step: Step<A>) -> Result<(), AllocError>
+        requires { rules.answer self.old.settings (reverse self.old.steps) step.event ≡ Ok step.reply }
+        ensures step { OnOk result (self.new.steps ≡ self.old.steps ++ step ∷ []) }
+        ensures err { OnErr result (self.new.steps ≡ self.old.steps) }
+        ensures settings { self.new.settings ≡ self.old.settings }
+    {
+        self.history.reserve(1)?;
+        self.flying.reserve(1)?;
+        follow(&mut self.flying, &step.event, &step.reply);
+        self.history.push_reserved(step);
+        Ok(())
     }
 }
 
 impl<A: Allocator + Copy> RouterCore<A> for PlainRouter<A> {
-    ghost use Rattle.gn_rules.specs.Answer as rules;
-    ghost use Rattle.gn_rules.specs.declared.reply.Reply.{Reply};
-
     ghost settings = { λ r. r.settings };
 
     ghost steps = { λ r. r.steps };
@@ -93,36 +105,19 @@ impl<A: Allocator + Copy> RouterCore<A> for PlainRouter<A> {
         is_answered(&self.past(), step)
     }
 
-    #[tactic(auto, using(gn_rules::proofs::PastLemmas::past_length, gn_rules::proofs::PastLemmas::past_push, gn_rules::proofs::LegalLemmas::legal_within))]
-    fn add(&mut self, step: Step<A>) -> Result<(), AllocError>
-        requires { rules.answer self.old.settings (reverse self.old.steps) step.event ≡ Ok step.reply }
-        ensures step { OnOk result (self.new.steps ≡ self.old.steps ++ step ∷ []) }
-        ensures err { OnErr result (self.new.steps ≡ self.old.steps) }
-        ensures settings { self.new.settings ≡ self.old.settings }
-    {
-        self.history.reserve(1)?;
-        self.flying.reserve(1)?;
-        follow(&mut self.flying, &step.event, &step.reply);
-        self.history.push_reserved(step);
-        Ok(())
-    }
-
-    fn enter(&mut self, actor: u32, event: Event<A>) -> Result<(), Refusal>
-        ensures step { OnOk result ((reply : Reply A)
-            × (rules.answer self.old.settings (reverse self.old.steps) event ≡ Ok reply)
-            × (self.new.steps ≡ self.old.steps ++ record { actor = actor; event = event; reply = reply } ∷ [])) }
-        ensures refusal { IfErr result (λ refusal.
-            rules.Finds (Err refusal) (rules.answer self.old.settings (reverse self.old.steps) event)) }
-        ensures err { OnErr result (self.new.steps ≡ self.old.steps) }
-        ensures settings { self.new.settings ≡ self.old.settings }
-    {
-        let reply = find(self.alloc, &self.past(), &event)?;
-        self.add(Step {
+    fn enter(&mut self, actor: u32, event: &mut Event<A>) -> Result<(), Refusal> {
+        let reply = find(self.alloc, &self.past(), event)?;
+        let event = event.take();
+        self.keep(Step {
             actor,
             event,
             reply,
         })?;
         Ok(())
+    }
+
+    fn add(&mut self, step: &mut Step<A>) -> Result<(), AllocError> {
+        self.keep(step.take())
     }
 
     fn route(

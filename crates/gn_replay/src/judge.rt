@@ -36,12 +36,12 @@ pub(crate) fn judge<A: Allocator + Copy, C: RouterCore<A>>(
     ensures made { IfOk result (λ judgement. judgement ≡ Legal → C.steps core.new ≡ steps.items) }
 {
     let mut index = 0u32;
-    for step in steps {
+    for mut step in steps {
         if !core.is_answered(&step) {
             let rules = answer_to(core, step.actor, &step.event)?;
             return Ok(Judgement::WrongAt(index, rules));
         }
-        core.add(step)?;
+        core.add(&mut step)?;
         index += 1;
     }
     Ok(Judgement::Legal)

@@ -77,7 +77,8 @@ impl<A: Allocator + Copy, C: RouterCore<A>> Play<A, C> {
         ensures after { OnOk result (self.new ≡ after_playing self.old
             (happens self.old.settings self.old.past event)) }
     {
-        match self.core.enter(0, event) {
+        let mut event = event;
+        match self.core.enter(0, &mut event) {
             Ok(()) => self.print_step(),
             Err(Refusal::NoMemory) => Err(AllocError),
             Err(refusal) => self.print_refusal(refusal),

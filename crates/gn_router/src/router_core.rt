@@ -1,9 +1,8 @@
 //! The table router keeps what every router promises.
 
-ghost use Rattle.std.specs.Prelude.{◌≡◌, ◌∷◌, ◌++◌, [], Err, Ok, length, IfOk, IfErr, OnErr, OnOk};
-ghost use Rattle.gn_rules.specs.Answer.{Finds, answer};
+ghost use Rattle.std.specs.Prelude.{◌≡◌, ◌∷◌, ◌++◌, [], Ok, length, IfOk, IfErr, OnErr, OnOk};
+ghost use Rattle.gn_rules.specs.Answer.{answer};
 ghost use Rattle.gn_rules.specs.declared.refusal.Refusal.TheVariants.{NoMemory};
-ghost use Rattle.gn_rules.specs.declared.reply.Reply.{Reply};
 ghost use Rattle.gn_router.specs.Tabled.{past_of};
 
 use crate::table_router::TableRouter;
@@ -37,12 +36,25 @@ impl<A: Allocator + Copy> TableRouter<A> {
             reply: reply.copy(self.alloc)?,
         };
         let event = event.copy()?;
-        self.add(Step {
+        self.keep(Step {
             actor,
             event,
             reply,
         })?;
         Ok(receipt)
+    }
+
+    /// Makes a step whose reply was found the last of the history. An `Err` is out of memory, and changes nothing.
+    fn keep(&mut self, step: Step<A>) -> Result<(), AllocError>
+        requires { answer self.old.settings (past_of self.old) step.event ≡ Ok step.reply }
+        ensures step { OnOk result (self.new.steps ≡ self.old.steps ++ step ∷ []) }
+        ensures err { OnErr result (self.new.steps ≡ self.old.steps) }
+        ensures settings { self.new.settings ≡ self.old.settings }
+    {
+        self.history.reserve(1)?;
+        self.tables.follow(self.alloc, &step.event, &step.reply)?;
+        self.history.push_reserved(step);
+        Ok(())
     }
 }
 
@@ -64,33 +76,19 @@ impl<A: Allocator + Copy> RouterCore<A> for TableRouter<A> {
         is_answered(self, step)
     }
 
-    fn add(&mut self, step: Step<A>) -> Result<(), AllocError>
-        requires { answer self.old.settings (past_of self.old) step.event ≡ Ok step.reply }
-        ensures step { OnOk result (self.new.steps ≡ self.old.steps ++ step ∷ []) }
-        ensures err { OnErr result (self.new.steps ≡ self.old.steps) }
-        ensures settings { self.new.settings ≡ self.old.settings }
-    {
-        self.history.reserve(1)?;
-        self.tables.follow(self.alloc, &step.event, &step.reply)?;
-        self.history.push_reserved(step);
-        Ok(())
-    }
-
-    fn enter(&mut self, actor: u32, event: Event<A>) -> Result<(), Refusal>
-        ensures step { OnOk result ((reply : Reply A) × (answer self.old.settings (past_of self.old) event ≡ Ok reply)
-            × (self.new.steps ≡ self.old.steps ++ record { actor = actor; event = event; reply = reply } ∷ [])) }
-        ensures refusal { IfErr result (λ refusal.
-            Finds (Err refusal) (answer self.old.settings (past_of self.old) event)) }
-        ensures err { OnErr result (self.new.steps ≡ self.old.steps) }
-        ensures settings { self.new.settings ≡ self.old.settings }
-    {
-        let reply = find(self.alloc, self, &event)?;
-        self.add(Step {
+    fn enter(&mut self, actor: u32, event: &mut Event<A>) -> Result<(), Refusal> {
+        let reply = find(self.alloc, self, event)?;
+        let event = event.take();
+        self.keep(Step {
             actor,
             event,
             reply,
         })?;
         Ok(())
+    }
+
+    fn add(&mut self, step: &mut Step<A>) -> Result<(), AllocError> {
+        self.keep(step.take())
     }
 
     fn route(

@@ -45,12 +45,13 @@ pub trait RouterCore<A: Allocator + Copy> {
         ensures settings { settings self.new ≡ settings self.old };
 
     /// As `apply`, with the event for keeps and without a receipt: where it is answered, its step is the last of the history.
-    fn enter(&mut self, actor: u32, event: Event<A>) -> Result<(), Refusal>
+    /// What stands in the event's place then is another.
+    fn enter(&mut self, actor: u32, event: &mut Event<A>) -> Result<(), Refusal>
         ensures step { OnOk result ((reply : Reply A)
-            × (answer (settings self.old) (reverse (steps self.old)) event ≡ Ok reply)
-            × (steps self.new ≡ steps self.old ++ record { actor = actor; event = event; reply = reply } ∷ [])) }
+            × (answer (settings self.old) (reverse (steps self.old)) event.old ≡ Ok reply)
+            × (steps self.new ≡ steps self.old ++ record { actor = actor; event = event.old; reply = reply } ∷ [])) }
         ensures refusal { IfErr result (λ refusal.
-            Finds (Err refusal) (answer (settings self.old) (reverse (steps self.old)) event)) }
+            Finds (Err refusal) (answer (settings self.old) (reverse (steps self.old)) event.old)) }
         ensures err { OnErr result (steps self.new ≡ steps self.old) }
         ensures settings { settings self.new ≡ settings self.old };
 
@@ -59,10 +60,11 @@ pub trait RouterCore<A: Allocator + Copy> {
         ensures { IsTrue result
             ↔ (answer (settings self.now) (reverse (steps self.now)) step.now.event ≡ Ok step.now.reply) };
 
-    /// Adds a step whose reply is the rules' answer to its event. An `Err` is out of memory, and changes nothing.
-    fn add(&mut self, step: Step<A>) -> Result<(), AllocError>
-        requires { answer (settings self.old) (reverse (steps self.old)) step.event ≡ Ok step.reply }
-        ensures step { OnOk result (steps self.new ≡ steps self.old ++ step ∷ []) }
+    /// Adds a step whose reply is the rules' answer to its event, and keeps it: what stands in its place then is another. An
+    /// `Err` is out of memory, and leaves the history as it was.
+    fn add(&mut self, step: &mut Step<A>) -> Result<(), AllocError>
+        requires { answer (settings self.old) (reverse (steps self.old)) step.old.event ≡ Ok step.old.reply }
+        ensures step { OnOk result (steps self.new ≡ steps self.old ++ step.old ∷ []) }
         ensures err { OnErr result (steps self.new ≡ steps self.old) }
         ensures settings { settings self.new ≡ settings self.old };
 

@@ -72,12 +72,13 @@ fn connections_at_the_limit(rt: HostRuntime) -> Result<(), Fail> {
 fn repeats<C: RouterCore<Global> + Drop, R: Abort + AllocGlobal>(rt: &R) -> Result<(), Fail> {
     let config = Config::new(4, 8, 4, 8, 8, 100, OWN).map_err(|_| "a configuration")?;
     let mut core = C::make(rt.alloc(), &config)?;
-    core.enter(0, Event::Connect).map_err(|_| "a connection")?;
-    assert!(rt; matches!(core.enter(0, Event::Route(0)), Err(Refusal::NoTicket)));
+    core.enter(0, &mut Event::Connect)
+        .map_err(|_| "a connection")?;
+    assert!(rt; matches!(core.enter(0, &mut Event::Route(0)), Err(Refusal::NoTicket)));
     let mut again = C::make(rt.alloc(), &config)?;
-    for step in core.into_history() {
+    for mut step in core.into_history() {
         assert!(rt; again.is_answered(&step));
-        again.add(step)?;
+        again.add(&mut step)?;
     }
     let first = Step {
         actor: 0,
