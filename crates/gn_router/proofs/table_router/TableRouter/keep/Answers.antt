@@ -3,7 +3,7 @@ use Rattle.gn_rules.specs.Answer.{answer}
 use Rattle.gn_rules.proofs.PastLemmas.{past_push}
 use Rattle.gn_router.proofs.CanLemmas.{can_follow}
 use Rattle.gn_router.proofs.FollowLemmas.{follows}
-use Rattle.gn_router.proofs.router_core.TableRouter.keep.Goals as goal
+use Rattle.gn_router.proofs.table_router.TableRouter.keep.Goals as goal
 
 pub follow-requires : goal.follow-requires
 follow-requires g c =

@@ -1,0 +1,12 @@
+use Rattle.std.proofs.Common.{◌≡◌, arith, sym, subst, ◌∙◌, ℕ, List}
+use Rattle.std.proofs.lemmas.Grind.{common_steps}
+use Rattle.gn_capture.specs.Known.{SaysLast}
+use Rattle.gn_capture.proofs.KnownLemmas.{says_sent}
+use Rattle.gn_capture.proofs.sends.read_sends.Goals as goal
+
+pub loop-field-preserved : goal.loop-field-preserved
+loop-field-preserved g c = record {
+  parsed = grind (arith, common_steps);
+  last = subst (λ (h : List ℕ). SaysLast h c.push.new.self) (sym c.hex_of-hex.ensures)
+    (says_sent c.loop-field.sends c.push.new.self c.field-item.result.now c.in-Some.sending c.in_ok-push-in-Some.ensures.ok (sym c.in-Some.is ∙ c.in_ok-sending.ensures));
+}
