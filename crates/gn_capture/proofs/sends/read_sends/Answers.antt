@@ -1,4 +1,4 @@
-use Rattle.std.proofs.Common.{◌≡◌, arith, sym, subst, ◌∙◌, ℕ, List}
+use Rattle.std.proofs.Common.{arith, slice_index_or, sym, subst, ◌∙◌, ℕ, List}
 use Rattle.std.proofs.lemmas.Grind.{common_steps}
 use Rattle.gn_capture.specs.Known.{SaysLast}
 use Rattle.gn_capture.proofs.KnownLemmas.{says_sent}
@@ -8,5 +8,6 @@ pub loop-field-preserved : goal.loop-field-preserved
 loop-field-preserved g c = record {
   parsed = grind (arith, common_steps);
   last = subst (λ (h : List ℕ). SaysLast h c.push.new.self) (sym c.hex_of-hex.ensures)
-    (says_sent c.loop-field.sends c.push.new.self c.field-item.result.now c.in-Some.sending c.in_ok-push-in-Some.ensures.ok (sym c.in-Some.is ∙ c.in_ok-sending.ensures));
+      (says_sent c.loop-field.sends c.push.new.self (slice_index_or c.args.fields.now c.loop-field.field-index _).now c.in-Some.sending
+      c.in_ok-push-in-Some.ensures.ok (sym c.in-Some.is ∙ c.in_ok-sending.ensures));
 }
