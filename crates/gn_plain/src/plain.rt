@@ -46,6 +46,7 @@ impl<A: Allocator + Copy> PlainRouter<A> {
 
     /// Adds the step of an event and the rules' reply, and gives its receipt. An `Err` is out of memory, and changes
     /// nothing.
+    #[tactic(auto, using(gn_rules::proofs::PastLemmas::past_length, gn_rules::proofs::LegalLemmas::legal_within))]
     fn add_with_receipt(
         &mut self,
         actor: u32,

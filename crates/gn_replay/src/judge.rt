@@ -6,6 +6,7 @@ ghost use Rattle.gn_replay.specs.Judgements.{IsTrueOf};
 ghost use Rattle.gn_replay.specs.declared.judgement.Judgement.TheVariants.{Legal};
 
 use crate::judgement::{Answer, Judgement};
+use crate::kept::add;
 use gn_rules::{Event, Refusal, RouterCore, Step};
 use std::alloc::{AllocError, Allocator};
 
@@ -36,12 +37,12 @@ pub(crate) fn judge<A: Allocator + Copy, C: RouterCore<A>>(
     ensures made { IfOk result (λ judgement. judgement ≡ Legal → C.steps core.new ≡ steps.items) }
 {
     let mut index = 0u32;
-    for mut step in steps {
+    for step in steps {
         if !core.is_answered(&step) {
             let rules = answer_to(core, step.actor, &step.event)?;
             return Ok(Judgement::WrongAt(index, rules));
         }
-        core.add(&mut step)?;
+        add(core, step)?;
         index += 1;
     }
     Ok(Judgement::Legal)

@@ -7,6 +7,7 @@ mod fault;
 mod histories;
 mod judge;
 mod judgement;
+mod kept;
 mod laws;
 mod line;
 mod link;

@@ -9,6 +9,7 @@ ghost use Rattle.gn_replay.specs.Events.{happens};
 ghost use Rattle.gn_replay.specs.Outcomes.{IsOutcome};
 ghost use Rattle.gn_replay.specs.Playing.{after_playing, refused_more};
 
+use crate::kept::enter;
 use crate::link::Link;
 use crate::outcome::Outcome;
 use gn_rules::{Event, Refusal, RouterCore};
@@ -77,8 +78,7 @@ impl<A: Allocator + Copy, C: RouterCore<A>> Play<A, C> {
         ensures after { OnOk result (self.new ≡ after_playing self.old
             (happens self.old.settings self.old.past event)) }
     {
-        let mut event = event;
-        match self.core.enter(0, &mut event) {
+        match enter(&mut self.core, 0, event) {
             Ok(()) => self.print_step(),
             Err(Refusal::NoMemory) => Err(AllocError),
             Err(refusal) => self.print_refusal(refusal),

@@ -33,7 +33,7 @@ loop-step-preserved g c =
       left = one_gone c.args.steps.items here left c.loop-step.index c.in-Some.step c.loop-step.invariant.left c.in-Some.ensures.steps.0;
       repeating =
           repeating_more s now c.args.steps.items made here left c.loop-step.index c.in-Some.step c.loop-step.invariant.left c.in-Some.ensures.steps.0
-          c.loop-step.invariant.repeating (g.C.RouterCore.settings c.add.new.self) (g.C.RouterCore.steps c.add.new.self)
+          c.loop-step.invariant.repeating (g.C.RouterCore.settings c.add.new.core) (g.C.RouterCore.steps c.add.new.core)
           (c.is_answered.ensures.0 c.if-not-is_answered.false) c.in_ok-add.ensures.settings c.in_ok-add.ensures.step;
     }
 

@@ -7,14 +7,14 @@ use Rattle.gn_replay.proofs.playing.Play.happen.Goals as goal
 
 pub print_step-requires : goal.print_step-requires
 print_step-requires g c =
-    some_past (g.C.RouterCore.steps c.enter.new.self) (g.C.RouterCore.steps c.self.inside.core) (made c.args.event c.in-Ok.ensures.step.0) c.in-Ok.ensures.step.2
+    some_past (g.C.RouterCore.steps c.enter.new.core) (g.C.RouterCore.steps c.self.inside.core) (made c.args.event c.in-Ok.ensures.step.0) c.in-Ok.ensures.step.2
 
 pub returns-in-Ok-clause-outcome : goal.returns-in-Ok-clause-outcome
 returns-in-Ok-clause-outcome g c =
     let reply = c.in-Ok.ensures.step.0 in
     let before = g.C.RouterCore.steps c.self.inside.core in
     rw (← c.self.view_is)
-    (outcome_then c.print_step.result (reverse (g.C.RouterCore.steps c.enter.new.self)) (reverse before) (made c.args.event reply) _
+    (outcome_then c.print_step.result (reverse (g.C.RouterCore.steps c.enter.new.core)) (reverse before) (made c.args.event reply) _
     (ap reverse c.in-Ok.ensures.step.2 ∙ past_push before (made c.args.event reply)) c.in-Ok.ensures.step.1 c.print_step.ensures.outcome)
 
 pub returns-in-Ok-clause-after : goal.returns-in-Ok-clause-after
@@ -22,8 +22,8 @@ returns-in-Ok-clause-after g c =
     let reply = c.in-Ok.ensures.step.0 in
     let play = c.self.inside in
     let before = g.C.RouterCore.steps play.core in
-    let settings = g.C.RouterCore.settings c.enter.new.self in
-    let past = reverse (g.C.RouterCore.steps c.enter.new.self) in
+    let settings = g.C.RouterCore.settings c.enter.new.core in
+    let past = reverse (g.C.RouterCore.steps c.enter.new.core) in
     let old : Playing _ =
     record { settings = g.C.RouterCore.settings play.core; past = reverse before; links = play.links.items; out = play.out.items; refusals = play.refusals } in
     rw (← c.self.view_is)
@@ -41,8 +41,8 @@ returns-in-Err-clause-outcome g c =
 pub returns-in-Err-clause-after : goal.returns-in-Err-clause-after
 returns-in-Err-clause-after g c =
     let play = c.self.inside in
-    let settings = g.C.RouterCore.settings c.enter.new.self in
-    let past = reverse (g.C.RouterCore.steps c.enter.new.self) in
+    let settings = g.C.RouterCore.settings c.enter.new.core in
+    let past = reverse (g.C.RouterCore.steps c.enter.new.core) in
     let old : Playing _ =
     record { settings = g.C.RouterCore.settings play.core; past = reverse (g.C.RouterCore.steps play.core); links = play.links.items; out = play.out.items; refusals = play.refusals } in
     let refused = found (Err c.in-Err.refusal) (answer old.settings old.past c.args.event) c.in-Err.ensures.refusal (search rules) in
