@@ -10,7 +10,7 @@ use gn_rules::{Config, Step};
 use gn_text::{
     CaptureRefusal, Cause, NumberedLine, NumberedLines, fields_into, is_word, read_header,
 };
-use std::alloc::Allocator;
+use std::alloc::{Allocator, Global};
 
 /// The step of a line, or `None` where the line is `end`. Its fields are put in place of those of another line.
 fn read_line<'a, A: Allocator + Copy>(
@@ -31,39 +31,39 @@ fn read_line<'a, A: Allocator + Copy>(
     }
 }
 
-/// These steps, where no line is left after the line `end`.
-#[tactic(auto, using(crate::proofs::StepsLemmas::nothing_after, crate::proofs::StepsLemmas::line_after_end))]
-fn read_end<A: Allocator>(
-    lines: &mut NumberedLines,
-    steps: Vec<Step<A>, A>,
-) -> Result<Vec<Step<A>, A>, CaptureRefusal>
-    ensures { IsRead (λ v. v.items) result (map_result (λ more. steps.items ++ more) (ended lines.old.lines)) }
-{
-    match lines.next_line() {
-        Ok((number, _)) => Err(CaptureRefusal::at(number, Cause::End)),
-        Err(_) => Ok(steps),
+/// The steps of a history's text, one after another. They are read as they are asked for, and none is kept.
+#[derive(Drop)]
+pub struct HistorySteps<'a, A: Allocator = Global> {
+    alloc: A,
+    lines: NumberedLines<'a>,
+    /// The fields of the line that was read last.
+    fields: Vec<&'a [u8], A>,
+}
+
+impl<'a, A: Allocator + Copy> HistorySteps<'a, A> {
+    /// The next step, or `None` at the line `end`, where no line is left after it.
+    pub fn next_step(&mut self) -> Result<Option<Step<A>>, CaptureRefusal> {
+        match self.lines.next_line() {
+            Ok(line) => match read_line(self.alloc, &mut self.fields, &line)? {
+                Some(step) => Ok(Some(step)),
+                None => match self.lines.next_line() {
+                    Ok((number, _)) => Err(CaptureRefusal::at(number, Cause::End)),
+                    Err(_) => Ok(None),
+                },
+            },
+            Err(after) => Err(CaptureRefusal::at(after, Cause::End)),
+        }
     }
 }
 
-/// The steps that the lines left of a text say, up to the line `end`, which is the last one.
-fn read_steps<A: Allocator + Copy>(
+/// The configuration of a history's text, and its steps, which aren't read yet.
+pub fn open_history<'a, A: Allocator + Copy>(
     alloc: A,
-    lines: &mut NumberedLines,
-) -> Result<Vec<Step<A>, A>, CaptureRefusal>
-    ensures { IsRead (λ v. v.items) result (steps_from lines.old.after lines.old.lines) }
-{
-    let mut steps = Vec::new(alloc);
-    let mut fields = Vec::new(alloc);
-    loop {
-        match lines.next_line() {
-            Ok(line) => match read_line(alloc, &mut fields, &line) {
-                Ok(Some(step)) => steps.push(step)?,
-                Ok(None) => return read_end(lines, steps),
-                Err(refusal) => return Err(refusal),
-            },
-            Err(after) => return Err(CaptureRefusal::at(after, Cause::End)),
-        }
-    }
+    text: &'a [u8],
+) -> Result<(Config, HistorySteps<'a, A>), CaptureRefusal> {
+    let mut lines = NumberedLines::of(text);
+    let config = read_header(alloc, b"gnutella-history 1", &mut lines)?;
+    Ok((config, HistorySteps { alloc, lines, fields: Vec::new(alloc) }))
 }
 
 /// The configuration and the steps that a history's text says. An `Err` names its first line that something is wrong
@@ -76,8 +76,10 @@ pub fn read_history<A: Allocator + Copy>(
 ) -> Result<(Config, Vec<Step<A>, A>), CaptureRefusal>
     ensures { IsRead (history_seen (λ v. v.items)) result (history_of text.now) }
 {
-    let mut lines = NumberedLines::of(text);
-    let config = read_header(alloc, b"gnutella-history 1", &mut lines)?;
-    let steps = read_steps(alloc, &mut lines)?;
+    let (config, mut left) = open_history(alloc, text)?;
+    let mut steps = Vec::new(alloc);
+    while let Some(step) = left.next_step()? {
+        steps.push(step)?;
+    }
     Ok((config, steps))
 }

@@ -7,6 +7,8 @@ ghost use Rattle.gn_replay.specs.declared.judgement.Judgement.TheVariants.{Legal
 
 use crate::judgement::{Answer, Judgement};
 use crate::kept::add;
+use gn_capture::HistorySteps;
+use gn_text::CaptureRefusal;
 use gn_rules::{Event, Refusal, RouterCore, Step};
 use std::alloc::{AllocError, Allocator};
 
@@ -30,20 +32,21 @@ fn answer_to<A: Allocator + Copy, C: RouterCore<A>>(
 /// memory.
 pub(crate) fn judge<A: Allocator + Copy, C: RouterCore<A>>(
     core: &mut C,
-    steps: Vec<Step<A>, A>,
-) -> Result<Judgement<A>, AllocError>
+    steps: &mut HistorySteps<A>,
+) -> Result<(Judgement<A>, usize), CaptureRefusal>
     requires { C.steps core.old ≡ [] }
     ensures judged { IfOk result (IsTrueOf (C.settings core.old) steps.items) }
     ensures made { IfOk result (λ judgement. judgement ≡ Legal → C.steps core.new ≡ steps.items) }
 {
     let mut index = 0u32;
-    for step in steps {
+    while let Some(step) = steps.next_step()? {
         if !core.is_answered(&step) {
             let rules = answer_to(core, step.actor, &step.event)?;
-            return Ok(Judgement::WrongAt(index, rules));
+            while let Some(_) = steps.next_step()? {}
+            return Ok((Judgement::WrongAt(index, rules), 0));
         }
         add(core, step)?;
         index += 1;
     }
-    Ok(Judgement::Legal)
+    Ok((Judgement::Legal, index as usize))
 }

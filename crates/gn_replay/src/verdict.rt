@@ -9,7 +9,7 @@ ghost use Rattle.gn_replay.specs.Judgements.{IsJudged, legality_of};
 
 use crate::judge::judge;
 use crate::judgement::Judgement;
-use gn_capture::read_history;
+use gn_capture::open_history;
 use gn_rules::{Legality, RouterCore};
 use gn_text::{CaptureRefusal, push_number};
 use std::alloc::{AllocError, Allocator};
@@ -47,11 +47,10 @@ pub(crate) fn judge_text<A: Allocator + Copy, C: RouterCore<A> + Drop>(
     ensures few { IfOk result (λ judged. legality_of judged.0 ≡ Legal → judged.1 < 2 ^ 32) }
     ensures refused { IfErr result (λ refusal. IsRefused refusal (history_of {A = A} text.now)) }
 {
-    let (config, steps) = read_history(alloc, text)?;
+    let (config, mut steps) = open_history(alloc, text)?;
     let mut core = C::make(alloc, &config)?;
-    let count = steps.len();
-    let judgement = judge(&mut core, steps)?;
-    Ok((judgement, count))
+    let judged = judge(&mut core, &mut steps)?;
+    Ok(judged)
 }
 
 /// The verdict of a new router on the history that a text says, and its line.
