@@ -1,6 +1,6 @@
 -- A packet that is sent again.
-use Rattle.std.proofs.Common.{◌≡◌, ℕ, zero, suc, ◌-◌, ◌==◌, Bool, true, List, [], ◌∷◌, ◌++◌, length, take, drop, refl, sym, subst, ap, ◌∙◌, arith, Option, Some, None, length-append}
-use Rattle.std.specs.Prelude.{IfSome, slice_get}
+use Rattle.std.proofs.Common.{◌≡◌, ℕ, zero, suc, ◌-◌, ◌==◌, Bool, true, List, [], ◌∷◌, ◌++◌, length, take, drop, refl, sym, subst, ap, ◌∙◌, arith, Option, Some, None, length-append, append_assoc, Bor}
+use Rattle.std.specs.Prelude.{IfSome, slice_get, map, option_map}
 use lib.Pointwise.{bytes_decides}
 use Rattle.gn_wire.specs.Packet.{Packet}
 use Rattle.gn_rules.specs.declared.sends.Sending.{Sending}
@@ -8,7 +8,7 @@ use Rattle.gn_text.specs.Addresses.{◌>>=◌}
 use Rattle.gn_text.specs.Lines.{is_word}
 use Rattle.gn_text.specs.Numbers.{number_of}
 use Rattle.gn_capture.specs.Packets.{packet_parsed}
-use Rattle.gn_capture.specs.Replies.{hex_of, mark_place, marked_parsed, sending_parsed}
+use Rattle.gn_capture.specs.Replies.{hex_of, mark_place, marked_parsed, sending_parsed, sends_parsed}
 use Rattle.gn_capture.specs.Known.{SaysLast}
 
 -- the same hex digits say the same packet
@@ -54,3 +54,17 @@ says_sent {A = A} head now field s is says =
     let known : SaysLast (hex_of field) (head ++ s ∷ []) =
     subst (λ (o : Option (Sending A)). IfSome o (λ x. packet_parsed (hex_of field) ≡ Some x.packet)) (sym last) packet in
     subst (λ (xs : List (Sending A)). SaysLast (hex_of field) xs) (sym is) known
+
+more_parsed : {A : Type 0} (head : List (Sending A)) (s : Sending A) (more : Option (List (Sending A)))
+    → option_map (λ xs. (head ++ s ∷ []) ++ xs) more ≡ option_map (λ xs. head ++ xs) (more >>= λ others. Some (s ∷ others))
+more_parsed head s None = refl
+more_parsed head s (Some others) = ap Some (append_assoc head (s ∷ []) others)
+
+-- what the fields left say, where the first of them says a send
+pub sends_more : {A : Type 0} (head now : List (Sending A)) (left more : List (Bor (List ℕ))) (field : Bor (List ℕ)) (s : Sending A) (all : Option (List (Sending A)))
+    → left ≡ field ∷ more → now ≡ head ++ s ∷ [] → Some s ≡ sending_parsed field.now
+    → option_map (λ xs. head ++ xs) (sends_parsed (map (λ x. x.now) left)) ≡ all
+    → option_map (λ xs. now ++ xs) (sends_parsed (map (λ x. x.now) more)) ≡ all
+sends_more head now left more field s all first grown is known =
+    let step : sends_parsed (map (λ x. x.now) left) ≡ (sends_parsed (map (λ x. x.now) more) >>= λ others. Some (s ∷ others)) = rw (first, ← is) refl in
+    rw grown (more_parsed head s (sends_parsed (map (λ x. x.now) more)) ∙ ap (option_map (λ xs. head ++ xs)) (sym step) ∙ known)

@@ -14,7 +14,7 @@ use Rattle.gn_capture.proofs.LinesAgain.{IsParsed, fed, lines_again, numbered, p
 use Rattle.gn_capture.proofs.SettingsAgain.{config_again, config_line_is, own_again, own_line_is}
 use Rattle.gn_capture.proofs.Spaced.{IsLine}
 use Rattle.gn_capture.proofs.StepsAgain.{step_again, step_goes_on, step_line_is, step_line_parsed}
-use Rattle.gn_capture.proofs.HistoryLemmas.{history_read}
+use Rattle.gn_capture.proofs.HistoryLemmas.{history_opened, history_read}
 
 -- the lines of steps, and the last one
 abbrev step_lines : {A : Type 0} → List (Step A) → List (List ℕ)
@@ -71,6 +71,9 @@ header_again s after more h = rw (config_again s, own_again s.own h) refl
 
 pub written_is_read : {A : Type 0} → WrittenIsRead A
 written_is_read s steps h k =
-    history_read (history_text s steps) (numbered 1 (title ∷ lines_after s steps)) (line_after (history_text s steps)) (settings_of s)
-    (numbered 4 (step_lines steps)) steps (sym (numbered_lines s steps h k)) refl (header_again s (line_after (history_text s steps)) (numbered 4 (step_lines steps)) h)
-    (steps_again (line_after (history_text s steps)) 4 steps k)
+    let text = history_text s steps in
+    let after = line_after text in
+    let left = numbered 4 (step_lines steps) in
+    history_read text (settings_of s) (steps_from after left) steps
+    (history_opened text (numbered 1 (title ∷ lines_after s steps)) after after (settings_of s) left (sym (numbered_lines s steps h k)) refl (header_again s after left h) refl)
+    (steps_again after 4 steps k)

@@ -1,5 +1,5 @@
 -- The text of a history, and what a text says.
-use Rattle.std.specs.Prelude.{ℕ, if◌then◌else◌, List, [], ◌∷◌, ◌++◌, codes, Option, Some, None, Result, Ok, Err}
+use Rattle.std.specs.Prelude.{◌≡◌, ℕ, if◌then◌else◌, List, [], ◌∷◌, ◌++◌, codes, Option, Some, None, Result, Ok, Err}
 use Rattle.std.specs.List.{flat_map}
 use Rattle.gn_rules.specs.declared.config.Config.{Config}
 use Rattle.gn_rules.specs.declared.config.Own.{Own}
@@ -7,9 +7,10 @@ use Rattle.gn_rules.specs.declared.receipt.Step.{Step}
 use Rattle.gn_text.specs.Lines.{fields_of, is_word}
 use Rattle.gn_text.specs.declared.fault.Cause.TheVariants as cause
 use Rattle.gn_text.specs.declared.fault.CaptureFault.{CaptureFault}
-use Rattle.gn_text.specs.Faults.{fault_at, numbered_at, ◌>>=◌}
+use Rattle.gn_text.specs.declared.fault.CaptureRefusal.{CaptureRefusal}
+use Rattle.gn_text.specs.Faults.{IsRefused, fault_at, numbered_at, ◌>>=◌}
 use Rattle.gn_text.specs.Header.{header_of}
-use Rattle.gn_text.specs.Parsed.{parsed_of, line_after}
+use Rattle.gn_text.specs.Parsed.{Numbered, parsed_of, line_after}
 use Rattle.gn_text.specs.Settings.{Numbers, settings_of, settings_text}
 use Rattle.gn_text.specs.Steps.{step_text}
 use Rattle.gn_capture.specs.Steps.{step_parsed}
@@ -55,6 +56,17 @@ steps_from after [] = Err (fault_at after cause.End)
 steps_from after (line ∷ more) = do
   found ← line_parsed line
   steps_after found more (steps_from after more)
+
+-- the steps that are left of a history, or the first fault of what is left
+abbrev pub steps_left : {A : Type 0} → Numbered → Result (List (Step A)) CaptureFault
+steps_left left = steps_from left.after left.lines
+
+-- what is found where steps are left: the first of them, and then the others are left; nothing where none is left; or
+-- what is left is refused
+abbrev pub IsNextOf : {A : Type 0} → Result (Option (Step A)) CaptureRefusal → Result (List (Step A)) CaptureFault → Result (List (Step A)) CaptureFault → Type 0
+IsNextOf (Ok (Some step)) old new = old ≡ map_result (λ more. step ∷ more) new
+IsNextOf (Ok None) old new = old ≡ Ok []
+IsNextOf (Err refusal) old new = IsRefused refusal old
 
 -- what a text says: the settings and the steps, or its first fault
 abbrev pub history_of : {A : Type 0} → List ℕ → Result ((Numbers × Own) × List (Step A)) CaptureFault

@@ -1,9 +1,10 @@
 //! What a history's text says.
 
-ghost use Rattle.std.specs.Prelude.{◌≡◌, ◌++◌};
-ghost use Rattle.gn_text.specs.Faults.{IsRead};
+ghost use Rattle.std.specs.Prelude.{◌≡◌, ◌<◌, None, length, IfErr, IfOk};
+ghost use Rattle.gn_text.specs.Faults.{IsRead, IsRefused};
 ghost use Rattle.gn_text.specs.Parsed.{line_seen};
-ghost use Rattle.gn_capture.specs.Histories.{ended, history_of, history_seen, line_parsed, map_result, steps_from};
+ghost use Rattle.gn_text.specs.Settings.{settings_of};
+ghost use Rattle.gn_capture.specs.Histories.{IsNextOf, ended, history_of, history_seen, line_parsed, map_result, steps_left};
 
 use crate::step::read_step;
 use gn_rules::{Config, Step};
@@ -11,6 +12,7 @@ use gn_text::{
     CaptureRefusal, Cause, NumberedLine, NumberedLines, fields_into, is_word, read_header,
 };
 use std::alloc::{Allocator, Global};
+use std::marker::Model;
 
 /// The step of a line, or `None` where the line is `end`. Its fields are put in place of those of another line.
 fn read_line<'a, A: Allocator + Copy>(
@@ -31,8 +33,9 @@ fn read_line<'a, A: Allocator + Copy>(
     }
 }
 
-/// The steps of a history's text, one after another. They are read as they are asked for, and none is kept.
-#[derive(Drop)]
+/// The steps of a history's text, one after another. They are read as they are asked for, and nothing is kept of those
+/// that were given.
+#[derive(Debug, Drop)]
 pub struct HistorySteps<'a, A: Allocator = Global> {
     alloc: A,
     lines: NumberedLines<'a>,
@@ -40,30 +43,78 @@ pub struct HistorySteps<'a, A: Allocator = Global> {
     fields: Vec<&'a [u8], A>,
 }
 
+impl<'a, A: Allocator> Model for HistorySteps<'a, A> {
+    ghost use Rattle.gn_text.specs.Parsed.{Numbered};
+
+    ghost Value = { Numbered };
+
+    ghost view = { λ s. s.lines };
+}
+
+/// Nothing, where no line is left after the line `end`.
+#[tactic(auto, using(crate::proofs::StepsLemmas::none_after_end, crate::proofs::StepsLemmas::line_after_end))]
+fn read_end<A: Allocator>(lines: &mut NumberedLines) -> Result<Option<Step<A>>, CaptureRefusal>
+    ensures { IsRead (λ x. x) result (map_result (λ _. None) (ended {A = A} lines.old.lines)) }
+{
+    match lines.next_line() {
+        Ok((number, _)) => Err(CaptureRefusal::at(number, Cause::End)),
+        Err(_) => Ok(None),
+    }
+}
+
 impl<'a, A: Allocator + Copy> HistorySteps<'a, A> {
-    /// The next step, or `None` at the line `end`, where no line is left after it.
-    pub fn next_step(&mut self) -> Result<Option<Step<A>>, CaptureRefusal> {
+    ghost use Rattle.std.specs.Prelude.{IfSome};
+
+    /// The next step, or `None` at the line `end`, which is to be the last one. An `Err` names the first line left that
+    /// something is wrong with: a line that is no step (`Field`), a missing `end` or something after it (`End`); or out
+    /// of memory.
+    pub fn next_step(&mut self) -> Result<Option<Step<A>>, CaptureRefusal>
+        ensures next { IsNextOf result (steps_left self.old) (steps_left self.new) }
+        ensures fewer { IfOk result (λ found. IfSome found (λ _. length self.new.lines < length self.old.lines)) }
+    {
         match self.lines.next_line() {
             Ok(line) => match read_line(self.alloc, &mut self.fields, &line)? {
                 Some(step) => Ok(Some(step)),
-                None => match self.lines.next_line() {
-                    Ok((number, _)) => Err(CaptureRefusal::at(number, Cause::End)),
-                    Err(_) => Ok(None),
-                },
+                None => read_end(&mut self.lines),
             },
             Err(after) => Err(CaptureRefusal::at(after, Cause::End)),
         }
     }
 }
 
-/// The configuration of a history's text, and its steps, which aren't read yet.
+/// The configuration that a history's text says, and its steps, which are still to be read. An `Err` names a line before
+/// the steps: the first line isn't `gnutella-history 1` (`Header`), a bad or missing `config` or `own` line; or out of
+/// memory.
 pub fn open_history<'a, A: Allocator + Copy>(
     alloc: A,
     text: &'a [u8],
-) -> Result<(Config, HistorySteps<'a, A>), CaptureRefusal> {
+) -> Result<(Config, HistorySteps<'a, A>), CaptureRefusal>
+    ensures opened { IfOk result (λ history. history_of {A = A} text.now
+        ≡ map_result (λ steps. (settings_of history.0, steps)) (steps_left history.1)) }
+    ensures refused { IfErr result (λ refusal. IsRefused refusal (history_of {A = A} text.now)) }
+{
     let mut lines = NumberedLines::of(text);
     let config = read_header(alloc, b"gnutella-history 1", &mut lines)?;
-    Ok((config, HistorySteps { alloc, lines, fields: Vec::new(alloc) }))
+    let steps = HistorySteps {
+        alloc,
+        lines,
+        fields: Vec::new(alloc),
+    };
+    Ok((config, steps))
+}
+
+/// The steps that are left of a history, all of them.
+fn read_steps<A: Allocator + Copy>(
+    alloc: A,
+    left: &mut HistorySteps<A>,
+) -> Result<Vec<Step<A>, A>, CaptureRefusal>
+    ensures { IsRead (λ v. v.items) result (steps_left left.old) }
+{
+    let mut steps = Vec::new(alloc);
+    while let Some(step) = left.next_step()? {
+        steps.push(step)?;
+    }
+    Ok(steps)
 }
 
 /// The configuration and the steps that a history's text says. An `Err` names its first line that something is wrong
@@ -77,9 +128,6 @@ pub fn read_history<A: Allocator + Copy>(
     ensures { IsRead (history_seen (λ v. v.items)) result (history_of text.now) }
 {
     let (config, mut left) = open_history(alloc, text)?;
-    let mut steps = Vec::new(alloc);
-    while let Some(step) = left.next_step()? {
-        steps.push(step)?;
-    }
+    let steps = read_steps(alloc, &mut left)?;
     Ok((config, steps))
 }

@@ -1,6 +1,6 @@
 //! Descriptors in hex.
 
-ghost use Rattle.std.specs.Prelude.{◌≡◌, IfOk, MatchOption, None, option_map, map};
+ghost use Rattle.std.specs.Prelude.{◌≡◌, ◌≤◌, IfOk, MatchOption, None, option_map, drop, length, map};
 ghost use Rattle.gn_capture.specs.Events.{first_seen, number_first, packet_first};
 ghost use Rattle.gn_capture.specs.Packets.{IsHeaderAlone, packet_of, packet_parsed};
 
@@ -22,6 +22,19 @@ fn header_alone(bytes: &[u8]) -> Option<Header>
     }
 }
 
+/// What stands after a header. Where that is nothing, no bytes are kept. An `Err` is out of memory.
+fn payload_in<A: Allocator + Copy>(bytes: Vec<u8, A>) -> Result<Bytes<A>, AllocError>
+    requires { 23 ≤ length bytes.items }
+    ensures { IfOk result (λ payload. payload ≡ drop 23 bytes.items) }
+{
+    if bytes.len() == HEADER_BYTES {
+        return Ok(Bytes::new());
+    }
+    let mut payload = Bytes::from_vec(bytes)?;
+    payload.advance(HEADER_BYTES);
+    Ok(payload)
+}
+
 /// The descriptor that bytes encode, from the first to the last. An `Err` is out of memory.
 #[tactic(auto, using(crate::proofs::PacketLemmas::made_whole))]
 fn packet_in<A: Allocator + Copy>(bytes: Vec<u8, A>) -> Result<Option<Descriptor<A>>, AllocError>
@@ -30,8 +43,7 @@ fn packet_in<A: Allocator + Copy>(bytes: Vec<u8, A>) -> Result<Option<Descriptor
     let Some(header) = header_alone(&bytes) else {
         return Ok(None);
     };
-    let mut payload = Bytes::from_vec(bytes)?;
-    payload.advance(HEADER_BYTES);
+    let payload = payload_in(bytes)?;
     match Descriptor::from_header(header, payload) {
         Ok(descriptor) => Ok(Some(descriptor)),
         Err(_) => unreachable!(),

@@ -25,7 +25,7 @@ use Rattle.gn_replay.specs.declared.fault.ReplayFault.TheVariants.{Write}
 use Rattle.gn_replay.specs.declared.judgement.Judgement.{Judgement}
 use Rattle.gn_replay.specs.declared.judgement.Judgement.TheVariants.{Legal, WrongAt}
 use Rattle.gn_replay.proofs.StepLines.{step_stands}
-use Rattle.gn_replay.proofs.VerdictLemmas.{audited, verdict_of}
+use Rattle.gn_replay.proofs.VerdictLemmas.{audited, same_line, verdict_of}
 
 -- what explains a judgement: nothing of a legal history, the lines of the wrong step of another
 explained_by : {A : Type 0} (s : Config) (steps : List (Step A)) (text : List ℕ) (i : ℕ) (rules : Result (Reply A) Refusal) (line : ℕ × List ℕ) (explanation : List ℕ)
@@ -84,7 +84,7 @@ explained_wrong text judgement count legality line lines i rules judged found pr
       parsed = judged.parsed;
       agrees = subst (λ (x : Legality). IsVerdict judged.settings judged.steps x) (sym found) (verdict_of judged.settings judged.steps judgement judged.judged);
       explains = subst (λ (x : Legality). Explains judged.settings judged.steps text x (explanation_text explained.0 rules)) (sym legality_is) more;
-      printed = explained.2 ∙ ap (λ head. head ++ explanation_text explained.0 rules) (printed ∙ ap (verdict_text legality) judged.counted);
+      printed = explained.2 ∙ ap (λ head. head ++ explanation_text explained.0 rules) (printed ∙ same_line judgement legality count (length judged.steps) found judged.counted);
     }
 
 -- what was appended explains the line at its place

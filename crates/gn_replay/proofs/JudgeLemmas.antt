@@ -1,7 +1,9 @@
 -- A router that is given the steps of a history again, one step more.
-use Rattle.std.proofs.Common.{◌≡◌, ◌≤◌, ◌<◌, ◌+◌, ◌++◌, ◌∙◌, ℕ, zero, suc, List, [], ◌∷◌, length, get_or, take, drop, reverse, Result, Ok, refl, sym, ap, subst, arith, append-nil, take-append-drop}
-use Rattle.std.proofs.lemmas.List.{length-reverse, length-take-le, take_more}
+use Rattle.std.proofs.Common.{◌≡◌, ◌<◌, ◌+◌, ◌^◌, ◌++◌, ◌∙◌, ℕ, List, [], ◌∷◌, get_or, length, take, reverse, Option, Some, None, Result, Ok, Err, refl, sym, ap, subst, arith, length-append}
+use Rattle.std.specs.Prelude.{IsOk}
+use Rattle.std.proofs.lemmas.List.{length-reverse, reverse-append}
 use Rattle.std.proofs.lemmas.Option.{slice_get_read}
+use Rattle.std.proofs.Math.Seq.{get_or-append_seam, take-append_seam}
 use Rattle.gn_rules.specs.declared.config.Config.{Config}
 use Rattle.gn_rules.specs.declared.receipt.Step.{Step}
 use Rattle.gn_rules.specs.declared.refusal.Refusal.{Refusal}
@@ -11,81 +13,148 @@ use Rattle.gn_rules.specs.Legal.{IsLegal}
 use Rattle.gn_rules.specs.Legality.{IsFirstWrong}
 use Rattle.gn_rules.proofs.LegalLemmas.{legal_within}
 use Rattle.gn_rules.proofs.PastLemmas.{past_more}
-use Rattle.gn_replay.specs.Judgements.{IsAnsweredAt}
+use Rattle.gn_text.specs.declared.fault.CaptureFault.{CaptureFault}
+use Rattle.gn_text.specs.declared.fault.CaptureRefusal.{CaptureRefusal}
+use Rattle.gn_text.specs.Faults.{IsRefused}
+use Rattle.gn_text.specs.Parsed.{Numbered}
+use Rattle.gn_capture.specs.Histories.{IsNextOf, map_result, steps_left}
+use Rattle.gn_capture.proofs.StepsLemmas.{all_known, known, known_refused, none_known, one_known}
+use Rattle.gn_replay.specs.declared.judgement.Judgement.TheVariants.{Legal, WrongAt}
+use Rattle.gn_replay.specs.Judgements.{IsAnsweredAt, IsFound}
 
--- the first steps, where they are legal, are no more than a history may have
-pub steps_before : {A : Type 0} (s : Config) (steps : List (Step A)) (i : ℕ) → i ≤ length steps → IsLegal s (reverse (take i steps)) → i ≤ s.steps
-steps_before s steps i within legal =
-    omega (arith, legal_within s (reverse (take i steps)) legal, length-reverse (take i steps), length-take-le i steps within)
+-- steps stand before what is left, and with it they are all
+abbrev pub IsLeftOf : {A : Type 0} → Result (List (Step A)) CaptureFault → Numbered → Type 0
+IsLeftOf {A = A} all left = (head : List (Step A)) × (known head left ≡ all)
 
--- the first of those that are left stands there
-stands : {X : Type 0} (all left : List X) (i : ℕ) (x : X) → drop i all ≡ x ∷ left → (i < length all) × (x ≡ get_or all i x)
-stands [] left zero x is = absurd cc
-stands [] left (suc i) x is = absurd cc
-stands (y ∷ ys) left zero x is = let same : x ≡ y = cc in (omega arith, same)
-stands (y ∷ ys) left (suc i) x is = let later = stands ys left i x is in (omega (arith, later.0), later.1)
-
--- where none is left, all were taken
-all_taken : {X : Type 0} (all left : List X) (i : ℕ) → left ≡ drop i all → length left ≡ 0 → take i all ≡ all
-all_taken all [] i is none = sym (append-nil (take i all)) ∙ ap (λ xs. take i all ++ xs) is ∙ take-append-drop i all
-all_taken all (x ∷ left) i is none = absurd (omega (arith, none))
-
--- a router of these settings has made the first i steps, and they are legal
-pub record IsRepeating {A : Type 0} (s now : Config) (steps made : List (Step A)) (i : ℕ) : Type 0 where
+-- a router of these settings has made the steps before those that are left, so many, and they are legal
+pub record IsRepeating {A : Type 0} (s now : Config) (made : List (Step A)) (left : Numbered) (all : Result (List (Step A)) CaptureFault) (i : ℕ) : Type 0 where
   pub same : now ≡ s
-  pub repeated : made ≡ take i steps
-  pub legal : IsLegal s (reverse (take i steps))
+  pub known : known made left ≡ all
+  pub legal : IsLegal s (reverse made)
+  pub counted : i ≡ length made
 
 -- no step was made yet
-pub repeating_start : {A : Type 0} (s : Config) (steps made : List (Step A)) → made ≡ [] → IsRepeating s s steps made 0
-repeating_start s steps made none = record { same = refl; repeated = none; legal = tt }
+pub repeating_start : {A : Type 0} (s : Config) (made : List (Step A)) (left : Numbered) → made ≡ [] → IsRepeating s s made left (steps_left left) 0
+repeating_start s made left none = record {
+  same = refl;
+  known = none_known left made none;
+  legal = subst (λ (xs : List (Step _)). IsLegal s (reverse xs)) (sym none) tt;
+  counted = sym (ap length none);
+}
 
--- all steps were made
-module _ {A : Type 0} (s now : Config) (steps made left : List (Step A)) (i : ℕ) (is_left : left ≡ drop i steps) (none : length left ≡ 0) (so_far : IsRepeating s now steps made i) where
-  whole : take i steps ≡ steps
-  whole = all_taken steps left i is_left none
+-- a legal history has few steps
+pub legal_few : {A : Type 0} (s : Config) (made : List (Step A)) → IsLegal s (reverse made) → length made < 2 ^ 32
+legal_few s made legal =
+    let most = s.steps_in_limit.greatest in
+    omega (arith, most, legal_within s (reverse made) legal, length-reverse made)
 
-  pub all_legal : IsLegal s (reverse steps)
-  all_legal = subst (λ (xs : List (Step A)). IsLegal s (reverse xs)) whole so_far.legal
+-- the history that was made, with one step more, as the rules are asked for it
+one_more : {A : Type 0} (made : List (Step A)) (step : Step A) → reverse (made ++ step ∷ []) ≡ step ∷ reverse made
+one_more made step = reverse-append made (step ∷ [])
 
-  pub all_made : made ≡ steps
-  all_made = so_far.repeated ∙ whole
+-- no step is left: all were made
+module _ {A : Type 0} (s now : Config) (made : List (Step A)) (old new : Numbered) (all : Result (List (Step A)) CaptureFault) (i : ℕ)
+    (none : IsNextOf {A = A} (Ok None) (steps_left old) (steps_left new)) (so_far : IsRepeating s now made old all i) where
+  pub all_made : all ≡ Ok made
+  all_made = all_known made old new all so_far.known none
 
--- the next step is the first of those that are left
-module _ {A : Type 0} (s now : Config) (steps made here left : List (Step A)) (i : ℕ) (step : Step A) (is_left : here ≡ drop i steps) (next : here ≡ step ∷ left) (so_far : IsRepeating s now steps made i) where
-  stands_there : (i < length steps) × (step ≡ get_or steps i step)
-  stands_there = stands steps left i step (sym is_left ∙ next)
+  pub found_legal : IsFound s all Legal i
+  found_legal = record { steps = made; parsed = all_made; judged = so_far.legal; counted = λ is. so_far.counted; }
 
-  -- what the router was asked is what the rules answer after the first i steps
-  asked : answer now (reverse made) step.event ≡ answer s (reverse (take i steps)) step.event
-  asked = rw (so_far.same, so_far.repeated) refl
+-- a step is left
+module _ {A : Type 0} (s now : Config) (made : List (Step A)) (old new : Numbered) (all : Result (List (Step A)) CaptureFault) (i : ℕ) (step : Step A)
+    (next : IsNextOf (Ok (Some step)) (steps_left old) (steps_left new)) (so_far : IsRepeating s now made old all i) where
+  -- what the router was asked is what the rules answer after the steps that were made
+  asked : answer now (reverse made) step.event ≡ answer s (reverse made) step.event
+  asked = rw so_far.same refl
 
-  -- this is what the rules answer to the step's event
-  pub is_answered : (rules : Result (Reply A) Refusal) → answer now (reverse made) step.event ≡ rules → IsAnsweredAt s steps i rules
-  is_answered rules found = record {
-    step = step;
-    at = slice_get_read steps (length steps) i step refl stands_there.0 stands_there.1;
-    answered = sym asked ∙ found;
+  -- with it, all is still known
+  grown_known : known (made ++ step ∷ []) new ≡ all
+  grown_known = one_known made old new step next ∙ so_far.known
+
+  -- its reply is the rules' answer, and the step was made
+  pub repeating_more : (later : Config) (grown : List (Step A)) → answer now (reverse made) step.event ≡ Ok step.reply → later ≡ now → grown ≡ made ++ step ∷ []
+      → IsRepeating s later grown new all (i + 1)
+  repeating_more later grown answered same grew = record {
+    same = same ∙ so_far.same;
+    known = rw grew grown_known;
+    legal = subst (λ (past : List (Step A)). IsLegal s past) (sym (ap reverse grew ∙ one_more made step)) (sym asked ∙ answered, so_far.legal);
+    counted = omega (arith, so_far.counted, ap length grew, length-append made (step ∷ []));
   }
 
-  -- the step's reply isn't it, so the step is the first wrong one
-  pub is_wrong : (answer now (reverse made) step.event ≡ Ok step.reply → ⊥) → IsFirstWrong s steps i
-  is_wrong other = record {
-    within = stands_there.0;
-    before = so_far.legal;
-    wrong = λ legal. other (asked ∙ (subst (λ (past : List (Step A)). IsLegal s past) (past_more steps i step stands_there.0 stands_there.1) legal).0);
+  -- it is what stands at the index, where the others that are left were read too
+  module _ (more : List (Step A)) where
+    whole : List (Step A)
+    whole = made ++ step ∷ more
+
+    before : take i whole ≡ made
+    before = ap (λ n. take n whole) so_far.counted ∙ take-append_seam made (step ∷ more)
+
+    all_read : steps_left new ≡ Ok more → all ≡ Ok whole
+    all_read read = sym so_far.known ∙ ap (map_result (λ xs. made ++ xs)) (next ∙ ap (map_result (λ xs. step ∷ xs)) read)
+
+    long : length whole ≡ length made + (length more + 1)
+    long = length-append made (step ∷ more)
+
+    within : i < length whole
+    within = omega (arith, long, so_far.counted)
+
+    stands : step ≡ get_or whole i step
+    stands = sym (ap (λ n. get_or whole n step) so_far.counted ∙ get_or-append_seam made step more step)
+
+    answered_there : answer now (reverse made) step.event ≡ answer s (reverse (take i whole)) step.event
+    answered_there = asked ∙ ap (λ xs. answer s (reverse xs) step.event) (sym before)
+
+    is_answered : (rules : Result (Reply A) Refusal) → answer now (reverse made) step.event ≡ rules → IsAnsweredAt s whole i rules
+    is_answered rules found = record {
+      step = step;
+      at = slice_get_read whole (length whole) i step refl within stands;
+      answered = sym answered_there ∙ found;
+    }
+
+    is_wrong : (answer now (reverse made) step.event ≡ Ok step.reply → ⊥) → IsFirstWrong s whole i
+    is_wrong other = record {
+      within = within;
+      before = subst (λ (xs : List (Step A)). IsLegal s (reverse xs)) (sym before) so_far.legal;
+      wrong = λ legal. other (answered_there ∙ (subst (λ (past : List (Step A)). IsLegal s past) (past_more whole i step within stands) legal).0);
+    }
+
+  -- its reply isn't the rules' answer, and the steps left were read
+  wrong_of : (left : Result (List (Step A)) CaptureFault) (rules : Result (Reply A) Refusal) → steps_left new ≡ left → IsOk left
+      → answer now (reverse made) step.event ≡ rules → (answer now (reverse made) step.event ≡ Ok step.reply → ⊥) → IsFound s all (WrongAt i rules) i
+  wrong_of (Err fault) rules is read found other = absurd read
+  wrong_of (Ok more) rules is read found other = record {
+    steps = whole more;
+    parsed = all_read more is;
+    judged = (is_wrong more other, is_answered more rules found);
+    counted = λ legal. absurd (cc);
   }
 
-  -- the step's reply is it, and the step was made
-  pub repeating_more : (later : Config) (grown : List (Step A)) → answer now (reverse made) step.event ≡ Ok step.reply → later ≡ now → grown ≡ made ++ step ∷ [] → IsRepeating s later steps grown (i + 1)
-  repeating_more later grown answered same grew =
-      let more : take (i + 1) steps ≡ take i steps ++ step ∷ [] = take_more steps i step stands_there.0 ∙ ap (λ x. take i steps ++ x ∷ []) (sym stands_there.1) in
-      record {
-        same = same ∙ so_far.same;
-        repeated = grew ∙ ap (λ xs. xs ++ step ∷ []) so_far.repeated ∙ sym more;
-        legal = subst (λ (past : List (Step A)). IsLegal s past) (sym (past_more steps i step stands_there.0 stands_there.1)) (sym asked ∙ answered, so_far.legal);
-      }
+  pub found_wrong : (rules : Result (Reply A) Refusal) → IsOk (steps_left {A = A} new) → answer now (reverse made) step.event ≡ rules
+      → (answer now (reverse made) step.event ≡ Ok step.reply → ⊥) → IsFound s all (WrongAt i rules) i
+  found_wrong rules read found other = wrong_of (steps_left new) rules refl read found other
 
-  -- there is one more
-  pub so_many : i + 1 ≤ length steps
-  so_many = omega (arith, stands_there.0)
+-- what is left is refused, and so is all
+module _ {A : Type 0} (all : Result (List (Step A)) CaptureFault) (old new : Numbered) (rest : IsLeftOf all old) where
+  pub rest_refused : (refusal : CaptureRefusal) → IsNextOf {A = A} (Err refusal) (steps_left old) (steps_left new) → IsRefused refusal all
+  rest_refused refusal is = known_refused rest.0 old new refusal all rest.1 is
+
+  pub rest_more : (step : Step A) → IsNextOf (Ok (Some step)) (steps_left old) (steps_left new) → IsLeftOf all new
+  rest_more step is = (rest.0 ++ step ∷ [], one_known rest.0 old new step is ∙ rest.1)
+
+  pub rest_none : IsNextOf {A = A} (Ok None) (steps_left old) (steps_left new) → all ≡ Ok rest.0
+  rest_none is = all_known rest.0 old new all rest.1 is
+
+-- all is left
+pub rest_start : {A : Type 0} (left : Numbered) → IsLeftOf {A = A} (steps_left left) left
+rest_start left = ([], none_known left [] refl)
+
+-- what was read is known
+pub read_ok : {A : Type 0} (all : Result (List (Step A)) CaptureFault) (steps : List (Step A)) → all ≡ Ok steps → IsOk all
+read_ok all steps is = subst (λ (r : Result (List (Step _)) CaptureFault). IsOk r) (sym is) tt
+
+-- what is left after one step, which is refused, refuses all
+pub left_refused : {A : Type 0} (all : Result (List (Step A)) CaptureFault) (old new : Numbered) (made : List (Step A)) (step : Step A) (refusal : CaptureRefusal)
+    → known made old ≡ all → IsNextOf (Ok (Some step)) (steps_left old) (steps_left new) → IsRefused refusal (steps_left {A = A} new) → IsRefused refusal all
+left_refused all old new made step refusal is next refused =
+    rest_refused all new new (made ++ step ∷ [], one_known made old new step next ∙ is) refusal refused

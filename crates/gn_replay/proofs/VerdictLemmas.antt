@@ -1,25 +1,19 @@
 -- The verdict on a history.
-use Rattle.std.proofs.Common.{◌≡◌, ◌<◌, ◌^◌, ◌∙◌, ℕ, List, length, reverse, sym, ap, subst, arith}
-use Rattle.std.proofs.lemmas.List.{take_all}
+use Rattle.std.proofs.Common.{◌≡◌, ◌∙◌, ℕ, List, length, refl, sym, ap, subst}
 use Rattle.gn_rules.specs.declared.config.Config.{Config}
 use Rattle.gn_rules.specs.declared.legality.Legality.{Legality}
-use Rattle.gn_rules.specs.declared.legality.Legality.TheVariants as verdict
 use Rattle.gn_rules.specs.declared.receipt.Step.{Step}
-use Rattle.gn_rules.specs.Legal.{IsLegal}
 use Rattle.gn_rules.specs.Legality.{IsVerdict}
 use Rattle.gn_replay.specs.Audits.{IsAudited, verdict_text}
 use Rattle.gn_replay.specs.Judgements.{IsJudged, IsTrueOf, legality_of}
 use Rattle.gn_replay.specs.declared.judgement.Judgement.{Judgement}
 use Rattle.gn_replay.specs.declared.judgement.Judgement.TheVariants.{Legal, WrongAt}
-use Rattle.gn_replay.proofs.JudgeLemmas.{steps_before}
 
--- a legal history has few steps
-pub legal_fits : {A : Type 0} (s : Config) (steps : List (Step A)) (judgement : Judgement A) → IsTrueOf s steps judgement → legality_of judgement ≡ verdict.Legal → length steps < 2 ^ 32
-legal_fits s steps (WrongAt i rules) judged is = absurd (cc)
-legal_fits s steps Legal judged is =
-    let most = s.steps_in_limit.greatest in
-    let whole = subst (λ (xs : List (Step _)). IsLegal s (reverse xs)) (sym (take_all (length steps) steps (omega arith))) judged in
-    omega (arith, most, steps_before s steps (length steps) (omega arith) whole)
+-- the line of a judgement says how many steps a legal history has, and nothing of another's number
+pub same_line : {A : Type 0} (judgement : Judgement A) (legality : Legality) (count all : ℕ) → legality ≡ legality_of judgement → (judgement ≡ Legal → count ≡ all)
+    → verdict_text legality count ≡ verdict_text legality all
+same_line Legal legality count all is counted = ap (verdict_text legality) (counted refl)
+same_line (WrongAt i rules) legality count all is counted = rw is refl
 
 -- what was found with the settings that a router was made with
 pub judged_of : {A : Type 0} (s now : Config) (steps : List (Step A)) (judgement : Judgement A) → now ≡ s → IsTrueOf now steps judgement → IsTrueOf s steps judgement
@@ -38,5 +32,5 @@ audited text judgement count legality line judged is printed = record {
   steps = judged.steps;
   parsed = judged.parsed;
   agrees = subst (λ (x : Legality). IsVerdict judged.settings judged.steps x) (sym is) (verdict_of judged.settings judged.steps judgement judged.judged);
-  printed = printed ∙ ap (verdict_text legality) judged.counted;
+  printed = printed ∙ same_line judgement legality count (length judged.steps) is judged.counted;
 }

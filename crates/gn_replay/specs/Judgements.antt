@@ -10,6 +10,7 @@ use Rattle.gn_rules.specs.declared.reply.Reply.{Reply}
 use Rattle.gn_rules.specs.Answer.{answer}
 use Rattle.gn_rules.specs.Legal.{IsLegal}
 use Rattle.gn_rules.specs.Legality.{IsFirstWrong}
+use Rattle.gn_text.specs.declared.fault.CaptureFault.{CaptureFault}
 use Rattle.gn_text.specs.Settings.{settings_of}
 use Rattle.gn_capture.specs.Histories.{history_of}
 use Rattle.gn_replay.specs.declared.judgement.Judgement.{Judgement}
@@ -39,10 +40,17 @@ abbrev pub IsTrueOf : {A : Type 0} → Config → List (Step A) → Judgement A 
 IsTrueOf s steps Legal = IsLegal s (reverse steps)
 IsTrueOf s steps (WrongAt i rules) = IsFirstWrong s steps i × IsAnsweredAt s steps i rules
 
--- the text says a configuration and so many steps, and the judgement is true of them
+-- what is left of a history says steps, and the judgement is true of them; where they are legal, there are so many
+pub record IsFound {A : Type 0} (s : Config) (left : Result (List (Step A)) CaptureFault) (judgement : Judgement A) (count : ℕ) : Type 0 where
+  pub steps : List (Step A)
+  pub parsed : left ≡ Ok steps
+  pub judged : IsTrueOf s steps judgement
+  pub counted : judgement ≡ Legal → count ≡ length steps
+
+-- the text says a configuration and steps, and the judgement is true of them; where they are legal, there are so many
 pub record IsJudged (A : Type 0) (text : List ℕ) (judgement : Judgement A) (count : ℕ) : Type 0 where
   pub settings : Config
   pub steps : List (Step A)
   pub parsed : history_of text ≡ Ok (settings_of settings, steps)
   pub judged : IsTrueOf settings steps judgement
-  pub counted : count ≡ length steps
+  pub counted : judgement ≡ Legal → count ≡ length steps

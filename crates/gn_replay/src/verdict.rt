@@ -1,11 +1,10 @@
 //! The verdict on a history's text, and its line.
 
-ghost use Rattle.std.specs.Prelude.{◌≡◌, ◌<◌, ◌^◌, IfOk, IfErr};
+ghost use Rattle.std.specs.Prelude.{◌≡◌, IfOk, IfErr};
 ghost use Rattle.gn_text.specs.Faults.{IsRefused};
 ghost use Rattle.gn_capture.specs.Histories.{history_of};
-ghost use Rattle.gn_rules.specs.declared.legality.Legality.TheVariants.{Legal};
 ghost use Rattle.gn_replay.specs.Audits.{IsAudited, verdict_text};
-ghost use Rattle.gn_replay.specs.Judgements.{IsJudged, legality_of};
+ghost use Rattle.gn_replay.specs.Judgements.{IsJudged};
 
 use crate::judge::judge;
 use crate::judgement::Judgement;
@@ -18,16 +17,15 @@ use std::alloc::{AllocError, Allocator};
 pub(crate) fn verdict<A: Allocator>(
     alloc: A,
     legality: Legality,
-    steps: usize,
+    steps: u32,
 ) -> Result<Vec<u8, A>, AllocError>
-    requires { legality ≡ Legal → steps < 2 ^ 32 }
     ensures { IfOk result (λ line. line.items ≡ verdict_text legality steps) }
 {
     let mut line = Vec::new(alloc);
     match legality {
         Legality::Legal => {
             line.extend_from_slice(b"legal ")?;
-            push_number(&mut line, steps as u32)?;
+            push_number(&mut line, steps)?;
         }
         Legality::WrongAt(index) => {
             line.extend_from_slice(b"wrong ")?;
@@ -38,19 +36,17 @@ pub(crate) fn verdict<A: Allocator>(
     Ok(line)
 }
 
-/// What a new router finds of the history that a text says, and how many steps that has.
+/// What a new router finds of the history that a text says, and how many steps it found right.
 pub(crate) fn judge_text<A: Allocator + Copy, C: RouterCore<A> + Drop>(
     alloc: A,
     text: &[u8],
-) -> Result<(Judgement<A>, usize), CaptureRefusal>
+) -> Result<(Judgement<A>, u32), CaptureRefusal>
     ensures judged { IfOk result (λ judged. IsJudged A text.now judged.0 judged.1) }
-    ensures few { IfOk result (λ judged. legality_of judged.0 ≡ Legal → judged.1 < 2 ^ 32) }
     ensures refused { IfErr result (λ refusal. IsRefused refusal (history_of {A = A} text.now)) }
 {
     let (config, mut steps) = open_history(alloc, text)?;
     let mut core = C::make(alloc, &config)?;
-    let judged = judge(&mut core, &mut steps)?;
-    Ok(judged)
+    judge(&mut core, &mut steps)
 }
 
 /// The verdict of a new router on the history that a text says, and its line.

@@ -1,10 +1,11 @@
-use Rattle.std.proofs.Common.{◌≡◌, drop}
-use Rattle.std.specs.Vec.Iter.{into_iter_items}
+use Rattle.std.specs.Prelude.{length}
+use Rattle.gn_capture.specs.Histories.{steps_left}
 use Rattle.gn_replay.proofs.JudgeLemmas.{IsRepeating}
 use Rattle.gn_replay.proofs.judge.judge.Given as goal
 
-abbrev pub invariant-loop-step : goal.invariant-loop-step
-invariant-loop-step g l = record {
-  left : into_iter_items l.step-iterator ≡ drop l.index l.fn.steps.items;
-  repeating : IsRepeating (g.C.RouterCore.settings l.fn.core) (g.C.RouterCore.settings l.core) l.fn.steps.items (g.C.RouterCore.steps l.core) l.index;
-}
+abbrev pub invariant-loop-index : goal.invariant-loop-index
+invariant-loop-index g l =
+    IsRepeating (g.C.RouterCore.settings l.fn.core) (g.C.RouterCore.settings l.core) (g.C.RouterCore.steps l.core) l.steps (steps_left l.fn.steps) l.index
+
+abbrev pub decreases-loop-index : goal.decreases-loop-index
+decreases-loop-index g l = length l.steps.lines

@@ -1,0 +1,10 @@
+use Rattle.std.specs.Prelude.{length}
+use Rattle.gn_capture.specs.Histories.{steps_left}
+use Rattle.gn_replay.proofs.JudgeLemmas.{IsLeftOf}
+use Rattle.gn_replay.proofs.judge.pass_left.Given as goal
+
+abbrev pub invariant-loop : goal.invariant-loop
+invariant-loop g l = IsLeftOf {A = g.row.A.Denot} (steps_left l.fn.steps) l.steps
+
+abbrev pub decreases-loop : goal.decreases-loop
+decreases-loop g l = length l.steps.lines
