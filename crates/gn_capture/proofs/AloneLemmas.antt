@@ -1,5 +1,5 @@
 -- A number that stands alone, with the cause where there is none and without it.
-use Rattle.std.proofs.Common.{◌≡◌, ℕ, List, [], ◌∷◌, refl, sym, Option, Some, None, Result, Ok, Err}
+use Rattle.std.proofs.Common.{◌≡◌, ℕ, List, [], ◌∷◌, refl, sym, Option, Some, None}
 use Rattle.std.specs.Result.{result_ok}
 use Rattle.gn_text.specs.Numbers.{number_of}
 use Rattle.gn_capture.specs.CaptureLines.{number_alone}

@@ -52,7 +52,6 @@ impl<'a, A: Allocator> Model for HistorySteps<'a, A> {
 }
 
 /// Nothing, where no line is left after the line `end`.
-#[tactic(auto, using(crate::proofs::StepsLemmas::none_after_end, crate::proofs::StepsLemmas::line_after_end))]
 fn read_end<A: Allocator>(lines: &mut NumberedLines) -> Result<Option<Step<A>>, CaptureRefusal>
     ensures { IsRead (λ x. x) result (map_result (λ _. None) (ended {A = A} lines.old.lines)) }
 {

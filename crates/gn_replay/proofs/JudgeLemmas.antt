@@ -1,5 +1,5 @@
 -- A router that is given the steps of a history again, one step more.
-use Rattle.std.proofs.Common.{◌≡◌, ◌<◌, ◌+◌, ◌^◌, ◌++◌, ◌∙◌, ℕ, List, [], ◌∷◌, get_or, length, take, reverse, Option, Some, None, Result, Ok, Err, refl, sym, ap, subst, arith, length-append}
+use Rattle.std.proofs.Common.{◌≡◌, ◌<◌, ◌+◌, ◌^◌, ◌++◌, ◌∙◌, ℕ, List, [], ◌∷◌, get_or, length, take, reverse, Some, Result, Ok, Err, refl, sym, ap, subst, arith, length-append}
 use Rattle.std.specs.Prelude.{IsOk}
 use Rattle.std.proofs.lemmas.List.{length-reverse, reverse-append}
 use Rattle.std.proofs.lemmas.Option.{slice_get_read}
@@ -14,12 +14,10 @@ use Rattle.gn_rules.specs.Legality.{IsFirstWrong}
 use Rattle.gn_rules.proofs.LegalLemmas.{legal_within}
 use Rattle.gn_rules.proofs.PastLemmas.{past_more}
 use Rattle.gn_text.specs.declared.fault.CaptureFault.{CaptureFault}
-use Rattle.gn_text.specs.declared.fault.CaptureRefusal.{CaptureRefusal}
-use Rattle.gn_text.specs.Faults.{IsRefused}
 use Rattle.gn_text.specs.Parsed.{Numbered}
 use Rattle.gn_capture.specs.Histories.{IsNextOf, map_result, steps_left}
-use Rattle.gn_capture.proofs.StepsLemmas.{all_known, known, known_refused, none_known, one_known}
-use Rattle.gn_replay.specs.declared.judgement.Judgement.TheVariants.{Legal, WrongAt}
+use Rattle.gn_capture.proofs.StepsLemmas.{known, one_known}
+use Rattle.gn_replay.specs.declared.judgement.Judgement.TheVariants.{WrongAt}
 use Rattle.gn_replay.specs.Judgements.{IsAnsweredAt, IsFound}
 
 -- steps stand before what is left, and with it they are all
@@ -33,15 +31,6 @@ pub record IsRepeating {A : Type 0} (s now : Config) (made : List (Step A)) (lef
   pub legal : IsLegal s (reverse made)
   pub counted : i ≡ length made
 
--- no step was made yet
-pub repeating_start : {A : Type 0} (s : Config) (made : List (Step A)) (left : Numbered) → made ≡ [] → IsRepeating s s made left (steps_left left) 0
-repeating_start s made left none = record {
-  same = refl;
-  known = none_known left made none;
-  legal = subst (λ (xs : List (Step _)). IsLegal s (reverse xs)) (sym none) tt;
-  counted = sym (ap length none);
-}
-
 -- a legal history has few steps
 pub legal_few : {A : Type 0} (s : Config) (made : List (Step A)) → IsLegal s (reverse made) → length made < 2 ^ 32
 legal_few s made legal =
@@ -51,15 +40,6 @@ legal_few s made legal =
 -- the history that was made, with one step more, as the rules are asked for it
 one_more : {A : Type 0} (made : List (Step A)) (step : Step A) → reverse (made ++ step ∷ []) ≡ step ∷ reverse made
 one_more made step = reverse-append made (step ∷ [])
-
--- no step is left: all were made
-module _ {A : Type 0} (s now : Config) (made : List (Step A)) (old new : Numbered) (all : Result (List (Step A)) CaptureFault) (i : ℕ)
-    (none : IsNextOf {A = A} (Ok None) (steps_left old) (steps_left new)) (so_far : IsRepeating s now made old all i) where
-  pub all_made : all ≡ Ok made
-  all_made = all_known made old new all so_far.known none
-
-  pub found_legal : IsFound s all Legal i
-  found_legal = record { steps = made; parsed = all_made; judged = so_far.legal; counted = λ is. so_far.counted; }
 
 -- a step is left
 module _ {A : Type 0} (s now : Config) (made : List (Step A)) (old new : Numbered) (all : Result (List (Step A)) CaptureFault) (i : ℕ) (step : Step A)
@@ -84,7 +64,7 @@ module _ {A : Type 0} (s now : Config) (made : List (Step A)) (old new : Numbere
 
   -- it is what stands at the index, where the others that are left were read too
   module _ (more : List (Step A)) where
-    whole : List (Step A)
+    abbrev whole : List (Step A)
     whole = made ++ step ∷ more
 
     before : take i whole ≡ made
@@ -93,11 +73,8 @@ module _ {A : Type 0} (s now : Config) (made : List (Step A)) (old new : Numbere
     all_read : steps_left new ≡ Ok more → all ≡ Ok whole
     all_read read = sym so_far.known ∙ ap (map_result (λ xs. made ++ xs)) (next ∙ ap (map_result (λ xs. step ∷ xs)) read)
 
-    long : length whole ≡ length made + (length more + 1)
-    long = length-append made (step ∷ more)
-
     within : i < length whole
-    within = omega (arith, long, so_far.counted)
+    within = omega (arith, length-append made (step ∷ more), so_far.counted)
 
     stands : step ≡ get_or whole i step
     stands = sym (ap (λ n. get_or whole n step) so_far.counted ∙ get_or-append_seam made step more step)
@@ -122,7 +99,7 @@ module _ {A : Type 0} (s now : Config) (made : List (Step A)) (old new : Numbere
   -- its reply isn't the rules' answer, and the steps left were read
   wrong_of : (left : Result (List (Step A)) CaptureFault) (rules : Result (Reply A) Refusal) → steps_left new ≡ left → IsOk left
       → answer now (reverse made) step.event ≡ rules → (answer now (reverse made) step.event ≡ Ok step.reply → ⊥) → IsFound s all (WrongAt i rules) i
-  wrong_of (Err fault) rules is read found other = absurd read
+  wrong_of (Err fault) rules is read found other = absurd (cc)
   wrong_of (Ok more) rules is read found other = record {
     steps = whole more;
     parsed = all_read more is;
@@ -134,27 +111,7 @@ module _ {A : Type 0} (s now : Config) (made : List (Step A)) (old new : Numbere
       → (answer now (reverse made) step.event ≡ Ok step.reply → ⊥) → IsFound s all (WrongAt i rules) i
   found_wrong rules read found other = wrong_of (steps_left new) rules refl read found other
 
--- what is left is refused, and so is all
-module _ {A : Type 0} (all : Result (List (Step A)) CaptureFault) (old new : Numbered) (rest : IsLeftOf all old) where
-  pub rest_refused : (refusal : CaptureRefusal) → IsNextOf {A = A} (Err refusal) (steps_left old) (steps_left new) → IsRefused refusal all
-  rest_refused refusal is = known_refused rest.0 old new refusal all rest.1 is
-
-  pub rest_more : (step : Step A) → IsNextOf (Ok (Some step)) (steps_left old) (steps_left new) → IsLeftOf all new
-  rest_more step is = (rest.0 ++ step ∷ [], one_known rest.0 old new step is ∙ rest.1)
-
-  pub rest_none : IsNextOf {A = A} (Ok None) (steps_left old) (steps_left new) → all ≡ Ok rest.0
-  rest_none is = all_known rest.0 old new all rest.1 is
-
--- all is left
-pub rest_start : {A : Type 0} (left : Numbered) → IsLeftOf {A = A} (steps_left left) left
-rest_start left = ([], none_known left [] refl)
-
--- what was read is known
-pub read_ok : {A : Type 0} (all : Result (List (Step A)) CaptureFault) (steps : List (Step A)) → all ≡ Ok steps → IsOk all
-read_ok all steps is = subst (λ (r : Result (List (Step _)) CaptureFault). IsOk r) (sym is) tt
-
--- what is left after one step, which is refused, refuses all
-pub left_refused : {A : Type 0} (all : Result (List (Step A)) CaptureFault) (old new : Numbered) (made : List (Step A)) (step : Step A) (refusal : CaptureRefusal)
-    → known made old ≡ all → IsNextOf (Ok (Some step)) (steps_left old) (steps_left new) → IsRefused refusal (steps_left {A = A} new) → IsRefused refusal all
-left_refused all old new made step refusal is next refused =
-    rest_refused all new new (made ++ step ∷ [], one_known made old new step next ∙ is) refusal refused
+-- one step fewer is left
+pub rest_more : {A : Type 0} (all : Result (List (Step A)) CaptureFault) (old new : Numbered) (step : Step A) → IsLeftOf all old
+    → IsNextOf (Ok (Some step)) (steps_left old) (steps_left new) → IsLeftOf all new
+rest_more all old new step rest next = (rest.0 ++ step ∷ [], one_known rest.0 old new step next ∙ rest.1)

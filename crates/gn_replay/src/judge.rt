@@ -35,7 +35,9 @@ fn pass_left<A: Allocator + Copy>(steps: &mut HistorySteps<A>) -> Result<(), Cap
     ensures read { OnOk result (IsOk (steps_left {A = A} steps.old)) }
     ensures refused { IfErr result (λ refusal. IsRefused refusal (steps_left {A = A} steps.old)) }
 {
-    while let Some(_) = steps.next_step()? {}
+    while let Some(step) = steps.next_step()? {
+        drop(step);
+    }
     Ok(())
 }
 

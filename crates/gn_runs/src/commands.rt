@@ -56,8 +56,9 @@ const FAULTY: [Case; 6] = [
     ),
 ];
 
-/// A history of one Ping, right, and spoiled: a wrong ticket, no second connection, an admission stated twice, no last line.
-const AUDITED: [Case; 5] = [
+/// A history of one Ping, right, and spoiled: a wrong ticket, no second connection, an admission stated twice, no last line,
+/// and no last line after a wrong ticket.
+const AUDITED: [Case; 6] = [
     (
         "gnutella-history 1; config 4 8 4 8 8 100; own <ee> 127.0.0.1 6346 5 40; \
         0 connect = connected 1; 0 connect = connected 2; 0 admit 1 <PING a1 07 00> = admitted 0; \
@@ -94,6 +95,14 @@ const AUDITED: [Case; 5] = [
     (
         "gnutella-history 1; config 4 8 4 8 8 100; own <ee> 127.0.0.1 6346 5 40; \
         0 connect = connected 1; 0 connect = connected 2; 0 admit 1 <PING a1 07 00> = admitted 0; \
+        0 route 0 = routed local 1+<OWN a1 01> 2+<PING a1 06 01>",
+        1,
+        "",
+        "fault: line 8: end",
+    ),
+    (
+        "gnutella-history 1; config 4 8 4 8 8 100; own <ee> 127.0.0.1 6346 5 40; \
+        0 connect = connected 1; 0 connect = connected 2; 0 admit 1 <PING a1 07 00> = admitted 1; \
         0 route 0 = routed local 1+<OWN a1 01> 2+<PING a1 06 01>",
         1,
         "",
