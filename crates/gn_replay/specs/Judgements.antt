@@ -1,5 +1,5 @@
 -- What is found where the events of a history are answered again.
-use Rattle.std.specs.Prelude.{◌≡◌, ◌≢◌, ℕ, List, length, reverse, take, Option, Some, None, Result, Ok}
+use Rattle.std.specs.Prelude.{◌≡◌, ℕ, List, length, reverse, take, Some, Result, Ok}
 use Rattle.std.specs.List.{slice_get}
 use Rattle.gn_rules.specs.declared.config.Config.{Config}
 use Rattle.gn_rules.specs.declared.legality.Legality.{Legality}
@@ -20,12 +20,6 @@ use Rattle.gn_replay.specs.declared.judgement.Judgement.TheVariants.{Legal, Wron
 abbrev pub legality_of : {A : Type 0} → Judgement A → Legality
 legality_of Legal = verdict.Legal
 legality_of (WrongAt i rules) = verdict.WrongAt i
-
--- what a router answered to a step's event: nothing else than the step's reply where that is the rules' answer; where
--- it isn't, the rules' answer
-abbrev pub IsOther : {A : Type 0} → Option (Result (Reply A) Refusal) → Result (Reply A) Refusal → Reply A → Type 0
-IsOther None rules reply = rules ≡ Ok reply
-IsOther (Some other) rules reply = (rules ≡ other) × (other ≢ Ok reply)
 
 -- the step at the index, and what the rules answer to its event after the steps before it
 pub record IsAnsweredAt {A : Type 0} (s : Config) (steps : List (Step A)) (i : ℕ) (rules : Result (Reply A) Refusal)

@@ -1,13 +1,10 @@
 -- A replay as it stands.
-use Rattle.std.specs.Prelude.{◌≡◌, ◌==◌, ℕ, Bool, if◌then◌else◌, List, ◌++◌, Result}
+use Rattle.std.specs.Prelude.{◌≡◌, ◌==◌, ℕ, Bool, if◌then◌else◌, List, ◌++◌}
 use Rattle.gn_io.specs.Counts.{count_more}
 use Rattle.gn_rules.specs.declared.config.Config.{Config}
-use Rattle.gn_rules.specs.declared.event.Event.{Event}
 use Rattle.gn_rules.specs.declared.receipt.Step.{Step}
-use Rattle.gn_rules.specs.declared.refusal.Refusal.{Refusal}
-use Rattle.gn_rules.specs.declared.reply.Reply.{Reply}
 use Rattle.gn_replay.specs.declared.link.Link.{Link}
-use Rattle.gn_replay.specs.Events.{Played, answer_text, refusals_in}
+use Rattle.gn_replay.specs.Events.{Played}
 use Rattle.gn_replay.specs.Links.{IsLink, AreLinks}
 use Rattle.gn_replay.specs.Pieces.{Admits, Linked}
 use Rattle.gn_replay.specs.ReplayText.{After}
@@ -24,11 +21,6 @@ pub record Playing (A : Type 0) : Type 0 where
 -- a count of refusals after n more; it stays at the last value of a count
 abbrev pub refused_more : ℕ → ℕ → ℕ
 refused_more n count = if n == 0 then count else count_more n count
-
--- the replay after an event's answer was printed, and counted where it is a refusal
-abbrev pub after_printing : {A : Type 0} → Playing A → Event A → Result (Reply A) Refusal → Playing A
-after_printing v event answer =
-    record v { out = v.out ++ answer_text event answer; refusals = refused_more (refusals_in answer) v.refusals }
 
 -- the replay after something was played: its steps stand then, its text is after what was printed, its refusals are
 -- counted; the links are as they were
