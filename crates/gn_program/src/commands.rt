@@ -16,6 +16,7 @@ use crate::fault::Fault;
 use crate::request::Request;
 use crate::serves::serve;
 use crate::text::write_text;
+use crate::unfreed::Unfreed;
 use crate::words::read_words;
 use clap::Error;
 use clap::error::ErrorKind;
@@ -102,19 +103,23 @@ fn obey<
 {
     match request {
         Request::Replay => {
-            let answer = replay::<Global, TableRouter, S, W>(alloc, reader, writer);
+            let answer = replay::<Global, Unfreed<TableRouter>, S, W>(alloc, reader, writer);
             end_replay(faults, answer)
         }
         Request::History => {
-            let answer = replay_history::<Global, TableRouter, S, W>(alloc, reader, writer);
+            let answer = replay_history::<Global, Unfreed<TableRouter>, S, W>(
+                alloc, reader, writer,
+            );
             end_replay(faults, answer)
         }
         Request::Audit => {
-            let answer = audit::<Global, TableRouter, S, W>(alloc, reader, writer);
+            let answer = audit::<Global, Unfreed<TableRouter>, S, W>(alloc, reader, writer);
             end_audit(faults, answer)
         }
         Request::Explain => {
-            let answer = audit_explained::<Global, TableRouter, S, W>(alloc, reader, writer);
+            let answer = audit_explained::<Global, Unfreed<TableRouter>, S, W>(
+                alloc, reader, writer,
+            );
             end_audit(faults, answer)
         }
         Request::Load(workers) => {

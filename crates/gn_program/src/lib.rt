@@ -8,6 +8,7 @@ mod options;
 mod request;
 mod serves;
 mod text;
+mod unfreed;
 mod unread;
 mod words;
 

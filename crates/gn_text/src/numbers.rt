@@ -1,6 +1,6 @@
 //! Numbers of one to ten decimal digits.
 
-ghost use Rattle.std.specs.Prelude.{◌≡◌};
+ghost use Rattle.std.specs.Prelude.{◌≡◌, ◌∷◌, []};
 ghost use Rattle.std.specs.Char.{is_ascii_digit};
 ghost use Rattle.std.specs.List.{list_all};
 ghost use Rattle.gn_text.specs.Numbers.{number_below, number_of};
@@ -11,8 +11,18 @@ fn is_digits(field: &[u8]) -> bool
     field.iter().all(|b| b.is_ascii_digit())
 }
 
-/// The number that one to ten digits say, leading zeros among them, where it is at most 4,294,967,295.
-pub fn number(field: &[u8]) -> Option<u32>
+/// The number that a field of one byte says.
+fn one_digit(digit: u8) -> Option<u32>
+    ensures { result ≡ number_of (digit ∷ []) }
+{
+    match digit {
+        b'0'..=b'9' => Some(u32::from(digit - b'0')),
+        _ => None,
+    }
+}
+
+/// The number that a field of any length says.
+fn number_parsed(field: &[u8]) -> Option<u32>
     ensures { result ≡ number_of field.now }
 {
     if field.is_empty() || field.len() > 10 || !is_digits(field) {
@@ -21,6 +31,17 @@ pub fn number(field: &[u8]) -> Option<u32>
     match std::str::from_utf8(field) {
         Ok(text) => text.parse::<u32>().ok(),
         Err(_) => None,
+    }
+}
+
+/// The number that one to ten digits say, leading zeros among them, where it is at most 4,294,967,295.
+pub fn number(field: &[u8]) -> Option<u32>
+    ensures { result ≡ number_of field.now }
+{
+    // Most numbers of a capture are connections and links, of one digit.
+    match field {
+        [digit] => one_digit(*digit),
+        _ => number_parsed(field),
     }
 }
 

@@ -29,11 +29,7 @@ fn digit(number: u8) -> u8
     requires { number < 16 }
     ensures { result ≡ slice_index lower_digits number }
 {
-    if number < 10 {
-        b'0' + number
-    } else {
-        b'a' - 10 + number
-    }
+    number + if number < 10 { b'0' } else { b'a' - 10 }
 }
 
 /// Puts the hex digits of bytes, two for each, in place of what stands there.

@@ -3,7 +3,7 @@ use Rattle.std.proofs.lemmas.Grind.{common_steps}
 use Rattle.std.specs.Char.{is_ascii_digit}
 use Rattle.std.specs.List.{list_all}
 use Rattle.gn_text.proofs.NumberLemmas.{number_read, numeral_is, digits_are_text}
-use Rattle.gn_text.proofs.numbers.number.Goals as goal
+use Rattle.gn_text.proofs.numbers.number_parsed.Goals as goal
 
 pub returns-in-Ok : goal.returns-in-Ok
 returns-in-Ok c =
