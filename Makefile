@@ -1,5 +1,5 @@
 # Builds, checks and measures Tineflax with the Rattle toolchain's command `rt`, which has to be on the path.
-.PHONY: help demo build install examples test bench definitions clean
+.PHONY: help demo build install examples test bench definitions pictures clean
 
 # Where `make install` puts the program: PREFIX/bin/gn.
 PREFIX ?= /usr/local
@@ -12,6 +12,7 @@ help:
 	@echo 'make test      the merge gate: every proof from nothing, the must-fail edits, the tests, the programs'
 	@echo 'make bench     proves and runs the benchmarks; their times go to standard error'
 	@echo 'make definitions  prints each definition that contracts cite, beside its words'
+	@echo 'make pictures  draws docs/pictures from examples/, with the proved program; wants Graphviz and gnuplot'
 	@echo 'make clean     removes all that was built'
 
 # Replays the first example. Standard output is its four lines, and nothing else.
@@ -51,6 +52,12 @@ bench:
 # Each definition that contracts cite, beside the words that stand above it.
 definitions:
 	@scripts/definitions
+
+# The pictures of README: who sent what to whom in a small replay, and a load over its steps.
+pictures: build
+	@mkdir -p docs/pictures
+	crates/gn/out/gn replay --history < examples/query_hit_push.capture | scripts/picture --connections > docs/pictures/query_hit_push.svg
+	crates/gn/out/gn load --workers 4 < examples/six_links.capture | scripts/picture --time > docs/pictures/six_links.svg
 
 clean:
 	rm -rf crates/*/out
