@@ -106,6 +106,9 @@ impl Link for TcpLink {
         if stream.set_read_timeout(idle).is_err() || stream.set_write_timeout(idle).is_err() {
             return Err(LinkFault);
         }
+        // A packet is small and waits for no other, so it shan't wait for the acknowledgement of the one before it either.
+        // Where the system doesn't take this, the link is slower and else the same.
+        let _ = stream.set_nodelay(true);
         match stream.try_clone() {
             Ok(other) => Ok((TcpReader::new(stream), TcpWriter::new(other))),
             Err(_) => Err(LinkFault),

@@ -6,6 +6,8 @@ mod in_step;
 #[cfg(test)]
 mod loads;
 #[cfg(test)]
+mod prompt;
+#[cfg(test)]
 mod runs;
 #[cfg(test)]
 mod serves;
