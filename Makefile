@@ -1,11 +1,12 @@
 # Builds, checks and measures Tineflax with the Rattle toolchain's command `rt`, which has to be on the path.
-.PHONY: help demo build install examples test bench definitions pictures clean
+.PHONY: help demo check build install examples test bench definitions pictures clean
 
 # Where `make install` puts the program: PREFIX/bin/gn.
 PREFIX ?= /usr/local
 
 help:
 	@echo 'make demo      replays the first example in a minute or so; it proves nothing'
+	@echo 'make check     tries the tests, the examples, the scripts and the documents, in minutes; it proves nothing'
 	@echo 'make build     proves gn and all below it, and leaves the program at crates/gn/out/gn'
 	@echo 'make install   the same, and puts the program at PREFIX/bin/gn (PREFIX=$(PREFIX))'
 	@echo 'make examples  replays and audits all examples with the proved program, and compares what it prints'
@@ -20,9 +21,14 @@ demo:
 	@echo 'demo: nothing is proved here, the program is only compiled and run; make build proves it' >&2
 	@cd crates/gn && rt try -- replay < ../../examples/first_ping.capture
 
-# Proves `gn` and all below it, and leaves the program at crates/gn/out/gn.
+# Tries the tests, the examples, the scripts and the documents. The last line is 'N passed, M failed'.
+check:
+	@scripts/check
+
+# Proves `gn` and all below it, independent crates side by side, and leaves the program at crates/gn/out/gn.
 build:
-	@cd crates/gn && rt run -- --version >&2
+	@scripts/build gn
+	@crates/gn/out/gn --version >&2
 
 install: build
 	install -d '$(DESTDIR)$(PREFIX)/bin'
@@ -41,7 +47,8 @@ test:
 # loads of 1, 2, 4 and 16 workers beside replays, seven times. Times go to standard error, the table of the loads to standard
 # output.
 bench:
-	cd crates/gn_bench && rt run -- tables 1000000
+	scripts/build gn_bench
+	crates/gn_bench/out/gn_bench tables 1000000
 	crates/gn_bench/out/gn_bench stage 1000000
 	for run in 1 2 3; do for load in 'hub 1 100000' 'hub 4 100000' 'hub 16 100000' 'flaw 1000000' 'replay table 300' \
 		'replay table 1000' 'replay table 3000' 'replay table 10000' 'replay table 100000' 'replay comments 100000' \
