@@ -16,3 +16,4 @@ pub mod Capture
 pub mod Replay
 pub mod Load
 pub mod Program
+pub mod Types
