@@ -1,0 +1,8 @@
+-- The definitions of what the threads of a run do.
+
+pub use Rattle.gn_bodies.specs.Ends
+pub use Rattle.gn_bodies.specs.Events
+pub use Rattle.gn_bodies.specs.Jobs
+pub use Rattle.gn_bodies.specs.Offers
+pub use Rattle.gn_bodies.specs.ReaderRows
+pub use Rattle.gn_bodies.specs.Written

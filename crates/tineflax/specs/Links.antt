@@ -1,0 +1,5 @@
+-- The definitions of links over memory and over TCP.
+
+pub use Rattle.gn_links.specs.Halves
+pub use Rattle.gn_links.specs.Memory
+pub use Rattle.gn_tcp.specs.Tcp

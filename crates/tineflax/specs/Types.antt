@@ -1,0 +1,36 @@
+-- The types that contracts speak of, with their variants, as they are declared.
+
+pub use Rattle.gn_wire.specs.declared.kind.Kind
+pub use Rattle.gn_wire.specs.declared.key.Key
+pub use Rattle.gn_wire.specs.declared.header.Header
+pub use Rattle.gn_wire.specs.declared.header.FrameFault
+pub use Rattle.gn_payload.specs.declared.pong.Pong
+pub use Rattle.gn_payload.specs.declared.push.Push
+pub use Rattle.gn_payload.specs.declared.checked.Verdict
+pub use Rattle.gn_payload.specs.declared.refusal.WriteRefusal
+pub use Rattle.gn_shake.specs.declared.role.Role
+pub use Rattle.gn_shake.specs.declared.shake.ShakeState
+pub use Rattle.gn_rules.specs.declared.config.Config
+pub use Rattle.gn_rules.specs.declared.event.Event
+pub use Rattle.gn_rules.specs.declared.reply.Reply
+pub use Rattle.gn_rules.specs.declared.reply.DropReason
+pub use Rattle.gn_rules.specs.declared.sends.Sending
+pub use Rattle.gn_rules.specs.declared.receipt.Step
+pub use Rattle.gn_rules.specs.declared.receipt.Receipt
+pub use Rattle.gn_rules.specs.declared.refusal.Refusal
+pub use Rattle.gn_rules.specs.declared.legality.Legality
+pub use Rattle.gn_rules.specs.declared.statistics.Stats
+pub use Rattle.gn_tables.specs.declared.flights.Flight
+pub use Rattle.gn_stage.specs.declared.settle.StageFault
+pub use Rattle.gn_service.specs.declared.mark.Door
+pub use Rattle.gn_service.specs.declared.next.Next
+pub use Rattle.gn_bodies.specs.declared.ends.ReaderEnd
+pub use Rattle.gn_bodies.specs.declared.ends.WriterEnd
+pub use Rattle.gn_bodies.specs.declared.ends.BodyFault
+pub use Rattle.gn_threads.specs.declared.fault.RunFault
+pub use Rattle.gn_serve.specs.declared.fault.ServeFault
+pub use Rattle.gn_text.specs.declared.fault.CaptureFault
+pub use Rattle.gn_text.specs.declared.fault.CaptureRefusal
+pub use Rattle.gn_text.specs.declared.fault.Cause
+pub use Rattle.gn_replay.specs.declared.fault.ReplayFault
+pub use Rattle.gn_load.specs.declared.fault.LoadFault

@@ -1,0 +1,139 @@
+//! Tineflax as one library: the public surface of its crates by subject, so that a program names this crate alone. The
+//! definitions that its contracts cite stand by the same subjects in specs/.
+#![tactic(auto)]
+
+#[cfg(test)]
+mod worked;
+
+/// IDs, headers and descriptors, and their encodings.
+pub mod wire {
+    pub use bytes::Bytes;
+    pub use gn_wire::{
+        Descriptor, FrameFault, Guid, HEADER_BYTES, Header, Key, Kind, encodings_part,
+        headers_return, length_fault, read_header, same_is_equal, write_header,
+    };
+}
+
+/// The payloads of Pong, Query, Query Hit and Push, read and written.
+pub mod payload {
+    pub use gn_payload::{
+        Checked, HitResult, Pong, Push, Query, QueryHit, Results, Verdict, WriteRefusal,
+        one_reading, read_hit, read_pong, read_push, read_query, sound_is_read, write_hit,
+        write_pong, write_push, write_query,
+    };
+}
+
+/// The greeting, and a link's role in it.
+pub mod greeting {
+    pub use gn_shake::{
+        Role, Shake, ShakeState, Shaken, consent, greeting_is_known, pieces_are_one_stream, request,
+    };
+}
+
+/// Whole descriptors, put together from the pieces of a stream.
+pub mod frames {
+    pub use gn_frames::{
+        Fed, FeedRefusal, Reassembler, frames_are_cut, frames_are_one, pieces_are_one_stream,
+    };
+}
+
+/// Configurations, events, replies and steps, and what every router promises.
+pub mod rules {
+    pub use gn_rules::{
+        BadConfig, Config, ConnId, Counter, DropReason, Event, Field, Legality, Own, Receipt,
+        Refusal, Reply, RouterCore, Sending, Sends, Stats, Step, Ticket, answers_fit,
+        checked_answers_fit, counters_add_up, counters_count, live_connections_rise, may_originate,
+        output_is_untaken, run_events, runs_agree, runs_agree_so_far, runs_stay_legal,
+        servent_route_is_last,
+    };
+}
+
+/// Laws of whole histories.
+pub mod laws {
+    pub use gn_laws::{
+        admitted_once, closed_stays_closed, connections_count, drained_took_all,
+        equal_counts_route_all, links_agree, nothing_after_close, packets_go_to_live,
+        queued_is_taken_and_waiting, routed_once, routes_are_replied, tickets_count,
+    };
+}
+
+/// The router with tables, the one that searches its history, and whether a history is legal.
+pub mod router {
+    pub use gn_plain::{PlainRouter, legal};
+    pub use gn_router::TableRouter;
+}
+
+/// The tables of a router.
+pub mod tables {
+    pub use gn_tables::{Flight, Flights, Neighbours, SeenTable, ServentTable};
+}
+
+/// The stage queue between readers and workers.
+pub mod stage {
+    pub use gn_stage::{
+        Desk, Intake, IntakeHome, Job, Outlet, OutletHome, Settled, Site, Stage, StageFault,
+        Unsettled, queue_is_bounded,
+    };
+}
+
+/// The router under its lock, and the actors that call it.
+pub mod service {
+    pub use gn_service::{Actor, Door, Hub, Mark, Next, Service, ServiceFault};
+}
+
+/// Links over memory and over TCP.
+pub mod links {
+    pub use gn_links::{
+        Gate, Link, LinkFault, LinkReader, LinkWriter, MemoryLink, MemoryReader, MemoryWriter,
+        NoGate,
+    };
+    pub use gn_tcp::{TcpLink, TcpReader, TcpWriter, listen};
+}
+
+/// What the threads of a run do.
+pub mod bodies {
+    pub use gn_bodies::{
+        BodyFault, ReaderDone, ReaderEnd, WorkerDone, WriterDone, WriterEnd, reader_body,
+        worker_body, writer_body,
+    };
+}
+
+/// Runs of many threads, and their reports.
+pub mod run {
+    pub use gn_run::{LinkReport, Report};
+    pub use gn_serve::{ServeFault, serve_history, serve_on};
+    pub use gn_threads::{Arrivals, RunFault, run, run_arriving};
+}
+
+/// Sources and sinks of bytes.
+pub mod streams {
+    pub use gn_io::{
+        InputFault, IoFault, Nowhere, ReaderSource, Sink, Source, WriterSink, read_input, write_all,
+    };
+}
+
+/// Captures and histories as texts.
+pub mod capture {
+    pub use gn_capture::{
+        Capture, CaptureFault, CaptureRefusal, Cause, HistorySteps, Line, LocalRequest, PieceBytes,
+        open_history, read_capture, read_history, read_is_encoded, write_history, written_is_read,
+    };
+}
+
+/// Captures replayed, and histories audited.
+pub mod replay {
+    pub use gn_replay::{
+        Exit, ReplayFault, Replayed, audit, audit_explained, play, replay, replay_history,
+        replay_text_is_one,
+    };
+}
+
+/// The links of a capture, run by many threads.
+pub mod load {
+    pub use gn_load::{LoadFault, links_of, load};
+}
+
+/// A whole command line of `gn`.
+pub mod program {
+    pub use gn_program::command;
+}
