@@ -1,4 +1,4 @@
-//! Streams of descriptors, cut as they may come.
+//! Streams of descriptors: a hundred of them, the longest one, and what stands before a fault or a refusal.
 
 use gn_fixtures::PING;
 use gn_frames::*;
@@ -34,71 +34,6 @@ fn encoded<A: Allocator + Copy, B: Allocator>(
         descriptor.write_to(&mut bytes)?;
     }
     Ok(bytes)
-}
-
-#[test]
-fn cut_descriptors(rt: HostRuntime) -> Result<(), Fail> {
-    let query = header(0x80, [4, 0, 0, 0]);
-    let mut reassembler = Reassembler::new(rt.alloc())?;
-    let pieces = [
-        (&PING[..22], 0),
-        (&PING[22..], 1),
-        (query.as_slice(), 0),
-        (b"\x00".as_slice(), 0),
-        (b"\x00".as_slice(), 0),
-        (b"\x78".as_slice(), 0),
-        (b"\x00".as_slice(), 1),
-        (b"".as_slice(), 0),
-        (
-            b"\xa2\xa2\xa2\xa2\xa2\xa2\xa2\xa2\xa2\xa2\xa2\xa2\xa2\xa2\xa2\xa2\x00\x07\x00\x00\x00\x00\x00\xa3\xa3\xa3\xa3\xa3\xa3\xa3\xa3\xa3\xa3\xa3\xa3\xa3\xa3\xa3\xa3\x00\x07\x00\x00\x00\x00\x00".as_slice(),
-            2,
-        ),
-    ];
-    for (piece, whole) in pieces {
-        let fed = reassembler.feed(piece)?;
-        assert_eq!(rt; fed.descriptors.len(), whole);
-        assert_eq!(rt; fed.fault, None);
-    }
-    Ok(())
-}
-
-#[test]
-fn each_cut(rt: HostRuntime) -> Result<(), Fail> {
-    for at in 0..=HIT.len() {
-        let (head, back) = HIT.split_at(at);
-        let mut reassembler = Reassembler::new(rt.alloc())?;
-        let first = reassembler.feed(head)?;
-        let second = reassembler.feed(back)?;
-        let whole = if at == HIT.len() { &first } else { &second };
-        assert_eq!(rt;
-            first.descriptors.len() + second.descriptors.len(),
-            1,
-            "at {at}"
-        );
-        assert_eq!(rt;
-            encoded(rt.alloc(), &whole.descriptors)?.as_slice(),
-            HIT,
-            "at {at}"
-        );
-        assert_eq!(rt; reassembler.pending(), 0, "at {at}");
-    }
-    Ok(())
-}
-
-#[test]
-fn one_byte_a_piece(rt: HostRuntime) -> Result<(), Fail> {
-    let mut reassembler = Reassembler::new(rt.alloc())?;
-    for (i, byte) in HIT.iter().enumerate() {
-        assert_eq!(rt; reassembler.pending(), i);
-        let fed = reassembler.feed(&[*byte])?;
-        assert_eq!(rt; fed.fault, None);
-        if i + 1 == HIT.len() {
-            assert_eq!(rt; encoded(rt.alloc(), &fed.descriptors)?.as_slice(), HIT);
-        } else {
-            assert_eq!(rt; fed.descriptors.len(), 0, "at {i}");
-        }
-    }
-    Ok(())
 }
 
 #[test]
@@ -192,34 +127,6 @@ fn longest_payload(rt: HostRuntime) -> Result<(), Fail> {
     assert_eq!(rt; fed.descriptors.len(), 1);
     assert_eq!(rt; fed.descriptors[0].payload().len(), 65_536);
     assert_eq!(rt; reassembler.pending(), 22);
-    Ok(())
-}
-
-#[test]
-fn invalid_lengths(rt: HostRuntime) -> Result<(), Fail> {
-    let faults = [
-        (0x00, [1, 0, 0, 0], FrameFault::FixedLength(Kind::Ping, 1)),
-        (0x01, [13, 0, 0, 0], FrameFault::FixedLength(Kind::Pong, 13)),
-        (0x40, [27, 0, 0, 0], FrameFault::FixedLength(Kind::Push, 27)),
-        (
-            0x00,
-            [1, 0, 1, 0],
-            FrameFault::FixedLength(Kind::Ping, 65_537),
-        ),
-        (0x80, [1, 0, 1, 0], FrameFault::TooLong(65_537)),
-        (0x81, [1, 0, 1, 0], FrameFault::TooLong(65_537)),
-        (0x31, [0, 0, 0, 1], FrameFault::TooLong(16_777_216)),
-    ];
-    for (code, length, fault) in faults {
-        for at in [0, 5, 22] {
-            let bytes = header(code, length);
-            let (head, back) = bytes.split_at(at);
-            let mut reassembler = Reassembler::new(rt.alloc())?;
-            assert_eq!(rt; reassembler.feed(head)?.fault, None);
-            assert_eq!(rt; reassembler.feed(back)?.fault, Some(fault));
-            assert_eq!(rt; reassembler.pending(), 0);
-        }
-    }
     Ok(())
 }
 

@@ -2,7 +2,7 @@
 
 use gn_fixtures::{OWN, ping};
 use gn_plain::{PlainRouter, legal};
-use gn_rules::{Config, Event, Legality, Own, RouterCore, Step, is_same_reply};
+use gn_rules::{Config, Event, Legality, Own, RouterCore, Step};
 use std::alloc::Global;
 use std::test::Fail;
 
@@ -48,17 +48,6 @@ fn the_first_wrong_step_is_found(rt: HostRuntime) -> Result<(), Fail> {
     for (config, first, wanted) in &rows {
         let judged = steps.get(*first..).ok_or("so many steps")?;
         assert_eq!(rt; legal(config, judged), *wanted);
-    }
-    Ok(())
-}
-
-#[test]
-fn replies_are_compared(rt: HostRuntime) -> Result<(), Fail> {
-    let steps = history(rt.alloc())?;
-    for (i, step) in steps.iter().enumerate() {
-        for (j, other) in steps.iter().enumerate() {
-            assert_eq!(rt; is_same_reply(&step.reply, &other.reply), i == j);
-        }
     }
     Ok(())
 }

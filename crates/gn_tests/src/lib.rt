@@ -2,19 +2,11 @@
 #![tactic(auto)]
 
 #[cfg(test)]
-mod answers;
-#[cfg(test)]
-mod decisions;
-#[cfg(test)]
 mod frames;
-#[cfg(test)]
-mod laws;
 #[cfg(test)]
 mod legality;
 #[cfg(test)]
 mod payload;
-#[cfg(test)]
-mod router;
 #[cfg(test)]
 mod rules;
 #[cfg(test)]

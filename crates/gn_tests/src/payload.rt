@@ -1,34 +1,11 @@
-//! Payloads byte for byte, both ways: each kind's short forms, a Query Hit of two results, and what is refused.
+//! Payloads byte for byte, both ways: a Push, Queries and Query Hits, and what is refused.
 
-use bytes::Bytes;
 use gn_payload::*;
-use gn_wire::{Descriptor, Guid, Kind};
+use gn_wire::Guid;
 use std::alloc::{AllocError, Allocator};
 use std::test::Fail;
 
 const SERVENT: Guid = Guid([0x5e; 16]);
-
-/// A Pong of another servent, and a router's own.
-const PONGS: [([u8; 14], Pong); 2] = [
-    (
-        [1, 0, 127, 0, 0, 2, 1, 0, 0, 0, 2, 0, 0, 0],
-        Pong {
-            port: 1,
-            ip: [127, 0, 0, 2],
-            files: 1,
-            kbytes: 2,
-        },
-    ),
-    (
-        [0xca, 0x18, 127, 0, 0, 1, 5, 0, 0, 0, 0x28, 0, 0, 0],
-        Pong {
-            port: 6346,
-            ip: [127, 0, 0, 1],
-            files: 5,
-            kbytes: 40,
-        },
-    ),
-];
 
 /// The payload of a Push to the servent whose ID is `5e` sixteen times.
 const PUSH: [u8; 26] = [
@@ -72,18 +49,6 @@ fn listed<'a, A: Allocator>(alloc: A, hit: &QueryHit<'a>) -> Result<Vec<HitResul
         results.push(result)?;
     }
     Ok(results)
-}
-
-#[test]
-fn pongs(rt: HostRuntime) -> Result<(), Fail> {
-    for (bytes, pong) in PONGS {
-        assert_eq!(rt; read_pong(&bytes), Some(pong));
-        let mut out = Vec::new(rt.alloc());
-        write_pong(&pong, &mut out)?;
-        assert_eq!(rt; out.as_slice(), &bytes[..]);
-        assert_eq!(rt; read_pong(&bytes[..13]), None);
-    }
-    Ok(())
 }
 
 #[test]
@@ -161,30 +126,6 @@ fn hits(rt: HostRuntime) -> Result<(), Fail> {
 }
 
 #[test]
-fn results_that_do_not_fit(rt: HostRuntime) -> Result<(), Fail> {
-    let least = [0u8; 10];
-    let most = [0u8; 2550];
-    let cases: [(u8, &[u8], bool); 6] = [
-        (1, b"", false),
-        (1, &least[..9], false),
-        (1, &least, true),
-        (2, &least, false),
-        (255, &most, true),
-        (255, &most[1..], false),
-    ];
-    for (count, middle, fits) in cases {
-        let payload = hit_payload(rt.alloc(), count, middle)?;
-        let found = match read_hit(&payload) {
-            Some(hit) => Some((hit.hits(), listed(rt.alloc(), &hit)?.len())),
-            None => None,
-        };
-        assert_eq!(rt; found, fits.then_some((count, usize::from(count))));
-    }
-    assert!(rt; read_hit(&[0; 26]).is_none());
-    Ok(())
-}
-
-#[test]
 fn refused_queries(rt: HostRuntime) -> Result<(), Fail> {
     let long = [b'x'; 65_534];
     let cases: [(&[u8], &[u8], Result<(), WriteRefusal>); 5] = [
@@ -237,35 +178,4 @@ fn refused_hits(rt: HostRuntime) -> Result<(), Fail> {
         assert_eq!(rt; out.len(), if wanted.is_ok() { 65_536 } else { 0 });
     }
     Ok(())
-}
-
-#[test]
-fn verdicts(rt: HostRuntime) -> Result<(), Fail> {
-    let cases: [(Kind, &[u8], Verdict); 8] = [
-        (Kind::Ping, b"", Verdict::Sound),
-        (Kind::Pong, &PONGS[0].0, Verdict::Sound),
-        (Kind::Push, &PUSH, Verdict::Sound),
-        (Kind::Query, b"\0\0x\0", Verdict::Sound),
-        (Kind::Query, b"\0\0x", Verdict::Malformed),
-        (Kind::QueryHit, &[0; 27], Verdict::Sound),
-        (Kind::QueryHit, &[1; 27], Verdict::Malformed),
-        (Kind::Unknown(0x31), b"\xab\xcd", Verdict::UnknownKind),
-    ];
-    for (kind, payload, verdict) in cases {
-        let bytes = Bytes::copy_from_slice(rt.alloc(), payload)?;
-        let Ok(descriptor) = Descriptor::new(SERVENT, kind, 7, 0, bytes) else {
-            return Err("a valid length".into());
-        };
-        let checked = Checked::new(descriptor);
-        assert_eq!(rt; checked.verdict(), verdict);
-        assert_eq!(rt; checked.descriptor().kind(), kind);
-        assert_eq!(rt; checked.into_descriptor().payload().as_slice(), payload);
-    }
-    Ok(())
-}
-
-#[test]
-fn laws() {
-    one_reading();
-    sound_is_read();
 }

@@ -1,4 +1,4 @@
-//! The two texts, the greeting at each of its cuts, and what is refused.
+//! The two texts, and the greeting at each of its cuts.
 
 use gn_shake::*;
 
@@ -55,35 +55,6 @@ fn each_cut(rt: HostRuntime) {
             assert_eq!(rt; first.used, used.min(at), "at {at}");
             assert_eq!(rt; second.used, used - used.min(at), "at {at}");
             assert_eq!(rt; second.state, state, "at {at}");
-        }
-    }
-}
-
-#[test]
-fn one_byte_a_piece(rt: HostRuntime) {
-    let mut shake = Shake::accepting();
-    for (i, byte) in GREETED.iter().enumerate() {
-        let fed = shake.feed(&[*byte]);
-        assert_eq!(rt; fed.used, usize::from(i < 22), "at {i}");
-        assert_eq!(rt;
-            fed.state,
-            if i < 21 {
-                ShakeState::More
-            } else {
-                ShakeState::Done
-            },
-            "at {i}"
-        );
-    }
-}
-
-#[test]
-fn what_is_over_stays_over(rt: HostRuntime) {
-    for (stream, state) in [(CONNECT, ShakeState::Done), (OK, ShakeState::Refused)] {
-        let mut shake = Shake::accepting();
-        shake.feed(stream);
-        for piece in [b"\x00".as_slice(), b"".as_slice(), CONNECT] {
-            assert_eq!(rt; shake.feed(piece), Shaken { used: 0, state });
         }
     }
 }

@@ -46,19 +46,6 @@ impl<A: Allocator> Write for Faltering<A> {
 }
 
 #[test]
-fn memory_is_read_and_written(rt: HostRuntime) -> Result<(), Fail> {
-    let alloc = rt.alloc();
-    let input = read_input(alloc, &mut ReaderSource::new(b"ping".as_slice()));
-    assert_eq!(rt; input.map_err(|_| "read")?.as_slice(), b"ping".as_slice());
-    let mut sink = WriterSink::new(Vec::new(alloc));
-    assert_eq!(rt; write_all(&mut sink, b"po"), Ok(()));
-    assert_eq!(rt; write_all(&mut sink, b""), Ok(()));
-    assert_eq!(rt; write_all(&mut sink, b"ng"), Ok(()));
-    assert_eq!(rt; sink.into_inner().as_slice(), b"pong".as_slice());
-    Ok(())
-}
-
-#[test]
 fn blocks_wait(rt: HostRuntime) -> Result<(), Fail> {
     let alloc = rt.alloc();
     let mut sink = WriterSink::new(Vec::new(alloc));
