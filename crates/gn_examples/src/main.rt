@@ -1,4 +1,4 @@
-//! Each example, as `command` answers it, compared with the file beside it that has what is wanted.
+//! Each example and each case, as `command` answers it, compared with the files that have what is wanted.
 #![tactic(auto)]
 
 use gn_io::{ReaderSource, WriterSink};
@@ -30,68 +30,28 @@ const CAPTURES: [&str; 13] = [
 /// The captures whose links are run by four workers.
 const LOADS: [&str; 1] = ["six_links"];
 
-/// An audit: what it is called, its words, the history that it reads, its status, and the file of what it prints.
-type Audit = (
-    &'static str,
-    &'static [&'static str],
-    &'static str,
-    u8,
-    &'static str,
-);
-
-const AUDITS: [Audit; 4] = [
-    (
-        "audited",
-        &["gn", "audit"],
-        "first_ping.history",
-        0,
-        "first_ping.verdict",
-    ),
-    (
-        "explained",
-        &["gn", "audit", "--explain"],
-        "first_ping.history",
-        0,
-        "first_ping.verdict",
-    ),
-    (
-        "audited",
-        &["gn", "audit"],
-        "wrong_ticket.history",
-        1,
-        "wrong_ticket.verdict",
-    ),
-    (
-        "explained",
-        &["gn", "audit", "--explain"],
-        "wrong_ticket.history",
-        1,
-        "wrong_ticket.explained",
-    ),
-];
+/// What a command answers: its status, what it prints, and the faults that it writes.
+fn answer<R: Threads + Wait + Net<Listener = TcpListener, Stream = TcpStream> + Sync + AllocGlobal>(
+    rt: &R,
+    words: &[&str],
+    input: &[u8],
+) -> (u8, Vec<u8>, Vec<u8>) {
+    let mut reader = ReaderSource::new(input);
+    let mut writer = WriterSink::new(Vec::new(rt.alloc()));
+    let mut faults = WriterSink::new(Vec::new(rt.alloc()));
+    let status = command(rt, rt.alloc(), words, &mut reader, &mut writer, &mut faults);
+    (status, writer.into_inner(), faults.into_inner())
+}
 
 /// What a command printed, where it ended with this status and wrote no fault.
 fn printed<
     R: Threads + Wait + Net<Listener = TcpListener, Stream = TcpStream> + Sync + AllocGlobal,
 >(rt: &R, words: &[&str], input: &[u8], status: u8) -> Option<Vec<u8>> {
-    let mut reader = ReaderSource::new(input);
-    let mut writer = WriterSink::new(Vec::new(rt.alloc()));
-    let mut faults = WriterSink::new(Vec::new(rt.alloc()));
-    let ended = command(rt, rt.alloc(), words, &mut reader, &mut writer, &mut faults);
-    if ended == status && faults.into_inner().is_empty() {
-        Some(writer.into_inner())
+    let (ended, text, faults) = answer(rt, words, input);
+    if ended == status && faults.is_empty() {
+        Some(text)
     } else {
         None
-    }
-}
-
-/// Whether a command prints what is wanted, stated in words.
-fn compared<
-    R: Threads + Wait + Net<Listener = TcpListener, Stream = TcpStream> + Sync + AllocGlobal,
->(rt: &R, words: &[&str], input: &[u8], status: u8, wanted: &[u8]) -> &'static str {
-    match printed(rt, words, input, status) {
-        Some(text) if text.as_slice() == wanted => "as in",
-        _ => "not as in",
     }
 }
 
@@ -125,7 +85,10 @@ fn replay_all<
     for name in CAPTURES {
         let capture = fs::read(rt, &format!(in alloc; "{name}.capture")?)?;
         let wanted = fs::read(rt, &format!(in alloc; "{name}.replay")?)?;
-        let same = compared(rt, &["gn", "replay"], &capture, 0, &wanted);
+        let same = match printed(rt, &["gn", "replay"], &capture, 0) {
+            Some(text) if text.as_slice() == wanted.as_slice() => "as in",
+            _ => "not as in",
+        };
         let legal = judged(rt, &["gn", "replay", "--history"], &capture);
         println!(rt; "{name}.capture: replayed {same} {name}.replay, its history is {legal}")?;
     }
@@ -149,7 +112,39 @@ fn load_all<
     Ok(())
 }
 
-fn audit_all<
+/// The text of a file; `-` stands for the empty one.
+fn text_of<R: Files + AllocGlobal>(rt: &R, name: &str) -> io::Result<Vec<u8>> {
+    if name == "-" {
+        Ok(Vec::new(rt.alloc()))
+    } else {
+        fs::read(rt, name)
+    }
+}
+
+/// Whether a command answers as a case says: by its status, the files of its input, of what is printed and of the faults,
+/// and its words.
+fn is_as_wanted<
+    R: Threads
+        + Wait
+        + Net<Listener = TcpListener, Stream = TcpStream>
+        + Sync
+        + Files
+        + AllocGlobal,
+>(rt: &R, case: &str) -> io::Result<bool> {
+    let fields: Vec<&str> = case.split(' ').collect(rt.alloc())?;
+    let [status, input, printed, faults, words @ ..] = fields.as_slice() else {
+        return Ok(false);
+    };
+    let (ended, text, faulted) = answer(rt, words, text_of(rt, input)?.as_slice());
+    Ok(
+        status.parse::<u8>() == Ok(ended)
+            && text.as_slice() == text_of(rt, printed)?.as_slice()
+            && faulted.as_slice() == text_of(rt, faults)?.as_slice(),
+    )
+}
+
+/// Each case of the table, one a line.
+fn answer_all<
     R: Threads
         + Wait
         + Net<Listener = TcpListener, Stream = TcpStream>
@@ -158,10 +153,14 @@ fn audit_all<
         + Print
         + AllocGlobal,
 >(rt: &R) -> io::Result<()> {
-    for (name, words, input, status, wanted) in AUDITS {
-        let history = fs::read(rt, input)?;
-        let same = compared(rt, words, &history, status, &fs::read(rt, wanted)?);
-        println!(rt; "{input}: {name} {same} {wanted}")?;
+    let cases = fs::read_to_string(rt, "cases/table")?;
+    for case in cases.lines() {
+        let stated = if is_as_wanted(rt, case)? {
+            "as wanted"
+        } else {
+            "not as wanted"
+        };
+        println!(rt; "{case}: {stated}")?;
     }
     Ok(())
 }
@@ -169,5 +168,5 @@ fn audit_all<
 fn main(rt: HostRuntime) -> io::Result<()> {
     replay_all(&rt)?;
     load_all(&rt)?;
-    audit_all(&rt)
+    answer_all(&rt)
 }

@@ -5,7 +5,7 @@ use gn_fixtures::OWN;
 use gn_payload::Checked;
 use gn_plain::PlainRouter;
 use gn_router::TableRouter;
-use gn_rules::{Config, Event, Refusal, Reply, RouterCore, Step};
+use gn_rules::{Config, Event, Refusal, RouterCore};
 use gn_wire::{Descriptor, Guid, Kind};
 use std::alloc::Global;
 use std::process::Abort;
@@ -42,56 +42,4 @@ fn refuses<C: RouterCore<Global> + Drop, R: Abort + AllocGlobal>(rt: &R) -> Resu
 fn refusals_by_call(rt: HostRuntime) -> Result<(), Fail> {
     refuses::<TableRouter, _>(&rt)?;
     refuses::<PlainRouter, _>(&rt)
-}
-
-/// As many connections are made as there may be, and one more is turned away.
-fn connects<C: RouterCore<Global> + Drop, R: Abort + AllocGlobal>(rt: &R) -> Result<(), Fail> {
-    let config = Config::new(64, 65_536, 65_536, 4_096, 4_096, 1_000_000, OWN).map_err(
-        |_| "a configuration",
-    )?;
-    let mut core = C::make(rt.alloc(), &config)?;
-    for number in 1..65u32 {
-        let connected = core.apply(0, &Event::Connect).map_err(|_| "a connection")?;
-        assert!(rt;
-            matches!(connected.reply, Reply::Connected(c) if c == number),
-            "{number}"
-        );
-    }
-    let one_more = core.apply(0, &Event::Connect).map_err(|_| "a refusal")?;
-    assert!(rt; matches!(one_more.reply, Reply::TooMany));
-    Ok(())
-}
-
-#[test]
-fn connections_at_the_limit(rt: HostRuntime) -> Result<(), Fail> {
-    connects::<TableRouter, _>(&rt)?;
-    connects::<PlainRouter, _>(&rt)
-}
-
-/// The step of an event that is entered is the rules' answer to another router too, which adds it; then it is so no more.
-fn repeats<C: RouterCore<Global> + Drop, R: Abort + AllocGlobal>(rt: &R) -> Result<(), Fail> {
-    let config = Config::new(4, 8, 4, 8, 8, 100, OWN).map_err(|_| "a configuration")?;
-    let mut core = C::make(rt.alloc(), &config)?;
-    core.enter(0, &mut Event::Connect)
-        .map_err(|_| "a connection")?;
-    assert!(rt; matches!(core.enter(0, &mut Event::Route(0)), Err(Refusal::NoTicket)));
-    let mut again = C::make(rt.alloc(), &config)?;
-    for mut step in core.into_history() {
-        assert!(rt; again.is_answered(&step));
-        again.add(&mut step)?;
-    }
-    let first = Step {
-        actor: 0,
-        event: Event::Connect,
-        reply: Reply::Connected(1),
-    };
-    assert!(rt; !again.is_answered(&first));
-    assert!(rt; again.history().len() == 1);
-    Ok(())
-}
-
-#[test]
-fn steps_are_repeated(rt: HostRuntime) -> Result<(), Fail> {
-    repeats::<TableRouter, _>(&rt)?;
-    repeats::<PlainRouter, _>(&rt)
 }

@@ -4,11 +4,14 @@ use crate::broken::Broken;
 use gn_io::{ReaderSource, WriterSink};
 use gn_program::{command, refuse_words};
 use gn_tcp::listen;
-use std::io::{self, ErrorKind};
+use std::io::{self, ErrorKind, Read, Write};
+use std::net::{Net, TcpListener, TcpStream};
+use std::sync::Wait;
 use std::test::Fail;
+use std::thread::Threads;
 
 /// Words, the status, and how the output and the written faults begin.
-const ANSWERS: [(&[&str], u8, &str, &str); 27] = [
+const ANSWERS: [(&[&str], u8, &str, &str); 21] = [
     (&["gn", "--version"], 0, "gn 0.1.0\n", ""),
     (&["gn", "--help"], 0, "Tineflax, a packet router", ""),
     (&["gn", "replay", "--help"], 0, "Reads a capture,", ""),
@@ -16,20 +19,6 @@ const ANSWERS: [(&[&str], u8, &str, &str); 27] = [
     (&["gn"], 2, "", "error: 'gn' requires a subcommand"),
     (&["gn", "route"], 2, "", "error: unrecognized subcommand"),
     (&["gn", "replay", "x"], 2, "", "error: unexpected argument"),
-    (&["gn", "replay"], 1, "", "fault: line 1: header\n"),
-    (
-        &["gn", "replay", "--history"],
-        1,
-        "",
-        "fault: line 1: header\n",
-    ),
-    (&["gn", "audit", "--"], 1, "", "fault: line 1: header\n"),
-    (
-        &["gn", "audit", "--explain"],
-        1,
-        "",
-        "fault: line 1: header\n",
-    ),
     (
         &["gn", "replay", "--explain"],
         2,
@@ -52,18 +41,6 @@ const ANSWERS: [(&[&str], u8, &str, &str); 27] = [
     (&["gn", "load", "--workers", "0"], 2, "", BAD_WORKERS),
     (&["gn", "load", "--workers", "17"], 2, "", BAD_WORKERS),
     (&["gn", "load", "--workers", "+4"], 2, "", BAD_WORKERS),
-    (
-        &["gn", "load", "--workers", "4"],
-        1,
-        "",
-        "fault: line 1: header\n",
-    ),
-    (
-        &["gn", "load", "--workers=16"],
-        1,
-        "",
-        "fault: line 1: header\n",
-    ),
     (&["gn", "serve", "--help"], 0, "Routes for peers", ""),
     (
         &["gn", "serve"],
@@ -147,23 +124,26 @@ fn begins(text: &[u8], wanted: &str) -> bool {
     text.starts_with(wanted.as_bytes()) && text.is_empty() == wanted.is_empty()
 }
 
+/// What a command answers that reads from here and writes there: its status, where it wrote, and the faults that it wrote.
+fn answer<
+    R: Threads + Wait + Net<Listener = TcpListener, Stream = TcpStream> + Sync + AllocGlobal,
+    I: Read + Drop,
+    O: Write + Drop,
+>(rt: &R, words: &[&str], input: I, output: O) -> (u8, O, Vec<u8>) {
+    let mut reader = ReaderSource::new(input);
+    let mut writer = WriterSink::new(output);
+    let mut faults = WriterSink::new(Vec::new(rt.alloc()));
+    let status = command(rt, rt.alloc(), words, &mut reader, &mut writer, &mut faults);
+    (status, writer.into_inner(), faults.into_inner())
+}
+
 #[test]
 fn words(rt: HostRuntime) {
     for (words, status, printed, faulted) in ANSWERS {
-        let mut reader = ReaderSource::new(b"".as_slice());
-        let mut writer = WriterSink::new(Vec::new(rt.alloc()));
-        let mut faults = WriterSink::new(Vec::new(rt.alloc()));
-        let found = command(
-            &rt,
-            rt.alloc(),
-            words,
-            &mut reader,
-            &mut writer,
-            &mut faults,
-        );
-        assert_eq!(rt; found, status, "{words:?}");
-        assert!(rt; begins(&writer.into_inner(), printed), "{words:?}");
-        assert!(rt; begins(&faults.into_inner(), faulted), "{words:?}");
+        let (ended, text, faults) = answer(&rt, words, b"".as_slice(), Vec::new(rt.alloc()));
+        assert_eq!(rt; ended, status, "{words:?}");
+        assert!(rt; begins(&text, printed), "{words:?}");
+        assert!(rt; begins(&faults, faulted), "{words:?}");
     }
 }
 
@@ -172,67 +152,39 @@ fn words(rt: HostRuntime) {
 fn port_that_isnt_had(rt: HostRuntime) -> Result<(), Fail> {
     let _listener = listen(&rt, 46349).map_err(|_| "a listener")?;
     let words = ["gn", "serve", "--port=46349", "--accept=0", "--workers=1"];
-    let mut reader = ReaderSource::new(b"".as_slice());
-    let mut writer = WriterSink::new(Vec::new(rt.alloc()));
-    let mut faults = WriterSink::new(Vec::new(rt.alloc()));
-    let status = command(
-        &rt,
-        rt.alloc(),
-        &words,
-        &mut reader,
-        &mut writer,
-        &mut faults,
-    );
+    let (status, text, faults) = answer(&rt, &words, b"".as_slice(), Vec::new(rt.alloc()));
     assert_eq!(rt; status, 1);
-    assert!(rt; writer.into_inner().is_empty());
-    assert_eq!(rt;
-        faults.into_inner().as_slice(),
-        b"fault: listen\n".as_slice()
-    );
+    assert!(rt; text.is_empty());
+    assert_eq!(rt; faults.as_slice(), b"fault: listen\n".as_slice());
     Ok(())
 }
 
+/// An input that fails, and one that is a byte too large.
 #[test]
 fn input_fails(rt: HostRuntime) {
-    let mut reader = ReaderSource::new(Broken);
-    let mut writer = WriterSink::new(Vec::new(rt.alloc()));
-    let mut faults = WriterSink::new(Vec::new(rt.alloc()));
-    let words = ["gn", "audit"];
-    let status = command(
-        &rt,
-        rt.alloc(),
-        &words,
-        &mut reader,
-        &mut writer,
-        &mut faults,
-    );
-    assert_eq!(rt; status, 1);
-    assert!(rt; writer.into_inner().is_empty());
-    assert_eq!(rt;
-        faults.into_inner().as_slice(),
-        b"fault: input failed\n".as_slice()
-    );
+    let failed = answer(&rt, &["gn", "audit"], Broken, Vec::new(rt.alloc()));
+    let many = io::repeat(b'#').take(67_108_865);
+    let large = answer(&rt, &["gn", "replay"], many, Vec::new(rt.alloc()));
+    for ((status, text, faults), fault) in [
+        (failed, b"fault: input failed\n".as_slice()),
+        (large, b"fault: input too large\n"),
+    ] {
+        assert_eq!(rt; status, 1);
+        assert!(rt; text.is_empty());
+        assert_eq!(rt; faults.as_slice(), fault);
+    }
 }
 
 #[test]
 fn output_fails(rt: HostRuntime) {
-    for words in [["gn", "replay"], ["gn", "--help"]] {
-        let mut reader = ReaderSource::new(JOINED.as_bytes());
-        let mut writer = WriterSink::new(Broken);
-        let mut faults = WriterSink::new(Vec::new(rt.alloc()));
-        let status = command(
-            &rt,
-            rt.alloc(),
-            &words,
-            &mut reader,
-            &mut writer,
-            &mut faults,
-        );
+    for (words, input) in [
+        (["gn", "replay"], JOINED),
+        (["gn", "audit"], SERVED),
+        (["gn", "--help"], ""),
+    ] {
+        let (status, _, faults) = answer(&rt, &words, input.as_bytes(), Broken);
         assert_eq!(rt; status, 1);
-        assert_eq!(rt;
-            faults.into_inner().as_slice(),
-            b"fault: output failed\n".as_slice()
-        );
+        assert_eq!(rt; faults.as_slice(), b"fault: output failed\n".as_slice());
     }
 }
 
@@ -269,44 +221,4 @@ fn words_that_arent_had(rt: HostRuntime) {
         assert_eq!(rt; refuse_words(&io::Error::from(kind), &mut faults), status);
         assert_eq!(rt; faults.into_inner().as_slice(), faulted);
     }
-}
-
-/// Captures, the status of their load by two workers, how its history begins, and the line of its fault.
-const LOADS: [(&str, u8, &str, &str); 3] = [
-    ("", 0, "gnutella-history 1\nconfig 4 8 4 8 8 100\nown e", ""),
-    (
-        "data 1 a1a1a1a1a1a1a1a1a1a1a1a1a1a1a1a100070000000000\n",
-        0,
-        "gnutella-history 1\nconfig 4 8 4 8 8 100\nown e",
-        "",
-    ),
-    (
-        "join\n# the ticket\nroute 0\n",
-        1,
-        "",
-        "fault: line 7: load\n",
-    ),
-];
-
-#[test]
-fn loads(rt: HostRuntime) -> Result<(), Fail> {
-    let words = ["gn", "load", "--workers", "2"];
-    for (lines, status, printed, faulted) in LOADS {
-        let text = format!(in rt.alloc(); "{JOINED}{lines}")?;
-        let mut reader = ReaderSource::new(text.as_bytes());
-        let mut writer = WriterSink::new(Vec::new(rt.alloc()));
-        let mut faults = WriterSink::new(Vec::new(rt.alloc()));
-        let found = command(
-            &rt,
-            rt.alloc(),
-            &words,
-            &mut reader,
-            &mut writer,
-            &mut faults,
-        );
-        assert_eq!(rt; found, status, "{lines}");
-        assert!(rt; begins(&writer.into_inner(), printed), "{lines}");
-        assert!(rt; begins(&faults.into_inner(), faulted), "{lines}");
-    }
-    Ok(())
 }

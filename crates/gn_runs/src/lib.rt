@@ -4,15 +4,11 @@
 #[cfg(test)]
 mod answer_runs;
 #[cfg(test)]
-mod audits;
-#[cfg(test)]
 mod broken;
 #[cfg(test)]
 mod calls;
 #[cfg(test)]
 mod command_line;
-#[cfg(test)]
-mod commands;
 #[cfg(test)]
 mod compare;
 #[cfg(test)]
