@@ -4,7 +4,11 @@
 #[cfg(test)]
 mod captures;
 #[cfg(test)]
+mod faults;
+#[cfg(test)]
 mod fields;
+#[cfg(test)]
+mod headers;
 #[cfg(test)]
 mod histories;
 #[cfg(test)]
