@@ -55,6 +55,16 @@ fn printed<
     }
 }
 
+/// Whether a command prints what is wanted, stated in words.
+fn compared<
+    R: Threads + Wait + Net<Listener = TcpListener, Stream = TcpStream> + Sync + AllocGlobal,
+>(rt: &R, words: &[&str], input: &[u8], status: u8, wanted: &[u8]) -> &'static str {
+    match printed(rt, words, input, status) {
+        Some(text) if text.as_slice() == wanted => "as in",
+        _ => "not as in",
+    }
+}
+
 /// Whether the history that a command prints of a capture is legal, stated in words.
 fn judged<R: Threads + Wait + Net<Listener = TcpListener, Stream = TcpStream> + Sync + AllocGlobal>(
     rt: &R,
@@ -85,10 +95,7 @@ fn replay_all<
     for name in CAPTURES {
         let capture = fs::read(rt, &format!(in alloc; "{name}.capture")?)?;
         let wanted = fs::read(rt, &format!(in alloc; "{name}.replay")?)?;
-        let same = match printed(rt, &["gn", "replay"], &capture, 0) {
-            Some(text) if text.as_slice() == wanted.as_slice() => "as in",
-            _ => "not as in",
-        };
+        let same = compared(rt, &["gn", "replay"], &capture, 0, &wanted);
         let legal = judged(rt, &["gn", "replay", "--history"], &capture);
         println!(rt; "{name}.capture: replayed {same} {name}.replay, its history is {legal}")?;
     }
