@@ -87,12 +87,11 @@ impl LinkWriter for TcpWriter {
         answer
     }
 
-    /// Says to the peer that no more bytes come, and ends the wait of the reader for what the peer might still send.
+    /// Says to the peer that no more bytes come.
     fn finish<R: Wait>(&mut self, _rt: &R) {
         if let Some(stream) = &self.stream {
-            // A writer finishes where its connection is closed, was never opened, or the run has failed: what its reader might
-            // still hear would be refused. It fails where the peer is gone, who needs no word then.
-            let _ = stream.shutdown(Shutdown::Both);
+            // It fails where the peer is gone, who needs no word then.
+            let _ = stream.shutdown(Shutdown::Write);
         }
         self.stream = None;
     }

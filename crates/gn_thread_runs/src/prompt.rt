@@ -1,4 +1,4 @@
-//! Runs over the loopback that wait for nobody: small packets go out at once, and a run that has failed lets its peers go.
+//! A run over the loopback in which small packets go out at once.
 
 use gn_fixtures::usual;
 use gn_links::NoGate;
@@ -91,32 +91,5 @@ fn no_packet_waits_for_another(rt: HostRuntime) -> Result<(), Fail> {
     let took = begun.elapsed(net)?;
     assert_eq!(rt; (clients, fault), (true, None));
     assert!(rt; took < Duration::from_secs(1));
-    Ok(())
-}
-
-/// A caller that says nothing after its greeting, beside one that fills the history; both stay.
-fn silent_and_loud<N: Net<Listener = TcpListener, Stream = TcpStream>>(
-    net: &N,
-    at: SocketAddr,
-) -> io::Result<(TcpStream, TcpStream)> {
-    let silent = greeted(net, at)?;
-    let mut loud = greeted(net, at)?;
-    loud.write_all(&ping(1))?;
-    loud.write_all(&ping(2))?;
-    Ok((silent, loud))
-}
-
-#[test]
-fn a_full_history_lets_a_silent_peer_go(rt: HostRuntime) -> Result<(), Fail> {
-    let listener = listen(&rt, 0).map_err(|_| "a listener")?;
-    let at = listener.local_addr()?;
-    let (listener, net) = (&listener, &rt);
-    let (peers, fault) = thread::join(
-        net,
-        move || silent_and_loud(net, at).ok(),
-        move || serve_two(net, net.alloc(), listener, 3),
-    );
-    assert!(rt; peers.is_some());
-    assert_eq!(rt; fault, Some(RunFault::HistoryFull));
     Ok(())
 }

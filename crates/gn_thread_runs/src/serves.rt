@@ -218,36 +218,35 @@ fn a_peer_is_called(rt: HostRuntime) -> Result<(), Fail> {
     Ok(())
 }
 
-/// A peer that is called, hears the end, and stays: the run doesn't wait for it.
-fn is_let_go(listener: &TcpListener) -> io::Result<Option<TcpStream>> {
+/// A peer that is called, and waits for the end.
+fn is_let_go(listener: &TcpListener) -> io::Result<bool> {
     let (mut caller, _) = listener.accept()?;
     let mut good = hears(&mut caller, gn_shake::request())?;
     good &= hears_the_end(&mut caller)?;
-    Ok(good.then_some(caller))
+    Ok(good)
 }
 
-/// A peer that is called before one that isn't there, and whether it saw what it should.
+/// A peer that is called before one that isn't there, and what it saw.
 fn one_is_missing<R: Threads + Wait + Net<Listener = TcpListener, Stream = TcpStream> + Sync>(
     rt: &R,
     alloc: Global,
-) -> Result<(bool, Served), Fail> {
+) -> Result<(Option<bool>, Served), Fail> {
     let listener = listen(rt, 0).map_err(|_| "a listener")?;
     let theirs = listen(rt, 0).map_err(|_| "a listener")?;
     let nobody = listen(rt, 0).map_err(|_| "a listener")?.local_addr()?;
     let at = [theirs.local_addr()?, nobody];
     let (listener, theirs, at) = (&listener, &theirs, &at);
-    let (peer, served) = thread::join(
+    Ok(thread::join(
         rt,
-        move || is_let_go(theirs).ok().flatten(),
+        move || is_let_go(theirs).ok(),
         move || serve(rt, alloc, listener, 1, at.as_slice()),
-    );
-    Ok((peer.is_some(), served))
+    ))
 }
 
 #[test]
 fn a_peer_that_is_not_there_ends_the_run(rt: HostRuntime) -> Result<(), Fail> {
     let (good, served) = one_is_missing(&rt, rt.alloc())?;
-    assert!(rt; good);
+    assert_eq!(rt; good, Some(true));
     assert_eq!(rt; served.err(), Some(RunFault::Call(1)));
     Ok(())
 }
