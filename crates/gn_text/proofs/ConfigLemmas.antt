@@ -4,10 +4,9 @@ use Rattle.std.specs.Prelude.{codes, IfSome}
 use Rattle.std.proofs.lemmas.Bool.Decides.{nat_tests}
 use Rattle.gn_rules.specs.declared.config.Config.{Config}
 use Rattle.gn_rules.specs.declared.config.Own.{Own}
-use Rattle.gn_text.specs.Addresses.{◌>>=◌}
 use Rattle.gn_text.specs.Lines.{is_word}
 use Rattle.gn_text.specs.Numbers.{number_of}
-use Rattle.gn_text.specs.Settings.{Numbers, are_within, config_of, numbers_parsed, numbers_within, settings_of}
+use Rattle.gn_text.specs.Settings.{Numbers, are_within, config_of, numbers_parsed, six_within, settings_of}
 
 -- the settings are those of a configuration
 abbrev pub IsConfigured : Numbers × Own → Type 0
@@ -44,9 +43,7 @@ tested n true e = e
 tested n false e = _
 
 -- what six fields say is within its limits
-six : (k n m t w h : Option ℕ)
-    → IfSome (k >>= λ neighbours. n >>= λ seen. m >>= λ servents. t >>= λ stage. w >>= λ out. h >>= λ steps.
-    numbers_within (record { neighbours = neighbours; seen = seen; servents = servents; stage = stage; out = out; steps = steps })) AreWithin
+six : (k n m t w h : Option ℕ) → IfSome (six_within k n m t w h) AreWithin
 six None n m t w h = _
 six (Some k) None m t w h = _
 six (Some k) (Some n) None t w h = _

@@ -8,4 +8,5 @@ pub mod KeptLemmas
 pub mod NumberLemmas
 pub mod ParsedLemmas
 pub mod PartLemmas
+pub mod PartsLemmas
 pub mod SettingsLemmas

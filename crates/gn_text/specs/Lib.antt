@@ -5,6 +5,7 @@ pub mod Header
 pub mod Lines
 pub mod Links
 pub mod Numbers
+pub mod Parts
 pub mod Refusals
 pub mod Parsed
 pub mod Settings

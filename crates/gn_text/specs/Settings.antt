@@ -39,16 +39,21 @@ are_within n =
 abbrev pub numbers_within : Numbers → Option Numbers
 numbers_within n = if are_within n then Some n else None
 
+-- six numbers, where all are there and each is within its limit
+abbrev pub six_within : Option ℕ → Option ℕ → Option ℕ → Option ℕ → Option ℕ → Option ℕ → Option Numbers
+six_within k n m t w h = do
+  neighbours ← k
+  seen ← n
+  servents ← m
+  stage ← t
+  out ← w
+  steps ← h
+  numbers_within (record { neighbours = neighbours; seen = seen; servents = servents; stage = stage; out = out; steps = steps })
+
 -- the numbers that six fields say, where each is within its limit
 abbrev pub numbers_parsed : List (List ℕ) → Option Numbers
-numbers_parsed (k ∷ n ∷ m ∷ t ∷ w ∷ h ∷ []) = do
-  neighbours ← number_of k
-  seen ← number_of n
-  servents ← number_of m
-  stage ← number_of t
-  out ← number_of w
-  steps ← number_of h
-  numbers_within (record { neighbours = neighbours; seen = seen; servents = servents; stage = stage; out = out; steps = steps })
+numbers_parsed (k ∷ n ∷ m ∷ t ∷ w ∷ h ∷ []) =
+    six_within (number_of k) (number_of n) (number_of m) (number_of t) (number_of w) (number_of h)
 numbers_parsed fields = None
 
 -- the servent that five fields say: its ID, its address and port, its files and its kilobytes

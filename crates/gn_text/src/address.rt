@@ -1,10 +1,11 @@
-//! IP addresses in dotted decimal.
+//! IP addresses in dotted decimal, read and written.
 
-ghost use Rattle.std.specs.Prelude.{◌≡◌, map, IfOk};
-ghost use Rattle.gn_text.specs.Addresses.{ip_of, ip_of_parts};
+ghost use Rattle.std.specs.Prelude.{◌≡◌, ◌++◌, map, IfOk, OnErr, OnOk};
+ghost use Rattle.gn_text.specs.Addresses.{ip_of, ip_of_parts, ip_text};
 
 use crate::line::parts;
 use crate::numbers::number_u8;
+use crate::part::{Part, push_parts};
 use std::alloc::{AllocError, Allocator};
 
 fn ip_of_parts(parts: &[&[u8]]) -> Option<[u8; 4]>
@@ -21,4 +22,24 @@ pub fn ip<A: Allocator + Copy>(alloc: A, field: &[u8]) -> Result<Option<[u8; 4]>
     ensures { IfOk result (λ found. found ≡ ip_of field.now) }
 {
     Ok(ip_of_parts(&parts(alloc, field, b'.')?))
+}
+
+/// Appends an address in dotted decimal. An `Err` is out of memory, and changes nothing.
+pub fn push_ip<B: Allocator>(out: &mut Vec<u8, B>, ip: [u8; 4]) -> Result<(), AllocError>
+    ensures ok { OnOk result (out.new.items ≡ out.old.items ++ ip_text ip) }
+    ensures err { OnErr result (out.new.items ≡ out.old.items) }
+{
+    let [a, b, c, d] = ip;
+    push_parts(
+        out,
+        &[
+            Part::Number(u32::from(a)),
+            Part::Word(b"."),
+            Part::Number(u32::from(b)),
+            Part::Word(b"."),
+            Part::Number(u32::from(c)),
+            Part::Word(b"."),
+            Part::Number(u32::from(d)),
+        ],
+    )
 }

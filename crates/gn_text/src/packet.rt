@@ -1,26 +1,43 @@
 //! Descriptors in hex, and the packets that a reply sends.
 #![tactic(auto, using(crate::proofs::KeptLemmas::kept))]
 
-ghost use Rattle.std.specs.Prelude.{◌≡◌, ◌+◌, ◌-◌, ◌≤◌, ◌++◌, length, slice_range, take, IfSome, OnOk, OnErr};
-ghost use Rattle.gn_text.specs.Steps.{packet_text, sends_text};
+ghost use Rattle.std.specs.Prelude.{◌≡◌, ◌+◌, ◌-◌, ◌≤◌, ◌++◌, codes, decimal, length, slice_range, take, IfSome, OnOk, OnErr};
+ghost use Rattle.gn_text.specs.Parts.{parts_text};
+ghost use Rattle.gn_text.specs.Steps.{mark_text, packet_text, sends_text};
 
-use crate::push::{push_hex, push_number};
+use crate::part::{Part, push_parts};
 use gn_rules::Sending;
 use gn_wire::{Descriptor, whole_or_none, write_header};
 use std::alloc::{AllocError, Allocator};
 
 /// Appends a descriptor's header and then its payload. An `Err` is out of memory, and changes nothing.
-#[tactic(auto, using(crate::proofs::HexLemmas::joined, crate::proofs::KeptLemmas::kept))]
-pub(crate) fn write_packet<A: Allocator, B: Allocator>(
+#[tactic(auto, using(crate::proofs::HexLemmas::joined))]
+fn push_packet<A: Allocator, B: Allocator>(
     out: &mut Vec<u8, B>,
     packet: &Descriptor<A>,
 ) -> Result<(), AllocError>
     ensures ok { OnOk result (out.new.items ≡ out.old.items ++ packet_text packet.now) }
     ensures err { OnErr result (out.new.items ≡ out.old.items) }
 {
+    let header = write_header(&packet.header());
+    push_parts(
+        out,
+        &[Part::Hex(&header), Part::Hex(packet.payload().as_slice())],
+    )
+}
+
+/// Appends some parts and then a descriptor. An `Err` is out of memory, and changes nothing.
+pub(crate) fn push_with_packet<A: Allocator, B: Allocator>(
+    out: &mut Vec<u8, B>,
+    parts: &[Part],
+    packet: &Descriptor<A>,
+) -> Result<(), AllocError>
+    ensures ok { OnOk result (out.new.items ≡ out.old.items ++ (parts_text parts.now ++ packet_text packet.now)) }
+    ensures err { OnErr result (out.new.items ≡ out.old.items) }
+{
     let start = out.len();
-    push_hex(out, &write_header(&packet.header()))?;
-    let written = push_hex(out, packet.payload().as_slice());
+    push_parts(out, parts)?;
+    let written = push_packet(out, packet);
     whole_or_none(out, start, written)
 }
 
@@ -69,11 +86,30 @@ fn write_next<A: Allocator, B: Allocator>(
 {
     match before {
         Some(before) if packet.is_same(before) => append_copy(out, place),
-        _ => write_packet(out, packet),
+        _ => push_packet(out, packet),
     }
 }
 
-pub(crate) fn write_sends<A: Allocator, B: Allocator>(
+/// Appends the connection and the mark of a send. An `Err` is out of memory, and changes nothing.
+fn push_target<A: Allocator, B: Allocator>(
+    out: &mut Vec<u8, B>,
+    sending: &Sending<A>,
+) -> Result<(), AllocError>
+    ensures ok { OnOk result (out.new.items ≡ out.old.items ++ (codes " " ++ decimal sending.now.to ++ mark_text sending.now.queued)) }
+    ensures err { OnErr result (out.new.items ≡ out.old.items) }
+{
+    push_parts(
+        out,
+        &[
+            Part::Word(b" "),
+            Part::Number(sending.to),
+            Part::Word(if sending.queued { b"+" } else { b"-" }),
+        ],
+    )
+}
+
+/// Appends the sends. An `Err` is out of memory, and leaves what stood there before as it was.
+fn write_sends<A: Allocator, B: Allocator>(
     out: &mut Vec<u8, B>,
     sends: &[Sending<A>],
 ) -> Result<(), AllocError>
@@ -83,13 +119,38 @@ pub(crate) fn write_sends<A: Allocator, B: Allocator>(
     let mut before = None;
     let mut place = (0, 0);
     for sending in sends {
-        out.extend_from_slice(b" ")?;
-        push_number(out, sending.to)?;
-        out.extend_from_slice(if sending.queued { b"+" } else { b"-" })?;
+        push_target(out, sending)?;
         let start = out.len();
         write_next(out, &sending.packet, before, place)?;
         before = Some(&sending.packet);
         place = (start, out.len());
     }
     Ok(())
+}
+
+fn push_sends<A: Allocator, B: Allocator>(
+    out: &mut Vec<u8, B>,
+    sends: &[Sending<A>],
+) -> Result<(), AllocError>
+    ensures ok { OnOk result (out.new.items ≡ out.old.items ++ sends_text sends.now) }
+    ensures err { OnErr result (out.new.items ≡ out.old.items) }
+{
+    let start = out.len();
+    let written = write_sends(out, sends);
+    whole_or_none(out, start, written)
+}
+
+/// Appends some parts and then the sends. An `Err` is out of memory, and changes nothing.
+pub(crate) fn push_with_sends<A: Allocator, B: Allocator>(
+    out: &mut Vec<u8, B>,
+    parts: &[Part],
+    sends: &[Sending<A>],
+) -> Result<(), AllocError>
+    ensures ok { OnOk result (out.new.items ≡ out.old.items ++ (parts_text parts.now ++ sends_text sends.now)) }
+    ensures err { OnErr result (out.new.items ≡ out.old.items) }
+{
+    let start = out.len();
+    push_parts(out, parts)?;
+    let written = push_sends(out, sends);
+    whole_or_none(out, start, written)
 }

@@ -1,11 +1,8 @@
-//! Numbers, bytes and addresses as they are written.
-#![tactic(auto, using(crate::proofs::KeptLemmas::kept))]
+//! Numbers and bytes as they are written.
 
-ghost use Rattle.std.specs.Prelude.{◌≡◌, ◌<◌, ◌*◌, ◌++◌, decimal, length, slice_index, take, OnErr, OnOk};
+ghost use Rattle.std.specs.Prelude.{◌≡◌, ◌<◌, ◌*◌, ◌++◌, decimal, length, slice_index, OnErr, OnOk};
 ghost use Rattle.hex.specs.Hex.{encode_lower, lower_digits};
-ghost use Rattle.gn_text.specs.Addresses.{ip_text};
 
-use gn_wire::whole_or_none;
 use itoa::Buffer;
 use std::alloc::{AllocError, Allocator};
 
@@ -56,28 +53,4 @@ pub fn push_hex<B: Allocator>(out: &mut Vec<u8, B>, bytes: &[u8]) -> Result<(), 
     out.resize(end, 0)?;
     put_digits(bytes, &mut out.as_mut_slice()[start..]);
     Ok(())
-}
-
-fn write_ip<B: Allocator>(out: &mut Vec<u8, B>, ip: [u8; 4]) -> Result<(), AllocError>
-    ensures ok { OnOk result (out.new.items ≡ out.old.items ++ ip_text ip) }
-    ensures err { OnErr result (take (length out.old.items) out.new.items ≡ out.old.items) }
-{
-    let [a, b, c, d] = ip;
-    push_number(out, u32::from(a))?;
-    out.extend_from_slice(b".")?;
-    push_number(out, u32::from(b))?;
-    out.extend_from_slice(b".")?;
-    push_number(out, u32::from(c))?;
-    out.extend_from_slice(b".")?;
-    push_number(out, u32::from(d))
-}
-
-/// Appends an address in dotted decimal. An `Err` is out of memory, and changes nothing.
-pub fn push_ip<B: Allocator>(out: &mut Vec<u8, B>, ip: [u8; 4]) -> Result<(), AllocError>
-    ensures ok { OnOk result (out.new.items ≡ out.old.items ++ ip_text ip) }
-    ensures err { OnErr result (out.new.items ≡ out.old.items) }
-{
-    let start = out.len();
-    let written = write_ip(out, ip);
-    whole_or_none(out, start, written)
 }

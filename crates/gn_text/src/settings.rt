@@ -2,13 +2,13 @@
 #![tactic(auto, using(crate::proofs::KeptLemmas::kept))]
 
 ghost use Rattle.std.specs.Prelude.{◌≡◌, length, map, option_map, take, IfOk, ◌++◌, OnOk, OnErr};
-ghost use Rattle.gn_text.specs.Settings.{config_of, numbers_of, numbers_parsed, numbers_within, own_of, servent_parsed, config_text, field_text, own_text, settings_text};
+ghost use Rattle.gn_text.specs.Settings.{config_of, numbers_of, numbers_parsed, numbers_within, six_within, own_of, servent_parsed, config_text, own_text, settings_text};
 
-use crate::address::ip;
+use crate::address::{ip, push_ip};
 use crate::line::is_word;
 use crate::numbers::{number, number_u16};
 use crate::octets::guid;
-use crate::push::{push_hex, push_ip, push_number};
+use crate::part::{Part, push_parts};
 use gn_rules::{Config, Own};
 use gn_wire::{Guid, whole_or_none};
 use std::alloc::{AllocError, Allocator};
@@ -31,17 +31,31 @@ fn within(k: u32, n: u32, m: u32, t: u32, w: u32, h: u32) -> Option<Config>
     Config::new(k, n, m, t, w, h, BLANK).ok()
 }
 
+/// The configuration of six numbers, where all are there and each is within its limit.
+fn six_within(
+    k: Option<u32>,
+    n: Option<u32>,
+    m: Option<u32>,
+    t: Option<u32>,
+    w: Option<u32>,
+    h: Option<u32>,
+) -> Option<Config>
+    ensures { option_map numbers_of result ≡ six_within k n m t w h }
+{
+    within(k?, n?, m?, t?, w?, h?)
+}
+
 fn read_numbers(fields: &[&[u8]]) -> Option<Config>
     ensures { option_map numbers_of result ≡ numbers_parsed (map (λ x. x.now) fields.now) }
 {
     match fields {
-        [k, n, m, t, w, h] => within(
-            number(k)?,
-            number(n)?,
-            number(m)?,
-            number(t)?,
-            number(w)?,
-            number(h)?,
+        [k, n, m, t, w, h] => six_within(
+            number(k),
+            number(n),
+            number(m),
+            number(t),
+            number(w),
+            number(h),
         ),
         _ => None,
     }
@@ -98,50 +112,64 @@ pub fn read_own<A: Allocator + Copy>(alloc: A, fields: &[&[u8]]) -> Result<Optio
     }
 }
 
-fn write_field<B: Allocator>(out: &mut Vec<u8, B>, number: u32) -> Result<(), AllocError>
-    ensures ok { OnOk result (out.new.items ≡ out.old.items ++ field_text number) }
+fn push_config<B: Allocator>(out: &mut Vec<u8, B>, config: &Config) -> Result<(), AllocError>
+    ensures ok { OnOk result (out.new.items ≡ out.old.items ++ config_text config.now) }
     ensures err { OnErr result (out.new.items ≡ out.old.items) }
 {
-    let start = out.len();
-    out.extend_from_slice(b" ")?;
-    let written = push_number(out, number);
-    whole_or_none(out, start, written)
-}
-
-fn write_config<B: Allocator>(out: &mut Vec<u8, B>, config: &Config) -> Result<(), AllocError>
-    ensures ok { OnOk result (out.new.items ≡ out.old.items ++ config_text config.now) }
-    ensures err { OnErr result (take (length out.old.items) out.new.items ≡ out.old.items) }
-{
-    out.extend_from_slice(b"config")?;
-    write_field(out, config.neighbours)?;
-    write_field(out, config.seen)?;
-    write_field(out, config.servents)?;
-    write_field(out, config.stage)?;
-    write_field(out, config.out)?;
-    write_field(out, config.steps)?;
-    out.extend_from_slice(b"\n")
+    push_parts(
+        out,
+        &[
+            Part::Word(b"config "),
+            Part::Number(config.neighbours),
+            Part::Word(b" "),
+            Part::Number(config.seen),
+            Part::Word(b" "),
+            Part::Number(config.servents),
+            Part::Word(b" "),
+            Part::Number(config.stage),
+            Part::Word(b" "),
+            Part::Number(config.out),
+            Part::Word(b" "),
+            Part::Number(config.steps),
+            Part::Word(b"\n"),
+        ],
+    )
 }
 
 fn write_own<B: Allocator>(out: &mut Vec<u8, B>, own: &Own) -> Result<(), AllocError>
     ensures ok { OnOk result (out.new.items ≡ out.old.items ++ own_text own.now) }
     ensures err { OnErr result (take (length out.old.items) out.new.items ≡ out.old.items) }
 {
-    out.extend_from_slice(b"own ")?;
-    push_hex(out, &own.servent.0)?;
-    out.extend_from_slice(b" ")?;
+    push_parts(
+        out,
+        &[
+            Part::Word(b"own "),
+            Part::Hex(&own.servent.0),
+            Part::Word(b" "),
+        ],
+    )?;
     push_ip(out, own.ip)?;
-    write_field(out, u32::from(own.port))?;
-    write_field(out, own.files)?;
-    write_field(out, own.kbytes)?;
-    out.extend_from_slice(b"\n")
+    push_parts(
+        out,
+        &[
+            Part::Word(b" "),
+            Part::Number(u32::from(own.port)),
+            Part::Word(b" "),
+            Part::Number(own.files),
+            Part::Word(b" "),
+            Part::Number(own.kbytes),
+            Part::Word(b"\n"),
+        ],
+    )
 }
 
-fn write_settings<B: Allocator>(out: &mut Vec<u8, B>, config: &Config) -> Result<(), AllocError>
-    ensures ok { OnOk result (out.new.items ≡ out.old.items ++ settings_text config.now) }
-    ensures err { OnErr result (take (length out.old.items) out.new.items ≡ out.old.items) }
+fn push_own<B: Allocator>(out: &mut Vec<u8, B>, own: &Own) -> Result<(), AllocError>
+    ensures ok { OnOk result (out.new.items ≡ out.old.items ++ own_text own.now) }
+    ensures err { OnErr result (out.new.items ≡ out.old.items) }
 {
-    write_config(out, config)?;
-    write_own(out, &config.own)
+    let start = out.len();
+    let written = write_own(out, own);
+    whole_or_none(out, start, written)
 }
 
 /// Appends the two lines of a configuration, `config K N M T W H` and `own SERVENT IP PORT FILES KBYTES`. An `Err` is out
@@ -151,6 +179,7 @@ pub fn push_settings<B: Allocator>(out: &mut Vec<u8, B>, config: &Config) -> Res
     ensures err { OnErr result (out.new.items ≡ out.old.items) }
 {
     let start = out.len();
-    let written = write_settings(out, config);
+    push_config(out, config)?;
+    let written = push_own(out, &config.own);
     whole_or_none(out, start, written)
 }

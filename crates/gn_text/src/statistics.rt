@@ -4,7 +4,7 @@
 ghost use Rattle.std.specs.Prelude.{◌≡◌, ◌++◌, length, take, OnOk, OnErr};
 ghost use Rattle.gn_text.specs.Statistics.{count_text, counter_text, counts_text, stats_text};
 
-use crate::push::push_number;
+use crate::part::{Part, push_parts};
 use gn_rules::{Counter, Stats};
 use gn_wire::whole_or_none;
 use std::alloc::{AllocError, Allocator};
@@ -31,18 +31,23 @@ pub(crate) fn counter_name(counter: Counter) -> &'static [u8]
     }
 }
 
-fn write_count<B: Allocator>(
+fn push_count<B: Allocator>(
     out: &mut Vec<u8, B>,
     stats: &Stats,
     counter: Counter,
 ) -> Result<(), AllocError>
     ensures ok { OnOk result (out.new.items ≡ out.old.items ++ count_text stats.now counter) }
-    ensures err { OnErr result (take (length out.old.items) out.new.items ≡ out.old.items) }
+    ensures err { OnErr result (out.new.items ≡ out.old.items) }
 {
-    out.extend_from_slice(b" ")?;
-    out.extend_from_slice(counter_name(counter))?;
-    out.extend_from_slice(b" ")?;
-    push_number(out, stats.get(counter))
+    push_parts(
+        out,
+        &[
+            Part::Word(b" "),
+            Part::Word(counter_name(counter)),
+            Part::Word(b" "),
+            Part::Number(stats.get(counter)),
+        ],
+    )
 }
 
 fn write_counts<B: Allocator>(
@@ -54,7 +59,7 @@ fn write_counts<B: Allocator>(
     ensures err { OnErr result (take (length out.old.items) out.new.items ≡ out.old.items) }
 {
     for counter in counters {
-        write_count(out, stats, *counter)?;
+        push_count(out, stats, *counter)?;
     }
     Ok(())
 }

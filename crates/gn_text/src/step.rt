@@ -5,8 +5,8 @@ ghost use Rattle.std.specs.Prelude.{◌≡◌, ◌++◌, length, take, OnOk, OnE
 ghost use Rattle.gn_rules.specs.declared.receipt.Step.{Step};
 ghost use Rattle.gn_text.specs.Steps.{step_text};
 
-use crate::event::write_event;
-use crate::push::push_number;
+use crate::event::push_event;
+use crate::part::{Part, push_parts};
 use crate::reply::push_reply;
 use gn_rules::{Event, Reply, Step};
 use gn_wire::whole_or_none;
@@ -22,9 +22,8 @@ fn write_step<A: Allocator, B: Allocator>(
         OnOk result (out.new.items ≡ out.old.items ++ step_text step) }
     ensures err { OnErr result (take (length out.old.items) out.new.items ≡ out.old.items) }
 {
-    push_number(out, actor)?;
-    out.extend_from_slice(b" ")?;
-    write_event(out, event)?;
+    push_parts(out, &[Part::Number(actor), Part::Word(b" ")])?;
+    push_event(out, event)?;
     out.extend_from_slice(b" = ")?;
     push_reply(out, reply)?;
     out.extend_from_slice(b"\n")
