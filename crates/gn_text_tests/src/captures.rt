@@ -32,14 +32,25 @@ fn fault<A: Allocator>(read: Result<Capture<A>, CaptureRefusal>) -> Option<(u64,
 
 #[test]
 fn first_lines(rt: HostRuntime) {
-    let faults: [(&[u8], u64, Cause); 7] = [
+    let faults: [(&[u8], u64, Cause); 10] = [
         (b"", 1, Cause::Header),
         (b"\n\n", 3, Cause::Header),
         (b"gnutella-capture 9", 1, Cause::Header),
         (b"# a\n\ngnutella-capture 01\nconfig", 3, Cause::Header),
         (b"gnutella-capture 1\r\n", 1, Cause::Header),
+        (b"#\ngnutella-capture 1 \n", 2, Cause::Header),
         (b"gnutella-capture 1", 2, Cause::Config),
         (b"gnutella-capture 1\n# a\n", 3, Cause::Config),
+        (
+            b"gnutella-capture 1\n\nconfig 0 8 4 8 8 100\n",
+            3,
+            Cause::Config,
+        ),
+        (
+            b"gnutella-capture 1\nconfig 4 8 4 8 8 100\n#\n",
+            4,
+            Cause::Own,
+        ),
     ];
     for (text, line, cause) in faults {
         assert_eq!(rt; fault(read_capture(rt.alloc(), text)), Some((line, cause)));
@@ -50,7 +61,8 @@ fn first_lines(rt: HostRuntime) {
 fn second_and_third_lines(rt: HostRuntime) -> Result<(), Fail> {
     let configs = b"config 0 8 4 8 8 100\nconfig 65 8 4 8 8 100\nconfig 64 65537 4 8 8 100\n\
         config 64 65536 65537 8 8 100\nconfig 64 65536 65536 4097 8 100\nconfig 64 65536 65536 4096 4097 100\n\
-        config 64 65536 65536 4096 4096 1000001\nconfig 4 8 4 8 8\nconfig 4 8 4 8 8 100 1\nown";
+        config 64 65536 65536 4096 4096 1000001\nconfig 4 8 4 8 8\nconfig 4 8 4 8 8 100 1\n\
+        config 4 8 4 8 8 100 \nown";
     let owns =
         b"own ee 127.0.0.1 6346 5 40\nown eeeeeeeeeeeeeeeeeeeeeeeeeeeeeeee 127.0.0.256 6346 5 40\n\
         own eeeeeeeeeeeeeeeeeeeeeeeeeeeeeeee 127.0.0.1 65536 5 40\njoin";

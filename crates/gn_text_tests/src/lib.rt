@@ -4,11 +4,7 @@
 #[cfg(test)]
 mod captures;
 #[cfg(test)]
-mod faults;
-#[cfg(test)]
 mod fields;
-#[cfg(test)]
-mod headers;
 #[cfg(test)]
 mod histories;
 #[cfg(test)]

@@ -1,94 +1,14 @@
 //! The texts, byte for byte.
 
-use gn_fixtures::{ping, usual};
-use gn_rules::{Counter, DropReason, Event, Refusal, Reply, Sending, Sends, Stats, Step};
+use gn_fixtures::usual;
+use gn_rules::{Counter, Event, Refusal, Reply, Stats};
 use gn_text::{
-    ip, number, push_ended, push_frame_fault, push_greeting_refused, push_refusal, push_reply,
-    push_settings, push_stats, push_step, push_step_of,
+    push_ended, push_frame_fault, push_greeting_refused, push_refusal, push_reply, push_settings,
+    push_stats, push_step_of,
 };
-use gn_wire::{Descriptor, FrameFault, Kind};
+use gn_wire::{FrameFault, Kind};
 use std::alloc::Global;
 use std::test::Fail;
-
-fn send(to: u32, packet: Descriptor, queued: bool) -> Sending {
-    Sending { to, packet, queued }
-}
-
-fn line(rt: &HostRuntime, event: Event, reply: Reply) -> Result<Vec<u8>, Fail> {
-    let mut out = Vec::new(rt.alloc());
-    push_step(
-        &mut out,
-        &Step {
-            actor: 0,
-            event,
-            reply,
-        },
-    )?;
-    Ok(out)
-}
-
-#[test]
-fn steps_without_sends(rt: HostRuntime) -> Result<(), Fail> {
-    let lines = [
-        line(&rt, Event::Connect, Reply::Connected(1))?,
-        line(&rt, Event::Connect, Reply::TooMany)?,
-        line(&rt, Event::Close(4_294_967_295), Reply::Closed(0))?,
-        line(&rt, Event::Admit(1, ping(0xa1, 7, 0)?), Reply::Admitted(0))?,
-        line(&rt, Event::Admit(1, ping(0xa1, 7, 0)?), Reply::Busy)?,
-        line(
-            &rt,
-            Event::Route(2),
-            Reply::Dropped(DropReason::BackToSender),
-        )?,
-        line(&rt, Event::Take(1), Reply::Taken(ping(0xa1, 7, 0)?))?,
-    ];
-    let texts: [&[u8]; 7] = [
-        b"0 connect = connected 1\n",
-        b"0 connect = toomany\n",
-        b"0 close 4294967295 = closed 0\n",
-        b"0 admit 1 a1a1a1a1a1a1a1a1a1a1a1a1a1a1a1a100070000000000 = admitted 0\n",
-        b"0 admit 1 a1a1a1a1a1a1a1a1a1a1a1a1a1a1a1a100070000000000 = busy\n",
-        b"0 route 2 = dropped backtosender\n",
-        b"0 take 1 = taken a1a1a1a1a1a1a1a1a1a1a1a1a1a1a1a100070000000000\n",
-    ];
-    for (line, text) in lines.iter().zip(&texts) {
-        assert_eq!(rt; line.as_slice(), *text);
-    }
-    Ok(())
-}
-
-#[test]
-fn steps_with_sends(rt: HostRuntime) -> Result<(), Fail> {
-    let alloc = rt.alloc();
-    let mut both = Sends::new(alloc);
-    both.push(send(1, ping(0xa1, 6, 1)?, true))?;
-    both.push(send(12, ping(0xa2, 255, 0)?, false))?;
-    let (sends, none) = (both.copy(alloc)?, Sends::new(alloc));
-    let lines = [
-        line(&rt, Event::Route(0), Reply::Routed { sends, local: true })?,
-        line(
-            &rt,
-            Event::Route(1),
-            Reply::Routed {
-                sends: none,
-                local: false,
-            },
-        )?,
-        line(&rt, Event::Originate(ping(0xd1, 5, 0)?), Reply::Sent(both))?,
-    ];
-    let texts: [&[u8]; 3] = [
-        b"0 route 0 = routed local 1+a1a1a1a1a1a1a1a1a1a1a1a1a1a1a1a100060100000000 \
-            12-a2a2a2a2a2a2a2a2a2a2a2a2a2a2a2a200ff0000000000\n",
-        b"0 route 1 = routed away\n",
-        b"0 originate d1d1d1d1d1d1d1d1d1d1d1d1d1d1d1d100050000000000 = sent \
-            1+a1a1a1a1a1a1a1a1a1a1a1a1a1a1a1a100060100000000 \
-            12-a2a2a2a2a2a2a2a2a2a2a2a2a2a2a2a200ff0000000000\n",
-    ];
-    for (line, text) in lines.iter().zip(&texts) {
-        assert_eq!(rt; line.as_slice(), *text);
-    }
-    Ok(())
-}
 
 #[test]
 fn counters(rt: HostRuntime) -> Result<(), Fail> {
