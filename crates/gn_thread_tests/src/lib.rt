@@ -4,6 +4,8 @@
 #[cfg(test)]
 mod bodies;
 #[cfg(test)]
+mod forged;
+#[cfg(test)]
 mod hub;
 #[cfg(test)]
 mod links;
