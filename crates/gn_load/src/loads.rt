@@ -8,7 +8,7 @@ ghost use Rattle.gn_load.specs.Loads.{AppendsLoad, HasStopped, IsLoadText, load_
 
 use crate::fault::LoadFault;
 use crate::links::links_of;
-use gn_capture::{read_capture, write_history};
+use gn_capture::{Capture, read_capture, write_history};
 use gn_io::{Sink, Source, read_input, write_all};
 use gn_links::NoGate;
 use gn_rules::RouterCore;
@@ -17,20 +17,24 @@ use std::alloc::Allocator;
 use std::sync::Wait;
 use std::thread::Threads;
 
-/// The history text of a router that so many workers run over the links that a capture makes.
+/// The history text of a router that so many workers run over the links that a capture makes. Of the capture only what its
+/// links hold lasts through the run.
 fn history_of<
     A: Allocator + Copy + Send + Sync,
     C: RouterCore<A> + Drop + Send,
     R: Threads + Wait + Sync,
->(rt: &R, alloc: A, workers: u32, text: &[u8]) -> Result<Vec<u8, A>, LoadFault>
-    ensures history { IfOk result (λ history. IsLoadText A workers text.now history.items) }
-    ensures fault { IfErr result (λ fault. IsRunLoadFault workers fault (load_of A text.now)) }
+>(rt: &R, alloc: A, workers: u32, text: Vec<u8, A>) -> Result<Vec<u8, A>, LoadFault>
+    ensures history { IfOk result (λ history. IsLoadText A workers text.items history.items) }
+    ensures fault { IfErr result (λ fault. IsRunLoadFault workers fault (load_of A text.items)) }
 {
-    let capture = read_capture(alloc, text)?;
+    let capture = read_capture(alloc, &text)?;
+    drop(text);
     let links = links_of(alloc, &capture.lines)?;
-    let report = run::<C, _, _, A, R>(rt, alloc, &capture.config, links, workers, &NoGate)?;
+    let Capture { config, lines } = capture;
+    drop(lines);
+    let report = run::<C, _, _, A, R>(rt, alloc, &config, links, workers, &NoGate)?;
     let mut history = Vec::new(alloc);
-    write_history(&capture.config, &report.history, &mut history)?;
+    write_history(&config, &report.history, &mut history)?;
     Ok(history)
 }
 
@@ -59,7 +63,7 @@ pub fn load<
         (streams (S.state source.old) (S.state source.new) (W.state sink.old) (W.state sink.new))) }
 {
     let text = read_input(alloc, source)?;
-    let history = history_of::<A, C, R>(rt, alloc, workers, &text)?;
+    let history = history_of::<A, C, R>(rt, alloc, workers, text)?;
     write_all(sink, &history)?;
     Ok(())
 }
