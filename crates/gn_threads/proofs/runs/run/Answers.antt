@@ -41,3 +41,9 @@ halves_of-requires-clause-many g c =
     let made = ap length c.in_ok-split.ensures.made in
     let begin = ap length c.in_ok-split.ensures.roles in
     omega (arith, c.in_ok-split.split.links.ok, c.in_ok-split.split.roles.ok, made, begin, length-map c.in_ok-split.split.links.items (λ link. g.K.Reader.LinkReader.made_of link.reader), length-map c.args.links.items g.K.Link.origin_of, length-map c.args.links.items g.K.Link.role_of)
+
+pub returns-clause-each : goal.returns-clause-each
+returns-clause-each g c = (
+  c.in_ok-report.ensures.holds.each ∙ ap length (c.in_ok-halves.ensures.roles ∙ c.in_ok-split.ensures.roles) ∙ length-map c.args.links.items g.K.Link.role_of,
+  omega (arith, c.in_ok-report.report.workers.ok, c.in_ok-report.ensures.workers),
+)
