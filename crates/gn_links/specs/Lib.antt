@@ -1,2 +1,4 @@
 pub mod Halves
+pub mod Views
+pub mod Split
 pub mod Memory

@@ -6,9 +6,11 @@ mod link;
 mod memory;
 mod memory_reader;
 mod memory_writer;
+mod split;
 
 pub use gate::{Gate, NoGate};
 pub use link::{Link, LinkFault, LinkReader, LinkWriter};
 pub use memory::MemoryLink;
 pub use memory_reader::MemoryReader;
 pub use memory_writer::MemoryWriter;
+pub use split::{SplitFault, SplitLink, SplitLinks, split_all};

@@ -8,7 +8,7 @@ use Rattle.gn_links.specs.Memory.{Memory, MemoryReading, MemoryWriting, source_o
 use Rattle.gn_bodies.specs.declared.ends.ReaderEnd.TheVariants.{ReadFailed}
 use Rattle.gn_run.specs.declared.report.LinkReport.{LinkReport}
 use Rattle.gn_run.specs.declared.report.Report.{Report}
-use Rattle.gn_threads.specs.Halves.{ReadHalf, WrittenHalf}
+use Rattle.gn_links.specs.Views.{ReadHalf, WrittenHalf}
 use Rattle.gn_threads.specs.Headline.{AreMadeOf, Holds, LinksReadOwn}
 use Rattle.gn_text.specs.declared.fault.CaptureFault.{CaptureFault}
 use Rattle.gn_text.specs.Faults.{◌>>=◌}

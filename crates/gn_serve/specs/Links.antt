@@ -3,7 +3,7 @@ use Rattle.std.specs.Prelude.{ℕ, ◌-◌, false, List, [], ◌++◌, replicate
 use Rattle.gn_shake.specs.declared.role.Role.{Role}
 use Rattle.gn_shake.specs.declared.role.Role.TheVariants.{Accepting, Calling}
 use Rattle.gn_tcp.specs.Tcp.{TcpReading, TcpWriting}
-use Rattle.gn_threads.specs.Halves.{ReadHalf, WrittenHalf, reads_of, writes_of}
+use Rattle.gn_links.specs.Views.{ReadHalf, WrittenHalf, reads_of, writes_of}
 
 -- the roles of the links of a run: those that call come first
 abbrev pub roles_of : ℕ → ℕ → List Role

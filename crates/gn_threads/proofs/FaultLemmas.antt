@@ -4,7 +4,10 @@ use Rattle.std.specs.Prelude.{IfErr, IfSome, IsErrAnd}
 use Rattle.std.proofs.lemmas.Result.{err_from_is_err_and}
 use Rattle.gn_threads.specs.declared.fault.RunFault.{RunFault}
 use Rattle.gn_threads.specs.declared.fault.RunFault.TheVariants.{BadWorkers, HistoryFull, NoMemory}
-use Rattle.gn_threads.specs.Faults.{IsFaultOf, stop_of}
+use Rattle.gn_links.specs.declared.split.SplitFault.{SplitFault}
+use Rattle.gn_links.specs.declared.split.SplitFault.TheVariants as split
+use Rattle.gn_links.specs.Split.{IsSplitFault}
+use Rattle.gn_threads.specs.Faults.{IsFaultOf, of_split, stop_of}
 
 -- where a `?` hands a fault on, what holds of the fault holds of the result
 pub handed_on : {T : Type 0} (P : RunFault → Type 0) (r : Result T RunFault) (fault : RunFault) → IsErrAnd r (λ e. e ≡ fault) → P fault → IfErr r P
@@ -20,6 +23,11 @@ pub of_stop : (full out : Bool) (fault : RunFault) → Some fault ≡ stop_of fu
 of_stop true out fault is links workers = let same : fault ≡ HistoryFull = cc in subst (λ x. IsFaultOf links workers x) (sym same) tt
 of_stop false true fault is links workers = let same : fault ≡ NoMemory = cc in subst (λ x. IsFaultOf links workers x) (sym same) tt
 of_stop false false fault is links workers = cc
+
+-- the fault of a run whose links couldn't be taken apart
+pub split_is_fault : (links workers : ℕ) (fault : SplitFault) → IsSplitFault links fault → IsFaultOf links workers (of_split fault)
+split_is_fault links workers (split.Link k) below = below
+split_is_fault links workers split.NoMemory below = tt
 
 -- such a fault isn't that there are too few or too many workers
 pub not_bad_workers : (links workers : ℕ) (fault : RunFault) → IsFaultOf links workers fault → ¬ (fault ≡ BadWorkers)

@@ -28,7 +28,8 @@ use Rattle.gn_run.specs.Actors.{actors}
 use Rattle.gn_run.specs.Ends.{is_balanced, is_settled}
 use Rattle.gn_run.specs.Flaw.{IsFlaw}
 use Rattle.gn_run.proofs.ConfirmedLemmas.{compared, house_at, reader_at, took_all, worker_at, writer_at}
-use Rattle.gn_threads.specs.Halves.{Half, ReadsAs, WrittenHalf, ReadHalf, WritesAs}
+use Rattle.gn_links.specs.Views.{WrittenHalf, ReadHalf}
+use Rattle.gn_threads.specs.Halves.{Half, ReadsAs, WritesAs}
 use Rattle.gn_threads.specs.Headline.{AreMadeOf, HasOwnSteps, LinksHold, LinksReadOwn, OthersRoute, ReadsOwn, RoutesEachOnce}
 use Rattle.gn_threads.specs.Kept.{EachKeeps, Ended, ReaderKeeps, ReaderPromises, WriterKeeps, WriterPromises, reader_ended, halved, writer_ended}
 use Rattle.gn_threads.specs.Gathered.{reader_reported, writer_reported}

@@ -1,6 +1,6 @@
 -- Of threads that were joined, each kept its promise.
 use Rattle.std.proofs.Common.{◌≡◌, ◌<◌, ℕ, suc, List, [], ◌∷◌, ◌++◌, length, map, get_or, refl, sym, ap, ◌∙◌, subst, arith}
-use Rattle.std.proofs.lemmas.List.{append-nil, append_assoc, get_or-map, length-map, nil_from_length}
+use Rattle.std.proofs.lemmas.List.{append-nil, append_assoc, get_or-map, length-map, map-append, nil_from_length}
 use Rattle.std.proofs.lemmas.Simd.{map-map}
 use Rattle.gn_threads.specs.Kept.{EachKeeps}
 
@@ -62,6 +62,20 @@ pub one_started : {H S X : Type 0} (f : H → X) (k : S → X) (hs more : List H
     → map f hs ++ map k rest ≡ all → map f more ++ map k left ≡ all
 one_started f k hs more rest left x all one next before =
     ap (λ v. v ++ map k left) one ∙ append_assoc (map f hs) (k x ∷ []) (map k left) ∙ ap (λ r. map f hs ++ map k r) (sym next) ∙ before
+
+-- the same of one that was pushed
+pub one_pushed : {H S X : Type 0} (f : H → X) (k : S → X) (hs more : List H) (y : H) (rest left : List S) (x : S) (all : List X) → more ≡ hs ++ y ∷ [] → f y ≡ k x → rest ≡ x ∷ left
+    → map f hs ++ map k rest ≡ all → map f more ++ map k left ≡ all
+one_pushed f k hs more y rest left x all is same next before =
+    one_started f k hs more rest left x all (ap (λ l. map f l) is ∙ map-append f hs (y ∷ []) ∙ ap (λ o. map f hs ++ o ∷ []) same) next before
+
+-- the same where it is moved as it is
+pub one_moved : {S : Type 0} (hs more rest left : List S) (x : S) (all : List S) → more ≡ hs ++ x ∷ [] → rest ≡ x ∷ left → hs ++ rest ≡ all → more ++ left ≡ all
+one_moved hs more rest left x all is next before = ap (λ v. v ++ left) is ∙ append_assoc hs (x ∷ []) left ∙ ap (λ r. hs ++ r) (sym next) ∙ before
+
+-- one more of two lists that are the same
+pub one_both : {H X : Type 0} (f : H → X) (hs more : List H) (y : H) (xs also : List X) → more ≡ hs ++ y ∷ [] → also ≡ xs ++ f y ∷ [] → map f hs ≡ xs → map f more ≡ also
+one_both f hs more y xs also is other before = ap (λ l. map f l) is ∙ map-append f hs (y ∷ []) ∙ ap (λ l. l ++ f y ∷ []) before ∙ sym other
 
 -- the same where it stands there itself
 pub one_made : {H S : Type 0} (f : H → S) (hs more : List H) (rest left : List S) (x : S) (all : List S) → map f more ≡ map f hs ++ x ∷ [] → rest ≡ x ∷ left → map f hs ++ rest ≡ all → map f more ++ left ≡ all

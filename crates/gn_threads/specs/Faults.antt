@@ -1,5 +1,7 @@
 -- What a fault of a run says.
 use Rattle.std.specs.Prelude.{ℕ, ◌+◌, ◌<◌, ⊤, Bool, true, false, Option, Some, None, Result, Ok, Err}
+use Rattle.gn_links.specs.declared.split.SplitFault.{SplitFault}
+use Rattle.gn_links.specs.declared.split.SplitFault.TheVariants as split
 use Rattle.gn_bodies.specs.declared.ends.BodyFault.{BodyFault}
 use Rattle.gn_bodies.specs.declared.ends.BodyFault.TheVariants as body
 use Rattle.gn_threads.specs.declared.fault.RunFault.{RunFault}
@@ -32,3 +34,8 @@ abbrev pub stop_of : Bool → Bool → Option RunFault
 stop_of true out_of_memory = Some HistoryFull
 stop_of false true = Some NoMemory
 stop_of false false = None
+
+-- the fault of a run whose links couldn't be taken apart
+abbrev pub of_split : SplitFault → RunFault
+of_split (split.Link k) = Link k
+of_split split.NoMemory = NoMemory

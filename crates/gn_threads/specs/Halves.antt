@@ -1,32 +1,14 @@
--- What the two halves of a link say once their bodies are done, and what each body says of its half.
-use Rattle.std.specs.Prelude.{◌≡◌, ℕ, Bool, true, List, Option}
+-- What each body of a link says of its half.
+use Rattle.std.specs.Prelude.{◌≡◌, ℕ, true, List, Option}
 use Rattle.gn_wire.specs.Packet.{Packet}
 use Rattle.gn_rules.specs.declared.event.Event.{Event}
 use Rattle.gn_shake.specs.declared.role.Role.{Role}
-use Rattle.gn_links.specs.Halves.{IsReadOf}
+use Rattle.gn_links.specs.Views.{ReadHalf, WrittenHalf}
 use Rattle.gn_bodies.specs.declared.ends.ReaderEnd.{ReaderEnd}
 use Rattle.gn_bodies.specs.declared.ends.WriterEnd.{WriterEnd}
 use Rattle.gn_bodies.specs.declared.ends.WriterEnd.TheVariants.{WriteFailed}
 use Rattle.gn_bodies.specs.ReaderRows.{ReaderRow, SourceRow}
 use Rattle.gn_bodies.specs.Written.{IsHurt, WriterRow}
-
--- a half that was read: whether its bytes are known, and then these bytes, how many reads failed, how many gave bytes, and
--- whether it ended
-pub record ReadHalf : Type 0 where
-  pub is_known : Bool
-  pub bytes : List ℕ
-  pub failures : ℕ
-  pub pieces : ℕ
-  pub has_ended : Bool
-
--- a half that was written: whether its bytes are known, and then these bytes, how many writes failed, whether it is stuck,
--- and whether it is finished
-pub record WrittenHalf : Type 0 where
-  pub is_known : Bool
-  pub bytes : List ℕ
-  pub failures : ℕ
-  pub is_stuck : Bool
-  pub is_finished : Bool
 
 -- a half of a link, before its body began, and how the link begins
 pub record Half (H : Type 0) : Type 0 where
@@ -36,30 +18,6 @@ pub record Half (H : Type 0) : Type 0 where
 -- this half of a link of this role
 abbrev pub half_of : {H : Type 0} → Role → H → Half H
 half_of role half = record { role = role; half = half }
-
--- what a reading half of this type says
-abbrev pub reads_of :
-    {Rd : Type 0} → Bool → (Rd → List ℕ) → (Rd → ℕ) → (Rd → ℕ) → (Rd → Bool) → Rd → ReadHalf
-reads_of known bytes failures pieces ended half =
-    record {
-      is_known = known;
-      bytes = bytes half;
-      failures = failures half;
-      pieces = pieces half;
-      has_ended = ended half;
-    }
-
--- what a writing half of this type says
-abbrev pub writes_of :
-    {W : Type 0} → Bool → (W → List ℕ) → (W → ℕ) → (W → Bool) → (W → Bool) → W → WrittenHalf
-writes_of known bytes failures stuck finished half =
-    record {
-      is_known = known;
-      bytes = bytes half;
-      failures = failures half;
-      is_stuck = stuck half;
-      is_finished = finished half;
-    }
 
 -- what a reader's end says of the connection, of the events except the routes, and of the half that was read
 pub record ReadsAs {A : Type 0} (role : Role) (end : ReaderEnd) (conn : Option ℕ) (events : List (Event A))
@@ -77,8 +35,3 @@ pub record WritesAs (role : Role) (end : WriterEnd) (packets : List Packet) (hal
   pub hurt : end ≡ WriteFailed → IsHurt half.failures half.is_stuck
   -- it was finished
   pub finished : half.is_finished ≡ true
-
--- what was read of these bytes, where they are known: numbers below 256, the first of the bytes, in order, and all of
--- them where a read gave no more
-abbrev pub IsReadFrom : List ℕ → ReadHalf → Type 0
-IsReadFrom all half = half.is_known ≡ true → IsReadOf all half.bytes half.has_ended

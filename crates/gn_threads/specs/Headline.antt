@@ -23,7 +23,8 @@ use Rattle.gn_run.specs.declared.report.Report.{Report}
 use Rattle.gn_run.specs.Actors.{AreOwn, actors, receipts_of}
 use Rattle.gn_run.specs.Ends.{is_settled}
 use Rattle.gn_run.specs.Flaw.{HouseConfirmed, ReaderConfirmed, WorkerConfirmed, WriterConfirmed}
-use Rattle.gn_threads.specs.Halves.{IsReadFrom, ReadHalf, ReadsAs, WritesAs, WrittenHalf}
+use Rattle.gn_links.specs.Views.{IsReadFrom, ReadHalf, WrittenHalf}
+use Rattle.gn_threads.specs.Halves.{ReadsAs, WritesAs}
 
 -- the history is legal: each reply is the one that the rules give after the steps before it
 abbrev pub HasLegalHistory : {Rd W A : Type 0} → Config → Report Rd W A → Type 0

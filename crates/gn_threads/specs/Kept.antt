@@ -14,7 +14,8 @@ use Rattle.gn_bodies.specs.ReaderRows.{ReaderRow, SourceRow}
 use Rattle.gn_bodies.specs.Written.{IsHurt, WriterRow}
 use Rattle.gn_bodies.specs.Events.{connection_from, link_events_in, packets_in}
 use Rattle.gn_threads.specs.declared.gather.HomedReader.{HomedReader}
-use Rattle.gn_threads.specs.Halves.{Half, IsReadFrom, ReadHalf, WrittenHalf}
+use Rattle.gn_links.specs.Views.{IsReadFrom, ReadHalf, WrittenHalf}
+use Rattle.gn_threads.specs.Halves.{Half}
 
 -- a body as it ended: its receipts, its half or what the half says, and its end
 pub record Ended (A E H : Type 0) : Type 0 where

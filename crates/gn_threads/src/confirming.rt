@@ -21,7 +21,7 @@ ghost use Rattle.gn_rules.specs.Legal.{IsLegal};
 ghost use Rattle.gn_rules.specs.Statistics.{stats_of};
 ghost use Rattle.gn_threads.specs.Faults.{IsFaultOf};
 ghost use Rattle.gn_threads.specs.Gathered.{reader_reported, writer_reported};
-ghost use Rattle.gn_threads.specs.Halves.{reads_of, writes_of};
+ghost use Rattle.gn_links.specs.Views.{reads_of, writes_of};
 ghost use Rattle.gn_threads.specs.Headline.{HasCountedSteps, HasLegalHistory, HasOwnStats, Holds};
 ghost use Rattle.gn_threads.specs.Kept.{EachKeeps, ReaderKeeps, WriterKeeps, halved};
 ghost use Rattle.gn_threads.specs.Shares.{amount_of, parts_of};

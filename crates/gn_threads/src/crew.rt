@@ -4,7 +4,8 @@ ghost use Rattle.std.specs.Prelude.{◌≡◌, [], ℕ, map, vec_len, true, IfEr
 ghost use Rattle.std.specs.Thread.{IsSend, IsSync};
 ghost use denote.Param.Send.{Frees};
 ghost use Rattle.gn_threads.specs.Faults.{IsFaultOf};
-ghost use Rattle.gn_threads.specs.Halves.{half_of, reads_of, writes_of};
+ghost use Rattle.gn_links.specs.Views.{reads_of, writes_of};
+ghost use Rattle.gn_threads.specs.Halves.{half_of};
 ghost use Rattle.gn_threads.specs.Joined.{AreJoined};
 ghost use Rattle.gn_threads.specs.Kept.{ReaderPromises, WriterPromises};
 

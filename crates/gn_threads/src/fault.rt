@@ -1,6 +1,7 @@
 //! Why a run has no report.
 
 use gn_bodies::BodyFault;
+use gn_links::SplitFault;
 use gn_stage::StageFault;
 use std::alloc::{AllocError, AllocFailed};
 
@@ -46,6 +47,20 @@ impl<T: Drop> From<AllocFailed<T>> for RunFault {
 
     fn from(_e: AllocFailed<T>) -> RunFault {
         RunFault::NoMemory
+    }
+}
+
+impl From<SplitFault> for RunFault {
+    ghost use Rattle.std.specs.Prelude.{◌≡◌};
+    ghost use Rattle.gn_threads.specs.Faults.{of_split};
+
+    ghost from_gives = { λ fault e. e ≡ of_split fault };
+
+    fn from(fault: SplitFault) -> RunFault {
+        match fault {
+            SplitFault::Link(link) => RunFault::Link(link),
+            SplitFault::NoMemory => RunFault::NoMemory,
+        }
     }
 }
 

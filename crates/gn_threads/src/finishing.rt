@@ -20,7 +20,7 @@ ghost use Rattle.std.specs.Prelude.{
 ghost use Rattle.gn_bodies.specs.declared.worker.WorkerDone.{WorkerDone};
 ghost use Rattle.gn_threads.specs.Faults.{IsFaultOf};
 ghost use Rattle.gn_threads.specs.Gathered.{reader_reported, writer_reported};
-ghost use Rattle.gn_threads.specs.Halves.{reads_of, writes_of};
+ghost use Rattle.gn_links.specs.Views.{reads_of, writes_of};
 ghost use Rattle.gn_threads.specs.Headline.{Holds};
 ghost use Rattle.gn_threads.specs.Kept.{
   EachKeeps,

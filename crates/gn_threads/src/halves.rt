@@ -1,13 +1,11 @@
-//! The links of a run, taken apart.
+//! The links of a run that were taken apart, as its readers and its writers.
 
-ghost use Rattle.std.specs.Prelude.{◌≡◌, ◌≤◌, ℕ, length, map, vec_len, IfErr, IfOk};
-ghost use Rattle.gn_threads.specs.Faults.{IsFaultOf};
+ghost use Rattle.std.specs.Prelude.{◌≡◌, ◌≤◌, map, vec_len, IfOk};
 ghost use Rattle.gn_links.specs.Halves.{IsNewReader, IsNewWriter};
 
-use crate::fault::RunFault;
-use gn_links::{Link, LinkReader, LinkWriter};
+use gn_links::{Link, LinkReader, LinkWriter, SplitLink, SplitLinks};
 use gn_shake::Role;
-use std::alloc::{Allocator, Global};
+use std::alloc::{AllocError, Allocator, Global};
 
 /// The half of a link that is read, new as the link gave it.
 #[derive(Drop)]
@@ -36,31 +34,31 @@ pub(crate) struct Halves<Rd: LinkReader, W: LinkWriter, A: Allocator = Global> {
     pub ghost writer_roles: { map (λ half. half.role) writers.items ≡ roles.items },
 }
 
-/// Takes the links apart, in order. The first that can't be split is named.
-pub(crate) fn split_all<K: Link, A: Allocator + Copy>(
+/// The readers and the writers of these links.
+pub(crate) fn halves_of<K: Link, A: Allocator + Copy>(
     alloc: A,
-    links: Vec<K, A>,
-) -> Result<Halves<K::Reader, K::Writer, A>, RunFault>
-    requires few { length links.items ≤ 256 }
-    ensures roles { IfOk result (λ halves. halves.roles.items ≡ map K.role_of links.items) }
-    ensures made { IfOk result (λ halves.
-        (map (λ half. K.Reader.made_of half.reader) halves.readers.items ≡ map K.origin_of links.items)
-        × (map (λ half. K.Writer.made_of half.writer) halves.writers.items ≡ map K.origin_of links.items)) }
-    ensures many { IfOk result (λ halves. (vec_len halves.roles ≡ vec_len links)
-        × (vec_len halves.readers ≡ vec_len links) × (vec_len halves.writers ≡ vec_len links)) }
-    ensures fault { IfErr result (λ fault. (workers : ℕ) → IsFaultOf (length links.items) workers fault) }
+    split: SplitLinks<K, A>,
+) -> Result<Halves<K::Reader, K::Writer, A>, AllocError>
+    requires few { vec_len split.links ≤ 256 }
+    requires many { vec_len split.roles ≡ vec_len split.links }
+    ensures roles { IfOk result (λ halves. halves.roles.items ≡ split.roles.items) }
+    ensures made { IfOk result (λ halves. (map (λ half. K.Reader.made_of half.reader) halves.readers.items
+        ≡ map (λ link. K.Reader.made_of link.reader) split.links.items)
+        × (map (λ half. K.Writer.made_of half.writer) halves.writers.items
+        ≡ map (λ link. K.Reader.made_of link.reader) split.links.items)) }
+    ensures many { IfOk result (λ halves. (vec_len halves.roles ≡ vec_len split.links)
+        × (vec_len halves.readers ≡ vec_len split.links) × (vec_len halves.writers ≡ vec_len split.links)) }
 {
-    let mut number = 0u32;
+    let mut begins = split.roles.into_iter();
     let (mut roles, mut readers, mut writers) = (Vec::new(alloc), Vec::new(alloc), Vec::new(alloc));
-    for link in links {
-        let role = link.role();
-        let Ok((reader, writer)) = link.split() else {
-            return Err(RunFault::Link(number));
+    for link in split.links {
+        let Some(role) = begins.next() else {
+            unreachable!()
         };
+        let SplitLink { reader, writer } = link;
         roles.push(role)?;
         readers.push(ReaderHalf { role, reader })?;
         writers.push(WriterHalf { role, writer })?;
-        number += 1;
     }
     Ok(Halves {
         roles,

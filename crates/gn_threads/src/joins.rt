@@ -3,7 +3,8 @@
 ghost use Rattle.std.specs.Prelude.{◌≡◌, [], ℕ, map, vec_len, if◌then◌else◌, IfErr, IfOk};
 ghost use Rattle.gn_threads.specs.declared.fault.RunFault.TheVariants.{HistoryFull, NoMemory};
 ghost use Rattle.gn_threads.specs.Faults.{IsFaultOf};
-ghost use Rattle.gn_threads.specs.Halves.{half_of, reads_of, writes_of};
+ghost use Rattle.gn_links.specs.Views.{reads_of, writes_of};
+ghost use Rattle.gn_threads.specs.Halves.{half_of};
 ghost use Rattle.gn_threads.specs.Joined.{AreJoined};
 ghost use Rattle.gn_threads.specs.Kept.{EachKeeps, ReaderPromises, WriterPromises, reader_ended, writer_ended};
 

@@ -5,7 +5,7 @@ ghost use Rattle.gn_rules.specs.Limits.{IsWithin};
 ghost use Rattle.gn_service.specs.ActorState.{AreNew};
 ghost use Rattle.gn_threads.specs.declared.fault.RunFault.TheVariants.{BadWorkers};
 ghost use Rattle.gn_threads.specs.Faults.{IsFaultOf};
-ghost use Rattle.gn_threads.specs.Halves.{reads_of, writes_of};
+ghost use Rattle.gn_links.specs.Views.{reads_of, writes_of};
 ghost use Rattle.gn_threads.specs.Headline.{
   AreMadeOf,
   HasCountedSteps,
@@ -22,9 +22,9 @@ ghost use Rattle.gn_threads.specs.Headline.{
 use crate::crew::crew;
 use crate::fault::RunFault;
 use crate::finishing::finish;
-use crate::halves::{Halves, split_all};
+use crate::halves::{Halves, halves_of};
 use crate::roster::starts_of;
-use gn_links::{Gate, Link, LinkReader, LinkWriter};
+use gn_links::{Gate, Link, LinkReader, LinkWriter, split_all};
 use gn_rules::{Config, RouterCore};
 use gn_run::Report;
 use gn_service::{Actor, Service};
@@ -83,7 +83,8 @@ where
     if workers == 0 || workers > 16 {
         return Err(RunFault::BadWorkers);
     }
-    let halves = split_all(alloc, links)?;
+    let split = split_all(alloc, links)?;
+    let halves = halves_of(alloc, split)?;
     let stage = Stage::new(alloc, config.stage as usize)?;
     let parts = 2 * halves.roles.len() as u64 + workers as u64 + 1;
     let blank = Blank::new(parts);

@@ -2,7 +2,8 @@
 
 ghost use Rattle.std.specs.Prelude.{◌≡◌, ◌+◌, ◌++◌, ◌∷◌, [], true, map, vec_len};
 ghost use Rattle.gn_links.specs.Halves.{IsNewReader, IsNewWriter};
-ghost use Rattle.gn_threads.specs.Halves.{half_of, reads_of, writes_of};
+ghost use Rattle.gn_links.specs.Views.{reads_of, writes_of};
+ghost use Rattle.gn_threads.specs.Halves.{half_of};
 ghost use Rattle.gn_threads.specs.Kept.{ReaderPromises, WriterPromises, reader_ended, writer_ended};
 
 use gn_bodies::{ReaderDone, WorkerDone, WriterDone, reader_body, worker_body, writer_body};
@@ -59,7 +60,8 @@ pub(crate) struct Reads<Rd: LinkReader, S: Site, L: Ledger, A: Allocator = Globa
 
 impl<Rd: LinkReader, S: Site, L: Ledger, A: Allocator> Promise<ReaderDone<Rd, S, L, A>>
     for Reads<Rd, S, L, A> {
-    ghost use Rattle.gn_threads.specs.Halves.{half_of, reads_of};
+    ghost use Rattle.gn_links.specs.Views.{reads_of};
+    ghost use Rattle.gn_threads.specs.Halves.{half_of};
     ghost use Rattle.gn_threads.specs.Kept.{ReaderPromises, reader_ended};
 
     ghost kept_by = { λ p r. ReaderPromises
@@ -74,7 +76,8 @@ pub(crate) struct Writes<W: LinkWriter, L: Ledger, A: Allocator = Global> {
 }
 
 impl<W: LinkWriter, L: Ledger, A: Allocator> Promise<WriterDone<W, L, A>> for Writes<W, L, A> {
-    ghost use Rattle.gn_threads.specs.Halves.{half_of, writes_of};
+    ghost use Rattle.gn_links.specs.Views.{writes_of};
+    ghost use Rattle.gn_threads.specs.Halves.{half_of};
     ghost use Rattle.gn_threads.specs.Kept.{WriterPromises, writer_ended};
 
     ghost kept_by = { λ p r. WriterPromises

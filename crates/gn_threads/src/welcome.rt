@@ -2,7 +2,7 @@
 
 ghost use Rattle.std.specs.Prelude.{◌≡◌, ◌<◌, ◌++◌, ◌∷◌, [], ℕ, All, map, vec_len, IfErr, IfOk, OnOk};
 ghost use Rattle.gn_threads.specs.Faults.{IsFaultOf};
-ghost use Rattle.gn_threads.specs.Halves.{reads_of, writes_of};
+ghost use Rattle.gn_links.specs.Views.{reads_of, writes_of};
 ghost use Rattle.gn_threads.specs.Joined.{AreJoinedOf};
 ghost use Rattle.gn_threads.specs.Kept.{ReaderPromises, WriterPromises};
 

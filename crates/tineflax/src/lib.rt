@@ -85,7 +85,7 @@ pub mod service {
 pub mod links {
     pub use gn_links::{
         Gate, Link, LinkFault, LinkReader, LinkWriter, MemoryLink, MemoryReader, MemoryWriter,
-        NoGate,
+        NoGate, SplitFault, SplitLink, SplitLinks, split_all,
     };
     pub use gn_tcp::{TcpLink, TcpReader, TcpWriter, listen};
 }

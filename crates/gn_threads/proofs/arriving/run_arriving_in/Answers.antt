@@ -2,7 +2,7 @@ use Rattle.std.proofs.Common.{◌≡◌, ◌∙◌, length, vec_len, ap, sym, su
 use Rattle.std.proofs.lemmas.List.{length-map}
 use Rattle.std.specs.Prelude.{IfErr, IfOk}
 use Rattle.gn_threads.specs.Faults.{IsFaultOf}
-use Rattle.gn_threads.specs.Halves.{reads_of, writes_of}
+use Rattle.gn_links.specs.Views.{reads_of, writes_of}
 use Rattle.gn_threads.proofs.FaultLemmas.{handed_on}
 use Rattle.gn_threads.proofs.HoldsLemmas.{readers_keep, writers_keep}
 use Rattle.gn_threads.proofs.arriving.run_arriving_in.Goals as goal

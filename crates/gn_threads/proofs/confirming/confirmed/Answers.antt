@@ -3,7 +3,7 @@ use Rattle.std.specs.Prelude.{IfSome}
 use Rattle.gn_run.specs.Actors.{actors}
 use Rattle.gn_run.specs.Ends.{is_balanced, is_settled}
 use Rattle.gn_run.specs.Flaw.{IsFlaw}
-use Rattle.gn_threads.specs.Halves.{reads_of, writes_of}
+use Rattle.gn_links.specs.Views.{reads_of, writes_of}
 use Rattle.gn_threads.proofs.FaultLemmas.{least_below}
 use Rattle.gn_threads.proofs.HoldsLemmas.{flaw_below, links_hold, others_route, own_steps, routes_each_once}
 use Rattle.gn_threads.proofs.confirming.confirmed.Goals as goal

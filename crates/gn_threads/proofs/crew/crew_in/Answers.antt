@@ -1,7 +1,8 @@
 use Rattle.std.proofs.Common.{map, vec_len, subst, ap, sym, ◌∙◌}
 use Rattle.std.specs.Prelude.{IfOk}
 use Rattle.std.proofs.lemmas.Simd.{map-map}
-use Rattle.gn_threads.specs.Halves.{half_of, reads_of, writes_of}
+use Rattle.gn_links.specs.Views.{reads_of, writes_of}
+use Rattle.gn_threads.specs.Halves.{half_of}
 use Rattle.gn_threads.specs.Joined.{AreJoined}
 use Rattle.gn_threads.specs.Kept.{ReaderPromises, WriterPromises}
 use Rattle.gn_threads.proofs.crew.crew_in.Goals as goal

@@ -1,7 +1,7 @@
 use Rattle.std.proofs.Common.{sym, subst, vec_len}
 use Rattle.gn_threads.specs.Faults.{IsFaultOf}
 use Rattle.gn_threads.specs.Gathered.{reader_reported, writer_reported}
-use Rattle.gn_threads.specs.Halves.{reads_of, writes_of}
+use Rattle.gn_links.specs.Views.{reads_of, writes_of}
 use Rattle.gn_threads.specs.Kept.{EachKeeps, ReaderKeeps, WriterKeeps, reader_homed, halved, writer_ended}
 use Rattle.gn_threads.proofs.FaultLemmas.{handed_on}
 use Rattle.gn_threads.proofs.KeptLemmas.{known_alike}

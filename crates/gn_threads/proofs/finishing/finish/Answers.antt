@@ -3,7 +3,7 @@ use Rattle.std.specs.Prelude.{IfErr, IsOk}
 use Rattle.gn_bodies.specs.declared.worker.WorkerDone.{WorkerDone}
 use Rattle.gn_threads.specs.Faults.{IsFaultOf}
 use Rattle.std.proofs.lemmas.Result.{on_ok_weaker}
-use Rattle.gn_threads.specs.Halves.{reads_of}
+use Rattle.gn_links.specs.Views.{reads_of}
 use Rattle.gn_threads.specs.Kept.{EachKeeps, ReaderKeeps, reader_ended, reader_homed, halved}
 use Rattle.gn_threads.proofs.FaultLemmas.{answer_below, below_more, handed_on, number_below, of_stop}
 use Rattle.gn_threads.proofs.KeptLemmas.{known_alike}

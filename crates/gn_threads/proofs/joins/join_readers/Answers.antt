@@ -1,5 +1,6 @@
 use Rattle.std.proofs.Common.{rules}
-use Rattle.gn_threads.specs.Halves.{half_of, reads_of}
+use Rattle.gn_links.specs.Views.{reads_of}
+use Rattle.gn_threads.specs.Halves.{half_of}
 use Rattle.gn_threads.specs.Kept.{ReaderPromises, reader_ended}
 use Rattle.gn_threads.proofs.KeptLemmas.{keeps_each}
 use Rattle.gn_threads.proofs.joins.join_readers.Goals as goal

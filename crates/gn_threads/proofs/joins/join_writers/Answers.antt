@@ -1,5 +1,6 @@
 use Rattle.std.proofs.Common.{rules}
-use Rattle.gn_threads.specs.Halves.{half_of, writes_of}
+use Rattle.gn_links.specs.Views.{writes_of}
+use Rattle.gn_threads.specs.Halves.{half_of}
 use Rattle.gn_threads.specs.Kept.{WriterPromises, writer_ended}
 use Rattle.gn_threads.proofs.KeptLemmas.{keeps_each}
 use Rattle.gn_threads.proofs.joins.join_writers.Goals as goal

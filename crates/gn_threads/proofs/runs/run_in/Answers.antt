@@ -3,7 +3,8 @@ use Rattle.std.specs.Prelude.{IfErr}
 use Rattle.std.proofs.lemmas.List.{length-map}
 use Rattle.std.proofs.lemmas.Result.{IfOk-weaker}
 use Rattle.gn_threads.specs.Faults.{IsFaultOf}
-use Rattle.gn_threads.specs.Halves.{half_of, reads_of, writes_of}
+use Rattle.gn_links.specs.Views.{reads_of, writes_of}
+use Rattle.gn_threads.specs.Halves.{half_of}
 use Rattle.gn_threads.specs.Kept.{reader_ended, writer_ended}
 use Rattle.gn_threads.proofs.FaultLemmas.{handed_on}
 use Rattle.gn_threads.proofs.HoldsLemmas.{are_made_of, both_ok, links_read_own, readers_keep, writers_keep}

@@ -1,0 +1,76 @@
+//! The links of a run, taken apart.
+
+ghost use Rattle.std.specs.Prelude.{◌≡◌, ◌<◌, ◌^◌, length, map, IfErr, IfOk};
+ghost use Rattle.gn_links.specs.Halves.{IsNewReader, IsNewWriter};
+ghost use Rattle.gn_links.specs.Split.{IsSplitFault};
+
+use crate::link::{Link, LinkReader, LinkWriter};
+use gn_shake::Role;
+use std::alloc::{AllocFailed, Allocator, Global};
+
+/// Why links couldn't be taken apart.
+#[derive(Clone, Copy, Debug, PartialEq, Eq)]
+pub enum SplitFault {
+    /// A link couldn't be split: its number, from 0 on.
+    Link(u32),
+    /// Out of memory.
+    NoMemory,
+}
+
+impl<T: Drop> From<AllocFailed<T>> for SplitFault {
+    ghost use Rattle.std.specs.Prelude.{◌≡◌};
+    ghost use Rattle.gn_links.specs.declared.split.SplitFault.TheVariants.{NoMemory};
+
+    ghost from_gives = { λ _ e. e ≡ NoMemory };
+
+    fn from(_e: AllocFailed<T>) -> SplitFault {
+        SplitFault::NoMemory
+    }
+}
+
+/// The two halves of one link, new as the link gave them.
+#[derive(Drop)]
+pub struct SplitLink<K: Link> {
+    pub reader: K::Reader,
+    pub writer: K::Writer,
+    pub ghost new_reader: { IsNewReader (K.Reader.bytes_read reader) (K.Reader.failures reader) (K.Reader.pieces reader)
+        (K.Reader.has_ended reader) },
+    pub ghost new_writer: { IsNewWriter (K.Writer.bytes_written writer) (K.Writer.failures writer)
+        (K.Writer.is_stuck writer) (K.Writer.is_finished writer) },
+    pub ghost one: { ∥ K.Writer.made_of writer ≡ K.Reader.made_of reader ∥₁ },
+}
+
+/// Links that were taken apart, and how each begins, in the order of the links.
+#[derive(Drop)]
+pub struct SplitLinks<K: Link, A: Allocator = Global> {
+    pub roles: Vec<Role, A>,
+    pub links: Vec<SplitLink<K>, A>,
+}
+
+/// Takes the links apart, in order. The first that can't be split is named.
+pub fn split_all<K: Link, A: Allocator + Copy>(
+    alloc: A,
+    links: Vec<K, A>,
+) -> Result<SplitLinks<K, A>, SplitFault>
+    requires few { length links.items < 2 ^ 32 }
+    ensures roles { IfOk result (λ split. split.roles.items ≡ map K.role_of links.items) }
+    ensures made { IfOk result (λ split.
+        map (λ link. K.Reader.made_of link.reader) split.links.items ≡ map K.origin_of links.items) }
+    ensures fault { IfErr result (IsSplitFault (length links.items)) }
+{
+    let mut number = 0u32;
+    let (mut roles, mut split) = (Vec::new(alloc), Vec::new(alloc));
+    for link in links {
+        let role = link.role();
+        let Ok((reader, writer)) = link.split() else {
+            return Err(SplitFault::Link(number));
+        };
+        roles.push(role)?;
+        split.push(SplitLink { reader, writer })?;
+        number += 1;
+    }
+    Ok(SplitLinks {
+        roles,
+        links: split,
+    })
+}
