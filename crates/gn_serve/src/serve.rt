@@ -32,7 +32,7 @@ use std::time::Duration;
 /// write that waits longer than `idle` fails. At most 256 links.
 ///
 /// Of several faults it answers the one that `run` of gn_threads does. Where a call, an accept or a split fails, the bodies that
-/// have started are ended and joined first: their peers have to end, or to be silent for longer than `idle`.
+/// have started are ended and joined first, and their peers are let go.
 pub fn serve_on<
     C: RouterCore<A> + Drop + Send,
     G: Gate + Sync,
