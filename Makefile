@@ -11,7 +11,7 @@ help:
 	@echo 'make install   the same, and puts the program at PREFIX/bin/gn (PREFIX=$(PREFIX))'
 	@echo 'make examples  replays and audits all examples with the proved program, and compares what it prints'
 	@echo 'make test      the merge gate: every proof from nothing, the must-fail edits, the tests, the programs'
-	@echo 'make bench     proves and runs the benchmarks; their times go to standard error'
+	@echo 'make bench     proves and runs the benchmarks, those of the program gn among them'
 	@echo 'make definitions  prints each definition that contracts cite, beside its words'
 	@echo 'make pictures  draws docs/pictures from examples/, with the proved program; wants Graphviz and gnuplot'
 	@echo 'make clean     removes all that was built'
@@ -42,19 +42,16 @@ examples: build
 test:
 	rt ci
 
-# What a call of each table takes, and jobs a second through the stage queue; then, each load three times in a process of its
-# own, what a step through the lock takes, the flaw of a report beside the audit of its history, and replays and audits; then
-# loads of 1, 2, 4 and 16 workers beside replays, seven times. Times go to standard error, the table of the loads to standard
-# output.
-bench:
+# What a call of each table and a job through the stage queue takes; then, three times in a process of its own, what a step through
+# the lock takes, and the flaw of a report beside the audit of its history: these go to standard error. Then tables of what the
+# program gn takes: replays and audits of mixed captures, and loads of 1, 2, 4 and 16 workers beside replays.
+bench: build
 	scripts/build gn_bench
 	crates/gn_bench/out/gn_bench tables 1000000
-	crates/gn_bench/out/gn_bench stage 1000000
-	for run in 1 2 3; do for load in 'hub 1 100000' 'hub 4 100000' 'hub 16 100000' 'flaw 1000000' 'replay table 300' \
-		'replay table 1000' 'replay table 3000' 'replay table 10000' 'replay table 100000' 'replay comments 100000' \
-		'replay piece 1000000' 'replay plain 300' 'replay plain 1000'; do \
+	for run in 1 2 3; do for load in 'stage 1000000' 'hub 1 100000' 'hub 4 100000' 'hub 16 100000' 'flaw 1000000'; do \
 		crates/gn_bench/out/gn_bench $$load || exit 1; done; done
-	scripts/bench_load crates/gn_bench/out/gn_bench
+	scripts/bench_replay crates/gn/out/gn
+	scripts/bench_load crates/gn/out/gn
 
 # Each definition that contracts cite, beside the words that stand above it.
 definitions:

@@ -2,16 +2,15 @@
 
 ghost use Rattle.std.specs.Prelude.{◌≡◌, length, IfOk};
 
-use crate::measured::{Measured, fault};
-use crate::replays::time_audit;
-use crate::setup::config;
-use bytes::Bytes;
+use crate::setup::{config, each, fault, ping};
 use gn_bodies::{ReaderEnd, WriterEnd};
+use gn_capture::write_history;
+use gn_io::{ReaderSource, WriterSink};
+use gn_replay::audit;
 use gn_router::TableRouter;
-use gn_rules::{Config, Event, Receipt, RouterCore, Step};
+use gn_rules::{Config, Event, Legality, Receipt, RouterCore, Step};
 use gn_run::{LinkReport, Report};
 use gn_shake::Role;
-use gn_wire::{Descriptor, Guid, Kind};
 use std::alloc::Allocator;
 use std::io;
 use std::rt::Runtime;
@@ -27,15 +26,15 @@ const STEPS_OF_ONE: u32 = 17;
 
 /// A run as it is made up: its router, and the receipts of each actor.
 #[derive(Drop)]
-struct MadeUp<C: RouterCore<A> + Drop, A: Allocator + Copy> {
-    core: C,
+struct MadeUp<A: Allocator + Copy> {
+    core: TableRouter<A>,
     receipts: Vec<Vec<Receipt<A>, A>, A>,
 }
 
-impl<C: RouterCore<A> + Drop, A: Allocator + Copy> MadeUp<C, A> {
+impl<A: Allocator + Copy> MadeUp<A> {
     /// A run with no steps.
     fn new(alloc: A, config: &Config) -> io::Result<Self> {
-        let core = C::make(alloc, config)?;
+        let core = TableRouter::make(alloc, config)?;
         let mut receipts = Vec::new(alloc);
         for _ in 0..=WORKER {
             receipts.push(Vec::new(alloc))?;
@@ -53,35 +52,26 @@ impl<C: RouterCore<A> + Drop, A: Allocator + Copy> MadeUp<C, A> {
         Ok(admitted)
     }
 
-    /// A Ping that comes on a link, and is routed.
-    fn offer(&mut self, alloc: A, link: u32, number: u32) -> io::Result<()> {
-        let id = Guid(u128::from(number).to_be_bytes());
-        let payload = Bytes::copy_from_slice(alloc, &[])?;
-        let ping = Descriptor::new(id, Kind::Ping, 1, 0, payload).map_err(fault)?;
-        let connection = link % LINKS + 1;
-        if let Some(ticket) = self.step(link % LINKS, &Event::Admit(connection, ping))? {
-            self.step(WORKER, &Event::Route(ticket))?;
-        }
-        Ok(())
-    }
-
-    /// One ID on each link in turn. The first is answered with a Pong, which is taken, and the others are duplicates.
-    fn flood(&mut self, alloc: A, number: u32) -> io::Result<()> {
+    /// One ID on each link in turn, each routed. The first is answered with a Pong, which is taken, the others are duplicates.
+    fn flood(&mut self, number: u32) -> io::Result<()> {
         let first = number % LINKS;
         for k in 0..LINKS {
-            self.offer(alloc, first + k, number)?;
+            let link = (first + k) % LINKS;
+            if let Some(ticket) = self.step(link, &Event::Admit(link + 1, ping(number)?))? {
+                self.step(WORKER, &Event::Route(ticket))?;
+            }
         }
         self.step(LINKS + first, &Event::Take(first + 1))?;
         Ok(())
     }
 
     /// Each link connects, so many IDs come, and each writer closes its connection.
-    fn play(&mut self, alloc: A, count: u32) -> io::Result<()> {
+    fn play(&mut self, count: u32) -> io::Result<()> {
         for link in 0..LINKS {
             self.step(link, &Event::Connect)?;
         }
         for number in 0..count {
-            self.flood(alloc, number)?;
+            self.flood(number)?;
         }
         for link in 0..LINKS {
             self.step(LINKS + link, &Event::Close(link + 1))?;
@@ -126,50 +116,39 @@ impl<C: RouterCore<A> + Drop, A: Allocator + Copy> MadeUp<C, A> {
     }
 }
 
-/// The report of a run of about so many steps.
-fn made_up<A: Allocator + Copy, C: RouterCore<A> + Drop>(
-    alloc: A,
-    config: &Config,
-    steps: u32,
-) -> io::Result<Report<(), (), A>>
-    ensures { IfOk result (λ report. length report.links.items ≡ 8) }
-{
-    let mut run = MadeUp::<C, A>::new(alloc, config)?;
-    run.play(alloc, steps.saturating_sub(2 * LINKS) / STEPS_OF_ONE)?;
-    run.into_report(alloc)
-}
-
-/// How long the flaw of a report took, and whether there was none.
-fn time_flaw<R: Runtime<A: Copy>>(
+/// What the audit of a history takes, and whether it is legal.
+fn time_audit<R: Runtime<A: Copy>>(
     rt: &R,
-    report: &Report<(), (), R::A>,
-) -> io::Result<(Measured, bool)>
-    requires { length report.now.links.items ≡ 8 }
-{
+    config: &Config,
+    steps: &[Step<R::A>],
+) -> io::Result<(u128, bool)> {
+    let mut history = Vec::new(rt.alloc());
+    write_history(config, steps, &mut history)?;
     let start = Instant::now(rt)?;
-    let flaw = report.flaw(&[Role::Plain; 8]);
-    Ok((
-        Measured::since(rt, report.history.len(), &start)?,
-        flaw.is_none(),
-    ))
-}
-
-/// The history alone.
-fn history_of<A: Allocator>(report: Report<(), (), A>) -> Vec<Step<A>, A> {
-    report.history
+    let mut source = ReaderSource::new(history.as_slice());
+    let mut sink = WriterSink::new(Vec::new(rt.alloc()));
+    let legality = audit::<R::A, TableRouter<R::A>, _, _>(
+        rt.alloc(),
+        &mut source,
+        &mut sink,
+    ).map_err(fault)?;
+    let time = each(rt, steps.len() as u64, &start)?;
+    Ok((time, legality == Legality::Legal))
 }
 
 /// The flaw of the report of a run of about so many steps, and the audit of its history.
 pub(crate) fn measure_flaw<R: Runtime<A: Copy>>(rt: &R, steps: u32) -> io::Result<()> {
     let config = config(LINKS)?;
-    let report = made_up::<R::A, TableRouter<R::A>>(rt.alloc(), &config, steps)?;
-    let (flaw, is_flawless) = time_flaw(rt, &report)?;
-    let history = history_of(report);
-    let count = history.len();
-    let (audit, is_legal) = time_audit::<R, TableRouter<R::A>>(rt, &config, history)?;
-    let found = if is_flawless { "no flaw" } else { "a flaw" };
+    let mut run = MadeUp::new(rt.alloc(), &config)?;
+    run.play(steps.saturating_sub(2 * LINKS) / STEPS_OF_ONE)?;
+    let report = run.into_report(rt.alloc())?;
+    let start = Instant::now(rt)?;
+    let flaw = report.flaw(&[Role::Plain; 8]);
+    let count = report.history.len();
+    let time = each(rt, count as u64, &start)?;
+    let (audit, is_legal) = time_audit(rt, &config, &report.history)?;
+    let found = if flaw.is_none() { "no flaw" } else { "a flaw" };
     let legality = if is_legal { "legal" } else { "wrong" };
     println!(rt; "flaw: {count} steps, {found}, {legality}")?;
-    flaw.print(rt, "flaw", "step")?;
-    audit.print(rt, "audit", "step")
+    eprintln!(rt; "flaw: {time} ns a step, audit: {audit} ns a step")
 }

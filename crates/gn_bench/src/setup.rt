@@ -1,9 +1,12 @@
-//! How the routers that are measured by themselves are set up.
+//! What several benchmarks need.
 
-use crate::measured::fault;
+use bytes::Bytes;
 use gn_rules::{Config, Own};
-use gn_wire::Guid;
-use std::io;
+use gn_wire::{Descriptor, Guid, Kind};
+use std::alloc::Allocator;
+use std::io::{self, ErrorKind};
+use std::rt::Runtime;
+use std::time::Instant;
 
 const OWN: Own = Own {
     servent: Guid([0x47; 16]),
@@ -16,4 +19,24 @@ const OWN: Own = Own {
 /// The configuration of a captured run, with so many neighbours.
 pub(crate) fn config(neighbours: u32) -> io::Result<Config> {
     Config::new(neighbours, 1_024, 64, 16, 64, 1_000_000, OWN).map_err(fault)
+}
+
+/// An ID of its own for each number.
+pub(crate) fn numbered(number: u32) -> Guid {
+    Guid(u128::from(number).to_be_bytes())
+}
+
+/// A Ping with the number's ID, which is answered and not passed on.
+pub(crate) fn ping<A: Allocator>(number: u32) -> io::Result<Descriptor<A>> {
+    Descriptor::new(numbered(number), Kind::Ping, 1, 0, Bytes::new()).map_err(fault)
+}
+
+/// The nanoseconds that each of so many calls or steps took, which were begun at this instant.
+pub(crate) fn each<R: Runtime>(rt: &R, count: u64, start: &Instant) -> io::Result<u128> {
+    Ok(start.elapsed(rt)?.as_nanos() / u128::from(count.max(1)))
+}
+
+/// The fault of a benchmark, whatever went wrong in it.
+pub(crate) fn fault<E: Drop>(_fault: E) -> io::Error {
+    io::Error::from(ErrorKind::Other)
 }

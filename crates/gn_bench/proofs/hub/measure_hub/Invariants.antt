@@ -1,4 +1,4 @@
-use Rattle.gn_bench.proofs.hub.play_on_tables.Given as goal
+use Rattle.gn_bench.proofs.hub.measure_hub.Given as goal
 
 abbrev pub ghosts-play : goal.ghosts-play
 ghosts-play g a = record { name = a.blank.name; parts = a.blank.parts }
