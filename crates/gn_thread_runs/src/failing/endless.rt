@@ -1,0 +1,90 @@
+//! A link that never ends.
+
+use super::slow::SlowWriter;
+use gn_links::{Link, LinkFault, LinkReader, MemoryLink};
+use gn_shake::Role;
+use std::snapshot::Snapshot;
+use std::sync::Wait;
+
+/// Gives a zero byte a read, without end.
+#[derive(Drop)]
+pub(super) struct EndlessReader {
+    link: Snapshot<MemoryLink>,
+    pieces: u64,
+    is_finished: bool,
+}
+
+impl LinkReader for EndlessReader {
+    type Origin = MemoryLink;
+
+    ghost use Rattle.std.specs.Prelude.{[], false};
+
+    ghost is_known = { false };
+
+    ghost made_of = { λ r. r.link.value };
+
+    ghost gives = { λ _. record { bytes = []; may_fail = false } };
+
+    ghost bytes_read = { λ _. [] };
+
+    ghost failures = { λ _. 0 };
+
+    ghost pieces = { λ r. r.pieces };
+
+    ghost has_ended = { λ _. false };
+
+    ghost is_finished = { λ r. r.is_finished };
+
+    fn read<R: Wait>(&mut self, _rt: &R, buffer: &mut [u8]) -> Result<usize, LinkFault> {
+        if buffer.is_empty() {
+            return Ok(0);
+        }
+        buffer[0] = 0;
+        self.pieces = self.pieces.saturating_add(1);
+        Ok(1)
+    }
+
+    fn finish<R: Wait>(&mut self, _rt: &R) {
+        self.is_finished = true;
+    }
+}
+
+/// A link that gives zero bytes without end, in place of those of a memory link, and whose writer is slow.
+#[derive(Drop)]
+pub(super) struct EndlessLink {
+    link: MemoryLink,
+}
+
+impl EndlessLink {
+    /// This link, but that its reader gives zero bytes without end.
+    pub(super) fn new(link: MemoryLink) -> Self {
+        EndlessLink { link }
+    }
+}
+
+impl Link for EndlessLink {
+    type Origin = MemoryLink;
+
+    type Reader = EndlessReader;
+
+    type Writer = SlowWriter;
+
+    ghost role_of = { λ l. l.link.role };
+
+    ghost origin_of = { λ l. l.link };
+
+    fn role(&self) -> Role {
+        self.link.role()
+    }
+
+    fn split(self) -> Result<(EndlessReader, SlowWriter), LinkFault> {
+        let link = Snapshot::of(&self.link);
+        let (_, writer) = self.link.split()?;
+        let reader = EndlessReader {
+            link,
+            pieces: 0,
+            is_finished: false,
+        };
+        Ok((reader, SlowWriter::new(writer, false)))
+    }
+}

@@ -1,0 +1,112 @@
+//! A link whose writer takes one byte at a time, or none at first.
+
+ghost use Rattle.std.specs.Prelude.{◌≡◌, false, take};
+
+use gn_links::{Link, LinkFault, LinkWriter, MemoryLink, MemoryReader, MemoryWriter};
+use gn_shake::Role;
+use std::sync::Wait;
+
+/// Passes the first byte of each piece on to a memory link's writer. One that stalls takes nothing of its first piece.
+#[derive(Drop)]
+pub(super) struct SlowWriter {
+    writer: MemoryWriter,
+    stalls: bool,
+    is_stuck: bool,
+}
+
+impl SlowWriter {
+    /// Writes to this writer one byte at a time; and nothing at first, where it stalls.
+    pub(super) fn new(writer: MemoryWriter, stalls: bool) -> Self
+        ensures writer { result.writer ≡ writer }
+        ensures free { result.is_stuck ≡ false }
+    {
+        SlowWriter {
+            writer,
+            stalls,
+            is_stuck: false,
+        }
+    }
+
+    /// What was written, for keeps.
+    pub(super) fn into_bytes(self) -> Vec<u8> {
+        self.writer.into_bytes()
+    }
+}
+
+/// The first byte of a piece, where it has one.
+fn first_of(piece: &[u8]) -> &[u8]
+    ensures { result.now ≡ take 1 piece.now }
+{
+    &piece[..piece.len().min(1)]
+}
+
+impl LinkWriter for SlowWriter {
+    type Origin = MemoryLink;
+
+    ghost use Rattle.std.specs.Prelude.{true};
+
+    ghost is_known = { true };
+
+    ghost made_of = { λ w. w.writer.link };
+
+    ghost bytes_written = { λ w. w.writer.bytes };
+
+    ghost failures = { λ w. w.writer.failures };
+
+    ghost is_stuck = { λ w. w.is_stuck };
+
+    ghost is_finished = { λ w. w.writer.is_finished };
+
+    fn write<R: Wait>(&mut self, rt: &R, piece: &[u8]) -> Result<usize, LinkFault> {
+        if self.stalls {
+            self.stalls = false;
+            self.is_stuck |= !piece.is_empty();
+            return Ok(0);
+        }
+        let answer = self.writer.write(rt, first_of(piece));
+        if let Ok(0) = answer {
+            self.is_stuck |= !piece.is_empty();
+        }
+        answer
+    }
+
+    fn finish<R: Wait>(&mut self, rt: &R) {
+        self.writer.finish(rt);
+    }
+}
+
+/// A memory link whose writer is slow.
+#[derive(Drop)]
+pub(super) struct SlowLink {
+    link: MemoryLink,
+    stalls: bool,
+}
+
+impl SlowLink {
+    /// This link, whose writer takes one byte at a time; and nothing at first, where it stalls.
+    pub(super) fn new(link: MemoryLink, stalls: bool) -> Self {
+        SlowLink { link, stalls }
+    }
+}
+
+impl Link for SlowLink {
+    type Origin = MemoryLink;
+
+    type Reader = MemoryReader;
+
+    type Writer = SlowWriter;
+
+    ghost role_of = { λ l. l.link.role };
+
+    ghost origin_of = { λ l. l.link };
+
+    fn role(&self) -> Role {
+        self.link.role()
+    }
+
+    fn split(self) -> Result<(MemoryReader, SlowWriter), LinkFault> {
+        let SlowLink { link, stalls } = self;
+        let (reader, writer) = link.split()?;
+        Ok((reader, SlowWriter::new(writer, stalls)))
+    }
+}
