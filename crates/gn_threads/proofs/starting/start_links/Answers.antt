@@ -1,8 +1,8 @@
-use Rattle.std.proofs.Common.{◌<◌, arith, rules, sym, vec_len}
+use Rattle.std.proofs.Common.{◌<◌, ◌∙◌, arith, rules, sym, vec_len}
 use Rattle.std.specs.Vec.Iter.{into_iter_items}
 use Rattle.std.proofs.lemmas.List.Elements.{All-head, All-rest, All-same}
 use Rattle.gn_threads.proofs.KeptLemmas.{all_started, one_started}
-use Rattle.gn_threads.proofs.welcome.start_links.Goals as goal
+use Rattle.gn_threads.proofs.starting.start_links.Goals as goal
 
 pub returns-in-Err-clause-fault : goal.returns-in-Err-clause-fault
 returns-in-Err-clause-fault g c = λ workers.
@@ -19,6 +19,8 @@ loop-reading-preserved g c =
           c.in-Ok.ensures.readers c.in-Some.ensures.steps.0 c.loop-reading.invariant.readers;
       writers = one_started (λ h. h.promise.start.value.role) (λ p. p.role) c.loop-reading.handles.writers.items c.start_link.new.handles.writers.items (into_iter_items c.loop-reading.writers) (into_iter_items c.next-in-loop-reading.new.self) c.in-Some-next.writing _
           c.in-Ok.ensures.writers (search rules) c.loop-reading.invariant.writers;
+      read = c.in-Ok.ensures.read ∙ c.loop-reading.invariant.read;
+      written = c.in-Ok.ensures.written ∙ c.loop-reading.invariant.written;
       workers = search rules;
     }
 

@@ -1,4 +1,4 @@
-//! All bodies of a run whose links come one after another.
+//! How all bodies of a run are started and joined.
 
 ghost use Rattle.std.specs.Prelude.{◌≡◌, ◌<◌, ◌++◌, ◌∷◌, [], ℕ, All, map, vec_len, IfErr, IfOk, OnOk};
 ghost use Rattle.gn_threads.specs.Faults.{IsFaultOf};
@@ -39,7 +39,7 @@ fn start_link<
     alloc: A,
     scope: &'s Scope<'s, E>,
     service: &'s Service<C, L, A>,
-    arrivals: &V,
+    arrivals: &mut V,
     reading: ReaderPlace<S, L, A>,
     writing: WriterPlace<L, A>,
     handles: &mut Handles<Rd, W, S, L, A>,
@@ -48,6 +48,12 @@ fn start_link<
         ≡ map (λ h. h.promise.start.value.role) handles.old.readers.items ++ reading.role ∷ []) }
     ensures writers { OnOk result (map (λ h. h.promise.start.value.role) handles.new.writers.items
         ≡ map (λ h. h.promise.start.value.role) handles.old.writers.items ++ writing.role ∷ []) }
+    ensures read { OnOk result (map (λ h. Rd.made_of h.promise.start.value.reader) handles.new.readers.items
+            ++ V.coming arrivals.new
+        ≡ map (λ h. Rd.made_of h.promise.start.value.reader) handles.old.readers.items ++ V.coming arrivals.old) }
+    ensures written { OnOk result (map (λ h. W.made_of h.promise.start.value.writer) handles.new.writers.items
+            ++ V.coming arrivals.new
+        ≡ map (λ h. W.made_of h.promise.start.value.writer) handles.old.writers.items ++ V.coming arrivals.old) }
     ensures workers { handles.new.workers ≡ handles.old.workers }
     ensures fault { IfErr result (λ fault. (links workers : ℕ) → reading.link < links → IsFaultOf links workers fault) }
 {
@@ -80,7 +86,7 @@ fn start_links<
     alloc: A,
     scope: &'s Scope<'s, E>,
     service: &'s Service<C, L, A>,
-    arrivals: &V,
+    arrivals: &mut V,
     readers: Vec<ReaderPlace<S, L, A>, A>,
     writers: Vec<WriterPlace<L, A>, A>,
     handles: &mut Handles<Rd, W, S, L, A>,
@@ -92,6 +98,10 @@ fn start_links<
         ≡ map (λ p. p.role) readers.items) }
     ensures writers { OnOk result (map (λ h. h.promise.start.value.role) handles.new.writers.items
         ≡ map (λ p. p.role) writers.items) }
+    ensures read { OnOk result (map (λ h. Rd.made_of h.promise.start.value.reader) handles.new.readers.items
+        ++ V.coming arrivals.new ≡ V.coming arrivals.old) }
+    ensures written { OnOk result (map (λ h. W.made_of h.promise.start.value.writer) handles.new.writers.items
+        ++ V.coming arrivals.new ≡ V.coming arrivals.old) }
     ensures workers { handles.new.workers ≡ handles.old.workers }
     ensures fault { IfErr result (λ fault. (workers : ℕ) → IsFaultOf (vec_len readers) workers fault) }
 {
@@ -129,7 +139,7 @@ fn start_all<
     scope: &'s Scope<'s, E>,
     service: &'s Service<C, L, A>,
     gate: &'s G,
-    arrivals: &V,
+    arrivals: &mut V,
     places: Places<S, L, A>,
     handles: &mut Handles<Rd, W, S, L, A>,
 ) -> Result<(), RunFault>
@@ -139,6 +149,10 @@ fn start_all<
         ≡ map (λ p. p.role) places.readers.items) }
     ensures writers { OnOk result (map (λ h. h.promise.start.value.role) handles.new.writers.items
         ≡ map (λ p. p.role) places.writers.items) }
+    ensures read { OnOk result (map (λ h. Rd.made_of h.promise.start.value.reader) handles.new.readers.items
+        ++ V.coming arrivals.new ≡ V.coming arrivals.old) }
+    ensures written { OnOk result (map (λ h. W.made_of h.promise.start.value.writer) handles.new.writers.items
+        ++ V.coming arrivals.new ≡ V.coming arrivals.old) }
     ensures workers { OnOk result (vec_len handles.new.workers ≡ vec_len places.workers) }
     ensures fault { IfErr result (λ fault. (workers : ℕ) → IsFaultOf (vec_len places.readers) workers fault) }
 {
@@ -157,7 +171,7 @@ fn start_all<
 
 /// Starts all bodies and joins them. Where a link doesn't come, or a thread can't be made, the run fails, and each thread
 /// that started is joined.
-fn welcome_in<
+fn start_and_join_in<
     's,
     E: 's,
     Rd: LinkReader + Send + 's,
@@ -175,14 +189,14 @@ fn welcome_in<
     scope: &'s Scope<'s, E>,
     service: &'s Service<C, L, A>,
     gate: &'s G,
-    arrivals: &V,
+    mut arrivals: V,
     places: Places<S, L, A>,
 ) -> Result<Done<Rd, W, S, L, A>, RunFault>
     ensures joined { IfOk result (λ done. AreJoinedOf
         (ReaderPromises (reads_of Rd.is_known Rd.bytes_read Rd.failures Rd.pieces Rd.has_ended) Rd.made_of Rd.gives)
         (WriterPromises (writes_of W.is_known W.bytes_written W.failures W.is_stuck W.is_finished) W.made_of)
-        (map (λ p. p.role) places.readers.items) (map (λ p. p.role) places.writers.items)
-        (vec_len places.workers) done) }
+        Rd.made_of W.made_of (map (λ p. p.role) places.readers.items) (map (λ p. p.role) places.writers.items)
+        (V.coming arrivals) (vec_len places.workers) done) }
     ensures fault { IfErr result (λ fault. (workers : ℕ) → IsFaultOf (vec_len places.readers) workers fault) }
 {
     let mut handles = Handles::new(alloc);
@@ -192,7 +206,7 @@ fn welcome_in<
         scope,
         service,
         gate,
-        arrivals,
+        &mut arrivals,
         places,
         &mut handles,
     ) {
@@ -216,7 +230,7 @@ fn first(fault: RunFault, found: RunFault) -> RunFault
 }
 
 /// Runs all bodies at once, to their ends. Whatever the fault, none of them runs on.
-pub(crate) fn welcome<
+pub(crate) fn start_and_join<
     Rd: LinkReader + Send,
     W: LinkWriter + Send,
     V: Arrivals<Reader = Rd, Writer = W>,
@@ -231,17 +245,17 @@ pub(crate) fn welcome<
     alloc: A,
     service: &Service<C, L, A>,
     gate: &G,
-    arrivals: &V,
+    arrivals: V,
     places: Places<S, L, A>,
 ) -> Result<Done<Rd, W, S, L, A>, RunFault>
     ensures joined { IfOk result (λ done. AreJoinedOf
         (ReaderPromises (reads_of Rd.is_known Rd.bytes_read Rd.failures Rd.pieces Rd.has_ended) Rd.made_of Rd.gives)
         (WriterPromises (writes_of W.is_known W.bytes_written W.failures W.is_stuck W.is_finished) W.made_of)
-        (map (λ p. p.role) places.readers.items) (map (λ p. p.role) places.writers.items)
-        (vec_len places.workers) done) }
+        Rd.made_of W.made_of (map (λ p. p.role) places.readers.items) (map (λ p. p.role) places.writers.items)
+        (V.coming arrivals) (vec_len places.workers) done) }
     ensures fault { IfErr result (λ fault. (workers : ℕ) → IsFaultOf (vec_len places.readers) workers fault) }
 {
     thread::scope(thread::scope_env(), rt, |scope| {
-        welcome_in(rt, alloc, scope, service, gate, arrivals, places)
+        start_and_join_in(rt, alloc, scope, service, gate, arrivals, places)
     })
 }

@@ -1,11 +1,13 @@
-use Rattle.std.proofs.Common.{map, subst, vec_len, ◌∙◌}
+use Rattle.std.proofs.Common.{ap, length, map, subst, sym, vec_len, ◌∙◌}
+use Rattle.std.proofs.lemmas.List.{length-map}
 use Rattle.std.proofs.lemmas.Result.{IfOk-weaker}
 use Rattle.std.proofs.lemmas.Simd.{map-map}
 use Rattle.gn_links.specs.Views.{reads_of, writes_of}
 use Rattle.gn_threads.specs.Halves.{half_of}
 use Rattle.gn_threads.specs.Joined.{AreJoined, AreJoinedOf}
 use Rattle.gn_threads.specs.Kept.{ReaderPromises, WriterPromises}
-use Rattle.gn_threads.proofs.welcome.welcome_in.Goals as goal
+use Rattle.gn_threads.proofs.PlaceLemmas.{first_come}
+use Rattle.gn_threads.proofs.starting.start_and_join_in.Goals as goal
 
 pub returns-in-Err-clause-fault : goal.returns-in-Err-clause-fault
 returns-in-Err-clause-fault g c = λ workers. c.first.ensures (vec_len c.args.places.readers) workers (c.in-Err.ensures.fault workers) (c.give_up-found.ensures (vec_len c.args.places.readers) workers)
@@ -17,13 +19,19 @@ returns-in-Ok-clause-joined g c =
     let handles = c.start_all.new.handles in
     let reading = map (λ h. half_of h.promise.start.value.role h.promise.start.value.reader) handles.readers.items in
     let writing = map (λ h. half_of h.promise.start.value.role h.promise.start.value.writer) handles.writers.items in
-    IfOk-weaker _ _ (λ done. AreJoinedOf reads writes (map (λ p. p.role) c.args.places.readers.items) (map (λ p. p.role) c.args.places.writers.items) (vec_len c.args.places.workers) done)
+    IfOk-weaker _ _ (λ done. AreJoinedOf reads writes g.Rd.LinkReader.made_of g.W.LinkWriter.made_of (map (λ p. p.role) c.args.places.readers.items) (map (λ p. p.role) c.args.places.writers.items) (g.V.Arrivals.coming c.args.arrivals) (vec_len c.args.places.workers) done)
     (λ done joined.
     record {
       reading = reading;
       writing = writing;
       reading_roles = map-map (λ l. l.role) (λ h. half_of h.promise.start.value.role h.promise.start.value.reader) handles.readers.items ∙ c.in-Ok.ensures.readers;
       writing_roles = map-map (λ l. l.role) (λ h. half_of h.promise.start.value.role h.promise.start.value.writer) handles.writers.items ∙ c.in-Ok.ensures.writers;
+      reading_made = map-map (λ l. g.Rd.LinkReader.made_of l.half) (λ h. half_of h.promise.start.value.role h.promise.start.value.reader) handles.readers.items
+          ∙ first_come (λ h. g.Rd.LinkReader.made_of h.promise.start.value.reader) handles.readers.items _ (g.V.Arrivals.coming c.args.arrivals) _ c.in-Ok.ensures.read
+          (sym (length-map handles.readers.items (λ h. h.promise.start.value.role)) ∙ ap length c.in-Ok.ensures.readers);
+      writing_made = map-map (λ l. g.W.LinkWriter.made_of l.half) (λ h. half_of h.promise.start.value.role h.promise.start.value.writer) handles.writers.items
+          ∙ first_come (λ h. g.W.LinkWriter.made_of h.promise.start.value.writer) handles.writers.items _ (g.V.Arrivals.coming c.args.arrivals) _ c.in-Ok.ensures.written
+          (sym (length-map handles.writers.items (λ h. h.promise.start.value.role)) ∙ ap length c.in-Ok.ensures.writers);
       joined = subst (λ n. AreJoined reads writes reading writing n done) c.in-Ok.ensures.workers joined;
     })
     c.join.ensures.joined
