@@ -49,10 +49,10 @@ fn start_link<
     ensures writers { OnOk result (map (λ h. h.promise.start.value.role) handles.new.writers.items
         ≡ map (λ h. h.promise.start.value.role) handles.old.writers.items ++ writing.role ∷ []) }
     ensures read { OnOk result (map (λ h. Rd.made_of h.promise.start.value.reader) handles.new.readers.items
-            ++ V.coming arrivals.new
+        ++ V.coming arrivals.new
         ≡ map (λ h. Rd.made_of h.promise.start.value.reader) handles.old.readers.items ++ V.coming arrivals.old) }
     ensures written { OnOk result (map (λ h. W.made_of h.promise.start.value.writer) handles.new.writers.items
-            ++ V.coming arrivals.new
+        ++ V.coming arrivals.new
         ≡ map (λ h. W.made_of h.promise.start.value.writer) handles.old.writers.items ++ V.coming arrivals.old) }
     ensures workers { handles.new.workers ≡ handles.old.workers }
     ensures fault { IfErr result (λ fault. (links workers : ℕ) → reading.link < links → IsFaultOf links workers fault) }
