@@ -70,6 +70,7 @@ pub fn serve_on<
         net: rt,
         listener,
         called: peers,
+        left: links as u32,
         idle,
     };
     run_arriving::<C, _, _, _, _, _, _>(
@@ -77,7 +78,7 @@ pub fn serve_on<
         alloc,
         config,
         &roles[..links],
-        &arrivals,
+        arrivals,
         workers,
         gate,
     )
