@@ -9,8 +9,8 @@ use Rattle.gn_threads.specs.Kept.{ReaderPromises, WriterPromises}
 use Rattle.gn_threads.proofs.PlaceLemmas.{first_come}
 use Rattle.gn_threads.proofs.starting.start_and_join_in.Goals as goal
 
-pub returns-in-Err-clause-fault : goal.returns-in-Err-clause-fault
-returns-in-Err-clause-fault g c = λ workers. c.first.ensures (vec_len c.args.places.readers) workers (c.in-Err.ensures.fault workers) (c.give_up-found.ensures (vec_len c.args.places.readers) workers)
+pub returns-clause-fault : goal.returns-clause-fault
+returns-clause-fault g c = λ workers. c.first.ensures (vec_len c.args.places.readers) workers (c.in-Err.ensures.fault workers) (c.give_up-found.ensures (vec_len c.args.places.readers) workers)
 
 pub returns-in-Ok-clause-joined : goal.returns-in-Ok-clause-joined
 returns-in-Ok-clause-joined g c =
