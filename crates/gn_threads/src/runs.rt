@@ -74,7 +74,8 @@ where
     if workers == 0 || workers > 16 {
         return Err(RunFault::BadWorkers);
     }
-    let SplitLinks { roles, links } = split_all(alloc, links)?;
+    let split = split_all(alloc, links)?;
+    let SplitLinks { roles, links } = split;
     let arrivals = Arrived {
         links: links.into_iter(),
     };

@@ -1,5 +1,6 @@
 use Rattle.std.proofs.Common.{◌≡◌, ℕ, List, length, map, take, ap, subst, sym, rules, ◌∙◌}
 use Rattle.std.specs.Prelude.{IfErr, IfOk}
+use Rattle.std.specs.Vec.Iter.{into_iter_items}
 use Rattle.std.proofs.lemmas.List.{length-map}
 use Rattle.std.proofs.lemmas.Simd.{map-map}
 use Rattle.gn_rules.specs.Limits.{IsWithin}
@@ -30,13 +31,15 @@ returns-clause-links g c = subst (λ roles. IfOk c.run_arriving.result (λ repor
 pub returns-clause-bytes : goal.returns-clause-bytes
 returns-clause-bytes g c =
     let origins = c.in_ok-split.ensures.made in
+    let gives : into_iter_items c.into_iter.result ≡ c.in_ok-split.split.links.items = search rules in
     let many = ap length (c.as_slice.ensures.value ∙ c.in_ok-split.ensures.roles) ∙ length-map c.args.links.items g.K.Link.role_of in
-    let first = all_come g.K.Link.origin_of c.args.links.items _ _ origins many in
+    let first = all_come g.K.Link.origin_of c.args.links.items (map (λ link. g.K.Reader.LinkReader.made_of link.reader) (into_iter_items c.into_iter.result)) _ (ap (λ ls. map (λ link. g.K.Reader.LinkReader.made_of link.reader) ls) gives ∙ origins) many in
     subst (λ sources. IfOk c.run_arriving.result (λ report. LinksReadOwn (reads_of g.K.Reader.LinkReader.is_known g.K.Reader.LinkReader.bytes_read g.K.Reader.LinkReader.failures g.K.Reader.LinkReader.pieces g.K.Reader.LinkReader.has_ended) sources report)) (ap (map g.K.Reader.LinkReader.gives) first ∙ map-map g.K.Reader.LinkReader.gives g.K.Link.origin_of c.args.links.items) c.run_arriving.ensures.bytes
 
 pub returns-clause-made : goal.returns-clause-made
 returns-clause-made g c =
     let origins = c.in_ok-split.ensures.made in
+    let gives : into_iter_items c.into_iter.result ≡ c.in_ok-split.split.links.items = search rules in
     let many = ap length (c.as_slice.ensures.value ∙ c.in_ok-split.ensures.roles) ∙ length-map c.args.links.items g.K.Link.role_of in
-    let first = all_come g.K.Link.origin_of c.args.links.items _ _ origins many in
+    let first = all_come g.K.Link.origin_of c.args.links.items (map (λ link. g.K.Reader.LinkReader.made_of link.reader) (into_iter_items c.into_iter.result)) _ (ap (λ ls. map (λ link. g.K.Reader.LinkReader.made_of link.reader) ls) gives ∙ origins) many in
     subst (λ made. IfOk c.run_arriving.result (λ report. AreMadeOf g.K.Reader.LinkReader.made_of g.K.Writer.LinkWriter.made_of made made report)) first c.run_arriving.ensures.made
