@@ -58,7 +58,7 @@ impl<'a, N: Net<Listener = TcpListener, Stream = TcpStream>> Peers<'a, N> {
 }
 
 impl<'a, N: Net<Listener = TcpListener, Stream = TcpStream>> Arrivals for Peers<'a, N> {
-    ghost use Rattle.std.specs.Prelude.{replicate, tt};
+    ghost use Rattle.std.specs.Prelude.{replicate};
 
     type Origin = ();
 

@@ -73,13 +73,5 @@ pub fn serve_on<
         left: links as u32,
         idle,
     };
-    run_arriving::<C, _, _, _, _, _, _>(
-        rt,
-        alloc,
-        config,
-        &roles[..links],
-        arrivals,
-        workers,
-        gate,
-    )
+    run_arriving::<C, _, _, _, _, _, _>(rt, alloc, config, &roles[..links], arrivals, workers, gate)
 }
