@@ -1,4 +1,4 @@
--- The roles of a run's links, in an array that has room for more.
+-- The roles of a run's links, in an array that has room for more; and the links that are still to come.
 use Rattle.std.proofs.Common.{◌≡◌, ◌≤◌, ◌<◌, ◌+◌, ◌-◌, ◌++◌, ◌∷◌, ℕ, suc, List, [], length, take, set, replicate, ap, sym, ◌∙◌, arith}
 use Rattle.std.proofs.Math.Seq.{take-append-add}
 use Rattle.std.proofs.lemmas.List.{append_assoc, length-replicate, replicate_more, set_at, take-replicate}
@@ -17,3 +17,9 @@ first_ones c a calls links most k xs is same few fits =
     let long : links ≡ length (replicate calls c) + (links - calls) = omega (arith, length-replicate calls c, few) in
     ap (λ ys. take links ys) is ∙ ap (λ n. take links (replicate n c ++ replicate (most - n) a)) same ∙ ap (λ n. take n (replicate calls c ++ replicate (most - calls) a)) long
     ∙ take-append-add (replicate calls c) (replicate (most - calls) a) (links - calls) ∙ ap (λ ys. replicate calls c ++ ys) (take-replicate (links - calls) (most - calls) a (omega (arith, fits)))
+
+-- of some links that are to come one comes, and the others are left
+pub one_left : (n : ℕ) → 0 < n → replicate n tt ≡ tt ∷ replicate (n - 1) tt
+one_left n some =
+    let more : n ≡ suc (n - 1) = omega (arith, some) in
+    ap (λ k. replicate k tt) more

@@ -18,6 +18,8 @@ pub(crate) struct Peers<'a, N> {
     pub net: &'a N,
     pub listener: &'a TcpListener,
     pub called: &'a [SocketAddr],
+    /// How many links are still to come.
+    pub left: u32,
     pub idle: Option<Duration>,
 }
 
@@ -56,15 +58,25 @@ impl<'a, N: Net<Listener = TcpListener, Stream = TcpStream>> Peers<'a, N> {
 }
 
 impl<'a, N: Net<Listener = TcpListener, Stream = TcpStream>> Arrivals for Peers<'a, N> {
+    ghost use Rattle.std.specs.Prelude.{replicate};
+
+    type Origin = ();
+
     type Reader = TcpReader;
 
     type Writer = TcpWriter;
 
-    fn next(&self, link: u32, role: Role) -> Result<(TcpReader, TcpWriter), RunFault> {
-        let found = self.meet(link, role)?;
-        match found.with_idle(self.idle).split() {
-            Ok(halves) => Ok(halves),
-            Err(_) => Err(RunFault::Link(link)),
+    ghost coming = { λ peers. replicate peers.left tt };
+
+    fn next(&mut self, link: u32, role: Role) -> Result<(TcpReader, TcpWriter), RunFault> {
+        if self.left == 0 {
+            return Err(RunFault::Link(link));
         }
+        let found = self.meet(link, role)?;
+        let Ok(halves) = found.with_idle(self.idle).split() else {
+            return Err(RunFault::Link(link));
+        };
+        self.left -= 1;
+        Ok(halves)
     }
 }

@@ -70,15 +70,8 @@ pub fn serve_on<
         net: rt,
         listener,
         called: peers,
+        left: links as u32,
         idle,
     };
-    run_arriving::<C, _, _, _, _, _, _>(
-        rt,
-        alloc,
-        config,
-        &roles[..links],
-        &arrivals,
-        workers,
-        gate,
-    )
+    run_arriving::<C, _, _, _, _, _, _>(rt, alloc, config, &roles[..links], arrivals, workers, gate)
 }

@@ -1,7 +1,8 @@
 -- Of threads that were joined, each kept its promise.
-use Rattle.std.proofs.Common.{◌≡◌, ◌<◌, ℕ, suc, List, [], ◌∷◌, ◌++◌, length, map, get_or, refl, sym, ap, ◌∙◌, subst, arith}
-use Rattle.std.proofs.lemmas.List.{append-nil, append_assoc, get_or-map, length-map, map-append, nil_from_length}
+use Rattle.std.proofs.Common.{◌≡◌, ◌<◌, ℕ, suc, List, [], ◌∷◌, ◌++◌, length, map, take, get_or, refl, sym, ap, ◌∙◌, subst, arith}
+use Rattle.std.proofs.lemmas.List.{append-nil, append_assoc, get_or-map, length-map, nil_from_length}
 use Rattle.std.proofs.lemmas.Simd.{map-map}
+use Rattle.std.proofs.Math.Seq.{take-length}
 use Rattle.gn_threads.specs.Kept.{EachKeeps}
 
 pub some_of : {X : Type 0} (xs : List X) → 0 < length xs → X
@@ -63,27 +64,11 @@ pub one_started : {H S X : Type 0} (f : H → X) (k : S → X) (hs more : List H
 one_started f k hs more rest left x all one next before =
     ap (λ v. v ++ map k left) one ∙ append_assoc (map f hs) (k x ∷ []) (map k left) ∙ ap (λ r. map f hs ++ map k r) (sym next) ∙ before
 
--- the same of one that was pushed
-pub one_pushed : {H S X : Type 0} (f : H → X) (k : S → X) (hs more : List H) (y : H) (rest left : List S) (x : S) (all : List X) → more ≡ hs ++ y ∷ [] → f y ≡ k x → rest ≡ x ∷ left
-    → map f hs ++ map k rest ≡ all → map f more ++ map k left ≡ all
-one_pushed f k hs more y rest left x all is same next before =
-    one_started f k hs more rest left x all (ap (λ l. map f l) is ∙ map-append f hs (y ∷ []) ∙ ap (λ o. map f hs ++ o ∷ []) same) next before
-
--- the same where it is moved as it is
-pub one_moved : {S : Type 0} (hs more rest left : List S) (x : S) (all : List S) → more ≡ hs ++ x ∷ [] → rest ≡ x ∷ left → hs ++ rest ≡ all → more ++ left ≡ all
-one_moved hs more rest left x all is next before = ap (λ v. v ++ left) is ∙ append_assoc hs (x ∷ []) left ∙ ap (λ r. hs ++ r) (sym next) ∙ before
-
--- one more of two lists that are the same
-pub one_both : {H X : Type 0} (f : H → X) (hs more : List H) (y : H) (xs also : List X) → more ≡ hs ++ y ∷ [] → also ≡ xs ++ f y ∷ [] → map f hs ≡ xs → map f more ≡ also
-one_both f hs more y xs also is other before = ap (λ l. map f l) is ∙ map-append f hs (y ∷ []) ∙ ap (λ l. l ++ f y ∷ []) before ∙ sym other
-
--- the same where it stands there itself
-pub one_made : {H S : Type 0} (f : H → S) (hs more : List H) (rest left : List S) (x : S) (all : List S) → map f more ≡ map f hs ++ x ∷ [] → rest ≡ x ∷ left → map f hs ++ rest ≡ all → map f more ++ left ≡ all
-one_made f hs more rest left x all one next before = ap (λ v. v ++ left) one ∙ append_assoc (map f hs) (x ∷ []) left ∙ ap (λ r. map f hs ++ r) (sym next) ∙ before
-
-pub all_made : {H S : Type 0} (f : H → S) (hs : List H) (rest all : List S) → length rest ≡ 0 → map f hs ++ rest ≡ all → map f hs ≡ all
-all_made f hs rest all none before = sym (append-nil (map f hs)) ∙ ap (λ r. map f hs ++ r) (sym (nil_from_length rest none)) ∙ before
-
 -- none is left
 pub all_started : {H S X : Type 0} (f : H → X) (k : S → X) (hs : List H) (rest : List S) (all : List X) → length rest ≡ 0 → map f hs ++ map k rest ≡ all → map f hs ≡ all
 all_started f k hs rest all none before = sym (append-nil (map f hs)) ∙ ap (λ r. map f hs ++ map k r) (sym (nil_from_length rest none)) ∙ before
+
+-- as many as all of them are all of them
+pub all_come : {K O : Type 0} (origin : K → O) (links : List K) (coming : List O) (n : ℕ) → coming ≡ map origin links → n ≡ length links → take n coming ≡ map origin links
+all_come origin links coming n are many =
+    ap (λ os. take n os) are ∙ ap (λ k. take k (map origin links)) (many ∙ sym (length-map links origin)) ∙ take-length (map origin links)

@@ -1,5 +1,5 @@
 -- What a run has of its threads once all are joined.
-use Rattle.std.specs.Prelude.{◌≡◌, ℕ, List, length, map, vec_len}
+use Rattle.std.specs.Prelude.{◌≡◌, ℕ, List, length, map, take, vec_len}
 use Rattle.gn_shake.specs.declared.role.Role.{Role}
 use Rattle.gn_bodies.specs.declared.ends.ReaderEnd.{ReaderEnd}
 use Rattle.gn_bodies.specs.declared.ends.WriterEnd.{WriterEnd}
@@ -18,12 +18,14 @@ pub record AreJoined {Rd W S L A : Type 0} (reads : Half Rd → Ended A ReaderEn
   pub written : vec_len done.writers ≡ length writing
   pub worked : vec_len done.workers ≡ workers
 
--- the same of halves of which the links' roles alone are known: nobody knows of what a link is made that hasn't come yet
-pub record AreJoinedOf {Rd W S L A : Type 0} (reads : Half Rd → Ended A ReaderEnd Rd → Type 0)
-    (writes : Half W → Ended A WriterEnd W → Type 0) (readers writers : List Role) (workers : ℕ)
-    (done : Done Rd W S L A) : Type 0 where
+-- the same of halves of which is known how their links begin, and that they were split from the first of the links that were to come
+pub record AreJoinedOf {Rd W S L A O : Type 0} (reads : Half Rd → Ended A ReaderEnd Rd → Type 0)
+    (writes : Half W → Ended A WriterEnd W → Type 0) (read_of : Rd → O) (written_of : W → O) (readers writers : List Role)
+    (coming : List O) (workers : ℕ) (done : Done Rd W S L A) : Type 0 where
   pub reading : List (Half Rd)
   pub writing : List (Half W)
   pub reading_roles : map (λ (h : Half Rd). h.role) reading ≡ readers
   pub writing_roles : map (λ (h : Half W). h.role) writing ≡ writers
+  pub reading_made : map (λ (h : Half Rd). read_of h.half) reading ≡ take (length readers) coming
+  pub writing_made : map (λ (h : Half W). written_of h.half) writing ≡ take (length writers) coming
   pub joined : AreJoined reads writes reading writing workers done

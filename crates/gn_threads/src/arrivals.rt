@@ -1,24 +1,61 @@
-//! Links that aren't all there when a run begins.
+//! Where the links of a run come from.
 
-ghost use Rattle.std.specs.Prelude.{◌<◌, ℕ, IfErr, IfOk};
+ghost use Rattle.std.specs.Prelude.{◌≡◌, ◌<◌, ◌∷◌, ℕ, List, map, IfErr, IfOk};
 ghost use Rattle.gn_links.specs.Halves.{IsNewReader, IsNewWriter};
 ghost use Rattle.gn_threads.specs.Faults.{IsFaultOf};
 
 use crate::fault::RunFault;
-use gn_links::{LinkReader, LinkWriter};
+use gn_links::{Link, LinkReader, LinkWriter, SplitLink};
 use gn_shake::Role;
+use std::alloc::{Allocator, Global};
+use std::vec::IntoIter;
 
 /// Where the links of a run come from, one after another.
-pub trait Arrivals {
-    type Reader: LinkReader;
+pub trait Arrivals: Drop {
+    /// What the halves of a link say of it.
+    type Origin;
 
-    type Writer: LinkWriter;
+    type Reader: LinkReader<Origin = Self::Origin>;
 
-    /// Waits for the link of this number, counted from 0, which shall begin in this role, and takes it apart.
-    fn next(&self, link: u32, role: Role) -> Result<(Self::Reader, Self::Writer), RunFault>
+    type Writer: LinkWriter<Origin = Self::Origin>;
+
+    /// The links that are still to come, in order, as their halves will say of them.
+    ghost coming: { Self → List Self.Origin };
+
+    /// Waits for the next link, which has this number, counted from 0, and shall begin in this role; and takes it apart.
+    fn next(&mut self, link: u32, role: Role) -> Result<(Self::Reader, Self::Writer), RunFault>
         ensures reader { IfOk result (λ h. IsNewReader (Self.Reader.bytes_read h.0) (Self.Reader.failures h.0)
             (Self.Reader.pieces h.0) (Self.Reader.has_ended h.0)) }
         ensures writer { IfOk result (λ h. IsNewWriter (Self.Writer.bytes_written h.1) (Self.Writer.failures h.1)
             (Self.Writer.is_stuck h.1) (Self.Writer.is_finished h.1)) }
+        ensures made { IfOk result (λ h. (coming self.old ≡ Self.Reader.made_of h.0 ∷ coming self.new)
+            × (Self.Writer.made_of h.1 ≡ Self.Reader.made_of h.0)) }
         ensures fault { IfErr result (λ fault. (links workers : ℕ) → link < links → IsFaultOf links workers fault) };
+}
+
+/// Links that are all there, in order.
+#[derive(Drop)]
+pub(crate) struct Arrived<K: Link, A: Allocator = Global> {
+    pub links: IntoIter<SplitLink<K>, A>,
+}
+
+impl<K: Link, A: Allocator> Arrivals for Arrived<K, A> {
+    ghost use Rattle.std.specs.Prelude.{map};
+    ghost use Rattle.std.specs.Vec.Iter.{into_iter_items};
+
+    type Origin = K::Origin;
+
+    type Reader = K::Reader;
+
+    type Writer = K::Writer;
+
+    ghost coming = { λ arrived. map (λ link. K.Reader.made_of link.reader) (into_iter_items arrived.links) };
+
+    fn next(&mut self, link: u32, _role: Role) -> Result<(K::Reader, K::Writer), RunFault> {
+        let Some(next) = self.links.next() else {
+            return Err(RunFault::Link(link));
+        };
+        let SplitLink { reader, writer } = next;
+        Ok((reader, writer))
+    }
 }

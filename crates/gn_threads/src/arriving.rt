@@ -1,17 +1,19 @@
 //! A run whose links come one after another.
 
-ghost use Rattle.std.specs.Prelude.{◌≡◌, ◌+◌, ◌*◌, ◌≤◌, ◌↔◌, length, vec_len, IfErr, IfOk};
+ghost use Rattle.std.specs.Prelude.{◌≡◌, ◌+◌, ◌*◌, ◌≤◌, ◌↔◌, length, map, take, vec_len, IfErr, IfOk};
 ghost use Rattle.gn_rules.specs.Limits.{IsWithin};
 ghost use Rattle.gn_threads.specs.declared.fault.RunFault.TheVariants.{BadWorkers};
 ghost use Rattle.gn_threads.specs.Faults.{IsFaultOf};
 ghost use Rattle.gn_links.specs.Views.{reads_of, writes_of};
 ghost use Rattle.gn_threads.specs.Headline.{
+  AreMadeOf,
   HasCountedSteps,
   HasLegalHistory,
   HasOwnStats,
   HasOwnSteps,
   Holds,
   LinksHold,
+  LinksReadOwn,
   OthersRoute,
   RoutesEachOnce,
 };
@@ -19,9 +21,9 @@ ghost use Rattle.gn_threads.specs.Headline.{
 use crate::arrivals::Arrivals;
 use crate::fault::RunFault;
 use crate::finishing::finish;
+use crate::opening::{Opening, open};
 use crate::places::places_of;
-use crate::runs::{Opening, open};
-use crate::welcome::welcome;
+use crate::starting::start_and_join;
 use gn_links::{Gate, LinkReader, LinkWriter};
 use gn_rules::{Config, RouterCore};
 use gn_run::Report;
@@ -48,7 +50,7 @@ pub fn run_arriving<
     alloc: A,
     config: &Config,
     roles: &[Role],
-    arrivals: &V,
+    arrivals: V,
     workers: u32,
     gate: &G,
 ) -> Result<Report<Rd, W, A>, RunFault>
@@ -65,6 +67,11 @@ pub fn run_arriving<
         (reads_of Rd.is_known Rd.bytes_read Rd.failures Rd.pieces Rd.has_ended)
         (writes_of W.is_known W.bytes_written W.failures W.is_stuck W.is_finished)
         roles.now report) }
+    ensures bytes { IfOk result (λ report. LinksReadOwn
+        (reads_of Rd.is_known Rd.bytes_read Rd.failures Rd.pieces Rd.has_ended)
+        (map Rd.gives (take (length roles.now) (V.coming arrivals))) report) }
+    ensures made { IfOk result (λ report. AreMadeOf Rd.made_of W.made_of
+        (take (length roles.now) (V.coming arrivals)) (take (length roles.now) (V.coming arrivals)) report) }
     ensures others { IfOk result (λ report. OthersRoute report) }
     ensures routed { IfOk result (λ report. RoutesEachOnce report) }
     ensures stats { IfOk result (λ report. HasOwnStats report) }
@@ -99,7 +106,7 @@ fn run_arriving_in<
     stage: Stage<A>,
     config: &Config,
     roles: &[Role],
-    arrivals: &V,
+    arrivals: V,
     workers: u32,
     gate: &G,
 ) -> Result<Report<Rd, W, A>, RunFault>
@@ -113,6 +120,11 @@ fn run_arriving_in<
         (reads_of Rd.is_known Rd.bytes_read Rd.failures Rd.pieces Rd.has_ended)
         (writes_of W.is_known W.bytes_written W.failures W.is_stuck W.is_finished)
         config.now roles.now report) }
+    ensures bytes { IfOk result (λ report. LinksReadOwn
+        (reads_of Rd.is_known Rd.bytes_read Rd.failures Rd.pieces Rd.has_ended)
+        (map Rd.gives (take (length roles.now) (V.coming arrivals))) report) }
+    ensures made { IfOk result (λ report. AreMadeOf Rd.made_of W.made_of
+        (take (length roles.now) (V.coming arrivals)) (take (length roles.now) (V.coming arrivals)) report) }
     ensures workers { IfOk result (λ report. vec_len report.workers ≡ workers) }
 {
     let opening = open::<L, S, C, A>(alloc, blank, stage, config, roles, workers)?;
@@ -124,7 +136,7 @@ fn run_arriving_in<
         desk,
     } = opening;
     let (places, house) = places_of(alloc, roles, intakes, outlets, actors)?;
-    let done = welcome(rt, alloc, &service, gate, arrivals, places)?;
+    let done = start_and_join(rt, alloc, &service, gate, arrivals, places)?;
     let hub = service.into_hub();
     finish(rt, alloc, config, roles, hub, desk, done, house)
 }

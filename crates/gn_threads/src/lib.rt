@@ -4,23 +4,21 @@
 mod arrivals;
 mod arriving;
 mod confirming;
-mod crew;
 mod done;
 mod ended;
 mod fault;
 mod finishing;
 mod gather;
-mod halves;
 mod house;
 mod joins;
+mod opening;
 mod places;
-mod roster;
 mod runs;
 mod same;
 mod start;
+mod starting;
 mod tally;
 mod waiting;
-mod welcome;
 
 pub use arrivals::Arrivals;
 pub use arriving::run_arriving;

@@ -4,7 +4,6 @@ ghost use Rattle.std.specs.Prelude.{◌≡◌, ◌+◌, ◌*◌, ◌<◌, ◌≤
 ghost use Rattle.gn_links.specs.Halves.{IsNewReader, IsNewWriter};
 ghost use Rattle.gn_service.specs.ActorState.{AreNew};
 
-use crate::roster::worker_starts;
 use crate::start::{ReaderStart, WorkerStart, WriterStart};
 use crate::waiting::Waiting;
 use gn_links::{LinkReader, LinkWriter};
@@ -43,7 +42,7 @@ impl<S: Site, L: Ledger, A: Allocator> ReaderPlace<S, L, A> {
     /// With the half of its link.
     pub(crate) fn with<Rd: LinkReader>(self, reader: Rd) -> ReaderStart<Rd, S, L, A>
         requires { IsNewReader (Rd.bytes_read reader) (Rd.failures reader) (Rd.pieces reader) (Rd.has_ended reader) }
-        ensures { result.role ≡ self.role }
+        ensures { (result.role ≡ self.role) × (result.reader ≡ reader) }
     {
         let ReaderPlace {
             actor,
@@ -74,7 +73,7 @@ impl<L: Ledger, A: Allocator> WriterPlace<L, A> {
     /// With the half of its link.
     pub(crate) fn with<W: LinkWriter>(self, writer: W) -> WriterStart<W, L, A>
         requires { IsNewWriter (W.bytes_written writer) (W.failures writer) (W.is_stuck writer) (W.is_finished writer) }
-        ensures { result.role ≡ self.role }
+        ensures { (result.role ≡ self.role) × (result.writer ≡ writer) }
     {
         let WriterPlace { actor, link, role } = self;
         WriterStart {
@@ -176,4 +175,28 @@ fn writer_places<L: Ledger, A: Allocator + Copy>(
         link += 1;
     }
     Ok(places)
+}
+
+/// What the workers start from: the next actors.
+fn worker_starts<S: Site, L: Ledger, A: Allocator + Copy>(
+    alloc: A,
+    outlets: Vec<Outlet<S, A>, A>,
+    actors: &mut Waiting<L, A>,
+) -> Result<Vec<WorkerStart<S, L, A>, A>, AllocError>
+    requires few { vec_len outlets ≤ 16 }
+    requires enough { vec_len outlets ≤ actors.old.left }
+    ensures many { IfOk result (λ starts. vec_len starts ≡ vec_len outlets) }
+    ensures left { IfOk result (λ _. actors.new.left + vec_len outlets ≡ actors.old.left) }
+{
+    let mut starts = Vec::new(alloc);
+    let mut worker = 0u32;
+    for outlet in outlets {
+        starts.push(WorkerStart {
+            actor: actors.next(),
+            worker,
+            outlet,
+        })?;
+        worker += 1;
+    }
+    Ok(starts)
 }

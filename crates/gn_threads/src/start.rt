@@ -168,35 +168,6 @@ pub(crate) fn start_reader<
     }
 }
 
-/// Starts all readers, in order. False where a thread can't be made: then those before it have started.
-pub(crate) fn start_readers<
-    's,
-    E: 's,
-    Rd: LinkReader + Send + 's,
-    S: Site + Send + 's,
-    C: RouterCore<A> + Drop + Send + 's,
-    L: Ledger + Send + Sync + 's,
-    A: Allocator + Copy + Send + Sync + 's,
-    R: Threads + Wait + Sync + 's,
->(
-    rt: &'s R,
-    alloc: A,
-    scope: &'s Scope<'s, E>,
-    service: &'s Service<C, L, A>,
-    starts: Vec<ReaderStart<Rd, S, L, A>, A>,
-    handles: &mut Vec<ReaderHandle<Rd, S, L, A>, A>,
-) -> bool
-    requires none { handles.old.items ≡ [] }
-    ensures { result ≡ true → map (λ h. h.promise.start.value) handles.new.items ≡ starts.items }
-{
-    for start in starts {
-        if !start_reader(rt, alloc, scope, service, start, handles) {
-            return false;
-        }
-    }
-    true
-}
-
 /// The body of a writer, from its start.
 fn write_link<W: LinkWriter, C: RouterCore<A> + Drop, L: Ledger, A: Allocator + Copy, R: Wait>(
     rt: &R,
@@ -249,34 +220,6 @@ pub(crate) fn start_writer<
         }
         Err(_) => false,
     }
-}
-
-/// Starts all writers, in order. False where a thread can't be made: then those before it have started.
-pub(crate) fn start_writers<
-    's,
-    E: 's,
-    W: LinkWriter + Send + 's,
-    C: RouterCore<A> + Drop + Send + 's,
-    L: Ledger + Send + Sync + 's,
-    A: Allocator + Copy + Send + Sync + 's,
-    R: Threads + Wait + Sync + 's,
->(
-    rt: &'s R,
-    alloc: A,
-    scope: &'s Scope<'s, E>,
-    service: &'s Service<C, L, A>,
-    starts: Vec<WriterStart<W, L, A>, A>,
-    handles: &mut Vec<WriterHandle<W, L, A>, A>,
-) -> bool
-    requires none { handles.old.items ≡ [] }
-    ensures { result ≡ true → map (λ h. h.promise.start.value) handles.new.items ≡ starts.items }
-{
-    for start in starts {
-        if !start_writer(rt, alloc, scope, service, start, handles) {
-            return false;
-        }
-    }
-    true
 }
 
 /// Starts a worker. False where no thread can be made.

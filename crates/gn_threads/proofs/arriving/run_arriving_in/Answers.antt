@@ -1,10 +1,13 @@
-use Rattle.std.proofs.Common.{◌≡◌, ◌∙◌, length, vec_len, ap, sym, subst, arith}
+use Rattle.std.proofs.Common.{◌≡◌, ◌∙◌, length, map, take, vec_len, ap, sym, subst, arith}
 use Rattle.std.proofs.lemmas.List.{length-map}
+use Rattle.std.proofs.lemmas.Result.{IfOk-weaker}
+use Rattle.std.proofs.lemmas.Simd.{map-map}
 use Rattle.std.specs.Prelude.{IfErr, IfOk}
 use Rattle.gn_threads.specs.Faults.{IsFaultOf}
 use Rattle.gn_links.specs.Views.{reads_of, writes_of}
 use Rattle.gn_threads.proofs.FaultLemmas.{handed_on}
-use Rattle.gn_threads.proofs.HoldsLemmas.{readers_keep, writers_keep}
+use Rattle.gn_threads.specs.Kept.{reader_ended, writer_ended}
+use Rattle.gn_threads.proofs.HoldsLemmas.{are_made_of, both_ok, links_read_own, readers_keep, writers_keep}
 use Rattle.gn_threads.proofs.arriving.run_arriving_in.Goals as goal
 
 pub finish-requires-clause-readers : goal.finish-requires-clause-readers
@@ -38,3 +41,25 @@ finish-requires-clause-many g c =
       all.joined.read ∙ sym (length-map all.reading (λ l. l.role)) ∙ ap length (all.reading_roles ∙ c.in_ok-places.ensures.readers),
       all.joined.written ∙ sym (length-map all.writing (λ l. l.role)) ∙ ap length (all.writing_roles ∙ c.in_ok-places.ensures.writers),
     )
+
+pub returns-clause-bytes : goal.returns-clause-bytes
+returns-clause-bytes g c =
+    let all = c.in_ok-done.ensures.joined in
+    let bodies = map reader_ended c.in_ok-done.done.readers.items in
+    let many : length bodies ≡ length all.reading = omega (arith, length-map c.in_ok-done.done.readers.items reader_ended, c.in_ok-done.done.readers.ok, all.joined.read) in
+    let first = ap (λ roles. take (length roles) (g.V.Arrivals.coming c.args.arrivals)) c.in_ok-places.ensures.readers in
+    let own = sym (map-map g.Rd.LinkReader.gives (λ h. g.Rd.LinkReader.made_of h.half) all.reading) ∙ ap (map g.Rd.LinkReader.gives) (all.reading_made ∙ first) in
+    IfOk-weaker _ _ _ (λ report read. links_read_own (reads_of g.Rd.LinkReader.is_known g.Rd.LinkReader.bytes_read g.Rd.LinkReader.failures g.Rd.LinkReader.pieces g.Rd.LinkReader.has_ended) g.Rd.LinkReader.made_of g.Rd.LinkReader.gives all.reading _ bodies report own many read all.joined.readers) c.finish.ensures.read
+
+pub returns-clause-made : goal.returns-clause-made
+returns-clause-made g c =
+    let all = c.in_ok-done.ensures.joined in
+    let read = map reader_ended c.in_ok-done.done.readers.items in
+    let written = map writer_ended c.in_ok-done.done.writers.items in
+    let many : length read ≡ length all.reading = omega (arith, length-map c.in_ok-done.done.readers.items reader_ended, c.in_ok-done.done.readers.ok, all.joined.read) in
+    let more : length written ≡ length all.writing = omega (arith, length-map c.in_ok-done.done.writers.items writer_ended, c.in_ok-done.done.writers.ok, all.joined.written) in
+    let first = ap (λ roles. take (length roles) (g.V.Arrivals.coming c.args.arrivals)) c.in_ok-places.ensures.readers in
+    let also = ap (λ roles. take (length roles) (g.V.Arrivals.coming c.args.arrivals)) c.in_ok-places.ensures.writers in
+    both_ok _ _ _ c.finish.result
+    (λ report is are. are_made_of (reads_of g.Rd.LinkReader.is_known g.Rd.LinkReader.bytes_read g.Rd.LinkReader.failures g.Rd.LinkReader.pieces g.Rd.LinkReader.has_ended) g.Rd.LinkReader.made_of g.Rd.LinkReader.gives (writes_of g.W.LinkWriter.is_known g.W.LinkWriter.bytes_written g.W.LinkWriter.failures g.W.LinkWriter.is_stuck g.W.LinkWriter.is_finished) g.W.LinkWriter.made_of all.reading all.writing read written _ _ report (all.reading_made ∙ first) (all.writing_made ∙ also) many more all.joined.readers all.joined.writers is are)
+    c.finish.ensures.read c.finish.ensures.written
