@@ -8,7 +8,8 @@ use std::marker::Model;
 use std::net::{Shutdown, TcpStream};
 use std::sync::Wait;
 
-/// Writes to a socket. It gives its handle of the socket up where it is finished: once both halves have, the peer is let go.
+/// Writes to a socket. Where it is finished it shuts both directions and gives its handle of the socket up: once both halves
+/// have, the peer is let go.
 #[derive(Drop)]
 pub struct TcpWriter {
     stream: Option<TcpStream>,
@@ -87,11 +88,12 @@ impl LinkWriter for TcpWriter {
         answer
     }
 
-    /// Says to the peer that no more bytes come.
+    /// Says to the peer that no more bytes come, and ends the reader's wait for what the peer might still send.
     fn finish<R: Wait>(&mut self, _rt: &R) {
         if let Some(stream) = &self.stream {
-            // It fails where the peer is gone, who needs no word then.
-            let _ = stream.shutdown(Shutdown::Write);
+            // A writer finishes where its connection is closed, was never opened, or the run has failed: what its reader might
+            // still hear would be refused. It fails where the peer is gone, who needs no word then.
+            let _ = stream.shutdown(Shutdown::Both);
         }
         self.stream = None;
     }

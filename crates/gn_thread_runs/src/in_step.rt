@@ -12,9 +12,9 @@ const MOST_LOOKS: u32 = 100_000_000;
 /// Where two readers meet: how many reads each of them has begun, and whether one gave the other up.
 #[derive(Drop)]
 pub(crate) struct Meeting {
-    first: AtomicU64,
-    second: AtomicU64,
-    is_missed: AtomicBool,
+    pub(crate) first: AtomicU64,
+    pub(crate) second: AtomicU64,
+    pub(crate) is_missed: AtomicBool,
 }
 
 impl Meeting {
@@ -25,15 +25,6 @@ impl Meeting {
             second: AtomicU64::new(0),
             is_missed: AtomicBool::new(false),
         }
-    }
-
-    /// How many reads each of the two has begun, and whether one gave the other up.
-    pub(crate) fn ended(&self) -> (u64, u64, bool) {
-        (
-            self.first.load(Ordering::SeqCst),
-            self.second.load(Ordering::SeqCst),
-            self.is_missed.load(Ordering::SeqCst),
-        )
     }
 
     /// Begins a read, and waits until the other reader has begun as many. Once one was given up, nobody waits.
@@ -91,23 +82,13 @@ impl<'a, Rd: LinkReader> LinkReader for PacedReader<'a, Rd> {
     }
 }
 
-/// A link whose reader begins each read together with another.
+/// A link whose reader begins each read together with another, as the first or the second of a meeting. Without a meeting it
+/// can't be split.
 #[derive(Drop)]
 pub(crate) struct PacedLink<'a, K: Link> {
-    link: K,
-    meeting: &'a Meeting,
-    is_first: bool,
-}
-
-impl<'a, K: Link> PacedLink<'a, K> {
-    /// This link, the first or the second one of a meeting.
-    pub(crate) fn new(link: K, meeting: &'a Meeting, is_first: bool) -> Self {
-        PacedLink {
-            link,
-            meeting,
-            is_first,
-        }
-    }
+    pub(crate) link: K,
+    pub(crate) meeting: Option<&'a Meeting>,
+    pub(crate) is_first: bool,
 }
 
 impl<'a, K: Link> Link for PacedLink<'a, K> {
@@ -131,6 +112,9 @@ impl<'a, K: Link> Link for PacedLink<'a, K> {
             meeting,
             is_first,
         } = self;
+        let Some(meeting) = meeting else {
+            return Err(LinkFault);
+        };
         let (reader, writer) = link.split()?;
         let reader = PacedReader {
             reader,

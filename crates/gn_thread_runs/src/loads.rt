@@ -1,103 +1,13 @@
-//! Loads of small captures, and one of six links.
+//! A load of six links.
 
 use gn_capture::read_history;
 use gn_io::{ReaderSource, WriterSink};
-use gn_load::{LoadFault, load};
-use gn_replay::{ReplayFault, audit};
+use gn_load::load;
+use gn_replay::audit;
 use gn_router::TableRouter;
 use gn_rules::{Event, Legality, Reply, Step};
-use gn_text::{CaptureFault, Cause};
 use std::alloc::Global;
-use std::sync::Wait;
 use std::test::Fail;
-use std::thread::Threads;
-
-/// What a load of this text by so many workers writes.
-fn loaded<R: Threads + Wait + Sync>(
-    rt: &R,
-    alloc: Global,
-    workers: u32,
-    text: &str,
-) -> Result<Vec<u8>, LoadFault> {
-    let mut source = ReaderSource::new(text.as_bytes());
-    let mut sink = WriterSink::new(Vec::new(alloc));
-    load::<Global, TableRouter, _, _, _>(rt, alloc, workers, &mut source, &mut sink)?;
-    Ok(sink.into_inner())
-}
-
-/// A plain link without bytes, by two workers.
-const SILENT: (&str, &str) = (
-    "\
-gnutella-capture 1
-config 4 8 4 8 8 100
-own eeeeeeeeeeeeeeeeeeeeeeeeeeeeeeee 127.0.0.1 6346 5 40
-join
-",
-    "\
-gnutella-history 1
-config 4 8 4 8 8 100
-own eeeeeeeeeeeeeeeeeeeeeeeeeeeeeeee 127.0.0.1 6346 5 40
-0 connect = connected 1
-1 close 1 = closed 0
-end
-",
-);
-
-/// A link that greets, whose greeting and Ping come in three pieces, by one worker.
-const GREETED: (&str, &str) = (
-    "\
-gnutella-capture 1
-config 4 8 4 8 8 100
-own eeeeeeeeeeeeeeeeeeeeeeeeeeeeeeee 127.0.0.1 6346 5 40
-open
-data 1 474e5554454c4c412043
-data 1 4f4e4e4543542f302e340a0aa1a1a1a1a1a1a1a1
-# nothing
-data 1 -
-data 1 a1a1a1a1a1a1a1a100070000000000
-",
-    "\
-gnutella-history 1
-config 4 8 4 8 8 100
-own eeeeeeeeeeeeeeeeeeeeeeeeeeeeeeee 127.0.0.1 6346 5 40
-0 connect = connected 1
-0 admit 1 a1a1a1a1a1a1a1a1a1a1a1a1a1a1a1a100070000000000 = admitted 0
-2 route 0 = routed local 1+a1a1a1a1a1a1a1a1a1a1a1a1a1a1a1a10101000e000000ca187f0000010500000028000000
-1 take 1 = taken a1a1a1a1a1a1a1a1a1a1a1a1a1a1a1a10101000e000000ca187f0000010500000028000000
-1 close 1 = closed 0
-end
-",
-);
-
-#[test]
-fn small_loads(rt: HostRuntime) -> Result<(), Fail> {
-    for (workers, (capture, history)) in [(2, SILENT), (1, GREETED)] {
-        let written = loaded(&rt, rt.alloc(), workers, capture)?;
-        assert_eq!(rt; written.as_slice(), history.as_bytes());
-    }
-    Ok(())
-}
-
-/// Two links, a Ping, and a line that a load doesn't take.
-const ROUTED: &str = "\
-gnutella-capture 1
-config 4 8 4 8 8 100
-own eeeeeeeeeeeeeeeeeeeeeeeeeeeeeeee 127.0.0.1 6346 5 40
-join
-join
-data 1 a1a1a1a1a1a1a1a1a1a1a1a1a1a1a1a100070000000000
-route 0
-";
-
-#[test]
-fn a_line_that_isnt_taken(rt: HostRuntime) {
-    let fault = CaptureFault {
-        line: 7,
-        cause: Cause::Load,
-    };
-    let found = loaded(&rt, rt.alloc(), 2, ROUTED).map(|_| ());
-    assert_eq!(rt; found, Err(LoadFault::Text(ReplayFault::Capture(fault))));
-}
 
 /// Six links of a hundred Pings each, of TTL 7 and Hops 0, whose IDs differ.
 fn six_links(alloc: Global) -> Result<String, Fail> {
@@ -153,7 +63,10 @@ fn count(kinds: &mut Kinds, step: &Step) {
 #[test]
 fn six_links_of_a_hundred_pings(rt: HostRuntime) -> Result<(), Fail> {
     let text = six_links(rt.alloc())?;
-    let history = loaded(&rt, rt.alloc(), 4, text.as_str())?;
+    let mut source = ReaderSource::new(text.as_bytes());
+    let mut sink = WriterSink::new(Vec::new(rt.alloc()));
+    load::<Global, TableRouter, _, _, _>(&rt, rt.alloc(), 4, &mut source, &mut sink)?;
+    let history = sink.into_inner();
     let mut source = ReaderSource::new(history.as_slice());
     let mut sink = WriterSink::new(Vec::new(rt.alloc()));
     let legality = audit::<Global, TableRouter, _, _>(rt.alloc(), &mut source, &mut sink)?;

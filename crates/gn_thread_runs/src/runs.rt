@@ -2,7 +2,7 @@
 
 use crate::in_step::{Meeting, PacedLink};
 use bytes::Bytes;
-use gn_bodies::{ReaderEnd, WriterEnd};
+use gn_bodies::WriterEnd;
 use gn_fixtures::OWN;
 use gn_links::{Gate, Link, MemoryLink, NoGate};
 use gn_router::TableRouter;
@@ -12,6 +12,7 @@ use gn_shake::Role;
 use gn_threads::{RunFault, run};
 use gn_wire::{Descriptor, Guid, Kind};
 use std::alloc::Global;
+use std::sync::atomic::Ordering;
 use std::sync::{Barrier, Wait};
 use std::test::Fail;
 use std::thread::Threads;
@@ -28,15 +29,6 @@ fn pings(alloc: Global, link: u8, count: u8) -> Result<Vec<u8>, Fail> {
         ping.write_to(&mut bytes)?;
     }
     Ok(bytes)
-}
-
-/// Plain links of so many Pings each.
-fn links_of(alloc: Global, links: u8, count: u8) -> Result<Vec<MemoryLink>, Fail> {
-    let mut all = Vec::new(alloc);
-    for link in 0..links {
-        all.push(MemoryLink::new(Role::Plain, pings(alloc, link, count)?, 4096))?;
-    }
-    Ok(all)
 }
 
 /// A gate that lets workers through where two of them are inside at once.
@@ -73,36 +65,12 @@ where
 }
 
 #[test]
-fn one_link_and_one_worker(rt: HostRuntime) -> Result<(), Fail> {
-    let links = links_of(rt.alloc(), 1, 1)?;
-    let report = table_run(&rt, rt.alloc(), links, 1, &NoGate).map_err(|_| "a report")?;
-    assert_eq!(rt; report.history.len(), 5);
-    assert_eq!(rt; report.links.len(), 1);
-    for link in &report.links {
-        assert_eq!(rt; link.conn, Some(1));
-        assert_eq!(rt; link.reader_end, ReaderEnd::Bytes);
-        assert_eq!(rt; link.writer_end, WriterEnd::Drained);
-    }
-    Ok(())
-}
-
-#[test]
-fn six_links_of_a_hundred_pings(rt: HostRuntime) -> Result<(), Fail> {
-    let links = links_of(rt.alloc(), 6, 100)?;
-    let report = table_run(&rt, rt.alloc(), links, 4, &NoGate).map_err(|_| "a report")?;
-    assert_eq!(rt; report.stats.connected, 6);
-    assert_eq!(rt; report.stats.admitted, 600);
-    assert_eq!(rt; report.stats.routed, 600);
-    assert_eq!(rt; report.stats.closed, 6);
-    Ok(())
-}
-
-#[test]
 fn two_workers_meet(rt: HostRuntime) -> Result<(), Fail> {
     let gate = Pairs {
         barrier: Barrier::new(2),
     };
-    let links = links_of(rt.alloc(), 1, 2)?;
+    let link = MemoryLink::new(Role::Plain, pings(rt.alloc(), 0, 2)?, 4096);
+    let links = vec![in rt.alloc(); link]?;
     let report = table_run(&rt, rt.alloc(), links, 2, &gate).map_err(|_| "a report")?;
     assert_eq!(rt; report.workers.len(), 2);
     for receipts in &report.workers {
@@ -140,7 +108,11 @@ fn paced_links<'a>(
     let mut links = Vec::new(alloc);
     for number in [0u8, 1] {
         let link = MemoryLink::new(Role::Plain, pings(alloc, number, 10)?, 1);
-        links.push(PacedLink::new(link, meeting, number == 0))?;
+        links.push(PacedLink {
+            link,
+            meeting: Some(meeting),
+            is_first: number == 0,
+        })?;
     }
     Ok(links)
 }
@@ -152,21 +124,29 @@ fn two_readers_meet(rt: HostRuntime) -> Result<(), Fail> {
     let report = table_run(&rt, rt.alloc(), links, 1, &NoGate).map_err(|_| "a report")?;
     assert_eq!(rt; report.stats.routed, 20);
     // ten Pings of 23 bytes, and the read that finds no more, on both sides alike: nobody waits for one that has ended
-    assert_eq!(rt; meeting.ended(), (231, 231, false));
+    let reads = (
+        meeting.first.load(Ordering::SeqCst),
+        meeting.second.load(Ordering::SeqCst),
+    );
+    assert_eq!(rt; reads, (231, 231));
+    assert!(rt; !meeting.is_missed.load(Ordering::SeqCst));
     Ok(())
 }
 
 #[test]
-fn none_and_seventeen_workers(rt: HostRuntime) -> Result<(), Fail> {
-    for workers in [0, 17] {
-        let ran = table_run(
-            &rt,
-            rt.alloc(),
-            links_of(rt.alloc(), 0, 0)?,
-            workers,
-            &NoGate,
-        );
-        assert!(rt; matches!(ran, Err(RunFault::BadWorkers)));
+fn a_link_that_cannot_be_split_is_named(rt: HostRuntime) -> Result<(), Fail> {
+    let meeting = Meeting::new();
+    let mut links = Vec::new(rt.alloc());
+    for meeting in [Some(&meeting), None] {
+        let link = MemoryLink::new(Role::Plain, Vec::new(rt.alloc()), 1);
+        let is_first = meeting.is_some();
+        links.push(PacedLink {
+            link,
+            meeting,
+            is_first,
+        })?;
     }
+    let ran = table_run(&rt, rt.alloc(), links, 1, &NoGate);
+    assert_eq!(rt; ran.err(), Some(RunFault::Link(1)));
     Ok(())
 }

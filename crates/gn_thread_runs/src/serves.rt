@@ -17,7 +17,7 @@ use std::thread::Threads;
 use std::time::Duration;
 use std::{io, thread};
 
-type Served = Result<Report<TcpReader, TcpWriter>, RunFault>;
+pub(crate) type Served = Result<Report<TcpReader, TcpWriter>, RunFault>;
 
 /// The Ping forwarded: TTL 6 and Hops 1.
 const FORWARDED: [u8; 23] = [
@@ -25,15 +25,16 @@ const FORWARDED: [u8; 23] = [
     0, 6, 1, 0, 0, 0, 0,
 ];
 
-/// A run over the table router with one worker.
-fn serve<R: Threads + Wait + Net<Listener = TcpListener, Stream = TcpStream> + Sync>(
+/// A run of at most so many steps over the table router with one worker.
+pub(crate) fn serve<R: Threads + Wait + Net<Listener = TcpListener, Stream = TcpStream> + Sync>(
     rt: &R,
     alloc: Global,
     listener: &TcpListener,
+    steps: u32,
     accept: u32,
     peers: &[SocketAddr],
 ) -> Served {
-    let Ok(config) = usual(100) else {
+    let Ok(config) = usual(steps) else {
         return Err(RunFault::BadWorkers);
     };
     if accept > 128 || peers.len() > 64 {
@@ -86,24 +87,16 @@ fn two_clients<N: Net<Listener = TcpListener, Stream = TcpStream>>(
     Ok(good)
 }
 
-/// Two clients, and what they saw.
-fn two_are_served<R: Threads + Wait + Net<Listener = TcpListener, Stream = TcpStream> + Sync>(
-    rt: &R,
-    alloc: Global,
-) -> Result<(Option<bool>, Served), Fail> {
-    let listener = listen(rt, 0).map_err(|_| "a listener")?;
-    let at = listener.local_addr()?;
-    let listener = &listener;
-    Ok(thread::join(
-        rt,
-        move || two_clients(rt, at).ok(),
-        move || serve(rt, alloc, listener, 2, &[]),
-    ))
-}
-
 #[test]
 fn two_clients_are_served(rt: HostRuntime) -> Result<(), Fail> {
-    let (good, served) = two_are_served(&rt, rt.alloc())?;
+    let listener = listen(&rt, 0).map_err(|_| "a listener")?;
+    let at = listener.local_addr()?;
+    let (net, listener) = (&rt, &listener);
+    let (good, served) = thread::join(
+        net,
+        move || two_clients(net, at).ok(),
+        move || serve(net, net.alloc(), listener, 100, 2, &[]),
+    );
     assert_eq!(rt; good, Some(true));
     let report = served.map_err(|_| "a report")?;
     assert_eq!(rt; report.history.len(), 10);
@@ -145,24 +138,16 @@ fn a_stranger_and_a_client<N: Net<Listener = TcpListener, Stream = TcpStream>>(
     Ok(good)
 }
 
-/// A stranger and a client, and what they saw.
-fn both_are_served<R: Threads + Wait + Net<Listener = TcpListener, Stream = TcpStream> + Sync>(
-    rt: &R,
-    alloc: Global,
-) -> Result<(Option<bool>, Served), Fail> {
-    let listener = listen(rt, 0).map_err(|_| "a listener")?;
-    let at = listener.local_addr()?;
-    let listener = &listener;
-    Ok(thread::join(
-        rt,
-        move || a_stranger_and_a_client(rt, at).ok(),
-        move || serve(rt, alloc, listener, 2, &[]),
-    ))
-}
-
 #[test]
 fn a_stranger_is_let_go(rt: HostRuntime) -> Result<(), Fail> {
-    let (good, served) = both_are_served(&rt, rt.alloc())?;
+    let listener = listen(&rt, 0).map_err(|_| "a listener")?;
+    let at = listener.local_addr()?;
+    let (net, listener) = (&rt, &listener);
+    let (good, served) = thread::join(
+        net,
+        move || a_stranger_and_a_client(net, at).ok(),
+        move || serve(net, net.alloc(), listener, 100, 2, &[]),
+    );
     assert_eq!(rt; good, Some(true));
     let report = served.map_err(|_| "a report")?;
     assert_eq!(rt; report.history.len(), 2);
@@ -177,38 +162,33 @@ fn a_stranger_is_let_go(rt: HostRuntime) -> Result<(), Fail> {
     Ok(())
 }
 
-/// A peer that is called: it consents, sends a Ping, and hears the Pong and the end.
-fn consents(listener: &TcpListener) -> io::Result<bool> {
+/// A peer that is called. Where it consents it sends a Ping, hears the Pong and sends no more. In any case it hears the end,
+/// and stays: the run doesn't wait for it.
+fn is_called(listener: &TcpListener, consents: bool) -> io::Result<Option<TcpStream>> {
     let (mut caller, _) = listener.accept()?;
     let mut good = hears(&mut caller, gn_shake::request())?;
-    caller.write_all(gn_shake::consent())?;
-    caller.write_all(PING)?;
-    caller.shutdown(Shutdown::Write)?;
-    good &= hears(&mut caller, OWN_PONG)?;
+    if consents {
+        caller.write_all(gn_shake::consent())?;
+        caller.write_all(PING)?;
+        caller.shutdown(Shutdown::Write)?;
+        good &= hears(&mut caller, OWN_PONG)?;
+    }
     good &= hears_the_end(&mut caller)?;
-    Ok(good)
-}
-
-/// A peer that is called, and what it saw.
-fn one_is_called<R: Threads + Wait + Net<Listener = TcpListener, Stream = TcpStream> + Sync>(
-    rt: &R,
-    alloc: Global,
-) -> Result<(Option<bool>, Served), Fail> {
-    let listener = listen(rt, 0).map_err(|_| "a listener")?;
-    let theirs = listen(rt, 0).map_err(|_| "a listener")?;
-    let at = [theirs.local_addr()?];
-    let (listener, theirs, at) = (&listener, &theirs, &at);
-    Ok(thread::join(
-        rt,
-        move || consents(theirs).ok(),
-        move || serve(rt, alloc, listener, 0, at.as_slice()),
-    ))
+    Ok(good.then_some(caller))
 }
 
 #[test]
 fn a_peer_is_called(rt: HostRuntime) -> Result<(), Fail> {
-    let (good, served) = one_is_called(&rt, rt.alloc())?;
-    assert_eq!(rt; good, Some(true));
+    let listener = listen(&rt, 0).map_err(|_| "a listener")?;
+    let theirs = listen(&rt, 0).map_err(|_| "a listener")?;
+    let at = [theirs.local_addr()?];
+    let (net, listener, theirs, at) = (&rt, &listener, &theirs, &at);
+    let (peer, served) = thread::join(
+        net,
+        move || is_called(theirs, true).ok().flatten(),
+        move || serve(net, net.alloc(), listener, 100, 0, at.as_slice()),
+    );
+    assert!(rt; peer.is_some());
     let report = served.map_err(|_| "a report")?;
     assert_eq!(rt; report.history.len(), 5);
     assert_eq!(rt;
@@ -218,35 +198,19 @@ fn a_peer_is_called(rt: HostRuntime) -> Result<(), Fail> {
     Ok(())
 }
 
-/// A peer that is called, and waits for the end.
-fn is_let_go(listener: &TcpListener) -> io::Result<bool> {
-    let (mut caller, _) = listener.accept()?;
-    let mut good = hears(&mut caller, gn_shake::request())?;
-    good &= hears_the_end(&mut caller)?;
-    Ok(good)
-}
-
-/// A peer that is called before one that isn't there, and what it saw.
-fn one_is_missing<R: Threads + Wait + Net<Listener = TcpListener, Stream = TcpStream> + Sync>(
-    rt: &R,
-    alloc: Global,
-) -> Result<(Option<bool>, Served), Fail> {
-    let listener = listen(rt, 0).map_err(|_| "a listener")?;
-    let theirs = listen(rt, 0).map_err(|_| "a listener")?;
-    let nobody = listen(rt, 0).map_err(|_| "a listener")?.local_addr()?;
-    let at = [theirs.local_addr()?, nobody];
-    let (listener, theirs, at) = (&listener, &theirs, &at);
-    Ok(thread::join(
-        rt,
-        move || is_let_go(theirs).ok(),
-        move || serve(rt, alloc, listener, 1, at.as_slice()),
-    ))
-}
-
 #[test]
 fn a_peer_that_is_not_there_ends_the_run(rt: HostRuntime) -> Result<(), Fail> {
-    let (good, served) = one_is_missing(&rt, rt.alloc())?;
-    assert_eq!(rt; good, Some(true));
+    let listener = listen(&rt, 0).map_err(|_| "a listener")?;
+    let theirs = listen(&rt, 0).map_err(|_| "a listener")?;
+    let nobody = listen(&rt, 0).map_err(|_| "a listener")?.local_addr()?;
+    let at = [theirs.local_addr()?, nobody];
+    let (net, listener, theirs, at) = (&rt, &listener, &theirs, &at);
+    let (peer, served) = thread::join(
+        net,
+        move || is_called(theirs, false).ok().flatten(),
+        move || serve(net, net.alloc(), listener, 100, 1, at.as_slice()),
+    );
+    assert!(rt; peer.is_some());
     assert_eq!(rt; served.err(), Some(RunFault::Call(1)));
     Ok(())
 }

@@ -1,6 +1,6 @@
 //! The bodies of one link, called in turn on one thread.
 
-ghost use Rattle.std.specs.Prelude.{◌≡◌, [], true, IfSome};
+ghost use Rattle.std.specs.Prelude.{◌≡◌, [], IfSome};
 ghost use Rattle.gn_links.specs.Halves.{IsNewReader, IsNewWriter};
 
 mod fakes;
@@ -9,13 +9,11 @@ mod ways_out;
 mod worked;
 
 use fakes::Doorman;
-use gn_bodies::{
-    BodyFault, ReaderEnd, WriterDone, WriterEnd, reader_body, worker_body, writer_body,
-};
-use gn_fixtures::{ping, usual};
+use gn_bodies::{BodyFault, ReaderEnd, WriterEnd, reader_body, worker_body, writer_body};
+use gn_fixtures::{PING, ping, usual};
 use gn_links::{Link, LinkReader, LinkWriter, MemoryLink, MemoryWriter};
 use gn_router::TableRouter;
-use gn_rules::{RouterCore, Step};
+use gn_rules::{Receipt, RouterCore, Step};
 use gn_service::{Actor, Door, Service};
 use gn_shake::Role;
 use gn_stage::{Intake, Job, Outlet, Site, Stage};
@@ -28,63 +26,39 @@ use std::sync::ledger::{Blank, Ledger};
 /// The number by which the worker passes the gate.
 const WORKER: u32 = 5;
 
-/// The three actors of the threads of one link: reader, writer and worker.
-#[derive(Drop)]
-struct Trio<L: Ledger, A: Allocator = Global> {
-    reader: Actor<L, A>,
-    writer: Actor<L, A>,
-    worker: Actor<L, A>,
-}
-
-/// Whether an actor has this number and no receipts.
-fn is_new<L: Ledger, A: Allocator>(actor: &Actor<L, A>, number: u32) -> bool
-    ensures { result ≡ true → (actor.now.number ≡ number) × (actor.now.receipts ≡ []) }
+/// The last of these actors, where it has this number and no receipts.
+fn last_actor<L: Ledger, A: Allocator + Copy>(
+    actors: &mut Vec<Actor<L, A>, A>,
+    number: u32,
+) -> Option<Actor<L, A>>
+    ensures { IfSome result (λ actor. (actor.number ≡ number) × (actor.receipts ≡ [])) }
 {
-    actor.number() == number && actor.receipts().is_empty()
-}
-
-/// These actors, where they are new.
-fn new_trio<L: Ledger, A: Allocator>(
-    reader: Actor<L, A>,
-    writer: Actor<L, A>,
-    worker: Actor<L, A>,
-) -> Option<Trio<L, A>>
-    ensures reader { IfSome result (λ trio. (trio.reader.number ≡ 0) × (trio.reader.receipts ≡ [])) }
-    ensures writer { IfSome result (λ trio. trio.writer.receipts ≡ []) }
-    ensures worker { IfSome result (λ trio. trio.worker.receipts ≡ []) }
-{
-    if is_new(&reader, 0) && is_new(&writer, 1) && is_new(&worker, 2) {
-        Some(Trio {
-            reader,
-            writer,
-            worker,
-        })
+    let actor = actors.pop()?;
+    if actor.number() == number && actor.receipts().is_empty() {
+        Some(actor)
     } else {
         None
     }
 }
 
-/// The actors of a run of one link and one worker, without the house.
-fn trio_of<L: Ledger, A: Allocator + Copy>(actors: Vec<Actor<L, A>, A>) -> Option<Trio<L, A>>
-    ensures reader { IfSome result (λ trio. (trio.reader.number ≡ 0) × (trio.reader.receipts ≡ [])) }
-    ensures writer { IfSome result (λ trio. trio.writer.receipts ≡ []) }
-    ensures worker { IfSome result (λ trio. trio.worker.receipts ≡ []) }
-{
-    let mut actors = actors;
-    let _house = actors.pop()?;
-    let (worker, writer, reader) = (actors.pop()?, actors.pop()?, actors.pop()?);
-    new_trio(reader, writer, worker)
+/// What the actors of a run of one link and one worker did, step by step.
+#[derive(Drop)]
+pub(crate) struct Steps<A: Allocator = Global> {
+    pub(crate) history: Vec<Step<A>, A>,
+    pub(crate) reader: Vec<Receipt<A>, A>,
+    pub(crate) writer: Vec<Receipt<A>, A>,
+    pub(crate) worker: Vec<Receipt<A>, A>,
 }
 
 /// What the bodies of one link gave back, who passed the gate last with which ticket, and what they left of the run.
 #[derive(Drop)]
-struct Ran<W: LinkWriter, A: Allocator = Global> {
+pub(crate) struct Ran<W: LinkWriter, A: Allocator = Global> {
     read: Result<ReaderEnd, BodyFault>,
     worked: Result<(), BodyFault>,
     passed: Option<(u32, u32)>,
     wrote: Result<WriterEnd, BodyFault>,
     writer: W,
-    history: Vec<Step<A>, A>,
+    pub(crate) steps: Steps<A>,
     door: Door,
     is_closing: bool,
     has_failed: bool,
@@ -93,13 +67,13 @@ struct Ran<W: LinkWriter, A: Allocator = Global> {
 /// What a run of one link is like: the most steps of its history, the ticket of a job that waits in its queue and that
 /// nobody admitted, and whether a worker takes jobs.
 #[derive(Clone, Copy)]
-struct Setting {
+pub(crate) struct Setting {
     steps: u32,
     forged: Option<u32>,
     has_worker: bool,
 }
 
-const USUAL: Setting = Setting {
+pub(crate) const USUAL: Setting = Setting {
     steps: 100,
     forged: None,
     has_worker: true,
@@ -110,65 +84,59 @@ fn in_turn<C, S: Site, L: Ledger, Rd: LinkReader, W: LinkWriter, A: Allocator + 
     rt: &R,
     alloc: A,
     service: Service<C, L, A>,
-    trio: Trio<L, A>,
+    actors: Vec<Actor<L, A>, A>,
     intake: Intake<S, A>,
     outlet: Option<Outlet<S, A>>,
     role: Role,
     reader: Rd,
     writer: W,
-) -> Ran<W, A>
+) -> Option<Ran<W, A>>
 where
     C: RouterCore<A> + Drop,
-    requires number { trio.reader.number ≡ 0 }
-    requires none { (trio.reader.receipts ≡ []) × (trio.writer.receipts ≡ []) × (trio.worker.receipts ≡ []) }
     requires reader { IsNewReader (Rd.bytes_read reader) (Rd.failures reader) (Rd.pieces reader) (Rd.has_ended reader) }
     requires writer { IsNewWriter (W.bytes_written writer) (W.failures writer) (W.is_stuck writer)
         (W.is_finished writer) }
 {
-    let Trio {
-        reader: a,
-        writer: w,
-        worker: k,
-    } = trio;
-    let read = reader_body(rt, alloc, &service, a, 0, role, reader, intake).end;
+    let mut actors = actors;
+    let _house = actors.pop()?;
+    let k = last_actor(&mut actors, 2)?;
+    let w = last_actor(&mut actors, 1)?;
+    let a = last_actor(&mut actors, 0)?;
+    let read = reader_body(rt, alloc, &service, a, 0, role, reader, intake);
     let gate = Doorman {
         last: Cell::new(None),
     };
-    let worked = match outlet {
-        Some(outlet) => worker_body(rt, &service, k, WORKER, &gate, outlet).end,
-        None => Ok(()),
+    let (k, worked) = match outlet {
+        Some(outlet) => {
+            let done = worker_body(rt, &service, k, WORKER, &gate, outlet);
+            (done.actor, done.end)
+        }
+        None => (k, Ok(())),
     };
-    let WriterDone {
-        writer,
-        end: wrote,
-        ..
-    } = writer_body(rt, alloc, &service, w, 0, role, writer);
+    let wrote = writer_body(rt, alloc, &service, w, 0, role, writer);
     let hub = service.into_hub();
-    Ran {
-        read,
+    Some(Ran {
+        read: read.end,
         worked,
         passed: gate.last.get(),
-        wrote,
-        writer,
+        wrote: wrote.end,
+        writer: wrote.writer,
         door: hub.door(0),
         is_closing: hub.closing(),
         has_failed: hub.failed(),
-        history: hub.into_router().into_history(),
-    }
+        steps: Steps {
+            history: hub.into_router().into_history(),
+            reader: read.actor.into_parts().0,
+            writer: wrote.actor.into_parts().0,
+            worker: k.into_parts().0,
+        },
+    })
 }
 
-/// A job of a Ping under this ticket.
-fn job_of<A: Allocator>(ticket: u32) -> Option<Job<A>> {
-    let descriptor = ping(0xa1, 7, 0).ok()?;
-    Some(Job { ticket, descriptor })
-}
-
-/// Puts a job that nobody admitted, where the setting has one.
+/// Puts a job of a Ping that nobody admitted, where the setting has one.
 fn forge<S: Site, A: Allocator, R: Wait>(rt: &R, intake: &mut Intake<S, A>, forged: Option<u32>) {
-    if let Some(ticket) = forged {
-        if let Some(job) = job_of(ticket) {
-            let _ = intake.put(rt, job);
-        }
+    if let (Some(ticket), Ok(descriptor)) = (forged, ping(0xa1, 7, 0)) {
+        let _ = intake.put(rt, Job { ticket, descriptor });
     }
 }
 
@@ -194,14 +162,13 @@ where
 {
     let config = usual(setting.steps).ok()?;
     let (service, actors) = Service::<C, L, A>::new(alloc, blank, &config, &[role], 1).ok()?;
-    let trio = trio_of(actors)?;
     let (mut ins, mut outs, _desk) = stage.ends::<S>(alloc, 1, 1).ok()?;
     let mut intake = ins.pop()?;
     let outlet = outs.pop().filter(|_| setting.has_worker);
     forge(rt, &mut intake, setting.forged);
-    Some(in_turn(
-        rt, alloc, service, trio, intake, outlet, role, reader, writer,
-    ))
+    in_turn(
+        rt, alloc, service, actors, intake, outlet, role, reader, writer,
+    )
 }
 
 /// The bodies of one link in turn, over the table router.
@@ -240,4 +207,19 @@ fn run_link<R: Wait>(
     let role = link.role();
     let (reader, writer) = link.split().ok()?;
     run(rt, alloc, setting, role, reader, writer)
+}
+
+/// A plain link of one Ping.
+pub(crate) fn one_ping<R: Wait>(
+    rt: &R,
+    alloc: Global,
+    setting: Setting,
+) -> Option<Ran<MemoryWriter>> {
+    let bytes = PING.to_vec(alloc).ok()?;
+    run_link(
+        rt,
+        alloc,
+        setting,
+        MemoryLink::new(Role::Plain, bytes, 4096),
+    )
 }

@@ -3,36 +3,16 @@
 
 ghost use Rattle.std.specs.Prelude.{◌≡◌, ◌+◌};
 
-use bytes::Bytes;
-use gn_fixtures::{OWN_PONG, ping, usual};
+use gn_fixtures::{ping, usual};
 use gn_payload::Checked;
 use gn_plain::PlainRouter;
-use gn_rules::{
-    Config, ConnId, Event, Reply, RouterCore, Sending, Sends, Step, is_same_event, is_same_reply,
-    is_step_of,
-};
+use gn_rules::{ConnId, Event, RouterCore, Step, is_step_of};
 use gn_service::{Actor, Hub, Next, Role, Service};
-use gn_wire::{Descriptor, Guid, Kind};
+use gn_text::push_step;
 use std::alloc::Global;
 use std::marker::Brand;
 use std::sync::ledger::{Blank, Ledger};
 use std::test::Fail;
-
-/// A packet of the worked run, all of which have one ID.
-fn packet(kind: Kind, ttl: u8, hops: u8, payload: &'static [u8]) -> Result<Descriptor, Fail> {
-    let payload = Bytes::from_static(payload);
-    Ok(Descriptor::new(Guid([0xa1; 16]), kind, ttl, hops, payload).map_err(|_| "a packet")?)
-}
-
-/// The Ping as it is passed on.
-fn forward() -> Result<Descriptor, Fail> {
-    packet(Kind::Ping, 6, 1, b"")
-}
-
-/// The router's own Pong to it.
-fn own_pong() -> Result<Descriptor, Fail> {
-    packet(Kind::Pong, 1, 0, &OWN_PONG[23..])
-}
 
 /// A call of the worked run, with the answer that is wanted.
 #[derive(Clone, Copy)]
@@ -60,6 +40,18 @@ const CALLS: [(usize, Call); 12] = [
     (2, Call::Next(1, Next::Over)),
 ];
 
+/// The steps of the worked run: the own Pong goes back, and the Ping on.
+const WORKED: &str = "\
+0 connect = connected 1
+1 connect = connected 2
+0 admit 1 a1a1a1a1a1a1a1a1a1a1a1a1a1a1a1a100070000000000 = admitted 0
+4 route 0 = routed local 1+a1a1a1a1a1a1a1a1a1a1a1a1a1a1a1a10101000e000000ca187f0000010500000028000000 2+a1a1a1a1a1a1a1a1a1a1a1a1a1a1a1a100060100000000
+3 take 2 = taken a1a1a1a1a1a1a1a1a1a1a1a1a1a1a1a100060100000000
+3 close 2 = closed 0
+2 take 1 = taken a1a1a1a1a1a1a1a1a1a1a1a1a1a1a1a10101000e000000ca187f0000010500000028000000
+2 close 1 = closed 0
+";
+
 /// Makes a call: whether its answer is the wanted one.
 fn is_answered<C: RouterCore<Global>, L: Ledger>(
     hub: &mut Hub<C, L>,
@@ -84,6 +76,15 @@ pub(crate) fn stands_in<L: Ledger>(me: &Actor<L>, history: &[Step]) -> bool {
         Some(step) => is_step_of(step, me.number(), r),
         None => false,
     })
+}
+
+/// The lines of these steps.
+pub(crate) fn lines_of(alloc: Global, steps: &[Step]) -> Result<Vec<u8>, Fail> {
+    let mut lines = Vec::new(alloc);
+    for step in steps {
+        push_step(&mut lines, step)?;
+    }
+    Ok(lines)
 }
 
 /// What the worked run left: whether each answer was the wanted one and each receipt stands in the history, the book, each
@@ -143,63 +144,13 @@ fn work_plain(alloc: Global) -> Result<Worked, Fail> {
     work::<PlainRouter, Brand>(alloc, Blank::new(6))
 }
 
-fn add(steps: &mut Vec<Step>, actor: u32, event: Event, reply: Reply) -> Result<(), Fail> {
-    steps.push(Step {
-        actor,
-        event,
-        reply,
-    })?;
-    Ok(())
-}
-
-/// The reply to the Route: the own Pong back, the Ping on.
-fn routed(alloc: Global) -> Result<Reply, Fail> {
-    let mut sends = Sends::new(alloc);
-    for (to, packet) in [(1, own_pong()?), (2, forward()?)] {
-        sends.push(Sending {
-            to,
-            packet,
-            queued: true,
-        })?;
-    }
-    Ok(Reply::Routed { sends, local: true })
-}
-
-/// The steps of the worked run.
-fn wanted(alloc: Global) -> Result<Vec<Step>, Fail> {
-    let mut steps = Vec::new(alloc);
-    add(&mut steps, 0, Event::Connect, Reply::Connected(1))?;
-    add(&mut steps, 1, Event::Connect, Reply::Connected(2))?;
-    add(
-        &mut steps,
-        0,
-        Event::Admit(1, ping(0xa1, 7, 0)?),
-        Reply::Admitted(0),
-    )?;
-    add(&mut steps, 4, Event::Route(0), routed(alloc)?)?;
-    add(&mut steps, 3, Event::Take(2), Reply::Taken(forward()?))?;
-    add(&mut steps, 3, Event::Close(2), Reply::Closed(0))?;
-    add(&mut steps, 2, Event::Take(1), Reply::Taken(own_pong()?))?;
-    add(&mut steps, 2, Event::Close(1), Reply::Closed(0))?;
-    Ok(steps)
-}
-
-fn is_same_step(step: &Step, wanted: &Step) -> bool {
-    step.actor == wanted.actor
-        && is_same_event(&step.event, &wanted.event)
-        && is_same_reply(&step.reply, &wanted.reply)
-}
-
 #[test]
 fn a_ping_through_the_lent_hub(rt: HostRuntime) -> Result<(), Fail> {
     let worked = work_plain(rt.alloc())?;
     assert!(rt; worked.are_answered && worked.are_in_history);
     assert_eq!(rt; worked.book, 8);
     assert_eq!(rt; worked.shares.as_slice(), [2, 1, 2, 2, 1, 0].as_slice());
-    let wanted = wanted(rt.alloc())?;
-    assert_eq!(rt; worked.history.len(), wanted.len());
-    for (step, wanted) in worked.history.iter().zip(&wanted) {
-        assert!(rt; is_same_step(step, wanted));
-    }
+    let lines = lines_of(rt.alloc(), worked.history.as_slice())?;
+    assert_eq!(rt; lines.as_slice(), WORKED.as_bytes());
     Ok(())
 }

@@ -1,4 +1,4 @@
-//! Pieces of a memory link, where its halves fail, and what was written.
+//! Pieces of a memory link, and a write whose memory is refused.
 
 use gn_links::*;
 use gn_shake::Role;
@@ -46,35 +46,6 @@ fn bytes_come_in_pieces(rt: HostRuntime) -> Result<(), Fail> {
 }
 
 #[test]
-fn reads_fail_from_a_number_on(rt: HostRuntime) -> Result<(), Fail> {
-    let alloc = rt.alloc();
-    for (from, good) in [(0, 0), (1, 0), (2, 1), (4, 3)] {
-        let bytes = b"GNUTELLA".to_vec(alloc)?;
-        let link = MemoryLink::new(Role::Plain, bytes, 1).failing(Some(from), None);
-        let (mut reader, _) = link.split().map_err(|_| "split")?;
-        let (answers, _) = read_times(&rt, alloc, &mut reader, 8, 6)?;
-        for (i, answer) in answers.iter().enumerate() {
-            assert_eq!(rt; answer.is_some(), i < good, "from {from}, read {i}");
-        }
-    }
-    Ok(())
-}
-
-#[test]
-fn writes_are_kept_until_they_fail(rt: HostRuntime) -> Result<(), Fail> {
-    let alloc = rt.alloc();
-    let link = MemoryLink::new(Role::Plain, Vec::new(alloc), 1).failing(None, Some(3));
-    let (_, mut writer) = link.split().map_err(|_| "split")?;
-    assert_eq!(rt; writer.write(&rt, b"GNU"), Ok(3));
-    assert_eq!(rt; writer.write(&rt, b"TELLA"), Ok(5));
-    assert_eq!(rt; writer.write(&rt, b" OK"), Err(LinkFault));
-    writer.finish(&rt);
-    assert_eq!(rt; writer.bytes(), b"GNUTELLA".as_slice());
-    assert_eq!(rt; writer.into_bytes().as_slice(), b"GNUTELLA".as_slice());
-    Ok(())
-}
-
-#[test]
 fn a_write_fails_where_memory_is_refused(rt: HostRuntime) -> Result<(), Fail> {
     let heap = LocalHeap::new(rt.alloc(), 64).map_err(|_| "a heap")?;
     let link = MemoryLink::new(Role::Plain, Vec::new(&heap), 1);
@@ -83,9 +54,4 @@ fn a_write_fails_where_memory_is_refused(rt: HostRuntime) -> Result<(), Fail> {
     assert_eq!(rt; writer.write(&rt, &[2; 4096]), Err(LinkFault));
     assert_eq!(rt; writer.bytes(), [1; 8].as_slice());
     Ok(())
-}
-
-#[test]
-fn no_gate_holds_nobody(rt: HostRuntime) {
-    NoGate.enter(&rt, 0, 7);
 }

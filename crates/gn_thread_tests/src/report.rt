@@ -2,25 +2,14 @@
 
 ghost use Rattle.std.specs.Prelude.{◌≡◌, length, IfOk};
 
-mod in_turn;
-
+use crate::bodies::{Steps, USUAL, one_ping};
 use gn_bodies::{ReaderEnd, WriterEnd};
 use gn_fixtures::ping;
 use gn_rules::{Event, Receipt, Reply, Stats, Step};
 use gn_run::*;
 use gn_shake::Role;
-use in_turn::one_ping;
 use std::alloc::Global;
 use std::test::Fail;
-
-/// What the actors of a run of one link and one worker did, step by step.
-#[derive(Drop)]
-struct Steps {
-    history: Vec<Step>,
-    reader: Vec<Receipt>,
-    writer: Vec<Receipt>,
-    worker: Vec<Receipt>,
-}
 
 /// A step of an actor, and its receipt.
 fn step(
@@ -61,37 +50,31 @@ fn report(
 }
 
 #[test]
-fn the_worked_run_has_no_flaw(rt: HostRuntime) -> Result<(), Fail> {
-    let (steps, read, wrote) = one_ping(&rt, rt.alloc())?;
-    assert_eq!(rt; (read, wrote), (ReaderEnd::Bytes, WriterEnd::Drained));
-    assert_eq!(rt; steps.history.len(), 5);
-    let worked = report(rt.alloc(), steps, read, wrote)?;
-    assert_eq!(rt; worked.flaw(&[Role::Plain]), None);
-    Ok(())
-}
-
-#[test]
-fn a_changed_part_names_its_actor(rt: HostRuntime) -> Result<(), Fail> {
+fn a_changed_part_of_the_worked_run_names_its_actor(rt: HostRuntime) -> Result<(), Fail> {
     let alloc = rt.alloc();
-    let (mut steps, read, wrote) = one_ping(&rt, alloc)?;
-    steps.worker.clear();
-    let emptied = report(alloc, steps, read, wrote)?;
-    assert_eq!(rt; emptied.flaw(&[Role::Plain]), Some(2));
-    let (steps, read, _) = one_ping(&rt, alloc)?;
-    let closed = report(alloc, steps, read, WriterEnd::Closed)?;
-    assert_eq!(rt; closed.flaw(&[Role::Plain]), Some(1));
-    let (steps, _, wrote) = one_ping(&rt, alloc)?;
-    let not_live = report(alloc, steps, ReaderEnd::NotLive, wrote)?;
-    assert_eq!(rt; not_live.flaw(&[Role::Plain]), Some(0));
+    let rows = [
+        (false, ReaderEnd::Bytes, WriterEnd::Drained, None),
+        (true, ReaderEnd::Bytes, WriterEnd::Drained, Some(2)),
+        (false, ReaderEnd::Bytes, WriterEnd::Closed, Some(1)),
+        (false, ReaderEnd::NotLive, WriterEnd::Drained, Some(0)),
+    ];
+    for (is_emptied, read, wrote, actor) in rows {
+        let mut steps = one_ping(&rt, alloc, USUAL).ok_or("a run")?.steps;
+        if is_emptied {
+            steps.worker.clear();
+        }
+        let changed = report(alloc, steps, read, wrote)?;
+        assert_eq!(rt; changed.flaw(&[Role::Plain]), actor);
+    }
     Ok(())
 }
 
 #[test]
 fn the_house_is_named_for_a_stranger(rt: HostRuntime) -> Result<(), Fail> {
-    let (mut steps, read, wrote) = one_ping(&rt, rt.alloc())?;
+    let mut steps = one_ping(&rt, rt.alloc(), USUAL).ok_or("a run")?.steps;
     let (stranger, _) = step(rt.alloc(), 5, 4, Event::Connect, Reply::Connected(2))?;
     steps.history.push(stranger)?;
-    let strange = report(rt.alloc(), steps, read, wrote)?;
+    let strange = report(rt.alloc(), steps, ReaderEnd::Bytes, WriterEnd::Drained)?;
     assert_eq!(rt; strange.flaw(&[Role::Plain]), Some(3));
     Ok(())
 }

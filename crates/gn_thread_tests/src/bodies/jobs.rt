@@ -1,25 +1,9 @@
 //! Jobs that were never admitted, and jobs that are handed back.
 
-use super::{Ran, Setting, USUAL, run_link};
+use super::{Setting, USUAL, one_ping};
 use gn_bodies::{BodyFault, ReaderEnd};
-use gn_fixtures::PING;
-use gn_links::{MemoryLink, MemoryWriter};
 use gn_rules::{Step, Ticket};
-use gn_shake::Role;
-use std::alloc::Global;
-use std::sync::Wait;
 use std::test::Fail;
-
-/// A plain link of one Ping.
-fn one_ping<R: Wait>(rt: &R, alloc: Global, setting: Setting) -> Option<Ran<MemoryWriter>> {
-    let bytes = PING.to_vec(alloc).ok()?;
-    run_link(
-        rt,
-        alloc,
-        setting,
-        MemoryLink::new(Role::Plain, bytes, 4096),
-    )
-}
 
 /// How many steps are routes of this ticket by this actor.
 fn routes(history: &[Step], actor: u32, ticket: Ticket) -> usize {
@@ -35,7 +19,7 @@ fn a_forged_job_is_passed_over(rt: HostRuntime) -> Result<(), Fail> {
     };
     let ran = one_ping(&rt, rt.alloc(), setting).ok_or("memory")?;
     assert!(rt; ran.worked == Err(BodyFault::Refused) && !ran.has_failed && ran.is_closing);
-    assert!(rt; routes(ran.history.as_slice(), 2, 0) == 1 && ran.history.len() == 5);
+    assert!(rt; routes(ran.steps.history.as_slice(), 2, 0) == 1 && ran.steps.history.len() == 5);
     Ok(())
 }
 
@@ -47,6 +31,6 @@ fn a_job_that_is_handed_back_is_routed(rt: HostRuntime) -> Result<(), Fail> {
     };
     let ran = one_ping(&rt, rt.alloc(), setting).ok_or("memory")?;
     assert!(rt; ran.read == Ok(ReaderEnd::Bytes));
-    assert!(rt; routes(ran.history.as_slice(), 0, 0) == 1 && ran.history.len() == 5);
+    assert!(rt; routes(ran.steps.history.as_slice(), 0, 0) == 1 && ran.steps.history.len() == 5);
     Ok(())
 }

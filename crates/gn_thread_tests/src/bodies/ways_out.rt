@@ -51,7 +51,7 @@ fn a_read_fails(rt: HostRuntime) -> Result<(), Fail> {
         };
         assert!(rt; ran.read == Ok(end), "read {from}");
         assert!(rt;
-            counts(ran.history.as_slice(), 0) == (admits, closes),
+            counts(ran.steps.history.as_slice(), 0) == (admits, closes),
             "read {from}"
         );
         assert!(rt; ran.is_closing && !ran.has_failed, "read {from}");
@@ -66,7 +66,7 @@ fn a_fault_closes(rt: HostRuntime) -> Result<(), Fail> {
     let ran = failing(&rt, rt.alloc(), bytes.as_slice(), None, None).ok_or("memory")?;
     let fault = FrameFault::TooLong(0xffff_ffff);
     assert!(rt; ran.read == Ok(ReaderEnd::Fault(fault)));
-    assert!(rt; counts(ran.history.as_slice(), 0) == (1, 1) && ran.is_closing);
+    assert!(rt; counts(ran.steps.history.as_slice(), 0) == (1, 1) && ran.is_closing);
     Ok(())
 }
 
@@ -74,7 +74,7 @@ fn a_fault_closes(rt: HostRuntime) -> Result<(), Fail> {
 fn a_write_fails(rt: HostRuntime) -> Result<(), Fail> {
     let ran = failing(&rt, rt.alloc(), PING, None, Some(1)).ok_or("memory")?;
     assert!(rt; ran.wrote == Ok(WriterEnd::WriteFailed));
-    assert!(rt; counts(ran.history.as_slice(), 1) == (1, 1) && !ran.has_failed);
+    assert!(rt; counts(ran.steps.history.as_slice(), 1) == (1, 1) && !ran.has_failed);
     Ok(())
 }
 
@@ -84,7 +84,7 @@ fn a_read_fails_in_the_greeting(rt: HostRuntime) -> Result<(), Fail> {
     let link = MemoryLink::new(Role::Accepting, bytes, 1).failing(Some(22), None);
     let ran = run_link(&rt, rt.alloc(), USUAL, link).ok_or("memory")?;
     assert!(rt; ran.read == Ok(ReaderEnd::ReadFailed) && ran.wrote == Ok(WriterEnd::NeverOpened));
-    assert!(rt; ran.history.is_empty() && ran.door == Door::Shut && ran.is_closing);
+    assert!(rt; ran.steps.history.is_empty() && ran.door == Door::Shut && ran.is_closing);
     Ok(())
 }
 
@@ -104,7 +104,7 @@ fn reads_without_end(rt: HostRuntime) -> Result<(), Fail> {
     };
     let ran = run(&rt, alloc, setting, Role::Plain, reader, writer).ok_or("memory")?;
     assert!(rt; ran.read == Ok(ReaderEnd::Turns));
-    assert!(rt; counts(ran.history.as_slice(), 0) == (43_478, 1));
+    assert!(rt; counts(ran.steps.history.as_slice(), 0) == (43_478, 1));
     Ok(())
 }
 

@@ -1,79 +1,22 @@
 //! The worked runs of one link.
 
 use super::{Ran, USUAL, WORKER, run_link};
+use crate::hub::lines_of;
 use gn_bodies::{BodyFault, ReaderEnd, WriterEnd};
 use gn_fixtures::{OWN_PONG, PING};
 use gn_links::{MemoryLink, MemoryWriter};
-use gn_rules::{Event, Reply, Step};
 use gn_service::Door;
 use gn_shake::{Role, consent, request};
-use gn_wire::Descriptor;
-use std::alloc::Global;
 use std::test::Fail;
 
-fn is_encoded_as(alloc: Global, packet: &Descriptor, bytes: &[u8]) -> bool {
-    let mut written = Vec::new(alloc);
-    packet.write_to(&mut written).is_ok() && written.as_slice() == bytes
-}
-
-/// Whether it is `0 connect = connected 1`.
-fn connects(step: &Step) -> bool {
-    step.actor == 0
-        && matches!(&step.event, Event::Connect)
-        && matches!(&step.reply, Reply::Connected(1))
-}
-
-/// Whether it is `0 admit 1 PING a1 07 00 = admitted 0`.
-fn admits(alloc: Global, step: &Step) -> bool {
-    match (&step.event, &step.reply) {
-        (Event::Admit(1, ping), Reply::Admitted(0)) => {
-            step.actor == 0 && is_encoded_as(alloc, ping, PING)
-        }
-        _ => false,
-    }
-}
-
-/// Whether it is `2 route 0 = routed local 1+OWN a1 01`.
-fn routes(alloc: Global, step: &Step) -> bool {
-    let Reply::Routed { sends, local: true } = &step.reply else {
-        return false;
-    };
-    match sends.as_slice() {
-        [only] => {
-            step.actor == 2
-                && step.event.routes(0)
-                && only.to == 1
-                && only.queued
-                && is_encoded_as(alloc, &only.packet, OWN_PONG)
-        }
-        _ => false,
-    }
-}
-
-/// Whether it is `1 take 1 = taken OWN a1 01`.
-fn takes(alloc: Global, step: &Step) -> bool {
-    match &step.reply {
-        Reply::Taken(pong) => {
-            step.actor == 1 && step.event.takes(1) && is_encoded_as(alloc, pong, OWN_PONG)
-        }
-        _ => false,
-    }
-}
-
-/// Whether it is `1 close 1 = closed 0`.
-fn closes(step: &Step) -> bool {
-    step.actor == 1 && step.event.closes(1) && matches!(&step.reply, Reply::Closed(0))
-}
-
-/// Whether these are the five steps of a link that sends one Ping.
-fn is_one_ping(alloc: Global, history: &[Step]) -> bool {
-    match history {
-        [s0, s1, s2, s3, s4] => {
-            connects(s0) && admits(alloc, s1) && routes(alloc, s2) && takes(alloc, s3) && closes(s4)
-        }
-        _ => false,
-    }
-}
+/// The steps of a link that sends one Ping.
+const ONE_PING: &str = "\
+0 connect = connected 1
+0 admit 1 a1a1a1a1a1a1a1a1a1a1a1a1a1a1a1a100070000000000 = admitted 0
+2 route 0 = routed local 1+a1a1a1a1a1a1a1a1a1a1a1a1a1a1a1a10101000e000000ca187f0000010500000028000000
+1 take 1 = taken a1a1a1a1a1a1a1a1a1a1a1a1a1a1a1a10101000e000000ca187f0000010500000028000000
+1 close 1 = closed 0
+";
 
 /// Whether the bodies ended so, and wrote this after an opening.
 fn has_written(
@@ -112,7 +55,9 @@ fn a_link_of_one_ping(rt: HostRuntime) -> Result<(), Fail> {
                 OWN_PONG
             )
         );
-        assert!(rt; is_one_ping(alloc, ran.history.as_slice()) && ran.passed == Some((WORKER, 0)));
+        let lines = lines_of(alloc, ran.steps.history.as_slice())?;
+        assert_eq!(rt; lines.as_slice(), ONE_PING.as_bytes());
+        assert!(rt; ran.passed == Some((WORKER, 0)));
     }
     Ok(())
 }
@@ -138,7 +83,7 @@ fn a_link_that_never_opens(rt: HostRuntime) -> Result<(), Fail> {
         let link = MemoryLink::new(role, bytes.to_vec(alloc)?, 4096);
         let ran = run_link(&rt, alloc, USUAL, link).ok_or("memory")?;
         assert!(rt; has_written(&ran, read, WriterEnd::NeverOpened, written, b""));
-        assert!(rt; ran.history.is_empty() && ran.door == Door::Shut && ran.passed.is_none());
+        assert!(rt; ran.steps.history.is_empty() && ran.door == Door::Shut && ran.passed.is_none());
     }
     Ok(())
 }
