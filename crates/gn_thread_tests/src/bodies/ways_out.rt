@@ -1,10 +1,9 @@
 //! Each exit of a body: what is closed, what is shut, and what fails the run.
 
-use super::fakes::EndlessReader;
-use super::{Ran, Setting, USUAL, run, run_link};
+use super::{Ran, Setting, USUAL, run_link};
 use gn_bodies::{BodyFault, ReaderEnd, WriterEnd};
 use gn_fixtures::PING;
-use gn_links::{Link, LinkWriter, MemoryLink, MemoryWriter};
+use gn_links::{MemoryLink, MemoryWriter};
 use gn_rules::{Event, Step};
 use gn_service::Door;
 use gn_shake::{Role, request};
@@ -85,26 +84,6 @@ fn a_read_fails_in_the_greeting(rt: HostRuntime) -> Result<(), Fail> {
     let ran = run_link(&rt, rt.alloc(), USUAL, link).ok_or("memory")?;
     assert!(rt; ran.read == Ok(ReaderEnd::ReadFailed) && ran.wrote == Ok(WriterEnd::NeverOpened));
     assert!(rt; ran.steps.history.is_empty() && ran.door == Door::Shut && ran.is_closing);
-    Ok(())
-}
-
-#[test]
-fn reads_without_end(rt: HostRuntime) -> Result<(), Fail> {
-    let alloc = rt.alloc();
-    let (_, writer) = MemoryLink::new(Role::Plain, Vec::new(alloc), 1)
-        .split()
-        .map_err(|_| "split")?;
-    let reader = EndlessReader {
-        pieces: 0,
-        is_finished: false,
-    };
-    let setting = Setting {
-        steps: 1_000_000,
-        ..USUAL
-    };
-    let ran = run(&rt, alloc, setting, Role::Plain, reader, writer).ok_or("memory")?;
-    assert!(rt; ran.read == Ok(ReaderEnd::Turns));
-    assert!(rt; counts(ran.steps.history.as_slice(), 0) == (43_478, 1));
     Ok(())
 }
 
