@@ -19,7 +19,7 @@ first_ones c a calls links most k xs is same few fits =
     ∙ take-append-add (replicate calls c) (replicate (most - calls) a) (links - calls) ∙ ap (λ ys. replicate calls c ++ ys) (take-replicate (links - calls) (most - calls) a (omega (arith, fits)))
 
 -- of some links that are to come one comes, and the others are left
-pub one_left : (n : ℕ) → 0 < n → replicate n tt ≡ tt ∷ replicate (n - 1) tt
-one_left n some =
+pub one_left : {X : Type 0} (x : X) (n : ℕ) → 0 < n → replicate n x ≡ x ∷ replicate (n - 1) x
+one_left x n some =
     let more : n ≡ suc (n - 1) = omega (arith, some) in
-    ap (λ k. replicate k tt) more
+    ap (λ k. replicate k x) more
