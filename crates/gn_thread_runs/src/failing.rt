@@ -3,6 +3,7 @@
 mod endless;
 mod rows;
 mod slow;
+mod sockets;
 
 use gn_bodies::{ReaderEnd, WriterEnd};
 use gn_links::{Link, MemoryLink, NoGate};
