@@ -79,7 +79,7 @@ pub fn run_arriving<
     if workers == 0 || workers > 16 {
         return Err(RunFault::BadWorkers);
     }
-    let stage = Stage::new(alloc, config.stage as usize)?;
+    let stage = Stage::new(alloc, config.numbers.stage as usize)?;
     let parts = 2 * roles.len() as u64 + workers as u64 + 1;
     let blank = Blank::new(parts);
     let report = run_arriving_in::<Brand, Brand, C, Rd, W, V, G, A, R>(
