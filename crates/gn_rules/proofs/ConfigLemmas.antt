@@ -1,5 +1,5 @@
 -- A configuration is the one that its numbers and its servent make.
-use Rattle.std.proofs.Common.{◌≡◌, ◌≤◌, ◌∙◌, ℕ, refl, ap, subst}
+use Rattle.std.proofs.Common.{◌≡◌, ◌↔◌, ◌≤◌, ◌∙◌, Bool, IsTrue, ℕ, refl, ap, subst}
 use Rattle.std.proofs.Math.Bridge.{le_prop}
 use Rattle.gn_rules.specs.declared.config.Config.{Config}
 use Rattle.gn_rules.specs.declared.config.Own.{Own}
@@ -35,3 +35,7 @@ made s within = ap (λ (w : AreWithin s.numbers). record { numbers = s.numbers; 
 pub config_is_one : (s t : Config) → s.numbers ≡ t.numbers → s.own ≡ t.own → s ≡ t
 config_is_one s t numbers own =
     subst (λ (o : Own). IsMade s t.numbers o) own (subst (λ (n : Numbers). IsMade s n s.own) numbers (made s)) t.within
+
+-- configurations of the same numbers are equal exactly where their servents are
+pub same_servents : (s t : Config) (same : Bool) → s.numbers ≡ t.numbers → (IsTrue same ↔ (s.own ≡ t.own)) → IsTrue same ↔ (s ≡ t)
+same_servents s t same numbers own = (λ h. config_is_one s t numbers (own.0 h), λ e. own.1 (ap (λ (c : Config). c.own) e))

@@ -24,6 +24,10 @@ pub record AreWithin (n : Numbers) : Type 0 where
 abbrev pub most_links : ℕ
 most_links = 256
 
+-- the most workers of a run
+abbrev pub most_workers : ℕ
+most_workers = 16
+
 -- so many workers may work at a run
 abbrev pub IsCrew : ℕ → Type 0
-IsCrew workers = IsWithin workers 16
+IsCrew workers = IsWithin workers most_workers

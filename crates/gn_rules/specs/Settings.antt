@@ -1,5 +1,5 @@
 -- The numbers of a configuration, their limits, and the first that is out of its limit.
-use Rattle.std.specs.Prelude.{◌≡◌, ℕ, Unit}
+use Rattle.std.specs.Prelude.{◌≡◌}
 use Rattle.gn_rules.specs.declared.config.Config.{Config}
 use Rattle.gn_rules.specs.declared.limits.Numbers.{Numbers}
 use Rattle.gn_rules.specs.declared.config.Own.{Own}
@@ -20,14 +20,14 @@ IsIn Stage n = IsWithin n.stage most.stage
 IsIn Out n = IsWithin n.out most.out
 IsIn Steps n = IsWithin n.steps most.steps
 
--- so are the numbers before it, in the order of their names
+-- the numbers before this name are within their limits
 abbrev pub AreBefore : Field → Numbers → Type 0
 AreBefore Neighbours n = Unit {0}
 AreBefore Seen n = IsIn Neighbours n
-AreBefore Servents n = AreBefore Seen n × IsIn Seen n
-AreBefore Stage n = AreBefore Servents n × IsIn Servents n
-AreBefore Out n = AreBefore Stage n × IsIn Stage n
-AreBefore Steps n = AreBefore Out n × IsIn Out n
+AreBefore Servents n = IsIn Neighbours n × IsIn Seen n
+AreBefore Stage n = IsIn Neighbours n × IsIn Seen n × IsIn Servents n
+AreBefore Out n = IsIn Neighbours n × IsIn Seen n × IsIn Servents n × IsIn Stage n
+AreBefore Steps n = IsIn Neighbours n × IsIn Seen n × IsIn Servents n × IsIn Stage n × IsIn Out n
 
 -- the first number that isn't within its limit
 abbrev pub IsFirstOut : Field → Numbers → Type 0

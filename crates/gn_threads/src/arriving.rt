@@ -1,7 +1,7 @@
 //! A run whose links come one after another.
 
 ghost use Rattle.std.specs.Prelude.{◌≡◌, ◌+◌, ◌*◌, ◌≤◌, ◌↔◌, length, map, take, vec_len, IfErr, IfOk};
-ghost use Rattle.gn_rules.specs.Limits.{IsWithin};
+ghost use Rattle.gn_rules.specs.Limits.{IsCrew};
 ghost use Rattle.gn_threads.specs.declared.fault.RunFault.TheVariants.{BadWorkers};
 ghost use Rattle.gn_threads.specs.Faults.{IsFaultOf};
 ghost use Rattle.gn_links.specs.Views.{reads_of, writes_of};
@@ -55,9 +55,9 @@ pub fn run_arriving<
     gate: &G,
 ) -> Result<Report<Rd, W, A>, RunFault>
     requires few { length roles.now ≤ 256 }
-    ensures workers { IfOk result (λ _. IsWithin workers 16) }
-    ensures bad_workers { IfErr result (λ fault. (fault ≡ BadWorkers) ↔ (¬ IsWithin workers 16)) }
-    ensures fault { IfErr result (λ fault. IsWithin workers 16 → IsFaultOf (length roles.now) workers fault) }
+    ensures workers { IfOk result (λ _. IsCrew workers) }
+    ensures bad_workers { IfErr result (λ fault. (fault ≡ BadWorkers) ↔ (¬ IsCrew workers)) }
+    ensures fault { IfErr result (λ fault. IsCrew workers → IsFaultOf (length roles.now) workers fault) }
     ensures legal { IfOk result (λ report. HasLegalHistory config.now report) }
     ensures counted { IfOk result (λ report. HasCountedSteps report) }
     ensures own { IfOk result (λ report. HasOwnSteps report) }
@@ -114,7 +114,7 @@ fn run_arriving_in<
     requires parts { (blank.parts ≡ L.parts) × (blank.parts ≡ 2 * length roles.now + workers + 1) }
     requires stage { stage ≡ S.stage }
     requires few { length roles.now ≤ 256 }
-    requires workers { IsWithin workers 16 }
+    requires workers { IsCrew workers }
     ensures fault { IfErr result (λ fault. IsFaultOf (length roles.now) workers fault) }
     ensures holds { IfOk result (λ report. Holds
         (reads_of Rd.is_known Rd.bytes_read Rd.failures Rd.pieces Rd.has_ended)

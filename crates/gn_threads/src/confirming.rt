@@ -28,10 +28,9 @@ ghost use Rattle.gn_threads.specs.Shares.{amount_of, parts_of};
 
 use crate::fault::RunFault;
 use crate::gather::{Linked, Worked};
-use crate::same::is_same_config;
 use crate::tally::Tally;
 use gn_links::{LinkReader, LinkWriter};
-use gn_rules::{Config, RouterCore, Stats, Step};
+use gn_rules::{Config, RouterCore, Stats, Step, is_same_config};
 use gn_run::Report;
 use gn_service::{Actor, Hub};
 use gn_shake::Role;

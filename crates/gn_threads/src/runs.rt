@@ -1,7 +1,7 @@
 //! A run from its links to its report.
 
 ghost use Rattle.std.specs.Prelude.{◌≡◌, ◌≤◌, ◌↔◌, length, map, IfErr, IfOk};
-ghost use Rattle.gn_rules.specs.Limits.{IsWithin};
+ghost use Rattle.gn_rules.specs.Limits.{IsCrew};
 ghost use Rattle.gn_links.specs.Views.{reads_of, writes_of};
 ghost use Rattle.gn_threads.specs.declared.fault.RunFault.TheVariants.{BadWorkers};
 ghost use Rattle.gn_threads.specs.Faults.{IsFaultOf};
@@ -50,9 +50,9 @@ where
     K::Reader: Send,
     K::Writer: Send,
     requires few { length links.items ≤ 256 }
-    ensures workers { IfOk result (λ _. IsWithin workers 16) }
-    ensures bad_workers { IfErr result (λ fault. (fault ≡ BadWorkers) ↔ (¬ IsWithin workers 16)) }
-    ensures fault { IfErr result (λ fault. IsWithin workers 16 → IsFaultOf (length links.items) workers fault) }
+    ensures workers { IfOk result (λ _. IsCrew workers) }
+    ensures bad_workers { IfErr result (λ fault. (fault ≡ BadWorkers) ↔ (¬ IsCrew workers)) }
+    ensures fault { IfErr result (λ fault. IsCrew workers → IsFaultOf (length links.items) workers fault) }
     ensures legal { IfOk result (λ report. HasLegalHistory config.now report) }
     ensures counted { IfOk result (λ report. HasCountedSteps report) }
     ensures own { IfOk result (λ report. HasOwnSteps report) }
