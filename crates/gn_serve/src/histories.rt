@@ -2,7 +2,7 @@
 
 ghost use Rattle.std.specs.Prelude.{◌≡◌, ◌+◌, ◌≤◌, ◌↔◌, length, IfErr, IfOk, OnOk};
 ghost use Rattle.gn_io.specs.Streams.{NoWriteFailed};
-ghost use Rattle.gn_rules.specs.Limits.{IsCrew};
+ghost use Rattle.gn_rules.specs.Limits.{IsCrew, most_links};
 ghost use Rattle.gn_threads.specs.declared.fault.RunFault.TheVariants.{BadWorkers};
 ghost use Rattle.gn_serve.specs.declared.fault.ServeFault.TheVariants.{Run};
 ghost use Rattle.gn_serve.specs.Histories.{
@@ -40,7 +40,7 @@ fn history_of<
     idle: Option<Duration>,
     workers: u32,
 ) -> Result<Vec<u8, A>, ServeFault>
-    requires few { accept + length peers.now ≤ 256 }
+    requires few { accept + length peers.now ≤ most_links }
     ensures workers { IfOk result (λ _. IsCrew workers) }
     ensures bad_workers { IfErr result (λ fault. (fault ≡ Run BadWorkers) ↔ (¬ IsCrew workers)) }
     ensures fault { IfErr result (λ fault. IsCrew workers
@@ -74,7 +74,7 @@ pub fn serve_history<
     workers: u32,
     sink: &mut W,
 ) -> Result<(), ServeFault>
-    requires few { accept + length peers.now ≤ 256 }
+    requires few { accept + length peers.now ≤ most_links }
     ensures workers { OnOk result (IsCrew workers) }
     ensures bad_workers { IfErr result (λ fault. (fault ≡ Run BadWorkers) ↔ (¬ IsCrew workers)) }
     ensures fault { IfErr result (λ fault. IsCrew workers → IsServeFault (length peers.now + accept) workers fault
