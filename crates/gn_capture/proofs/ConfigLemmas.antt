@@ -5,7 +5,7 @@ use Rattle.gn_rules.specs.declared.config.Own.{Own}
 use Rattle.gn_text.specs.declared.fault.CaptureFault.{CaptureFault}
 use Rattle.gn_text.specs.Faults.{◌>>=◌}
 use Rattle.gn_text.specs.Parsed.{line_after, parsed_of}
-use Rattle.gn_text.specs.Settings.{Numbers}
+use Rattle.gn_rules.specs.declared.limits.Numbers.{Numbers}
 use Rattle.gn_text.proofs.ConfigLemmas.{IsConfigured}
 use Rattle.gn_text.proofs.HeaderLemmas.{ParsedHeader, header_configured}
 use Rattle.gn_capture.specs.declared.line.Line.{Line}

@@ -11,7 +11,7 @@ use Rattle.gn_text.specs.declared.fault.CaptureRefusal.TheVariants.{Fault, NoMem
 use Rattle.gn_text.specs.Faults.{IsRefused}
 use Rattle.gn_text.specs.Header.{header_of}
 use Rattle.gn_text.specs.Parsed.{parsed_of, line_after}
-use Rattle.gn_text.specs.Settings.{Numbers}
+use Rattle.gn_rules.specs.declared.limits.Numbers.{Numbers}
 use Rattle.gn_capture.specs.Histories.{history_of, map_result, steps_from, title}
 
 -- what was appended to a text leaves it first

@@ -24,38 +24,38 @@ joined t a b c d e f = simp (append_assoc, append-nil)
 -- the fields after the word of a config line
 abbrev config_fields : Config → List (List ℕ)
 config_fields s =
-    decimal s.neighbours ∷ decimal s.seen ∷ decimal s.servents ∷ decimal s.stage ∷ decimal s.out ∷ decimal s.steps ∷ []
+    decimal s.numbers.neighbours ∷ decimal s.numbers.seen ∷ decimal s.numbers.servents ∷ decimal s.numbers.stage ∷ decimal s.numbers.out ∷ decimal s.numbers.steps ∷ []
 
 config_spaced : (s : Config) → config_line s ≡ codes "config" ++ tail_text (config_fields s)
 config_spaced s =
-    joined (codes "config") (field_text s.neighbours) (field_text s.seen) (field_text s.servents) (field_text s.stage) (field_text s.out) (field_text s.steps)
+    joined (codes "config") (field_text s.numbers.neighbours) (field_text s.numbers.seen) (field_text s.numbers.servents) (field_text s.numbers.stage) (field_text s.numbers.out) (field_text s.numbers.steps)
 
 -- the numbers of a configuration fit 32 bits
 record Fitting (s : Config) : Type 0 where
-  neighbours : s.neighbours < 2 ^ 32
-  seen : s.seen < 2 ^ 32
-  servents : s.servents < 2 ^ 32
-  stage : s.stage < 2 ^ 32
-  out : s.out < 2 ^ 32
-  steps : s.steps < 2 ^ 32
+  neighbours : s.numbers.neighbours < 2 ^ 32
+  seen : s.numbers.seen < 2 ^ 32
+  servents : s.numbers.servents < 2 ^ 32
+  stage : s.numbers.stage < 2 ^ 32
+  out : s.numbers.out < 2 ^ 32
+  steps : s.numbers.steps < 2 ^ 32
 
 fitting : (s : Config) → Fitting s
 fitting s = record {
-  neighbours = omega (arith, s.neighbours_in_limit.greatest);
-  seen = omega (arith, s.seen_in_limit.greatest);
-  servents = omega (arith, s.servents_in_limit.greatest);
-  stage = omega (arith, s.stage_in_limit.greatest);
-  out = omega (arith, s.out_in_limit.greatest);
-  steps = omega (arith, s.steps_in_limit.greatest);
+  neighbours = omega (arith, s.within.neighbours.greatest);
+  seen = omega (arith, s.within.seen.greatest);
+  servents = omega (arith, s.within.servents.greatest);
+  stage = omega (arith, s.within.stage.greatest);
+  out = omega (arith, s.within.out.greatest);
+  steps = omega (arith, s.within.steps.greatest);
 }
 
 config_plain : (s : Config) → AllByRecursion IsPlain (config_fields s)
 config_plain s =
     let f = fitting s in (
-      number_plain s.neighbours f.neighbours,
+      number_plain s.numbers.neighbours f.neighbours,
       (
-        number_plain s.seen f.seen,
-        (number_plain s.servents f.servents, (number_plain s.stage f.stage, (number_plain s.out f.out, (number_plain s.steps f.steps, tt)))),
+        number_plain s.numbers.seen f.seen,
+        (number_plain s.numbers.servents f.servents, (number_plain s.numbers.stage f.stage, (number_plain s.numbers.out f.out, (number_plain s.numbers.steps f.steps, tt)))),
       ),
     )
 
@@ -69,12 +69,12 @@ config_again s =
     ap (λ (line : List ℕ). config_of (fields_of line)) (config_spaced s)
     ∙ ap config_of (fields_again (codes "config") (config_fields s) refl (config_plain s))
     ∙ rw (
-      number_again s.neighbours f.neighbours,
-      number_again s.seen f.seen,
-      number_again s.servents f.servents,
-      number_again s.stage f.stage,
-      number_again s.out f.out,
-      number_again s.steps f.steps,
+      number_again s.numbers.neighbours f.neighbours,
+      number_again s.numbers.seen f.seen,
+      number_again s.numbers.servents f.servents,
+      number_again s.numbers.stage f.stage,
+      number_again s.numbers.out f.out,
+      number_again s.numbers.steps f.steps,
     ) kept
 
 -- the fields after the word of an own line

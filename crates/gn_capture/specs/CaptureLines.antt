@@ -1,5 +1,6 @@
 -- What one line of a capture says.
 use Rattle.std.specs.Prelude.{ℕ, ◌+◌, ◌==◌, ◌&&◌, nat_le, if◌then◌else◌, List, [], ◌∷◌, Option, Some, None, Result, Ok, Err}
+use Rattle.gn_rules.specs.Limits.{most_links}
 use Rattle.gn_text.specs.Bytes.{bytes_parsed}
 use Rattle.gn_text.specs.Numbers.{number_of}
 use Rattle.gn_text.specs.declared.fault.Cause.{Cause}
@@ -20,7 +21,7 @@ alone_of line (field ∷ more) = Err cause.Fields
 
 -- a line that makes a link, where so many were made before: at most 256 are
 abbrev pub link_of : {X : Type 0} → X → ℕ → List (List ℕ) → Result X Cause
-link_of line links [] = if links == 256 then Err cause.Link else Ok line
+link_of line links [] = if links == most_links then Err cause.Link else Ok line
 link_of line links (field ∷ more) = Err cause.Fields
 
 -- the number of a line that takes one

@@ -11,7 +11,8 @@ use Rattle.gn_text.specs.declared.fault.CaptureRefusal.{CaptureRefusal}
 use Rattle.gn_text.specs.Faults.{IsRefused, fault_at, numbered_at, ◌>>=◌}
 use Rattle.gn_text.specs.Header.{header_of}
 use Rattle.gn_text.specs.Parsed.{Numbered, parsed_of, line_after}
-use Rattle.gn_text.specs.Settings.{Numbers, settings_of, settings_text}
+use Rattle.gn_rules.specs.declared.limits.Numbers.{Numbers}
+use Rattle.gn_text.specs.Settings.{settings_of, settings_text}
 use Rattle.gn_text.specs.Steps.{step_text}
 use Rattle.gn_capture.specs.Steps.{step_parsed}
 

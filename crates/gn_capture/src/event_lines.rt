@@ -6,11 +6,9 @@ ghost use Rattle.gn_capture.specs.CaptureLines.{alone_of, data_of, link_of, numb
 
 use crate::line::{Line, PieceBytes};
 use crate::refusal::LineRefusal;
+use gn_rules::MOST_LINKS;
 use gn_text::{Cause, hex_bytes, number};
 use std::alloc::Allocator;
-
-/// The most links of a capture.
-const LINKS: u64 = 256;
 
 /// A line that takes no fields.
 pub(crate) fn alone<T: Drop>(line: T, fields: &[&[u8]]) -> Result<T, Cause>
@@ -27,7 +25,7 @@ pub(crate) fn link_line<T: Drop>(line: T, links: u64, fields: &[&[u8]]) -> Resul
     ensures { result ≡ link_of line links (map (λ x. x.now) fields.now) }
 {
     match fields {
-        [] if links == LINKS => Err(Cause::Link),
+        [] if links == MOST_LINKS as u64 => Err(Cause::Link),
         [] => Ok(line),
         _ => Err(Cause::Fields),
     }

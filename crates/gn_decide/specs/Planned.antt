@@ -17,7 +17,7 @@ use Rattle.gn_decide.specs.Made.{made_packet}
 abbrev pub outgoing_sends : {A : Type 0} → Config → List (Step A) → Outgoing A → List (Sending A)
 outgoing_sends s past Nothing = []
 outgoing_sends s past (One c count made) =
-    record { to = c; packet = made_packet made; queued = nat_lt count s.out } ∷ []
+    record { to = c; packet = made_packet made; queued = nat_lt count s.numbers.out } ∷ []
 outgoing_sends s past (Flood c d) = flood_sends s past (record { origin = c; packet = d.now })
 outgoing_sends s past (Each d) = fanout s past 0 d.now
 

@@ -20,7 +20,7 @@ fn plan_connect<A: Allocator, L: Lookup<A>>(past: &L) -> Plan<'_, A>
     ensures { rules.connect_answer (L.settings past.now) (L.past past.now)
         ≡ Ok (plan_reply (L.settings past.now) (L.past past.now) result) }
 {
-    if past.live_count() == past.config().neighbours {
+    if past.live_count() == past.config().numbers.neighbours {
         return Plan::Ready(Reply::TooMany);
     }
     Plan::Ready(Reply::Connected(past.next_connection()))
@@ -44,7 +44,7 @@ fn plan_admit<A: Allocator, L: Lookup<A>>(past: &L, c: ConnId) -> Result<Plan<'_
     if !past.is_live(c) {
         return Err(Refusal::NotLive);
     }
-    if past.flights() == past.config().stage {
+    if past.flights() == past.config().numbers.stage {
         return Ok(Plan::Ready(Reply::Busy));
     }
     Ok(Plan::Ready(Reply::Admitted(past.next_ticket())))
@@ -112,9 +112,9 @@ fn plan_event<'a, A: Allocator, L: Lookup<A>>(
 
 /// Whether there are as many steps as there may be.
 fn is_full<A: Allocator, L: Lookup<A>>(past: &L) -> bool
-    ensures { result ≡ (length (L.past past.now) == (L.settings past.now).steps) }
+    ensures { result ≡ (length (L.past past.now) == (L.settings past.now).numbers.steps) }
 {
-    past.step_count() == past.config().steps
+    past.step_count() == past.config().numbers.steps
 }
 
 /// The plan for an event, or the rules' refusal. Takes no memory.

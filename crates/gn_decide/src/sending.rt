@@ -24,9 +24,9 @@ fn send<A: Allocator, L: Lookup<A>, O: Outbox<A>>(
     packet: &Made<'_, A>,
 ) -> Result<(), O::Fault>
     ensures { OnOk result (outbox.new ≡ O.after outbox.old
-        (record { to = to; packet = made_packet packet.now; queued = nat_lt waiting (L.settings past.now).out })) }
+        (record { to = to; packet = made_packet packet.now; queued = nat_lt waiting (L.settings past.now).numbers.out })) }
 {
-    outbox.send(to, packet, waiting < past.config().out)
+    outbox.send(to, packet, waiting < past.config().numbers.out)
 }
 
 /// Sends a packet to the live connection at a place, where one stands there and it isn't the excepted one.

@@ -29,7 +29,8 @@ pub const OWN_PONG: &[u8] =
 
 /// The configuration of most runs, but with so many steps.
 pub fn usual(steps: u32) -> Result<Config, BadConfig>
-    ensures { IfOk result (λ config. IsMadeOf config 4 8 4 8 8 steps OWN) }
+    ensures { IfOk result (λ config. IsMadeOf config
+        (record { neighbours = 4; seen = 8; servents = 4; stage = 8; out = 8; steps = steps }) OWN) }
 {
     Config::new(4, 8, 4, 8, 8, steps, OWN)
 }

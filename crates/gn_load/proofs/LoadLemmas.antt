@@ -6,9 +6,10 @@ use Rattle.gn_links.specs.Memory.{Memory, MemoryReading, MemoryWriting, source_o
 use Rattle.gn_rules.specs.declared.config.Config.{Config}
 use Rattle.gn_rules.specs.declared.config.Own.{Own}
 use Rattle.gn_rules.specs.declared.receipt.Step.{Step}
-use Rattle.gn_rules.specs.Limits.{IsWithin}
+use Rattle.gn_rules.specs.Limits.{IsCrew}
 use Rattle.gn_text.specs.declared.fault.CaptureFault.{CaptureFault}
-use Rattle.gn_text.specs.Settings.{Numbers, settings_of}
+use Rattle.gn_rules.specs.declared.limits.Numbers.{Numbers}
+use Rattle.gn_text.specs.Settings.{settings_of}
 use Rattle.gn_capture.specs.declared.capture.Capture.{Capture}
 use Rattle.gn_capture.specs.declared.line.Line.{Line}
 use Rattle.gn_capture.specs.Captures.{capture_of, capture_seen}
@@ -66,8 +67,8 @@ module _ {A : Type 0} (text : List ℕ) (capture : Capture A) where
 
   -- a run that has no report
   pub refused_run : (workers : ℕ) (links : List Memory) (fault : RunFault) → capture_of text ≡ Ok (capture_seen capture)
-      → links_from [] capture.lines.items ≡ Ok links → (fault ≡ BadWorkers) ↔ (¬ IsWithin workers 16)
-      → (IsWithin workers 16 → IsFaultOf (length links) workers fault) → IsRunLoadFault workers (Run fault) (load_of A text)
+      → links_from [] capture.lines.items ≡ Ok links → (fault ≡ BadWorkers) ↔ (¬ IsCrew workers)
+      → (IsCrew workers → IsFaultOf (length links) workers fault) → IsRunLoadFault workers (Run fault) (load_of A text)
   refused_run workers links fault read made bad other =
       let P : Result ((Numbers × Own) × List Memory) CaptureFault → Type 0 = λ r. IsOkAnd r (λ l. IsRunFault (length l.1) workers fault) in
       subst P (sym (loaded links read made)) (record { bad = bad; other = other })
@@ -77,7 +78,7 @@ module _ {A : Type 0} (text : List ℕ) (capture : Capture A) where
       → capture_of text ≡ Ok (capture_seen capture) → links_from [] capture.lines.items ≡ Ok links
       → Holds half_read half_written capture.config (map (λ link. link.role) links) report
       → LinksReadOwn half_read (map source_of links) report
-      → AreMadeOf (λ (half : MemoryReading). half.link) (λ (half : MemoryWriting). half.link) links links report → IsWithin workers 16
+      → AreMadeOf (λ (half : MemoryReading). half.link) (λ (half : MemoryWriting). half.link) links links report → IsCrew workers
       → length report.workers.items ≡ workers
       → before ≡ [] → steps ≡ report.history.items → printed ≡ before ++ history_text capture.config steps → IsLoadText A workers text printed
   history_printed workers links report before printed steps read made holds bytes halves within many empty lent wrote =

@@ -1,7 +1,7 @@
 -- When a load may stop.
 use Rattle.std.specs.Prelude.{◌≡◌, ◌≤◌, ◌↔◌, ℕ, List, length, Option, IfSome, IsOkAnd, Result, Err}
 use Rattle.gn_io.specs.Streams.{Streams}
-use Rattle.gn_rules.specs.Limits.{IsWithin}
+use Rattle.gn_rules.specs.Limits.{IsCrew}
 use Rattle.gn_text.specs.declared.fault.CaptureFault.{CaptureFault}
 use Rattle.gn_threads.specs.declared.fault.RunFault.{RunFault}
 use Rattle.gn_threads.specs.declared.fault.RunFault.TheVariants.{BadWorkers}
@@ -14,8 +14,8 @@ use Rattle.gn_load.specs.declared.fault.LoadFault.TheVariants.{Run, Text}
 -- when a run of so many links and workers has this fault: BadWorkers comes exactly out of 1 to 16 workers; any other names only a
 -- link or an actor of the run
 pub record IsRunFault (links workers : ℕ) (fault : RunFault) : Type 0 where
-  pub bad : (fault ≡ BadWorkers) ↔ (¬ IsWithin workers 16)
-  pub other : IsWithin workers 16 → IsFaultOf links workers fault
+  pub bad : (fault ≡ BadWorkers) ↔ (¬ IsCrew workers)
+  pub other : IsCrew workers → IsFaultOf links workers fault
 
 -- when a text has no history. `read` is what a load reads of it: Capture names its very fault, a run has a fault only where
 -- there is none; memory may run out at any time

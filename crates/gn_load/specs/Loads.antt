@@ -3,7 +3,7 @@ use Rattle.std.specs.Prelude.{◌≡◌, ◌<◌, ℕ, true, false, List, [], le
 use Rattle.std.specs.Io.KnownBytes.{Appends, Keeps}
 use Rattle.gn_rules.specs.declared.config.Config.{Config}
 use Rattle.gn_rules.specs.declared.config.Own.{Own}
-use Rattle.gn_rules.specs.Limits.{IsWithin}
+use Rattle.gn_rules.specs.Limits.{IsCrew}
 use Rattle.gn_links.specs.Memory.{Memory, MemoryReading, MemoryWriting, source_of}
 use Rattle.gn_bodies.specs.declared.ends.ReaderEnd.TheVariants.{ReadFailed}
 use Rattle.gn_run.specs.declared.report.LinkReport.{LinkReport}
@@ -12,7 +12,8 @@ use Rattle.gn_links.specs.Views.{ReadHalf, WrittenHalf}
 use Rattle.gn_threads.specs.Headline.{AreMadeOf, Holds, LinksReadOwn}
 use Rattle.gn_text.specs.declared.fault.CaptureFault.{CaptureFault}
 use Rattle.gn_text.specs.Faults.{◌>>=◌}
-use Rattle.gn_text.specs.Settings.{Numbers, settings_of}
+use Rattle.gn_rules.specs.declared.limits.Numbers.{Numbers}
+use Rattle.gn_text.specs.Settings.{settings_of}
 use Rattle.gn_capture.specs.Captures.{capture_of}
 use Rattle.gn_capture.specs.Histories.{history_text, map_result}
 use Rattle.gn_io.specs.Parts.{AppendsPart}
@@ -68,7 +69,7 @@ pub record IsLoadText (A : Type 0) (workers : ℕ) (input text : List ℕ) : Typ
   -- both halves of each link were split from that very link of the input
   pub made : AreMadeOf (λ (half : MemoryReading). half.link) (λ (half : MemoryWriting). half.link) links links report
   pub unfailed : NoReadFailed report
-  pub within : IsWithin workers 16
+  pub within : IsCrew workers
   pub many : length report.workers.items ≡ workers
   pub printed : text ≡ history_text settings report.history.items
 

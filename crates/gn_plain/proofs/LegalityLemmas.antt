@@ -19,6 +19,6 @@ module _ {A : Type 0} (s : Config) (steps : List (Step A)) (i : ℕ) (step : Ste
       let now = subst (λ (past : List (Step A)). IsLegal s past) (past_more steps i step within is) legal in
       now.0
 
-pub steps_before : {A : Type 0} (s : Config) (steps : List (Step A)) (i : ℕ) → i ≤ length steps → IsLegal s (reverse (take i steps)) → i ≤ s.steps
+pub steps_before : {A : Type 0} (s : Config) (steps : List (Step A)) (i : ℕ) → i ≤ length steps → IsLegal s (reverse (take i steps)) → i ≤ s.numbers.steps
 steps_before s steps i within legal =
     omega (arith, legal_within s (reverse (take i steps)) legal, length-reverse (take i steps), length-take-le i steps within)

@@ -41,7 +41,7 @@ fn out_after<A: Allocator>(step: &Step<A>, c: ConnId, before: usize) -> usize
 pub(crate) fn out_count<A: Allocator>(config: &Config, history: &[Step<A>], c: ConnId) -> usize
     requires { IsLegal config.now (reverse history.now) }
     ensures value { result ≡ length (out (reverse history.now) c) }
-    ensures bound { result ≤ config.now.out }
+    ensures bound { result ≤ config.now.numbers.out }
 {
     let mut count = 0usize;
     for step in history {

@@ -4,7 +4,7 @@ use Rattle.std.specs.Io.KnownBytes.{Keeps}
 use Rattle.std.specs.Result.{IsErrAnd}
 use Rattle.std.specs.declared.alloc.Global.{Global}
 use Rattle.gn_io.specs.Streams.{NoWriteFailed, SinkState}
-use Rattle.gn_rules.specs.Limits.{IsWithin}
+use Rattle.gn_rules.specs.Limits.{IsCrew}
 use Rattle.gn_rules.specs.declared.config.Config.{Config}
 use Rattle.gn_serve.specs.Histories.{AppendsServed, HasServeStopped, IsServeFault}
 use Rattle.gn_serve.specs.declared.fault.ServeFault.{ServeFault}
@@ -15,17 +15,17 @@ use Rattle.gn_program.specs.Commands.{IsServeAnswer, IsServing}
 use Rattle.gn_program.specs.Serving.{AskedServe}
 
 -- a fault where the number of workers is one that a run may have
-known : (links workers : ℕ) (sink sink_new : SinkState) (answer : Result (Unit {0}) ServeFault) → IsWithin workers 16
-    → IfErr answer (λ fault. IsWithin workers 16 → IsServeFault links workers fault sink sink_new) → IfErr answer (λ fault. IsServeFault links workers fault sink sink_new)
+known : (links workers : ℕ) (sink sink_new : SinkState) (answer : Result (Unit {0}) ServeFault) → IsCrew workers
+    → IfErr answer (λ fault. IsCrew workers → IsServeFault links workers fault sink sink_new) → IfErr answer (λ fault. IsServeFault links workers fault sink sink_new)
 known links workers sink sink_new (Ok done) within fault = tt
 known links workers sink sink_new (Err e) within fault = fault within
 
 -- all that is answered, of a run over so many called links as there are peers
 pub answered : (serving : AskedServe) (settings : Config) (calls : ℕ) (sink sink_new : SinkState) (answer : Result (Unit {0}) ServeFault)
-    → IsServing serving settings → calls ≡ length serving.peers → IsWithin serving.workers 16 → OnOk answer (NoWriteFailed sink sink_new)
+    → IsServing serving settings → calls ≡ length serving.peers → IsCrew serving.workers → OnOk answer (NoWriteFailed sink sink_new)
     → OnOk answer (AppendsServed Global settings calls serving.accept serving.workers sink.written sink_new.written)
     → IfErr answer (λ fault. HasServeStopped Global settings calls serving.accept serving.workers fault sink.written sink_new.written)
-    → IfErr answer (λ fault. IsWithin serving.workers 16 → IsServeFault (calls + serving.accept) serving.workers fault sink sink_new)
+    → IfErr answer (λ fault. IsCrew serving.workers → IsServeFault (calls + serving.accept) serving.workers fault sink sink_new)
     → IsServeAnswer serving sink sink_new answer
 answered serving settings calls sink sink_new answer configured many within unfailed written stopped fault =
     record {
@@ -35,7 +35,7 @@ answered serving settings calls sink sink_new answer configured many within unfa
       written = subst (λ n. OnOk answer (AppendsServed Global settings n serving.accept serving.workers sink.written sink_new.written)) many written;
       stopped = subst (λ n. IfErr answer (λ fault. HasServeStopped Global settings n serving.accept serving.workers fault sink.written sink_new.written)) many stopped;
       fault = known (length serving.peers + serving.accept) serving.workers sink sink_new answer within
-          (subst (λ n. IfErr answer (λ fault. IsWithin serving.workers 16 → IsServeFault (n + serving.accept) serving.workers fault sink sink_new)) many fault);
+          (subst (λ n. IfErr answer (λ fault. IsCrew serving.workers → IsServeFault (n + serving.accept) serving.workers fault sink sink_new)) many fault);
     }
 
 keeps : (o : Option (List ℕ)) → Keeps o o

@@ -2,6 +2,7 @@
 use Rattle.std.specs.Prelude.{◌≡◌, ◌∷◌, ◌++◌, ◌==◌, ◌&&◌, ℕ, List, [], Option, Some, None, Result, Ok, Err, codes, length, nat_le, slice_index, unwrap_or, if◌then◌else◌}
 use Rattle.std.specs.List.{slice_split}
 use Rattle.clap.specs.Words.{Row, Text, all_of, first_of}
+use Rattle.gn_rules.specs.Limits.{most_workers}
 use Rattle.gn_text.specs.Addresses.{ip_of, ◌>>=◌}
 use Rattle.gn_text.specs.Bytes.{guid_of}
 use Rattle.gn_text.specs.Numbers.{number_below, number_of}
@@ -25,7 +26,7 @@ number_asked option least most rows = do
 
 -- the number of workers that is asked for, where it is 1 to 16
 abbrev pub workers_of : List Row → Option ℕ
-workers_of rows = number_asked (codes "workers") 1 16 rows
+workers_of rows = number_asked (codes "workers") 1 most_workers rows
 
 -- the ID that is asked for
 abbrev pub servent_of : List Row → Option Guid

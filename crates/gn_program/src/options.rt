@@ -23,6 +23,7 @@ use crate::help;
 use crate::request::{Peer, Serving};
 use crate::unread::Unread;
 use clap::ArgMatches;
+use gn_rules::MOST_WORKERS;
 use gn_text::{guid, ip, number, number_u16};
 use gn_wire::Guid;
 use std::alloc::{AllocError, Global};
@@ -60,7 +61,7 @@ fn number_asked(options: &ArgMatches<'_>, option: &str, least: u32, most: u32) -
 pub(crate) fn workers_of(options: &ArgMatches<'_>) -> Result<u32, Unread>
     ensures { IsReadAs (λ n. n) (workers_of (rows_of (found_of options.now))) result }
 {
-    match number_asked(options, "workers", 1, 16) {
+    match number_asked(options, "workers", 1, MOST_WORKERS) {
         Some(workers) => Ok(workers),
         None => Err(Unread::Mistake("--workers takes a number of 1 to 16")),
     }

@@ -44,7 +44,7 @@ pub struct Serving {
 
 impl Model for Serving {
     ghost use Rattle.std.specs.Prelude.{◌+◌, ◌≤◌, length};
-    ghost use Rattle.gn_rules.specs.Limits.{IsWithin};
+    ghost use Rattle.gn_rules.specs.Limits.{IsCrew, most_links};
     ghost use Rattle.gn_program.specs.Serving.{AskedServe};
 
     ghost Value = { AskedServe };
@@ -58,5 +58,5 @@ impl Model for Serving {
       idle = s.idle;
     } };
 
-    ghost invariant = { λ s. (IsWithin s.workers 16) × (s.accept + length s.peers.items ≤ 256) };
+    ghost invariant = { λ s. (IsCrew s.workers) × (s.accept + length s.peers.items ≤ most_links) };
 }

@@ -34,7 +34,7 @@ pub record IsRepeating {A : Type 0} (s now : Config) (made : List (Step A)) (lef
 -- a legal history has few steps
 pub legal_few : {A : Type 0} (s : Config) (made : List (Step A)) → IsLegal s (reverse made) → length made < 2 ^ 32
 legal_few s made legal =
-    let most = s.steps_in_limit.greatest in
+    let most = s.within.steps.greatest in
     omega (arith, most, legal_within s (reverse made) legal, length-reverse made)
 
 -- the history that was made, with one step more, as the rules are asked for it

@@ -24,7 +24,7 @@ use Rattle.gn_replay.specs.Runs.{HasRun, IsPlayFault}
 
 -- so many steps fit a number
 pub few_steps : {A : Type 0} (s : Config) (steps : List (Step A)) → IsLegal s (reverse steps) → length steps < 4294967296
-few_steps s steps legal = omega (arith, length-reverse steps, legal_within s (reverse steps) legal, s.steps_in_limit.greatest)
+few_steps s steps legal = omega (arith, length-reverse steps, legal_within s (reverse steps) legal, s.within.steps.greatest)
 
 -- what replay does with a capture that was read
 pub is_replay : {A : Type 0} (text : List ℕ) (capture : Capture A) → capture_of text ≡ Ok (capture_seen capture)

@@ -10,7 +10,8 @@ use Rattle.gn_text.specs.Faults.{fault_at, numbered_at, ◌>>=◌}
 use Rattle.gn_text.specs.Header.{config_from, header_of, own_from}
 use Rattle.gn_text.specs.Lines.{fields_of, is_word}
 use Rattle.gn_text.specs.Parsed.{line_after, parsed_of}
-use Rattle.gn_text.specs.Settings.{Numbers, config_of, own_of}
+use Rattle.gn_rules.specs.declared.limits.Numbers.{Numbers}
+use Rattle.gn_text.specs.Settings.{config_of, own_of}
 use Rattle.gn_capture.specs.Histories.{ended, ending, history_of, line_parsed, map_result, steps_after, steps_from, title}
 use Rattle.gn_capture.specs.Steps.{step_parsed}
 use Rattle.gn_replay.specs.Explained.{step_line_at}

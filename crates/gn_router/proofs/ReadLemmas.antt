@@ -100,8 +100,8 @@ take_nil zero = refl
 take_nil (suc n) = refl
 
 -- the tables of no steps
-pub made : {A : Type 0} (s : Config) (t : Tables A) → t.seen ≡ record { seen_entries = []; most = s.seen } → t.servents ≡ record { routes = []; most = s.servents }
-    → t.neighbours ≡ record { rows = []; most = s.neighbours; room = s.out } → t.flights ≡ record { flights = map.empty; most = s.stage }
+pub made : {A : Type 0} (s : Config) (t : Tables A) → t.seen ≡ record { seen_entries = []; most = s.numbers.seen } → t.servents ≡ record { routes = []; most = s.numbers.servents }
+    → t.neighbours ≡ record { rows = []; most = s.numbers.neighbours; room = s.numbers.out } → t.flights ≡ record { flights = map.empty; most = s.numbers.stage }
     → t.connected ≡ 0 → t.admitted ≡ 0 → t.stats ≡ no_stats → IsTabled s [] t
 made s t seen servents neighbours flights connected admitted stats = record {
   legal = tt;
@@ -126,8 +126,8 @@ made s t seen servents neighbours flights connected admitted stats = record {
     many = ap (λ (f : Flying _). map.len f.flights) flights ∙ map.len-empty nat_cmp _;
     most = ap (λ (f : Flying _). f.most) flights;
   };
-  seen_is = seen ∙ ap (λ (xs : List _). record { seen_entries = xs; most = s.seen }) (take_nil s.seen);
-  servents_are = servents ∙ ap (λ (xs : List _). record { routes = xs; most = s.servents }) (take_nil s.servents);
+  seen_is = seen ∙ ap (λ (xs : List _). record { seen_entries = xs; most = s.numbers.seen }) (take_nil s.numbers.seen);
+  servents_are = servents ∙ ap (λ (xs : List _). record { routes = xs; most = s.numbers.servents }) (take_nil s.numbers.servents);
   neighbours_are = neighbours;
   stats_are = stats;
 }

@@ -66,7 +66,7 @@ flight_reply s past None reply e = absurd (cc)
 flight_reply s past (Some a) reply e = record { admitted = a; found_is = refl; reply_is = reply_is (route_reply s past a) reply e }
 
 event_reply : {A : Type 0} (s : Config) (past : List (Step A)) (event : Event A) (reply : Reply A) → event_answer s past event ≡ Ok reply → Answered s past event reply
-event_reply s past Connect reply e = either_reply (length (live_connections past) == s.neighbours) TooMany (Connected (1 + length (connections past))) reply e
+event_reply s past Connect reply e = either_reply (length (live_connections past) == s.numbers.neighbours) TooMany (Connected (1 + length (connections past))) reply e
 event_reply s past (Close c) reply e =
     let alive = where_live (live past c) (Ok (Closed (length (out past c)))) reply e in
     (alive.0, reply_is (Closed (length (out past c))) reply alive.1)
@@ -84,15 +84,15 @@ event_reply s past (Originate d) reply e =
     reply_is (Sent (fanout s past 0 d)) reply new.1
 
 pub answered : {A : Type 0} (s : Config) (past : List (Step A)) (event : Event A) (reply : Reply A) → answer s past event ≡ Ok reply → Answered s past event reply
-answered s past event reply e = event_reply s past event reply ((unless_refused (length past == s.steps) HistoryFull (event_answer s past event) reply e).1)
+answered s past event reply e = event_reply s past event reply ((unless_refused (length past == s.numbers.steps) HistoryFull (event_answer s past event) reply e).1)
 
 -- event by event, without what was found
 module _ {A : Type 0} (s : Config) (past : List (Step A)) (reply : Reply A) where
-  pub has_room : (rules : Result (Reply A) Refusal) → with_room s past rules ≡ Ok reply → (length past == s.steps) ≡ false
-  has_room rules e = (unless_refused (length past == s.steps) HistoryFull rules reply e).0
+  pub has_room : (rules : Result (Reply A) Refusal) → with_room s past rules ≡ Ok reply → (length past == s.numbers.steps) ≡ false
+  has_room rules e = (unless_refused (length past == s.numbers.steps) HistoryFull rules reply e).0
 
   pub rules_are : (rules : Result (Reply A) Refusal) → with_room s past rules ≡ Ok reply → rules ≡ Ok reply
-  rules_are rules e = (unless_refused (length past == s.steps) HistoryFull rules reply e).1
+  rules_are rules e = (unless_refused (length past == s.numbers.steps) HistoryFull rules reply e).1
 
   pub connect_reply : with_room s past (connect_answer s past) ≡ Ok reply → (reply ≡ TooMany) ⊎ (reply ≡ Connected (1 + length (connections past)))
   connect_reply e = answered s past Connect reply e
@@ -117,7 +117,7 @@ module _ {A : Type 0} (s : Config) (past : List (Step A)) (reply : Reply A) wher
 -- a Route with the admitted descriptor is answered as a plain Route
 pub checked_is_answer : {A : Type 0} (s : Config) (past : List (Step A)) (t : ℕ) (d : Packet) (reply : Reply A) → checked_answer s past t d ≡ Ok reply → answer s past (Route t) ≡ Ok reply
 checked_is_answer {A} s past t d reply e =
-    let room = unless_refused (length past == s.steps) HistoryFull (checked_flight_answer s past d (in_flight past t)) reply e in
+    let room = unless_refused (length past == s.numbers.steps) HistoryFull (checked_flight_answer s past d (in_flight past t)) reply e in
     ap (λ b. cond b (Err HistoryFull) (route_answer s past t)) room.0 ∙ same (in_flight past t) room.1
   where
     same_packet : (b : Bool) (routed : Reply A) → cond {A = Result (Reply A) Refusal} b (Ok routed) (Err Strange) ≡ Ok reply → ◌≡◌ {A = Result (Reply A) Refusal} (Ok routed) (Ok reply)

@@ -44,7 +44,7 @@ first_fits A c [] = refl
 first_fits A c (p ∷ ps) = refl
 
 event_fits : {A : Type 0} (s : Config) (past : List (Step A)) (event : Event A) → is_fit event (event_answer s past event) ≡ true
-event_fits s past Connect = either_fits Connect (length (live_connections past) == s.neighbours) (Ok TooMany) (Ok (Connected (1 + length (connections past)))) refl refl
+event_fits s past Connect = either_fits Connect (length (live_connections past) == s.numbers.neighbours) (Ok TooMany) (Ok (Connected (1 + length (connections past)))) refl refl
 event_fits s past (Close c) = either_fits (Close c) (not (live past c)) (Err NotLive) (Ok (Closed (length (out past c)))) refl refl
 event_fits s past (Admit c d) =
     either_fits (Admit c d) (not (live past c)) (Err NotLive) (cond (is_at_threshold s past) (Ok Busy) (Ok (Admitted (length (tickets past))))) refl
@@ -56,11 +56,11 @@ event_fits s past (Originate d) =
     (either_fits (Originate d) (is_remembered s past (key_of d)) (Err Remembered) (Ok (Sent (fanout s past 0 d))) refl refl)
 
 pub answers_fit : (A : Type 0) → AnswersFit A
-answers_fit A s past event = either_fits event (length past == s.steps) (Err HistoryFull) (event_answer s past event) refl (event_fits s past event)
+answers_fit A s past event = either_fits event (length past == s.numbers.steps) (Err HistoryFull) (event_answer s past event) refl (event_fits s past event)
 
 pub checked_answers_fit : (A : Type 0) → CheckedAnswersFit A
 checked_answers_fit A s past t d =
-    either_fits (Route t) (length past == s.steps) (Err HistoryFull) (checked_flight_answer s past d (in_flight past t)) refl (checked_flight_fits s past t d (in_flight past t))
+    either_fits (Route t) (length past == s.numbers.steps) (Err HistoryFull) (checked_flight_answer s past d (in_flight past t)) refl (checked_flight_fits s past t d (in_flight past t))
 
 -- what a router finds fits where the rules' answer does
 pub found_fits : {A : Type 0} (event : Event A) (found rules : Result (Reply A) Refusal) → Finds found rules → is_fit event rules ≡ true → is_fit event found ≡ true

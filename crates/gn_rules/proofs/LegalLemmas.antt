@@ -23,7 +23,7 @@ others_differ : (n m : ℕ) → (n == m) ≡ false → n ≤ m → n + 1 ≤ m
 others_differ n m other within = grind (arith, common_steps)
 
 -- a legal history has no more steps than it may have
-pub legal_within : {A : Type 0} (s : Config) (past : List (Step A)) → IsLegal s past → length past ≤ s.steps
+pub legal_within : {A : Type 0} (s : Config) (past : List (Step A)) → IsLegal s past → length past ≤ s.numbers.steps
 legal_within s [] legal = omega arith
 legal_within s (step ∷ past) legal =
-    omega (arith, others_differ (length past) s.steps (has_room s past step.reply (event_answer s past step.event) legal.0) (legal_within s past legal.1))
+    omega (arith, others_differ (length past) s.numbers.steps (has_room s past step.reply (event_answer s past step.event) legal.0) (legal_within s past legal.1))

@@ -1,4 +1,5 @@
 pub mod AnswerLemmas
+pub mod ConfigLemmas
 pub mod CounterLemmas
 pub mod EntryLemmas
 pub mod FitLemmas

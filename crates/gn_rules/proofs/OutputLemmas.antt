@@ -30,7 +30,7 @@ record IsUntaken {A : Type 0} (past : List (Step A)) (c : ℕ) : Type 0 where
 taken_one : {A : Type 0} (s : Config) (past : List (Step A)) (c : ℕ) (reply : Reply A) → with_room s past (take_answer past c) ≡ Ok reply
     → (0 < length (out past c)) × (sends_of reply ≡ [])
 taken_one s past c reply answered =
-    elim (length past == s.steps) as (λ b. (if b then Err HistoryFull else take_answer past c) ≡ Ok reply → (0 < length (out past c)) × (sends_of reply ≡ [])) [
+    elim (length past == s.numbers.steps) as (λ b. (if b then Err HistoryFull else take_answer past c) ≡ Ok reply → (0 < length (out past c)) × (sends_of reply ≡ [])) [
       | true ↦ λ e. absurd (cc)
       | false ↦ λ e. elim (live past c) as (λ b. (if not b then Err NotLive else first_taken (out past c)) ≡ Ok reply → (0 < length (out past c)) × (sends_of reply ≡ [])) [
         | true ↦ λ e. first_one (out past c) reply e

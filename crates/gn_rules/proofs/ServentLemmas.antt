@@ -108,6 +108,6 @@ pub servent_route_is_last : (A : Type 0) → ServentRouteIsLast A
 servent_route_is_last A s past x =
     let all : List (Guid × ℕ) = hits past in
     let before : length (hits_after x (newest all)) ≡ others past x = ap length (after_newest x all) ∙ length_newest (hits_after x all) in
-    ap (λ known. lookup (is_same_id x) (take s.servents known)) (servents_newest past)
-    ∙ lookup_take x s.servents (newest all)
+    ap (λ known. lookup (is_same_id x) (take s.numbers.servents known)) (servents_newest past)
+    ∙ lookup_take x s.numbers.servents (newest all)
     ∙ rw (before, lookup_newest x all) refl

@@ -27,7 +27,7 @@ use Rattle.gn_rules.specs.SeenEntries.{is_remembered}
 -- Connect: too many where as many connections are live as may be, else the next number
 abbrev pub connect_answer : {A : Type 0} → Config → List (Step A) → Result (Reply A) Refusal
 connect_answer s past =
-    if length (live_connections past) == s.neighbours then Ok TooMany
+    if length (live_connections past) == s.numbers.neighbours then Ok TooMany
     else Ok (Connected (1 + length (connections past)))
 
 -- Close of c: refused where c isn't live, else how many packets are discarded
@@ -99,7 +99,7 @@ event_answer s past (Originate d) = originate_answer s past d
 
 -- a full history refuses every event; else this answer
 abbrev pub with_room : {A : Type 0} → Config → List (Step A) → Result (Reply A) Refusal → Result (Reply A) Refusal
-with_room s past rules = if length past == s.steps then Err HistoryFull else rules
+with_room s past rules = if length past == s.numbers.steps then Err HistoryFull else rules
 
 -- what the rules answer to an event after these steps
 abbrev pub answer : {A : Type 0} → Config → List (Step A) → Event A → Result (Reply A) Refusal

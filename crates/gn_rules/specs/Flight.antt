@@ -53,4 +53,4 @@ in_flight past t = if is_routed past t then None else admission past t
 
 -- at the threshold: as many tickets are in flight as may be
 abbrev pub is_at_threshold : {A : Type 0} → Config → List (Step A) → Bool
-is_at_threshold s past = length (flying past) == s.stage
+is_at_threshold s past = length (flying past) == s.numbers.stage

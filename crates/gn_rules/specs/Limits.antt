@@ -1,7 +1,33 @@
--- The limits of a configuration's numbers.
+-- The limits of a configuration's numbers, and of a run.
 use Rattle.std.specs.Prelude.{ℕ, ◌≤◌}
+use Rattle.gn_rules.specs.declared.limits.Numbers.{Numbers}
 
 -- from 1 to the limit
 pub record IsWithin (number most : ℕ) : Type 0 where
   pub least : 1 ≤ number
   pub greatest : number ≤ most
+
+-- the greatest that each number of a configuration may be
+abbrev pub most : Numbers
+most = record { neighbours = 64; seen = 65536; servents = 65536; stage = 4096; out = 4096; steps = 1000000 }
+
+-- each number of a configuration is from 1 to its limit
+pub record AreWithin (n : Numbers) : Type 0 where
+  pub neighbours : IsWithin n.neighbours most.neighbours
+  pub seen : IsWithin n.seen most.seen
+  pub servents : IsWithin n.servents most.servents
+  pub stage : IsWithin n.stage most.stage
+  pub out : IsWithin n.out most.out
+  pub steps : IsWithin n.steps most.steps
+
+-- the most links of a run
+abbrev pub most_links : ℕ
+most_links = 256
+
+-- the most workers of a run
+abbrev pub most_workers : ℕ
+most_workers = 16
+
+-- so many workers may work at a run
+abbrev pub IsCrew : ℕ → Type 0
+IsCrew workers = IsWithin workers most_workers

@@ -47,7 +47,7 @@ seen_entries (step ∷ earlier) = option_to_list (entry_of earlier step.event st
 
 -- the source of a key: that of its last kept entry, where fewer kept entries follow than are remembered
 abbrev pub source : {A : Type 0} → Config → List (Step A) → Key → Option ℕ
-source s past key = lookup (is_same_key key) (take s.seen (seen_entries past))
+source s past key = lookup (is_same_key key) (take s.numbers.seen (seen_entries past))
 
 -- a key is remembered where it has a source
 abbrev pub is_remembered : {A : Type 0} → Config → List (Step A) → Key → Bool

@@ -15,7 +15,7 @@ use Rattle.gn_rules.specs.Output.{out}
 
 -- whether a connection's output has room for one more packet
 abbrev pub has_room : {A : Type 0} → Config → List (Step A) → ℕ → Bool
-has_room s past c = nat_lt (length (out past c)) s.out
+has_room s past c = nat_lt (length (out past c)) s.numbers.out
 
 -- a send of a packet to c, queued exactly where its output has room
 abbrev pub send : {A : Type 0} → Config → List (Step A) → Packet → ℕ → Sending A

@@ -32,4 +32,4 @@ others past x = servent_count (hits_after x (hits past))
 abbrev pub ServentRouteIsLast : Type 0 → Type 0
 ServentRouteIsLast A =
     (s : Config) (past : List (Step A)) (x : Guid)
-    → servent_route s past x ≡ (if nat_lt (others past x) s.servents then lookup (is_same_id x) (hits past) else None)
+    → servent_route s past x ≡ (if nat_lt (others past x) s.numbers.servents then lookup (is_same_id x) (hits past) else None)

@@ -42,4 +42,4 @@ servents (step ∷ earlier) = learned (hit_of earlier step.event step.reply) (se
 
 -- the route to a servent: the connection of its last hit, where fewer other servents follow than are remembered
 abbrev pub servent_route : {A : Type 0} → Config → List (Step A) → Guid → Option ℕ
-servent_route s past x = lookup (is_same_id x) (take s.servents (servents past))
+servent_route s past x = lookup (is_same_id x) (take s.numbers.servents (servents past))

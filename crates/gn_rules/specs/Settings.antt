@@ -1,26 +1,34 @@
--- What a configuration is made of, and its first number that is out of its limit.
-use Rattle.std.specs.Prelude.{◌≡◌, ℕ}
+-- The numbers of a configuration, their limits, and the first that is out of its limit.
+use Rattle.std.specs.Prelude.{◌≡◌}
 use Rattle.gn_rules.specs.declared.config.Config.{Config}
+use Rattle.gn_rules.specs.declared.limits.Numbers.{Numbers}
 use Rattle.gn_rules.specs.declared.config.Own.{Own}
 use Rattle.gn_rules.specs.declared.config.Field.{Field}
 use Rattle.gn_rules.specs.declared.config.Field.TheVariants.{Neighbours, Seen, Servents, Stage, Out, Steps}
-use Rattle.gn_rules.specs.Limits.{IsWithin}
+use Rattle.gn_rules.specs.Limits.{AreWithin, IsWithin, most}
 
--- a configuration keeps what it was made of
-pub record IsMadeOf (s : Config) (neighbours seen servents stage out steps : ℕ) (own : Own) : Type 0 where
-  pub neighbours_are : s.neighbours ≡ neighbours
-  pub seen_is : s.seen ≡ seen
-  pub servents_are : s.servents ≡ servents
-  pub stage_is : s.stage ≡ stage
-  pub out_is : s.out ≡ out
-  pub steps_are : s.steps ≡ steps
-  pub own_is : s.own ≡ own
+-- a configuration keeps the numbers and the servent that it was made of
+abbrev pub IsMadeOf : Config → Numbers → Own → Type 0
+IsMadeOf s numbers own = (s.numbers ≡ numbers) × (s.own ≡ own)
 
--- the first number that isn't within its limit, in the order of the fields
-abbrev pub IsFirstOut : Field → ℕ → ℕ → ℕ → ℕ → ℕ → ℕ → Type 0
-IsFirstOut Neighbours k n m t w h = ¬ IsWithin k 64
-IsFirstOut Seen k n m t w h = IsWithin k 64 × ¬ IsWithin n 65536
-IsFirstOut Servents k n m t w h = IsWithin k 64 × IsWithin n 65536 × ¬ IsWithin m 65536
-IsFirstOut Stage k n m t w h = IsWithin k 64 × IsWithin n 65536 × IsWithin m 65536 × ¬ IsWithin t 4096
-IsFirstOut Out k n m t w h = IsWithin k 64 × IsWithin n 65536 × IsWithin m 65536 × IsWithin t 4096 × ¬ IsWithin w 4096
-IsFirstOut Steps k n m t w h = IsWithin k 64 × IsWithin n 65536 × IsWithin m 65536 × IsWithin t 4096 × IsWithin w 4096 × ¬ IsWithin h 1000000
+-- the number of this name is within its limit
+abbrev pub IsIn : Field → Numbers → Type 0
+IsIn Neighbours n = IsWithin n.neighbours most.neighbours
+IsIn Seen n = IsWithin n.seen most.seen
+IsIn Servents n = IsWithin n.servents most.servents
+IsIn Stage n = IsWithin n.stage most.stage
+IsIn Out n = IsWithin n.out most.out
+IsIn Steps n = IsWithin n.steps most.steps
+
+-- the numbers before this name are within their limits
+abbrev pub AreBefore : Field → Numbers → Type 0
+AreBefore Neighbours n = Unit {0}
+AreBefore Seen n = IsIn Neighbours n
+AreBefore Servents n = IsIn Neighbours n × IsIn Seen n
+AreBefore Stage n = IsIn Neighbours n × IsIn Seen n × IsIn Servents n
+AreBefore Out n = IsIn Neighbours n × IsIn Seen n × IsIn Servents n × IsIn Stage n
+AreBefore Steps n = IsIn Neighbours n × IsIn Seen n × IsIn Servents n × IsIn Stage n × IsIn Out n
+
+-- the first number that isn't within its limit
+abbrev pub IsFirstOut : Field → Numbers → Type 0
+IsFirstOut field n = AreBefore field n × ¬ (IsIn field n)

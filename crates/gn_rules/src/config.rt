@@ -1,8 +1,9 @@
 //! The router's own servent, and the numbers that bound it.
 
 ghost use Rattle.std.specs.Prelude.{◌≡◌, ◌↔◌, IsTrue, IfOk, IfErr};
-ghost use Rattle.gn_rules.specs.Limits.{IsWithin};
+ghost use Rattle.gn_rules.specs.Limits.{AreWithin, IsWithin};
 
+use crate::limits::Numbers;
 use gn_wire::Guid;
 
 /// The router's own servent, as its Pongs describe it.
@@ -18,28 +19,12 @@ pub struct Own {
     pub kbytes: u32,
 }
 
-/// The numbers of a router, each from 1 to its limit, and its own servent.
+/// The numbers of a router, each within its limit, and its own servent.
 #[derive(Clone, Copy, Debug)]
 pub struct Config {
-    /// Live connections at once, at most 64.
-    pub neighbours: u32,
-    /// Descriptors that are remembered, at most 65,536.
-    pub seen: u32,
-    /// Servents whose route is remembered, at most 65,536.
-    pub servents: u32,
-    /// Descriptors in flight at once, at most 4,096.
-    pub stage: u32,
-    /// Packets that wait for one connection, at most 4,096.
-    pub out: u32,
-    /// Steps of a history, at most 1,000,000.
-    pub steps: u32,
+    pub numbers: Numbers,
     pub own: Own,
-    pub ghost neighbours_in_limit: { IsWithin neighbours 64 },
-    pub ghost seen_in_limit: { IsWithin seen 65536 },
-    pub ghost servents_in_limit: { IsWithin servents 65536 },
-    pub ghost stage_in_limit: { IsWithin stage 4096 },
-    pub ghost out_in_limit: { IsWithin out 4096 },
-    pub ghost steps_in_limit: { IsWithin steps 1000000 },
+    pub ghost within: { AreWithin numbers },
 }
 
 /// A number of a configuration, in the order in which they are looked at.
@@ -70,36 +55,48 @@ impl Config {
         steps: u32,
         own: Own,
     ) -> Result<Config, BadConfig>
-        ensures made { IfOk result (λ config. IsMadeOf config neighbours seen servents stage out steps own) }
-        ensures first { IfErr result (λ bad. IsFirstOut bad.0 neighbours seen servents stage out steps) }
+        ensures made { IfOk result (λ config. IsMadeOf config
+            (record { neighbours = neighbours; seen = seen; servents = servents; stage = stage; out = out; steps = steps }) own) }
+        ensures first { IfErr result (λ bad. IsFirstOut bad.0
+            (record { neighbours = neighbours; seen = seen; servents = servents; stage = stage; out = out; steps = steps })) }
     {
-        if !is_within(neighbours, 64) {
+        Config::of(
+            Numbers {
+                neighbours,
+                seen,
+                servents,
+                stage,
+                out,
+                steps,
+            },
+            own,
+        )
+    }
+
+    /// As `new`, of numbers that stand together.
+    pub fn of(numbers: Numbers, own: Own) -> Result<Config, BadConfig>
+        ensures made { IfOk result (λ config. IsMadeOf config numbers own) }
+        ensures first { IfErr result (λ bad. IsFirstOut bad.0 numbers) }
+    {
+        if !is_within(numbers.neighbours, Numbers::MOST.neighbours) {
             return Err(BadConfig(Field::Neighbours));
         }
-        if !is_within(seen, 65_536) {
+        if !is_within(numbers.seen, Numbers::MOST.seen) {
             return Err(BadConfig(Field::Seen));
         }
-        if !is_within(servents, 65_536) {
+        if !is_within(numbers.servents, Numbers::MOST.servents) {
             return Err(BadConfig(Field::Servents));
         }
-        if !is_within(stage, 4_096) {
+        if !is_within(numbers.stage, Numbers::MOST.stage) {
             return Err(BadConfig(Field::Stage));
         }
-        if !is_within(out, 4_096) {
+        if !is_within(numbers.out, Numbers::MOST.out) {
             return Err(BadConfig(Field::Out));
         }
-        if !is_within(steps, 1_000_000) {
+        if !is_within(numbers.steps, Numbers::MOST.steps) {
             return Err(BadConfig(Field::Steps));
         }
-        Ok(Config {
-            neighbours,
-            seen,
-            servents,
-            stage,
-            out,
-            steps,
-            own,
-        })
+        Ok(Config { numbers, own })
     }
 }
 

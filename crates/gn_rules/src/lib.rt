@@ -5,6 +5,7 @@ mod config;
 mod event;
 mod laws;
 mod legality;
+mod limits;
 mod packets;
 mod receipt;
 mod refusal;
@@ -22,12 +23,13 @@ pub use laws::{
     output_is_untaken, runs_agree, runs_agree_so_far, runs_stay_legal, servent_route_is_last,
 };
 pub use legality::Legality;
+pub use limits::{MOST_LINKS, MOST_WORKERS, Numbers};
 pub use packets::{may_originate, own_pong};
 pub use receipt::{Receipt, Step};
 pub use refusal::Refusal;
 pub use reply::{Decision, DropReason, Reply};
 pub use router_core::RouterCore;
 pub use runs::run_events;
-pub use same::{is_same_event, is_same_reply, is_step_of};
+pub use same::{is_same_config, is_same_event, is_same_reply, is_step_of};
 pub use sends::{Sending, Sends};
 pub use statistics::{Counter, Stats};

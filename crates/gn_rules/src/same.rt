@@ -1,13 +1,21 @@
-//! Whether two events or replies are equal, and whether a receipt is that of a step. None of it takes memory.
+//! Whether two configurations, events or replies are equal, and whether a receipt is that of a step. None of it takes memory.
 
 ghost use Rattle.std.specs.Prelude.{◌≡◌, ◌↔◌, IsTrue};
 ghost use Rattle.gn_rules.specs.Mine.{step_of};
 
+use crate::config::Config;
 use crate::event::Event;
 use crate::receipt::{Receipt, Step};
 use crate::reply::Reply;
 use crate::sends::Sending;
 use std::alloc::Allocator;
+
+/// Whether two configurations are equal, their servents with them.
+pub fn is_same_config(a: &Config, b: &Config) -> bool
+    ensures { IsTrue result ↔ (a.now ≡ b.now) }
+{
+    a.numbers == b.numbers && a.own == b.own
+}
 
 /// Whether two events are equal, each byte of a descriptor with them.
 pub fn is_same_event<A: Allocator>(a: &Event<A>, b: &Event<A>) -> bool

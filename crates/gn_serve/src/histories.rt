@@ -2,7 +2,7 @@
 
 ghost use Rattle.std.specs.Prelude.{◌≡◌, ◌+◌, ◌≤◌, ◌↔◌, length, IfErr, IfOk, OnOk};
 ghost use Rattle.gn_io.specs.Streams.{NoWriteFailed};
-ghost use Rattle.gn_rules.specs.Limits.{IsWithin};
+ghost use Rattle.gn_rules.specs.Limits.{IsCrew, most_links};
 ghost use Rattle.gn_threads.specs.declared.fault.RunFault.TheVariants.{BadWorkers};
 ghost use Rattle.gn_serve.specs.declared.fault.ServeFault.TheVariants.{Run};
 ghost use Rattle.gn_serve.specs.Histories.{
@@ -40,10 +40,10 @@ fn history_of<
     idle: Option<Duration>,
     workers: u32,
 ) -> Result<Vec<u8, A>, ServeFault>
-    requires few { accept + length peers.now ≤ 256 }
-    ensures workers { IfOk result (λ _. IsWithin workers 16) }
-    ensures bad_workers { IfErr result (λ fault. (fault ≡ Run BadWorkers) ↔ (¬ IsWithin workers 16)) }
-    ensures fault { IfErr result (λ fault. IsWithin workers 16
+    requires few { accept + length peers.now ≤ most_links }
+    ensures workers { IfOk result (λ _. IsCrew workers) }
+    ensures bad_workers { IfErr result (λ fault. (fault ≡ Run BadWorkers) ↔ (¬ IsCrew workers)) }
+    ensures fault { IfErr result (λ fault. IsCrew workers
         → IsRunFault (length peers.now + accept) workers fault) }
     ensures history { IfOk result (λ history.
         IsServedText A config.now (length peers.now) accept workers history.items) }
@@ -74,10 +74,10 @@ pub fn serve_history<
     workers: u32,
     sink: &mut W,
 ) -> Result<(), ServeFault>
-    requires few { accept + length peers.now ≤ 256 }
-    ensures workers { OnOk result (IsWithin workers 16) }
-    ensures bad_workers { IfErr result (λ fault. (fault ≡ Run BadWorkers) ↔ (¬ IsWithin workers 16)) }
-    ensures fault { IfErr result (λ fault. IsWithin workers 16 → IsServeFault (length peers.now + accept) workers fault
+    requires few { accept + length peers.now ≤ most_links }
+    ensures workers { OnOk result (IsCrew workers) }
+    ensures bad_workers { IfErr result (λ fault. (fault ≡ Run BadWorkers) ↔ (¬ IsCrew workers)) }
+    ensures fault { IfErr result (λ fault. IsCrew workers → IsServeFault (length peers.now + accept) workers fault
         (W.state sink.old) (W.state sink.new)) }
     ensures written { OnOk result (AppendsServed A config.now (length peers.now) accept workers
         (W.state sink.old).written (W.state sink.new).written) }

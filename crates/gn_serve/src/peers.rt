@@ -1,11 +1,13 @@
 //! Where the links of a run over TCP come from.
 
+ghost use Rattle.gn_rules.specs.Limits.{most_links};
 ghost use Rattle.std.specs.Prelude.{◌≡◌, ◌<◌, ◌≤◌, ◌++◌, ℕ, length, replicate, take, IfErr, IfOk};
 ghost use Rattle.gn_shake.specs.declared.role.Role.TheVariants.{Accepting, Calling};
 ghost use Rattle.gn_threads.specs.Faults.{IsFaultOf};
 ghost use Rattle.gn_serve.specs.Links.{roles_of};
 
 use gn_links::Link;
+use gn_rules::MOST_LINKS;
 use gn_shake::Role;
 use gn_tcp::{TcpLink, TcpReader, TcpWriter};
 use gn_threads::{Arrivals, RunFault};
@@ -24,11 +26,11 @@ pub(crate) struct Peers<'a, N> {
 }
 
 /// The roles of the links of a run that calls so many peers: the called ones come first.
-pub(crate) fn roles_of(calls: usize, links: usize) -> [Role; 256]
-    requires { (calls ≤ links) × (links ≤ 256) }
+pub(crate) fn roles_of(calls: usize, links: usize) -> [Role; MOST_LINKS]
+    requires { (calls ≤ links) × (links ≤ most_links) }
     ensures { take links result ≡ roles_of calls links }
 {
-    let mut roles = [Role::Accepting; 256];
+    let mut roles = [Role::Accepting; MOST_LINKS];
     let mut link = 0;
     while link < calls {
         roles[link] = Role::Calling;

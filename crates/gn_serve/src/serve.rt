@@ -1,7 +1,7 @@
 //! A run over TCP.
 
 ghost use Rattle.std.specs.Prelude.{◌≡◌, ◌+◌, ◌≤◌, ◌↔◌, length, IfErr, IfOk};
-ghost use Rattle.gn_rules.specs.Limits.{IsWithin};
+ghost use Rattle.gn_rules.specs.Limits.{IsCrew, most_links};
 ghost use Rattle.gn_threads.specs.declared.fault.RunFault.TheVariants.{BadWorkers};
 ghost use Rattle.gn_threads.specs.Faults.{IsFaultOf};
 ghost use Rattle.gn_threads.specs.Headline.{
@@ -49,10 +49,10 @@ pub fn serve_on<
     workers: u32,
     gate: &G,
 ) -> Result<Report<TcpReader, TcpWriter, A>, RunFault>
-    requires few { accept + length peers.now ≤ 256 }
-    ensures workers { IfOk result (λ _. IsWithin workers 16) }
-    ensures bad_workers { IfErr result (λ fault. (fault ≡ BadWorkers) ↔ (¬ IsWithin workers 16)) }
-    ensures fault { IfErr result (λ fault. IsWithin workers 16 → IsFaultOf (length peers.now + accept) workers fault) }
+    requires few { accept + length peers.now ≤ most_links }
+    ensures workers { IfOk result (λ _. IsCrew workers) }
+    ensures bad_workers { IfErr result (λ fault. (fault ≡ BadWorkers) ↔ (¬ IsCrew workers)) }
+    ensures fault { IfErr result (λ fault. IsCrew workers → IsFaultOf (length peers.now + accept) workers fault) }
     ensures legal { IfOk result (λ report. HasLegalHistory config.now report) }
     ensures counted { IfOk result (λ report. HasCountedSteps report) }
     ensures own { IfOk result (λ report. HasOwnSteps report) }

@@ -73,6 +73,6 @@ is_step later = false
 
 -- no step can be made: the history is full, or out of memory
 abbrev pub IsStop : {A : Type 0} → Refusal → HubState A → Type 0
-IsStop HistoryFull h = length h.steps ≡ h.settings.steps
+IsStop HistoryFull h = length h.steps ≡ h.settings.numbers.steps
 IsStop NoMemory h = ⊤
 IsStop refusal h = ⊥

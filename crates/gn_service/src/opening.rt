@@ -1,7 +1,7 @@
 //! How the service of a run is made, and its actors.
 
 ghost use Rattle.std.specs.Prelude.{◌≡◌, ◌+◌, ◌*◌, ◌<◌, ◌≤◌, ◌↔◌, length, map, IfErr, IfOk};
-ghost use Rattle.gn_rules.specs.Limits.{IsWithin};
+ghost use Rattle.gn_rules.specs.Limits.{IsCrew, most_links};
 ghost use Rattle.gn_service.specs.ActorState.{AreNew};
 ghost use Rattle.gn_service.specs.HubState.{new_mark, opening};
 ghost use Rattle.gn_service.specs.declared.opening.ServiceFault.TheVariants.{BadWorkers};
@@ -10,7 +10,7 @@ use crate::actor::Actor;
 use crate::hub::Hub;
 use crate::mark::Mark;
 use crate::service::Service;
-use gn_rules::{Config, RouterCore};
+use gn_rules::{Config, MOST_WORKERS, RouterCore};
 use gn_shake::Role;
 use std::alloc::{AllocError, AllocFailed, Allocator};
 use std::sync::ledger::{Blank, Ledger, Share};
@@ -47,12 +47,12 @@ impl<C: RouterCore<A> + Drop, L: Ledger, A: Allocator + Copy> Service<C, L, A> {
     ) -> Result<(Self, Vec<Actor<L, A>, A>), ServiceFault>
         requires name { blank.name ≡ L.name }
         requires parts { (blank.parts ≡ L.parts) × (blank.parts ≡ 2 * length roles.now + workers + 1) }
-        requires few { length roles.now ≤ 256 }
+        requires few { length roles.now ≤ most_links }
         ensures actors { IfOk result (λ made. AreNew (2 * length roles.now + workers + 1) made.1.items) }
-        ensures workers { IfOk result (λ made. IsWithin workers 16) }
-        ensures bad_workers { IfErr result (λ fault. (fault ≡ BadWorkers) ↔ (¬ IsWithin workers 16)) }
+        ensures workers { IfOk result (λ made. IsCrew workers) }
+        ensures bad_workers { IfErr result (λ fault. (fault ≡ BadWorkers) ↔ (¬ IsCrew workers)) }
     {
-        if workers == 0 || workers > 16 {
+        if workers == 0 || workers > MOST_WORKERS {
             return Err(ServiceFault::BadWorkers);
         }
         let (hub, actors) = open(alloc, blank, config, roles, workers)?;
@@ -70,7 +70,7 @@ fn open<C: RouterCore<A>, L: Ledger, A: Allocator + Copy>(
 ) -> Result<(Hub<C, L, A>, Vec<Actor<L, A>, A>), AllocError>
     requires name { blank.name ≡ L.name }
     requires parts { (blank.parts ≡ L.parts) × (blank.parts ≡ 2 * length roles.now + workers + 1) }
-    requires few { (length roles.now ≤ 256) × IsWithin workers 16 }
+    requires few { (length roles.now ≤ most_links) × IsCrew workers }
     ensures hub { IfOk result (λ made. made.0 ≡ opening config.now roles.now) }
     ensures actors { IfOk result (λ made. AreNew (2 * length roles.now + workers + 1) made.1.items) }
 {

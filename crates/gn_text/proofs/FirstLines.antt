@@ -5,7 +5,8 @@ use Rattle.gn_text.specs.Lines.{fields_of, is_word}
 use Rattle.gn_text.specs.declared.fault.Cause.TheVariants as cause
 use Rattle.gn_text.specs.Faults.{fault_at}
 use Rattle.gn_text.specs.Header.{config_from, header_of, own_from}
-use Rattle.gn_text.specs.Settings.{Numbers, config_of, own_of}
+use Rattle.gn_rules.specs.declared.limits.Numbers.{Numbers}
+use Rattle.gn_text.specs.Settings.{config_of, own_of}
 
 pub own_read : (numbers : Numbers) (after n : ℕ) (text : List ℕ) (lines more : List (ℕ × List ℕ)) (own : Own) → lines ≡ (n, text) ∷ more
     → own_of (fields_of text) ≡ Some own → own_from numbers after lines ≡ Ok ((numbers, own), more)

@@ -6,24 +6,25 @@ use Rattle.gn_text.specs.Lines.{fields_of, is_word}
 use Rattle.gn_text.specs.declared.fault.Cause.TheVariants as cause
 use Rattle.gn_text.specs.Faults.{fault_at, numbered_at, ◌>>=◌}
 use Rattle.gn_text.specs.Header.{config_from, header_of, own_from}
-use Rattle.gn_text.specs.Settings.{Numbers, config_of, own_of}
-use Rattle.gn_text.proofs.ConfigLemmas.{AreWithin, IsConfigured, config_is_within, made}
+use Rattle.gn_rules.specs.declared.limits.Numbers.{Numbers}
+use Rattle.gn_text.specs.Settings.{config_of, own_of}
+use Rattle.gn_text.proofs.ConfigLemmas.{ArePassed, IsConfigured, config_is_within, made}
 
 -- the settings that a text's first lines say, and the lines after them
 abbrev pub ParsedHeader : Type 0
 ParsedHeader = (Numbers × Own) × List (ℕ × List ℕ)
 
-own_line : (numbers : Numbers) (n : ℕ) (more : List (ℕ × List ℕ)) (own : Option Own) → AreWithin numbers
+own_line : (numbers : Numbers) (n : ℕ) (more : List (ℕ × List ℕ)) (own : Option Own) → ArePassed numbers
     → IfOk (numbered_at n cause.Own own >>= λ own. Ok ((numbers, own), more)) (λ (header : ParsedHeader). IsConfigured header.0)
 own_line numbers n more None h = _
 own_line numbers n more (Some own) h = made numbers own h
 
-own_configured : (numbers : Numbers) (after : ℕ) (lines : List (ℕ × List ℕ)) → AreWithin numbers
+own_configured : (numbers : Numbers) (after : ℕ) (lines : List (ℕ × List ℕ)) → ArePassed numbers
     → IfOk (own_from numbers after lines) (λ (header : ParsedHeader). IsConfigured header.0)
 own_configured numbers after [] h = _
 own_configured numbers after (line ∷ more) h = own_line numbers line.0 more (own_of (fields_of line.1)) h
 
-config_line : (n after : ℕ) (more : List (ℕ × List ℕ)) (numbers : Option Numbers) → IfSome numbers AreWithin
+config_line : (n after : ℕ) (more : List (ℕ × List ℕ)) (numbers : Option Numbers) → IfSome numbers ArePassed
     → IfOk (numbered_at n cause.Config numbers >>= λ numbers. own_from numbers after more) (λ (header : ParsedHeader). IsConfigured header.0)
 config_line n after more None h = _
 config_line n after more (Some numbers) h = own_configured numbers after more h

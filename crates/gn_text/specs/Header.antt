@@ -7,7 +7,8 @@ use Rattle.gn_text.specs.declared.fault.Cause.TheVariants as cause
 use Rattle.gn_text.specs.declared.fault.CaptureFault.{CaptureFault}
 use Rattle.gn_text.specs.Faults.{fault_at, numbered_at, ◌>>=◌}
 use Rattle.gn_text.specs.Parsed.{Numbered}
-use Rattle.gn_text.specs.Settings.{Numbers, config_of, own_of, settings_of}
+use Rattle.gn_rules.specs.declared.limits.Numbers.{Numbers}
+use Rattle.gn_text.specs.Settings.{config_of, own_of, settings_of}
 
 -- the lines from the third on: the servent, beside the numbers of the second line, and the lines after it
 abbrev pub own_from : Numbers → ℕ → List (ℕ × List ℕ) → Result ((Numbers × Own) × List (ℕ × List ℕ)) CaptureFault

@@ -2,24 +2,17 @@
 use Rattle.std.specs.Prelude.{ℕ, Bool, ◌&&◌, nat_le, if◌then◌else◌, List, [], ◌∷◌, codes, Option, Some, None, ◌++◌, decimal}
 use Rattle.gn_rules.specs.declared.config.Config.{Config}
 use Rattle.gn_rules.specs.declared.config.Own.{Own}
+use Rattle.gn_rules.specs.declared.limits.Numbers.{Numbers}
+use Rattle.gn_rules.specs.Limits.{most}
 use Rattle.gn_text.specs.Addresses.{ip_of, ◌>>=◌, ip_text}
 use Rattle.gn_text.specs.Bytes.{guid_of}
 use Rattle.gn_text.specs.Lines.{is_word}
 use Rattle.gn_text.specs.Numbers.{number_of, number_below}
 use Rattle.hex.specs.Hex.{encode_lower}
 
--- the six numbers of a configuration
-pub record Numbers : Type 0 where
-  pub neighbours : ℕ
-  pub seen : ℕ
-  pub servents : ℕ
-  pub stage : ℕ
-  pub out : ℕ
-  pub steps : ℕ
-
 -- those that a configuration keeps
 abbrev pub numbers_of : Config → Numbers
-numbers_of s = record { neighbours = s.neighbours; seen = s.seen; servents = s.servents; stage = s.stage; out = s.out; steps = s.steps }
+numbers_of s = s.numbers
 
 -- what a configuration says: its numbers and its own servent
 abbrev pub settings_of : Config → Numbers × Own
@@ -27,13 +20,13 @@ settings_of s = (numbers_of s, s.own)
 
 -- a number is from 1 to its limit
 abbrev pub is_within : ℕ → ℕ → Bool
-is_within number most = nat_le 1 number && nat_le number most
+is_within number limit = nat_le 1 number && nat_le number limit
 
 -- each number is from 1 to its limit
 abbrev pub are_within : Numbers → Bool
 are_within n =
-    is_within n.neighbours 64 && is_within n.seen 65536 && is_within n.servents 65536 && is_within n.stage 4096
-    && is_within n.out 4096 && is_within n.steps 1000000
+    is_within n.neighbours most.neighbours && is_within n.seen most.seen && is_within n.servents most.servents
+    && is_within n.stage most.stage && is_within n.out most.out && is_within n.steps most.steps
 
 -- numbers, where each is within its limit
 abbrev pub numbers_within : Numbers → Option Numbers
@@ -87,8 +80,8 @@ field_text n = codes " " ++ decimal n
 -- the line of the numbers, without its line feed
 abbrev pub config_line : Config → List ℕ
 config_line s =
-    codes "config" ++ field_text s.neighbours ++ field_text s.seen ++ field_text s.servents ++ field_text s.stage
-    ++ field_text s.out ++ field_text s.steps
+    codes "config" ++ field_text s.numbers.neighbours ++ field_text s.numbers.seen ++ field_text s.numbers.servents ++ field_text s.numbers.stage
+    ++ field_text s.numbers.out ++ field_text s.numbers.steps
 
 -- the line of the own servent, without its line feed
 abbrev pub own_line : Own → List ℕ

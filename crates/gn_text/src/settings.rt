@@ -9,7 +9,7 @@ use crate::line::is_word;
 use crate::numbers::{number, number_u16};
 use crate::octets::guid;
 use crate::part::{Part, push_parts};
-use gn_rules::{Config, Own};
+use gn_rules::{Config, Numbers, Own};
 use gn_wire::{Guid, whole_or_none};
 use std::alloc::{AllocError, Allocator};
 
@@ -28,7 +28,15 @@ fn within(k: u32, n: u32, m: u32, t: u32, w: u32, h: u32) -> Option<Config>
     ensures { option_map numbers_of result
         ≡ numbers_within (record { neighbours = k; seen = n; servents = m; stage = t; out = w; steps = h }) }
 {
-    Config::new(k, n, m, t, w, h, BLANK).ok()
+    let numbers = Numbers {
+        neighbours: k,
+        seen: n,
+        servents: m,
+        stage: t,
+        out: w,
+        steps: h,
+    };
+    Config::of(numbers, BLANK).ok()
 }
 
 /// The configuration of six numbers, where all are there and each is within its limit.
@@ -120,17 +128,17 @@ fn push_config<B: Allocator>(out: &mut Vec<u8, B>, config: &Config) -> Result<()
         out,
         &[
             Part::Word(b"config "),
-            Part::Number(config.neighbours),
+            Part::Number(config.numbers.neighbours),
             Part::Word(b" "),
-            Part::Number(config.seen),
+            Part::Number(config.numbers.seen),
             Part::Word(b" "),
-            Part::Number(config.servents),
+            Part::Number(config.numbers.servents),
             Part::Word(b" "),
-            Part::Number(config.stage),
+            Part::Number(config.numbers.stage),
             Part::Word(b" "),
-            Part::Number(config.out),
+            Part::Number(config.numbers.out),
             Part::Word(b" "),
-            Part::Number(config.steps),
+            Part::Number(config.numbers.steps),
             Part::Word(b"\n"),
         ],
     )

@@ -95,10 +95,21 @@ fn settings(rt: HostRuntime) -> Result<(), Fail> {
     let config = capture.config;
     let own = Own { port: 0, ..OWN };
     assert_eq!(rt;
-        (config.neighbours, config.seen, config.servents),
+        (
+            config.numbers.neighbours,
+            config.numbers.seen,
+            config.numbers.servents
+        ),
         (1, 2, 3)
     );
-    assert_eq!(rt; (config.stage, config.out, config.steps), (4, 5, 6));
+    assert_eq!(rt;
+        (
+            config.numbers.stage,
+            config.numbers.out,
+            config.numbers.steps
+        ),
+        (4, 5, 6)
+    );
     assert_eq!(rt; (config.own, capture.lines.len()), (own, 0));
     Ok(())
 }

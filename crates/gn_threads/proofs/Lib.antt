@@ -1,4 +1,3 @@
-pub mod ConfigLemmas
 pub mod FaultLemmas
 pub mod WaitingLemmas
 pub mod KeptLemmas

@@ -5,6 +5,5 @@ pub mod Joined
 pub mod Waiting
 pub mod Shares
 pub mod House
-pub mod Same
 pub mod Gathered
 pub mod Headline

@@ -1,7 +1,7 @@
 //! A run whose links come one after another.
 
 ghost use Rattle.std.specs.Prelude.{◌≡◌, ◌+◌, ◌*◌, ◌≤◌, ◌↔◌, length, map, take, vec_len, IfErr, IfOk};
-ghost use Rattle.gn_rules.specs.Limits.{IsWithin};
+ghost use Rattle.gn_rules.specs.Limits.{IsCrew, most_links};
 ghost use Rattle.gn_threads.specs.declared.fault.RunFault.TheVariants.{BadWorkers};
 ghost use Rattle.gn_threads.specs.Faults.{IsFaultOf};
 ghost use Rattle.gn_links.specs.Views.{reads_of, writes_of};
@@ -25,7 +25,7 @@ use crate::opening::{Opening, open};
 use crate::places::places_of;
 use crate::starting::start_and_join;
 use gn_links::{Gate, LinkReader, LinkWriter};
-use gn_rules::{Config, RouterCore};
+use gn_rules::{Config, MOST_WORKERS, RouterCore};
 use gn_run::Report;
 use gn_shake::Role;
 use gn_stage::{Site, Stage};
@@ -54,10 +54,10 @@ pub fn run_arriving<
     workers: u32,
     gate: &G,
 ) -> Result<Report<Rd, W, A>, RunFault>
-    requires few { length roles.now ≤ 256 }
-    ensures workers { IfOk result (λ _. IsWithin workers 16) }
-    ensures bad_workers { IfErr result (λ fault. (fault ≡ BadWorkers) ↔ (¬ IsWithin workers 16)) }
-    ensures fault { IfErr result (λ fault. IsWithin workers 16 → IsFaultOf (length roles.now) workers fault) }
+    requires few { length roles.now ≤ most_links }
+    ensures workers { IfOk result (λ _. IsCrew workers) }
+    ensures bad_workers { IfErr result (λ fault. (fault ≡ BadWorkers) ↔ (¬ IsCrew workers)) }
+    ensures fault { IfErr result (λ fault. IsCrew workers → IsFaultOf (length roles.now) workers fault) }
     ensures legal { IfOk result (λ report. HasLegalHistory config.now report) }
     ensures counted { IfOk result (λ report. HasCountedSteps report) }
     ensures own { IfOk result (λ report. HasOwnSteps report) }
@@ -76,10 +76,10 @@ pub fn run_arriving<
     ensures routed { IfOk result (λ report. RoutesEachOnce report) }
     ensures stats { IfOk result (λ report. HasOwnStats report) }
 {
-    if workers == 0 || workers > 16 {
+    if workers == 0 || workers > MOST_WORKERS {
         return Err(RunFault::BadWorkers);
     }
-    let stage = Stage::new(alloc, config.stage as usize)?;
+    let stage = Stage::new(alloc, config.numbers.stage as usize)?;
     let parts = 2 * roles.len() as u64 + workers as u64 + 1;
     let blank = Blank::new(parts);
     let report = run_arriving_in::<Brand, Brand, C, Rd, W, V, G, A, R>(
@@ -113,8 +113,8 @@ fn run_arriving_in<
     requires name { blank.name ≡ L.name }
     requires parts { (blank.parts ≡ L.parts) × (blank.parts ≡ 2 * length roles.now + workers + 1) }
     requires stage { stage ≡ S.stage }
-    requires few { length roles.now ≤ 256 }
-    requires workers { IsWithin workers 16 }
+    requires few { length roles.now ≤ most_links }
+    requires workers { IsCrew workers }
     ensures fault { IfErr result (λ fault. IsFaultOf (length roles.now) workers fault) }
     ensures holds { IfOk result (λ report. Holds
         (reads_of Rd.is_known Rd.bytes_read Rd.failures Rd.pieces Rd.has_ended)

@@ -1,5 +1,6 @@
 //! The report of a run, compared with its history, its ledger and the configuration of the call.
 
+ghost use Rattle.gn_rules.specs.Limits.{most_links, most_workers};
 ghost use Rattle.std.specs.Prelude.{
   ◌≡◌,
   ◌+◌,
@@ -28,10 +29,9 @@ ghost use Rattle.gn_threads.specs.Shares.{amount_of, parts_of};
 
 use crate::fault::RunFault;
 use crate::gather::{Linked, Worked};
-use crate::same::is_same_config;
 use crate::tally::Tally;
 use gn_links::{LinkReader, LinkWriter};
-use gn_rules::{Config, RouterCore, Stats, Step};
+use gn_rules::{Config, RouterCore, Stats, Step, is_same_config};
 use gn_run::Report;
 use gn_service::{Actor, Hub};
 use gn_shake::Role;
@@ -121,7 +121,7 @@ pub(crate) fn report<
     suspect: Option<u32>,
 ) -> Result<Report<Rd, W, A>, RunFault>
     requires roles { length roles.now ≡ length linked.links.items }
-    requires few { (vec_len linked.links ≤ 256) × (vec_len worked.receipts ≤ 16) }
+    requires few { (vec_len linked.links ≤ most_links) × (vec_len worked.receipts ≤ most_workers) }
     requires readers { EachKeeps ReaderKeeps roles.now
         (map (λ l. halved (reads_of Rd.is_known Rd.bytes_read Rd.failures Rd.pieces Rd.has_ended) (reader_reported l))
         linked.links.items) }

@@ -1,5 +1,6 @@
 //! What the bodies of a run gave back.
 
+ghost use Rattle.gn_rules.specs.Limits.{most_workers};
 ghost use Rattle.std.specs.Prelude.{◌≡◌, ◌+◌, ◌<◌, ◌≤◌, ◌||◌, ℕ, None, length, slice_index_or, IfSome, IsOk};
 ghost use Rattle.std.specs.List.{list_any};
 ghost use Rattle.gn_bodies.specs.declared.worker.WorkerDone.{WorkerDone};
@@ -69,7 +70,7 @@ pub(crate) fn first_refused<S: Site, L: Ledger, A: Allocator>(
     workers: &[WorkerDone<S, L, A>],
     first: u32,
 ) -> Option<u32>
-    requires few { (first ≤ 512) × (length workers.now ≤ 16) }
+    requires few { (first ≤ 512) × (length workers.now ≤ most_workers) }
     ensures none { result ≡ None → (k : ℕ) (d : WorkerDone S L A) → k < length workers.now
         → IsOk (slice_index_or workers.now k d).end }
     ensures some { IfSome result (λ a. a < first + length workers.now) }

@@ -1,5 +1,6 @@
 //! What is left of a run once its threads are joined.
 
+ghost use Rattle.gn_rules.specs.Limits.{most_links, most_workers};
 ghost use Rattle.std.specs.Prelude.{
   ◌≡◌,
   ◌+◌,
@@ -69,7 +70,7 @@ pub(crate) fn finish<
     house: Actor<L, A>,
 ) -> Result<Report<Rd, W, A>, RunFault>
     requires parts { L.parts ≡ 2 * length roles.now + vec_len done.workers + 1 }
-    requires few { (length roles.now ≤ 256) × (vec_len done.workers ≤ 16) }
+    requires few { (length roles.now ≤ most_links) × (vec_len done.workers ≤ most_workers) }
     requires many { (vec_len done.readers ≡ length roles.now) × (vec_len done.writers ≡ length roles.now) }
     requires readers { EachKeeps ReaderKeeps roles.now
         (map (λ d. halved (reads_of Rd.is_known Rd.bytes_read Rd.failures Rd.pieces Rd.has_ended) (reader_ended d))
@@ -154,7 +155,7 @@ fn assemble<L: Ledger, C: RouterCore<A> + Drop, Rd: LinkReader, W: LinkWriter, A
     suspect: Option<u32>,
 ) -> Result<Report<Rd, W, A>, RunFault>
     requires parts { L.parts ≡ 2 * length roles.now + vec_len worked.receipts + 1 }
-    requires few { (length roles.now ≤ 256) × (vec_len worked.receipts ≤ 16) }
+    requires few { (length roles.now ≤ most_links) × (vec_len worked.receipts ≤ most_workers) }
     requires many { (vec_len readers ≡ length roles.now) × (vec_len writers ≡ length roles.now) }
     requires readers { EachKeeps ReaderKeeps roles.now
         (map (λ d. halved (reads_of Rd.is_known Rd.bytes_read Rd.failures Rd.pieces Rd.has_ended) (reader_homed d))

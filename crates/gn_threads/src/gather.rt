@@ -1,5 +1,6 @@
 //! What the bodies gave back, as the report of a run has it.
 
+ghost use Rattle.gn_rules.specs.Limits.{most_links};
 ghost use Rattle.std.specs.Prelude.{◌≡◌, ◌+◌, ◌++◌, ◌∷◌, ◌<◌, ◌≤◌, [], ℕ, map, vec_len, IfErr, IfOk, Ok};
 ghost use Rattle.gn_threads.specs.Faults.{IsFaultOf};
 ghost use Rattle.gn_threads.specs.Gathered.{link_receipts, reader_reported, worker_receipts, writer_reported};
@@ -85,7 +86,7 @@ impl<Rd: LinkReader, W: LinkWriter, L: Ledger, A: Allocator + Copy> Linked<Rd, W
         link: u32,
         links: u32,
     ) -> Result<Self, RunFault>
-        requires { (link < links) × (links ≤ 256) }
+        requires { (link < links) × (links ≤ most_links) }
         ensures fault { IfErr result (λ fault. (workers : ℕ) → IsFaultOf links workers fault) }
         ensures many { IfOk result (λ linked. vec_len linked.links ≡ vec_len self.links + 1) }
         ensures reader { IfOk result (λ linked. map reader_reported linked.links.items
@@ -149,7 +150,7 @@ pub(crate) fn gather_links<Rd: LinkReader, W: LinkWriter, L: Ledger, A: Allocato
     writers: Vec<WriterDone<W, L, A>, A>,
 ) -> Result<Linked<Rd, W, L, A>, RunFault>
     requires many { vec_len writers ≡ vec_len readers }
-    requires few { vec_len readers ≤ 256 }
+    requires few { vec_len readers ≤ most_links }
     ensures fault { IfErr result (λ fault. (workers : ℕ) → IsFaultOf (vec_len readers) workers fault) }
     ensures many { IfOk result (λ linked. vec_len linked.links ≡ vec_len readers) }
     ensures readers { IfOk result (λ linked.

@@ -14,7 +14,6 @@ mod joins;
 mod opening;
 mod places;
 mod runs;
-mod same;
 mod start;
 mod starting;
 mod tally;

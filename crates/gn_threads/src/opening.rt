@@ -1,7 +1,7 @@
 //! How a run begins.
 
 ghost use Rattle.std.specs.Prelude.{◌≡◌, ◌+◌, ◌*◌, ◌≤◌, length, vec_len, IfOk};
-ghost use Rattle.gn_rules.specs.Limits.{IsWithin};
+ghost use Rattle.gn_rules.specs.Limits.{IsCrew, most_links};
 ghost use Rattle.gn_service.specs.ActorState.{AreNew};
 
 use gn_rules::{Config, RouterCore};
@@ -38,8 +38,8 @@ pub(crate) fn open<L: Ledger, S: Site, C: RouterCore<A> + Drop, A: Allocator + C
     requires name { blank.name ≡ L.name }
     requires parts { (blank.parts ≡ L.parts) × (blank.parts ≡ 2 * length roles.now + workers + 1) }
     requires stage { stage ≡ S.stage }
-    requires few { length roles.now ≤ 256 }
-    requires workers { IsWithin workers 16 }
+    requires few { length roles.now ≤ most_links }
+    requires workers { IsCrew workers }
     ensures actors { IfOk result (λ opening. AreNew (2 * length roles.now + workers + 1) opening.actors.items) }
     ensures ends { IfOk result (λ opening. (vec_len opening.intakes ≡ length roles.now)
         × (vec_len opening.outlets ≡ workers)) }

@@ -1,5 +1,6 @@
 //! What the bodies of a link start from that hasn't come yet.
 
+ghost use Rattle.gn_rules.specs.Limits.{most_links, most_workers};
 ghost use Rattle.std.specs.Prelude.{◌≡◌, ◌+◌, ◌*◌, ◌<◌, ◌≤◌, [], All, length, map, vec_len, IfOk};
 ghost use Rattle.gn_links.specs.Halves.{IsNewReader, IsNewWriter};
 ghost use Rattle.gn_service.specs.ActorState.{AreNew};
@@ -104,7 +105,7 @@ pub(crate) fn places_of<S: Site, L: Ledger, A: Allocator + Copy>(
     actors: Vec<Actor<L, A>, A>,
 ) -> Result<(Places<S, L, A>, Actor<L, A>), AllocError>
     requires many { vec_len intakes ≡ length roles.now }
-    requires few { (length roles.now ≤ 256) × (vec_len outlets ≤ 16) }
+    requires few { (length roles.now ≤ most_links) × (vec_len outlets ≤ most_workers) }
     requires actors { AreNew (2 * length roles.now + vec_len outlets + 1) actors.items }
     ensures readers { IfOk result (λ made. map (λ p. p.role) made.0.readers.items ≡ roles.now) }
     ensures writers { IfOk result (λ made. map (λ p. p.role) made.0.writers.items ≡ roles.now) }
@@ -131,7 +132,7 @@ fn reader_places<S: Site, L: Ledger, A: Allocator + Copy>(
     actors: &mut Waiting<L, A>,
 ) -> Result<Vec<ReaderPlace<S, L, A>, A>, AllocError>
     requires first { actors.old.next ≡ 0 }
-    requires few { length roles.now ≤ 256 }
+    requires few { length roles.now ≤ most_links }
     requires enough { (length roles.now ≤ actors.old.left) × (vec_len intakes ≡ length roles.now) }
     ensures roles { IfOk result (λ places. map (λ p. p.role) places.items ≡ roles.now) }
     ensures many { IfOk result (λ places. vec_len places ≡ length roles.now) }
@@ -158,7 +159,7 @@ fn writer_places<L: Ledger, A: Allocator + Copy>(
     roles: &[Role],
     actors: &mut Waiting<L, A>,
 ) -> Result<Vec<WriterPlace<L, A>, A>, AllocError>
-    requires few { length roles.now ≤ 256 }
+    requires few { length roles.now ≤ most_links }
     requires enough { length roles.now ≤ actors.old.left }
     ensures roles { IfOk result (λ places. map (λ p. p.role) places.items ≡ roles.now) }
     ensures many { IfOk result (λ places. vec_len places ≡ length roles.now) }
@@ -183,7 +184,7 @@ fn worker_starts<S: Site, L: Ledger, A: Allocator + Copy>(
     outlets: Vec<Outlet<S, A>, A>,
     actors: &mut Waiting<L, A>,
 ) -> Result<Vec<WorkerStart<S, L, A>, A>, AllocError>
-    requires few { vec_len outlets ≤ 16 }
+    requires few { vec_len outlets ≤ most_workers }
     requires enough { vec_len outlets ≤ actors.old.left }
     ensures many { IfOk result (λ starts. vec_len starts ≡ vec_len outlets) }
     ensures left { IfOk result (λ _. actors.new.left + vec_len outlets ≡ actors.old.left) }

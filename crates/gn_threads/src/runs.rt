@@ -1,7 +1,7 @@
 //! A run from its links to its report.
 
 ghost use Rattle.std.specs.Prelude.{◌≡◌, ◌≤◌, ◌↔◌, length, map, IfErr, IfOk};
-ghost use Rattle.gn_rules.specs.Limits.{IsWithin};
+ghost use Rattle.gn_rules.specs.Limits.{IsCrew, most_links};
 ghost use Rattle.gn_links.specs.Views.{reads_of, writes_of};
 ghost use Rattle.gn_threads.specs.declared.fault.RunFault.TheVariants.{BadWorkers};
 ghost use Rattle.gn_threads.specs.Faults.{IsFaultOf};
@@ -21,7 +21,7 @@ use crate::arrivals::Arrived;
 use crate::arriving::run_arriving;
 use crate::fault::RunFault;
 use gn_links::{Gate, Link, SplitLinks, split_all};
-use gn_rules::{Config, RouterCore};
+use gn_rules::{Config, MOST_WORKERS, RouterCore};
 use gn_run::Report;
 use std::alloc::Allocator;
 use std::sync::Wait;
@@ -49,10 +49,10 @@ pub fn run<
 where
     K::Reader: Send,
     K::Writer: Send,
-    requires few { length links.items ≤ 256 }
-    ensures workers { IfOk result (λ _. IsWithin workers 16) }
-    ensures bad_workers { IfErr result (λ fault. (fault ≡ BadWorkers) ↔ (¬ IsWithin workers 16)) }
-    ensures fault { IfErr result (λ fault. IsWithin workers 16 → IsFaultOf (length links.items) workers fault) }
+    requires few { length links.items ≤ most_links }
+    ensures workers { IfOk result (λ _. IsCrew workers) }
+    ensures bad_workers { IfErr result (λ fault. (fault ≡ BadWorkers) ↔ (¬ IsCrew workers)) }
+    ensures fault { IfErr result (λ fault. IsCrew workers → IsFaultOf (length links.items) workers fault) }
     ensures legal { IfOk result (λ report. HasLegalHistory config.now report) }
     ensures counted { IfOk result (λ report. HasCountedSteps report) }
     ensures own { IfOk result (λ report. HasOwnSteps report) }
@@ -71,7 +71,7 @@ where
     ensures routed { IfOk result (λ report. RoutesEachOnce report) }
     ensures stats { IfOk result (λ report. HasOwnStats report) }
 {
-    if workers == 0 || workers > 16 {
+    if workers == 0 || workers > MOST_WORKERS {
         return Err(RunFault::BadWorkers);
     }
     let split = split_all(alloc, links)?;

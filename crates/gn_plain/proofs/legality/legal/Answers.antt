@@ -5,7 +5,7 @@ use Rattle.gn_plain.proofs.legality.legal.Goals as goal
 
 pub overflow_cast-result : goal.overflow_cast-result
 overflow_cast-result g c =
-    let most = c.args.config.now.steps_in_limit.greatest in
+    let most = c.args.config.now.within.steps.greatest in
     omega (arith, most, steps_before c.args.config.now c.args.steps.now c.loop-i.i (omega arith) c.loop-i.invariant)
 
 pub returns-then-not-is_next : goal.returns-then-not-is_next

@@ -3,7 +3,7 @@ use Rattle.std.specs.Prelude.{IfErr, IfOk}
 use Rattle.std.specs.Vec.Iter.{into_iter_items}
 use Rattle.std.proofs.lemmas.List.{length-map}
 use Rattle.std.proofs.lemmas.Simd.{map-map}
-use Rattle.gn_rules.specs.Limits.{IsWithin}
+use Rattle.gn_rules.specs.Limits.{IsCrew}
 use Rattle.gn_threads.specs.Faults.{IsFaultOf}
 use Rattle.gn_links.specs.Views.{reads_of, writes_of}
 use Rattle.gn_threads.specs.Headline.{AreMadeOf, LinksHold, LinksReadOwn}
@@ -13,14 +13,14 @@ use Rattle.gn_threads.proofs.runs.run.Goals as goal
 
 pub returns-in_err-split-clause-bad_workers : goal.returns-in_err-split-clause-bad_workers
 returns-in_err-split-clause-bad_workers g c =
-    let within : IsWithin c.args.workers 16 = search rules in
+    let within : IsCrew c.args.workers = search rules in
     handed_on _ c.from_residual.result _ c.from_residual.ensures.1 (λ is. absurd (not_bad_workers _ c.args.workers _ (split_is_fault _ c.args.workers _ c.in_err-split.ensures.fault) is), λ not. absurd (not within))
 
 pub returns-in_err-split-clause-fault : goal.returns-in_err-split-clause-fault
 returns-in_err-split-clause-fault g c = handed_on _ c.from_residual.result _ c.from_residual.ensures.1 (λ within. split_is_fault _ c.args.workers _ c.in_err-split.ensures.fault)
 
 pub returns-clause-fault : goal.returns-clause-fault
-returns-clause-fault g c = subst (λ n. IfErr c.run_arriving.result (λ fault. IsWithin c.args.workers 16 → IsFaultOf n c.args.workers fault)) (ap length (c.as_slice.ensures.value ∙ c.in_ok-split.ensures.roles) ∙ length-map c.args.links.items g.K.Link.role_of) c.run_arriving.ensures.fault
+returns-clause-fault g c = subst (λ n. IfErr c.run_arriving.result (λ fault. IsCrew c.args.workers → IsFaultOf n c.args.workers fault)) (ap length (c.as_slice.ensures.value ∙ c.in_ok-split.ensures.roles) ∙ length-map c.args.links.items g.K.Link.role_of) c.run_arriving.ensures.fault
 
 pub returns-clause-each : goal.returns-clause-each
 returns-clause-each g c = subst (λ n. IfOk c.run_arriving.result (λ report. (length report.links.items ≡ n) × (length report.workers.items ≡ c.args.workers))) (ap length (c.as_slice.ensures.value ∙ c.in_ok-split.ensures.roles) ∙ length-map c.args.links.items g.K.Link.role_of) c.run_arriving.ensures.each

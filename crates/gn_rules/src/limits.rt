@@ -1,0 +1,36 @@
+//! The numbers of a configuration, their limits, and those of a run.
+
+/// The numbers of a router.
+#[derive(Clone, Copy, Debug, PartialEq, Eq)]
+pub struct Numbers {
+    /// Live connections at once.
+    pub neighbours: u32,
+    /// Descriptors that are remembered.
+    pub seen: u32,
+    /// Servents whose route is remembered.
+    pub servents: u32,
+    /// Descriptors in flight at once.
+    pub stage: u32,
+    /// Packets that wait for one connection.
+    pub out: u32,
+    /// Steps of a history.
+    pub steps: u32,
+}
+
+impl Numbers {
+    /// The greatest that each may be.
+    pub const MOST: Numbers = Numbers {
+        neighbours: 64,
+        seen: 65_536,
+        servents: 65_536,
+        stage: 4_096,
+        out: 4_096,
+        steps: 1_000_000,
+    };
+}
+
+/// The most links of a run or of a capture.
+pub const MOST_LINKS: usize = 256;
+
+/// The most workers of a run.
+pub const MOST_WORKERS: u32 = 16;
