@@ -22,6 +22,7 @@ use Rattle.gn_run.specs.declared.report.LinkReport.{LinkReport}
 use Rattle.gn_run.specs.declared.report.Report.{Report}
 use Rattle.gn_run.specs.Actors.{actors}
 use Rattle.gn_run.specs.Ends.{is_last_close, is_writer_end}
+use Rattle.gn_run.proofs.ConnLemmas.{conn_is_known}
 use Rattle.gn_run.specs.Flaw.{HouseConfirmed, IsConfirmed, ReaderConfirmed, TookAll, WorkerConfirmed, WriterConfirmed}
 
 pub match_true : {P : Type 0} (Q : Type 0) (b : Bool) → b ≡ true → MatchBool b P Q → P
@@ -98,10 +99,10 @@ routes_only {Rd} {W} {A} settled roles report all a past =
 conns_of : {Rd W A : Type 0} → Report Rd W A → List (Option ℕ)
 conns_of report = map (λ link. link.conn) report.links.items
 
--- a report without a flaw is compared as the laws of owners ask it
-pub compared : {Rd W A : Type 0} (settled : ℕ → Bool) (roles : List Role) (report : Report Rd W A) → AllConfirmed settled roles report
+-- in a legal history a report without a flaw is compared as the laws of owners ask it
+pub compared : {Rd W A : Type 0} (s : Config) (settled : ℕ → Bool) (roles : List Role) (report : Report Rd W A) → IsLegal s (reverse report.history.items) → AllConfirmed settled roles report
     → AreCompared report.history.items (map (λ link. link.conn) report.links.items)
-compared {Rd} {W} {A} settled roles report all =
+compared {Rd} {W} {A} s settled roles report legal all =
     let links = report.links.items in
     let steps = report.history.items in
     let conns : List (Option ℕ) = map (λ (link : LinkReport Rd W A). link.conn) links in
@@ -112,7 +113,7 @@ compared {Rd} {W} {A} settled roles report all =
     record {
       connected = λ k below.
           let reader = reader_at settled roles report all k Plain (some k below) (omega (arith, many, below)) in
-          conn k below ∙ reader.conn ∙ ap known_conn reader.own;
+          conn k below ∙ reader.conn ∙ conn_is_known s steps k (get_or links k (some k below)).reader_receipts.items legal reader.own ∙ ap known_conn reader.own;
       readers = λ k below.
           let reader = reader_at settled roles report all k Plain (some k below) (omega (arith, many, below)) in
           subst (λ o. list_all (λ (r : Receipt A). is_readers o r.event) (mine steps k) ≡ true) (sym (conn k below))
@@ -142,7 +143,7 @@ took_all {Rd} {W} {A} s settled roles report legal all k below d c drained is =
     let conns : List (Option ℕ) = map (λ (l : LinkReport Rd W A). l.conn) links in
     let many : length conns ≡ length links = length-map links (λ (l : LinkReport Rd W A). l.conn) in
     let conn : get_or conns k None ≡ Some c = get_or-map (λ (l : LinkReport Rd W A). l.conn) links k d None below ∙ is in
-    let known = links_agree A s steps conns k c legal (compared settled roles report all) (omega (arith, many, below)) conn in
+    let known = links_agree A s steps conns k c legal (compared s settled roles report legal all) (omega (arith, many, below)) conn in
     let at : length conns + k ≡ length links + k = omega (arith, many) in
     let own : mine steps (length conns + k) ≡ link.writer_receipts.items = ap (mine steps) at ∙ sym writer.own in
     let end : is_writer_end settled roles steps (length links + k) (get_or roles k Plain) link.writer_receipts.items Drained (Some c) ≡ true =

@@ -1,6 +1,7 @@
 pub mod ReceiptLemmas
-pub mod FlawLemmas
+pub mod RouteLemmas
 pub mod OwnLemmas
 pub mod SurveyLemmas
+pub mod ConnLemmas
 pub mod ConfirmedLemmas
 pub mod PlaceLemmas

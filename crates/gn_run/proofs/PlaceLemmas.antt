@@ -10,7 +10,7 @@ use Rattle.gn_shake.specs.declared.role.Role.{Role}
 use Rattle.gn_shake.specs.Roles.{is_calling}
 use Rattle.gn_run.specs.declared.report.LinkReport.{LinkReport}
 use Rattle.gn_run.specs.declared.report.Report.{Report}
-use Rattle.gn_run.specs.Ends.{is_balanced}
+use Rattle.gn_run.specs.Ends.{is_settled}
 use Rattle.gn_run.specs.Flaw.{HouseConfirmed, IsConfirmed, ReaderConfirmed, WorkerConfirmed, WriterConfirmed}
 use Rattle.gn_run.proofs.ConfirmedLemmas.{match_false, match_true}
 
@@ -102,9 +102,9 @@ worker_is {Rd} {W} {A} settled roles report P a i steps receipts worker both the
         (subst (λ j. WorkerConfirmed report.history.items a (get_or report.workers.items j worker).items) (sym index) h)))
 
 pub house_is : {Rd W A : Type 0} (roles : List Role) (report : Report Rd W A) (P : Type 0) (a : ℕ) (steps : List (Step A)) (receipts : List (Receipt A))
-    → (P → HouseConfirmed (is_balanced steps) steps a receipts) × (HouseConfirmed (is_balanced steps) steps a receipts → P)
+    → (P → HouseConfirmed (is_settled steps) steps a receipts) × (HouseConfirmed (is_settled steps) steps a receipts → P)
     → steps ≡ report.history.items → receipts ≡ report.house.items → length report.links.items + length report.links.items + length report.workers.items ≤ a
-    → (P → IsConfirmed (is_balanced report.history.items) roles report a) × (IsConfirmed (is_balanced report.history.items) roles report a → P)
+    → (P → IsConfirmed (is_settled report.history.items) roles report a) × (IsConfirmed (is_settled report.history.items) roles report a → P)
 house_is {Rd} {W} {A} roles report P a steps receipts both these all high =
     let n = length report.links.items in
     let m = n + n + length report.workers.items in (
@@ -114,8 +114,8 @@ house_is {Rd} {W} {A} roles report P a steps receipts both these all high =
           (match_false _ (nat_lt a (n + n)) (le-ltb a (n + n) (omega (arith, high))) (match_false _ (nat_lt a n) (le-ltb a n (omega (arith, high))) h))))),
     )
   where
-    on : HouseConfirmed (is_balanced steps) steps a receipts → HouseConfirmed (is_balanced report.history.items) report.history.items a report.house.items
-    on h = subst (λ x. HouseConfirmed (is_balanced report.history.items) report.history.items a x) all (subst (λ x. HouseConfirmed (is_balanced x) x a receipts) these h)
+    on : HouseConfirmed (is_settled steps) steps a receipts → HouseConfirmed (is_settled report.history.items) report.history.items a report.house.items
+    on h = subst (λ x. HouseConfirmed (is_settled report.history.items) report.history.items a x) all (subst (λ x. HouseConfirmed (is_settled x) x a receipts) these h)
 
-    back : HouseConfirmed (is_balanced report.history.items) report.history.items a report.house.items → HouseConfirmed (is_balanced steps) steps a receipts
-    back h = subst (λ x. HouseConfirmed (is_balanced x) x a receipts) (sym these) (subst (λ x. HouseConfirmed (is_balanced report.history.items) report.history.items a x) (sym all) h)
+    back : HouseConfirmed (is_settled report.history.items) report.history.items a report.house.items → HouseConfirmed (is_settled steps) steps a receipts
+    back h = subst (λ x. HouseConfirmed (is_settled x) x a receipts) (sym these) (subst (λ x. HouseConfirmed (is_settled report.history.items) report.history.items a x) (sym all) h)

@@ -7,33 +7,12 @@ use Rattle.std.proofs.lemmas.Grind.{common_steps}
 use Rattle.std.proofs.lemmas.List.{get_or_default}
 use Rattle.gn_rules.specs.declared.receipt.Step.{Step}
 use Rattle.gn_shake.specs.declared.role.Role.{Role}
-use Rattle.gn_laws.specs.Tickets.{admitted, routed}
 use Rattle.gn_run.specs.declared.report.LinkReport.{LinkReport}
 use Rattle.gn_run.specs.Actors.{is_awaited}
-use Rattle.gn_run.specs.Ends.{is_balanced}
+use Rattle.gn_run.specs.Ends.{is_settled}
 use Rattle.gn_run.specs.Survey.{AreSettled, IsDrainsCloseAt, IsReadUntil, is_drains_close}
 
--- a step that isn't unsettled: where it is the Close of a drained writer, the counts before it are equal
-settled_here : (drains : Bool) (admissions routes : ℕ) → (drains && not (admissions == routes)) ≡ false → drains ≡ true → (admissions == routes) ≡ true
-settled_here true admissions routes e is = grind (arith, common_steps, e)
-settled_here false admissions routes e is = cc
-
-pub settled_on : {Rd W A : Type 0} (links : List (LinkReport Rd W A)) (steps : List (Step A)) (n admissions routes : ℕ) (step : Step A) → n < length steps → step ≡ get_or steps n step
-    → admissions ≡ admitted (take n steps) → routes ≡ routed (take n steps) → (is_drains_close links step && not (admissions == routes)) ≡ false
-    → ((k : ℕ) (d : Step A) → k < n → is_drains_close links (get_or steps k d) ≡ true → is_balanced steps k ≡ true)
-    → (k : ℕ) (d : Step A) → k < n + 1 → is_drains_close links (get_or steps k d) ≡ true → is_balanced steps k ≡ true
-settled_on links steps n admissions routes step below is admits moves settled before k d under drains =
-    elim (cases_lt k n) as (λ x. is_balanced steps k ≡ true) [
-      | inl low ↦ before k d low drains
-      | inr last ↦
-          let at : n ≡ k = omega (arith, last, under) in
-          let same : get_or steps k d ≡ step = ap (λ i. get_or steps i d) (sym at) ∙ get_or_default steps n d step below ∙ sym is in
-          let equal : admissions ≡ routes = eqb-true admissions routes (settled_here (is_drains_close links step) admissions routes settled (subst (λ x. is_drains_close links x ≡ true) same drains)) in
-          let there : admitted (take n steps) ≡ routed (take n steps) = sym admits ∙ equal ∙ moves in
-          subst (λ i. is_balanced steps i ≡ true) at (eq-eqb (admitted (take n steps)) (routed (take n steps)) there)
-    ]
-
-pub settled_there : {Rd W A : Type 0} (links : List (LinkReport Rd W A)) (steps : List (Step A)) (k : ℕ) → AreSettled links steps → IsDrainsCloseAt links steps k → is_balanced steps k ≡ true
+pub settled_there : {Rd W A : Type 0} (links : List (LinkReport Rd W A)) (steps : List (Step A)) (k : ℕ) → AreSettled links steps → IsDrainsCloseAt links steps k → is_settled steps k ≡ true
 settled_there links [] k settled at = absurd (omega (arith, at.within))
 settled_there links (step ∷ steps) k settled at = settled k step at.within (at.is step)
 

@@ -3,6 +3,7 @@
 -- Here `steps` is a history in order, `own` are the receipts of the body, and `writer` is the number of the link's writer.
 use Rattle.std.specs.Prelude.{ℕ, Bool, true, false, ◌==◌, ◌&&◌, ◌||◌, not, List, [], ◌∷◌, drop, length, reverse, take, Option, Some, None}
 use Rattle.std.specs.List.{list_all, list_any}
+use Rattle.std.specs.Option.{option_or}
 use Rattle.gn_rules.specs.declared.event.Event.{Event}
 use Rattle.gn_rules.specs.declared.event.Event.TheVariants.{Connect}
 use Rattle.gn_rules.specs.declared.receipt.Receipt.{Receipt}
@@ -10,7 +11,7 @@ use Rattle.gn_rules.specs.declared.receipt.Step.{Step}
 use Rattle.gn_rules.specs.declared.reply.Reply.{Reply}
 use Rattle.gn_rules.specs.declared.reply.Reply.TheVariants.{TooMany}
 use Rattle.gn_rules.specs.Flight.{flying}
-use Rattle.gn_rules.specs.History.{is_at, is_close}
+use Rattle.gn_rules.specs.History.{connected_of, is_at, is_close}
 use Rattle.gn_shake.specs.declared.role.Role.{Role}
 use Rattle.gn_shake.specs.Roles.{is_calling}
 use Rattle.gn_bodies.specs.declared.ends.ReaderEnd.{ReaderEnd}
@@ -18,7 +19,6 @@ use Rattle.gn_bodies.specs.declared.ends.ReaderEnd.TheVariants as reader
 use Rattle.gn_bodies.specs.declared.ends.WriterEnd.{WriterEnd}
 use Rattle.gn_bodies.specs.declared.ends.WriterEnd.TheVariants.{Drained, WriteFailed, Closed, NeverOpened}
 use Rattle.gn_rules.specs.History.{closed_of}
-use Rattle.gn_laws.specs.Tickets.{admitted, routed}
 use Rattle.gn_run.specs.Actors.{is_awaited}
 use Rattle.gn_run.specs.declared.closes.Closer.TheVariants.{Anyone, Actor, Except}
 use Rattle.gn_run.specs.Closes.{has_close}
@@ -27,14 +27,20 @@ use Rattle.gn_run.specs.Closes.{has_close}
 abbrev pub is_settled : {A : Type 0} → List (Step A) → ℕ → Bool
 is_settled steps k = length (flying (reverse (take k steps))) == 0
 
--- whether as many of the first k steps are replied Admitted as are a Route: in a legal history nothing is in flight after them
-abbrev pub is_balanced : {A : Type 0} → List (Step A) → ℕ → Bool
-is_balanced steps k = admitted (take k steps) == routed (take k steps)
-
 -- whether an event is Connect
 abbrev pub is_connect : {A : Type 0} → Event A → Bool
 is_connect Connect = true
 is_connect event = false
+
+-- the connection that an event made by its reply: a Connect, where it was replied Connected
+abbrev pub made_by : {A : Type 0} → Event A → Reply A → Option ℕ
+made_by Connect reply = connected_of reply
+made_by event reply = None
+
+-- the first connection that receipts made
+abbrev pub conn_made : {A : Type 0} → List (Receipt A) → Option ℕ
+conn_made [] = None
+conn_made (r ∷ receipts) = option_or (made_by r.event r.reply) (conn_made receipts)
 
 -- whether a reply is TooMany
 abbrev pub is_too_many : {A : Type 0} → Reply A → Bool

@@ -9,18 +9,18 @@ use Rattle.gn_shake.specs.declared.role.Role.{Role}
 use Rattle.gn_shake.specs.Roles.{is_calling}
 use Rattle.gn_bodies.specs.declared.ends.WriterEnd.TheVariants.{Drained}
 use Rattle.gn_rules.specs.Mine.{mine}
-use Rattle.gn_laws.specs.Owners.{is_readers, is_writers, packets_of, known_conn}
+use Rattle.gn_laws.specs.Owners.{is_readers, is_writers, packets_of}
 use Rattle.gn_run.specs.declared.report.LinkReport.{LinkReport}
 use Rattle.gn_run.specs.declared.report.Report.{Report}
 use Rattle.gn_run.specs.Actors.{actors}
-use Rattle.gn_run.specs.Ends.{is_connect, is_reader_end, is_writer_end, may_close_first}
+use Rattle.gn_run.specs.Ends.{conn_made, is_connect, is_reader_end, is_writer_end, may_close_first}
 
 -- what is compared of the reader of link k, whose writer is actor `writer`
 pub record ReaderConfirmed {Rd W A : Type 0} (steps : List (Step A)) (all_call : Bool) (k writer : ℕ) (role : Role) (link : LinkReport Rd W A) : Type 0 where
   -- its receipts are its own steps
   pub own : link.reader_receipts.items ≡ mine steps k
-  -- the link's connection is the one that it got
-  pub conn : link.conn ≡ known_conn link.reader_receipts.items
+  -- the link's connection is the one that its Connect made
+  pub conn : link.conn ≡ conn_made link.reader_receipts.items
   -- its events are Connect, Admit and Close of the connection, and Route
   pub events : list_all (λ r. is_readers link.conn r.event) link.reader_receipts.items ≡ true
   -- it connected at most once

@@ -2,4 +2,5 @@ pub mod Actors
 pub mod Closes
 pub mod Ends
 pub mod Flaw
+pub mod Routes
 pub mod Survey

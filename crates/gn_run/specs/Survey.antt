@@ -12,7 +12,7 @@ use Rattle.gn_run.specs.declared.report.LinkReport.{LinkReport}
 use Rattle.gn_run.specs.declared.report.Report.{Report}
 use Rattle.gn_run.specs.declared.survey.Survey.{Survey}
 use Rattle.gn_run.specs.Actors.{AreOwn, is_awaited}
-use Rattle.gn_run.specs.Ends.{is_balanced}
+use Rattle.gn_run.specs.Ends.{is_settled}
 
 -- whether an event is a Close, of whatever connection
 abbrev pub is_any_close : {A : Type 0} → Event A → Bool
@@ -42,10 +42,10 @@ pub record IsDrainsCloseAt {Rd W A : Type 0} (links : List (LinkReport Rd W A)) 
   pub within : k < length steps
   pub is : (d : Step A) → is_drains_close links (slice_index_or steps k d) ≡ true
 
--- nothing is in flight at each Close by a writer that ended Drained, as far as admissions and routes are counted
+-- nothing is in flight at each Close by a writer that ended Drained
 abbrev pub AreSettled : {Rd W A : Type 0} → List (LinkReport Rd W A) → List (Step A) → Type 0
 AreSettled {Rd} {W} {A} links steps =
-    (k : ℕ) (d : Step A) → k < length steps → is_drains_close links (slice_index_or steps k d) ≡ true → is_balanced steps k ≡ true
+    (k : ℕ) (d : Step A) → k < length steps → is_drains_close links (slice_index_or steps k d) ≡ true → is_settled steps k ≡ true
 
 -- the last step of a reader that the run waits for is the n-th one; n is 0 where there is none
 pub record IsReadUntil {A : Type 0} (roles : List Role) (steps : List (Step A)) (n : ℕ) : Type 0 where
@@ -57,5 +57,6 @@ pub record IsReadUntil {A : Type 0} (roles : List Role) (steps : List (Step A)) 
 pub record IsSurvey {Rd W A : Type 0} (roles : List Role) (report : Report Rd W A) (survey : Survey) : Type 0 where
   pub own : survey.are_own ≡ true → AreOwn report
   pub calls : survey.all_call ≡ list_all is_calling roles
+  pub routed : survey.are_routed ≡ is_settled report.history.items (length report.history.items)
   pub settled : survey.are_settled ≡ true → AreSettled report.links.items report.history.items
   pub read : IsReadUntil roles report.history.items survey.read

@@ -15,7 +15,6 @@ use crate::events::{are_readers, are_routes, are_writers, conn_of, connects};
 use crate::own::are_own;
 use crate::report::{LinkReport, Report};
 use crate::survey::Survey;
-use gn_laws::all_routed;
 use gn_rules::{ConnId, Receipt, Step};
 use gn_shake::Role;
 use std::alloc::Allocator;
@@ -72,7 +71,7 @@ fn is_writer_confirmed<Rd, W, A: Allocator>(
     requires survey { IsSurvey roles.now report.now survey.now }
     requires own { survey.now.are_own ≡ true → link.now.writer_receipts.items ≡ mine report.now.history.items actor }
     ensures { IsTrue result
-        ↔ WriterConfirmed (ends.is_balanced report.now.history.items) roles.now report.now.history.items
+        ↔ WriterConfirmed (ends.is_settled report.now.history.items) roles.now report.now.history.items
         actor role link.now }
 {
     let own = link.writer_receipts.as_slice();
@@ -106,17 +105,18 @@ fn are_actors<A: Allocator>(steps: &[Step<A>], last: u32) -> bool
 /// Whether what is compared of the house is so.
 fn is_house_confirmed<A: Allocator>(
     steps: &[Step<A>],
-    known: bool,
+    survey: &Survey,
     actor: u32,
     receipts: &[Receipt<A>],
 ) -> bool
-    requires own { known ≡ true → receipts.now ≡ mine steps.now actor }
-    ensures { IsTrue result ↔ HouseConfirmed (ends.is_balanced steps.now) steps.now actor receipts.now }
+    requires own { survey.now.are_own ≡ true → receipts.now ≡ mine steps.now actor }
+    requires routed { survey.now.are_routed ≡ ends.is_settled steps.now (length steps.now) }
+    ensures { IsTrue result ↔ HouseConfirmed (ends.is_settled steps.now) steps.now actor receipts.now }
 {
-    is_own(known, steps, actor, receipts)
+    is_own(survey.are_own, steps, actor, receipts)
         && are_routes(receipts)
         && are_actors(steps, actor)
-        && all_routed(steps)
+        && survey.are_routed
 }
 
 impl<Rd, W, A: Allocator> Report<Rd, W, A> {
@@ -125,7 +125,7 @@ impl<Rd, W, A: Allocator> Report<Rd, W, A> {
         requires roles { length roles.now ≡ length self.now.links.items }
         requires survey { IsSurvey roles.now self.now survey.now }
         requires actor { actor < actors.actors self.now }
-        ensures { IsTrue result ↔ IsConfirmed (ends.is_balanced self.now.history.items) roles.now self.now actor }
+        ensures { IsTrue result ↔ IsConfirmed (ends.is_settled self.now.history.items) roles.now self.now actor }
     {
         let n = self.links.len();
         let place = actor as usize;
@@ -156,14 +156,14 @@ impl<Rd, W, A: Allocator> Report<Rd, W, A> {
                 self.workers[place - (n + n)].as_slice(),
             )
         } else {
-            is_house_confirmed(steps, survey.are_own, actor, self.house.as_slice())
+            is_house_confirmed(steps, survey, actor, self.house.as_slice())
         }
     }
 
     /// The least actor that isn't confirmed.
     fn least_flaw(&self, roles: &[Role]) -> Option<u32>
         requires { length roles.now ≡ length self.now.links.items }
-        ensures { IsFlaw (ends.is_balanced self.now.history.items) roles.now self.now result }
+        ensures { IsFlaw (ends.is_settled self.now.history.items) roles.now self.now result }
     {
         let survey = self.survey(roles);
         for actor in 0..self.actors() {
@@ -179,13 +179,11 @@ impl<Rd, W, A: Allocator> Report<Rd, W, A> {
     /// link's other body. `None` where all of it holds of each actor. A step of an actor that the run doesn't have, and
     /// an admitted ticket that isn't routed, is charged to the house. One role for each link.
     ///
-    /// Takes no memory. Where there is no flaw, each receipt and each step is looked at a few times, however many actors
-    /// there are.
+    /// Takes no memory. Where there is no flaw, and tickets are routed nearly in the order in which they were admitted, each
+    /// receipt and each step is looked at a few times, however many actors there are.
     pub fn flaw(&self, roles: &[Role]) -> Option<u32>
         requires { length roles.now ≡ length self.now.links.items }
-        ensures counted { IsFlaw (ends.is_balanced self.now.history.items) roles.now self.now result }
-        ensures legal { (s : Config) → IsLegal s (reverse self.now.history.items)
-            → IsFlaw (ends.is_settled self.now.history.items) roles.now self.now result }
+        ensures flaw { IsFlaw (ends.is_settled self.now.history.items) roles.now self.now result }
         ensures drained { (s : Config) (k : ℕ) → IsLegal s (reverse self.now.history.items) → result ≡ None
             → k < length self.now.links.items → TookAll self.now k }
     {

@@ -88,7 +88,7 @@ fn is_last_close<Rd, W, A: Allocator>(
 ) -> bool
     requires { IsSurvey roles.now report.now survey.now }
     ensures { result
-        ≡ ends.is_last_close (ends.is_balanced report.now.history.items) roles.now report.now.history.items
+        ≡ ends.is_last_close (ends.is_settled report.now.history.items) roles.now report.now.history.items
         c receipt.now }
 {
     receipt.event.closes(c)
@@ -112,7 +112,7 @@ fn has_last_close<Rd, W, A: Allocator>(
     requires { IsSurvey roles.now report.now survey.now }
     ensures { result
         ≡ list_any
-        (λ r. ends.is_last_close (ends.is_balanced report.now.history.items) roles.now report.now.history.items c r)
+        (λ r. ends.is_last_close (ends.is_settled report.now.history.items) roles.now report.now.history.items c r)
         own.now }
 {
     for receipt in own {
@@ -142,7 +142,7 @@ fn is_open_end<Rd, W, A: Allocator>(
 ) -> bool
     requires { IsSurvey roles.now report.now survey.now }
     ensures { result
-        ≡ ends.is_writer_end (ends.is_balanced report.now.history.items) roles.now report.now.history.items
+        ≡ ends.is_writer_end (ends.is_settled report.now.history.items) roles.now report.now.history.items
         writer role link.now.writer_receipts.items link.now.writer_end (Some c) }
 {
     let steps = report.history.as_slice();
@@ -181,7 +181,7 @@ pub fn is_writer_end<Rd, W, A: Allocator>(
 ) -> bool
     requires { IsSurvey roles.now report.now survey.now }
     ensures { result
-        ≡ ends.is_writer_end (ends.is_balanced report.now.history.items) roles.now report.now.history.items
+        ≡ ends.is_writer_end (ends.is_settled report.now.history.items) roles.now report.now.history.items
         writer role link.now.writer_receipts.items link.now.writer_end link.now.conn }
 {
     match link.conn {

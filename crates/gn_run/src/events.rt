@@ -3,7 +3,7 @@
 ghost use Rattle.std.specs.Prelude.{◌≡◌, is_some, true};
 ghost use Rattle.std.specs.List.{count_by, list_all, list_any};
 ghost use Rattle.gn_rules.specs.History.{is_at, is_close, ticket_of};
-ghost use Rattle.gn_laws.specs.Owners.{is_readers, is_writers, known_conn};
+ghost use Rattle.gn_laws.specs.Owners.{is_readers, is_writers};
 ghost use Rattle.gn_rules.specs.History.{closed_of};
 ghost use Rattle.gn_run.specs.Ends as ends;
 
@@ -80,12 +80,22 @@ pub fn is_turned_away<A: Allocator>(receipts: &[Receipt<A>]) -> bool
     }
 }
 
-/// The connection of the first reply Connected.
+/// The connection that an event made by its reply.
+fn made_by<A: Allocator>(event: &Event<A>, reply: &Reply<A>) -> Option<ConnId>
+    ensures { result ≡ ends.made_by event.now reply.now }
+{
+    match event {
+        Event::Connect => reply.connected(),
+        _ => None,
+    }
+}
+
+/// The connection of the first Connect that was replied Connected.
 pub fn conn_of<A: Allocator>(receipts: &[Receipt<A>]) -> Option<ConnId>
-    ensures { result ≡ known_conn receipts.now }
+    ensures { result ≡ ends.conn_made receipts.now }
 {
     for r in receipts {
-        if let Some(c) = r.reply.connected() {
+        if let Some(c) = made_by(&r.event, &r.reply) {
             return Some(c);
         }
     }

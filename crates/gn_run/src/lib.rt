@@ -7,6 +7,7 @@ mod ends;
 mod events;
 mod own;
 mod report;
+mod routes;
 mod survey;
 
 pub use events::conn_of;

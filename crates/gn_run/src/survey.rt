@@ -1,8 +1,7 @@
 //! One look at a whole report, so that no actor's comparison walks over the history.
 
-ghost use Rattle.std.specs.Prelude.{◌≡◌, ◌==◌, ◌&&◌, if◌then◌else◌, not, true, drop, is_some};
+ghost use Rattle.std.specs.Prelude.{◌≡◌, not, true, drop};
 ghost use Rattle.std.specs.List.{list_all};
-ghost use Rattle.gn_rules.specs.History.{admitted_of, ticket_of};
 ghost use Rattle.gn_shake.specs.Roles.{is_calling};
 ghost use Rattle.gn_run.specs.Actors as actors;
 ghost use Rattle.gn_run.specs.Ends as ends;
@@ -10,8 +9,8 @@ ghost use Rattle.gn_run.specs.Survey.{AreSettled, IsDrainsCloseAt, IsReadUntil, 
 ghost use Rattle.gn_run.specs.Survey as found;
 
 use crate::report::{LinkReport, Report};
+use crate::routes::routes_in;
 use gn_bodies::WriterEnd;
-use gn_laws::all_routed;
 use gn_rules::{Event, Step};
 use gn_shake::Role;
 use std::alloc::Allocator;
@@ -23,6 +22,8 @@ pub struct Survey {
     pub are_own: bool,
     /// All links call.
     pub all_call: bool,
+    /// Each admitted ticket is routed.
+    pub are_routed: bool,
     /// Nothing is in flight at each Close by a writer that ended Drained. Where this is false, each such Close is looked
     /// at by itself.
     pub are_settled: bool,
@@ -92,7 +93,7 @@ fn is_drained_writer<Rd, W, A: Allocator>(links: &[LinkReport<Rd, W, A>], actor:
 }
 
 /// Whether a step is a Close by the writer of a link, where that ended Drained.
-fn is_drains_close<Rd, W, A: Allocator>(links: &[LinkReport<Rd, W, A>], step: &Step<A>) -> bool
+pub fn is_drains_close<Rd, W, A: Allocator>(links: &[LinkReport<Rd, W, A>], step: &Step<A>) -> bool
     ensures { result ≡ found.is_drains_close links.now step.now }
 {
     is_any_close(&step.event) && is_drained_writer(links, step.actor)
@@ -110,63 +111,25 @@ fn is_drains_close_at<Rd, W, A: Allocator>(
     place < steps.len() && is_drains_close(links, &steps[place])
 }
 
-/// How many admissions a step is: one, where it is replied Admitted.
-fn admissions_of<A: Allocator>(step: &Step<A>) -> usize
-    ensures { result ≡ (if is_some (admitted_of step.now.reply) then 1 else 0) }
-{
-    usize::from(step.reply.admitted().is_some())
-}
-
-/// How many routes a step is: one, where it is a Route.
-fn routes_of<A: Allocator>(step: &Step<A>) -> usize
-    ensures { result ≡ (if is_some (ticket_of step.now.event) then 1 else 0) }
-{
-    usize::from(step.event.ticket().is_some())
-}
-
-/// Whether a step is one, and before it there were more admissions than routes, or fewer.
-fn is_unsettled<Rd, W, A: Allocator>(
+/// Whether nothing is in flight after the first k steps.
+fn is_settled<Rd, W, A: Allocator>(
     links: &[LinkReport<Rd, W, A>],
-    step: &Step<A>,
-    admissions: usize,
-    routes: usize,
+    steps: &[Step<A>],
+    k: u32,
 ) -> bool
-    ensures { result ≡ (found.is_drains_close links.now step.now && not (admissions == routes)) }
-{
-    is_drains_close(links, step) && admissions != routes
-}
-
-/// Whether nothing is in flight at each Close by a writer that ended Drained, as admissions and routes are counted.
-fn are_settled<Rd, W, A: Allocator>(links: &[LinkReport<Rd, W, A>], steps: &[Step<A>]) -> bool
-    ensures { result ≡ true → AreSettled links.now steps.now }
-{
-    let mut admissions = 0usize;
-    let mut routes = 0usize;
-    for step in steps {
-        if is_unsettled(links, step, admissions, routes) {
-            return false;
-        }
-        admissions += admissions_of(step);
-        routes += routes_of(step);
-    }
-    true
-}
-
-/// Whether as many of the first k steps are replied Admitted as are a Route.
-fn is_balanced<A: Allocator>(steps: &[Step<A>], k: u32) -> bool
-    ensures { result ≡ ends.is_balanced steps.now k }
+    ensures { result ≡ ends.is_settled steps.now k }
 {
     let place = k as usize;
     if place < steps.len() {
-        all_routed(&steps[..place])
+        routes_in(links, &steps[..place]).are_all
     } else {
-        all_routed(steps)
+        routes_in(links, steps).are_all
     }
 }
 
 impl Survey {
-    /// Whether nothing is in flight after the first k steps, as admissions and routes are counted. They are counted only
-    /// where the step there isn't the Close of a writer that ended Drained, or one such Close isn't settled.
+    /// Whether nothing is in flight after the first k steps. Their routes are looked for only where the step there isn't the
+    /// Close of a writer that ended Drained, or the look at the whole report didn't find each such Close settled.
     pub fn is_settled_at<Rd, W, A: Allocator>(
         &self,
         links: &[LinkReport<Rd, W, A>],
@@ -174,12 +137,12 @@ impl Survey {
         k: u32,
     ) -> bool
         requires { self.now.are_settled ≡ true → AreSettled links.now steps.now }
-        ensures { result ≡ ends.is_balanced steps.now k }
+        ensures { result ≡ ends.is_settled steps.now k }
     {
         if self.are_settled && is_drains_close_at(links, steps, k) {
             return true;
         }
-        is_balanced(steps, k)
+        is_settled(links, steps, k)
     }
 
     /// Whether each step of a reader that the run waits for stands before this place.
@@ -197,10 +160,12 @@ impl<Rd, W, A: Allocator> Report<Rd, W, A> {
         ensures { IsSurvey roles.now self.now result }
     {
         let all_call = do_all_call(roles);
+        let routes = routes_in(self.links.as_slice(), self.history.as_slice());
         Survey {
             are_own: self.are_all_own(),
             all_call,
-            are_settled: are_settled(self.links.as_slice(), self.history.as_slice()),
+            are_routed: routes.are_all,
+            are_settled: routes.are_settled,
             read: read_until(roles, all_call, self.history.as_slice()),
         }
     }

@@ -19,14 +19,15 @@ use Rattle.gn_links.specs.Halves.{Source}
 use Rattle.gn_bodies.specs.ReaderRows.{SourceRow}
 use Rattle.gn_bodies.specs.Events.{link_events_in}
 use Rattle.gn_laws.specs.Owners.{LinkAgrees, packets_of, known_conn}
-use Rattle.gn_laws.specs.Tickets.{admitted, routed}
+use Rattle.gn_rules.specs.Flight.{flying}
 use Rattle.gn_laws.proofs.OwnerLemmas.{links_agree}
-use Rattle.gn_laws.proofs.RunLemmas.{equal_counts_route_all}
+use Rattle.gn_laws.proofs.RunLemmas.{settled_routes_all}
 use Rattle.gn_run.specs.declared.report.LinkReport.{LinkReport}
 use Rattle.gn_run.specs.declared.report.Report.{Report}
 use Rattle.gn_run.specs.Actors.{actors}
-use Rattle.gn_run.specs.Ends.{is_balanced, is_settled}
+use Rattle.gn_run.specs.Ends.{is_settled}
 use Rattle.gn_run.specs.Flaw.{IsFlaw}
+use Rattle.gn_run.proofs.ConnLemmas.{conn_is_known}
 use Rattle.gn_run.proofs.ConfirmedLemmas.{compared, house_at, reader_at, took_all, worker_at, writer_at}
 use Rattle.gn_links.specs.Views.{WrittenHalf, ReadHalf}
 use Rattle.gn_threads.specs.Halves.{Half, ReadsAs, WritesAs}
@@ -61,13 +62,13 @@ others_route roles report all = record {
 }
 
 -- each admitted ticket is routed once
-pub routes_each_once : {Rd W A : Type 0} (s : Config) (roles : List Role) (report : Report Rd W A) → IsLegal s (reverse report.history.items) → IsFlaw (is_balanced report.history.items) roles report None
+pub routes_each_once : {Rd W A : Type 0} (s : Config) (roles : List Role) (report : Report Rd W A) → IsLegal s (reverse report.history.items) → IsFlaw (is_settled report.history.items) roles report None
     → RoutesEachOnce report
 routes_each_once {Rd} {W} {A} s roles report legal all =
     let steps = report.history.items in
-    let house = house_at (is_balanced steps) roles report all in
-    let counts : admitted (take (length steps) steps) ≡ routed (take (length steps) steps) = eqb-true (admitted (take (length steps) steps)) (routed (take (length steps) steps)) house.tickets in
-    equal_counts_route_all A s steps legal (subst (λ (x : List (Step A)). admitted x ≡ routed x) (take-length steps) counts)
+    let house = house_at (is_settled steps) roles report all in
+    let none : length (flying (reverse (take (length steps) steps))) ≡ 0 = eqb-true (length (flying (reverse (take (length steps) steps)))) 0 house.tickets in
+    settled_routes_all A s steps legal (subst (λ (x : List (Step A)). length (flying (reverse x)) ≡ 0) (take-length steps) none)
 
 -- what the reader of a link kept, in the words of its report
 read_holds : {Rd W A : Type 0} (reads : Rd → ReadHalf) (roles : List Role) (links : List (LinkReport Rd W A)) → EachKeeps ReaderKeeps roles (map (λ l. halved reads (reader_reported l)) links)
@@ -102,7 +103,7 @@ link_agrees {Rd} {W} {A} s settled roles report legal all k link c below is =
     let conns : List (Option ℕ) = map (λ (l : LinkReport Rd W A). l.conn) links in
     let many : length conns ≡ length links = length-map links (λ (l : LinkReport Rd W A). l.conn) in
     let conn : get_or conns k None ≡ Some c = get_or-map (λ (l : LinkReport Rd W A). l.conn) links k link None below ∙ is in
-    let agrees = links_agree A s report.history.items conns k c legal (compared settled roles report all) (omega (arith, many, below)) conn in
+    let agrees = links_agree A s report.history.items conns k c legal (compared s settled roles report legal all) (omega (arith, many, below)) conn in
     let at : length conns + k ≡ length links + k = omega (arith, many) in
     subst (λ w. LinkAgrees report.history.items k w c) at agrees
 
@@ -115,7 +116,7 @@ links_hold {Rd} {W} {A} s reads writes roles report legal all readers writers = 
     let settled = is_settled report.history.items in
     let reader = reader_at settled roles report all k role link below in
     record {
-      read = read_holds reads roles report.links.items readers k role link below reader.conn;
+      read = read_holds reads roles report.links.items readers k role link below (reader.conn ∙ conn_is_known s report.history.items k (get_or report.links.items k link).reader_receipts.items legal reader.own);
       reader = reader;
       written = written_holds writes roles report.links.items writers k role link below;
       writer = writer_at settled roles report all k role link below;

@@ -1,7 +1,7 @@
 use Rattle.std.proofs.Common.{◌≡◌, ◌<◌, ◌+◌, length, vec_len, sym, subst, arith}
 use Rattle.std.specs.Prelude.{IfSome}
 use Rattle.gn_run.specs.Actors.{actors}
-use Rattle.gn_run.specs.Ends.{is_balanced, is_settled}
+use Rattle.gn_run.specs.Ends.{is_settled}
 use Rattle.gn_run.specs.Flaw.{IsFlaw}
 use Rattle.gn_links.specs.Views.{reads_of, writes_of}
 use Rattle.gn_threads.proofs.FaultLemmas.{least_below}
@@ -15,16 +15,15 @@ returns-in-None-clause-holds g c =
     let it = c.args.report in
     let none = c.least.ensures.none c.in-None.is in
     let legal = c.requires.legal none.1 in
-    let counted = subst (λ found. IsFlaw (is_balanced it.history.items) roles it found) none.0 c.flaw-flaw.ensures.counted in
-    let settled = subst (λ found. IsFlaw (is_settled it.history.items) roles it found) none.0 (c.flaw-flaw.ensures.legal s legal) in
+    let settled = subst (λ found. IsFlaw (is_settled it.history.items) roles it found) none.0 c.flaw-flaw.ensures.flaw in
     record {
       legal = legal;
       counted = c.requires.counted;
-      own = own_steps (is_balanced it.history.items) roles it counted;
+      own = own_steps (is_settled it.history.items) roles it settled;
       each = sym c.requires.roles;
       links = links_hold s (reads_of g.Rd.LinkReader.is_known g.Rd.LinkReader.bytes_read g.Rd.LinkReader.failures g.Rd.LinkReader.pieces g.Rd.LinkReader.has_ended) (writes_of g.W.LinkWriter.is_known g.W.LinkWriter.bytes_written g.W.LinkWriter.failures g.W.LinkWriter.is_stuck g.W.LinkWriter.is_finished) roles it legal settled c.requires.readers c.requires.writers;
       others = others_route roles it settled;
-      routed = routes_each_once s roles it legal counted;
+      routed = routes_each_once s roles it legal settled;
       stats = c.requires.stats;
     }
 
@@ -35,6 +34,6 @@ pub returns-in-Some-clause-fault : goal.returns-in-Some-clause-fault
 returns-in-Some-clause-fault g c =
     let it = c.args.report in
     let all : length c.args.roles.now + length c.args.roles.now + vec_len it.workers + 1 ≡ actors it = omega (arith, c.requires.roles) in
-    let low = flaw_below (is_balanced it.history.items) c.args.roles.now it c.flaw-flaw.result c.flaw-flaw.ensures.counted in
+    let low = flaw_below (is_settled it.history.items) c.args.roles.now it c.flaw-flaw.result c.flaw-flaw.ensures.flaw in
     let high = subst (λ n. IfSome c.args.suspect (λ a. a < n)) all c.requires.suspect in
     subst (λ n. c.in-Some.actor < n) (sym all) (least_below c.flaw-flaw.result c.args.suspect c.in-Some.actor (actors it) low high c.in-Some.ensures.some)
