@@ -11,7 +11,7 @@ use std::test::Fail;
 use std::thread::Threads;
 
 /// Words, the status, and how the output and the written faults begin.
-const ANSWERS: [(&[&str], u8, &str, &str); 21] = [
+const ANSWERS: [(&[&str], u8, &str, &str); 19] = [
     (&["gn", "--version"], 0, "gn 0.1.0\n", ""),
     (&["gn", "--help"], 0, "Tineflax, a packet router", ""),
     (&["gn", "replay", "--help"], 0, "Reads a capture,", ""),
@@ -73,6 +73,14 @@ const ANSWERS: [(&[&str], u8, &str, &str); 21] = [
         "",
         "error: --peer takes IP:PORT, an address of this machine",
     ),
+];
+
+/// A port that is taken while a serve asks for it.
+const TAKEN: u16 = 26_349;
+
+/// Serves that nobody calls: the words, the status, and the whole output and faults. The ports below 32768 are never given to
+/// anybody who asks for any port.
+const SERVES: [(&[&str], u8, &str, &str); 3] = [
     (
         &[
             "gn",
@@ -92,14 +100,20 @@ const ANSWERS: [(&[&str], u8, &str, &str); 21] = [
         &[
             "gn",
             "serve",
-            "--port=46347",
+            "--port=26347",
             "--accept=0",
             "--workers=1",
-            "--peer=127.0.0.1:46348",
+            "--peer=127.0.0.1:26348",
         ],
         1,
         "",
-        "listening 46347\nfault: call 0\n",
+        "listening 26347\nfault: call 0\n",
+    ),
+    (
+        &["gn", "serve", "--port=26349", "--accept=0", "--workers=1"],
+        1,
+        "",
+        "fault: listen\n",
     ),
 ];
 
@@ -147,15 +161,15 @@ fn words(rt: HostRuntime) {
     }
 }
 
-/// A port that is taken already.
 #[test]
-fn port_that_isnt_had(rt: HostRuntime) -> Result<(), Fail> {
-    let _listener = listen(&rt, 46349).map_err(|_| "a listener")?;
-    let words = ["gn", "serve", "--port=46349", "--accept=0", "--workers=1"];
-    let (status, text, faults) = answer(&rt, &words, b"".as_slice(), Vec::new(rt.alloc()));
-    assert_eq!(rt; status, 1);
-    assert!(rt; text.is_empty());
-    assert_eq!(rt; faults.as_slice(), b"fault: listen\n".as_slice());
+fn nobody_calls(rt: HostRuntime) -> Result<(), Fail> {
+    let _listener = listen(&rt, TAKEN).map_err(|_| "a listener")?;
+    for (words, status, printed, faulted) in SERVES {
+        let (ended, text, faults) = answer(&rt, words, b"".as_slice(), Vec::new(rt.alloc()));
+        assert_eq!(rt; ended, status, "{words:?}");
+        assert_eq!(rt; text.as_slice(), printed.as_bytes());
+        assert_eq!(rt; faults.as_slice(), faulted.as_bytes());
+    }
     Ok(())
 }
 

@@ -1,7 +1,10 @@
--- The roles of a run's links, in an array that has room for more; and the links that are still to come.
-use Rattle.std.proofs.Common.{◌≡◌, ◌≤◌, ◌<◌, ◌+◌, ◌-◌, ◌++◌, ◌∷◌, ℕ, suc, List, [], length, take, set, replicate, ap, sym, ◌∙◌, arith}
+-- The roles of a run's links, in an array that has room for more; and where the links come from that are still to come.
+use Rattle.std.proofs.Common.{◌≡◌, ◌≤◌, ◌<◌, ◌+◌, ◌-◌, ◌++◌, ◌∷◌, ℕ, zero, suc, List, [], length, take, set, replicate, refl, ap, sym, ◌∙◌, arith}
+use Rattle.std.specs.List.{slice_get}
+use Rattle.std.specs.declared.net.socket_addr.SocketAddr.{SocketAddr}
 use Rattle.std.proofs.Math.Seq.{take-append-add}
 use Rattle.std.proofs.lemmas.List.{append_assoc, length-replicate, replicate_more, set_at, take-replicate}
+use Rattle.gn_serve.specs.Links.{origins_from}
 
 -- one place more of a row gets another value
 pub one_more : {X : Type 0} (c a : X) (k most : ℕ) → k < most → set (replicate k c ++ replicate (most - k) a) k c ≡ replicate (k + 1) c ++ replicate (most - (k + 1)) a
@@ -19,7 +22,11 @@ first_ones c a calls links most k xs is same few fits =
     ∙ take-append-add (replicate calls c) (replicate (most - calls) a) (links - calls) ∙ ap (λ ys. replicate calls c ++ ys) (take-replicate (links - calls) (most - calls) a (omega (arith, fits)))
 
 -- of some links that are to come one comes, and the others are left
-pub one_left : {X : Type 0} (x : X) (n : ℕ) → 0 < n → replicate n x ≡ x ∷ replicate (n - 1) x
-one_left x n some =
-    let more : n ≡ suc (n - 1) = omega (arith, some) in
-    ap (λ k. replicate k x) more
+pub one_left : (peers : List SocketAddr) (k next n left : ℕ) → next ≡ suc k → n ≡ suc left → origins_from peers k n ≡ record { link = k; called = slice_get peers k } ∷ origins_from peers next left
+one_left peers k next n left follows some =
+    ap (λ m. origins_from peers k m) some ∙ ap (λ m. record { link = k; called = slice_get peers k } ∷ origins_from peers m left) (sym follows)
+
+-- so many links come, of so many
+pub all_come : (peers : List SocketAddr) (k n : ℕ) → take n (origins_from peers k n) ≡ origins_from peers k n
+all_come peers k zero = refl
+all_come peers k (suc n) = ap (λ xs. record { link = k; called = slice_get peers k } ∷ xs) (all_come peers (suc k) n)

@@ -1,7 +1,8 @@
 //! Where the links of a run over TCP come from.
 
 ghost use Rattle.gn_rules.specs.Limits.{most_links};
-ghost use Rattle.std.specs.Prelude.{◌≡◌, ◌<◌, ◌≤◌, ◌++◌, ℕ, length, replicate, take, IfErr, IfOk};
+ghost use Rattle.std.specs.Prelude.{◌≡◌, ◌<◌, ◌≤◌, ℕ, length, take, IfErr, IfOk};
+ghost use Rattle.std.specs.List.{slice_get};
 ghost use Rattle.gn_shake.specs.declared.role.Role.TheVariants.{Accepting, Calling};
 ghost use Rattle.gn_threads.specs.Faults.{IsFaultOf};
 ghost use Rattle.gn_serve.specs.Links.{roles_of};
@@ -9,7 +10,7 @@ ghost use Rattle.gn_serve.specs.Links.{roles_of};
 use gn_links::Link;
 use gn_rules::MOST_LINKS;
 use gn_shake::Role;
-use gn_tcp::{TcpLink, TcpReader, TcpWriter};
+use gn_tcp::{TcpLink, TcpOrigin, TcpReader, TcpWriter};
 use gn_threads::{Arrivals, RunFault};
 use std::net::{Net, SocketAddr, TcpListener, TcpStream};
 use std::time::Duration;
@@ -20,6 +21,8 @@ pub(crate) struct Peers<'a, N> {
     pub net: &'a N,
     pub listener: &'a TcpListener,
     pub called: &'a [SocketAddr],
+    /// The number of the next link.
+    pub next: u32,
     /// How many links are still to come.
     pub left: u32,
     pub idle: Option<Duration>,
@@ -42,7 +45,8 @@ pub(crate) fn roles_of(calls: usize, links: usize) -> [Role; MOST_LINKS]
 impl<'a, N: Net<Listener = TcpListener, Stream = TcpStream>> Peers<'a, N> {
     /// Calls the peer of this link, or waits for one that calls.
     fn meet(&self, link: u32, role: Role) -> Result<TcpLink, RunFault>
-        ensures role { IfOk result (λ found. found ≡ role) }
+        ensures found { IfOk result (λ found. found ≡
+            record { role = role; origin = record { link = 0; called = slice_get self.now.called.now link } }) }
         ensures fault { IfErr result (λ fault. (links workers : ℕ) → link < links → IsFaultOf links workers fault) }
     {
         match (role, self.called.get(link as usize)) {
@@ -60,25 +64,29 @@ impl<'a, N: Net<Listener = TcpListener, Stream = TcpStream>> Peers<'a, N> {
 }
 
 impl<'a, N: Net<Listener = TcpListener, Stream = TcpStream>> Arrivals for Peers<'a, N> {
-    ghost use Rattle.std.specs.Prelude.{replicate};
+    ghost use Rattle.gn_serve.specs.Links.{origins_from};
 
-    type Origin = ();
+    type Origin = TcpOrigin;
 
     type Reader = TcpReader;
 
     type Writer = TcpWriter;
 
-    ghost coming = { λ peers. replicate peers.left tt };
+    ghost coming = { λ peers. origins_from peers.called.now peers.next peers.left };
 
     fn next(&mut self, link: u32, role: Role) -> Result<(TcpReader, TcpWriter), RunFault> {
-        if self.left == 0 {
-            return Err(RunFault::Link(link));
-        }
-        let found = self.meet(link, role)?;
-        let Ok(halves) = found.with_idle(self.idle).split() else {
+        let (Some(next), Some(left)) = (self.next.checked_add(1), self.left.checked_sub(1)) else {
             return Err(RunFault::Link(link));
         };
-        self.left -= 1;
+        if link != self.next {
+            return Err(RunFault::Link(link));
+        }
+        let found = self.meet(link, role)?.numbered(link).with_idle(self.idle);
+        let Ok(halves) = found.split() else {
+            return Err(RunFault::Link(link));
+        };
+        self.next = next;
+        self.left = left;
         Ok(halves)
     }
 }

@@ -5,6 +5,7 @@ ghost use Rattle.gn_rules.specs.Limits.{IsCrew, most_links};
 ghost use Rattle.gn_threads.specs.declared.fault.RunFault.TheVariants.{BadWorkers};
 ghost use Rattle.gn_threads.specs.Faults.{IsFaultOf};
 ghost use Rattle.gn_threads.specs.Headline.{
+  AreMadeOf,
   HasCountedSteps,
   HasLegalHistory,
   HasOwnStats,
@@ -13,7 +14,7 @@ ghost use Rattle.gn_threads.specs.Headline.{
   OthersRoute,
   RoutesEachOnce,
 };
-ghost use Rattle.gn_serve.specs.Links.{roles_of, tcp_reads, tcp_writes};
+ghost use Rattle.gn_serve.specs.Links.{origins_of, roles_of, tcp_reads, tcp_writes};
 
 use crate::peers::{Peers, roles_of};
 use gn_links::Gate;
@@ -60,6 +61,8 @@ pub fn serve_on<
         × (length report.workers.items ≡ workers)) }
     ensures links { IfOk result (λ report. LinksHold tcp_reads tcp_writes
         (roles_of (length peers.now) (length peers.now + accept)) report) }
+    ensures made { IfOk result (λ report. AreMadeOf (λ half. half.origin) (λ half. half.origin)
+        (origins_of peers.now (length peers.now + accept)) (origins_of peers.now (length peers.now + accept)) report) }
     ensures others { IfOk result (λ report. OthersRoute report) }
     ensures routed { IfOk result (λ report. RoutesEachOnce report) }
     ensures stats { IfOk result (λ report. HasOwnStats report) }
@@ -70,6 +73,7 @@ pub fn serve_on<
         net: rt,
         listener,
         called: peers,
+        next: 0,
         left: links as u32,
         idle,
     };

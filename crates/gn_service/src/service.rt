@@ -154,6 +154,11 @@ impl<C: RouterCore<A> + Drop, L: Ledger, A: Allocator + Copy> Service<C, L, A> {
         self.changed.notify_all();
     }
 
+    /// Whether the run has failed by now.
+    pub fn failed<R: Wait>(&self, rt: &R) -> bool {
+        self.lock(rt).failed()
+    }
+
     /// The run has failed.
     pub fn fail<R: Wait>(&self, rt: &R) {
         self.lock(rt).fail();

@@ -3,17 +3,26 @@ use Rattle.std.specs.Prelude.{ℕ, Bool}
 use Rattle.std.specs.declared.net.socket_addr.SocketAddr.{SocketAddr}
 use Rattle.std.specs.Net.Addr.{IsLoopbackV4, IsLoopbackV6, MatchIp}
 use Rattle.std.specs.Net.Socket.{socket_ip}
+use Rattle.gn_shake.specs.declared.role.Role.{Role}
+use Rattle.gn_tcp.specs.declared.origin.TcpOrigin.{TcpOrigin}
 
--- the half that is read: whether it still has its handle of the socket, how many reads failed, how many gave bytes, and
+-- a link: the role in which it begins, and where it comes from
+pub record TcpLinked : Type 0 where
+  pub role : Role
+  pub origin : TcpOrigin
+
+-- the half that is read: where its link comes from, whether it still has its handle of the socket, how many reads failed, how many gave bytes, and
 -- whether the bytes ended
 pub record TcpReading : Type 0 where
+  pub origin : TcpOrigin
   pub is_open : Bool
   pub failures : ℕ
   pub pieces : ℕ
   pub has_ended : Bool
 
--- the half that is written: whether it was finished, how many writes failed, and whether one took nothing
+-- the half that is written: where its link comes from, whether it was finished, how many writes failed, and whether one took nothing
 pub record TcpWriting : Type 0 where
+  pub origin : TcpOrigin
   pub is_finished : Bool
   pub failures : ℕ
   pub is_stuck : Bool

@@ -2,9 +2,11 @@
 #![tactic(auto)]
 
 mod link;
+mod origin;
 mod reader;
 mod writer;
 
 pub use link::{TcpLink, listen};
+pub use origin::TcpOrigin;
 pub use reader::TcpReader;
 pub use writer::TcpWriter;

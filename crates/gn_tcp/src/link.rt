@@ -1,9 +1,10 @@
 //! A link over TCP: accepted or called, and split into its halves.
 
-ghost use Rattle.std.specs.Prelude.{◌≡◌, IfOk, OnOk};
+ghost use Rattle.std.specs.Prelude.{◌≡◌, IfOk, None, OnOk, Some};
 ghost use Rattle.gn_shake.specs.declared.role.Role.TheVariants.{Accepting, Calling};
 ghost use Rattle.gn_tcp.specs.Tcp.{IsLoopback};
 
+use crate::origin::TcpOrigin;
 use crate::reader::TcpReader;
 use crate::writer::TcpWriter;
 use gn_links::{Link, LinkFault};
@@ -23,43 +24,49 @@ pub fn listen<N: Net<Listener = TcpListener, Stream = TcpStream>>(
     }
 }
 
-/// A connected socket, and how the link over it begins. No clause says which bytes go over it.
+/// A connected socket, how the link over it begins, and where it comes from. No clause says which bytes go over it.
 #[derive(Drop)]
 pub struct TcpLink {
     stream: TcpStream,
     role: Role,
+    origin: TcpOrigin,
     idle: Option<Duration>,
 }
 
 impl Model for TcpLink {
-    ghost use Rattle.gn_shake.specs.declared.role.Role.{Role};
+    ghost use Rattle.gn_tcp.specs.Tcp.{TcpLinked};
 
-    ghost Value = { Role };
+    ghost Value = { TcpLinked };
 
-    ghost view = { λ l. l.role };
+    ghost view = { λ l. record { role = l.role; origin = l.origin } };
 }
 
 impl TcpLink {
-    /// Waits for the next peer that calls, without a time limit.
+    /// Waits for the next peer that calls, without a time limit. The link's number is 0.
     pub fn accept(listener: &TcpListener) -> Result<TcpLink, LinkFault>
-        ensures { IfOk result (λ link. link ≡ Accepting) }
+        ensures { IfOk result (λ link. link ≡ record { role = Accepting; origin = record { link = 0; called = None } }) }
     {
         match listener.accept() {
             Ok((stream, _)) => Ok(TcpLink {
                 stream,
                 role: Role::Accepting,
+                origin: TcpOrigin {
+                    link: 0,
+                    called: None,
+                },
                 idle: None,
             }),
             Err(_) => Err(LinkFault),
         }
     }
 
-    /// Calls a peer. A peer on another machine isn't called.
+    /// Calls a peer. A peer on another machine isn't called. The link's number is 0.
     pub fn call<N: Net<Listener = TcpListener, Stream = TcpStream>>(
         net: &N,
         peer: SocketAddr,
     ) -> Result<TcpLink, LinkFault>
-        ensures role { IfOk result (λ link. link ≡ Calling) }
+        ensures called { IfOk result (λ link. link ≡
+            record { role = Calling; origin = record { link = 0; called = Some peer } }) }
         ensures near { OnOk result (IsLoopback peer) }
     {
         if !peer.ip().is_loopback() {
@@ -69,6 +76,10 @@ impl TcpLink {
             Ok(stream) => Ok(TcpLink {
                 stream,
                 role: Role::Calling,
+                origin: TcpOrigin {
+                    link: 0,
+                    called: Some(peer),
+                },
                 idle: None,
             }),
             Err(_) => Err(LinkFault),
@@ -80,21 +91,49 @@ impl TcpLink {
     pub fn with_idle(self, idle: Option<Duration>) -> TcpLink
         ensures { result ≡ self }
     {
-        let TcpLink { stream, role, .. } = self;
-        TcpLink { stream, role, idle }
+        let TcpLink {
+            stream,
+            role,
+            origin,
+            ..
+        } = self;
+        TcpLink {
+            stream,
+            role,
+            origin,
+            idle,
+        }
+    }
+
+    /// The link, which has this number in its run.
+    pub fn numbered(self, link: u32) -> TcpLink
+        ensures { result ≡ record self { origin = record self.origin { link = link } } }
+    {
+        let TcpLink {
+            stream,
+            role,
+            origin: TcpOrigin { called, .. },
+            idle,
+        } = self;
+        TcpLink {
+            stream,
+            role,
+            origin: TcpOrigin { link, called },
+            idle,
+        }
     }
 }
 
 impl Link for TcpLink {
-    type Origin = ();
+    type Origin = TcpOrigin;
 
     type Reader = TcpReader;
 
     type Writer = TcpWriter;
 
-    ghost role_of = { λ l. l };
+    ghost role_of = { λ l. l.role };
 
-    ghost origin_of = { λ _. tt };
+    ghost origin_of = { λ l. l.origin };
 
     fn role(&self) -> Role {
         self.role
@@ -102,7 +141,12 @@ impl Link for TcpLink {
 
     /// Fails where the system gives no second handle of the socket, or doesn't take the time limit.
     fn split(self) -> Result<(TcpReader, TcpWriter), LinkFault> {
-        let TcpLink { stream, idle, .. } = self;
+        let TcpLink {
+            stream,
+            origin,
+            idle,
+            ..
+        } = self;
         if stream.set_read_timeout(idle).is_err() || stream.set_write_timeout(idle).is_err() {
             return Err(LinkFault);
         }
@@ -110,7 +154,10 @@ impl Link for TcpLink {
         // Where the system doesn't take this, the link is slower and else the same.
         let _ = stream.set_nodelay(true);
         match stream.try_clone() {
-            Ok(other) => Ok((TcpReader::new(stream), TcpWriter::new(other))),
+            Ok(other) => Ok((
+                TcpReader::new(stream, origin),
+                TcpWriter::new(other, origin),
+            )),
             Err(_) => Err(LinkFault),
         }
     }

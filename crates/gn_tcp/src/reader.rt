@@ -2,6 +2,7 @@
 
 ghost use Rattle.std.specs.Prelude.{◌≡◌, ◌≤◌, [], false, not, true, length, IfOk};
 
+use crate::origin::TcpOrigin;
 use gn_links::{LinkFault, LinkReader};
 use std::io::{ErrorKind, Read};
 use std::marker::Model;
@@ -13,6 +14,7 @@ use std::sync::Wait;
 #[derive(Drop)]
 pub struct TcpReader {
     stream: Option<TcpStream>,
+    origin: TcpOrigin,
     failures: u64,
     pieces: u64,
     has_ended: bool,
@@ -25,6 +27,7 @@ impl Model for TcpReader {
     ghost Value = { TcpReading };
 
     ghost view = { λ r. record {
+      origin = r.origin;
       is_open = is_some r.stream;
       failures = r.failures;
       pieces = r.pieces;
@@ -33,11 +36,13 @@ impl Model for TcpReader {
 }
 
 impl TcpReader {
-    pub(crate) fn new(stream: TcpStream) -> Self
-        ensures { result ≡ record { is_open = true; failures = 0; pieces = 0; has_ended = false } }
+    pub(crate) fn new(stream: TcpStream, origin: TcpOrigin) -> Self
+        ensures { result ≡
+            record { origin = origin; is_open = true; failures = 0; pieces = 0; has_ended = false } }
     {
         TcpReader {
             stream: Some(stream),
+            origin,
             failures: 0,
             pieces: 0,
             has_ended: false,
@@ -60,11 +65,11 @@ fn read_some<R: Wait>(rt: &R, stream: &mut TcpStream, buffer: &mut [u8]) -> Resu
 }
 
 impl LinkReader for TcpReader {
-    type Origin = ();
+    type Origin = TcpOrigin;
 
     ghost is_known = { false };
 
-    ghost made_of = { λ _. tt };
+    ghost made_of = { λ r. r.origin };
 
     ghost gives = { λ _. record { bytes = []; may_fail = true } };
 

@@ -2,6 +2,7 @@
 
 ghost use Rattle.std.specs.Prelude.{◌≡◌, ◌≤◌, [], false, true, length, IfOk};
 
+use crate::origin::TcpOrigin;
 use gn_links::{LinkFault, LinkWriter};
 use std::io::{ErrorKind, Write};
 use std::marker::Model;
@@ -13,6 +14,7 @@ use std::sync::Wait;
 #[derive(Drop)]
 pub struct TcpWriter {
     stream: Option<TcpStream>,
+    origin: TcpOrigin,
     failures: u64,
     is_stuck: bool,
 }
@@ -24,6 +26,7 @@ impl Model for TcpWriter {
     ghost Value = { TcpWriting };
 
     ghost view = { λ w. record {
+      origin = w.origin;
       is_finished = is_none w.stream;
       failures = w.failures;
       is_stuck = w.is_stuck;
@@ -31,11 +34,12 @@ impl Model for TcpWriter {
 }
 
 impl TcpWriter {
-    pub(crate) fn new(stream: TcpStream) -> Self
-        ensures { result ≡ record { is_finished = false; failures = 0; is_stuck = false } }
+    pub(crate) fn new(stream: TcpStream, origin: TcpOrigin) -> Self
+        ensures { result ≡ record { origin = origin; is_finished = false; failures = 0; is_stuck = false } }
     {
         TcpWriter {
             stream: Some(stream),
+            origin,
             failures: 0,
             is_stuck: false,
         }
@@ -57,11 +61,11 @@ fn write_some<R: Wait>(rt: &R, stream: &mut TcpStream, piece: &[u8]) -> Result<u
 }
 
 impl LinkWriter for TcpWriter {
-    type Origin = ();
+    type Origin = TcpOrigin;
 
     ghost is_known = { false };
 
-    ghost made_of = { λ _. tt };
+    ghost made_of = { λ w. w.origin };
 
     ghost bytes_written = { λ _. [] };
 

@@ -1,24 +1,24 @@
-//! Links whose readers read in step.
+//! Readers that read in step, and workers that route in step.
 
-use gn_links::{Link, LinkFault, LinkReader};
+use gn_links::{Gate, Link, LinkFault, LinkReader};
 use gn_shake::Role;
 use std::sync::Wait;
 use std::sync::atomic::{AtomicBool, AtomicU64, Ordering};
 use std::thread;
 
-/// How often a reader looks for the other one at most, at each read.
+/// How often one looks for the other at most, each time.
 const MOST_LOOKS: u32 = 100_000_000;
 
-/// Where two readers meet: how many reads each of them has begun, and whether one gave the other up.
+/// Where two readers meet, or two workers: how many reads or routes each of them has begun, and whether one gave the other up.
 #[derive(Drop)]
 pub(crate) struct Meeting {
-    pub(crate) first: AtomicU64,
-    pub(crate) second: AtomicU64,
+    first: AtomicU64,
+    second: AtomicU64,
     pub(crate) is_missed: AtomicBool,
 }
 
 impl Meeting {
-    /// Nobody has begun a read.
+    /// Nobody has begun.
     pub(crate) fn new() -> Self {
         Meeting {
             first: AtomicU64::new(0),
@@ -27,7 +27,15 @@ impl Meeting {
         }
     }
 
-    /// Begins a read, and waits until the other reader has begun as many. Once one was given up, nobody waits.
+    /// How often each of them has begun.
+    pub(crate) fn begun(&self) -> (u64, u64) {
+        (
+            self.first.load(Ordering::SeqCst),
+            self.second.load(Ordering::SeqCst),
+        )
+    }
+
+    /// Begins, and waits until the other has begun as often. Once one was given up, nobody waits.
     fn meet(&self, is_first: bool) {
         let (own, other) = if is_first {
             (&self.first, &self.second)
@@ -42,6 +50,13 @@ impl Meeting {
             thread::yield_now();
         }
         self.is_missed.store(true, Ordering::SeqCst);
+    }
+}
+
+impl Gate for Meeting {
+    /// Two workers, 0 and 1, begin each route together.
+    fn enter<R: Wait>(&self, _rt: &R, worker: u32, _ticket: u32) {
+        self.meet(worker == 0);
     }
 }
 

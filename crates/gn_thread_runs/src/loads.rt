@@ -72,6 +72,8 @@ fn six_links_of_a_hundred_pings(rt: HostRuntime) -> Result<(), Fail> {
     let legality = audit::<Global, TableRouter, _, _>(rt.alloc(), &mut source, &mut sink)?;
     assert_eq!(rt; legality, Legality::Legal);
     let (_, steps) = read_history(rt.alloc(), &history)?;
+    let judged = format!(in rt.alloc(); "legal {}\n", steps.len())?;
+    assert_eq!(rt; sink.into_inner().as_slice(), judged.as_bytes());
     let mut kinds = Kinds {
         connected: 0,
         admitted: 0,

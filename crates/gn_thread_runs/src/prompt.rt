@@ -85,26 +85,30 @@ fn no_packet_waits_for_another(rt: HostRuntime) -> Result<(), Fail> {
     Ok(())
 }
 
-/// A caller that says nothing after its greeting, beside one that fills a history of three steps; both stay.
-fn silent_and_loud<N: Net<Listener = TcpListener, Stream = TcpStream>>(
+/// A caller that says nothing after its greeting, beside one that fills a history of three steps. Once that one has been let
+/// go another calls, so that the run looks whether it has failed before it waits for a fourth. All stay.
+fn silent_loud_and_late<N: Net<Listener = TcpListener, Stream = TcpStream>>(
     net: &N,
     at: SocketAddr,
-) -> io::Result<(TcpStream, TcpStream)> {
+) -> io::Result<[TcpStream; 3]> {
     let silent = greeted(net, at)?;
     let mut loud = greeted(net, at)?;
     loud.write_all(&ping(1))?;
-    Ok((silent, loud))
+    // it hears less than this, and then the end
+    let _ = loud.read_exact(&mut [0u8; 1000]);
+    let late = TcpStream::connect(net, at)?;
+    Ok([silent, loud, late])
 }
 
 #[test]
-fn a_full_history_lets_a_silent_peer_go(rt: HostRuntime) -> Result<(), Fail> {
+fn a_full_history_waits_for_nobody(rt: HostRuntime) -> Result<(), Fail> {
     let listener = listen(&rt, 0).map_err(|_| "a listener")?;
     let at = listener.local_addr()?;
     let (listener, net) = (&listener, &rt);
     let (peers, fault) = thread::join(
         net,
-        move || silent_and_loud(net, at).ok(),
-        move || serve(net, net.alloc(), listener, 3, 2, &[]).err(),
+        move || silent_loud_and_late(net, at).ok(),
+        move || serve(net, net.alloc(), listener, 3, 4, &[]).err(),
     );
     assert!(rt; peers.is_some());
     assert_eq!(rt; fault, Some(RunFault::HistoryFull));

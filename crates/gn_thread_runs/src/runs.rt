@@ -12,8 +12,8 @@ use gn_shake::Role;
 use gn_threads::{RunFault, run};
 use gn_wire::{Descriptor, Guid, Kind};
 use std::alloc::Global;
+use std::sync::Wait;
 use std::sync::atomic::Ordering;
-use std::sync::{Barrier, Wait};
 use std::test::Fail;
 use std::thread::Threads;
 
@@ -29,18 +29,6 @@ fn pings(alloc: Global, link: u8, count: u8) -> Result<Vec<u8>, Fail> {
         ping.write_to(&mut bytes)?;
     }
     Ok(bytes)
-}
-
-/// A gate that lets workers through where two of them are inside at once.
-#[derive(Drop)]
-struct Pairs {
-    barrier: Barrier,
-}
-
-impl Gate for Pairs {
-    fn enter<R: Wait>(&self, rt: &R, _worker: u32, _ticket: u32) {
-        self.barrier.wait(rt);
-    }
 }
 
 /// What a run over the table router gives, of at most 256 links.
@@ -66,16 +54,19 @@ where
 
 #[test]
 fn two_workers_meet(rt: HostRuntime) -> Result<(), Fail> {
-    let gate = Pairs {
-        barrier: Barrier::new(2),
-    };
-    let link = MemoryLink::new(Role::Plain, pings(rt.alloc(), 0, 2)?, 4096);
-    let links = vec![in rt.alloc(); link]?;
-    let report = table_run(&rt, rt.alloc(), links, 2, &gate).map_err(|_| "a report")?;
+    let meeting = Meeting::new();
+    let mut links = Vec::new(rt.alloc());
+    for number in 0..6u8 {
+        let bytes = pings(rt.alloc(), number, 100)?;
+        links.push(MemoryLink::new(Role::Plain, bytes, 4096))?;
+    }
+    let report = table_run(&rt, rt.alloc(), links, 2, &meeting).map_err(|_| "a report")?;
     assert_eq!(rt; report.workers.len(), 2);
     for receipts in &report.workers {
-        assert_eq!(rt; receipts.len(), 1);
+        assert_eq!(rt; receipts.len(), 300);
     }
+    assert_eq!(rt; meeting.begun(), (300, 300));
+    assert!(rt; !meeting.is_missed.load(Ordering::SeqCst));
     Ok(())
 }
 
@@ -124,11 +115,7 @@ fn two_readers_meet(rt: HostRuntime) -> Result<(), Fail> {
     let report = table_run(&rt, rt.alloc(), links, 1, &NoGate).map_err(|_| "a report")?;
     assert_eq!(rt; report.stats.routed, 20);
     // ten Pings of 23 bytes, and the read that finds no more, on both sides alike: nobody waits for one that has ended
-    let reads = (
-        meeting.first.load(Ordering::SeqCst),
-        meeting.second.load(Ordering::SeqCst),
-    );
-    assert_eq!(rt; reads, (231, 231));
+    assert_eq!(rt; meeting.begun(), (231, 231));
     assert!(rt; !meeting.is_missed.load(Ordering::SeqCst));
     Ok(())
 }

@@ -22,7 +22,8 @@ use std::sync::ledger::Ledger;
 use std::thread;
 use std::thread::{Scope, Threads};
 
-/// Waits for a link, and starts its two bodies.
+/// Waits for a link, and starts its two bodies. Where the run has failed by then nobody is waited for: what the bodies
+/// that have started found is said once they are joined.
 fn start_link<
     's,
     E: 's,
@@ -57,6 +58,9 @@ fn start_link<
     ensures workers { handles.new.workers ≡ handles.old.workers }
     ensures fault { IfErr result (λ fault. (links workers : ℕ) → reading.link < links → IsFaultOf links workers fault) }
 {
+    if service.failed(rt) {
+        return Err(RunFault::NoMemory);
+    }
     let (reader, writer) = arrivals.next(reading.link, reading.role)?;
     let (reading, writing) = (reading.with(reader), writing.with(writer));
     if !start_reader(rt, alloc, scope, service, reading, &mut handles.readers) {

@@ -87,7 +87,7 @@ pub mod links {
         Gate, Link, LinkFault, LinkReader, LinkWriter, MemoryLink, MemoryReader, MemoryWriter,
         NoGate, SplitFault, SplitLink, SplitLinks, split_all,
     };
-    pub use gn_tcp::{TcpLink, TcpReader, TcpWriter, listen};
+    pub use gn_tcp::{TcpLink, TcpOrigin, TcpReader, TcpWriter, listen};
 }
 
 /// What the threads of a run do.
