@@ -11,7 +11,6 @@ use crate::sends::Sending;
 use std::alloc::Allocator;
 
 /// Whether two configurations are equal, their servents with them.
-#[tactic(auto, using(crate::proofs::ConfigLemmas::same_servents))]
 pub fn is_same_config(a: &Config, b: &Config) -> bool
     ensures { IsTrue result ↔ (a.now ≡ b.now) }
 {
