@@ -54,9 +54,9 @@ module _ {A : Type 0} (s : Config) (past : List (Step A)) where
 
     forwarded : length (forward_sends s past a) ≤ length (others a.origin (live_connections past))
     forwarded =
-        elim (is_expired a.packet) as (λ b. length (if b then [] else fanout s past a.origin (forward_of a.packet)) ≤ length (others a.origin (live_connections past))) [
+        elim (is_expired s.numbers.life a.packet) as (λ b. length (if b then [] else fanout s past a.origin (forward_of s.numbers.life a.packet)) ≤ length (others a.origin (live_connections past))) [
           | true ↦ omega arith
-          | false ↦ omega (arith, fanned a.origin (forward_of a.packet))
+          | false ↦ omega (arith, fanned a.origin (forward_of s.numbers.life a.packet))
         ]
 
     -- what a Ping or Query sends

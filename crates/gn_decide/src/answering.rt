@@ -51,7 +51,7 @@ fn most_sends<A: Allocator, L: Lookup<A>>(past: &L, outgoing: &Outgoing<'_, A>) 
     match outgoing {
         Outgoing::Nothing => 0,
         Outgoing::One(_, _, _) => 1,
-        Outgoing::Flood(_, packet) => match packet.forwarded() {
+        Outgoing::Flood(_, packet) => match packet.forwarded(past.config().numbers.life) {
             None => u32::from(packet.kind() == Kind::Ping),
             Some(_) => past.live_count(),
         },

@@ -26,7 +26,8 @@ fn checks<'a, A: Allocator, L: Lookup<A>>(
 ) -> Plan<'a, A>
     ensures { let a : Admission = record { origin = origin; packet = packet.now } in
         plan_reply (L.settings past.now) (L.past past.now) result
-        ≡ decision_reply (L.settings past.now) (L.past past.now) a (rules.checks (L.past past.now) a r) }
+        ≡ decision_reply (L.settings past.now) (L.past past.now) a
+        (rules.checks (L.settings past.now) (L.past past.now) a r) }
 {
     let Some(waiting) = past.output(r) else {
         return Plan::Ready(Reply::Dropped(DropReason::RouteGone));
@@ -34,7 +35,7 @@ fn checks<'a, A: Allocator, L: Lookup<A>>(
     if r == origin {
         return Plan::Ready(Reply::Dropped(DropReason::BackToSender));
     }
-    match Forwarded::of(packet) {
+    match Forwarded::of(past.config().numbers.life, packet) {
         None => Plan::Ready(Reply::Dropped(DropReason::Expired)),
         Some(forward) => Plan::Routed(Outgoing::One(r, waiting, Made::Forward(forward)), false),
     }
@@ -74,7 +75,7 @@ fn decide_reply<'a, A: Allocator, L: Lookup<A>>(
 ) -> Plan<'a, A>
     ensures { let a : Admission = record { origin = origin; packet = packet.now } in
         plan_reply (L.settings past.now) (L.past past.now) result
-        ≡ decision_reply (L.settings past.now) (L.past past.now) a (rules.decide_reply (L.past past.now) a
+        ≡ decision_reply (L.settings past.now) (L.past past.now) a (rules.decide_reply (L.settings past.now) (L.past past.now) a
         (seen_entries.source (L.settings past.now) (L.past past.now) (rules.request_key request a))) }
 {
     let key = Key {

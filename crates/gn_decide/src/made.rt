@@ -18,28 +18,27 @@ pub struct Forwarded<'a, A: Allocator> {
 }
 
 impl<'a, A: Allocator> Model for Forwarded<'a, A> {
-    ghost use Rattle.std.specs.Prelude.{◌≡◌, false};
-    ghost use Rattle.gn_wire.specs.Forward.{forward_of, is_expired};
+    ghost use Rattle.std.specs.Prelude.{◌≡◌};
     ghost use Rattle.gn_wire.specs.Packet.{Packet};
     ghost use Rattle.gn_wire.specs.Encoding.{header_of};
 
     ghost Value = { Packet };
 
-    ghost view = { λ f. forward_of f.packet.now };
+    ghost view = { λ f. record f.packet.now { ttl = f.header.ttl; hops = f.header.hops } };
 
-    ghost invariant = { λ f. (is_expired f.packet.now ≡ false) × (f.header ≡ header_of (forward_of f.packet.now)) };
+    ghost invariant = { λ f. f.header ≡ header_of (record f.packet.now { ttl = f.header.ttl; hops = f.header.hops }) };
 }
 
 impl<'a, A: Allocator> Forwarded<'a, A> {
     ghost use Rattle.std.specs.Prelude.{MatchOption, false, true};
     ghost use Rattle.gn_wire.specs.Forward as wire;
 
-    /// The forward of a descriptor. `None` where it is expired.
-    pub fn of(packet: &'a Descriptor<A>) -> Option<Self>
-        ensures { MatchOption result (wire.is_expired packet.now ≡ true)
-            (λ f. (wire.is_expired packet.now ≡ false) × (f ≡ wire.forward_of packet.now)) }
+    /// The forward of a descriptor whose life has this limit. `None` where it is expired.
+    pub fn of(life: u8, packet: &'a Descriptor<A>) -> Option<Self>
+        ensures { MatchOption result (wire.is_expired life packet.now ≡ true)
+            (λ f. (wire.is_expired life packet.now ≡ false) × (f ≡ wire.forward_of life packet.now)) }
     {
-        let header = packet.forwarded()?;
+        let header = packet.forwarded(life)?;
         Some(Forwarded { packet, header })
     }
 

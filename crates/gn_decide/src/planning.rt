@@ -72,7 +72,7 @@ fn plan_originate<'a, A: Allocator, L: Lookup<A>>(
     ensures { planned (L.settings past.now) (L.past past.now) result
         ≡ rules.originate_answer (L.settings past.now) (L.past past.now) packet.now }
 {
-    if !may_originate(packet) {
+    if !may_originate(past.config().numbers.life, packet) {
         return Err(Refusal::BadOrigin);
     }
     if is_remembered(past, packet) {

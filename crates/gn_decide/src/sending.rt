@@ -99,7 +99,7 @@ fn send_forwards<A: Allocator, L: Lookup<A>, O: Outbox<A>>(
         (sending.forward_sends (L.settings past.now) (L.past past.now)
         (record { origin = origin; packet = packet.now }))) }
 {
-    match Forwarded::of(packet) {
+    match Forwarded::of(past.config().numbers.life, packet) {
         None => Ok(()),
         Some(forward) => fan_out(past, outbox, origin, &Made::Forward(forward)),
     }

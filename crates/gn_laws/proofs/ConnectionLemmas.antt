@@ -219,9 +219,9 @@ flood_none s past a c dead =
 
     forward : queued_to c (forward_sends s past a) ≡ []
     forward =
-        elim (is_expired a.packet) as (λ b. queued_to c (cond b [] (fanout s past a.origin (forward_of a.packet))) ≡ []) [
+        elim (is_expired s.numbers.life a.packet) as (λ b. queued_to c (cond b [] (fanout s past a.origin (forward_of s.numbers.life a.packet))) ≡ []) [
           | true ↦ refl
-          | false ↦ fanout_none s past a.origin (forward_of a.packet) c dead
+          | false ↦ fanout_none s past a.origin (forward_of s.numbers.life a.packet) c dead
         ]
 
 -- a decision passes a descriptor on to a live connection alone
@@ -233,22 +233,22 @@ aims_either : {A : Type 0} (past : List (Step A)) (b : Bool) (x y : Decision) �
 aims_either past true x y first second = first
 aims_either past false x y first second = second
 
-checks_aim : {A : Type 0} (past : List (Step A)) (a : Admission) (r : ℕ) → AimsLive past (checks past a r)
-checks_aim past a r =
-    elim (live past r) as (λ b. live past r ≡ b → AimsLive past (cond (not b) (Drop reason.RouteGone) (cond (r == a.origin) (Drop reason.BackToSender) (cond (is_expired a.packet) (Drop reason.Expired) (Forward r))))) [
+checks_aim : {A : Type 0} (s : Config) (past : List (Step A)) (a : Admission) (r : ℕ) → AimsLive past (checks s past a r)
+checks_aim s past a r =
+    elim (live past r) as (λ b. live past r ≡ b → AimsLive past (cond (not b) (Drop reason.RouteGone) (cond (r == a.origin) (Drop reason.BackToSender) (cond (is_expired s.numbers.life a.packet) (Drop reason.Expired) (Forward r))))) [
       | false ↦ λ e. tt
       | true ↦ λ e.
-          aims_either past (r == a.origin) (Drop reason.BackToSender) (cond (is_expired a.packet) (Drop reason.Expired) (Forward r)) tt
-          (aims_either past (is_expired a.packet) (Drop reason.Expired) (Forward r) tt e)
+          aims_either past (r == a.origin) (Drop reason.BackToSender) (cond (is_expired s.numbers.life a.packet) (Drop reason.Expired) (Forward r)) tt
+          (aims_either past (is_expired s.numbers.life a.packet) (Drop reason.Expired) (Forward r) tt e)
     ] refl
 
-reply_aims : {A : Type 0} (past : List (Step A)) (a : Admission) (found : Option ℕ) → AimsLive past (decide_reply past a found)
-reply_aims past a None = tt
-reply_aims past a (Some r) = aims_either past (r == 0) Local (checks past a r) tt (checks_aim past a r)
+reply_aims : {A : Type 0} (s : Config) (past : List (Step A)) (a : Admission) (found : Option ℕ) → AimsLive past (decide_reply s past a found)
+reply_aims s past a None = tt
+reply_aims s past a (Some r) = aims_either past (r == 0) Local (checks s past a r) tt (checks_aim s past a r)
 
-push_aims : {A : Type 0} (past : List (Step A)) (a : Admission) (found : Option ℕ) → AimsLive past (decide_push_to past a found)
-push_aims past a None = tt
-push_aims past a (Some r) = checks_aim past a r
+push_aims : {A : Type 0} (s : Config) (past : List (Step A)) (a : Admission) (found : Option ℕ) → AimsLive past (decide_push_to s past a found)
+push_aims s past a None = tt
+push_aims s past a (Some r) = checks_aim s past a r
 
 request_aims : {A : Type 0} (s : Config) (past : List (Step A)) (a : Admission) → AimsLive past (decide_request s past a)
 request_aims s past a = aims_either past (is_remembered s past (key_of a.packet)) (Drop reason.Duplicate) Flood tt tt
@@ -256,12 +256,12 @@ request_aims s past a = aims_either past (is_remembered s past (key_of a.packet)
 sound_aims : {A : Type 0} (s : Config) (past : List (Step A)) (a : Admission) (kind : Kind) → AimsLive past (decide_sound s past a kind)
 sound_aims s past a Ping = request_aims s past a
 sound_aims s past a Query = request_aims s past a
-sound_aims s past a Pong = reply_aims past a (source s past (request_key Ping a))
-sound_aims s past a QueryHit = reply_aims past a (source s past (request_key Query a))
+sound_aims s past a Pong = reply_aims s past a (source s past (request_key Ping a))
+sound_aims s past a QueryHit = reply_aims s past a (source s past (request_key Query a))
 sound_aims s past a Push =
     let to = push_servent a.packet.payload in
-    aims_either past (is_remembered s past (key_of a.packet)) (Drop reason.Duplicate) (cond (is_same_id to s.own.servent) Local (decide_push_to past a (servent_route s past to))) tt
-    (aims_either past (is_same_id to s.own.servent) Local (decide_push_to past a (servent_route s past to)) tt (push_aims past a (servent_route s past to)))
+    aims_either past (is_remembered s past (key_of a.packet)) (Drop reason.Duplicate) (cond (is_same_id to s.own.servent) Local (decide_push_to s past a (servent_route s past to))) tt
+    (aims_either past (is_same_id to s.own.servent) Local (decide_push_to s past a (servent_route s past to)) tt (push_aims s past a (servent_route s past to)))
 sound_aims s past a (Unknown code) = tt
 
 checked_aims : {A : Type 0} (s : Config) (past : List (Step A)) (a : Admission) (verdict : Verdict) → AimsLive past (decide_checked s past a verdict)
@@ -273,7 +273,7 @@ decision_none : {A : Type 0} (s : Config) (past : List (Step A)) (a : Admission)
 decision_none s past a c dead (Drop why) aims = refl
 decision_none s past a c dead Local aims = refl
 decision_none s past a c dead Flood aims = flood_none s past a c dead
-decision_none s past a c dead (Forward r) aims = send_none s past (forward_of a.packet) r c aims dead
+decision_none s past a c dead (Forward r) aims = send_none s past (forward_of s.numbers.life a.packet) r c aims dead
 
 pub sends_none : {A : Type 0} (s : Config) (past : List (Step A)) (event : Event A) (reply : Reply A) (c : ℕ) → answer s past event ≡ Ok reply → live past c ≡ false → queued_to c (sends_of reply) ≡ []
 sends_none {A} s past Connect reply c e dead =

@@ -40,7 +40,7 @@ fn settings(serving: &Serving) -> Config
         files: 0,
         kbytes: 0,
     };
-    match Config::new(64, 4096, 1024, 1024, 1024, 1_000_000, own) {
+    match Config::new(64, 4096, 1024, 1024, 1024, 1_000_000, 0, own) {
         Ok(config) => config,
         Err(_) => unreachable!(),
     }

@@ -79,7 +79,7 @@ event_reply s past (Take c) reply e =
     (alive.0, first_reply (out past c) reply alive.1)
 event_reply s past (Originate d) reply e =
     let sent : Result (Reply _) Refusal = Ok (Sent (fanout s past 0 d)) in
-    let may = unless_refused (not (may_originate d)) BadOrigin (cond (is_remembered s past (key_of d)) (Err Remembered) sent) reply e in
+    let may = unless_refused (not (may_originate s.numbers.life d)) BadOrigin (cond (is_remembered s past (key_of d)) (Err Remembered) sent) reply e in
     let new = unless_refused (is_remembered s past (key_of d)) Remembered sent reply may.1 in
     reply_is (Sent (fanout s past 0 d)) reply new.1
 

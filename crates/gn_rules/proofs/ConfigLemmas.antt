@@ -22,6 +22,7 @@ all_within_is_one a b =
       within_is_one a.stage b.stage,
       within_is_one a.out b.out,
       within_is_one a.steps b.steps,
+      le_prop a.life b.life,
     ) refl
 
 -- a configuration is the one that these numbers and this servent make

@@ -52,7 +52,7 @@ event_fits s past (Admit c d) =
 event_fits s past (Route t) = flight_fits s past t (in_flight past t)
 event_fits {A} s past (Take c) = either_fits (Take c) (not (live past c)) (Err NotLive) (first_taken (out past c)) refl (first_fits A c (out past c))
 event_fits s past (Originate d) =
-    either_fits (Originate d) (not (may_originate d)) (Err BadOrigin) (cond (is_remembered s past (key_of d)) (Err Remembered) (Ok (Sent (fanout s past 0 d)))) refl
+    either_fits (Originate d) (not (may_originate s.numbers.life d)) (Err BadOrigin) (cond (is_remembered s past (key_of d)) (Err Remembered) (Ok (Sent (fanout s past 0 d)))) refl
     (either_fits (Originate d) (is_remembered s past (key_of d)) (Err Remembered) (Ok (Sent (fanout s past 0 d))) refl refl)
 
 pub answers_fit : (A : Type 0) → AnswersFit A

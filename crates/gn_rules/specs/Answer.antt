@@ -2,7 +2,7 @@
 use Rattle.std.specs.Prelude.{◌≡◌, ◌+◌, ℕ, Bool, true, false, ◌==◌, ◌&&◌, not, if◌then◌else◌, List, [], ◌∷◌, length, Option, Some, None, Result, Ok, Err, IsOk}
 use Rattle.gn_wire.specs.declared.kind.Kind.{Kind}
 use Rattle.gn_wire.specs.declared.kind.Kind.TheVariants.{Ping, Query}
-use Rattle.gn_wire.specs.Forward.{forward_of}
+use Rattle.gn_wire.specs.Forward.{forward_of, life_left}
 use Rattle.gn_wire.specs.Keys.{key_of, is_same_packet}
 use Rattle.gn_wire.specs.Packet.{Packet}
 use Rattle.gn_payload.specs.Sound.{is_sound}
@@ -56,15 +56,17 @@ is_request Ping = true
 is_request Query = true
 is_request kind = false
 
--- whether the local servent may send d: a sound Ping or Query with some TTL and no Hops
-abbrev pub may_originate : Packet → Bool
-may_originate d = is_request d.kind && not (d.ttl == 0) && (d.hops == 0) && is_sound d
+-- whether the local servent may send d: a sound Ping or Query with some TTL, which the limit on its life doesn't cut, and no
+-- Hops
+abbrev pub may_originate : ℕ → Packet → Bool
+may_originate life d =
+    is_request d.kind && not (d.ttl == 0) && (d.hops == 0) && (life_left life d == d.ttl) && is_sound d
 
 -- Originate of d: refused where the local servent may not send it or its key is remembered, else unchanged to each live
 -- connection, ascending
 abbrev pub originate_answer : {A : Type 0} → Config → List (Step A) → Packet → Result (Reply A) Refusal
 originate_answer s past d =
-    if not (may_originate d) then Err BadOrigin
+    if not (may_originate s.numbers.life d) then Err BadOrigin
     else if is_remembered s past (key_of d) then Err Remembered
     else Ok (Sent (fanout s past 0 d))
 
@@ -73,7 +75,7 @@ abbrev pub decision_reply : {A : Type 0} → Config → List (Step A) → Admiss
 decision_reply s past a (Drop reason) = Dropped reason
 decision_reply s past a Local = Routed [] true
 decision_reply s past a Flood = Routed (flood_sends s past a) true
-decision_reply s past a (Forward r) = Routed (send s past (forward_of a.packet) r ∷ []) false
+decision_reply s past a (Forward r) = Routed (send s past (forward_of s.numbers.life a.packet) r ∷ []) false
 
 -- the reply to a route of what is in flight
 abbrev pub route_reply : {A : Type 0} → Config → List (Step A) → Admission → Reply A

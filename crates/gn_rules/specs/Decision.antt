@@ -21,11 +21,11 @@ use Rattle.gn_rules.specs.SeenEntries.{source, is_remembered}
 
 -- the checks of a route to the connection r: it is live, it isn't where the descriptor came from, and the descriptor isn't
 -- expired
-abbrev pub checks : {A : Type 0} → List (Step A) → Admission → ℕ → Decision
-checks past a r =
+abbrev pub checks : {A : Type 0} → Config → List (Step A) → Admission → ℕ → Decision
+checks s past a r =
     if not (live past r) then Drop reason.RouteGone
     else if r == a.origin then Drop reason.BackToSender
-    else if is_expired a.packet then Drop reason.Expired
+    else if is_expired s.numbers.life a.packet then Drop reason.Expired
     else Forward r
 
 -- a Ping or Query: a duplicate where its key is remembered, else it goes on
@@ -33,21 +33,21 @@ abbrev pub decide_request : {A : Type 0} → Config → List (Step A) → Admiss
 decide_request s past a = if is_remembered s past (key_of a.packet) then Drop reason.Duplicate else Flood
 
 -- a Pong or Query Hit goes by the route that its request came; 0 is the local servent's own request
-abbrev pub decide_reply : {A : Type 0} → List (Step A) → Admission → Option ℕ → Decision
-decide_reply past a None = Drop reason.NoRoute
-decide_reply past a (Some r) = if r == 0 then Local else checks past a r
+abbrev pub decide_reply : {A : Type 0} → Config → List (Step A) → Admission → Option ℕ → Decision
+decide_reply s past a None = Drop reason.NoRoute
+decide_reply s past a (Some r) = if r == 0 then Local else checks s past a r
 
 -- a Push to another servent goes by the route that the servent's last Query Hit came
-abbrev pub decide_push_to : {A : Type 0} → List (Step A) → Admission → Option ℕ → Decision
-decide_push_to past a None = Drop reason.NoRoute
-decide_push_to past a (Some r) = checks past a r
+abbrev pub decide_push_to : {A : Type 0} → Config → List (Step A) → Admission → Option ℕ → Decision
+decide_push_to s past a None = Drop reason.NoRoute
+decide_push_to s past a (Some r) = checks s past a r
 
 -- a Push: a duplicate where its key is remembered, else for the local servent or for the one that it names
 abbrev pub decide_push : {A : Type 0} → Config → List (Step A) → Admission → Decision
 decide_push s past a =
     if is_remembered s past (key_of a.packet) then Drop reason.Duplicate
     else if is_same_id (push_servent a.packet.payload) s.own.servent then Local
-    else decide_push_to past a (servent_route s past (push_servent a.packet.payload))
+    else decide_push_to s past a (servent_route s past (push_servent a.packet.payload))
 
 -- the key of the request that a reply answers: of the same ID
 abbrev pub request_key : Kind → Admission → Key
@@ -57,8 +57,8 @@ request_key kind a = record { kind = kind; id = a.packet.id }
 abbrev pub decide_sound : {A : Type 0} → Config → List (Step A) → Admission → Kind → Decision
 decide_sound s past a Ping = decide_request s past a
 decide_sound s past a Query = decide_request s past a
-decide_sound s past a Pong = decide_reply past a (source s past (request_key Ping a))
-decide_sound s past a QueryHit = decide_reply past a (source s past (request_key Query a))
+decide_sound s past a Pong = decide_reply s past a (source s past (request_key Ping a))
+decide_sound s past a QueryHit = decide_reply s past a (source s past (request_key Query a))
 decide_sound s past a Push = decide_push s past a
 decide_sound s past a (Unknown code) = Drop reason.UnknownKind
 

@@ -43,7 +43,7 @@ pong_sends s past a =
 
 -- the forward goes to each other live connection, unless the descriptor is expired
 abbrev pub forward_sends : {A : Type 0} → Config → List (Step A) → Admission → List (Sending A)
-forward_sends s past a = if is_expired a.packet then [] else fanout s past a.origin (forward_of a.packet)
+forward_sends s past a = if is_expired s.numbers.life a.packet then [] else fanout s past a.origin (forward_of s.numbers.life a.packet)
 
 -- what a Ping or Query that is kept sends: the own Pong, then the forwards
 abbrev pub flood_sends : {A : Type 0} → Config → List (Step A) → Admission → List (Sending A)

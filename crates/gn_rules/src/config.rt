@@ -45,7 +45,7 @@ pub struct BadConfig(pub Field);
 impl Config {
     ghost use Rattle.gn_rules.specs.Settings.{IsFirstOut, IsMadeOf};
 
-    /// These numbers, where each is from 1 to its limit; else the first that isn't.
+    /// These numbers, where each is from 1 to its limit; else the first that isn't. Every life is within its limit.
     pub fn new(
         neighbours: u32,
         seen: u32,
@@ -53,12 +53,29 @@ impl Config {
         stage: u32,
         out: u32,
         steps: u32,
+        life: u8,
         own: Own,
     ) -> Result<Config, BadConfig>
         ensures made { IfOk result (λ config. IsMadeOf config
-            (record { neighbours = neighbours; seen = seen; servents = servents; stage = stage; out = out; steps = steps }) own) }
+            (record {
+              neighbours = neighbours;
+              seen = seen;
+              servents = servents;
+              stage = stage;
+              out = out;
+              steps = steps;
+              life = life;
+            }) own) }
         ensures first { IfErr result (λ bad. IsFirstOut bad.0
-            (record { neighbours = neighbours; seen = seen; servents = servents; stage = stage; out = out; steps = steps })) }
+            (record {
+              neighbours = neighbours;
+              seen = seen;
+              servents = servents;
+              stage = stage;
+              out = out;
+              steps = steps;
+              life = life;
+            })) }
     {
         Config::of(
             Numbers {
@@ -68,6 +85,7 @@ impl Config {
                 stage,
                 out,
                 steps,
+                life,
             },
             own,
         )

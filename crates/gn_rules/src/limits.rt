@@ -15,6 +15,8 @@ pub struct Numbers {
     pub out: u32,
     /// Steps of a history.
     pub steps: u32,
+    /// What TTL and Hops of a descriptor that is passed on are together at most; 0 is no limit.
+    pub life: u8,
 }
 
 impl Numbers {
@@ -26,6 +28,7 @@ impl Numbers {
         stage: 4_096,
         out: 4_096,
         steps: 1_000_000,
+        life: u8::MAX,
     };
 }
 

@@ -40,12 +40,14 @@ pub fn own_pong<A: Allocator + Copy>(
     }
 }
 
-/// Whether the local servent may send a descriptor: a sound Ping or Query with some TTL and no Hops.
-pub fn may_originate<A: Allocator>(packet: &Descriptor<A>) -> bool
-    ensures { result ≡ answer.may_originate packet.now }
+/// Whether the local servent may send a descriptor: a sound Ping or Query with some TTL, which the limit on its life doesn't
+/// cut, and no Hops. A limit of 0 is none.
+pub fn may_originate<A: Allocator>(life: u8, packet: &Descriptor<A>) -> bool
+    ensures { result ≡ answer.may_originate life packet.now }
 {
     matches!(packet.kind(), Kind::Ping | Kind::Query)
         && packet.ttl() != 0
         && packet.hops() == 0
+        && packet.life_left(life) == packet.ttl()
         && matches!(verdict_on(packet), Verdict::Sound)
 }

@@ -26,7 +26,7 @@ is_within number limit = nat_le 1 number && nat_le number limit
 abbrev pub are_within : Numbers → Bool
 are_within n =
     is_within n.neighbours most.neighbours && is_within n.seen most.seen && is_within n.servents most.servents
-    && is_within n.stage most.stage && is_within n.out most.out && is_within n.steps most.steps
+    && is_within n.stage most.stage && is_within n.out most.out && is_within n.steps most.steps && nat_le n.life most.life
 
 -- numbers, where each is within its limit
 abbrev pub numbers_within : Numbers → Option Numbers

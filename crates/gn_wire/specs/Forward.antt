@@ -1,11 +1,15 @@
--- What is passed on of a descriptor.
-use Rattle.std.specs.Prelude.{◌+◌, ◌-◌, Bool, ◌==◌, ◌||◌, nat_le}
+-- What is passed on of a descriptor, where its life has a limit.
+use Rattle.std.specs.Prelude.{◌+◌, ◌-◌, ℕ, Bool, ◌==◌, ◌||◌, nat_le, min, if◌then◌else◌}
 use Rattle.gn_wire.specs.Packet.{Packet}
 
--- expired: it came with TTL 0 or 1, or with Hops 255, and isn't forwarded
-abbrev pub is_expired : Packet → Bool
-is_expired d = nat_le d.ttl 1 || d.hops == 255
+-- how many times a descriptor may still be forwarded: its TTL, and with its Hops no more than the limit; a limit of 0 is none
+abbrev pub life_left : ℕ → Packet → ℕ
+life_left life d = if life == 0 then d.ttl else min d.ttl (life - d.hops)
 
--- the forward: TTL one less, Hops one more, all else the same
-abbrev pub forward_of : Packet → Packet
-forward_of d = record d { ttl = d.ttl - 1; hops = d.hops + 1 }
+-- expired: at most one forward is left of its life, or it came with Hops 255; it isn't forwarded
+abbrev pub is_expired : ℕ → Packet → Bool
+is_expired life d = nat_le (life_left life d) 1 || d.hops == 255
+
+-- the forward: TTL one less than what is left of its life, Hops one more, all else the same
+abbrev pub forward_of : ℕ → Packet → Packet
+forward_of life d = record d { ttl = life_left life d - 1; hops = d.hops + 1 }

@@ -34,7 +34,7 @@ impl<A: Allocator> Model for Descriptor<A> {
 }
 
 impl<A: Allocator> Descriptor<A> {
-    ghost use Rattle.gn_wire.specs.Forward.{forward_of, is_expired};
+    ghost use Rattle.gn_wire.specs.Forward.{forward_of, is_expired, life_left};
     ghost use Rattle.gn_wire.specs.Keys.{is_same_packet, key_of};
     ghost use Rattle.gn_wire.specs.Kinds.{IsStored, code_of, kind_of};
     ghost use Rattle.gn_wire.specs.Lengths.{IsDescriptor, fault_of, packet_fault, unless_fault};
@@ -183,17 +183,28 @@ impl<A: Allocator> Descriptor<A> {
         })
     }
 
-    /// The header under which it is forwarded: TTL one less, Hops one more. `None` where it is expired
-    /// (Gnutella v0.4, "Descriptor routing").
-    pub fn forwarded(&self) -> Option<Header>
-        ensures { MatchOption result (is_expired self.now ≡ true)
-            (λ h. (is_expired self.now ≡ false) × (h ≡ header_of (forward_of self.now))) }
+    /// How many times it may still be forwarded, where TTL and Hops together are to be at most `life`; 0 is no limit.
+    pub fn life_left(&self, life: u8) -> u8
+        ensures { result ≡ life_left life self.now }
     {
-        if self.ttl <= 1 || self.hops == 255 {
+        if life == 0 {
+            return self.ttl;
+        }
+        self.ttl.min(life.saturating_sub(self.hops))
+    }
+
+    /// The header under which it is forwarded: TTL one less than what is left of its life, Hops one more. `None` where it
+    /// is expired (Gnutella v0.4, "Descriptor routing"; the limit on its life is this project's own).
+    pub fn forwarded(&self, life: u8) -> Option<Header>
+        ensures { MatchOption result (is_expired life self.now ≡ true)
+            (λ h. (is_expired life self.now ≡ false) × (h ≡ header_of (forward_of life self.now))) }
+    {
+        let left = self.life_left(life);
+        if left <= 1 || self.hops == 255 {
             return None;
         }
         Some(Header {
-            ttl: self.ttl - 1,
+            ttl: left - 1,
             hops: self.hops + 1,
             ..self.header()
         })
