@@ -16,9 +16,9 @@ use Rattle.gn_rules.specs.declared.refusal.Refusal.TheVariants.{HistoryFull, Not
 use Rattle.gn_rules.specs.declared.reply.Decision.{Decision}
 use Rattle.gn_rules.specs.declared.reply.Decision.TheVariants.{Drop, Local, Flood, Forward}
 use Rattle.gn_rules.specs.declared.reply.Reply.{Reply}
-use Rattle.gn_rules.specs.declared.reply.Reply.TheVariants.{Connected, TooMany, Closed, Admitted, Busy, Routed, Dropped, Taken, Sent}
+use Rattle.gn_rules.specs.declared.reply.Reply.TheVariants.{Connected, TooMany, Closed, Admitted, Busy, Crowded, Routed, Dropped, Taken, Sent}
 use Rattle.gn_rules.specs.Decision.{decide}
-use Rattle.gn_rules.specs.Flight.{Admission, tickets, in_flight, is_at_threshold}
+use Rattle.gn_rules.specs.Flight.{Admission, tickets, in_flight, is_at_threshold, is_crowded}
 use Rattle.gn_rules.specs.Live.{live, connections, live_connections}
 use Rattle.gn_rules.specs.Output.{out}
 use Rattle.gn_rules.specs.Sending.{send, fanout, flood_sends}
@@ -34,11 +34,12 @@ connect_answer s past =
 abbrev pub close_answer : {A : Type 0} → List (Step A) → ℕ → Result (Reply A) Refusal
 close_answer past c = if not (live past c) then Err NotLive else Ok (Closed (length (out past c)))
 
--- Admit from c: refused where c isn't live, busy at the threshold, else the next ticket
+-- Admit from c: refused where c isn't live, busy at the threshold, crowded at the connection's own, else the next ticket
 abbrev pub admit_answer : {A : Type 0} → Config → List (Step A) → ℕ → Result (Reply A) Refusal
 admit_answer s past c =
     if not (live past c) then Err NotLive
     else if is_at_threshold s past then Ok Busy
+    else if is_crowded s past c then Ok Crowded
     else Ok (Admitted (length (tickets past)))
 
 -- the first packet of an output; refused where nothing waits

@@ -8,7 +8,7 @@ use Rattle.gn_rules.specs.declared.receipt.Step.{Step}
 use Rattle.gn_rules.specs.declared.refusal.Refusal.{Refusal}
 use Rattle.gn_rules.specs.declared.refusal.Refusal.TheVariants.{HistoryFull, NotLive, NoTicket, Strange, NothingWaiting, BadOrigin, Remembered, NoMemory}
 use Rattle.gn_rules.specs.declared.reply.Reply.{Reply}
-use Rattle.gn_rules.specs.declared.reply.Reply.TheVariants.{Connected, TooMany, Closed, Admitted, Busy, Routed, Dropped, Taken, Sent}
+use Rattle.gn_rules.specs.declared.reply.Reply.TheVariants.{Connected, TooMany, Closed, Admitted, Busy, Crowded, Routed, Dropped, Taken, Sent}
 use Rattle.gn_rules.specs.Answer.{answer, checked_answer}
 use Rattle.gn_rules.specs.History.{ticket_of}
 
@@ -19,6 +19,7 @@ replies Connect TooMany = true
 replies (Close c) (Closed count) = true
 replies (Admit c d) (Admitted t) = true
 replies (Admit c d) Busy = true
+replies (Admit c d) Crowded = true
 replies (Route t) (Routed sends local) = true
 replies (Route t) (Dropped reason) = true
 replies (Take c) (Taken packet) = true

@@ -1,5 +1,5 @@
 -- What was admitted, and what of it isn't routed yet.
-use Rattle.std.specs.Prelude.{ℕ, Bool, false, ◌==◌, not, if◌then◌else◌, List, [], ◌∷◌, ◌++◌, filter, length, Option, Some, None}
+use Rattle.std.specs.Prelude.{ℕ, Bool, false, ◌==◌, ◌&&◌, nat_le, not, if◌then◌else◌, List, [], ◌∷◌, ◌++◌, filter, length, Option, Some, None}
 use Rattle.std.specs.List.{list_any}
 use Rattle.std.specs.Option.{option_to_list}
 use Rattle.gn_wire.specs.Packet.{Packet}
@@ -50,6 +50,19 @@ flying_after event reply flying = filter (λ t. not (is_route t event)) flying +
 -- what is in flight under the ticket t
 abbrev pub in_flight : {A : Type 0} → List (Step A) → ℕ → Option Admission
 in_flight past t = if is_routed past t then None else admission past t
+
+-- whether c is the connection of an admission
+abbrev pub is_from : ℕ → Option Admission → Bool
+is_from c None = false
+is_from c (Some a) = a.origin == c
+
+-- the tickets in flight that c admitted, whether or not it is still live
+abbrev pub flying_from : {A : Type 0} → List (Step A) → ℕ → List ℕ
+flying_from past c = filter (λ t. is_from c (admission past t)) (flying past)
+
+-- crowded: there is a threshold for each connection, and at least as many tickets that c admitted are in flight
+abbrev pub is_crowded : {A : Type 0} → Config → List (Step A) → ℕ → Bool
+is_crowded s past c = not (s.numbers.crowd == 0) && nat_le s.numbers.crowd (length (flying_from past c))
 
 -- at the threshold: as many tickets are in flight as may be
 abbrev pub is_at_threshold : {A : Type 0} → Config → List (Step A) → Bool

@@ -59,7 +59,7 @@ abbrev pub CountersAddUp : Type 0 → Type 0
 CountersAddUp A =
     (past : List (Step A))
     → sum (map (λ k. count_in k (stats_of past))
-    (counter.Connected ∷ counter.TooMany ∷ counter.Closed ∷ counter.Admitted ∷ counter.Busy ∷ counter.Routed ∷ counter.UnknownKind
+    (counter.Connected ∷ counter.TooMany ∷ counter.Closed ∷ counter.Admitted ∷ counter.Busy ∷ counter.Crowded ∷ counter.Routed ∷ counter.UnknownKind
     ∷ counter.Malformed ∷ counter.Duplicate ∷ counter.NoRoute ∷ counter.RouteGone ∷ counter.BackToSender ∷ counter.Expired
     ∷ counter.Taken ∷ counter.Sent ∷ [])) ≡ length past
 

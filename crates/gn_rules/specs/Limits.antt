@@ -9,9 +9,9 @@ pub record IsWithin (number most : ℕ) : Type 0 where
 
 -- the greatest that each number of a configuration may be
 abbrev pub most : Numbers
-most = record { neighbours = 64; seen = 65536; servents = 65536; stage = 4096; out = 4096; steps = 1000000; life = 255 }
+most = record { neighbours = 256; seen = 65536; servents = 65536; stage = 4096; out = 4096; steps = 1000000; life = 255; crowd = 4096 }
 
--- each number of a configuration is from 1 to its limit; the limit on a descriptor's life may be 0, which is none
+-- each number of a configuration is from 1 to its limit; the limit on a descriptor's life and the threshold of a connection may be 0, which is none
 pub record AreWithin (n : Numbers) : Type 0 where
   pub neighbours : IsWithin n.neighbours most.neighbours
   pub seen : IsWithin n.seen most.seen
@@ -20,6 +20,7 @@ pub record AreWithin (n : Numbers) : Type 0 where
   pub out : IsWithin n.out most.out
   pub steps : IsWithin n.steps most.steps
   pub life : n.life ≤ most.life
+  pub crowd : n.crowd ≤ most.crowd
 
 -- the most links of a run
 abbrev pub most_links : ℕ
@@ -27,7 +28,7 @@ most_links = 256
 
 -- the most workers of a run
 abbrev pub most_workers : ℕ
-most_workers = 16
+most_workers = 64
 
 -- so many workers may work at a run
 abbrev pub IsCrew : ℕ → Type 0

@@ -26,6 +26,7 @@ counter_of reply.TooMany = counter.TooMany
 counter_of (reply.Closed count) = counter.Closed
 counter_of (reply.Admitted t) = counter.Admitted
 counter_of reply.Busy = counter.Busy
+counter_of reply.Crowded = counter.Crowded
 counter_of (reply.Routed sends local) = counter.Routed
 counter_of (reply.Dropped why) = drop_counter why
 counter_of (reply.Taken packet) = counter.Taken
@@ -38,16 +39,17 @@ counter_place counter.TooMany = 1
 counter_place counter.Closed = 2
 counter_place counter.Admitted = 3
 counter_place counter.Busy = 4
-counter_place counter.Routed = 5
-counter_place counter.UnknownKind = 6
-counter_place counter.Malformed = 7
-counter_place counter.Duplicate = 8
-counter_place counter.NoRoute = 9
-counter_place counter.RouteGone = 10
-counter_place counter.BackToSender = 11
-counter_place counter.Expired = 12
-counter_place counter.Taken = 13
-counter_place counter.Sent = 14
+counter_place counter.Crowded = 5
+counter_place counter.Routed = 6
+counter_place counter.UnknownKind = 7
+counter_place counter.Malformed = 8
+counter_place counter.Duplicate = 9
+counter_place counter.NoRoute = 10
+counter_place counter.RouteGone = 11
+counter_place counter.BackToSender = 12
+counter_place counter.Expired = 13
+counter_place counter.Taken = 14
+counter_place counter.Sent = 15
 
 -- two counters are the same where their places are
 abbrev pub is_same_counter : Counter → Counter → Bool
@@ -60,6 +62,7 @@ count_in counter.TooMany n = n.toomany
 count_in counter.Closed n = n.closed
 count_in counter.Admitted n = n.admitted
 count_in counter.Busy n = n.busy
+count_in counter.Crowded n = n.crowded
 count_in counter.Routed n = n.routed
 count_in counter.UnknownKind n = n.unknownkind
 count_in counter.Malformed n = n.malformed
@@ -78,6 +81,7 @@ raised counter.TooMany n = record n { toomany = n.toomany + 1 }
 raised counter.Closed n = record n { closed = n.closed + 1 }
 raised counter.Admitted n = record n { admitted = n.admitted + 1 }
 raised counter.Busy n = record n { busy = n.busy + 1 }
+raised counter.Crowded n = record n { crowded = n.crowded + 1 }
 raised counter.Routed n = record n { routed = n.routed + 1 }
 raised counter.UnknownKind n = record n { unknownkind = n.unknownkind + 1 }
 raised counter.Malformed n = record n { malformed = n.malformed + 1 }
@@ -97,6 +101,7 @@ no_stats = record {
   closed = 0;
   admitted = 0;
   busy = 0;
+  crowded = 0;
   routed = 0;
   unknownkind = 0;
   malformed = 0;

@@ -36,16 +36,17 @@ pub enum Field {
     Stage,
     Out,
     Steps,
+    Crowd,
 }
 
-/// The first number that isn't from 1 to its limit.
+/// The first number that is out of its limit.
 #[derive(Clone, Copy, Debug, PartialEq, Eq)]
 pub struct BadConfig(pub Field);
 
 impl Config {
     ghost use Rattle.gn_rules.specs.Settings.{IsFirstOut, IsMadeOf};
 
-    /// These numbers, where each is from 1 to its limit; else the first that isn't. Every life is within its limit.
+    /// These numbers, where each is within its limit; else the first that isn't. Every `life` is, so no field names it.
     pub fn new(
         neighbours: u32,
         seen: u32,
@@ -54,6 +55,7 @@ impl Config {
         out: u32,
         steps: u32,
         life: u8,
+        crowd: u32,
         own: Own,
     ) -> Result<Config, BadConfig>
         ensures made { IfOk result (λ config. IsMadeOf config
@@ -65,6 +67,7 @@ impl Config {
               out = out;
               steps = steps;
               life = life;
+              crowd = crowd;
             }) own) }
         ensures first { IfErr result (λ bad. IsFirstOut bad.0
             (record {
@@ -75,6 +78,7 @@ impl Config {
               out = out;
               steps = steps;
               life = life;
+              crowd = crowd;
             })) }
     {
         Config::of(
@@ -86,6 +90,7 @@ impl Config {
                 out,
                 steps,
                 life,
+                crowd,
             },
             own,
         )
@@ -113,6 +118,9 @@ impl Config {
         }
         if !is_within(numbers.steps, Numbers::MOST.steps) {
             return Err(BadConfig(Field::Steps));
+        }
+        if numbers.crowd > Numbers::MOST.crowd {
+            return Err(BadConfig(Field::Crowd));
         }
         Ok(Config { numbers, own })
     }

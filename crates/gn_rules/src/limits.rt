@@ -17,18 +17,21 @@ pub struct Numbers {
     pub steps: u32,
     /// What TTL and Hops of a descriptor that is passed on are together at most; 0 is no limit.
     pub life: u8,
+    /// Descriptors of one connection in flight at once; 0 is no threshold but that of all.
+    pub crowd: u32,
 }
 
 impl Numbers {
     /// The greatest that each may be.
     pub const MOST: Numbers = Numbers {
-        neighbours: 64,
+        neighbours: 256,
         seen: 65_536,
         servents: 65_536,
         stage: 4_096,
         out: 4_096,
         steps: 1_000_000,
         life: u8::MAX,
+        crowd: 4_096,
     };
 }
 
@@ -36,4 +39,4 @@ impl Numbers {
 pub const MOST_LINKS: usize = 256;
 
 /// The most workers of a run.
-pub const MOST_WORKERS: u32 = 16;
+pub const MOST_WORKERS: u32 = 64;

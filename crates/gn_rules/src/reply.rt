@@ -54,6 +54,8 @@ pub enum Reply<A: Allocator = Global> {
     Admitted(Ticket),
     /// As many descriptors are in flight as may be; this one is gone.
     Busy,
+    /// As many descriptors of the connection are in flight as one may have.
+    Crowded,
     /// What was sent on, and whether the local servent gets it too.
     Routed { sends: Sends<A>, local: bool },
     /// The descriptor is gone.
@@ -157,6 +159,7 @@ impl<A: Allocator + Copy> Reply<A> {
             Reply::Closed(count) => Reply::Closed(*count),
             Reply::Admitted(t) => Reply::Admitted(*t),
             Reply::Busy => Reply::Busy,
+            Reply::Crowded => Reply::Crowded,
             Reply::Routed { sends, local } => Reply::Routed {
                 sends: sends.copy(alloc)?,
                 local: *local,

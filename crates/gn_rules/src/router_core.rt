@@ -2,7 +2,7 @@
 
 ghost use Rattle.std.specs.Prelude.{◌≡◌, ◌↔◌, ◌∷◌, ◌++◌, [], List, Ok, Err, length, reverse, IfErr, IfOk, IsTrue, OnErr, OnOk};
 ghost use Rattle.gn_rules.specs.Answer.{Finds, answer, checked_answer, reply_of};
-ghost use Rattle.gn_rules.specs.Flight.{flying};
+ghost use Rattle.gn_rules.specs.Flight.{flying, flying_from};
 ghost use Rattle.gn_rules.specs.Legal.{IsLegal};
 ghost use Rattle.gn_rules.specs.Live.{live};
 ghost use Rattle.gn_rules.specs.Output.{waiting};
@@ -108,6 +108,10 @@ pub trait RouterCore<A: Allocator + Copy> {
     /// How many tickets are in flight.
     fn flights(&self) -> u32
         ensures { result ≡ length (flying (reverse (steps self.now))) };
+
+    /// How many tickets that the connection admitted are in flight, whether or not it is still live. Takes no memory.
+    fn flights_of(&self, c: ConnId) -> u32
+        ensures { result ≡ length (flying_from (reverse (steps self.now)) c) };
 
     /// Whether the connection is live.
     fn is_live(&self, c: ConnId) -> bool

@@ -42,6 +42,7 @@ pub fn is_same_reply<A: Allocator>(a: &Reply<A>, b: &Reply<A>) -> bool
         (Reply::Closed(count), Reply::Closed(other)) => count == other,
         (Reply::Admitted(t), Reply::Admitted(u)) => t == u,
         (Reply::Busy, Reply::Busy) => true,
+        (Reply::Crowded, Reply::Crowded) => true,
         (
             Reply::Routed { sends, local },
             Reply::Routed {

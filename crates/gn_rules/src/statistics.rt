@@ -14,6 +14,7 @@ pub enum Counter {
     Closed,
     Admitted,
     Busy,
+    Crowded,
     Routed,
     UnknownKind,
     Malformed,
@@ -34,6 +35,7 @@ pub struct Stats {
     pub closed: u32,
     pub admitted: u32,
     pub busy: u32,
+    pub crowded: u32,
     pub routed: u32,
     pub unknownkind: u32,
     pub malformed: u32,
@@ -48,12 +50,13 @@ pub struct Stats {
 
 impl Counter {
     /// All counters, in the order in which they are printed.
-    pub const ALL: [Counter; 15] = [
+    pub const ALL: [Counter; 16] = [
         Counter::Connected,
         Counter::TooMany,
         Counter::Closed,
         Counter::Admitted,
         Counter::Busy,
+        Counter::Crowded,
         Counter::Routed,
         Counter::UnknownKind,
         Counter::Malformed,
@@ -76,6 +79,7 @@ impl Counter {
             Reply::Closed(_) => Counter::Closed,
             Reply::Admitted(_) => Counter::Admitted,
             Reply::Busy => Counter::Busy,
+            Reply::Crowded => Counter::Crowded,
             Reply::Routed { .. } => Counter::Routed,
             Reply::Dropped(reason) => Counter::of_drop(*reason),
             Reply::Taken(_) => Counter::Taken,
@@ -110,6 +114,7 @@ impl Stats {
             closed: 0,
             admitted: 0,
             busy: 0,
+            crowded: 0,
             routed: 0,
             unknownkind: 0,
             malformed: 0,
@@ -133,6 +138,7 @@ impl Stats {
             Counter::Closed => self.closed,
             Counter::Admitted => self.admitted,
             Counter::Busy => self.busy,
+            Counter::Crowded => self.crowded,
             Counter::Routed => self.routed,
             Counter::UnknownKind => self.unknownkind,
             Counter::Malformed => self.malformed,
@@ -157,6 +163,7 @@ impl Stats {
             Counter::Closed => self.closed = one_more(self.closed),
             Counter::Admitted => self.admitted = one_more(self.admitted),
             Counter::Busy => self.busy = one_more(self.busy),
+            Counter::Crowded => self.crowded = one_more(self.crowded),
             Counter::Routed => self.routed = one_more(self.routed),
             Counter::UnknownKind => self.unknownkind = one_more(self.unknownkind),
             Counter::Malformed => self.malformed = one_more(self.malformed),
