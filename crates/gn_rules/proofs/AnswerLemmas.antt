@@ -9,9 +9,9 @@ use Rattle.gn_rules.specs.declared.receipt.Step.{Step}
 use Rattle.gn_rules.specs.declared.refusal.Refusal.{Refusal}
 use Rattle.gn_rules.specs.declared.refusal.Refusal.TheVariants.{HistoryFull, NotLive, Strange, BadOrigin, Remembered}
 use Rattle.gn_rules.specs.declared.reply.Reply.{Reply}
-use Rattle.gn_rules.specs.declared.reply.Reply.TheVariants.{Connected, TooMany, Closed, Admitted, Busy, Taken, Sent}
+use Rattle.gn_rules.specs.declared.reply.Reply.TheVariants.{Connected, TooMany, Closed, Admitted, Busy, Crowded, Taken, Sent}
 use Rattle.gn_rules.specs.Answer.{answer, admit_answer, checked_answer, checked_flight_answer, close_answer, connect_answer, event_answer, first_taken, flight_answer, may_originate, originate_answer, route_answer, route_reply, take_answer, with_room}
-use Rattle.gn_rules.specs.Flight.{Admission, in_flight, is_at_threshold, tickets}
+use Rattle.gn_rules.specs.Flight.{Admission, in_flight, is_at_threshold, is_crowded, tickets}
 use Rattle.gn_rules.specs.Live.{live, connections, live_connections}
 use Rattle.gn_rules.specs.Output.{out}
 use Rattle.gn_rules.specs.Sending.{fanout}
@@ -34,7 +34,7 @@ pub record RoutedFlight {A : Type 0} (s : Config) (past : List (Step A)) (found 
 abbrev pub Answered : {A : Type 0} → Config → List (Step A) → Event A → Reply A → Type 0
 Answered s past Connect reply = (reply ≡ TooMany) ⊎ (reply ≡ Connected (1 + length (connections past)))
 Answered s past (Close c) reply = (live past c ≡ true) × (reply ≡ Closed (length (out past c)))
-Answered s past (Admit c d) reply = (live past c ≡ true) × ((reply ≡ Busy) ⊎ (reply ≡ Admitted (length (tickets past))))
+Answered s past (Admit c d) reply = (live past c ≡ true) × ((reply ≡ Busy) ⊎ (reply ≡ Crowded) ⊎ (reply ≡ Admitted (length (tickets past))))
 Answered s past (Route t) reply = RoutedFlight s past (in_flight past t) reply
 Answered s past (Take c) reply = (live past c ≡ true) × TookFirst (out past c) reply
 Answered s past (Originate d) reply = reply ≡ Sent (fanout s past 0 d)
@@ -48,6 +48,12 @@ unless_refused false refusal rules reply e = (refl, e)
 where_live : {A : Type 0} (alive : Bool) (rules : Result (Reply A) Refusal) (reply : Reply A) → cond (not alive) (Err NotLive) rules ≡ Ok reply → (alive ≡ true) × (rules ≡ Ok reply)
 where_live true rules reply e = (refl, e)
 where_live false rules reply e = absurd (cc)
+
+-- one of three replies
+which_reply : {A : Type 0} (b d : Bool) (x y z reply : Reply A) → cond {A = Result (Reply A) Refusal} b (Ok x) (cond d (Ok y) (Ok z)) ≡ Ok reply → (reply ≡ x) ⊎ (reply ≡ y) ⊎ (reply ≡ z)
+which_reply true d x y z reply e = let is : reply ≡ x = cc in inl is
+which_reply false true x y z reply e = let is : reply ≡ y = cc in inr (inl is)
+which_reply false false x y z reply e = let is : reply ≡ z = cc in inr (inr is)
 
 -- one of two replies
 either_reply : {A : Type 0} (b : Bool) (x y reply : Reply A) → cond {A = Result (Reply A) Refusal} b (Ok x) (Ok y) ≡ Ok reply → (reply ≡ x) ⊎ (reply ≡ y)
@@ -71,8 +77,8 @@ event_reply s past (Close c) reply e =
     let alive = where_live (live past c) (Ok (Closed (length (out past c)))) reply e in
     (alive.0, reply_is (Closed (length (out past c))) reply alive.1)
 event_reply s past (Admit c d) reply e =
-    let alive = where_live (live past c) (cond (is_at_threshold s past) (Ok Busy) (Ok (Admitted (length (tickets past))))) reply e in
-    (alive.0, either_reply (is_at_threshold s past) Busy (Admitted (length (tickets past))) reply alive.1)
+    let alive = where_live (live past c) (cond (is_at_threshold s past) (Ok Busy) (cond (is_crowded s past c) (Ok Crowded) (Ok (Admitted (length (tickets past)))))) reply e in
+    (alive.0, which_reply (is_at_threshold s past) (is_crowded s past c) Busy Crowded (Admitted (length (tickets past))) reply alive.1)
 event_reply s past (Route t) reply e = flight_reply s past (in_flight past t) reply e
 event_reply s past (Take c) reply e =
     let alive = where_live (live past c) (first_taken (out past c)) reply e in
@@ -100,10 +106,10 @@ module _ {A : Type 0} (s : Config) (past : List (Step A)) (reply : Reply A) wher
   pub close_reply : (c : ℕ) → with_room s past (close_answer past c) ≡ Ok reply → reply ≡ Closed (length (out past c))
   close_reply c e = (answered s past (Close c) reply e).1
 
-  pub admit_reply : (c : ℕ) → with_room s past (admit_answer s past c) ≡ Ok reply → (reply ≡ Busy) ⊎ (reply ≡ Admitted (length (tickets past)))
+  pub admit_reply : (c : ℕ) → with_room s past (admit_answer s past c) ≡ Ok reply → (reply ≡ Busy) ⊎ (reply ≡ Crowded) ⊎ (reply ≡ Admitted (length (tickets past)))
   admit_reply c e =
-      either_reply (is_at_threshold s past) Busy (Admitted (length (tickets past))) reply
-      ((where_live (live past c) (cond (is_at_threshold s past) (Ok Busy) (Ok (Admitted (length (tickets past))))) reply (rules_are (admit_answer s past c) e)).1)
+      which_reply (is_at_threshold s past) (is_crowded s past c) Busy Crowded (Admitted (length (tickets past))) reply
+      ((where_live (live past c) (cond (is_at_threshold s past) (Ok Busy) (cond (is_crowded s past c) (Ok Crowded) (Ok (Admitted (length (tickets past)))))) reply (rules_are (admit_answer s past c) e)).1)
 
   pub take_reply : (c : ℕ) → with_room s past (take_answer past c) ≡ Ok reply → TookFirst (out past c) reply
   take_reply c e = (answered s past (Take c) reply e).1

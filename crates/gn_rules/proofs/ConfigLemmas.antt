@@ -23,6 +23,7 @@ all_within_is_one a b =
       within_is_one a.out b.out,
       within_is_one a.steps b.steps,
       le_prop a.life b.life,
+      le_prop a.crowd b.crowd,
     ) refl
 
 -- a configuration is the one that these numbers and this servent make

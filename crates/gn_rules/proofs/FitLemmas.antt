@@ -11,11 +11,11 @@ use Rattle.gn_rules.specs.declared.refusal.Refusal.TheVariants.{HistoryFull, Not
 use Rattle.gn_rules.specs.declared.reply.Decision.{Decision}
 use Rattle.gn_rules.specs.declared.reply.Decision.TheVariants.{Drop}
 use Rattle.gn_rules.specs.declared.reply.Reply.{Reply}
-use Rattle.gn_rules.specs.declared.reply.Reply.TheVariants.{Connected, TooMany, Closed, Admitted, Busy, Sent}
+use Rattle.gn_rules.specs.declared.reply.Reply.TheVariants.{Connected, TooMany, Closed, Admitted, Busy, Crowded, Sent}
 use Rattle.gn_rules.specs.Answer.{event_answer, first_taken, flight_answer, checked_flight_answer, decision_reply, route_reply, may_originate, Finds}
 use Rattle.gn_rules.specs.Decision.{decide}
 use Rattle.gn_rules.specs.Fits.{is_fit, replies, AnswersFit, CheckedAnswersFit}
-use Rattle.gn_rules.specs.Flight.{Admission, in_flight, is_at_threshold, tickets}
+use Rattle.gn_rules.specs.Flight.{Admission, in_flight, is_at_threshold, is_crowded, tickets}
 use Rattle.gn_rules.specs.Live.{live, connections, live_connections}
 use Rattle.gn_rules.specs.Output.{out}
 use Rattle.gn_rules.specs.Sending.{fanout}
@@ -47,8 +47,9 @@ event_fits : {A : Type 0} (s : Config) (past : List (Step A)) (event : Event A) 
 event_fits s past Connect = either_fits Connect (length (live_connections past) == s.numbers.neighbours) (Ok TooMany) (Ok (Connected (1 + length (connections past)))) refl refl
 event_fits s past (Close c) = either_fits (Close c) (not (live past c)) (Err NotLive) (Ok (Closed (length (out past c)))) refl refl
 event_fits s past (Admit c d) =
-    either_fits (Admit c d) (not (live past c)) (Err NotLive) (cond (is_at_threshold s past) (Ok Busy) (Ok (Admitted (length (tickets past))))) refl
-    (either_fits (Admit c d) (is_at_threshold s past) (Ok Busy) (Ok (Admitted (length (tickets past)))) refl refl)
+    either_fits (Admit c d) (not (live past c)) (Err NotLive) (cond (is_at_threshold s past) (Ok Busy) (cond (is_crowded s past c) (Ok Crowded) (Ok (Admitted (length (tickets past)))))) refl
+    (either_fits (Admit c d) (is_at_threshold s past) (Ok Busy) (cond (is_crowded s past c) (Ok Crowded) (Ok (Admitted (length (tickets past))))) refl
+    (either_fits (Admit c d) (is_crowded s past c) (Ok Crowded) (Ok (Admitted (length (tickets past)))) refl refl))
 event_fits s past (Route t) = flight_fits s past t (in_flight past t)
 event_fits {A} s past (Take c) = either_fits (Take c) (not (live past c)) (Err NotLive) (first_taken (out past c)) refl (first_fits A c (out past c))
 event_fits s past (Originate d) =

@@ -68,7 +68,8 @@ moves_tickets s past (Close c) reply e = inl (record { gives = ap admitted_of (a
 moves_tickets s past (Admit c d) reply e =
     elim ((answered s past (Admit c d) reply e).1) as (λ x. MovesTickets past (Admit c d) reply) [
       | inl is ↦ inl (record { gives = ap admitted_of is; routes = refl })
-      | inr is ↦ inr (inl (record { gives = ap admitted_of is; routes = refl }))
+      | inr (inl is) ↦ inl (record { gives = ap admitted_of is; routes = refl })
+      | inr (inr is) ↦ inr (inl (record { gives = ap admitted_of is; routes = refl }))
     ]
 moves_tickets s past (Route t) reply e =
     let routed = answered s past (Route t) reply e in

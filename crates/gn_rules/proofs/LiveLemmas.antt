@@ -36,7 +36,8 @@ connects_next s past (Close c) reply e = inl (ap connected_of (answered s past (
 connects_next s past (Admit c d) reply e =
     elim ((answered s past (Admit c d) reply e).1) as (λ x. (connected_of reply ≡ None) ⊎ (connected_of reply ≡ Some (1 + length (connections past)))) [
       | inl is ↦ inl (ap connected_of is)
-      | inr is ↦ inl (ap connected_of is)
+      | inr (inl is) ↦ inl (ap connected_of is)
+      | inr (inr is) ↦ inl (ap connected_of is)
     ]
 connects_next s past (Route t) reply e =
     let routed = answered s past (Route t) reply e in

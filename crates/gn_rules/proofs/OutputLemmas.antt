@@ -94,7 +94,7 @@ output_is_untaken A s past c legal = (all_untaken s past c legal).rest
 -- the sum of all counters
 total : Stats → ℕ
 total n = sum (map (λ k. count_in k n)
-    (counter.Connected ∷ counter.TooMany ∷ counter.Closed ∷ counter.Admitted ∷ counter.Busy ∷ counter.Routed ∷ counter.UnknownKind
+    (counter.Connected ∷ counter.TooMany ∷ counter.Closed ∷ counter.Admitted ∷ counter.Busy ∷ counter.Crowded ∷ counter.Routed ∷ counter.UnknownKind
     ∷ counter.Malformed ∷ counter.Duplicate ∷ counter.NoRoute ∷ counter.RouteGone ∷ counter.BackToSender ∷ counter.Expired
     ∷ counter.Taken ∷ counter.Sent ∷ []))
 
@@ -106,6 +106,7 @@ total-raised counter.TooMany n = omega arith
 total-raised counter.Closed n = omega arith
 total-raised counter.Admitted n = omega arith
 total-raised counter.Busy n = omega arith
+total-raised counter.Crowded n = omega arith
 total-raised counter.Routed n = omega arith
 total-raised counter.UnknownKind n = omega arith
 total-raised counter.Malformed n = omega arith
