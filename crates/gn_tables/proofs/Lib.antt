@@ -4,3 +4,4 @@ pub mod OutputLemmas
 pub mod PlaceLemmas
 pub mod SeenLemmas
 pub mod ServentLemmas
+pub mod OriginLemmas

@@ -71,7 +71,7 @@ IsRing room ring = (ring.capacity ≡ room) × (length ring.items ≤ room)
 -- what the entries of a table keep, within the limits of a router
 pub record AreRings (entries : List (ℕ × Buffer Packet)) (most room : ℕ) : Type 0 where
   pub few : length entries ≤ most
-  pub most_fits : most ≤ 64
+  pub most_fits : most ≤ 256
   pub room_fits : room ≤ 4096
   pub ascending : IsStrictlyIncreasing (keys_of entries)
   pub rings : All (IsRing room) (values_of entries)

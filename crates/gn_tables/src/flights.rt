@@ -4,7 +4,9 @@ ghost use Rattle.std.specs.Prelude.{◌≡◌, ◌<◌, ◌≤◌, None, OnErr, 
 ghost use Rattle.std.specs.FinMap as map;
 ghost use Rattle.std.specs.Option.{option_copied};
 ghost use Rattle.gn_tables.specs.Flying.{with_flight, without_flight};
+ghost use Rattle.gn_tables.specs.Origins.{flights_from};
 
+use crate::counts::{Counts, count, lower, raise};
 use gn_wire::Descriptor;
 use indexmap::IndexMap;
 use std::alloc::{AllocError, Allocator, Global};
@@ -18,11 +20,13 @@ pub struct Flight<A: Allocator = Global> {
     pub descriptor: Descriptor<A>,
 }
 
-/// The descriptors in flight, by ticket. Tickets are hashed with a fixed seed. It grows as descriptors are added.
+/// The descriptors in flight, by ticket, and how many of them each connection sent, whether or not it is still there. Tickets and
+/// connections are hashed with a fixed seed. It grows as descriptors are added.
 #[derive(Drop)]
 pub struct Flights<A: Allocator + Copy = Global> {
     most: u32,
     flights: IndexMap<u32, Flight<A>, BuildHasherDefault<FoldHasher>, A>,
+    counts: Counts<A>,
 }
 
 impl<A: Allocator + Copy> Model for Flights<A> {
@@ -41,7 +45,10 @@ impl<A: Allocator + Copy> Model for Flights<A> {
 
     ghost view = { λ f. record { flights = map.from_entries f.flights.entries; most = f.most } };
 
-    ghost invariant = { λ f. (length f.flights.entries ≤ f.most) × (f.most ≤ 4096) };
+    ghost use Rattle.gn_tables.specs.Origins.{AreCounts};
+
+    ghost invariant = { λ f. (length f.flights.entries ≤ f.most) × (f.most ≤ 4096)
+        × AreCounts f.counts.entries (record { flights = map.from_entries f.flights.entries; most = f.most }) };
 }
 
 impl<A: Allocator + Copy> Flights<A> {
@@ -54,6 +61,7 @@ impl<A: Allocator + Copy> Flights<A> {
         Flights {
             most,
             flights: IndexMap::new(alloc),
+            counts: IndexMap::new(alloc),
         }
     }
 
@@ -63,6 +71,13 @@ impl<A: Allocator + Copy> Flights<A> {
         ensures few { result ≤ self.now.most }
     {
         self.flights.len() as u32
+    }
+
+    /// How many of those in flight came from a connection, live or not. It takes no memory.
+    pub fn of(&self, c: u32) -> u32
+        ensures { result ≡ flights_from c self.now }
+    {
+        count(&self.counts, c)
     }
 
     /// The flight of the ticket.
@@ -85,7 +100,9 @@ impl<A: Allocator + Copy> Flights<A> {
             ≡ with_flight ticket (record { from = from; descriptor = descriptor }) self.old) }
         ensures err { OnErr result (self.new ≡ self.old) }
     {
+        self.counts.reserve(1)?;
         self.flights.insert(ticket, Flight { from, descriptor })?;
+        raise(&mut self.counts, from);
         Ok(())
     }
 
@@ -94,6 +111,8 @@ impl<A: Allocator + Copy> Flights<A> {
         ensures value { result ≡ map.get self.old.flights ticket }
         ensures rest { self.new ≡ without_flight ticket self.old }
     {
-        self.flights.swap_remove(&ticket)
+        let flight = self.flights.swap_remove(&ticket)?;
+        lower(&mut self.counts, flight.from);
+        Some(flight)
     }
 }

@@ -15,8 +15,8 @@ use std::marker::Model;
 type Row<A> = (u32, HeapCircularBuffer<Descriptor<A>, A>);
 
 /// The live connections, ascending, each with the packets that wait for it, the first to go first. A connection is searched
-/// from the first on: there are at most 64. Its ring takes its memory at once when it is added, 64 bytes for each packet
-/// that may wait: 262,144 bytes for 4,096 packets, and 16,777,216 bytes for 64 connections of these.
+/// from the first on: there are at most 256. Its ring takes its memory at once when it is added, 64 bytes for each packet
+/// that may wait: 262,144 bytes for 4,096 packets, and 67,108,864 bytes for 256 connections of these.
 #[derive(Drop)]
 pub struct Neighbours<A: Allocator + Copy = Global> {
     alloc: A,
@@ -43,11 +43,11 @@ fn place_of<A: Allocator>(rows: &[Row<A>], connection: u32) -> Option<usize>
 }
 
 impl<A: Allocator + Copy> Neighbours<A> {
-    /// No neighbours yet; at most `most` of them, 1 to 64, and `room` packets for each, 1 to 4,096. An `Err` is out of
+    /// No neighbours yet; at most `most` of them, 1 to 256, and `room` packets for each, 1 to 4,096. An `Err` is out of
     /// memory.
     pub fn new(alloc: A, most: u32, room: u32) -> Result<Self, AllocError>
         requires some { 0 < most }
-        requires few { most ≤ 64 }
+        requires few { most ≤ 256 }
         requires positive { 0 < room }
         requires limit { room ≤ 4096 }
         ensures { IfOk result (λ n. n ≡ record { rows = []; most = most; room = room }) }
