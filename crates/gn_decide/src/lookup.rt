@@ -3,7 +3,7 @@
 ghost use Rattle.std.specs.Prelude.{◌≡◌, ◌<◌, ◌+◌, ◌^◌, ◌++◌, [], ℕ, if◌then◌else◌, IfSome, List, None, Some, length, true};
 ghost use Rattle.std.specs.List.{slice_get};
 ghost use Rattle.std.specs.Option.{option_copied, option_to_list};
-ghost use Rattle.gn_rules.specs.Flight.{flying, in_flight, tickets};
+ghost use Rattle.gn_rules.specs.Flight.{flying, flying_from, in_flight, tickets};
 ghost use Rattle.gn_rules.specs.Live.{connections, live, live_connections};
 ghost use Rattle.gn_rules.specs.Output.{out};
 ghost use Rattle.gn_rules.specs.Servents as servents;
@@ -61,6 +61,10 @@ pub trait Lookup<A: Allocator> {
     /// How many tickets are in flight.
     fn flights(&self) -> u32
         ensures { result ≡ length (flying (past self.now)) };
+
+    /// How many tickets that the connection admitted are in flight, whether or not it is still live.
+    fn flights_of(&self, c: ConnId) -> u32
+        ensures { result ≡ length (flying_from (past self.now) c) };
 
     /// The ticket that the next admission gets.
     fn next_ticket(&self) -> Ticket

@@ -3,6 +3,7 @@
 ghost use Rattle.std.specs.Prelude.{◌≡◌, ◌==◌, Ok, IfOk, length};
 ghost use Rattle.gn_payload.specs.Sound.{verdict_of};
 ghost use Rattle.gn_rules.specs.Answer as rules;
+ghost use Rattle.gn_rules.specs.Flight as flight;
 ghost use Rattle.gn_rules.specs.Flight.{Admission, in_flight};
 ghost use Rattle.gn_rules.specs.declared.event.Event.TheVariants.{Route};
 ghost use Rattle.gn_decide.specs.Planned.{plan_reply, planned};
@@ -36,6 +37,14 @@ fn plan_close<A: Allocator, L: Lookup<A>>(past: &L, c: ConnId) -> Result<Plan<'_
     }
 }
 
+/// Whether as many tickets of the connection are in flight as one may have, where there is a threshold for each.
+fn is_crowded<A: Allocator, L: Lookup<A>>(past: &L, c: ConnId) -> bool
+    ensures { result ≡ flight.is_crowded (L.settings past.now) (L.past past.now) c }
+{
+    let crowd = past.config().numbers.crowd;
+    crowd != 0 && crowd <= past.flights_of(c)
+}
+
 /// The plan for an Admit.
 fn plan_admit<A: Allocator, L: Lookup<A>>(past: &L, c: ConnId) -> Result<Plan<'_, A>, Refusal>
     ensures { planned (L.settings past.now) (L.past past.now) result
@@ -46,6 +55,9 @@ fn plan_admit<A: Allocator, L: Lookup<A>>(past: &L, c: ConnId) -> Result<Plan<'_
     }
     if past.flights() == past.config().numbers.stage {
         return Ok(Plan::Ready(Reply::Busy));
+    }
+    if is_crowded(past, c) {
+        return Ok(Plan::Ready(Reply::Crowded));
     }
     Ok(Plan::Ready(Reply::Admitted(past.next_ticket())))
 }

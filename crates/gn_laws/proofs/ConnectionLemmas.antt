@@ -285,7 +285,8 @@ sends_none {A} s past (Close d) reply c e dead = ap (λ (r : Reply A). queued_to
 sends_none {A} s past (Admit d packet) reply c e dead =
     elim ((answered s past (Admit d packet) reply e).1) as (λ x. queued_to c (sends_of reply) ≡ []) [
       | inl is ↦ ap (λ (r : Reply A). queued_to c (sends_of r)) is
-      | inr is ↦ ap (λ (r : Reply A). queued_to c (sends_of r)) is
+      | inr (inl is) ↦ ap (λ (r : Reply A). queued_to c (sends_of r)) is
+      | inr (inr is) ↦ ap (λ (r : Reply A). queued_to c (sends_of r)) is
     ]
 sends_none {A} s past (Route t) reply c e dead =
     let routed = answered s past (Route t) reply e in

@@ -31,6 +31,7 @@ counts_route counter.TooMany = false
 counts_route counter.Closed = false
 counts_route counter.Admitted = false
 counts_route counter.Busy = false
+counts_route counter.Crowded = false
 counts_route counter.Taken = false
 counts_route counter.Sent = false
 counts_route k = true
@@ -58,7 +59,7 @@ counted_route {A} s past Connect r e =
     elim (answered s past Connect r e) as (λ x. counts_route (counter_of r) ≡ false) [ inl is ↦ ap (λ (q : Reply A). counts_route (counter_of q)) is | inr is ↦ ap (λ (q : Reply A). counts_route (counter_of q)) is ]
 counted_route {A} s past (Close c) r e = ap (λ (q : Reply A). counts_route (counter_of q)) (answered s past (Close c) r e).1
 counted_route {A} s past (Admit c d) r e =
-    elim ((answered s past (Admit c d) r e).1) as (λ x. counts_route (counter_of r) ≡ false) [ inl is ↦ ap (λ (q : Reply A). counts_route (counter_of q)) is | inr is ↦ ap (λ (q : Reply A). counts_route (counter_of q)) is ]
+    elim ((answered s past (Admit c d) r e).1) as (λ x. counts_route (counter_of r) ≡ false) [ inl is ↦ ap (λ (q : Reply A). counts_route (counter_of q)) is | inr (inl is) ↦ ap (λ (q : Reply A). counts_route (counter_of q)) is | inr (inr is) ↦ ap (λ (q : Reply A). counts_route (counter_of q)) is ]
 counted_route {A} s past (Route t) r e =
     let routed = answered s past (Route t) r e in
     ap (λ (q : Reply A). counts_route (counter_of q)) routed.reply_is ∙ decided s past routed.admitted (decide s past routed.admitted)

@@ -4,7 +4,7 @@ ghost use Rattle.std.specs.Prelude.{◌≡◌, length, reverse};
 ghost use Rattle.gn_rules.specs.Flight.{flying};
 ghost use Rattle.gn_rules.specs.Legal.{IsLegal};
 
-use crate::flight::{flight_count, flight_in, ticket_count};
+use crate::flight::{flight_count, flight_count_of, flight_in, ticket_count};
 use crate::live::{connection_count, is_live, live_at, live_count};
 use crate::output::out_count;
 use crate::seen_entries::source_of;
@@ -114,6 +114,11 @@ impl<'a, A: Allocator> Lookup<A> for Past<'a, A> {
             None => flight_count(self.history),
         };
         flights as u32
+    }
+
+    #[tactic(auto, using(gn_rules::proofs::PastLemmas::past_length, gn_rules::proofs::LegalLemmas::legal_within, crate::proofs::FlightLemmas::from_within))]
+    fn flights_of(&self, c: ConnId) -> u32 {
+        flight_count_of(self.history, c) as u32
     }
 
     #[tactic(auto, using(gn_rules::proofs::PastLemmas::past_length, gn_rules::proofs::LegalLemmas::legal_within))]

@@ -161,6 +161,10 @@ impl<A: Allocator + Copy> RouterCore<A> for PlainRouter<A> {
         self.flying.len() as u32
     }
 
+    fn flights_of(&self, c: ConnId) -> u32 {
+        self.past().flights_of(c)
+    }
+
     fn is_live(&self, c: ConnId) -> bool {
         live::is_live(&self.history, c)
     }

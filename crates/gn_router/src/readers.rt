@@ -49,6 +49,10 @@ impl<A: Allocator + Copy> Lookup<A> for TableRouter<A> {
         self.tables.flights.len()
     }
 
+    fn flights_of(&self, c: ConnId) -> u32 {
+        self.tables.flights.of(c)
+    }
+
     fn next_ticket(&self) -> Ticket {
         self.tables.admitted
     }

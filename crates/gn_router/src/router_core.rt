@@ -125,6 +125,10 @@ impl<A: Allocator + Copy> RouterCore<A> for TableRouter<A> {
         self.tables.flights.len()
     }
 
+    fn flights_of(&self, c: ConnId) -> u32 {
+        Lookup::flights_of(self, c)
+    }
+
     fn is_live(&self, c: ConnId) -> bool {
         self.output(c).is_some()
     }
