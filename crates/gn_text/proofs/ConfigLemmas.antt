@@ -8,7 +8,10 @@ use Rattle.gn_rules.specs.declared.limits.Numbers.{Numbers}
 use Rattle.gn_rules.specs.Limits.{AreWithin}
 use Rattle.gn_text.specs.Lines.{is_word}
 use Rattle.gn_text.specs.Numbers.{number_of}
-use Rattle.gn_text.specs.Settings.{are_within, config_of, numbers_parsed, six_within, settings_of}
+use Rattle.gn_text.specs.Settings.{are_within, config_of, each_within, numbers_parsed, settings_of}
+use Rattle.gn_text.specs.declared.version.Later.{Later}
+use Rattle.gn_text.specs.declared.version.Version.{Version}
+use Rattle.gn_text.specs.Versions.{later_parsed}
 
 -- the settings are those of a configuration
 abbrev pub IsConfigured : Numbers × Own → Type 0
@@ -27,6 +30,8 @@ passed n h = record {
   stage = record { least = grind (arith, nat_tests, h); greatest = grind (arith, nat_tests, h) };
   out = record { least = grind (arith, nat_tests, h); greatest = grind (arith, nat_tests, h) };
   steps = record { least = grind (arith, nat_tests, h); greatest = grind (arith, nat_tests, h) };
+  life = grind (arith, nat_tests, h);
+  crowd = grind (arith, nat_tests, h);
 }
 
 -- numbers within their limits are those of a configuration, with any servent
@@ -38,32 +43,29 @@ tested : (n : Numbers) (b : Bool) → are_within n ≡ b → IfSome (if b then S
 tested n true e = e
 tested n false e = _
 
--- what six fields say is within its limits
-six : (k n m t w h : Option ℕ) → IfSome (six_within k n m t w h) ArePassed
-six None n m t w h = _
-six (Some k) None m t w h = _
-six (Some k) (Some n) None t w h = _
-six (Some k) (Some n) (Some m) None w h = _
-six (Some k) (Some n) (Some m) (Some t) None h = _
-six (Some k) (Some n) (Some m) (Some t) (Some w) None = _
-six (Some k) (Some n) (Some m) (Some t) (Some w) (Some h) =
-    let numbers : Numbers = record { neighbours = k; seen = n; servents = m; stage = t; out = w; steps = h } in tested numbers (are_within numbers) refl
+-- what the fields say is within its limits
+each : (k n m t w h : Option ℕ) (later : Option Later) → IfSome (each_within k n m t w h later) ArePassed
+each None n m t w h later = _
+each (Some k) None m t w h later = _
+each (Some k) (Some n) None t w h later = _
+each (Some k) (Some n) (Some m) None w h later = _
+each (Some k) (Some n) (Some m) (Some t) None h later = _
+each (Some k) (Some n) (Some m) (Some t) (Some w) None later = _
+each (Some k) (Some n) (Some m) (Some t) (Some w) (Some h) None = _
+each (Some k) (Some n) (Some m) (Some t) (Some w) (Some h) (Some later) =
+    let numbers : Numbers = record { neighbours = k; seen = n; servents = m; stage = t; out = w; steps = h; life = later.life; crowd = later.crowd } in
+    tested numbers (are_within numbers) refl
 
-numbers_are_within : (fields : List (List ℕ)) → IfSome (numbers_parsed fields) ArePassed
-numbers_are_within [] = _
-numbers_are_within (k ∷ []) = _
-numbers_are_within (k ∷ n ∷ []) = _
-numbers_are_within (k ∷ n ∷ m ∷ []) = _
-numbers_are_within (k ∷ n ∷ m ∷ t ∷ []) = _
-numbers_are_within (k ∷ n ∷ m ∷ t ∷ w ∷ []) = _
-numbers_are_within (k ∷ n ∷ m ∷ t ∷ w ∷ h ∷ []) = six (number_of k) (number_of n) (number_of m) (number_of t) (number_of w) (number_of h)
-numbers_are_within (k ∷ n ∷ m ∷ t ∷ w ∷ h ∷ x ∷ more) = _
+numbers_are_within : (version : Version) (fields : List (List ℕ)) → IfSome (numbers_parsed version fields) ArePassed
+numbers_are_within version (k ∷ n ∷ m ∷ t ∷ w ∷ h ∷ later) =
+    each (number_of k) (number_of n) (number_of m) (number_of t) (number_of w) (number_of h) (later_parsed version later)
+numbers_are_within version fields = _
 
 -- the numbers that a config line says are within their limits
-pub config_is_within : (fields : List (List ℕ)) → IfSome (config_of fields) ArePassed
-config_is_within [] = _
-config_is_within (field ∷ fields) =
-    elim (is_word field (codes "config")) as (λ b. IfSome (if b then numbers_parsed fields else None) ArePassed) [
-      | true ↦ numbers_are_within fields
+pub config_is_within : (version : Version) (fields : List (List ℕ)) → IfSome (config_of version fields) ArePassed
+config_is_within version [] = _
+config_is_within version (field ∷ fields) =
+    elim (is_word field (codes "config")) as (λ b. IfSome (if b then numbers_parsed version fields else None) ArePassed) [
+      | true ↦ numbers_are_within version fields
       | false ↦ _
     ]

@@ -1,13 +1,16 @@
 -- Settings that a header says are those of a configuration.
-use Rattle.std.proofs.Common.{ℕ, true, false, List, [], ◌∷◌, if◌then◌else◌, Option, Some, None, Ok, Err}
+use Rattle.std.proofs.Common.{ℕ, List, [], ◌∷◌, Option, Some, None, Ok}
 use Rattle.std.specs.Prelude.{IfOk, IfSome}
 use Rattle.gn_rules.specs.declared.config.Own.{Own}
-use Rattle.gn_text.specs.Lines.{fields_of, is_word}
+use Rattle.gn_text.specs.Lines.{fields_of}
 use Rattle.gn_text.specs.declared.fault.Cause.TheVariants as cause
-use Rattle.gn_text.specs.Faults.{fault_at, numbered_at, ◌>>=◌}
+use Rattle.gn_text.specs.Faults.{numbered_at, ◌>>=◌}
 use Rattle.gn_text.specs.Header.{config_from, header_of, own_from}
 use Rattle.gn_rules.specs.declared.limits.Numbers.{Numbers}
 use Rattle.gn_text.specs.Settings.{config_of, own_of}
+use Rattle.gn_text.specs.declared.version.Text.{Text}
+use Rattle.gn_text.specs.declared.version.Version.{Version}
+use Rattle.gn_text.specs.Versions.{version_of}
 use Rattle.gn_text.proofs.ConfigLemmas.{ArePassed, IsConfigured, config_is_within, made}
 
 -- the settings that a text's first lines say, and the lines after them
@@ -29,16 +32,17 @@ config_line : (n after : ℕ) (more : List (ℕ × List ℕ)) (numbers : Option 
 config_line n after more None h = _
 config_line n after more (Some numbers) h = own_configured numbers after more h
 
-config_configured : (after : ℕ) (lines : List (ℕ × List ℕ)) → IfOk (config_from after lines) (λ (header : ParsedHeader). IsConfigured header.0)
-config_configured after [] = _
-config_configured after (line ∷ more) =
-    config_line line.0 after more (config_of (fields_of line.1)) (config_is_within (fields_of line.1))
+config_configured : (version : Version) (after : ℕ) (lines : List (ℕ × List ℕ)) → IfOk (config_from version after lines) (λ (header : ParsedHeader). IsConfigured header.0)
+config_configured version after [] = _
+config_configured version after (line ∷ more) =
+    config_line line.0 after more (config_of version (fields_of line.1)) (config_is_within version (fields_of line.1))
+
+title_line : (n after : ℕ) (more : List (ℕ × List ℕ)) (version : Option Version)
+    → IfOk (numbered_at n cause.Header version >>= λ version. config_from version after more) (λ (header : ParsedHeader). IsConfigured header.0)
+title_line n after more None = _
+title_line n after more (Some version) = config_configured version after more
 
 -- the settings that a text's first three lines say are those of a configuration
-pub header_configured : (title : List ℕ) (after : ℕ) (lines : List (ℕ × List ℕ)) → IfOk (header_of title after lines) (λ (header : ParsedHeader). IsConfigured header.0)
-header_configured title after [] = _
-header_configured title after (line ∷ more) =
-    elim (is_word line.1 title) as (λ b. IfOk (if b then config_from after more else Err (fault_at line.0 cause.Header)) (λ (header : ParsedHeader). IsConfigured header.0)) [
-      | true ↦ config_configured after more
-      | false ↦ _
-    ]
+pub header_configured : (text : Text) (after : ℕ) (lines : List (ℕ × List ℕ)) → IfOk (header_of text after lines) (λ (header : ParsedHeader). IsConfigured header.0)
+header_configured text after [] = _
+header_configured text after (line ∷ more) = title_line line.0 after more (version_of text line.1)

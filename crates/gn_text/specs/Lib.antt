@@ -11,3 +11,4 @@ pub mod Parsed
 pub mod Settings
 pub mod Statistics
 pub mod Steps
+pub mod Versions

@@ -4,10 +4,13 @@ use Rattle.gn_rules.specs.declared.config.Config.{Config}
 use Rattle.gn_rules.specs.declared.config.Own.{Own}
 use Rattle.gn_rules.specs.declared.limits.Numbers.{Numbers}
 use Rattle.gn_rules.specs.Limits.{most}
+use Rattle.gn_text.specs.declared.version.Later.{Later}
+use Rattle.gn_text.specs.declared.version.Version.{Version}
 use Rattle.gn_text.specs.Addresses.{ip_of, ◌>>=◌, ip_text}
 use Rattle.gn_text.specs.Bytes.{guid_of}
 use Rattle.gn_text.specs.Lines.{is_word}
 use Rattle.gn_text.specs.Numbers.{number_of, number_below}
+use Rattle.gn_text.specs.Versions.{later_parsed, later_text, version_for}
 use Rattle.hex.specs.Hex.{encode_lower}
 
 -- those that a configuration keeps
@@ -22,32 +25,43 @@ settings_of s = (numbers_of s, s.own)
 abbrev pub is_within : ℕ → ℕ → Bool
 is_within number limit = nat_le 1 number && nat_le number limit
 
--- each number is from 1 to its limit
+-- each number is from 1 to its limit; the limit on a life and the threshold of a connection may be 0
 abbrev pub are_within : Numbers → Bool
 are_within n =
     is_within n.neighbours most.neighbours && is_within n.seen most.seen && is_within n.servents most.servents
-    && is_within n.stage most.stage && is_within n.out most.out && is_within n.steps most.steps && nat_le n.life most.life
+    && is_within n.stage most.stage && is_within n.out most.out && is_within n.steps most.steps
+    && nat_le n.life most.life && nat_le n.crowd most.crowd
 
 -- numbers, where each is within its limit
 abbrev pub numbers_within : Numbers → Option Numbers
 numbers_within n = if are_within n then Some n else None
 
--- six numbers, where all are there and each is within its limit
-abbrev pub six_within : Option ℕ → Option ℕ → Option ℕ → Option ℕ → Option ℕ → Option ℕ → Option Numbers
-six_within k n m t w h = do
+-- six numbers and those after them, where all are there and each is within its limit
+abbrev pub each_within : Option ℕ → Option ℕ → Option ℕ → Option ℕ → Option ℕ → Option ℕ → Option Later → Option Numbers
+each_within k n m t w h later = do
   neighbours ← k
   seen ← n
   servents ← m
   stage ← t
   out ← w
   steps ← h
-  numbers_within (record { neighbours = neighbours; seen = seen; servents = servents; stage = stage; out = out; steps = steps })
+  more ← later
+  numbers_within (record {
+    neighbours = neighbours;
+    seen = seen;
+    servents = servents;
+    stage = stage;
+    out = out;
+    steps = steps;
+    life = more.life;
+    crowd = more.crowd;
+  })
 
--- the numbers that six fields say, where each is within its limit
-abbrev pub numbers_parsed : List (List ℕ) → Option Numbers
-numbers_parsed (k ∷ n ∷ m ∷ t ∷ w ∷ h ∷ []) =
-    six_within (number_of k) (number_of n) (number_of m) (number_of t) (number_of w) (number_of h)
-numbers_parsed fields = None
+-- the numbers that the fields of a version say, where each is within its limit: six, and those that the version has more
+abbrev pub numbers_parsed : Version → List (List ℕ) → Option Numbers
+numbers_parsed version (k ∷ n ∷ m ∷ t ∷ w ∷ h ∷ later) =
+    each_within (number_of k) (number_of n) (number_of m) (number_of t) (number_of w) (number_of h) (later_parsed version later)
+numbers_parsed version fields = None
 
 -- the servent that five fields say: its ID, its address and port, its files and its kilobytes
 abbrev pub servent_parsed : List (List ℕ) → Option Own
@@ -65,9 +79,9 @@ abbrev pub after_word : {X : Type 0} → List ℕ → (List (List ℕ) → Optio
 after_word word parsed [] = None
 after_word word parsed (field ∷ fields) = if is_word field word then parsed fields else None
 
--- what the fields of a line `config K N M T W H` say
-abbrev pub config_of : List (List ℕ) → Option Numbers
-config_of fields = after_word (codes "config") numbers_parsed fields
+-- what the fields of a line `config K N M T W H` say; the second version has L behind H, the third L and Q
+abbrev pub config_of : Version → List (List ℕ) → Option Numbers
+config_of version fields = after_word (codes "config") (numbers_parsed version) fields
 
 -- what the fields of a line `own SERVENT IP PORT FILES KBYTES` say
 abbrev pub own_of : List (List ℕ) → Option Own
@@ -77,11 +91,11 @@ own_of fields = after_word (codes "own") servent_parsed fields
 abbrev pub field_text : ℕ → List ℕ
 field_text n = codes " " ++ decimal n
 
--- the line of the numbers, without its line feed
+-- the line of the numbers, without its line feed, in the least version that can say them
 abbrev pub config_line : Config → List ℕ
 config_line s =
     codes "config" ++ field_text s.numbers.neighbours ++ field_text s.numbers.seen ++ field_text s.numbers.servents ++ field_text s.numbers.stage
-    ++ field_text s.numbers.out ++ field_text s.numbers.steps
+    ++ field_text s.numbers.out ++ field_text s.numbers.steps ++ later_text (version_for s.numbers) s.numbers
 
 -- the line of the own servent, without its line feed
 abbrev pub own_line : Own → List ℕ

@@ -2,7 +2,7 @@
 use Rattle.std.specs.Prelude.{ℕ, List, [], ◌∷◌, ◌++◌, codes, decimal}
 use Rattle.std.specs.List.{flat_map}
 use Rattle.gn_rules.specs.declared.statistics.Counter.{Counter}
-use Rattle.gn_rules.specs.declared.statistics.Counter.TheVariants.{Connected, TooMany, Closed, Admitted, Busy, Routed, UnknownKind, Malformed, Duplicate, NoRoute, RouteGone, BackToSender, Expired, Taken, Sent}
+use Rattle.gn_rules.specs.declared.statistics.Counter.TheVariants.{Connected, TooMany, Closed, Admitted, Busy, Crowded, Routed, UnknownKind, Malformed, Duplicate, NoRoute, RouteGone, BackToSender, Expired, Taken, Sent}
 use Rattle.gn_rules.specs.declared.statistics.Stats.{Stats}
 use Rattle.gn_rules.specs.Statistics.{count_in}
 
@@ -13,6 +13,7 @@ counter_text TooMany = codes "toomany"
 counter_text Closed = codes "closed"
 counter_text Admitted = codes "admitted"
 counter_text Busy = codes "busy"
+counter_text Crowded = codes "crowded"
 counter_text Routed = codes "routed"
 counter_text UnknownKind = codes "unknownkind"
 counter_text Malformed = codes "malformed"
@@ -27,8 +28,8 @@ counter_text Sent = codes "sent"
 -- all counters, in the order in which they are printed
 abbrev pub counters : List Counter
 counters =
-    Connected ∷ TooMany ∷ Closed ∷ Admitted ∷ Busy ∷ Routed ∷ UnknownKind ∷ Malformed ∷ Duplicate ∷ NoRoute ∷ RouteGone
-    ∷ BackToSender ∷ Expired ∷ Taken ∷ Sent ∷ []
+    Connected ∷ TooMany ∷ Closed ∷ Admitted ∷ Busy ∷ Crowded ∷ Routed ∷ UnknownKind ∷ Malformed ∷ Duplicate ∷ NoRoute
+    ∷ RouteGone ∷ BackToSender ∷ Expired ∷ Taken ∷ Sent ∷ []
 
 -- a counter's name and number
 abbrev pub count_text : Stats → Counter → List ℕ

@@ -9,7 +9,7 @@ use Rattle.gn_rules.specs.declared.event.Event.TheVariants.{Connect, Close, Admi
 use Rattle.gn_rules.specs.declared.receipt.Step.{Step}
 use Rattle.gn_rules.specs.declared.reply.DropReason.{DropReason}
 use Rattle.gn_rules.specs.declared.reply.Reply.{Reply}
-use Rattle.gn_rules.specs.declared.reply.Reply.TheVariants.{Connected, TooMany, Closed, Admitted, Busy, Routed, Dropped, Taken, Sent}
+use Rattle.gn_rules.specs.declared.reply.Reply.TheVariants.{Connected, TooMany, Closed, Admitted, Busy, Crowded, Routed, Dropped, Taken, Sent}
 use Rattle.gn_rules.specs.declared.sends.Sending.{Sending}
 use Rattle.gn_rules.specs.Statistics.{drop_counter}
 use Rattle.gn_text.specs.Statistics.{counter_text}
@@ -47,6 +47,7 @@ reply_text TooMany = codes "toomany"
 reply_text (Closed count) = codes "closed " ++ decimal count
 reply_text (Admitted t) = codes "admitted " ++ decimal t
 reply_text Busy = codes "busy"
+reply_text Crowded = codes "crowded"
 reply_text (Routed sends local) = codes "routed " ++ place_text local ++ sends_text sends
 reply_text (Dropped reason) = codes "dropped " ++ reason_text reason
 reply_text (Taken packet) = codes "taken " ++ packet_text packet

@@ -1,16 +1,18 @@
 //! The three lines that a text begins with.
 
-ghost use Rattle.std.specs.Prelude.{◌≡◌, OnErr};
+ghost use Rattle.std.specs.Prelude.{◌≡◌, ◌++◌, length, take, OnOk, OnErr};
 ghost use Rattle.gn_text.specs.Faults.{IsRead};
-ghost use Rattle.gn_text.specs.Header.{config_from, header_of, header_seen, own_from};
+ghost use Rattle.gn_text.specs.Header.{config_from, header_of, header_seen, header_text, own_from, title_text};
 ghost use Rattle.gn_text.specs.Settings.{numbers_of};
 
 use crate::fault::{CaptureRefusal, Cause};
-use crate::line::{fields, is_word};
+use crate::line::fields;
 use crate::parsed::NumberedLines;
-use crate::settings::{read_config, read_own};
+use crate::settings::{read_config, read_own, write_settings};
+use crate::version::{Text, Version, least_version, read_version, title};
 use gn_rules::Config;
-use std::alloc::Allocator;
+use gn_wire::whole_or_none;
+use std::alloc::{AllocError, Allocator};
 
 #[tactic(auto, using(crate::proofs::FirstLines::own_read, crate::proofs::FirstLines::own_refused, crate::proofs::FirstLines::own_missing))]
 fn read_own_line<A: Allocator + Copy>(
@@ -37,14 +39,15 @@ fn read_own_line<A: Allocator + Copy>(
 #[tactic(auto, using(crate::proofs::FirstLines::config_read, crate::proofs::FirstLines::config_refused, crate::proofs::FirstLines::config_missing))]
 fn read_config_line<A: Allocator + Copy>(
     alloc: A,
+    version: Version,
     lines: &mut NumberedLines,
 ) -> Result<Config, CaptureRefusal>
     ensures header { IsRead (λ config. header_seen config lines.new) result
-        (config_from lines.old.after lines.old.lines) }
+        (config_from version lines.old.after lines.old.lines) }
     ensures after { lines.new.after ≡ lines.old.after }
 {
     match lines.next_line() {
-        Ok((number, line)) => match read_config(&fields(alloc, line)?) {
+        Ok((number, line)) => match read_config(version, &fields(alloc, line)?) {
             Some(config) => read_own_line(alloc, config, lines),
             None => Err(CaptureRefusal::at(number, Cause::Config)),
         },
@@ -55,43 +58,82 @@ fn read_config_line<A: Allocator + Copy>(
 #[tactic(auto, using(crate::proofs::FirstLines::title_read, crate::proofs::FirstLines::title_other, crate::proofs::FirstLines::title_missing))]
 fn read_title_line<A: Allocator + Copy>(
     alloc: A,
-    title: &[u8],
+    text: Text,
     lines: &mut NumberedLines,
 ) -> Result<Config, CaptureRefusal>
     ensures header { IsRead (λ config. header_seen config lines.new) result
-        (header_of title.now lines.old.after lines.old.lines) }
+        (header_of text lines.old.after lines.old.lines) }
     ensures after { lines.new.after ≡ lines.old.after }
 {
     match lines.next_line() {
-        Ok((number, line)) => {
-            if !is_word(line, title) {
-                return Err(CaptureRefusal::at(number, Cause::Header));
-            }
-            read_config_line(alloc, lines)
-        }
+        Ok((number, line)) => match read_version(text, line) {
+            Some(version) => read_config_line(alloc, version, lines),
+            None => Err(CaptureRefusal::at(number, Cause::Header)),
+        },
         Err(after) => Err(CaptureRefusal::at(after, Cause::Header)),
     }
 }
 
-/// The configuration that the lines of a text begin with, which are then gone: the first line is the title, letter by
-/// letter, the second a `config` line, the third an `own` line. A missing one is at fault after the last line. An `Err`
+/// The configuration that the lines of a text begin with, which are then gone: the first line is the title of a version,
+/// letter by letter, the second its `config` line, the third an `own` line. A missing one is at fault after the last line. An `Err`
 /// leaves all lines.
 pub fn read_header<A: Allocator + Copy>(
     alloc: A,
-    title: &[u8],
+    text: Text,
     lines: &mut NumberedLines,
 ) -> Result<Config, CaptureRefusal>
     ensures header { IsRead (λ config. header_seen config lines.new) result
-        (header_of title.now lines.old.after lines.old.lines) }
+        (header_of text lines.old.after lines.old.lines) }
     ensures after { lines.new.after ≡ lines.old.after }
     ensures kept { OnErr result (lines.new ≡ lines.old) }
 {
     let mut left = lines.copy();
-    match read_title_line(alloc, title, &mut left) {
+    match read_title_line(alloc, text, &mut left) {
         Ok(config) => {
             *lines = left;
             Ok(config)
         }
         Err(refusal) => Err(refusal),
     }
+}
+
+#[tactic(auto, using(crate::proofs::KeptLemmas::kept))]
+fn write_title<B: Allocator>(
+    out: &mut Vec<u8, B>,
+    text: Text,
+    version: Version,
+) -> Result<(), AllocError>
+    ensures ok { OnOk result (out.new.items ≡ out.old.items ++ title_text text version) }
+    ensures err { OnErr result (take (length out.old.items) out.new.items ≡ out.old.items) }
+{
+    out.extend_from_slice(title(text, version))?;
+    out.extend_from_slice(b"\n")
+}
+
+#[tactic(auto, using(crate::proofs::KeptLemmas::kept))]
+fn write_header<B: Allocator>(
+    out: &mut Vec<u8, B>,
+    text: Text,
+    config: &Config,
+) -> Result<(), AllocError>
+    ensures ok { OnOk result (out.new.items ≡ out.old.items ++ header_text text config.now) }
+    ensures err { OnErr result (take (length out.old.items) out.new.items ≡ out.old.items) }
+{
+    write_title(out, text, least_version(&config.numbers))?;
+    write_settings(out, config)
+}
+
+/// Appends the lines that a text of a configuration begins with: the title of the least version that can say it, its `config`
+/// line and its `own` line. An `Err` is out of memory, and changes nothing.
+pub fn push_header<B: Allocator>(
+    out: &mut Vec<u8, B>,
+    text: Text,
+    config: &Config,
+) -> Result<(), AllocError>
+    ensures ok { OnOk result (out.new.items ≡ out.old.items ++ header_text text config.now) }
+    ensures err { OnErr result (out.new.items ≡ out.old.items) }
+{
+    let start = out.len();
+    let written = write_header(out, text, config);
+    whole_or_none(out, start, written)
 }

@@ -35,6 +35,7 @@ pub fn push_reply<A: Allocator, B: Allocator>(
         Reply::Closed(count) => push_parts(out, &[Part::Word(b"closed "), Part::Number(*count)]),
         Reply::Admitted(t) => push_parts(out, &[Part::Word(b"admitted "), Part::Number(*t)]),
         Reply::Busy => push_parts(out, &[Part::Word(b"busy")]),
+        Reply::Crowded => push_parts(out, &[Part::Word(b"crowded")]),
         Reply::Routed { sends, local } => push_with_sends(
             out,
             &[Part::Word(b"routed "), Part::Word(place_name(*local))],

@@ -2,15 +2,17 @@
 #![tactic(auto, using(crate::proofs::KeptLemmas::kept))]
 
 ghost use Rattle.std.specs.Prelude.{◌≡◌, length, map, option_map, take, IfOk, ◌++◌, OnOk, OnErr};
-ghost use Rattle.gn_text.specs.Settings.{config_of, numbers_of, numbers_parsed, numbers_within, six_within, own_of, servent_parsed, config_text, own_text, settings_text};
+ghost use Rattle.gn_text.specs.Settings.{config_of, numbers_of, numbers_parsed, numbers_within, each_within, own_of, servent_parsed, config_text, own_text, settings_text};
+ghost use Rattle.gn_text.specs.Versions.{later_text, version_for};
 
 use crate::address::{ip, push_ip};
 use crate::line::is_word;
 use crate::numbers::{number, number_u16};
 use crate::octets::guid;
 use crate::part::{Part, push_parts};
+use crate::version::{Later, Version, least_version, read_later};
 use gn_rules::{Config, Numbers, Own};
-use gn_wire::{Guid, whole_or_none};
+use gn_wire::Guid;
 use std::alloc::{AllocError, Allocator};
 
 /// A servent of which nothing is known yet.
@@ -24,9 +26,17 @@ const BLANK: Own = Own {
 
 /// The configuration of these numbers, where each is within its limit.
 #[tactic(auto, using(crate::proofs::SettingsLemmas::made_within))]
-fn within(k: u32, n: u32, m: u32, t: u32, w: u32, h: u32) -> Option<Config>
-    ensures { option_map numbers_of result
-        ≡ numbers_within (record { neighbours = k; seen = n; servents = m; stage = t; out = w; steps = h }) }
+fn within(k: u32, n: u32, m: u32, t: u32, w: u32, h: u32, later: Later) -> Option<Config>
+    ensures { option_map numbers_of result ≡ numbers_within (record {
+      neighbours = k;
+      seen = n;
+      servents = m;
+      stage = t;
+      out = w;
+      steps = h;
+      life = later.life;
+      crowd = later.crowd;
+    }) }
 {
     let numbers = Numbers {
         neighbours: k,
@@ -35,47 +45,51 @@ fn within(k: u32, n: u32, m: u32, t: u32, w: u32, h: u32) -> Option<Config>
         stage: t,
         out: w,
         steps: h,
+        life: later.life,
+        crowd: later.crowd,
     };
     Config::of(numbers, BLANK).ok()
 }
 
-/// The configuration of six numbers, where all are there and each is within its limit.
-fn six_within(
+/// The configuration of six numbers and those after them, where all are there and each is within its limit.
+fn each_within(
     k: Option<u32>,
     n: Option<u32>,
     m: Option<u32>,
     t: Option<u32>,
     w: Option<u32>,
     h: Option<u32>,
+    later: Option<Later>,
 ) -> Option<Config>
-    ensures { option_map numbers_of result ≡ six_within k n m t w h }
+    ensures { option_map numbers_of result ≡ each_within k n m t w h later }
 {
-    within(k?, n?, m?, t?, w?, h?)
+    within(k?, n?, m?, t?, w?, h?, later?)
 }
 
-fn read_numbers(fields: &[&[u8]]) -> Option<Config>
-    ensures { option_map numbers_of result ≡ numbers_parsed (map (λ x. x.now) fields.now) }
+fn read_numbers(version: Version, fields: &[&[u8]]) -> Option<Config>
+    ensures { option_map numbers_of result ≡ numbers_parsed version (map (λ x. x.now) fields.now) }
 {
     match fields {
-        [k, n, m, t, w, h] => six_within(
+        [k, n, m, t, w, h, later @ ..] => each_within(
             number(k),
             number(n),
             number(m),
             number(t),
             number(w),
             number(h),
+            read_later(version, later),
         ),
         _ => None,
     }
 }
 
-/// The configuration that the fields of a line `config K N M T W H` say, its own servent still blank. Where a number is
-/// out of its limit they say none.
-pub fn read_config(fields: &[&[u8]]) -> Option<Config>
-    ensures { option_map numbers_of result ≡ config_of (map (λ x. x.now) fields.now) }
+/// The configuration that the fields of a line `config K N M T W H` say, in the second version with L behind them and in the
+/// third with L and Q, its own servent still blank. Where a number is out of its limit they say none.
+pub fn read_config(version: Version, fields: &[&[u8]]) -> Option<Config>
+    ensures { option_map numbers_of result ≡ config_of version (map (λ x. x.now) fields.now) }
 {
     match fields {
-        [word, numbers @ ..] if is_word(word, b"config") => read_numbers(numbers),
+        [word, numbers @ ..] if is_word(word, b"config") => read_numbers(version, numbers),
         _ => None,
     }
 }
@@ -120,9 +134,31 @@ pub fn read_own<A: Allocator + Copy>(alloc: A, fields: &[&[u8]]) -> Result<Optio
     }
 }
 
-fn push_config<B: Allocator>(out: &mut Vec<u8, B>, config: &Config) -> Result<(), AllocError>
-    ensures ok { OnOk result (out.new.items ≡ out.old.items ++ config_text config.now) }
+fn push_later<B: Allocator>(out: &mut Vec<u8, B>, numbers: &Numbers) -> Result<(), AllocError>
+    ensures ok { OnOk result (out.new.items ≡ out.old.items ++ later_text (version_for numbers.now) numbers.now) }
     ensures err { OnErr result (out.new.items ≡ out.old.items) }
+{
+    match least_version(numbers) {
+        Version::First => Ok(()),
+        Version::Second => push_parts(
+            out,
+            &[Part::Word(b" "), Part::Number(u32::from(numbers.life))],
+        ),
+        Version::Third => push_parts(
+            out,
+            &[
+                Part::Word(b" "),
+                Part::Number(u32::from(numbers.life)),
+                Part::Word(b" "),
+                Part::Number(numbers.crowd),
+            ],
+        ),
+    }
+}
+
+fn write_config<B: Allocator>(out: &mut Vec<u8, B>, config: &Config) -> Result<(), AllocError>
+    ensures ok { OnOk result (out.new.items ≡ out.old.items ++ config_text config.now) }
+    ensures err { OnErr result (take (length out.old.items) out.new.items ≡ out.old.items) }
 {
     push_parts(
         out,
@@ -139,9 +175,10 @@ fn push_config<B: Allocator>(out: &mut Vec<u8, B>, config: &Config) -> Result<()
             Part::Number(config.numbers.out),
             Part::Word(b" "),
             Part::Number(config.numbers.steps),
-            Part::Word(b"\n"),
         ],
-    )
+    )?;
+    push_later(out, &config.numbers)?;
+    out.extend_from_slice(b"\n")
 }
 
 fn write_own<B: Allocator>(out: &mut Vec<u8, B>, own: &Own) -> Result<(), AllocError>
@@ -171,23 +208,15 @@ fn write_own<B: Allocator>(out: &mut Vec<u8, B>, own: &Own) -> Result<(), AllocE
     )
 }
 
-fn push_own<B: Allocator>(out: &mut Vec<u8, B>, own: &Own) -> Result<(), AllocError>
-    ensures ok { OnOk result (out.new.items ≡ out.old.items ++ own_text own.now) }
-    ensures err { OnErr result (out.new.items ≡ out.old.items) }
-{
-    let start = out.len();
-    let written = write_own(out, own);
-    whole_or_none(out, start, written)
-}
-
-/// Appends the two lines of a configuration, `config K N M T W H` and `own SERVENT IP PORT FILES KBYTES`. An `Err` is out
-/// of memory, and changes nothing.
-pub fn push_settings<B: Allocator>(out: &mut Vec<u8, B>, config: &Config) -> Result<(), AllocError>
+/// Appends the two lines of a configuration, `config` with the numbers of the least version that can say it, and
+/// `own SERVENT IP PORT FILES KBYTES`. An `Err` is out of memory, and leaves what stood there before as it was.
+pub(crate) fn write_settings<B: Allocator>(
+    out: &mut Vec<u8, B>,
+    config: &Config,
+) -> Result<(), AllocError>
     ensures ok { OnOk result (out.new.items ≡ out.old.items ++ settings_text config.now) }
-    ensures err { OnErr result (out.new.items ≡ out.old.items) }
+    ensures err { OnErr result (take (length out.old.items) out.new.items ≡ out.old.items) }
 {
-    let start = out.len();
-    push_config(out, config)?;
-    let written = push_own(out, &config.own);
-    whole_or_none(out, start, written)
+    write_config(out, config)?;
+    write_own(out, &config.own)
 }

@@ -18,6 +18,7 @@ pub(crate) fn counter_name(counter: Counter) -> &'static [u8]
         Counter::Closed => b"closed",
         Counter::Admitted => b"admitted",
         Counter::Busy => b"busy",
+        Counter::Crowded => b"crowded",
         Counter::Routed => b"routed",
         Counter::UnknownKind => b"unknownkind",
         Counter::Malformed => b"malformed",
