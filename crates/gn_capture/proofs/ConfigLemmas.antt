@@ -1,8 +1,9 @@
 -- The settings that a capture says are those of a configuration.
 use Rattle.std.proofs.Common.{ℕ, List, Result, Ok, Err}
-use Rattle.std.specs.Prelude.{codes, IfOk}
+use Rattle.std.specs.Prelude.{IfOk}
 use Rattle.gn_rules.specs.declared.config.Own.{Own}
 use Rattle.gn_text.specs.declared.fault.CaptureFault.{CaptureFault}
+use Rattle.gn_text.specs.declared.version.Text.TheVariants as text
 use Rattle.gn_text.specs.Faults.{◌>>=◌}
 use Rattle.gn_text.specs.Parsed.{line_after, parsed_of}
 use Rattle.gn_rules.specs.declared.limits.Numbers.{Numbers}
@@ -25,6 +26,6 @@ configured_after : (A : Type 0) (read : Result ParsedHeader CaptureFault) → If
 configured_after A (Ok header) h = lines_configured header.0 (lines_from {A = A} 0 header.1) h
 configured_after A (Err fault) h = _
 
-pub capture_configured : (A : Type 0) (text : List ℕ) → IfOk (capture_of {A = A} text) (λ (parsed : Parsed A). HasConfig parsed)
-capture_configured A text =
-    configured_after A (capture_header text) (header_configured (codes "gnutella-capture 1") (line_after text) (parsed_of text))
+pub capture_configured : (A : Type 0) (input : List ℕ) → IfOk (capture_of {A = A} input) (λ (parsed : Parsed A). HasConfig parsed)
+capture_configured A input =
+    configured_after A (capture_header input) (header_configured text.Capture (line_after input) (parsed_of input))

@@ -9,35 +9,34 @@ use Rattle.gn_text.specs.declared.fault.CaptureFault.{CaptureFault}
 use Rattle.gn_text.specs.declared.fault.CaptureRefusal.{CaptureRefusal}
 use Rattle.gn_text.specs.declared.fault.CaptureRefusal.TheVariants.{Fault, NoMemory}
 use Rattle.gn_text.specs.Faults.{IsRefused}
+use Rattle.gn_text.specs.declared.version.Text.TheVariants.{History}
 use Rattle.gn_text.specs.Header.{header_of}
 use Rattle.gn_text.specs.Parsed.{parsed_of, line_after}
 use Rattle.gn_rules.specs.declared.limits.Numbers.{Numbers}
-use Rattle.gn_capture.specs.Histories.{history_of, map_result, steps_from, title}
+use Rattle.gn_capture.specs.Histories.{history_of, map_result, steps_from}
 
 -- what was appended to a text leaves it first
 begins : (old more new : List ℕ) → new ≡ old ++ more → take (length old) new ≡ old
 begins old more new is = rw is (take-append_seam old more)
 
 -- two parts, one appended after the other
-pub two_parts : (old t1 t2 a b : List ℕ) → t1 ≡ old ++ a → t2 ≡ t1 ++ b → t2 ≡ old ++ (a ++ b)
+two_parts : (old t1 t2 a b : List ℕ) → t1 ≡ old ++ a → t2 ≡ t1 ++ b → t2 ≡ old ++ (a ++ b)
 two_parts old t1 t2 a b first second = second ∙ ap (λ xs. xs ++ b) first ∙ append_assoc old a b
 
 -- parts that were appended one after the other, the last one only where all is well
-pub whole_text : {X E : Type 0} (r : Result X E) (old t1 t2 t3 new a b c d : List ℕ) → t1 ≡ old ++ a → t2 ≡ t1 ++ b → t3 ≡ t2 ++ c
-    → new ≡ (if is_ok r then t3 ++ d else t3) → OnOk r (new ≡ old ++ (((a ++ b) ++ c) ++ d))
-whole_text (Ok x) old t1 t2 t3 new a b c d first second third last =
-    let three = two_parts old t2 t3 (a ++ b) c (two_parts old t1 t2 a b first second) third in two_parts old t3 new ((a ++ b) ++ c) d three last
-whole_text (Err e) old t1 t2 t3 new a b c d first second third last = _
+pub whole_text : {X E : Type 0} (r : Result X E) (old t1 t2 new a b c : List ℕ) → t1 ≡ old ++ a → t2 ≡ t1 ++ b
+    → new ≡ (if is_ok r then t2 ++ c else t2) → OnOk r (new ≡ old ++ ((a ++ b) ++ c))
+whole_text (Ok x) old t1 t2 new a b c first second last = two_parts old t2 new (a ++ b) c (two_parts old t1 t2 a b first second) last
+whole_text (Err e) old t1 t2 new a b c first second last = _
 
-pub part_of_text : {X E : Type 0} (r : Result X E) (old t1 t2 t3 new a b c d : List ℕ) → t1 ≡ old ++ a → t2 ≡ t1 ++ b → t3 ≡ t2 ++ c
-    → new ≡ (if is_ok r then t3 ++ d else t3) → OnErr r (take (length old) new ≡ old)
-part_of_text (Ok x) old t1 t2 t3 new a b c d first second third last = _
-part_of_text (Err e) old t1 t2 t3 new a b c d first second third last =
-    let three = two_parts old t2 t3 (a ++ b) c (two_parts old t1 t2 a b first second) third in begins old ((a ++ b) ++ c) new (last ∙ three)
+pub part_of_text : {X E : Type 0} (r : Result X E) (old t1 t2 new a b c : List ℕ) → t1 ≡ old ++ a → t2 ≡ t1 ++ b
+    → new ≡ (if is_ok r then t2 ++ c else t2) → OnErr r (take (length old) new ≡ old)
+part_of_text (Ok x) old t1 t2 new a b c first second last = _
+part_of_text (Err e) old t1 t2 new a b c first second last = begins old (a ++ b) new (last ∙ two_parts old t1 t2 a b first second)
 
 -- a history is its header and the steps that are left after it
 pub history_opened : {A : Type 0} (text : List ℕ) (lines : List (ℕ × List ℕ)) (after later : ℕ) (settings : Numbers × Own) (more : List (ℕ × List ℕ))
-    → lines ≡ parsed_of text → after ≡ line_after text → header_of title after lines ≡ Ok (settings, more) → later ≡ after
+    → lines ≡ parsed_of text → after ≡ line_after text → header_of History after lines ≡ Ok (settings, more) → later ≡ after
     → history_of {A = A} text ≡ map_result (λ steps. (settings, steps)) (steps_from later more)
 history_opened text lines after later settings more e f h same =
     rw (← e, ← f, h, same) refl
@@ -55,6 +54,6 @@ left_refused text settings left (Fault fault) opened is = opened ∙ ap (map_res
 
 -- a refusal of the header is one of the history
 pub header_refused : (A : Type 0) (text : List ℕ) (lines : List (ℕ × List ℕ)) (after : ℕ) (refusal : CaptureRefusal) → lines ≡ parsed_of text → after ≡ line_after text
-    → IsRefused refusal (header_of title after lines) → IsRefused refusal (history_of {A = A} text)
+    → IsRefused refusal (header_of History after lines) → IsRefused refusal (history_of {A = A} text)
 header_refused A text lines after NoMemory e f h = _
 header_refused A text lines after (Fault fault) e f h = rw (← e, ← f, h) refl

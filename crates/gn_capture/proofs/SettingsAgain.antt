@@ -1,8 +1,9 @@
 -- The lines of a configuration are read again.
-use Rattle.std.proofs.Common.{◌≡◌, ℕ, ◌<◌, ◌^◌, List, [], ◌∷◌, ◌++◌, length, get_or, refl, ap, ◌∙◌, arith, Some, append-nil, append_assoc, codes, decimal}
+use Rattle.std.proofs.Common.{◌≡◌, ℕ, ◌<◌, ◌^◌, List, [], ◌∷◌, ◌++◌, length, get_or, refl, sym, ap, ◌∙◌, arith, Some, Bool, true, false, if◌then◌else◌, append-nil, append_assoc, codes, decimal}
 use Rattle.std.specs.Prelude.{◌==◌, not, option_map}
 use Rattle.std.specs.List.{list_all, AllByRecursion}
 use Rattle.std.specs.Result.{result_ok}
+use Rattle.std.proofs.lemmas.Map.Views.{exact_unsigned_eq}
 use Rattle.hex.specs.Hex.{encode_lower}
 use Rattle.hex.proofs.HexLemmas.{decode_sized-encode_lower}
 use Rattle.gn_wire.specs.declared.kind.Guid.{Guid}
@@ -11,7 +12,12 @@ use Rattle.gn_text.specs.Bytes.{guid_from, guid_of}
 use Rattle.gn_text.specs.Lines.{fields_of}
 use Rattle.gn_rules.specs.declared.config.Config.{Config}
 use Rattle.gn_rules.specs.declared.config.Own.{Own}
-use Rattle.gn_text.specs.Settings.{config_of, numbers_of, numbers_within, own_of, config_line, field_text, own_line}
+use Rattle.gn_rules.specs.declared.limits.Numbers.{Numbers}
+use Rattle.gn_text.specs.declared.version.Later.{Later}
+use Rattle.gn_text.specs.declared.version.Version.{Version}
+use Rattle.gn_text.specs.declared.version.Version.TheVariants.{First, Second, Third}
+use Rattle.gn_text.specs.Settings.{config_of, numbers_of, numbers_parsed, numbers_within, own_of, config_line, field_text, own_line}
+use Rattle.gn_text.specs.Versions.{later_parsed, later_text, version_for}
 use Rattle.gn_text.proofs.SettingsLemmas.{config_within}
 use Rattle.gn_capture.specs.RoundTrip.{IsOwn}
 use Rattle.gn_capture.proofs.DescriptorsAgain.{hex_plain}
@@ -21,14 +27,34 @@ use Rattle.gn_capture.proofs.Spaced.{IsLine, IsPlain, fields_again, spaced_line,
 joined : (t a b c d e f : List ℕ) → ((((((t ++ a) ++ b) ++ c) ++ d) ++ e) ++ f) ≡ t ++ (a ++ (b ++ (c ++ (d ++ (e ++ (f ++ []))))))
 joined t a b c d e f = simp (append_assoc, append-nil)
 
--- the fields after the word of a config line
-abbrev config_fields : Config → List (List ℕ)
-config_fields s =
-    decimal s.numbers.neighbours ∷ decimal s.numbers.seen ∷ decimal s.numbers.servents ∷ decimal s.numbers.stage ∷ decimal s.numbers.out ∷ decimal s.numbers.steps ∷ []
+joined_more : (t a b c d e f g : List ℕ) → (((((((t ++ a) ++ b) ++ c) ++ d) ++ e) ++ f) ++ g) ≡ t ++ (a ++ (b ++ (c ++ (d ++ (e ++ (f ++ g))))))
+joined_more t a b c d e f g = simp append_assoc
 
-config_spaced : (s : Config) → config_line s ≡ codes "config" ++ tail_text (config_fields s)
+joined_last : (a b c d : List ℕ) → (((a ++ b) ++ c) ++ d) ≡ (a ++ b) ++ ((c ++ d) ++ [])
+joined_last a b c d = simp (append_assoc, append-nil)
+
+-- the fields of the numbers that a version has after the sixth
+abbrev later_fields : Version → Numbers → List (List ℕ)
+later_fields First n = []
+later_fields Second n = decimal n.life ∷ []
+later_fields Third n = decimal n.life ∷ decimal n.crowd ∷ []
+
+later_spaced : (version : Version) (n : Numbers) → later_text version n ≡ tail_text (later_fields version n)
+later_spaced First n = refl
+later_spaced Second n = sym (append-nil (field_text n.life))
+later_spaced Third n = joined_last (codes " ") (decimal n.life) (codes " ") (decimal n.crowd)
+
+-- the fields after the word of a config line
+abbrev config_fields : Version → Numbers → List (List ℕ)
+config_fields version n =
+    decimal n.neighbours ∷ decimal n.seen ∷ decimal n.servents ∷ decimal n.stage ∷ decimal n.out ∷ decimal n.steps ∷ later_fields version n
+
+config_spaced : (s : Config) → config_line s ≡ codes "config" ++ tail_text (config_fields (version_for s.numbers) s.numbers)
 config_spaced s =
-    joined (codes "config") (field_text s.numbers.neighbours) (field_text s.numbers.seen) (field_text s.numbers.servents) (field_text s.numbers.stage) (field_text s.numbers.out) (field_text s.numbers.steps)
+    let n = s.numbers in
+    joined_more (codes "config") (field_text n.neighbours) (field_text n.seen) (field_text n.servents) (field_text n.stage) (field_text n.out) (field_text n.steps) (later_text (version_for n) n)
+    ∙ ap (λ (t : List ℕ). codes "config" ++ (field_text n.neighbours ++ (field_text n.seen ++ (field_text n.servents ++ (field_text n.stage ++ (field_text n.out ++ (field_text n.steps ++ t)))))))
+    (later_spaced (version_for n) n)
 
 -- the numbers of a configuration fit 32 bits
 record Fitting (s : Config) : Type 0 where
@@ -38,6 +64,8 @@ record Fitting (s : Config) : Type 0 where
   stage : s.numbers.stage < 2 ^ 32
   out : s.numbers.out < 2 ^ 32
   steps : s.numbers.steps < 2 ^ 32
+  life : s.numbers.life < 2 ^ 32
+  crowd : s.numbers.crowd < 2 ^ 32
 
 fitting : (s : Config) → Fitting s
 fitting s = record {
@@ -47,35 +75,71 @@ fitting s = record {
   stage = omega (arith, s.within.stage.greatest);
   out = omega (arith, s.within.out.greatest);
   steps = omega (arith, s.within.steps.greatest);
+  life = omega (arith, s.within.life);
+  crowd = omega (arith, s.within.crowd);
 }
 
-config_plain : (s : Config) → AllByRecursion IsPlain (config_fields s)
-config_plain s =
+later_plain : (version : Version) (s : Config) → AllByRecursion IsPlain (later_fields version s.numbers)
+later_plain First s = tt
+later_plain Second s = (number_plain s.numbers.life (fitting s).life, tt)
+later_plain Third s = (number_plain s.numbers.life (fitting s).life, (number_plain s.numbers.crowd (fitting s).crowd, tt))
+
+config_plain : (version : Version) (s : Config) → AllByRecursion IsPlain (config_fields version s.numbers)
+config_plain version s =
     let f = fitting s in (
       number_plain s.numbers.neighbours f.neighbours,
       (
         number_plain s.numbers.seen f.seen,
-        (number_plain s.numbers.servents f.servents, (number_plain s.numbers.stage f.stage, (number_plain s.numbers.out f.out, (number_plain s.numbers.steps f.steps, tt)))),
+        (
+          number_plain s.numbers.servents f.servents,
+          (number_plain s.numbers.stage f.stage, (number_plain s.numbers.out f.out, (number_plain s.numbers.steps f.steps, later_plain version s))),
+        ),
       ),
     )
 
 pub config_line_is : (s : Config) → IsLine (config_line s)
-config_line_is s = ap (list_all (λ b. not (b == 10))) (config_spaced s) ∙ spaced_line (codes "config") (config_fields s) refl (config_plain s)
+config_line_is s =
+    let version = version_for s.numbers in
+    ap (list_all (λ b. not (b == 10))) (config_spaced s) ∙ spaced_line (codes "config") (config_fields version s.numbers) refl (config_plain version s)
 
-pub config_again : (s : Config) → config_of (fields_of (config_line s)) ≡ Some (numbers_of s)
-config_again s =
+-- the numbers of a configuration that a version may lack
+abbrev later_of : Numbers → Later
+later_of n = record { life = n.life; crowd = n.crowd }
+
+later_is : (life crowd a b : ℕ) → life ≡ a → crowd ≡ b → Some {A = Later} (record { life = life; crowd = crowd }) ≡ Some (record { life = a; crowd = b })
+later_is life crowd a b e f = rw (e, f) refl
+
+-- those of the fields after the sixth are read again, where a version that lacks one is that of its being 0
+later_again : (s : Config) (uncrowded unlimited : Bool) → (s.numbers.crowd == 0) ≡ uncrowded → (s.numbers.life == 0) ≡ unlimited
+    → later_parsed (if uncrowded then if unlimited then First else Second else Third) (later_fields (if uncrowded then if unlimited then First else Second else Third) s.numbers)
+    ≡ Some (later_of s.numbers)
+later_again s true true e f =
+    later_is 0 0 s.numbers.life s.numbers.crowd (sym (exact_unsigned_eq s.numbers.life 0 f)) (sym (exact_unsigned_eq s.numbers.crowd 0 e))
+later_again s true false e f =
+    rw (number_below_again 256 s.numbers.life (omega (arith, s.within.life)) (fitting s).life) (later_is s.numbers.life 0 s.numbers.life s.numbers.crowd refl (sym (exact_unsigned_eq s.numbers.crowd 0 e)))
+later_again s false unlimited e f =
+    rw (number_below_again 256 s.numbers.life (omega (arith, s.within.life)) (fitting s).life, number_again s.numbers.crowd (fitting s).crowd) refl
+
+numbers_again : (s : Config) → numbers_parsed (version_for s.numbers) (config_fields (version_for s.numbers) s.numbers) ≡ Some (numbers_of s)
+numbers_again s =
     let f = fitting s in
     let kept : numbers_within (numbers_of s) ≡ Some (numbers_of s) = rw (config_within s) refl in
-    ap (λ (line : List ℕ). config_of (fields_of line)) (config_spaced s)
-    ∙ ap config_of (fields_again (codes "config") (config_fields s) refl (config_plain s))
-    ∙ rw (
+    rw (
       number_again s.numbers.neighbours f.neighbours,
       number_again s.numbers.seen f.seen,
       number_again s.numbers.servents f.servents,
       number_again s.numbers.stage f.stage,
       number_again s.numbers.out f.out,
       number_again s.numbers.steps f.steps,
+      later_again s (s.numbers.crowd == 0) (s.numbers.life == 0) refl refl,
     ) kept
+
+pub config_again : (s : Config) → config_of (version_for s.numbers) (fields_of (config_line s)) ≡ Some (numbers_of s)
+config_again s =
+    let version = version_for s.numbers in
+    ap (λ (line : List ℕ). config_of version (fields_of line)) (config_spaced s)
+    ∙ ap (config_of version) (fields_again (codes "config") (config_fields version s.numbers) refl (config_plain version s))
+    ∙ numbers_again s
 
 -- the fields after the word of an own line
 abbrev own_fields : Own → List (List ℕ)

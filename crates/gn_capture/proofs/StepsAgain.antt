@@ -13,7 +13,7 @@ use Rattle.gn_rules.specs.declared.receipt.Step.{Step}
 use Rattle.gn_rules.specs.declared.reply.DropReason.{DropReason}
 use Rattle.gn_rules.specs.declared.reply.DropReason.TheVariants.{UnknownKind, Malformed, Duplicate, NoRoute, RouteGone, BackToSender, Expired}
 use Rattle.gn_rules.specs.declared.reply.Reply.{Reply}
-use Rattle.gn_rules.specs.declared.reply.Reply.TheVariants.{Connected, TooMany, Closed, Admitted, Busy, Routed, Dropped, Taken, Sent}
+use Rattle.gn_rules.specs.declared.reply.Reply.TheVariants.{Connected, TooMany, Closed, Admitted, Busy, Crowded, Routed, Dropped, Taken, Sent}
 use Rattle.gn_rules.specs.declared.sends.Sending.{Sending}
 use Rattle.gn_text.specs.Lines.{fields_of, is_word}
 use Rattle.gn_capture.specs.Histories.{ending}
@@ -138,6 +138,7 @@ reply_fields TooMany = codes "toomany" ∷ []
 reply_fields (Closed count) = codes "closed" ∷ decimal count ∷ []
 reply_fields (Admitted t) = codes "admitted" ∷ decimal t ∷ []
 reply_fields Busy = codes "busy" ∷ []
+reply_fields Crowded = codes "crowded" ∷ []
 reply_fields (Routed sends local) = codes "routed" ∷ place_text local ∷ map sending_field sends
 reply_fields (Dropped reason) = codes "dropped" ∷ reason_text reason ∷ []
 reply_fields (Taken d) = codes "taken" ∷ packet_text d ∷ []
@@ -152,6 +153,7 @@ reply_spaced TooMany = refl
 reply_spaced (Closed count) = last_one (codes " closed ") (decimal count)
 reply_spaced (Admitted t) = last_one (codes " admitted ") (decimal t)
 reply_spaced Busy = refl
+reply_spaced Crowded = refl
 reply_spaced (Routed sends local) =
     routed_spaced (codes " routed ") (place_text local) (sends_text sends) ∙ ap (λ (t : List ℕ). codes " routed " ++ (place_text local ++ t)) (sends_spaced sends)
 reply_spaced (Dropped reason) = last_one (codes " dropped ") (reason_text reason)
@@ -186,6 +188,7 @@ reply_plain TooMany h = (refl, tt)
 reply_plain (Closed count) h = (refl, (number_plain count h, tt))
 reply_plain (Admitted t) h = (refl, (number_plain t h, tt))
 reply_plain Busy h = (refl, tt)
+reply_plain Crowded h = (refl, tt)
 reply_plain (Routed sends local) h = (refl, (place_plain local, sends_plain sends h))
 reply_plain (Dropped reason) h = (refl, (reason_plain reason, tt))
 reply_plain (Taken d) h = (refl, (packet_plain d h, tt))
@@ -210,6 +213,7 @@ reply_again TooMany h = refl
 reply_again (Closed count) h = rw (number_again count h) refl
 reply_again (Admitted t) h = rw (number_again t h) refl
 reply_again Busy h = refl
+reply_again Crowded h = refl
 reply_again (Routed sends local) h = routed_again sends local (map sending_field sends) (sends_again sends h)
 reply_again (Dropped reason) h = dropped_again (reason_text reason) reason (reason_again reason)
 reply_again (Taken d) h = rw (packet_again d h) refl

@@ -1,9 +1,10 @@
 -- What a capture says.
-use Rattle.std.specs.Prelude.{ℕ, List, [], ◌∷◌, ◌++◌, codes, Result, Ok}
+use Rattle.std.specs.Prelude.{ℕ, List, [], ◌∷◌, ◌++◌, Result, Ok}
 use Rattle.gn_rules.specs.declared.config.Own.{Own}
 use Rattle.gn_text.specs.Lines.{fields_of}
 use Rattle.gn_text.specs.declared.fault.CaptureFault.{CaptureFault}
 use Rattle.gn_text.specs.Faults.{◌>>=◌}
+use Rattle.gn_text.specs.declared.version.Text.TheVariants as text
 use Rattle.gn_text.specs.Header.{header_of}
 use Rattle.gn_text.specs.Parsed.{line_after, parsed_of}
 use Rattle.gn_rules.specs.declared.limits.Numbers.{Numbers}
@@ -30,7 +31,7 @@ pub record Parsed (A : Type 0) : Type 0 where
 
 -- the numbers and the own servent that a capture's first three lines say, and the lines after them
 abbrev pub capture_header : List ℕ → Result ((Numbers × Own) × List (ℕ × List ℕ)) CaptureFault
-capture_header text = header_of (codes "gnutella-capture 1") (line_after text) (parsed_of text)
+capture_header input = header_of text.Capture (line_after input) (parsed_of input)
 
 -- what a capture of this header says
 abbrev pub parsed_by : {A : Type 0} → (Numbers × Own) × List (ℕ × List ℕ) → Result (Parsed A) CaptureFault

@@ -9,10 +9,11 @@ use Rattle.gn_text.specs.declared.fault.Cause.TheVariants as cause
 use Rattle.gn_text.specs.declared.fault.CaptureFault.{CaptureFault}
 use Rattle.gn_text.specs.declared.fault.CaptureRefusal.{CaptureRefusal}
 use Rattle.gn_text.specs.Faults.{IsRefused, fault_at, numbered_at, ◌>>=◌}
-use Rattle.gn_text.specs.Header.{header_of}
+use Rattle.gn_text.specs.declared.version.Text.TheVariants.{History}
+use Rattle.gn_text.specs.Header.{header_of, header_text}
 use Rattle.gn_text.specs.Parsed.{Numbered, parsed_of, line_after}
 use Rattle.gn_rules.specs.declared.limits.Numbers.{Numbers}
-use Rattle.gn_text.specs.Settings.{settings_of, settings_text}
+use Rattle.gn_text.specs.Settings.{settings_of}
 use Rattle.gn_text.specs.Steps.{step_text}
 use Rattle.gn_capture.specs.Steps.{step_parsed}
 
@@ -20,10 +21,6 @@ use Rattle.gn_capture.specs.Steps.{step_parsed}
 abbrev pub map_result : {X Y E : Type 0} → (X → Y) → Result X E → Result Y E
 map_result f (Ok x) = Ok (f x)
 map_result f (Err e) = Err e
-
--- the line that a history begins with
-abbrev pub title : List ℕ
-title = codes "gnutella-history 1"
 
 -- the line that it ends with
 abbrev pub ending : List ℕ
@@ -33,9 +30,9 @@ ending = codes "end"
 abbrev pub steps_text : {A : Type 0} → List (Step A) → List ℕ
 steps_text steps = flat_map step_text steps
 
--- the text of a history: its title, the configuration, a line for each step, and the line `end`
+-- the text of a history: the three lines of its configuration, a line for each step, and the line `end`
 abbrev pub history_text : {A : Type 0} → Config → List (Step A) → List ℕ
-history_text s steps = codes "gnutella-history 1\n" ++ settings_text s ++ steps_text steps ++ codes "end\n"
+history_text s steps = header_text History s ++ steps_text steps ++ codes "end\n"
 
 -- what a line says: a step, or nothing where it is the line `end`
 abbrev pub line_parsed : {A : Type 0} → ℕ × List ℕ → Result (Option (Step A)) CaptureFault
@@ -72,7 +69,7 @@ IsNextOf (Err refusal) old new = IsRefused refusal old
 -- what a text says: the settings and the steps, or its first fault
 abbrev pub history_of : {A : Type 0} → List ℕ → Result ((Numbers × Own) × List (Step A)) CaptureFault
 history_of text = do
-  header ← header_of title (line_after text) (parsed_of text)
+  header ← header_of History (line_after text) (parsed_of text)
   map_result (λ steps. (header.0, steps)) (steps_from (line_after text) header.1)
 
 -- a history that was read

@@ -4,7 +4,7 @@ use Rattle.std.specs.List.{prefix_len}
 use Rattle.gn_rules.specs.declared.reply.DropReason.{DropReason}
 use Rattle.gn_rules.specs.declared.reply.DropReason.TheVariants.{UnknownKind, Malformed, Duplicate, NoRoute, RouteGone, BackToSender, Expired}
 use Rattle.gn_rules.specs.declared.reply.Reply.{Reply}
-use Rattle.gn_rules.specs.declared.reply.Reply.TheVariants.{Connected, TooMany, Closed, Admitted, Busy, Routed, Dropped, Taken, Sent}
+use Rattle.gn_rules.specs.declared.reply.Reply.TheVariants.{Connected, TooMany, Closed, Admitted, Busy, Crowded, Routed, Dropped, Taken, Sent}
 use Rattle.gn_rules.specs.declared.sends.Sending.{Sending}
 use Rattle.gn_text.specs.Addresses.{◌>>=◌}
 use Rattle.gn_text.specs.Lines.{is_word}
@@ -93,6 +93,7 @@ abbrev pub unnumbered_parsed : {A : Type 0} → List ℕ → List (List ℕ) →
 unnumbered_parsed word more =
     if is_word word (codes "toomany") then none_left TooMany more
     else if is_word word (codes "busy") then none_left Busy more
+    else if is_word word (codes "crowded") then none_left Crowded more
     else if is_word word (codes "dropped") then (alone reason_named more >>= λ reason. Some (Dropped reason))
     else packets_parsed word more
 

@@ -11,7 +11,7 @@ use Rattle.gn_rules.specs.declared.event.Event.{Event}
 use Rattle.gn_rules.specs.declared.event.Event.TheVariants.{Connect, Close, Admit, Route, Take, Originate}
 use Rattle.gn_rules.specs.declared.receipt.Step.{Step}
 use Rattle.gn_rules.specs.declared.reply.Reply.{Reply}
-use Rattle.gn_rules.specs.declared.reply.Reply.TheVariants.{Connected, TooMany, Closed, Admitted, Busy, Routed, Dropped, Taken, Sent}
+use Rattle.gn_rules.specs.declared.reply.Reply.TheVariants.{Connected, TooMany, Closed, Admitted, Busy, Crowded, Routed, Dropped, Taken, Sent}
 use Rattle.gn_rules.specs.declared.sends.Sending.{Sending}
 use Rattle.gn_text.specs.Settings.{settings_of}
 use Rattle.gn_capture.specs.Packets.{packet_of}
@@ -49,6 +49,7 @@ IsReply TooMany = Unit {0}
 IsReply (Closed count) = IsNumber count
 IsReply (Admitted t) = IsNumber t
 IsReply Busy = Unit {0}
+IsReply Crowded = Unit {0}
 IsReply (Routed sends local) = AllByRecursion IsSending sends
 IsReply (Dropped reason) = Unit {0}
 IsReply (Taken d) = IsPacket d

@@ -8,7 +8,7 @@ ghost use Rattle.gn_capture.specs.FirstFaults.{NamesFirst};
 use crate::body::read_lines;
 use crate::line::Line;
 use gn_rules::Config;
-use gn_text::{CaptureRefusal, NumberedLines, read_header};
+use gn_text::{CaptureRefusal, NumberedLines, Text, read_header};
 use std::alloc::{Allocator, Global};
 
 /// What a capture says: how the router is set up, and what happens to it.
@@ -30,7 +30,7 @@ pub fn read_capture<A: Allocator + Copy>(
     ensures first { IfErr result (λ refusal. NamesFirst A text.now refusal) }
 {
     let mut lines = NumberedLines::of(text);
-    match read_header(alloc, b"gnutella-capture 1", &mut lines) {
+    match read_header(alloc, Text::Capture, &mut lines) {
         Ok(config) => match read_lines(alloc, &mut lines) {
             Ok(lines) => Ok(Capture { config, lines }),
             Err(refusal) => Err(refusal),

@@ -70,7 +70,7 @@ fn reply_fits<A: Allocator>(reply: &Reply<A>)
     ensures { IsReply reply.now }
 {
     match reply {
-        Reply::TooMany | Reply::Busy | Reply::Dropped(_) => {}
+        Reply::TooMany | Reply::Busy | Reply::Crowded | Reply::Dropped(_) => {}
         Reply::Connected(number) | Reply::Closed(number) | Reply::Admitted(number) => {
             number_fits(*number);
         }

@@ -9,7 +9,7 @@ ghost use Rattle.gn_capture.specs.Histories.{IsNextOf, ended, history_of, histor
 use crate::step::read_step;
 use gn_rules::{Config, Step};
 use gn_text::{
-    CaptureRefusal, Cause, NumberedLine, NumberedLines, fields_into, is_word, read_header,
+    CaptureRefusal, Cause, NumberedLine, NumberedLines, Text, fields_into, is_word, read_header,
 };
 use std::alloc::{Allocator, Global};
 use std::marker::Model;
@@ -88,7 +88,7 @@ impl<'a, A: Allocator + Copy> HistorySteps<'a, A> {
 }
 
 /// The configuration that a history's text says, and its steps, which are still to be read. An `Err` names a line before
-/// the steps: the first line isn't `gnutella-history 1` (`Header`), a bad or missing `config` or `own` line; or out of
+/// the steps: the first line is the title of no version (`Header`), a bad or missing `config` or `own` line; or out of
 /// memory.
 pub fn open_history<'a, A: Allocator + Copy>(
     alloc: A,
@@ -99,7 +99,7 @@ pub fn open_history<'a, A: Allocator + Copy>(
     ensures refused { IfErr result (λ refusal. IsRefused refusal (history_of {A = A} text.now)) }
 {
     let mut lines = NumberedLines::of(text);
-    let config = read_header(alloc, b"gnutella-history 1", &mut lines)?;
+    let config = read_header(alloc, Text::History, &mut lines)?;
     let steps = HistorySteps {
         alloc,
         lines,
@@ -123,7 +123,7 @@ fn read_steps<A: Allocator + Copy>(
 }
 
 /// The configuration and the steps that a history's text says. An `Err` names its first line that something is wrong
-/// with: the first line isn't `gnutella-history 1` (`Header`), a bad or missing `config` or `own` line, a line that is no
+/// with: the first line is the title of no version (`Header`), a bad or missing `config` or `own` line, a line that is no
 /// step (`Field`), a missing `end` or something after it (`End`); or out of memory. Empty lines and comments are
 /// skipped, also after `end`. Whether the replies are right isn't looked at.
 pub fn read_history<A: Allocator + Copy>(

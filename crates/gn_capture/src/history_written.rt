@@ -7,7 +7,7 @@ ghost use Rattle.gn_capture.specs.RoundTrip.{IsReadBack};
 
 use crate::laws::written_is_read;
 use gn_rules::{Config, Step};
-use gn_text::{push_settings, push_step};
+use gn_text::{Text, push_header, push_step};
 use gn_wire::whole_or_none;
 use std::alloc::{AllocError, Allocator};
 
@@ -34,14 +34,13 @@ fn write_text<A: Allocator, B: Allocator>(
     ensures ok { OnOk result (out.new.items ≡ out.old.items ++ history_text config.now steps.now) }
     ensures err { OnErr result (take (length out.old.items) out.new.items ≡ out.old.items) }
 {
-    out.extend_from_slice(b"gnutella-history 1\n")?;
-    push_settings(out, config)?;
+    push_header(out, Text::History, config)?;
     write_steps(out, steps)?;
     out.extend_from_slice(b"end\n")
 }
 
-/// Appends the text of a history: the line `gnutella-history 1`, the `config` and `own` lines, a line for each step, and
-/// the line `end`. The text is read back as that configuration and those steps. An `Err` is out of memory, and changes
+/// Appends the text of a history: the title of the least version that can say its configuration, the `config` and `own`
+/// lines, a line for each step, and the line `end`. The text is read back as that configuration and those steps. An `Err` is out of memory, and changes
 /// nothing.
 pub fn write_history<A: Allocator, B: Allocator>(
     config: &Config,

@@ -131,6 +131,13 @@ fn read_unnumbered<A: Allocator + Copy>(
             None
         });
     }
+    if is_word(word, b"crowded") {
+        return Ok(if more.is_empty() {
+            Some(Reply::Crowded)
+        } else {
+            None
+        });
+    }
     if is_word(word, b"dropped") {
         return match reason_alone(more) {
             Some(reason) => Ok(Some(Reply::Dropped(reason))),
