@@ -1,11 +1,11 @@
 -- One receipt more.
-use Rattle.std.proofs.Common.{◌≡◌, inl, inr, ℕ, ◌<◌, true, List, [], ◌∷◌, ◌++◌, length, Option, Some, None, refl, ap, ◌∙◌, sym, append_assoc, append-nil, arith}
+use Rattle.std.proofs.Common.{◌≡◌, ◌⊎◌, inl, inr, ℕ, ◌<◌, true, List, [], ◌∷◌, ◌++◌, length, Option, Some, None, refl, ap, ◌∙◌, sym, append_assoc, append-nil, arith}
 use Rattle.std.proofs.lemmas.List.{length_push, map-append}
 use Rattle.gn_wire.specs.Packet.{Packet}
 use Rattle.gn_rules.specs.declared.event.Event.TheVariants.{Admit, Close, Connect, Route}
 use Rattle.gn_rules.specs.declared.receipt.Receipt.{Receipt}
 use Rattle.gn_rules.specs.declared.reply.Reply.{Reply}
-use Rattle.gn_rules.specs.declared.reply.Reply.TheVariants.{Connected, TooMany, Closed, Admitted, Busy, Routed, Dropped, Taken, Sent}
+use Rattle.gn_rules.specs.declared.reply.Reply.TheVariants.{Connected, TooMany, Closed, Admitted, Busy, Crowded, Routed, Dropped, Taken, Sent}
 use Rattle.gn_rules.specs.History.{admitted_of, connected_of}
 use Rattle.gn_stage.specs.Jobs.{Queued}
 use Rattle.gn_service.specs.ActorState.{ActorState, receipt, with_receipt}
@@ -54,12 +54,13 @@ pub number-route : {A : Type 0} (t : ℕ) (me us : ActorState A) → HasReceipt 
 number-route t me us (index, reply, fits, got) = ap (λ w. w.number) got
 
 -- what an admission does
-admission_none : {A : Type 0} (c : ℕ) (d : Packet) (reply : Reply A) → replies (Admit c d) reply ≡ true → admitted_of reply ≡ None → reply ≡ Busy
+admission_none : {A : Type 0} (c : ℕ) (d : Packet) (reply : Reply A) → replies (Admit c d) reply ≡ true → admitted_of reply ≡ None → (reply ≡ Busy) ⊎ (reply ≡ Crowded)
 admission_none c d (Connected e) fits none = absurd (cc)
 admission_none c d TooMany fits none = absurd (cc)
 admission_none c d (Closed n) fits none = absurd (cc)
 admission_none c d (Admitted t) fits none = absurd (cc)
-admission_none c d Busy fits none = refl
+admission_none c d Busy fits none = inl refl
+admission_none c d Crowded fits none = inr refl
 admission_none c d (Routed sends local) fits none = absurd (cc)
 admission_none c d (Dropped reason) fits none = absurd (cc)
 admission_none c d (Taken p) fits none = absurd (cc)
@@ -71,6 +72,7 @@ admission_some t TooMany some = absurd (cc)
 admission_some t (Closed n) some = absurd (cc)
 admission_some t (Admitted u) some = cc
 admission_some t Busy some = absurd (cc)
+admission_some t Crowded some = absurd (cc)
 admission_some t (Routed sends local) some = absurd (cc)
 admission_some t (Dropped reason) some = absurd (cc)
 admission_some t (Taken p) some = absurd (cc)
@@ -84,8 +86,14 @@ pub admitted_none : {A : Type 0} (c : ℕ) (d : Packet) (last : Reply A) (me us 
     → None ≡ admitted_of last → HasAdmitted c d None me us
 admitted_none c d last me us (index, reply, fits, got) is none =
     let same : last ≡ reply = is me.receipts (receipt index (Admit c d) reply) (ap (λ w. w.receipts) got) in
-    let busy = admission_none c d reply fits (ap admitted_of (sym same) ∙ sym none) in
-    (index, got ∙ ap (λ r. with_receipt me (receipt index (Admit c d) r)) busy)
+    let away = admission_none c d reply fits (ap admitted_of (sym same) ∙ sym none) in
+    (
+      index,
+      elim away as (λ x. (us ≡ with_receipt me (receipt index (Admit c d) Busy)) ⊎ (us ≡ with_receipt me (receipt index (Admit c d) Crowded))) [
+        | inl busy ↦ inl (got ∙ ap (λ r. with_receipt me (receipt index (Admit c d) r)) busy)
+        | inr crowded ↦ inr (got ∙ ap (λ r. with_receipt me (receipt index (Admit c d) r)) crowded)
+      ],
+    )
 
 pub admitted_some : {A : Type 0} (c t : ℕ) (d : Packet) (last : Reply A) (me us : ActorState A) → HasReceipt (Admit c d) me us → IsLast last us
     → Some t ≡ admitted_of last → HasAdmitted c d (Some (record { ticket = t; descriptor = d })) me us
@@ -95,15 +103,18 @@ admitted_some c t d last me us (index, reply, fits, got) is some =
     (index, refl, got ∙ ap (λ r. with_receipt me (receipt index (Admit c d) r)) given)
 
 pub admitted_number : {A : Type 0} (c : ℕ) (d : Packet) (job : Option Queued) (me us : ActorState A) → HasAdmitted c d job me us → us.number ≡ me.number
-admitted_number c d None me us (index, got) = ap (λ w. w.number) got
+admitted_number c d None me us (index, inl got) = ap (λ w. w.number) got
+admitted_number c d None me us (index, inr got) = ap (λ w. w.number) got
 admitted_number c d (Some job) me us (index, same, got) = ap (λ w. w.number) got
 
 pub admitted_connection : {A : Type 0} (c : ℕ) (d : Packet) (job : Option Queued) (me us : ActorState A) → HasAdmitted c d job me us → KeepsConnection me us
-admitted_connection c d None me us (index, got) = connection-receipt me us (receipt index (Admit c d) Busy) got
+admitted_connection c d None me us (index, inl got) = connection-receipt me us (receipt index (Admit c d) Busy) got
+admitted_connection c d None me us (index, inr got) = connection-receipt me us (receipt index (Admit c d) Crowded) got
 admitted_connection c d (Some job) me us (index, same, got) = connection-receipt me us (receipt index (Admit c d) (Admitted job.ticket)) got
 
 pub admitted_events : {A : Type 0} (c : ℕ) (d : Packet) (job : Option Queued) (me us : ActorState A) → HasAdmitted c d job me us → link_events us ≡ link_events me ++ Admit c d ∷ []
-admitted_events c d None me us (index, got) = link_events-receipt me us (receipt index (Admit c d) Busy) got
+admitted_events c d None me us (index, inl got) = link_events-receipt me us (receipt index (Admit c d) Busy) got
+admitted_events c d None me us (index, inr got) = link_events-receipt me us (receipt index (Admit c d) Crowded) got
 admitted_events c d (Some job) me us (index, same, got) = link_events-receipt me us (receipt index (Admit c d) (Admitted job.ticket)) got
 
 -- what a close does
@@ -113,6 +124,7 @@ closed_reply c TooMany fits = absurd (cc)
 closed_reply c (Closed count) fits = (count, refl)
 closed_reply c (Admitted t) fits = absurd (cc)
 closed_reply c Busy fits = absurd (cc)
+closed_reply c Crowded fits = absurd (cc)
 closed_reply c (Routed sends local) fits = absurd (cc)
 closed_reply c (Dropped reason) fits = absurd (cc)
 closed_reply c (Taken p) fits = absurd (cc)

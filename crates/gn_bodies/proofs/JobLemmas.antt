@@ -6,7 +6,7 @@ use Rattle.gn_rules.specs.declared.event.Event.{Event}
 use Rattle.gn_rules.specs.declared.event.Event.TheVariants.{Connect, Close, Admit, Route, Take, Originate}
 use Rattle.gn_rules.specs.declared.receipt.Receipt.{Receipt}
 use Rattle.gn_rules.specs.declared.reply.Reply.{Reply}
-use Rattle.gn_rules.specs.declared.reply.Reply.TheVariants.{Connected, TooMany, Closed, Admitted, Busy, Routed, Dropped, Taken, Sent}
+use Rattle.gn_rules.specs.declared.reply.Reply.TheVariants.{Connected, TooMany, Closed, Admitted, Busy, Crowded, Routed, Dropped, Taken, Sent}
 use Rattle.gn_stage.specs.Ends.{End, with_job}
 use Rattle.gn_stage.specs.Jobs.{Queued}
 use Rattle.gn_service.specs.ActorState.{ActorState, receipt, with_receipt}
@@ -27,6 +27,7 @@ no_route (Admitted t) (Route u) other = absurd (cc)
 no_route (Admitted t) (Take c) other = refl
 no_route (Admitted t) (Originate d) other = refl
 no_route Busy event other = refl
+no_route Crowded event other = refl
 no_route (Routed sends local) event other = refl
 no_route (Dropped reason) event other = refl
 no_route (Taken p) event other = refl
@@ -66,8 +67,9 @@ pub close_jobs : {A : Type 0} (c : ℕ) (me us : ActorState A) → MayClose c me
 close_jobs c me us (inl same) = ap (λ w. jobs_left w.receipts) same
 close_jobs c me us (inr (index, count, got)) = left_none me us (receipt index (Close c) (Closed count)) got refl refl
 
-pub busy_jobs : {A : Type 0} (c : ℕ) (d : Packet) (me us : ActorState A) → HasAdmitted c d None me us → jobs_left us.receipts ≡ jobs_left me.receipts
-busy_jobs c d me us (index, got) = left_none me us (receipt index (Admit c d) Busy) got refl refl
+pub away_jobs : {A : Type 0} (c : ℕ) (d : Packet) (me us : ActorState A) → HasAdmitted c d None me us → jobs_left us.receipts ≡ jobs_left me.receipts
+away_jobs c d me us (index, inl got) = left_none me us (receipt index (Admit c d) Busy) got refl refl
+away_jobs c d me us (index, inr got) = left_none me us (receipt index (Admit c d) Crowded) got refl refl
 
 pub first_jobs : {A : Type 0} (me us : ActorState A) → HasReceipt Connect me us → me.receipts ≡ [] → jobs_left us.receipts ≡ []
 first_jobs me us (index, reply, fits, got) none =

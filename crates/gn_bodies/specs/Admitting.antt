@@ -1,8 +1,8 @@
 -- What a reader admits, and what it does with the jobs.
-use Rattle.std.specs.Prelude.{◌≡◌, ℕ, Bool, false, List, [], ◌∷◌, ◌++◌, Option, Some, None}
+use Rattle.std.specs.Prelude.{◌≡◌, ◌⊎◌, ℕ, Bool, false, List, [], ◌∷◌, ◌++◌, Option, Some, None}
 use Rattle.gn_rules.specs.declared.event.Event.TheVariants.{Admit}
 use Rattle.gn_rules.specs.declared.receipt.Receipt.{Receipt}
-use Rattle.gn_rules.specs.declared.reply.Reply.TheVariants.{Admitted, Busy}
+use Rattle.gn_rules.specs.declared.reply.Reply.TheVariants.{Admitted, Busy, Crowded}
 use Rattle.gn_stage.specs.Ends.{End}
 use Rattle.gn_stage.specs.Jobs.{Queued}
 use Rattle.gn_wire.specs.Packet.{Packet}
@@ -32,9 +32,10 @@ IsSettled before me = me.is_refused ≡ false → me.intake.jobs ≡ before ++ j
 abbrev pub StaysSettled : {A : Type 0} → Admitting A → Admitting A → Type 0
 StaysSettled before after = (jobs : List Queued) → IsSettled jobs before → IsSettled jobs after
 
--- an actor got the receipt of an admission: a job with the ticket, or none where the router was busy
+-- an actor got the receipt of an admission: a job with the ticket, or none at a threshold, that of all connections or its own
 abbrev pub HasAdmitted : {A : Type 0} → ℕ → Packet → Option Queued → ActorState A → ActorState A → Type 0
-HasAdmitted c d None me us = (index : ℕ) × (us ≡ with_receipt me (receipt index (Admit c d) Busy))
+HasAdmitted c d None me us =
+    (index : ℕ) × ((us ≡ with_receipt me (receipt index (Admit c d) Busy)) ⊎ (us ≡ with_receipt me (receipt index (Admit c d) Crowded)))
 HasAdmitted c d (Some job) me us =
     (index : ℕ) × (job.descriptor ≡ d) × (us ≡ with_receipt me (receipt index (Admit c d) (Admitted job.ticket)))
 

@@ -19,7 +19,8 @@ use std::alloc::Allocator;
 use std::sync::Wait;
 use std::sync::ledger::Ledger;
 
-/// Admits a descriptor, which comes back as a job with its ticket. None where the router is busy: the descriptor is gone.
+/// Admits a descriptor, which comes back as a job with its ticket. None at a threshold, that of all connections or its
+/// own: the descriptor is gone.
 pub(crate) fn admit<C: RouterCore<A> + Drop, L: Ledger, A: Allocator + Copy, R: Wait>(
     rt: &R,
     service: &Service<C, L, A>,

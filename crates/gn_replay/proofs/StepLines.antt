@@ -6,13 +6,17 @@ use Rattle.gn_rules.specs.declared.config.Own.{Own}
 use Rattle.gn_rules.specs.declared.receipt.Step.{Step}
 use Rattle.gn_text.specs.declared.fault.CaptureFault.{CaptureFault}
 use Rattle.gn_text.specs.declared.fault.Cause.TheVariants as cause
+use Rattle.gn_text.specs.declared.version.Text.{Text}
+use Rattle.gn_text.specs.declared.version.Text.TheVariants.{History}
+use Rattle.gn_text.specs.declared.version.Version.{Version}
+use Rattle.gn_text.specs.Versions.{version_of}
 use Rattle.gn_text.specs.Faults.{fault_at, numbered_at, ◌>>=◌}
 use Rattle.gn_text.specs.Header.{config_from, header_of, own_from}
 use Rattle.gn_text.specs.Lines.{fields_of, is_word}
 use Rattle.gn_text.specs.Parsed.{line_after, parsed_of}
 use Rattle.gn_rules.specs.declared.limits.Numbers.{Numbers}
 use Rattle.gn_text.specs.Settings.{config_of, own_of}
-use Rattle.gn_capture.specs.Histories.{ended, ending, history_of, line_parsed, map_result, steps_after, steps_from, title}
+use Rattle.gn_capture.specs.Histories.{ended, ending, history_of, line_parsed, map_result, steps_after, steps_from}
 use Rattle.gn_capture.specs.Steps.{step_parsed}
 use Rattle.gn_replay.specs.Explained.{step_line_at}
 
@@ -78,10 +82,10 @@ own_more numbers last (line ∷ more) header e = by (own_of (fields_of line.1)) 
         (line, ap (λ (h : (Numbers × Own) × List (ℕ × List ℕ)). line ∷ h.1) known)
 
 -- the lines after two
-config_more : (last : ℕ) (lines : List (ℕ × List ℕ)) (header : (Numbers × Own) × List (ℕ × List ℕ))
-    → config_from last lines ≡ Ok header → (x y : ℕ × List ℕ) × (lines ≡ x ∷ y ∷ header.1)
-config_more last [] header e = absurd (cc)
-config_more last (line ∷ more) header e = by (config_of (fields_of line.1)) e
+config_more : (version : Version) (last : ℕ) (lines : List (ℕ × List ℕ)) (header : (Numbers × Own) × List (ℕ × List ℕ))
+    → config_from version last lines ≡ Ok header → (x y : ℕ × List ℕ) × (lines ≡ x ∷ y ∷ header.1)
+config_more version last [] header e = absurd (cc)
+config_more version last (line ∷ more) header e = by (config_of version (fields_of line.1)) e
   where
     by : (o : Option Numbers) → (numbered_at line.0 cause.Config o >>= (λ numbers. own_from numbers last more)) ≡ Ok header
         → (x y : ℕ × List ℕ) × (line ∷ more ≡ x ∷ y ∷ header.1)
@@ -91,16 +95,16 @@ config_more last (line ∷ more) header e = by (config_of (fields_of line.1)) e
         (line, more_of.0, ap (λ xs. line ∷ xs) more_of.1)
 
 -- the lines after the first three
-header_more : (name : List ℕ) (last : ℕ) (lines : List (ℕ × List ℕ)) (header : (Numbers × Own) × List (ℕ × List ℕ)) (i : ℕ)
-    → header_of name last lines ≡ Ok header → slice_get lines (suc (suc (suc i))) ≡ slice_get header.1 i
-header_more name last [] header i e = absurd (cc)
-header_more name last (line ∷ more) header i e = by (is_word line.1 name) e
+header_more : (text : Text) (last : ℕ) (lines : List (ℕ × List ℕ)) (header : (Numbers × Own) × List (ℕ × List ℕ)) (i : ℕ)
+    → header_of text last lines ≡ Ok header → slice_get lines (suc (suc (suc i))) ≡ slice_get header.1 i
+header_more text last [] header i e = absurd (cc)
+header_more text last (line ∷ more) header i e = by (version_of text line.1) e
   where
-    by : (b : Bool) → (if b then config_from last more else Err (fault_at line.0 cause.Header)) ≡ Ok header
+    by : (o : Option Version) → (numbered_at line.0 cause.Header o >>= (λ version. config_from version last more)) ≡ Ok header
         → slice_get (line ∷ more) (suc (suc (suc i))) ≡ slice_get header.1 i
-    by false e = absurd (cc)
-    by true e =
-        let more_of = config_more last more header e in
+    by None e = absurd (cc)
+    by (Some version) e =
+        let more_of = config_more version last more header e in
         ap (λ xs. slice_get xs (suc (suc i))) more_of.2
 
 abbrev headed : {A : Type 0} → Numbers × Own → Result (List (Step A)) CaptureFault → Result ((Numbers × Own) × List (Step A)) CaptureFault
@@ -121,7 +125,7 @@ read_after last header = do
 
 -- the steps of a text, after its first three lines
 in_text : {A : Type 0} (lines : List (ℕ × List ℕ)) (last : ℕ) (header : Result ((Numbers × Own) × List (ℕ × List ℕ)) CaptureFault) (settings : Numbers × Own) (steps : List (Step A)) (i : ℕ) (step : Step A)
-    → header_of title last lines ≡ header
+    → header_of History last lines ≡ header
     → read_after last header ≡ Ok (settings, steps) → slice_get steps i ≡ Some step
     → IsLineOf lines (suc (suc (suc i))) step
 in_text lines last (Err fault) settings steps i step is all at = absurd (cc)
@@ -133,13 +137,13 @@ in_text lines last (Ok header) settings steps i step is all at = by (steps_from 
     by (Ok xs) read e =
         let same = headed_same header.0 settings xs steps e in
         let line = stands_in last header.1 xs i step read (ap (λ z. slice_get z i) same ∙ at) in
-        record { line = line.line; stands = header_more title last lines header i is ∙ line.stands; says = line.says }
+        record { line = line.line; stands = header_more History last lines header i is ∙ line.stands; says = line.says }
 
 -- a step of a history stands in its line
 pub step_stands : {A : Type 0} (text : List ℕ) (settings : Numbers × Own) (steps : List (Step A)) (i : ℕ) (step : Step A)
     → history_of text ≡ Ok (settings, steps) → slice_get steps i ≡ Some step
     → (line : ℕ × List ℕ) × (step_line_at text i ≡ Some line) × (step_parsed (fields_of line.1) ≡ Some step)
 step_stands text settings steps i step parsed at =
-    let found = in_text (parsed_of text) (line_after text) (header_of title (line_after text) (parsed_of text)) settings steps i step refl parsed at in
+    let found = in_text (parsed_of text) (line_after text) (header_of History (line_after text) (parsed_of text)) settings steps i step refl parsed at in
     let place : 3 + i ≡ suc (suc (suc i)) = omega arith in
     (found.line, ap (slice_get (parsed_of text)) place ∙ found.stands, found.says)

@@ -5,7 +5,7 @@ use Rattle.std.specs.Option.{option_or}
 use Rattle.std.proofs.lemmas.List.Sums.{sum_by-append, sum_by-cons}
 use Rattle.gn_rules.specs.declared.receipt.Receipt.{Receipt}
 use Rattle.gn_rules.specs.declared.reply.Reply.{Reply}
-use Rattle.gn_rules.specs.declared.reply.Reply.TheVariants.{Connected, TooMany, Closed, Admitted, Busy, Routed, Dropped, Taken, Sent}
+use Rattle.gn_rules.specs.declared.reply.Reply.TheVariants.{Connected, TooMany, Closed, Admitted, Busy, Crowded, Routed, Dropped, Taken, Sent}
 use Rattle.gn_rules.specs.History.{connected_of}
 use Rattle.gn_bodies.specs.Events.{connection_from, packets_in}
 use Rattle.gn_laws.specs.Owners.{packets_of, known_conn}
@@ -31,6 +31,7 @@ taken_alone TooMany receipts r is same = rw is same
 taken_alone (Closed n) receipts r is same = rw is same
 taken_alone (Admitted t) receipts r is same = rw is same
 taken_alone Busy receipts r is same = rw is same
+taken_alone Crowded receipts r is same = rw is same
 taken_alone (Routed sends local) receipts r is same = rw is same
 taken_alone (Dropped why) receipts r is same = rw is same
 taken_alone (Taken p) receipts r is same = rw is (ap (λ ps. p ∷ ps) same)

@@ -2,7 +2,7 @@ use Rattle.std.proofs.Common.{◌++◌, ◌∙◌, ap, sym, subst, Option}
 use Rattle.gn_stage.specs.Jobs.{Queued}
 use Rattle.gn_bodies.specs.Admitting.{HasAdmitted}
 use Rattle.gn_bodies.proofs.EventLemmas.{admitted_connection, admitted_events}
-use Rattle.gn_bodies.proofs.JobLemmas.{busy_jobs}
+use Rattle.gn_bodies.proofs.JobLemmas.{away_jobs}
 use Rattle.gn_bodies.proofs.admitter.Admitter.admit.Goals as goal
 
 pub returns-in-Ok-clause-connection : goal.returns-in-Ok-clause-connection
@@ -27,5 +27,5 @@ returns-in-Ok-None-clause-ok g c =
 
 pub returns-in-Ok-None-clause-settled : goal.returns-in-Ok-None-clause-settled
 returns-in-Ok-None-clause-settled g c =
-    let busy = subst (λ (job : Option Queued). HasAdmitted c.args.c c.args.descriptor job c.self.inside.actor c.admit.new.me) c.in-Ok-None.field-0-is c.in-Ok-None.ensures.ok in
-    rw (← c.self.view_is) (λ jobs was other. was other ∙ ap (λ left. jobs ++ left) (sym (busy_jobs c.args.c c.args.descriptor _ _ busy)))
+    let away = subst (λ (job : Option Queued). HasAdmitted c.args.c c.args.descriptor job c.self.inside.actor c.admit.new.me) c.in-Ok-None.field-0-is c.in-Ok-None.ensures.ok in
+    rw (← c.self.view_is) (λ jobs was other. was other ∙ ap (λ left. jobs ++ left) (sym (away_jobs c.args.c c.args.descriptor _ _ away)))
