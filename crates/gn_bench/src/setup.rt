@@ -18,7 +18,7 @@ const OWN: Own = Own {
 
 /// The configuration of a captured run, with so many neighbours.
 pub(crate) fn config(neighbours: u32) -> io::Result<Config> {
-    Config::new(neighbours, 1_024, 64, 16, 64, 1_000_000, 0, OWN).map_err(fault)
+    Config::new(neighbours, 1_024, 64, 16, 64, 1_000_000, 0, 0, OWN).map_err(fault)
 }
 
 /// An ID of its own for each number.

@@ -86,8 +86,7 @@ pub admitted_none : {A : Type 0} (c : ℕ) (d : Packet) (last : Reply A) (me us 
     → None ≡ admitted_of last → HasAdmitted c d None me us
 admitted_none c d last me us (index, reply, fits, got) is none =
     let same : last ≡ reply = is me.receipts (receipt index (Admit c d) reply) (ap (λ w. w.receipts) got) in
-    let away = admission_none c d reply fits (ap admitted_of (sym same) ∙ sym none) in
-    (
+    let away = admission_none c d reply fits (ap admitted_of (sym same) ∙ sym none) in (
       index,
       elim away as (λ x. (us ≡ with_receipt me (receipt index (Admit c d) Busy)) ⊎ (us ≡ with_receipt me (receipt index (Admit c d) Crowded))) [
         | inl busy ↦ inl (got ∙ ap (λ r. with_receipt me (receipt index (Admit c d) r)) busy)

@@ -30,9 +30,9 @@ pub const OWN_PONG: &[u8] =
 /// The configuration of most runs, but with so many steps.
 pub fn usual(steps: u32) -> Result<Config, BadConfig>
     ensures { IfOk result (λ config. IsMadeOf config
-        (record { neighbours = 4; seen = 8; servents = 4; stage = 8; out = 8; steps = steps; life = 0 }) OWN) }
+        (record { neighbours = 4; seen = 8; servents = 4; stage = 8; out = 8; steps = steps; life = 0; crowd = 0 }) OWN) }
 {
-    Config::new(4, 8, 4, 8, 8, steps, 0, OWN)
+    Config::new(4, 8, 4, 8, 8, steps, 0, 0, OWN)
 }
 
 /// A Ping with an ID that repeats this byte.

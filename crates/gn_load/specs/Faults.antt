@@ -11,7 +11,7 @@ use Rattle.gn_replay.specs.Faults.{IsInputThat, IsReplayFault}
 use Rattle.gn_load.specs.declared.fault.LoadFault.{LoadFault}
 use Rattle.gn_load.specs.declared.fault.LoadFault.TheVariants.{Run, Text}
 
--- when a run of so many links and workers has this fault: BadWorkers comes exactly out of 1 to 16 workers; any other names only a
+-- when a run of so many links and workers has this fault: BadWorkers comes exactly out of 1 to 64 workers; any other names only a
 -- link or an actor of the run
 pub record IsRunFault (links workers : ℕ) (fault : RunFault) : Type 0 where
   pub bad : (fault ≡ BadWorkers) ↔ (¬ IsCrew workers)

@@ -57,7 +57,7 @@ NoReadFailed {Rd} {W} {A} report =
     (k : ℕ) (link : LinkReport Rd W A) → k < length report.links.items
     → ¬ ((slice_index_or report.links.items k link).reader_end ≡ ReadFailed)
 
--- a text is the history of a run with so many workers, 1 to 16, over the links of the input: there is a report of such a run, of
+-- a text is the history of a run with so many workers, 1 to 64, over the links of the input: there is a report of such a run, of
 -- which all of the headline holds, and the text is that of its history
 pub record IsLoadText (A : Type 0) (workers : ℕ) (input text : List ℕ) : Type 0 where
   pub settings : Config

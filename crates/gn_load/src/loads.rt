@@ -38,7 +38,7 @@ fn history_of<
     Ok(history)
 }
 
-/// Reads a capture of `join`, `open` and `data` lines whole, runs its links with so many workers, 1 to 16, until each link's
+/// Reads a capture of `join`, `open` and `data` lines whole, runs its links with so many workers, 1 to 64, until each link's
 /// bytes are read and all that was queued to it is taken, and writes the history of the router, which `audit` reads. Each
 /// link is one over memory with all its bytes, which are read 4,096 at a time.
 ///

@@ -88,7 +88,16 @@ own_served serving =
 -- a configuration is that of a router that serves
 abbrev pub IsServing : AskedServe → Config → Type 0
 IsServing serving settings =
-    IsMadeOf settings (record { neighbours = 64; seen = 4096; servents = 1024; stage = 1024; out = 1024; steps = 1000000; life = 0 }) (own_served serving)
+    IsMadeOf settings (record {
+      neighbours = 64;
+      seen = 4096;
+      servents = 1024;
+      stage = 1024;
+      out = 1024;
+      steps = 1000000;
+      life = serving.life;
+      crowd = serving.crowd;
+    }) (own_served serving)
 
 -- what serve answers: no write failed, and the history of a run with so many workers, over links to the peers that are
 -- called and to so many that call, was written; or it stopped, and what was written then is a prefix of such a history

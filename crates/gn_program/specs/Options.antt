@@ -2,7 +2,7 @@
 use Rattle.std.specs.Prelude.{◌≡◌, ◌∷◌, ◌++◌, ◌==◌, ◌&&◌, ℕ, List, [], Option, Some, None, Result, Ok, Err, codes, length, nat_le, slice_index, unwrap_or, if◌then◌else◌}
 use Rattle.std.specs.List.{slice_split}
 use Rattle.clap.specs.Words.{Row, Text, all_of, first_of}
-use Rattle.gn_rules.specs.Limits.{most_workers}
+use Rattle.gn_rules.specs.Limits.{most, most_workers}
 use Rattle.gn_text.specs.Addresses.{ip_of, ◌>>=◌}
 use Rattle.gn_text.specs.Bytes.{guid_of}
 use Rattle.gn_text.specs.Numbers.{number_below, number_of}
@@ -24,7 +24,7 @@ number_asked option least most rows = do
   text ← first_of option rows
   number_between least most text
 
--- the number of workers that is asked for, where it is 1 to 16
+-- the number of workers that is asked for, where it is 1 to 64
 abbrev pub workers_of : List Row → Option ℕ
 workers_of rows = number_asked (codes "workers") 1 most_workers rows
 
@@ -75,7 +75,18 @@ serving_of rows = do
   servent ← servent_of rows
   peers ← peers_of rows
   idle ← number_asked (codes "idle") 0 86400 rows
-  Some (record { port = port; accept = accept; workers = workers; servent = servent; peers = peers; idle = idle })
+  life ← number_asked (codes "life") 0 most.life rows
+  crowd ← number_asked (codes "crowd") 0 most.crowd rows
+  Some (record {
+    port = port;
+    accept = accept;
+    workers = workers;
+    servent = servent;
+    peers = peers;
+    idle = idle;
+    life = life;
+    crowd = crowd;
+  })
 
 -- a value was read as the definition says; a mistake is where it says none, and memory may run out at any time. view is how the
 -- definition sees the value that was read

@@ -52,8 +52,9 @@ usual_servent = codes "47474747474747474747474747474747"
 -- the subcommand `serve`: it takes these options too
 abbrev pub serve_app : App
 serve_app =
-    with_rule (with_rule (with_rule served_app (default_rule (codes "servent") usual_servent))
-    (repeated_rule (codes "peer"))) (default_rule (codes "idle") (codes "0"))
+    with_rule (with_rule (with_rule (with_rule (with_rule served_app (default_rule (codes "servent") usual_servent))
+    (repeated_rule (codes "peer"))) (default_rule (codes "idle") (codes "0"))) (default_rule (codes "life") (codes "0")))
+    (default_rule (codes "crowd") (codes "0"))
 
 -- the command `gn` before it has its subcommands: it has a version, and one of them has to be named; `help` is none
 abbrev pub bare_app : App
@@ -122,25 +123,27 @@ pub record PlainWordsAreRead : Type 0 where
   pub audit : (program : Text) → request_of (program ∷ codes "audit" ∷ []) ≡ Some Audit
   pub explain : (program : Text) → request_of (program ∷ codes "audit" ∷ codes "--explain" ∷ []) ≡ Some Explain
   pub load : (program : Text) → request_of (load_words program (codes "4")) ≡ Some (Load 4)
-  pub most : (program : Text) → request_of (load_words program (codes "16")) ≡ Some (Load 16)
+  pub most : (program : Text) → request_of (load_words program (codes "64")) ≡ Some (Load 64)
   pub none : (program : Text) → kinds_of (load_words program (codes "0")) ≡ ValueValidation ∷ []
-  pub many : (program : Text) → kinds_of (load_words program (codes "17")) ≡ ValueValidation ∷ []
+  pub many : (program : Text) → kinds_of (load_words program (codes "65")) ≡ ValueValidation ∷ []
   -- a serve of one port, with what holds of the options that aren't given
-  pub serve : (program : Text) → request_of (serve_words program (codes "6346") (codes "128") (codes "16") [])
+  pub serve : (program : Text) → request_of (serve_words program (codes "6346") (codes "128") (codes "64") [])
       ≡ Some (Serve (record {
         port = 6346;
         accept = 128;
-        workers = 16;
+        workers = 64;
         servent = record { 0 = 71 ∷ 71 ∷ 71 ∷ 71 ∷ 71 ∷ 71 ∷ 71 ∷ 71 ∷ 71 ∷ 71 ∷ 71 ∷ 71 ∷ 71 ∷ 71 ∷ 71 ∷ 71 ∷ [] };
         peers = [];
         idle = 0;
+        life = 0;
+        crowd = 0;
       }))
   pub no_port : (program : Text)
       → kinds_of (serve_words program (codes "0") (codes "1") (codes "1") []) ≡ ValueValidation ∷ []
   pub accepts : (program : Text)
       → kinds_of (serve_words program (codes "6346") (codes "129") (codes "1") []) ≡ ValueValidation ∷ []
   pub workers : (program : Text)
-      → kinds_of (serve_words program (codes "6346") (codes "1") (codes "17") []) ≡ ValueValidation ∷ []
+      → kinds_of (serve_words program (codes "6346") (codes "1") (codes "65") []) ≡ ValueValidation ∷ []
   -- a peer of this machine is one that is called; one of another machine is a mistake
   pub near : peer_of (codes "127.0.0.1:6347") ≡ Some (record { ip = 127 ∷ 0 ∷ 0 ∷ 1 ∷ []; port = 6347 })
   pub far : peer_of (codes "10.0.0.1:6347") ≡ None

@@ -82,7 +82,7 @@ pub(crate) const LOAD: &str =
 pub(crate) const LOAD_USAGE: &str =
     "gn load --workers V < CAPTURE   (the capture is read from standard input)";
 
-pub(crate) const WORKERS: &str = "How many threads route what was admitted, 1 to 16";
+pub(crate) const WORKERS: &str = "How many threads route what was admitted, 1 to 64";
 
 pub(crate) const LOAD_TEXTS: &str = "\
 Standard input is a capture of `join`, `open` and `data LINK HEX` lines alone. Each link is read by
@@ -97,7 +97,8 @@ Example:
 pub(crate) const SERVE: &str = "Routes for peers on this machine over TCP, and prints the history";
 
 pub(crate) const SERVE_USAGE: &str =
-    "gn serve --port P --accept A --workers V [--servent HEX32] [--peer IP:PORT].. [--idle SECONDS]";
+    "gn serve --port P --accept A --workers V [--servent HEX32] [--peer IP:PORT].. [--idle SECONDS] \
+     [--life L] [--crowd Q]";
 
 pub(crate) const PORT: &str = "The port of 127.0.0.1 that peers call, 1 to 65535";
 
@@ -114,6 +115,12 @@ pub(crate) const BAD_PEER: &str =
 
 pub(crate) const IDLE: &str =
     "Seconds after which a peer that is silent, or takes nothing, is given up, 0 to 86400; 0: never";
+
+pub(crate) const LIFE: &str =
+    "What TTL and Hops of a descriptor that is passed on are together at most, 0 to 255; 0: no limit";
+
+pub(crate) const CROWD: &str =
+    "How many descriptors of one peer may be in flight at once, 0 to 4096; 0: as many as of all";
 
 pub(crate) const SERVE_TEXTS: &str = "\
 The peers are called first, in their order, and then A others may call. Each link is greeted and

@@ -3,6 +3,7 @@
 ghost use Rattle.std.specs.Prelude.{◌≡◌, ◌==◌, ◌&&◌, ◌≤◌, [], nat_le, length, map, IfOk, codes, option_and_then};
 ghost use Rattle.std.specs.List.{slice_split};
 ghost use Rattle.clap.specs.Words.{found_of, rows_of};
+ghost use Rattle.gn_rules.specs.Limits.{most};
 ghost use Rattle.gn_text.specs.Bytes.{guid_of};
 ghost use Rattle.gn_program.specs.Options.{
   IsReadAs,
@@ -23,7 +24,7 @@ use crate::help;
 use crate::request::{Peer, Serving};
 use crate::unread::Unread;
 use clap::ArgMatches;
-use gn_rules::MOST_WORKERS;
+use gn_rules::{MOST_WORKERS, Numbers};
 use gn_text::{guid, ip, number, number_u16};
 use gn_wire::Guid;
 use std::alloc::{AllocError, Global};
@@ -57,13 +58,13 @@ fn number_asked(options: &ArgMatches<'_>, option: &str, least: u32, most: u32) -
     number_between(options.get_str(option), least, most)
 }
 
-/// The number of workers that `--workers` asks for, where it is 1 to 16.
+/// The number of workers that `--workers` asks for, where it is 1 to 64.
 pub(crate) fn workers_of(options: &ArgMatches<'_>) -> Result<u32, Unread>
     ensures { IsReadAs (λ n. n) (workers_of (rows_of (found_of options.now))) result }
 {
     match number_asked(options, "workers", 1, MOST_WORKERS) {
         Some(workers) => Ok(workers),
-        None => Err(Unread::Mistake("--workers takes a number of 1 to 16")),
+        None => Err(Unread::Mistake("--workers takes a number of 1 to 64")),
     }
 }
 
@@ -94,6 +95,26 @@ fn idle_of(options: &ArgMatches<'_>) -> Result<u32, Unread>
     match number_asked(options, "idle", 0, 86_400) {
         Some(seconds) => Ok(seconds),
         None => Err(Unread::Mistake("--idle takes a number of seconds, 0 to 86400")),
+    }
+}
+
+/// The limit on a descriptor's life that `--life` asks for, where a byte holds it.
+fn life_of(options: &ArgMatches<'_>) -> Result<u8, Unread>
+    ensures { IsReadAs (λ n. n) (number_asked (codes "life") 0 most.life (rows_of (found_of options.now))) result }
+{
+    match number_asked(options, "life", 0, u32::from(Numbers::MOST.life)) {
+        Some(life) => Ok(life as u8),
+        None => Err(Unread::Mistake("--life takes a number of 0 to 255")),
+    }
+}
+
+/// The threshold of a connection that `--crowd` asks for, where it is within its limit.
+fn crowd_of(options: &ArgMatches<'_>) -> Result<u32, Unread>
+    ensures { IsReadAs (λ n. n) (number_asked (codes "crowd") 0 most.crowd (rows_of (found_of options.now))) result }
+{
+    match number_asked(options, "crowd", 0, Numbers::MOST.crowd) {
+        Some(crowd) => Ok(crowd),
+        None => Err(Unread::Mistake("--crowd takes a number of 0 to 4096")),
     }
 }
 
@@ -199,5 +220,7 @@ pub(crate) fn serving_of(alloc: Global, options: &ArgMatches<'_>) -> Result<Serv
         servent: servent_of(options)?,
         peers: peers_of(alloc, options)?,
         idle: idle_of(options)?,
+        life: life_of(options)?,
+        crowd: crowd_of(options)?,
     })
 }

@@ -14,7 +14,7 @@ pub enum Request {
     Audit,
     /// A history is audited, and its first wrong step explained.
     Explain,
-    /// The links of a capture are run by so many workers, 1 to 16, and the history of the router is written.
+    /// The links of a capture are run by so many workers, 1 to 64, and the history of the router is written.
     Load(u32),
     /// A router is run over TCP, and its history is written.
     Serve(Serving),
@@ -40,11 +40,15 @@ pub struct Serving {
     pub(crate) peers: Vec<Peer>,
     /// The seconds after which a silent peer is given up; 0: it never is.
     pub(crate) idle: u32,
+    /// The limit on a descriptor's life; 0: there is none.
+    pub(crate) life: u8,
+    /// The threshold of a connection; 0: there is none but that of all.
+    pub(crate) crowd: u32,
 }
 
 impl Model for Serving {
     ghost use Rattle.std.specs.Prelude.{◌+◌, ◌≤◌, length};
-    ghost use Rattle.gn_rules.specs.Limits.{IsCrew, most_links};
+    ghost use Rattle.gn_rules.specs.Limits.{IsCrew, most, most_links};
     ghost use Rattle.gn_program.specs.Serving.{AskedServe};
 
     ghost Value = { AskedServe };
@@ -56,7 +60,10 @@ impl Model for Serving {
       servent = s.servent;
       peers = s.peers.items;
       idle = s.idle;
+      life = s.life;
+      crowd = s.crowd;
     } };
 
-    ghost invariant = { λ s. (IsCrew s.workers) × (s.accept + length s.peers.items ≤ most_links) };
+    ghost invariant = { λ s. (IsCrew s.workers) × (s.accept + length s.peers.items ≤ most_links)
+        × (s.crowd ≤ most.crowd) };
 }

@@ -7,7 +7,7 @@ use crate::request::{Peer, Serving};
 use crate::text::write_text;
 use gn_io::Sink;
 use gn_router::TableRouter;
-use gn_rules::{Config, Own};
+use gn_rules::{Config, Numbers, Own};
 use gn_serve::{ServeFault, serve_history};
 use gn_tcp::listen;
 use gn_threads::RunFault;
@@ -40,7 +40,17 @@ fn settings(serving: &Serving) -> Config
         files: 0,
         kbytes: 0,
     };
-    match Config::new(64, 4096, 1024, 1024, 1024, 1_000_000, 0, own) {
+    let numbers = Numbers {
+        neighbours: 64,
+        seen: 4096,
+        servents: 1024,
+        stage: 1024,
+        out: 1024,
+        steps: 1_000_000,
+        life: serving.life,
+        crowd: serving.crowd,
+    };
+    match Config::of(numbers, own) {
         Ok(config) => config,
         Err(_) => unreachable!(),
     }

@@ -70,6 +70,10 @@ impl<A: Allocator + Copy, C: RouterCore<A> + Drop> RouterCore<A> for Unfreed<C> 
         self.router.flights()
     }
 
+    fn flights_of(&self, c: ConnId) -> u32 {
+        self.router.flights_of(c)
+    }
+
     fn is_live(&self, c: ConnId) -> bool {
         self.router.is_live(c)
     }

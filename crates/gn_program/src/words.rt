@@ -177,10 +177,14 @@ fn serve_command<'a>(alloc: Global) -> Result<Command<'a>, AllocError>
 {
     let servent = value_or(alloc, "servent", "HEX32", OWN_SERVENT, help::SERVENT);
     let idle = value_or(alloc, "idle", "SECONDS", "0", help::IDLE);
+    let life = value_or(alloc, "life", "L", "0", help::LIFE);
+    let crowd = value_or(alloc, "crowd", "Q", "0", help::CROWD);
     served_command(alloc)?
         .arg(servent)?
         .arg(values(alloc, "peer", "IP:PORT", help::PEER))?
-        .arg(idle)
+        .arg(idle)?
+        .arg(life)?
+        .arg(crowd)
 }
 
 /// The command `gn` before it has its subcommands.

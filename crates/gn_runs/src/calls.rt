@@ -25,7 +25,7 @@ fn pong(alloc: Global) -> Result<Descriptor, Fail> {
 /// A ticket is routed with another descriptor than was admitted, and a Pong is originated.
 fn refuses<C: RouterCore<Global> + Drop, R: Abort + AllocGlobal>(rt: &R) -> Result<(), Fail> {
     let alloc = rt.alloc();
-    let config = Config::new(4, 8, 4, 8, 8, 100, 0, OWN).map_err(|_| "a configuration")?;
+    let config = Config::new(4, 8, 4, 8, 8, 100, 0, 0, OWN).map_err(|_| "a configuration")?;
     let mut core = C::make(alloc, &config)?;
     core.apply(0, &Event::Connect).map_err(|_| "a connection")?;
     core.apply(0, &Event::Admit(1, ping(0xa1)?))

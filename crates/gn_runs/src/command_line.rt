@@ -39,7 +39,7 @@ const ANSWERS: [(&[&str], u8, &str, &str); 19] = [
         "error: the following required arguments",
     ),
     (&["gn", "load", "--workers", "0"], 2, "", BAD_WORKERS),
-    (&["gn", "load", "--workers", "17"], 2, "", BAD_WORKERS),
+    (&["gn", "load", "--workers", "65"], 2, "", BAD_WORKERS),
     (&["gn", "load", "--workers", "+4"], 2, "", BAD_WORKERS),
     (&["gn", "serve", "--help"], 0, "Routes for peers", ""),
     (
@@ -125,9 +125,9 @@ own 47474747474747474747474747474747 127.0.0.1 46346 0 0
 end
 ";
 
-/// The mistake of a number of workers that isn't one of 1 to 16.
+/// The mistake of a number of workers that isn't one of 1 to 64.
 const BAD_WORKERS: &str =
-    "error: --workers takes a number of 1 to 16\n\nUsage: gn load --workers V < CAPTURE";
+    "error: --workers takes a number of 1 to 64\n\nUsage: gn load --workers V < CAPTURE";
 
 /// A capture of nothing but its first lines, and one join.
 const JOINED: &str = "gnutella-capture 1\nconfig 4 8 4 8 8 100\n\

@@ -106,7 +106,7 @@ fn config(numbers: &str) -> Result<Config, Fail> {
         *number = word.parse::<u32>().map_err(|_| "a number")?;
     }
     let [neighbours, seen, servents, stage, out, steps] = all;
-    Ok(Config::new(neighbours, seen, servents, stage, out, steps, 0, OWN).map_err(
+    Ok(Config::new(neighbours, seen, servents, stage, out, steps, 0, 0, OWN).map_err(
         |_| "a configuration",
     )?)
 }

@@ -45,7 +45,7 @@ fn router<'a, C: RouterCore<&'a LocalHeap> + Drop>(
     heap: &'a LocalHeap,
     more: u32,
 ) -> Result<C, Fail> {
-    let config = Config::new(1, 4, 4, 4, 4, 100, 0, OWN).map_err(|_| "within the limits")?;
+    let config = Config::new(1, 4, 4, 4, 4, 100, 0, 0, OWN).map_err(|_| "within the limits")?;
     let mut core = C::make(heap, &config)?;
     for event in [
         Event::Connect,
@@ -137,7 +137,7 @@ fn is_first_refused<'a, C: RouterCore<&'a LocalHeap> + Drop, R: Abort>(
     rt: &R,
     heap: &'a LocalHeap,
 ) -> Result<(), Fail> {
-    let config = Config::new(1, 1, 1, 1, 1, 9, 0, OWN).map_err(|_| "a configuration")?;
+    let config = Config::new(1, 1, 1, 1, 1, 9, 0, 0, OWN).map_err(|_| "a configuration")?;
     let mut core = C::make(heap, &config)?;
     let rest: Vec<u8, &LocalHeap> = Vec::with_capacity(heap, heap.free())?;
     let refused = core.apply(0, &Event::Connect);

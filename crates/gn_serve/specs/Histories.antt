@@ -38,7 +38,7 @@ abbrev pub HasServeStopped :
 HasServeStopped A s calls accept workers Write old new = AppendsServedPart A s calls accept workers old new
 HasServeStopped A s calls accept workers (Run fault) old new = Keeps old new
 
--- what a fault may be where so many links and workers were asked for, 1 to 16 workers: one of such a run; or Write, where
+-- what a fault may be where so many links and workers were asked for, 1 to 64 workers: one of such a run; or Write, where
 -- a write failed or took nothing
 abbrev pub IsServeFault : ℕ → ℕ → ServeFault → SinkState → SinkState → Type 0
 IsServeFault links workers (Run fault) old new = IsFaultOf links workers fault

@@ -18,7 +18,7 @@ use std::sync::ledger::{Blank, Ledger, Share};
 /// Why no service was made.
 #[derive(Clone, Copy, Debug, PartialEq, Eq)]
 pub enum ServiceFault {
-    /// Not 1 to 16 workers.
+    /// Not 1 to 64 workers.
     BadWorkers,
     /// Out of memory.
     NoMemory,
@@ -37,7 +37,7 @@ impl From<AllocError> for ServiceFault {
 impl<C: RouterCore<A> + Drop, L: Ledger, A: Allocator + Copy> Service<C, L, A> {
     /// The service of a run with links of these roles, at most 256, and so many workers, and its actors: the readers in the
     /// order of their links, then the writers, the workers and the house. The ledger has a part for each of them.
-    /// `BadWorkers` comes exactly where there aren't 1 to 16 workers.
+    /// `BadWorkers` comes exactly where there aren't 1 to 64 workers.
     pub fn new(
         alloc: A,
         blank: Blank,

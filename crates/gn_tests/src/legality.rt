@@ -8,7 +8,7 @@ use std::test::Fail;
 
 /// A configuration with so many neighbours, packets for one connection, and steps.
 fn config(neighbours: u32, out: u32, steps: u32, own: Own) -> Result<Config, Fail> {
-    Ok(Config::new(neighbours, 8, 4, 8, out, steps, 0, own).map_err(|_| "within the limits")?)
+    Ok(Config::new(neighbours, 8, 4, 8, out, steps, 0, 0, own).map_err(|_| "within the limits")?)
 }
 
 /// Connection 1's Ping is routed to connection 2, and taken there.

@@ -17,7 +17,7 @@ fn the_first_bad_number_is_named(rt: HostRuntime) {
         ([4, 8, 4, 8, 8, 1_000_001], Some(Field::Steps)),
     ];
     for ([neighbours, seen, servents, stage, out, steps], bad) in rows {
-        let made = Config::new(neighbours, seen, servents, stage, out, steps, 0, OWN);
+        let made = Config::new(neighbours, seen, servents, stage, out, steps, 0, 0, OWN);
         assert_eq!(rt; made.err(), bad.map(BadConfig));
     }
 }

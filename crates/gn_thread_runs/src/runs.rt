@@ -43,7 +43,7 @@ where
     K::Reader: Send,
     K::Writer: Send,
 {
-    let Ok(config) = Config::new(8, 1024, 64, 1024, 1024, 100_000, 0, OWN) else {
+    let Ok(config) = Config::new(8, 1024, 64, 1024, 1024, 100_000, 0, 0, OWN) else {
         return Err(RunFault::NoMemory);
     };
     if links.len() > 256 {

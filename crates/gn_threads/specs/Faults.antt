@@ -7,7 +7,7 @@ use Rattle.gn_bodies.specs.declared.ends.BodyFault.TheVariants as body
 use Rattle.gn_threads.specs.declared.fault.RunFault.{RunFault}
 use Rattle.gn_threads.specs.declared.fault.RunFault.TheVariants.{BadWorkers, Listen, Call, Link, HistoryFull, NoMemory, Stage, Audit}
 
--- what a fault may be in a run of so many links and workers, where there are 1 to 16 workers: it isn't BadWorkers, and the link or
+-- what a fault may be in a run of so many links and workers, where there are 1 to 64 workers: it isn't BadWorkers, and the link or
 -- the actor that it names is one of the run's
 abbrev pub IsFaultOf : ℕ → ℕ → RunFault → Type 0
 IsFaultOf links workers BadWorkers = ⊥

@@ -9,7 +9,7 @@ use std::alloc::{AllocError, AllocFailed};
 /// memory. No clause says which of several is answered.
 #[derive(Clone, Copy, Debug, PartialEq, Eq)]
 pub enum RunFault {
-    /// Not 1 to 16 workers.
+    /// Not 1 to 64 workers.
     BadWorkers,
     /// A link couldn't be accepted.
     Listen,

@@ -30,7 +30,7 @@ const PONG: &[u8] =
 
 #[test]
 fn a_ping_is_answered(rt: HostRuntime) -> Result<(), Fail> {
-    let config = Config::new(4, 8, 4, 8, 8, 100, 0, OWN).map_err(|_| "a configuration")?;
+    let config = Config::new(4, 8, 4, 8, 8, 100, 0, 0, OWN).map_err(|_| "a configuration")?;
     let mut router = PlainRouter::make(rt.alloc(), &config)?;
     let mut frames = Reassembler::new(rt.alloc())?;
     let fed = frames.feed(PING).map_err(|_| "an answer")?;
@@ -56,7 +56,7 @@ fn a_ping_is_answered(rt: HostRuntime) -> Result<(), Fail> {
 
 #[test]
 fn a_run_is_audited(rt: HostRuntime) -> Result<(), Fail> {
-    let config = Config::new(4, 8, 4, 8, 8, 100, 0, OWN).map_err(|_| "a configuration")?;
+    let config = Config::new(4, 8, 4, 8, 8, 100, 0, 0, OWN).map_err(|_| "a configuration")?;
     let mut links = Vec::new(rt.alloc());
     let mut bytes = Vec::new(rt.alloc());
     bytes.extend_from_slice(PING)?;

@@ -25,5 +25,7 @@ returns g c =
       servent = inside.servent;
       peers = inside.peers.items;
       idle = inside.idle;
+      life = inside.life;
+      crowd = inside.crowd;
     }) c.settings-config.result (length c.deref-2.result.now) (g.W.Sink.state c.args.writer.now) (g.W.Sink.state c.serve_history.new.sink) c.serve_history.result
     (subst (λ s. IsServing s c.settings-config.result) (sym c.serving.view_is) c.settings-config.ensures) many c.serving.invariant.0 ran.unfailed ran.written ran.stopped ran.fault)
