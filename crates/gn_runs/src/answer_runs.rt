@@ -1,8 +1,9 @@
-//! Runs of the other answers: originated requests, a full history, what is dropped, and ways to servents.
+//! Runs of the other answers: originated requests, a full history, what is dropped, ways to servents, and the limits on a
+//! descriptor's life and on what is in flight of one connection.
 
 use crate::run::{Run, USUAL};
 
-pub(crate) const ANSWER_RUNS: [Run; 6] = [
+pub(crate) const ANSWER_RUNS: [Run; 9] = [
     Run {
         name: "originated",
         numbers: USUAL,
@@ -35,8 +36,8 @@ pub(crate) const ANSWER_RUNS: [Run; 6] = [
             refused HistoryFull; \
             refused HistoryFull; \
             ended 4; \
-            stats connected 3 toomany 0 closed 0 admitted 0 busy 0 routed 0 unknownkind 0 malformed 0 \
-            duplicate 0 noroute 0 routegone 0 backtosender 0 expired 0 taken 0 sent 0",
+            stats connected 3 toomany 0 closed 0 admitted 0 busy 0 crowded 0 routed 0 unknownkind 0 \
+            malformed 0 duplicate 0 noroute 0 routegone 0 backtosender 0 expired 0 taken 0 sent 0",
     },
     Run {
         name: "unknown_and_malformed",
@@ -109,5 +110,57 @@ pub(crate) const ANSWER_RUNS: [Run; 6] = [
             0 route 0 = routed local; \
             0 admit 1 <PUSH c1 ee 00 00> = admitted 1; \
             0 route 1 = dropped duplicate",
+    },
+    Run {
+        name: "life_limit",
+        numbers: "4 8 4 8 8 100 4",
+        capture: "join; join; \
+            data 1 <PING a1 07 01>; route 0; \
+            data 1 <PING a2 07 03>; route 1; \
+            data 1 <PING a3 07 04>; route 2; \
+            data 1 <PING a4 02 01>; route 3; \
+            data 2 <PONG a1 07 03>; route 4; \
+            ping <d1> 5; \
+            ping <d1> 4",
+        printed: "0 connect = connected 1; \
+            0 connect = connected 2; \
+            0 admit 1 <PING a1 07 01> = admitted 0; \
+            0 route 0 = routed local 1+<OWN a1 02> 2+<PING a1 02 02>; \
+            0 admit 1 <PING a2 07 03> = admitted 1; \
+            0 route 1 = routed local 1+<OWN a2 04>; \
+            0 admit 1 <PING a3 07 04> = admitted 2; \
+            0 route 2 = routed local 1+<OWN a3 05>; \
+            0 admit 1 <PING a4 02 01> = admitted 3; \
+            0 route 3 = routed local 1+<OWN a4 02> 2+<PING a4 01 02>; \
+            0 admit 2 <PONG a1 07 03> = admitted 4; \
+            0 route 4 = dropped expired; \
+            refused BadOrigin; \
+            0 originate <PING d1 04 00> = sent 1+<PING d1 04 00> 2+<PING d1 04 00>",
+    },
+    Run {
+        name: "crowding_threshold",
+        numbers: "4 8 4 3 8 100 0 1",
+        capture: "join; join; \
+            data 1 <PING a1 07 00><PING a2 07 00>; \
+            data 2 <PING a3 07 00>; \
+            route 0; \
+            data 1 <PING a2 07 00>; \
+            data 2 <PING a4 07 00>",
+        printed: "0 connect = connected 1; \
+            0 connect = connected 2; \
+            0 admit 1 <PING a1 07 00> = admitted 0; \
+            0 admit 1 <PING a2 07 00> = crowded; \
+            0 admit 2 <PING a3 07 00> = admitted 1; \
+            0 route 0 = routed local 1+<OWN a1 01> 2+<PING a1 06 01>; \
+            0 admit 1 <PING a2 07 00> = admitted 2; \
+            0 admit 2 <PING a4 07 00> = crowded",
+    },
+    Run {
+        name: "busy_before_crowded",
+        numbers: "4 8 4 1 8 100 0 1",
+        capture: "join; data 1 <PING a1 07 00><PING a2 07 00>",
+        printed: "0 connect = connected 1; \
+            0 admit 1 <PING a1 07 00> = admitted 0; \
+            0 admit 1 <PING a2 07 00> = busy",
     },
 ];

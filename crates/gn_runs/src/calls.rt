@@ -43,3 +43,35 @@ fn refusals_by_call(rt: HostRuntime) -> Result<(), Fail> {
     refuses::<TableRouter, _>(&rt)?;
     refuses::<PlainRouter, _>(&rt)
 }
+
+/// What is in flight of a connection is counted after it closes too, and no other's is.
+fn counts_flights<C: RouterCore<Global> + Drop, R: Abort + AllocGlobal>(
+    rt: &R,
+) -> Result<(), Fail> {
+    let config = Config::new(4, 8, 4, 8, 8, 100, 0, 2, OWN).map_err(|_| "a configuration")?;
+    let mut core = C::make(rt.alloc(), &config)?;
+    let asks = [
+        (Event::Connect, (0, 0)),
+        (Event::Connect, (0, 0)),
+        (Event::Admit(1, ping(0xa1)?), (1, 0)),
+        (Event::Admit(2, ping(0xa2)?), (1, 1)),
+        (Event::Admit(1, ping(0xa3)?), (2, 1)),
+        (Event::Admit(1, ping(0xa4)?), (2, 1)),
+        (Event::Close(1), (2, 1)),
+        (Event::Route(0), (1, 1)),
+        (Event::Route(1), (1, 0)),
+        (Event::Route(2), (0, 0)),
+    ];
+    for (event, counts) in &asks {
+        core.apply(0, event).map_err(|_| "an answer")?;
+        assert_eq!(rt; (core.flights_of(1), core.flights_of(2)), *counts);
+    }
+    assert!(rt; core.stats().crowded == 1 && core.flights_of(9) == 0);
+    Ok(())
+}
+
+#[test]
+fn flights_of_each_connection(rt: HostRuntime) -> Result<(), Fail> {
+    counts_flights::<TableRouter, _>(&rt)?;
+    counts_flights::<PlainRouter, _>(&rt)
+}

@@ -13,8 +13,8 @@ pub(crate) const REQUEST_RUNS: [Run; 9] = [
         name: "empty_statistics",
         numbers: USUAL,
         capture: "stats",
-        printed: "stats connected 0 toomany 0 closed 0 admitted 0 busy 0 routed 0 unknownkind 0 malformed 0 \
-            duplicate 0 noroute 0 routegone 0 backtosender 0 expired 0 taken 0 sent 0",
+        printed: "stats connected 0 toomany 0 closed 0 admitted 0 busy 0 crowded 0 routed 0 unknownkind 0 \
+            malformed 0 duplicate 0 noroute 0 routegone 0 backtosender 0 expired 0 taken 0 sent 0",
     },
     Run {
         name: "first_ping",

@@ -18,7 +18,8 @@ pub(crate) struct Run {
     pub printed: &'static str,
 }
 
-/// The text of a capture of these numbers and lines.
+/// The text of a capture of these numbers and lines: of version 1 where there are six numbers, 2 where there are seven, and
+/// 3 where there are eight.
 pub(crate) fn capture_text(
     alloc: Global,
     numbers: &str,
@@ -26,5 +27,6 @@ pub(crate) fn capture_text(
 ) -> Result<String, AllocError> {
     let own = encoded(alloc, "own <ee> 127.0.0.1 6346 5 40")?;
     let lines = encoded(alloc, lines)?;
-    format!(in alloc; "gnutella-capture 1\nconfig {numbers}\n{own}{lines}")
+    let version = numbers.split(' ').count().saturating_sub(5);
+    format!(in alloc; "gnutella-capture {version}\nconfig {numbers}\n{own}{lines}")
 }

@@ -104,6 +104,29 @@ fn no_memory_for_a_neighbour(rt: HostRuntime) -> Result<(), Fail> {
 }
 
 #[test]
+fn flights_of_each_connection(rt: HostRuntime) -> Result<(), Fail> {
+    let heap = LocalHeap::new(rt.alloc(), 4_096)?;
+    let mut flights = Flights::new(&heap, 8);
+    for (ticket, from) in [(0, 1), (1, 2), (2, 1), (3, 1)] {
+        flights.add(ticket, from, ping(0xa1, 6, 1)?)?;
+    }
+    let rest = rest_of(&heap)?;
+    assert_eq!(rt; (flights.of(1), flights.of(2), flights.of(3)), (3, 1, 0));
+    for (ticket, left) in [
+        (2, (2, 1)),
+        (1, (2, 0)),
+        (1, (2, 0)),
+        (0, (1, 0)),
+        (3, (0, 0)),
+    ] {
+        drop(flights.finish(ticket));
+        assert_eq!(rt; (flights.of(1), flights.of(2)), left);
+    }
+    drop(rest);
+    Ok(())
+}
+
+#[test]
 fn no_memory_for_a_flight(rt: HostRuntime) -> Result<(), Fail> {
     let heap = LocalHeap::new(rt.alloc(), 1_024)?;
     let mut flights = Flights::new(&heap, 1);
@@ -112,10 +135,10 @@ fn no_memory_for_a_flight(rt: HostRuntime) -> Result<(), Fail> {
     let Err(_) = flights.add(0, 1, ping(0xa1, 6, 1)?) else {
         return Err("a flight without memory".into());
     };
-    assert!(rt; flights.len() == 0 && flights.get(0).is_none());
+    assert!(rt; flights.len() == 0 && flights.get(0).is_none() && flights.of(1) == 0);
     drop(rest);
     flights.add(0, 1, ping(0xa1, 6, 1)?)?;
-    assert!(rt; flights.len() == 1 && flights.get(0).is_some());
+    assert!(rt; flights.len() == 1 && flights.get(0).is_some() && flights.of(1) == 1);
     Ok(())
 }
 

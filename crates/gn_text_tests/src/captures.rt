@@ -59,17 +59,23 @@ fn first_lines(rt: HostRuntime) {
 
 #[test]
 fn second_and_third_lines(rt: HostRuntime) -> Result<(), Fail> {
-    let configs = b"config 0 8 4 8 8 100\nconfig 65 8 4 8 8 100\nconfig 64 65537 4 8 8 100\n\
+    let configs = b"config 0 8 4 8 8 100\nconfig 257 8 4 8 8 100\nconfig 64 65537 4 8 8 100\n\
         config 64 65536 65537 8 8 100\nconfig 64 65536 65536 4097 8 100\nconfig 64 65536 65536 4096 4097 100\n\
         config 64 65536 65536 4096 4096 1000001\nconfig 4 8 4 8 8\nconfig 4 8 4 8 8 100 1\n\
         config 4 8 4 8 8 100 \nown";
+    let second =
+        b"config 4 8 4 8 8 100\nconfig 4 8 4 8 8 100 256\nconfig 4 8 4 8 8 100 -\nconfig 4 8 4 8 8 100 4 0";
+    let third = b"config 4 8 4 8 8 100\nconfig 4 8 4 8 8 100 4\nconfig 4 8 4 8 8 100 4 4097\n\
+        config 4 8 4 8 8 100 256 1\nconfig 4 8 4 8 8 100 4 1 1";
     let owns =
         b"own ee 127.0.0.1 6346 5 40\nown eeeeeeeeeeeeeeeeeeeeeeeeeeeeeeee 127.0.0.256 6346 5 40\n\
         own eeeeeeeeeeeeeeeeeeeeeeeeeeeeeeee 127.0.0.1 65536 5 40\njoin";
-    let begun: [(&[u8], &[u8], u64, Cause); 2] = [
+    let begun: [(&[u8], &[u8], u64, Cause); 4] = [
         (b"gnutella-capture 1\n", configs, 2, Cause::Config),
+        (b"gnutella-capture 2\n", second, 2, Cause::Config),
+        (b"gnutella-capture 3\n", third, 2, Cause::Config),
         (
-            b"gnutella-capture 1\nconfig 64 65536 65536 4096 4096 1000000\n",
+            b"gnutella-capture 1\nconfig 256 65536 65536 4096 4096 1000000\n",
             owns,
             3,
             Cause::Own,
@@ -83,6 +89,28 @@ fn second_and_third_lines(rt: HostRuntime) -> Result<(), Fail> {
                 Some((number, cause))
             );
         }
+    }
+    Ok(())
+}
+
+#[test]
+fn later_numbers(rt: HostRuntime) -> Result<(), Fail> {
+    let texts: [(&[u8], (u8, u32)); 5] = [
+        (b"gnutella-capture 1\nconfig 4 8 4 8 8 100\n", (0, 0)),
+        (b"gnutella-capture 2\nconfig 4 8 4 8 8 100 0\n", (0, 0)),
+        (b"gnutella-capture 2\nconfig 4 8 4 8 8 100 255\n", (255, 0)),
+        (
+            b"gnutella-capture 3\nconfig 4 8 4 8 8 100 4 4096\n",
+            (4, 4_096),
+        ),
+        (b"gnutella-capture 3\nconfig 4 8 4 8 8 100 00 00\n", (0, 0)),
+    ];
+    let own = b"own eeeeeeeeeeeeeeeeeeeeeeeeeeeeeeee 127.0.0.1 6346 5 40\n";
+    for (head, later) in texts {
+        let text = joined(rt.alloc(), head, own)?;
+        let capture = read_capture(rt.alloc(), &text).map_err(|_| "refused")?;
+        let numbers = capture.config.numbers;
+        assert_eq!(rt; (numbers.life, numbers.crowd), later);
     }
     Ok(())
 }

@@ -67,7 +67,8 @@ fn written_as_read(rt: HostRuntime) -> Result<(), Fail> {
         12 route 8 = dropped expired\n\
         13 take 2 = taken a1a1a1a1a1a1a1a1a1a1a1a1a1a1a1a100060100000000\n\
         14 originate d1d1d1d1d1d1d1d1d1d1d1d1d1d1d1d100050000000000 = sent \
-        1-d1d1d1d1d1d1d1d1d1d1d1d1d1d1d1d100050000000000\nend\n";
+        1-d1d1d1d1d1d1d1d1d1d1d1d1d1d1d1d100050000000000\n\
+        15 admit 1 a1a1a1a1a1a1a1a1a1a1a1a1a1a1a1a100070000000000 = crowded\nend\n";
     for steps in [first_ping, each_kind, "end\n"] {
         let text = history(&rt, steps)?;
         assert_eq!(rt; again(&rt, text.as_bytes())?.as_slice(), text.as_bytes());
@@ -75,6 +76,29 @@ fn written_as_read(rt: HostRuntime) -> Result<(), Fail> {
     let loose = history(&rt, "#\n\n00 connect = connected 01\nend\n# the end\n\n#")?;
     let tight = history(&rt, "0 connect = connected 1\nend\n")?;
     assert_eq!(rt; again(&rt, loose.as_bytes())?.as_slice(), tight.as_bytes());
+    Ok(())
+}
+
+/// A history without steps that begins so.
+fn empty_history(rt: &HostRuntime, head: &str) -> Result<String, Fail> {
+    let own = "own eeeeeeeeeeeeeeeeeeeeeeeeeeeeeeee 127.0.0.1 6346 5 40";
+    Ok(format!(in rt.alloc(); "gnutella-history {head}\n{own}\nend\n")?)
+}
+
+#[test]
+fn in_the_least_version(rt: HostRuntime) -> Result<(), Fail> {
+    let heads = [
+        ("2\nconfig 4 8 4 8 8 100 0", "1\nconfig 4 8 4 8 8 100"),
+        ("2\nconfig 4 8 4 8 8 100 255", "2\nconfig 4 8 4 8 8 100 255"),
+        ("3\nconfig 4 8 4 8 8 100 0 0", "1\nconfig 4 8 4 8 8 100"),
+        ("3\nconfig 4 8 4 8 8 100 4 0", "2\nconfig 4 8 4 8 8 100 4"),
+        ("3\nconfig 4 8 4 8 8 100 0 1", "3\nconfig 4 8 4 8 8 100 0 1"),
+    ];
+    for (read, written) in heads {
+        let text = empty_history(&rt, read)?;
+        let wanted = empty_history(&rt, written)?;
+        assert_eq!(rt; again(&rt, text.as_bytes())?.as_slice(), wanted.as_bytes());
+    }
     Ok(())
 }
 

@@ -7,15 +7,16 @@ use gn_replay::audit;
 use gn_router::TableRouter;
 use gn_rules::{Event, Legality, Reply, Step};
 use std::alloc::Global;
+use std::process::Abort;
+use std::sync::Wait;
 use std::test::Fail;
+use std::thread::Threads;
 
-/// Six links of a hundred Pings each, of TTL 7 and Hops 0, whose IDs differ.
-fn six_links(alloc: Global) -> Result<String, Fail> {
-    let mut text = String::from_str(
-        alloc,
+/// Six links of a hundred Pings each, of TTL 7 and Hops 0, whose IDs differ, under a title and a line of numbers.
+fn six_links(alloc: Global, head: &str) -> Result<String, Fail> {
+    let mut text = String::from_str(alloc, head)?;
+    text.push_str(
         "\
-gnutella-capture 1
-config 8 1024 64 1024 1024 100000
 own eeeeeeeeeeeeeeeeeeeeeeeeeeeeeeee 127.0.0.1 6346 5 40
 join
 join
@@ -41,6 +42,7 @@ join
 struct Kinds {
     connected: u32,
     admitted: u32,
+    crowded: u32,
     routed_local: u32,
     closed_empty: u32,
     taken: u32,
@@ -52,6 +54,7 @@ fn count(kinds: &mut Kinds, step: &Step) {
     let kind = match (&step.event, &step.reply) {
         (Event::Connect, Reply::Connected(_)) => &mut kinds.connected,
         (Event::Admit(..), Reply::Admitted(_)) => &mut kinds.admitted,
+        (Event::Admit(..), Reply::Crowded) => &mut kinds.crowded,
         (Event::Route(_), Reply::Routed { local: true, .. }) => &mut kinds.routed_local,
         (Event::Close(_), Reply::Closed(0)) => &mut kinds.closed_empty,
         (Event::Take(_), Reply::Taken(_)) => &mut kinds.taken,
@@ -60,12 +63,16 @@ fn count(kinds: &mut Kinds, step: &Step) {
     *kind = kind.saturating_add(1);
 }
 
-#[test]
-fn six_links_of_a_hundred_pings(rt: HostRuntime) -> Result<(), Fail> {
-    let text = six_links(rt.alloc())?;
+/// The kinds of the steps of a load by so many workers, whose history is legal.
+fn kinds_of_load<R: Threads + Wait + Sync + Abort + AllocGlobal>(
+    rt: &R,
+    head: &str,
+    workers: u32,
+) -> Result<Kinds, Fail> {
+    let text = six_links(rt.alloc(), head)?;
     let mut source = ReaderSource::new(text.as_bytes());
     let mut sink = WriterSink::new(Vec::new(rt.alloc()));
-    load::<Global, TableRouter, _, _, _>(&rt, rt.alloc(), 4, &mut source, &mut sink)?;
+    load::<Global, TableRouter, _, _, _>(rt, rt.alloc(), workers, &mut source, &mut sink)?;
     let history = sink.into_inner();
     let mut source = ReaderSource::new(history.as_slice());
     let mut sink = WriterSink::new(Vec::new(rt.alloc()));
@@ -77,6 +84,7 @@ fn six_links_of_a_hundred_pings(rt: HostRuntime) -> Result<(), Fail> {
     let mut kinds = Kinds {
         connected: 0,
         admitted: 0,
+        crowded: 0,
         routed_local: 0,
         closed_empty: 0,
         taken: 0,
@@ -85,15 +93,42 @@ fn six_links_of_a_hundred_pings(rt: HostRuntime) -> Result<(), Fail> {
     for step in &steps {
         count(&mut kinds, step);
     }
-    assert!(rt; kinds.taken >= 600 && kinds.taken <= 3600);
+    Ok(kinds)
+}
+
+#[test]
+fn six_links_of_a_hundred_pings(rt: HostRuntime) -> Result<(), Fail> {
+    let head = "gnutella-capture 1\nconfig 8 1024 64 1024 1024 100000\n";
+    for workers in [4, 64] {
+        let kinds = kinds_of_load(&rt, head, workers)?;
+        assert!(rt; kinds.taken >= 600 && kinds.taken <= 3600);
+        let wanted = Kinds {
+            connected: 6,
+            admitted: 600,
+            crowded: 0,
+            routed_local: 600,
+            closed_empty: 6,
+            taken: kinds.taken,
+            others: 0,
+        };
+        assert_eq!(rt; kinds, wanted);
+    }
+    Ok(())
+}
+
+#[test]
+fn six_links_of_which_none_crowds(rt: HostRuntime) -> Result<(), Fail> {
+    let head = "gnutella-capture 3\nconfig 8 1024 64 1024 1024 100000 0 1\n";
+    let kinds = kinds_of_load(&rt, head, 64)?;
     let wanted = Kinds {
         connected: 6,
-        admitted: 600,
-        routed_local: 600,
+        crowded: 600u32.saturating_sub(kinds.admitted),
+        routed_local: kinds.admitted,
         closed_empty: 6,
-        taken: kinds.taken,
         others: 0,
+        ..kinds
     };
+    assert!(rt; kinds.admitted >= 6 && kinds.admitted <= 600);
     assert_eq!(rt; kinds, wanted);
     Ok(())
 }
