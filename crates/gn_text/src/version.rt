@@ -26,6 +26,7 @@ pub enum Version {
 }
 
 /// The numbers of a configuration after the sixth; 0 where a version hasn't one.
+#[derive(Clone, Copy, Debug, PartialEq, Eq)]
 pub struct Later {
     pub life: u8,
     pub crowd: u32,
