@@ -11,15 +11,17 @@ use std::thread::Threads;
 use std::{fs, io};
 
 /// The captures, each beside what `replay` prints of it.
-const CAPTURES: [&str; 13] = [
+const CAPTURES: [&str; 15] = [
     "busy_and_full_output",
     "close_and_rejoin",
+    "crowded",
     "cut_descriptors",
     "expired_ping",
     "first_ping",
     "forgotten_servents",
     "framing_faults",
     "greetings",
+    "life_limit",
     "originated",
     "pongs_go_back",
     "query_hit_push",
