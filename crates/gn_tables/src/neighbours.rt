@@ -2,6 +2,7 @@
 
 ghost use Rattle.std.specs.Prelude.{◌≡◌, ◌<◌, ◌≤◌, [], length, nat_eq, true, false, slice_get, IfErr, IfOk, OnErr, OnOk};
 ghost use Rattle.std.specs.List.{All, position};
+ghost use Rattle.std.specs.List.Sorted.{IsStrictlyIncreasing};
 ghost use Rattle.std.specs.Map.{keys_of};
 ghost use Rattle.std.specs.Option.{option_copied, option_map};
 ghost use Rattle.gn_tables.specs.Outputs.{AreOutputs, first_of, has_room, joined, left, output_of, popped, pushed};
@@ -14,8 +15,8 @@ use std::marker::Model;
 /// A connection, and the ring of the packets that wait for it.
 type Row<A> = (u32, HeapCircularBuffer<Descriptor<A>, A>);
 
-/// The live connections, ascending, each with the packets that wait for it, the first to go first. A connection is searched
-/// from the first on: there are at most 256. Its ring takes its memory at once when it is added, 64 bytes for each packet
+/// The live connections, ascending, each with the packets that wait for it, the first to go first. A connection is found by
+/// binary search. Its ring takes its memory at once when it is added, 64 bytes for each packet
 /// that may wait: 262,144 bytes for 4,096 packets, and 67,108,864 bytes for 256 connections of these.
 #[derive(Drop)]
 pub struct Neighbours<A: Allocator + Copy = Global> {
@@ -35,11 +36,12 @@ impl<A: Allocator + Copy> Model for Neighbours<A> {
     ghost invariant = { λ n. AreRings n.rows.items n.most n.room };
 }
 
-/// The place of a connection among the rows.
+/// The place of a connection among the rows, which are ascending.
 fn place_of<A: Allocator>(rows: &[Row<A>], connection: u32) -> Option<usize>
+    requires { IsStrictlyIncreasing (keys_of rows.now) }
     ensures { result ≡ position (λ r. nat_eq connection r.0) rows.now }
 {
-    rows.iter().position(|row| row.0 == connection)
+    rows.binary_search_by_key(&connection, |row| row.0).ok()
 }
 
 impl<A: Allocator + Copy> Neighbours<A> {
