@@ -50,6 +50,11 @@ all_within n are =
 pub config_within : (s : Config) → are_within s.numbers ≡ true
 config_within s = all_within s.numbers s.within
 
+-- a test that ends in one that fails
+fails : (b : Bool) → (b && false) ≡ false
+fails true = refl
+fails false = refl
+
 first_out : (f : Field) (n : Numbers) → IsFirstOut f n → are_within n ≡ false
 first_out Neighbours n out = rw (beyond n.neighbours most.neighbours out.1) refl
 first_out Seen n out = rw (within n.neighbours most.neighbours out.0, beyond n.seen most.seen out.1) refl
@@ -79,25 +84,16 @@ first_out Steps n out =
       within n.out most.out out.0.4,
       beyond n.steps most.steps out.1,
     ) refl
-first_out Crowd n out = past_life (nat_le n.life most.life)
-  where
-    past_life : (b : Bool)
-        → (is_within n.neighbours most.neighbours && is_within n.seen most.seen && is_within n.servents most.servents
-        && is_within n.stage most.stage && is_within n.out most.out && is_within n.steps most.steps && b && nat_le n.crowd most.crowd) ≡ false
-    past_life b =
-        rw (
-          within n.neighbours most.neighbours out.0.0,
-          within n.seen most.seen out.0.1,
-          within n.servents most.servents out.0.2,
-          within n.stage most.stage out.0.3,
-          within n.out most.out out.0.4,
-          within n.steps most.steps out.0.5,
-          over n.crowd most.crowd (nat_le n.crowd most.crowd) refl out.1,
-        ) (none b)
-      where
-        none : (b : Bool) → (b && false) ≡ false
-        none true = refl
-        none false = refl
+first_out Crowd n out =
+    rw (
+      within n.neighbours most.neighbours out.0.0,
+      within n.seen most.seen out.0.1,
+      within n.servents most.servents out.0.2,
+      within n.stage most.stage out.0.3,
+      within n.out most.out out.0.4,
+      within n.steps most.steps out.0.5,
+      over n.crowd most.crowd (nat_le n.crowd most.crowd) refl out.1,
+    ) (fails (nat_le n.life most.life))
 
 pub made_within : (n : Numbers) (own : Own) (r : Result Config BadConfig) → IfOk r (λ s. IsMadeOf s n own)
     → IfErr r (λ bad. IsFirstOut bad.0 n) → option_map numbers_of (result_ok r) ≡ numbers_within n
