@@ -105,12 +105,10 @@ fn no_memory_for_a_neighbour(rt: HostRuntime) -> Result<(), Fail> {
 
 #[test]
 fn flights_of_each_connection(rt: HostRuntime) -> Result<(), Fail> {
-    let heap = LocalHeap::new(rt.alloc(), 4_096)?;
-    let mut flights = Flights::new(&heap, 8);
+    let mut flights = Flights::new(rt.alloc(), 8);
     for (ticket, from) in [(0, 1), (1, 2), (2, 1), (3, 1)] {
         flights.add(ticket, from, ping(0xa1, 6, 1)?)?;
     }
-    let rest = rest_of(&heap)?;
     assert_eq!(rt; (flights.of(1), flights.of(2), flights.of(3)), (3, 1, 0));
     for (ticket, left) in [
         (2, (2, 1)),
@@ -122,7 +120,6 @@ fn flights_of_each_connection(rt: HostRuntime) -> Result<(), Fail> {
         drop(flights.finish(ticket));
         assert_eq!(rt; (flights.of(1), flights.of(2)), left);
     }
-    drop(rest);
     Ok(())
 }
 
