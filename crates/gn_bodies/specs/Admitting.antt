@@ -35,7 +35,8 @@ StaysSettled before after = (jobs : List Queued) → IsSettled jobs before → I
 -- an actor got the receipt of an admission: a job with the ticket, or none at a threshold, that of all connections or its own
 abbrev pub HasAdmitted : {A : Type 0} → ℕ → Packet → Option Queued → ActorState A → ActorState A → Type 0
 HasAdmitted c d None me us =
-    (index : ℕ) × ((us ≡ with_receipt me (receipt index (Admit c d) Busy)) ⊎ (us ≡ with_receipt me (receipt index (Admit c d) Crowded)))
+    (index : ℕ) × ((us ≡ with_receipt me (receipt index (Admit c d) Busy))
+    ⊎ (us ≡ with_receipt me (receipt index (Admit c d) Crowded)))
 HasAdmitted c d (Some job) me us =
     (index : ℕ) × (job.descriptor ≡ d) × (us ≡ with_receipt me (receipt index (Admit c d) (Admitted job.ticket)))
 
