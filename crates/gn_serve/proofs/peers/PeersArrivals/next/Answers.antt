@@ -1,4 +1,4 @@
-use Rattle.std.proofs.Common.{refl, rules}
+use Rattle.std.proofs.Common.{rules}
 use Rattle.gn_serve.proofs.RoleLemmas.{one_left}
 use Rattle.gn_serve.proofs.peers.PeersArrivals.next.Goals as goal
 
