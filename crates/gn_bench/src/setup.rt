@@ -15,8 +15,6 @@ const OWN: Own = Own {
 };
 
 /// A configuration with so many neighbours and steps, and with this size of each table and queue.
-///
-/// The numbers are the caller's: with them as literals here the proof would take a minute.
 pub(crate) fn config(neighbours: u32, size: u32, steps: u32) -> io::Result<Config> {
     Config::new(neighbours, size, size, size, size, steps, OWN).map_err(fault)
 }
