@@ -114,11 +114,15 @@ fn is_capture<A: Allocator>(capture: &Capture<A>) -> bool {
         && config.own == OWN
         && match capture.lines.as_slice() {
             [
-                (4, Line::Join),
-                (5, Line::Join),
-                (6, Line::Piece { link: 1, bytes }),
-                (7, Line::Route(0)),
-            ] => bytes.as_slice() == PING,
+                (first, Line::Join),
+                (second, Line::Join),
+                (third, Line::Piece { link, bytes }),
+                (fourth, Line::Route(ticket)),
+            ] => {
+                [*first, *second, *third, *fourth] == [4, 5, 6, 7]
+                    && (*link, *ticket) == (1, 0)
+                    && bytes.as_slice() == PING
+            }
             _ => false,
         }
 }
