@@ -52,7 +52,11 @@ fn one_ping<B: Allocator + Copy>(rich: B) -> Result<MemoryLink<B>, AllocError> {
 }
 
 /// How a reader, a worker and a writer ended.
-type Ends = (Result<ReaderEnd, BodyFault>, Result<(), BodyFault>, Result<WriterEnd, BodyFault>);
+type Ends = (
+    Result<ReaderEnd, BodyFault>,
+    Result<(), BodyFault>,
+    Result<WriterEnd, BodyFault>,
+);
 
 /// How many of them were out of memory. None where one has another fault.
 fn stopped(ends: Ends) -> Option<u32> {
@@ -70,7 +74,8 @@ fn stopped(ends: Ends) -> Option<u32> {
 /// Where a growth was refused, it stopped a body, and with it the run; alone, it stopped no other.
 fn turn_after(ends: Ends, refused: Refused, has_failed: bool) -> Turn {
     match (stopped(ends), refused) {
-        (Some(1), Refused::Only(_)) | (Some(1..=3), Refused::From(_)) if has_failed => Turn::Refused,
+        (Some(1), Refused::Only(_)) | (Some(1..=3), Refused::From(_)) if has_failed =>
+            Turn::Refused,
         _ => Turn::Wrong,
     }
 }

@@ -13,7 +13,7 @@ use std::test::Fail;
 type Row = (Asked, &'static str, &'static [u64]);
 
 /// At the router with tables. A step grows for its receipt, its packets, and where a table or the history is full.
-const WITH_TABLES: [Row; 8] = [
+const WITH_TABLES: [Row; 12] = [
     (Asked::Apply, FIRST_PING, &[2, 1, 4, 10]),
     (
         Asked::Apply,
@@ -38,6 +38,10 @@ const WITH_TABLES: [Row; 8] = [
         &[2, 1, 1, 4, 8, 0, 8, 0, 5, 0, 3, 0, 3, 0, 3, 0, 1],
     ),
     (Asked::Route, FIRST_PING, &[10]),
+    (Asked::Enter, FIRST_PING, &[2, 1, 4, 9]),
+    (Asked::Enter, ORIGINATED, &[2, 6, 4, 0, 3]),
+    (Asked::Add, FIRST_PING, &[2, 1, 4, 5]),
+    (Asked::Add, ORIGINATED, &[2, 5, 4, 0, 2]),
 ];
 
 /// At the router that searches its history, which is all that grows beside packets and receipts.

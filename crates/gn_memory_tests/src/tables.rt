@@ -106,8 +106,21 @@ impl<A: Allocator + Copy> Call<A> for Remembers {
             && both.sources(Kept::Servent) == other.sources(Kept::Servent)
     }
 
+    /// The entries after it follow, so that one which was half kept before a refusal shows.
     fn is_right(&self, both: &mut Both<A>, _answer: &()) -> bool {
-        both.sources(self.entry.0) == self.entry.3
+        if both.sources(self.entry.0) != self.entry.3 {
+            return false;
+        }
+        for (kept, byte, from, wanted, _) in ENTRIES
+            .iter()
+            .copied()
+            .skip(self.number.saturating_add(1))
+        {
+            if both.remember(kept, byte, from).is_err() || both.sources(kept) != wanted {
+                return false;
+            }
+        }
+        true
     }
 }
 
