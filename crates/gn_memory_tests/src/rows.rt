@@ -13,7 +13,7 @@ use std::test::Fail;
 type Row = (Asked, &'static str, &'static [u64]);
 
 /// At the router with tables. A step grows for its receipt, its packets, and where a table or the history is full.
-const WITH_TABLES: [Row; 12] = [
+const WITH_TABLES: [Row; 13] = [
     (Asked::Apply, FIRST_PING, &[2, 1, 4, 10]),
     (
         Asked::Apply,
@@ -24,6 +24,11 @@ const WITH_TABLES: [Row; 12] = [
         Asked::Apply,
         ONE_REMEMBERED,
         &[2, 1, 4, 10, 1, 6, 0, 0, 1, 3],
+    ),
+    (
+        Asked::Apply,
+        PONGS_GO_BACK,
+        &[2, 1, 4, 10, 1, 3, 0, 3, 1, 0],
     ),
     (Asked::Apply, CLOSE_AND_REJOIN, &[2, 1, 4, 10, 1, 1, 0, 0]),
     (
@@ -45,8 +50,9 @@ const WITH_TABLES: [Row; 12] = [
 ];
 
 /// At the router that searches its history, which is all that grows beside packets and receipts.
-const IN_HISTORY: [Row; 8] = [
+const IN_HISTORY: [Row; 9] = [
     (Asked::Apply, FIRST_PING, &[2, 0, 0, 5]),
+    (Asked::Apply, PONGS_GO_BACK, &[2, 0, 0, 5, 1, 2, 0, 2, 1, 0]),
     (Asked::Apply, CLOSE_AND_REJOIN, &[2, 0, 0, 5, 1, 0, 0, 0]),
     (Asked::Apply, ORIGINATED, &[2, 2, 0, 0, 3]),
     (Asked::Route, FIRST_PING, &[5]),
