@@ -62,19 +62,25 @@ fn read_end<A: Allocator>(lines: &mut NumberedLines) -> Result<Option<Step<A>>, 
 }
 
 impl<'a, A: Allocator + Copy> HistorySteps<'a, A> {
-    ghost use Rattle.std.specs.Prelude.{IfSome};
+    ghost use Rattle.std.specs.Prelude.{IfNone, IfSome, OnErr};
 
     /// The next step, or `None` at the line `end`, which is to be the last one. An `Err` names the first line left that
     /// something is wrong with: a line that is no step (`Field`), a missing `end` or something after it (`End`); or out
-    /// of memory.
+    /// of memory. Only where a step is given its line is gone: after `None` and after an `Err` all is as it was.
     pub fn next_step(&mut self) -> Result<Option<Step<A>>, CaptureRefusal>
         ensures next { IsNextOf result (steps_left self.old) (steps_left self.new) }
         ensures fewer { IfOk result (λ found. IfSome found (λ _. length self.new.lines < length self.old.lines)) }
+        ensures end { IfOk result (λ found. IfNone found (self.new ≡ self.old)) }
+        ensures kept { OnErr result (self.new ≡ self.old) }
     {
-        match self.lines.next_line() {
+        let mut left = self.lines.copy();
+        match left.next_line() {
             Ok(line) => match read_line(self.alloc, &mut self.fields, &line)? {
-                Some(step) => Ok(Some(step)),
-                None => read_end(&mut self.lines),
+                Some(step) => {
+                    self.lines = left;
+                    Ok(Some(step))
+                }
+                None => read_end(&mut left),
             },
             Err(after) => Err(CaptureRefusal::at(after, Cause::End)),
         }

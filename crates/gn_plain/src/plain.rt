@@ -62,23 +62,36 @@ impl<A: Allocator + Copy> PlainRouter<A> {
         ensures settings { self.new.settings ≡ self.old.settings }
     {
         let index = self.history.len() as u32;
-        let (step, receipt) = Step::with_receipt(self.alloc, index, actor, event, reply)?;
-        self.keep(step)?;
+        let (mut step, receipt) = Step::with_receipt(self.alloc, index, actor, event, reply)?;
+        self.keep(step.actor, &mut step.event, &mut step.reply)?;
         Ok(receipt)
     }
 
-    /// Makes a step of the rules' reply the last of the history. An `Err` is out of memory, and changes nothing.
+    /// Makes the step of an event and the rules' reply the last of the history. An `Err` is out of memory, and changes
+    /// nothing.
     #[tactic(auto, using(gn_rules::proofs::PastLemmas::past_length, gn_rules::proofs::PastLemmas::past_push, gn_rules::proofs::LegalLemmas::legal_within))]
-    fn keep(&mut self, step: Step<A>) -> Result<(), AllocError>
-        requires { rules.answer self.old.settings (reverse self.old.steps) step.event ≡ Ok step.reply }
-        ensures step { OnOk result (self.new.steps ≡ self.old.steps ++ step ∷ []) }
+    fn keep(
+        &mut self,
+        actor: u32,
+        event: &mut Event<A>,
+        reply: &mut Reply<A>,
+    ) -> Result<(), AllocError>
+        requires { rules.answer self.old.settings (reverse self.old.steps) event.old ≡ Ok reply.old }
+        ensures step { OnOk result (self.new.steps
+            ≡ self.old.steps ++ record { actor = actor; event = event.old; reply = reply.old } ∷ []) }
         ensures err { OnErr result (self.new.steps ≡ self.old.steps) }
+        ensures event { OnErr result (event.new ≡ event.old) }
+        ensures reply { OnErr result (reply.new ≡ reply.old) }
         ensures settings { self.new.settings ≡ self.old.settings }
     {
         self.history.reserve(1)?;
         self.flying.reserve(1)?;
-        follow(&mut self.flying, &step.event, &step.reply);
-        self.history.push_reserved(step);
+        follow(&mut self.flying, event, reply);
+        self.history.push_reserved(Step {
+            actor,
+            event: event.take(),
+            reply: reply.take(),
+        });
         Ok(())
     }
 }
@@ -107,18 +120,13 @@ impl<A: Allocator + Copy> RouterCore<A> for PlainRouter<A> {
     }
 
     fn enter(&mut self, actor: u32, event: &mut Event<A>) -> Result<(), Refusal> {
-        let reply = find(self.alloc, &self.past(), event)?;
-        let event = event.take();
-        self.keep(Step {
-            actor,
-            event,
-            reply,
-        })?;
+        let mut reply = find(self.alloc, &self.past(), event)?;
+        self.keep(actor, event, &mut reply)?;
         Ok(())
     }
 
     fn add(&mut self, step: &mut Step<A>) -> Result<(), AllocError> {
-        self.keep(step.take())
+        self.keep(step.actor, &mut step.event, &mut step.reply)
     }
 
     fn route(

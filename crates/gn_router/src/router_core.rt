@@ -18,7 +18,7 @@ impl<A: Allocator + Copy> TableRouter<A> {
         &mut self,
         actor: u32,
         event: &Event<A>,
-        reply: Reply<A>,
+        mut reply: Reply<A>,
     ) -> Result<Receipt<A>, Refusal>
         requires { answer self.old.settings (past_of self.old) event.now ≡ Ok reply }
         ensures reply { IfOk result (λ receipt. receipt.reply ≡ reply) }
@@ -35,25 +35,34 @@ impl<A: Allocator + Copy> TableRouter<A> {
             event: event.copy()?,
             reply: reply.copy(self.alloc)?,
         };
-        let event = event.copy()?;
-        self.keep(Step {
-            actor,
-            event,
-            reply,
-        })?;
+        let mut event = event.copy()?;
+        self.keep(actor, &mut event, &mut reply)?;
         Ok(receipt)
     }
 
-    /// Makes a step whose reply was found the last of the history. An `Err` is out of memory, and changes nothing.
-    fn keep(&mut self, step: Step<A>) -> Result<(), AllocError>
-        requires { answer self.old.settings (past_of self.old) step.event ≡ Ok step.reply }
-        ensures step { OnOk result (self.new.steps ≡ self.old.steps ++ step ∷ []) }
+    /// Makes the step of an event and its reply, which was found, the last of the history. An `Err` is out of memory, and
+    /// changes nothing.
+    fn keep(
+        &mut self,
+        actor: u32,
+        event: &mut Event<A>,
+        reply: &mut Reply<A>,
+    ) -> Result<(), AllocError>
+        requires { answer self.old.settings (past_of self.old) event.old ≡ Ok reply.old }
+        ensures step { OnOk result (self.new.steps
+            ≡ self.old.steps ++ record { actor = actor; event = event.old; reply = reply.old } ∷ []) }
         ensures err { OnErr result (self.new.steps ≡ self.old.steps) }
+        ensures event { OnErr result (event.new ≡ event.old) }
+        ensures reply { OnErr result (reply.new ≡ reply.old) }
         ensures settings { self.new.settings ≡ self.old.settings }
     {
         self.history.reserve(1)?;
-        self.tables.follow(self.alloc, &step.event, &step.reply)?;
-        self.history.push_reserved(step);
+        self.tables.follow(self.alloc, event, reply)?;
+        self.history.push_reserved(Step {
+            actor,
+            event: event.take(),
+            reply: reply.take(),
+        });
         Ok(())
     }
 }
@@ -77,18 +86,13 @@ impl<A: Allocator + Copy> RouterCore<A> for TableRouter<A> {
     }
 
     fn enter(&mut self, actor: u32, event: &mut Event<A>) -> Result<(), Refusal> {
-        let reply = find(self.alloc, self, event)?;
-        let event = event.take();
-        self.keep(Step {
-            actor,
-            event,
-            reply,
-        })?;
+        let mut reply = find(self.alloc, self, event)?;
+        self.keep(actor, event, &mut reply)?;
         Ok(())
     }
 
     fn add(&mut self, step: &mut Step<A>) -> Result<(), AllocError> {
-        self.keep(step.take())
+        self.keep(step.actor, &mut step.event, &mut step.reply)
     }
 
     fn route(

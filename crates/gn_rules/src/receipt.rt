@@ -5,7 +5,6 @@ ghost use Rattle.std.specs.Prelude.{◌≡◌, IfOk};
 use crate::event::Event;
 use crate::reply::Reply;
 use std::alloc::{AllocError, Allocator, Global};
-use std::mem;
 
 /// One answered event of a history: who called, what happened, and the reply.
 #[derive(Debug, Drop)]
@@ -26,18 +25,6 @@ pub struct Receipt<A: Allocator = Global> {
 impl<A: Allocator + Copy> Step<A> {
     ghost use Rattle.gn_rules.specs.declared.receipt.Receipt.{Receipt};
     ghost use Rattle.gn_rules.specs.declared.receipt.Step.{Step};
-
-    /// Takes the step out of its place, where that of a Connect stays.
-    pub fn take(&mut self) -> Step<A>
-        ensures { result ≡ self.old }
-    {
-        let another = Step {
-            actor: 0,
-            event: Event::Connect,
-            reply: Reply::Connected(1),
-        };
-        mem::replace(self, another)
-    }
 
     /// The step of an event and its reply, and the receipt of it. An `Err` is out of memory.
     pub fn with_receipt(

@@ -6,6 +6,7 @@ use crate::event::{ConnId, Ticket};
 use crate::sends::{Sending, Sends};
 use gn_wire::{Descriptor, Kind};
 use std::alloc::{AllocError, Allocator, Global};
+use std::mem;
 
 /// Why a descriptor isn't sent on.
 #[derive(Clone, Copy, Debug, PartialEq, Eq)]
@@ -66,6 +67,13 @@ pub enum Reply<A: Allocator = Global> {
 impl<A: Allocator> Reply<A> {
     ghost use Rattle.gn_rules.specs.History.{admitted_of, connected_of, is_routed_reply, is_sent_reply, dropped_of, sends_of};
     ghost use Rattle.gn_rules.specs.SeenEntries.{keeps};
+
+    /// Takes the reply out of its place, where a TooMany stays.
+    pub fn take(&mut self) -> Reply<A>
+        ensures { result ≡ self.old }
+    {
+        mem::replace(self, Reply::TooMany)
+    }
 
     /// The connection that it made.
     pub fn connected(&self) -> Option<ConnId>

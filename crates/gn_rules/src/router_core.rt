@@ -44,8 +44,8 @@ pub trait RouterCore<A: Allocator + Copy> {
         ensures err { OnErr result (steps self.new ≡ steps self.old) }
         ensures settings { settings self.new ≡ settings self.old };
 
-    /// As `apply`, with the event for keeps and without a receipt: where it is answered, its step is the last of the history.
-    /// What stands in the event's place then is another.
+    /// As `apply`, with the event for keeps and without a receipt: where it is answered, its step is the last of the history,
+    /// and what stands in the event's place is another. A refusal leaves the event where it was.
     fn enter(&mut self, actor: u32, event: &mut Event<A>) -> Result<(), Refusal>
         ensures step { OnOk result ((reply : Reply A)
             × (answer (settings self.old) (reverse (steps self.old)) event.old ≡ Ok reply)
@@ -53,6 +53,7 @@ pub trait RouterCore<A: Allocator + Copy> {
         ensures refusal { IfErr result (λ refusal.
             Finds (Err refusal) (answer (settings self.old) (reverse (steps self.old)) event.old)) }
         ensures err { OnErr result (steps self.new ≡ steps self.old) }
+        ensures kept { OnErr result (event.new ≡ event.old) }
         ensures settings { settings self.new ≡ settings self.old };
 
     /// Whether a step's reply is the rules' answer to its event. Takes no memory.
@@ -61,11 +62,12 @@ pub trait RouterCore<A: Allocator + Copy> {
             ↔ (answer (settings self.now) (reverse (steps self.now)) step.now.event ≡ Ok step.now.reply) };
 
     /// Adds a step whose reply is the rules' answer to its event, and keeps it: what stands in its place then is another. An
-    /// `Err` is out of memory, and leaves the history as it was.
+    /// `Err` is out of memory, and leaves the history as it was and the step where it was.
     fn add(&mut self, step: &mut Step<A>) -> Result<(), AllocError>
         requires { answer (settings self.old) (reverse (steps self.old)) step.old.event ≡ Ok step.old.reply }
         ensures step { OnOk result (steps self.new ≡ steps self.old ++ step.old ∷ []) }
         ensures err { OnErr result (steps self.new ≡ steps self.old) }
+        ensures kept { OnErr result (step.new ≡ step.old) }
         ensures settings { settings self.new ≡ settings self.old };
 
     /// As `apply` of a Route, with the descriptor's payload checked beforehand. Where the descriptor isn't the one that was

@@ -1,6 +1,6 @@
 //! The three lines that a text begins with.
 
-ghost use Rattle.std.specs.Prelude.{◌≡◌};
+ghost use Rattle.std.specs.Prelude.{◌≡◌, OnErr};
 ghost use Rattle.gn_text.specs.Faults.{IsRead};
 ghost use Rattle.gn_text.specs.Header.{config_from, header_of, header_seen, own_from};
 ghost use Rattle.gn_text.specs.Settings.{numbers_of};
@@ -52,10 +52,8 @@ fn read_config_line<A: Allocator + Copy>(
     }
 }
 
-/// The configuration that the lines of a text begin with, which are then gone: the first line is the title, letter by
-/// letter, the second a `config` line, the third an `own` line. A missing one is at fault after the last line.
 #[tactic(auto, using(crate::proofs::FirstLines::title_read, crate::proofs::FirstLines::title_other, crate::proofs::FirstLines::title_missing))]
-pub fn read_header<A: Allocator + Copy>(
+fn read_title_line<A: Allocator + Copy>(
     alloc: A,
     title: &[u8],
     lines: &mut NumberedLines,
@@ -72,5 +70,28 @@ pub fn read_header<A: Allocator + Copy>(
             read_config_line(alloc, lines)
         }
         Err(after) => Err(CaptureRefusal::at(after, Cause::Header)),
+    }
+}
+
+/// The configuration that the lines of a text begin with, which are then gone: the first line is the title, letter by
+/// letter, the second a `config` line, the third an `own` line. A missing one is at fault after the last line. An `Err`
+/// leaves all lines.
+pub fn read_header<A: Allocator + Copy>(
+    alloc: A,
+    title: &[u8],
+    lines: &mut NumberedLines,
+) -> Result<Config, CaptureRefusal>
+    ensures header { IsRead (λ config. header_seen config lines.new) result
+        (header_of title.now lines.old.after lines.old.lines) }
+    ensures after { lines.new.after ≡ lines.old.after }
+    ensures kept { OnErr result (lines.new ≡ lines.old) }
+{
+    let mut left = lines.copy();
+    match read_title_line(alloc, title, &mut left) {
+        Ok(config) => {
+            *lines = left;
+            Ok(config)
+        }
+        Err(refusal) => Err(refusal),
     }
 }

@@ -1,6 +1,6 @@
 //! A text in lines, and a line in fields.
 
-ghost use Rattle.std.specs.Prelude.{◌≡◌, ◌≢◌, ◌==◌, ◌<◌, ◌++◌, ◌∷◌, [], All, length, map, IfNone, IfOk, IfSome, OnOk};
+ghost use Rattle.std.specs.Prelude.{◌≡◌, ◌≢◌, ◌==◌, ◌<◌, ◌++◌, ◌∷◌, [], All, length, map, IfNone, IfOk, IfSome, OnErr, OnOk};
 ghost use Rattle.std.specs.List.{slice_split};
 ghost use Rattle.gn_text.specs.Lines.{fields_of, is_skipped, is_word, lines_of};
 
@@ -59,15 +59,20 @@ pub fn fields<A: Allocator + Copy>(alloc: A, line: &[u8]) -> Result<Vec<&[u8], A
 }
 
 /// Puts the fields of a line in place of those that are there, where they can stand in the same memory. An `Err` is out
-/// of memory.
+/// of memory, and leaves no field.
 pub fn fields_into<'a, A: Allocator>(
     line: &'a [u8],
     fields: &mut Vec<&'a [u8], A>,
 ) -> Result<(), AllocError>
-    ensures { OnOk result (map (λ x. x.now) fields.new.items ≡ fields_of line.now) }
+    ensures ok { OnOk result (map (λ x. x.now) fields.new.items ≡ fields_of line.now) }
+    ensures err { OnErr result (fields.new.items ≡ []) }
 {
     fields.clear();
-    add_parts(line, b' ', fields)
+    let added = add_parts(line, b' ', fields);
+    if added.is_err() {
+        fields.clear();
+    }
+    added
 }
 
 /// The first line of a text, and the text after its line feed, which may be missing. An empty text has none.

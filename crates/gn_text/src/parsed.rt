@@ -38,6 +38,16 @@ impl<'a> NumberedLines<'a> {
         NumberedLines { text, number: 1 }
     }
 
+    /// The same lines, to be gone over without these.
+    pub fn copy(&self) -> Self
+        ensures { result ≡ self.now }
+    {
+        NumberedLines {
+            text: self.text,
+            number: self.number,
+        }
+    }
+
     /// The first of them, which is then gone. An `Err` is the number of the line after the last one: there is none.
     #[tactic(auto, using(crate::proofs::ParsedLemmas::line_skipped, crate::proofs::ParsedLemmas::line_parsed, crate::proofs::ParsedLemmas::after_line, crate::proofs::ParsedLemmas::none_left, crate::proofs::ParsedLemmas::after_all))]
     pub fn next_line(&mut self) -> Result<NumberedLine<'a>, u64>
