@@ -1,8 +1,8 @@
 //! Texts: captures and histories, read, written, replayed and audited.
 
 use crate::histories::FIRST_PING;
-use crate::steps::read;
-use gn_capture::{Capture, Line, read_capture, write_history};
+use crate::steps::{are_same, read};
+use gn_capture::{Capture, HistorySteps, Line, open_history, read_capture, write_history};
 use gn_fixtures::{OWN, PING};
 use gn_growth::{Call, Failure, Heap, Refused, Turn, Turns, growths, turn_of};
 use gn_io::{ReaderSource, WriterSink};
@@ -184,12 +184,68 @@ impl<A: Allocator + Copy> Turns<A> for Handles {
     }
 }
 
+/// The steps that are left, after this one.
+fn with_rest<A: Allocator + Copy>(
+    alloc: A,
+    step: Option<Step<A>>,
+    left: &mut HistorySteps<A>,
+) -> Result<Vec<Step<A>, A>, Fail> {
+    let mut steps = Vec::new(alloc);
+    if let Some(step) = step {
+        steps.push(step)?;
+    }
+    for _ in 0..9 {
+        match left.next_step()? {
+            Some(step) => steps.push(step)?,
+            None => break,
+        }
+    }
+    Ok(steps)
+}
+
+/// Reads the step of this number after those before it, and then the rest: a refusal leaves its line to be read again.
+#[derive(Clone, Copy)]
+struct ReadsStep(usize);
+
+impl<A: Allocator + Copy> Turns<A> for ReadsStep {
+    fn turn(&self, heap: &Heap, alloc: A, refused: Refused) -> Result<Turn, Fail> {
+        heap.refuse_none();
+        let (_, wanted) = read(alloc, FIRST_PING)?;
+        let (_, mut left) = open_history(alloc, FIRST_PING.as_bytes())?;
+        for _ in 0..self.0 {
+            left.next_step()?;
+        }
+        refused.begin(heap);
+        let first = left.next_step();
+        let has_refused = heap.has_refused();
+        heap.refuse_none();
+        let (step, turn) = match first {
+            Ok(step) if !has_refused => (step, Turn::Answered),
+            Err(CaptureRefusal::NoMemory) if has_refused => (left.next_step()?, Turn::Refused),
+            _ => return Ok(Turn::Wrong),
+        };
+        let steps = with_rest(alloc, step, &mut left)?;
+        Ok(match wanted.get(self.0..) {
+            Some(rest) if are_same(steps.as_slice(), rest) => turn,
+            _ => Turn::Wrong,
+        })
+    }
+}
+
+/// The growths of each step of the history, and of its end.
+const STEPS: [u64; 5] = [1, 0, 1, 2, 0];
+
 #[test]
 fn what_is_read_and_written(rt: HostRuntime) -> Result<(), Fail> {
     let heap = Heap::new(rt.alloc());
     for (text, wanted) in TEXTS {
         assert_eq!(rt; growths(&heap, &heap, &Handles(text))?, wanted, "{text:?}");
     }
+    let mut met = STEPS;
+    for (number, growths_met) in met.iter_mut().enumerate() {
+        *growths_met = growths(&heap, &heap, &ReadsStep(number))?;
+    }
+    assert_eq!(rt; met, STEPS);
     Ok(())
 }
 
