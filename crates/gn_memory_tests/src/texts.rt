@@ -9,7 +9,7 @@ use gn_io::{ReaderSource, WriterSink};
 use gn_replay::{ReplayFault, audit, audit_explained, replay, replay_history};
 use gn_router::TableRouter;
 use gn_rules::{Config, Step};
-use gn_text::CaptureRefusal;
+use gn_text::{CaptureRefusal, NumberedLine, NumberedLines, fields_into, read_header};
 use std::alloc::Allocator;
 use std::test::Fail;
 
@@ -61,29 +61,48 @@ end\n";
 /// What is read or written.
 #[derive(Clone, Copy, Debug)]
 enum Text {
+    Fields,
+    ReadHeader,
     ReadCapture,
     ReadHistory,
     WriteHistory,
 }
 
-/// Each with the growths that it meets.
-const TEXTS: [(Text, u64); 3] = [
+/// Each with the growths that it meets. A list of fields, or of lines or steps, has room for four when it first grows, and
+/// doubles from then on.
+const TEXTS: [(Text, u64); 5] = [
+    // Five fields in a list with room for one.
+    (Text::Fields, 2),
+    // The fields of `config`, seven, and of `own`, six, and the parts of its address, four.
+    (Text::ReadHeader, 5),
+    // The header; one list of fields for all lines, the list of four lines, and the piece, which is shared from then on.
     (Text::ReadCapture, 9),
+    // The header, each step, and the list of four steps.
     (Text::ReadHistory, 13),
+    // 376 bytes where six are full: the first line fills 25, and that doubles up to 400.
     (Text::WriteHistory, 5),
 ];
 
-/// A history as it is written, and where.
+/// The first line of the history that is a step, and its fields.
+const CONNECTS: NumberedLine<'static> = (4, b"0 connect = connected 1");
+
+const CONNECTS_FIELDS: [&[u8]; 5] = [b"0", b"connect", b"=", b"connected", b"1"];
+
+/// A history as it is written and as it is read, and where.
 #[derive(Drop)]
 struct Writing<A: Allocator> {
     alloc: A,
     config: Config,
     steps: Vec<Step<A>, A>,
+    lines: NumberedLines<'static>,
+    fields: Vec<&'static [u8], A>,
     out: Vec<u8, A>,
 }
 
 #[derive(Drop)]
 enum Known<A: Allocator> {
+    Fields,
+    Header(Config),
     Capture(Capture<A>),
     History(Config, Vec<Step<A>, A>),
     Written,
@@ -99,9 +118,8 @@ fn failure(refusal: CaptureRefusal) -> Failure {
     }
 }
 
-/// Whether this is the capture, each line with its number.
-fn is_capture<A: Allocator>(capture: &Capture<A>) -> bool {
-    let config = &capture.config;
+/// Whether this is what the second and the third line say.
+fn is_configuration(config: &Config) -> bool {
     let limits = [
         config.neighbours,
         config.seen,
@@ -110,8 +128,12 @@ fn is_capture<A: Allocator>(capture: &Capture<A>) -> bool {
         config.out,
         config.steps,
     ];
-    limits == [4, 8, 4, 8, 8, 100]
-        && config.own == OWN
+    limits == [4, 8, 4, 8, 8, 100] && config.own == OWN
+}
+
+/// Whether this is the capture, each line with its number.
+fn is_capture<A: Allocator>(capture: &Capture<A>) -> bool {
+    is_configuration(&capture.config)
         && match capture.lines.as_slice() {
             [
                 (first, Line::Join),
@@ -138,12 +160,24 @@ impl<A: Allocator + Copy> Call<A> for Handles {
             alloc,
             config,
             steps,
+            lines: NumberedLines::of(FIRST_PING.as_bytes()),
+            fields: Vec::from_slice(alloc, &CONNECTS_FIELDS[..1])?,
             out: Vec::from_slice(alloc, b"before")?,
         })
     }
 
     fn make(&self, writing: &mut Writing<A>) -> Result<Known<A>, Failure> {
         match self.0 {
+            Text::Fields => match fields_into(CONNECTS.1, &mut writing.fields) {
+                Ok(()) => Ok(Known::Fields),
+                Err(_) => Err(Failure::NoMemory),
+            },
+            Text::ReadHeader => {
+                match read_header(writing.alloc, b"gnutella-history 1", &mut writing.lines) {
+                    Ok(config) => Ok(Known::Header(config)),
+                    Err(refusal) => Err(failure(refusal)),
+                }
+            }
             Text::ReadCapture => match read_capture(writing.alloc, CAPTURE.as_bytes()) {
                 Ok(capture) => Ok(Known::Capture(capture)),
                 Err(refusal) => Err(failure(refusal)),
@@ -161,12 +195,23 @@ impl<A: Allocator + Copy> Call<A> for Handles {
         }
     }
 
+    /// Of the fields of a line none is left.
     fn is_unchanged(&self, writing: &Writing<A>, other: &Writing<A>) -> bool {
-        writing.out.as_slice() == other.out.as_slice()
+        let are_fields_left = match self.0 {
+            Text::Fields => writing.fields.is_empty(),
+            _ => writing.fields.as_slice() == &CONNECTS_FIELDS[..1],
+        };
+        are_fields_left
+            && writing.lines.copy().next_line() == other.lines.copy().next_line()
+            && writing.out.as_slice() == other.out.as_slice()
     }
 
     fn is_right(&self, writing: &mut Writing<A>, known: &Known<A>) -> bool {
         match known {
+            Known::Fields => writing.fields.as_slice() == &CONNECTS_FIELDS,
+            Known::Header(config) => {
+                is_configuration(config) && writing.lines.next_line() == Ok(CONNECTS)
+            }
             Known::Capture(capture) => is_capture(capture),
             Known::History(config, steps) => {
                 let mut again = Vec::new(writing.alloc);
@@ -232,8 +277,10 @@ impl<A: Allocator + Copy> Turns<A> for ReadsStep {
     }
 }
 
-/// The growths of each step of the history, and of its end.
-const STEPS: [u64; 5] = [1, 0, 1, 2, 0];
+/// The growths of each step of the history, and of its end. The first is read into a list of fields that grows to eight, in
+/// which all later lines have room; then there are the Ping, and beside the list of two sends the Pong, whose payload is
+/// shared, and the Ping.
+const STEPS: [u64; 5] = [2, 0, 1, 4, 0];
 
 #[test]
 fn what_is_read_and_written(rt: HostRuntime) -> Result<(), Fail> {
