@@ -208,7 +208,7 @@ impl<A: Allocator + Copy> Call<A> for Handles {
 
     fn is_right(&self, writing: &mut Writing<A>, known: &Known<A>) -> bool {
         match known {
-            Known::Fields => writing.fields.as_slice() == &CONNECTS_FIELDS,
+            Known::Fields => writing.fields.as_slice() == CONNECTS_FIELDS.as_slice(),
             Known::Header(config) => {
                 is_configuration(config) && writing.lines.next_line() == Ok(CONNECTS)
             }
