@@ -1,5 +1,8 @@
 //! The four tables: what is kept, learned and added, where a table is empty, where it grows and where it forgets.
 
+ghost use Rattle.std.specs.Prelude.{◌≡◌, ◌<◌, None};
+ghost use Rattle.std.specs.FinMap as map;
+
 use gn_fixtures::ping;
 use gn_growth::{Call, Failure, Heap, Refused, Turn, Turns, growths, turn_of};
 use gn_tables::{Flights, Neighbours, SeenTable, ServentTable};
@@ -58,15 +61,13 @@ impl<A: Allocator + Copy> Both<A> {
     }
 
     fn remember(&mut self, kept: Kept, byte: u8, from: u32) -> Result<(), Failure> {
+        let id = id(byte);
         match kept {
-            Kept::Servent => self
-                .servents
-                .learn(id(byte), from)
-                .map_err(|_| Failure::NoMemory),
-            Kept::Ping => match self.seen.source(Kind::Ping, &id(byte)) {
+            Kept::Servent => self.servents.learn(id, from).map_err(|_| Failure::NoMemory),
+            Kept::Ping => match self.seen.source(Kind::Ping, &id) {
                 None => self
                     .seen
-                    .keep(Kind::Ping, id(byte), from)
+                    .keep(Kind::Ping, id, from)
                     .map_err(|_| Failure::NoMemory),
                 Some(_) => Err(Failure::Other),
             },
@@ -179,13 +180,21 @@ impl<A: Allocator + Copy> Turns<A> for AddsNeighbour {
     }
 }
 
+/// Nothing in flight, and room for one.
+fn none_in_flight<A: Allocator + Copy>(alloc: A) -> Flights<A>
+    ensures few { map.len result.flights < result.most }
+    ensures fresh { map.get result.flights 0 ≡ None }
+{
+    Flights::new(alloc, 1)
+}
+
 /// Adds a first flight.
 struct AddsFlight;
 
 impl<A: Allocator + Copy> Turns<A> for AddsFlight {
     fn turn(&self, heap: &Heap, alloc: A, refused: Refused) -> Result<Turn, Fail> {
         heap.refuse_none();
-        let mut flights = Flights::new(alloc, 1);
+        let mut flights = none_in_flight(alloc);
         let (first, again) = (ping(0xa1, 7, 0)?, ping(0xa1, 7, 0)?);
         refused.begin(heap);
         let added = flights.add(0, 1, first);
