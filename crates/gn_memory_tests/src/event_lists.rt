@@ -75,6 +75,22 @@ fn are_right<A: Allocator>(steps: &[Step<A>], further: &[Refusal], answers: &[An
             .all(|(answer, refusal)| answer.as_ref().err() == Some(refusal))
 }
 
+/// Whether the events went on after those that were out of memory, of which there is one where one growth was refused.
+fn went_on<A: Allocator + Copy, C: RouterCore<A>>(
+    core: &C,
+    other: &mut C,
+    events: &[Event<A>],
+    answers: &[Answer<A>],
+    refused: Refused,
+) -> bool {
+    let as_many = match (refused, refused_of(other, events, answers)) {
+        (Refused::Only(_), Some(number)) => number == 1,
+        (Refused::From(_), Some(number)) => number > 0,
+        (_, None) => false,
+    };
+    as_many && are_same(core.history(), other.history())
+}
+
 impl<A: Allocator + Copy, C: RouterCore<A> + Drop> Turns<A> for Runs<C> {
     fn turn(&self, heap: &Heap, alloc: A, refused: Refused) -> Result<Turn, Fail> {
         heap.refuse_none();
@@ -89,19 +105,8 @@ impl<A: Allocator + Copy, C: RouterCore<A> + Drop> Turns<A> for Runs<C> {
         let (answers, turn) = match answers {
             Ok(answers) if !has_refused => (answers, Turn::Answered),
             Ok(answers) => {
-                let least = match refused_of(&mut other, &events, &answers) {
-                    Some(least) => least,
-                    None => return Ok(Turn::Wrong),
-                };
-                let is_right = match refused {
-                    Refused::Only(_) => least == 1,
-                    Refused::From(_) => least > 0,
-                };
-                return Ok(if is_right && are_same(core.history(), other.history()) {
-                    Turn::Refused
-                } else {
-                    Turn::Wrong
-                });
+                let went_on = went_on(&core, &mut other, &events, &answers, refused);
+                return Ok(if went_on { Turn::Refused } else { Turn::Wrong });
             }
             Err(_) if has_refused && core.history().is_empty() => {
                 (run_events(alloc, &mut core, &events)?, Turn::Refused)

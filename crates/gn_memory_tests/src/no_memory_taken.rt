@@ -2,6 +2,7 @@
 
 use crate::histories::PONGS_GO_BACK;
 use crate::steps::read;
+use crate::tables::none_in_flight;
 use bytes::Bytes;
 use gn_fixtures::{PING, ping};
 use gn_frames::Reassembler;
@@ -31,7 +32,7 @@ fn of_a_router<A: Allocator + Copy, C: RouterCore<A> + Drop>(
     }
     heap.refuse_from(0);
     let is_right = core.is_answered(&last)
-        && core.config().neighbours == 4
+        && core.config().numbers.neighbours == 4
         && core.stats().get(Counter::Routed) == 3
         && (core.flights(), core.waiting(1), core.is_live(2)) == (0, 2, true)
         && legal(&config, core.history()) == Legality::Legal
@@ -48,7 +49,7 @@ fn of_tables<A: Allocator + Copy>(heap: &Heap, alloc: A) -> Result<(bool, u64), 
     servents.learn(Guid([0x5e; 16]), 2)?;
     let mut neighbours = Neighbours::new(alloc, 4, 1)?;
     neighbours.add(1)?;
-    let mut flights = Flights::new(alloc, 1);
+    let mut flights = none_in_flight(alloc);
     flights.add(0, 1, ping(0xa1, 7, 0)?)?;
     let (first, second) = (ping(0xa1, 6, 1)?, ping(0xa2, 6, 1)?);
     heap.refuse_from(0);

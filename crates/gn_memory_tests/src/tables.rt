@@ -181,11 +181,22 @@ impl<A: Allocator + Copy> Turns<A> for AddsNeighbour {
 }
 
 /// Nothing in flight, and room for one.
-fn none_in_flight<A: Allocator + Copy>(alloc: A) -> Flights<A>
+pub(crate) fn none_in_flight<A: Allocator + Copy>(alloc: A) -> Flights<A>
     ensures few { map.len result.flights < result.most }
     ensures fresh { map.get result.flights 0 ≡ None }
 {
     Flights::new(alloc, 1)
+}
+
+/// Whether the first flight is there, and no other.
+fn flies_alone<A: Allocator + Copy>(flights: &Flights<A>) -> Result<bool, Fail> {
+    let wanted = ping(0xa1, 7, 0)?;
+    Ok(match flights.get(0) {
+        Some(flight) => {
+            flights.len() == 1 && flight.from == 1 && flight.descriptor.is_same(&wanted)
+        }
+        None => false,
+    })
 }
 
 /// Adds a first flight.
@@ -208,11 +219,7 @@ impl<A: Allocator + Copy> Turns<A> for AddsFlight {
             }
             _ => return Ok(Turn::Wrong),
         };
-        let is_flying = match flights.get(0) {
-            Some(flight) => flight.from == 1 && flight.descriptor.is_same(&ping(0xa1, 7, 0)?),
-            None => false,
-        };
-        Ok(if is_flying && flights.len() == 1 {
+        Ok(if flies_alone(&flights)? {
             turn
         } else {
             Turn::Wrong

@@ -8,7 +8,7 @@ use gn_growth::{Call, Failure, Heap, Refused, Turn, Turns, growths, turn_of};
 use gn_io::{ReaderSource, WriterSink};
 use gn_replay::{ReplayFault, audit, audit_explained, replay, replay_history};
 use gn_router::TableRouter;
-use gn_rules::{Config, Step};
+use gn_rules::{Config, Numbers, Step};
 use gn_text::{CaptureRefusal, NumberedLine, NumberedLines, fields_into, read_header};
 use std::alloc::Allocator;
 use std::test::Fail;
@@ -120,15 +120,15 @@ fn failure(refusal: CaptureRefusal) -> Failure {
 
 /// Whether this is what the second and the third line say.
 fn is_configuration(config: &Config) -> bool {
-    let limits = [
-        config.neighbours,
-        config.seen,
-        config.servents,
-        config.stage,
-        config.out,
-        config.steps,
-    ];
-    limits == [4, 8, 4, 8, 8, 100] && config.own == OWN
+    let numbers = Numbers {
+        neighbours: 4,
+        seen: 8,
+        servents: 4,
+        stage: 8,
+        out: 8,
+        steps: 100,
+    };
+    config.numbers == numbers && config.own == OWN
 }
 
 /// Whether this is the capture, each line with its number.
