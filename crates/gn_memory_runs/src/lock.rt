@@ -1,6 +1,6 @@
 //! The calls that make steps under the lock: of what lies under it, and of the lock itself.
 
-ghost use Rattle.std.specs.Prelude.{◌≡◌, ◌+◌};
+ghost use Rattle.std.specs.Prelude.{◌≡◌};
 
 use gn_capture::read_history;
 use gn_fixtures::{ping, usual};
@@ -85,13 +85,13 @@ impl<A: Allocator + Copy, C: RouterCore<A>, L: Ledger> Place<L, A> for Hub<C, L,
 
 /// The lock, and the runtime by which it is waited for.
 #[derive(Drop)]
-struct Locked<'a, R, C: RouterCore<A> + Drop, L: Ledger, A: Allocator + Copy> {
-    rt: &'a R,
-    service: &'a Service<C, L, A>,
+struct Locked<'r, 's, R, C: RouterCore<A> + Drop, L: Ledger, A: Allocator + Copy> {
+    rt: &'r R,
+    service: &'s Service<C, L, A>,
 }
 
-impl<'a, A: Allocator + Copy, C: RouterCore<A> + Drop, L: Ledger, R: Wait> Place<L, A>
-    for Locked<'a, R, C, L, A> {
+impl<'r, 's, A: Allocator + Copy, C: RouterCore<A> + Drop, L: Ledger, R: Wait> Place<L, A>
+    for Locked<'r, 's, R, C, L, A> {
     fn call(&mut self, me: &mut Actor<L, A>, event: &Event<A>) -> Result<(), Refusal> {
         self.service.call(self.rt, me, event)
     }
@@ -199,6 +199,19 @@ fn is_whole<A: Allocator + Copy, C: RouterCore<A>, L: Ledger>(
     Ok(is_same && are_own && receipts_of(actors) == wanted.len() && hub.book() == 5)
 }
 
+/// Makes all calls at the lock.
+fn turn_locked<'r, 's, A: Allocator + Copy, C: RouterCore<A> + Drop, L: Ledger, R: Wait>(
+    rt: &'r R,
+    heap: &Heap,
+    service: &'s Service<C, L, A>,
+    actors: &mut [Actor<L, A>],
+    number: usize,
+    refused: Refused,
+) -> Result<Turn, Fail> {
+    let mut place = Locked { rt, service };
+    turn_at(heap, &mut place, actors, number, refused)
+}
+
 /// Makes all calls at the lock, or on what lies under it.
 fn turn_of<A: Allocator + Copy, C: RouterCore<A> + Drop, L: Ledger, R: Wait>(
     rt: &R,
@@ -217,11 +230,7 @@ fn turn_of<A: Allocator + Copy, C: RouterCore<A> + Drop, L: Ledger, R: Wait>(
     let (service, mut actors) = made.map_err(|_| "a service")?;
     let (number, is_locked) = call;
     let (turn, hub) = if is_locked {
-        let mut place = Locked {
-            rt,
-            service: &service,
-        };
-        let turn = turn_at(heap, &mut place, actors.as_mut_slice(), number, refused)?;
+        let turn = turn_locked(rt, heap, &service, actors.as_mut_slice(), number, refused)?;
         (turn, service.into_hub())
     } else {
         let mut hub = service.into_hub();
