@@ -1,17 +1,18 @@
 //! The bodies of one link, called in turn on one thread.
 
 ghost use Rattle.std.specs.Prelude.{◌≡◌, [], true, IfOk};
+ghost use Rattle.gn_links.specs.Halves.{IsNewReader, IsNewWriter};
 
 use gn_bodies::{BodyFault, ReaderEnd, WriterEnd, reader_body, worker_body, writer_body};
 use gn_fixtures::{OWN_PONG, PING, usual};
 use gn_growth::{Heap, Refused, Turn, Turns, growths};
-use gn_links::{Link, MemoryLink, NoGate};
+use gn_links::{Link, LinkReader, LinkWriter, MemoryLink, MemoryWriter, NoGate};
 use gn_plain::legal;
 use gn_router::TableRouter;
 use gn_rules::{Legality, RouterCore};
 use gn_service::{Actor, Service};
 use gn_shake::{Role, consent, request};
-use gn_stage::{Site, Stage};
+use gn_stage::{Intake, Outlet, Site, Stage};
 use std::alloc::{AllocError, Allocator};
 use std::marker::{Brand, PhantomData};
 use std::sync::Wait;
@@ -71,51 +72,68 @@ fn stopped(ends: Ends) -> Option<u32> {
     Some(stopped)
 }
 
-/// Where a growth was refused, it stopped a body, and with it the run; alone, it stopped no other.
-fn turn_after(ends: Ends, refused: Refused, has_failed: bool) -> Turn {
-    match (stopped(ends), refused) {
-        (Some(1), Refused::Only(_)) | (Some(1..=3), Refused::From(_)) if has_failed =>
-            Turn::Refused,
-        _ => Turn::Wrong,
-    }
-}
-
 /// Whether they ended well, having written the consent and the own Pong.
 fn are_done(ends: Ends, written: &[u8]) -> bool {
     ends == (Ok(ReaderEnd::Bytes), Ok(()), Ok(WriterEnd::Drained))
         && written.strip_prefix(consent()) == Some(OWN_PONG)
 }
 
-/// The reader, the worker and the writer of one link, one after the other, where these growths are refused. What they left is
-/// a legal history of as many steps as they have receipts.
-fn in_turn<A, B, C, L: Ledger, S: Site, R: Wait>(
+/// What the bodies left.
+#[derive(Drop)]
+struct Left<W> {
+    ends: Ends,
+    writer: W,
+    /// A legal history, of as many steps as they have receipts.
+    is_whole: bool,
+    has_failed: bool,
+    has_refused: bool,
+}
+
+impl<B: Allocator> Left<MemoryWriter<B>> {
+    /// Where a growth was refused, it stopped a body, and with it the run; alone, it stopped no other.
+    fn turn(self, refused: Refused) -> Turn {
+        if !self.is_whole {
+            return Turn::Wrong;
+        }
+        if !self.has_refused {
+            return if are_done(self.ends, self.writer.bytes()) {
+                Turn::Answered
+            } else {
+                Turn::Wrong
+            };
+        }
+        match (stopped(self.ends), refused) {
+            (Some(1), Refused::Only(_)) | (Some(1..=3), Refused::From(_)) if self.has_failed =>
+                Turn::Refused,
+            _ => Turn::Wrong,
+        }
+    }
+}
+
+/// The reader, the worker and the writer of one link, one after the other, where these growths are refused.
+fn in_turn<A, C, L: Ledger, S: Site, Rd: LinkReader, W: LinkWriter, R: Wait>(
     rt: &R,
     heap: &Heap,
     alloc: A,
-    link: MemoryLink<B>,
-    blank: Blank,
-    stage: Stage<A>,
+    service: Service<C, L, A>,
+    actors: Vec<Actor<L, A>, A>,
+    intake: Intake<S, A>,
+    outlet: Outlet<S, A>,
+    source: Rd,
+    sink: W,
     refused: Refused,
-) -> Result<Turn, Fail>
+) -> Result<Left<W>, Fail>
 where
     A: Allocator + Copy,
-    B: Allocator + Copy,
     C: RouterCore<A> + Drop,
-    requires name { blank.name ≡ L.name }
-    requires parts { (blank.parts ≡ L.parts) × (blank.parts ≡ 4) }
-    requires stage { stage ≡ S.stage }
+    requires reader { IsNewReader (Rd.bytes_read source) (Rd.failures source) (Rd.pieces source) (Rd.has_ended source) }
+    requires writer { IsNewWriter (W.bytes_written sink) (W.failures sink) (W.is_stuck sink) (W.is_finished sink) }
 {
     let (config, role) = (usual(100)?, Role::Accepting);
-    let made = Service::<C, L, A>::new(alloc, blank, &config, &[role], 1);
-    let (service, mut actors) = made.map_err(|_| "a service")?;
+    let mut actors = actors;
     let _house = actors.pop();
     let (worker, writer) = (last_new(&mut actors, 2)?, last_new(&mut actors, 1)?);
     let reader = last_new(&mut actors, 0)?;
-    let (mut ins, mut outs, _desk) = stage.ends::<S>(alloc, 1, 1)?;
-    let (Some(intake), Some(outlet)) = (ins.pop(), outs.pop()) else {
-        return Err("both ends".into());
-    };
-    let (source, sink) = link.split().map_err(|_| "both halves")?;
     refused.begin(heap);
     let read = reader_body(rt, alloc, &service, reader, 0, role, source, intake);
     let worked = worker_body(rt, &service, worker, 0, &NoGate, outlet);
@@ -127,13 +145,44 @@ where
     let receipts = [read.actor.receipts().len(), worked.actor.receipts().len()];
     let receipts = receipts[0].wrapping_add(receipts[1]);
     let receipts = receipts.wrapping_add(wrote.actor.receipts().len());
-    let ends = (read.end, worked.end, wrote.end);
-    Ok(match legal(&config, history) {
-        Legality::Legal if history.len() != receipts => Turn::Wrong,
-        Legality::Legal if has_refused => turn_after(ends, refused, hub.failed()),
-        Legality::Legal if are_done(ends, wrote.writer.bytes()) => Turn::Answered,
-        _ => Turn::Wrong,
+    Ok(Left {
+        is_whole: legal(&config, history) == Legality::Legal && history.len() == receipts,
+        ends: (read.end, worked.end, wrote.end),
+        writer: wrote.writer,
+        has_failed: hub.failed(),
+        has_refused,
     })
+}
+
+/// The bodies of one link in turn, with the ends of this stage and the actors of a service of their own.
+fn in_stage<A, C, L: Ledger, S: Site, Rd: LinkReader, W: LinkWriter, R: Wait>(
+    rt: &R,
+    heap: &Heap,
+    alloc: A,
+    blank: Blank,
+    stage: Stage<A>,
+    source: Rd,
+    sink: W,
+    refused: Refused,
+) -> Result<Left<W>, Fail>
+where
+    A: Allocator + Copy,
+    C: RouterCore<A> + Drop,
+    requires name { blank.name ≡ L.name }
+    requires parts { (blank.parts ≡ L.parts) × (blank.parts ≡ 4) }
+    requires stage { stage ≡ S.stage }
+    requires reader { IsNewReader (Rd.bytes_read source) (Rd.failures source) (Rd.pieces source) (Rd.has_ended source) }
+    requires writer { IsNewWriter (W.bytes_written sink) (W.failures sink) (W.is_stuck sink) (W.is_finished sink) }
+{
+    let made = Service::<C, L, A>::new(alloc, blank, &usual(100)?, &[Role::Accepting], 1);
+    let (service, actors) = made.map_err(|_| "a service")?;
+    let (mut ins, mut outs, _desk) = stage.ends::<S>(alloc, 1, 1)?;
+    let (Some(intake), Some(outlet)) = (ins.pop(), outs.pop()) else {
+        return Err("both ends".into());
+    };
+    in_turn(
+        rt, heap, alloc, service, actors, intake, outlet, source, sink, refused,
+    )
 }
 
 /// Calls the bodies of a link over a memory of its own.
@@ -148,9 +197,14 @@ impl<'a, A: Allocator + Copy, B: Allocator + Copy, C: RouterCore<A> + Drop, R: W
     for Bodies<'a, B, R, C> {
     fn turn(&self, heap: &Heap, alloc: A, refused: Refused) -> Result<Turn, Fail> {
         heap.refuse_none();
-        let (link, stage) = (one_ping(self.rich)?, Stage::new(alloc, 8)?);
-        let blank = Blank::new(4);
-        in_turn::<A, B, C, Brand, Brand, R>(self.rt, heap, alloc, link, blank, stage, refused)
+        let (blank, stage) = (Blank::new(4), Stage::new(alloc, 8)?);
+        let Ok((source, sink)) = one_ping(self.rich)?.split() else {
+            return Err("both halves".into());
+        };
+        let left = in_stage::<A, C, Brand, Brand, _, _, R>(
+            self.rt, heap, alloc, blank, stage, source, sink, refused,
+        )?;
+        Ok(left.turn(refused))
     }
 }
 
