@@ -89,7 +89,7 @@ struct Left<W> {
     has_refused: bool,
 }
 
-impl<B: Allocator> Left<MemoryWriter<B>> {
+impl<B: Allocator + Copy> Left<MemoryWriter<B>> {
     /// Where a growth was refused, it stopped a body, and with it the run; alone, it stopped no other.
     fn turn(self, refused: Refused) -> Turn {
         if !self.is_whole {

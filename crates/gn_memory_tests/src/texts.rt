@@ -5,10 +5,10 @@ use crate::steps::{are_same, read};
 use gn_capture::{Capture, HistorySteps, Line, open_history, read_capture, write_history};
 use gn_fixtures::{OWN, PING};
 use gn_growth::{Call, Failure, Heap, Refused, Turn, Turns, growths, turn_of};
-use gn_io::{ReaderSource, WriterSink};
-use gn_replay::{ReplayFault, audit, audit_explained, replay, replay_history};
+use gn_io::{ReaderSource, Sink, Source, WriterSink};
+use gn_replay::{Exit, ReplayFault, audit, audit_explained, replay, replay_history};
 use gn_router::TableRouter;
-use gn_rules::{Config, Numbers, Step};
+use gn_rules::{Config, Legality, Numbers, Step};
 use gn_text::{CaptureRefusal, NumberedLine, NumberedLines, fields_into, read_header};
 use std::alloc::Allocator;
 use std::test::Fail;
@@ -296,13 +296,43 @@ fn what_is_read_and_written(rt: HostRuntime) -> Result<(), Fail> {
     Ok(())
 }
 
-/// What goes from a source to a sink.
-#[derive(Clone, Copy, Debug)]
+/// What goes from a source to a sink. An audit has what it is to find.
+#[derive(Clone, Copy)]
 enum Command {
     Replay,
     ReplayHistory,
-    Audit,
-    AuditExplained,
+    Audit(Legality),
+    AuditExplained(Legality),
+}
+
+/// What a replay of the capture comes to.
+const FOUR_STEPS: Exit = Exit {
+    steps: 4,
+    refusals: 0,
+};
+
+impl Command {
+    /// Whether it answers what it is to answer.
+    fn obey<A: Allocator + Copy, S: Source, W: Sink>(
+        self,
+        alloc: A,
+        source: &mut S,
+        sink: &mut W,
+    ) -> Result<bool, ReplayFault> {
+        Ok(match self {
+            Command::Replay => replay::<A, TableRouter<A>, S, W>(alloc, source, sink)?
+                == FOUR_STEPS,
+            Command::ReplayHistory => {
+                replay_history::<A, TableRouter<A>, S, W>(alloc, source, sink)? == FOUR_STEPS
+            }
+            Command::Audit(wanted) => {
+                audit::<A, TableRouter<A>, S, W>(alloc, source, sink)? == wanted
+            }
+            Command::AuditExplained(wanted) => {
+                audit_explained::<A, TableRouter<A>, S, W>(alloc, source, sink)? == wanted
+            }
+        })
+    }
 }
 
 /// A command, what it reads and writes, and the growths that it meets where the sink has a memory of its own, and where it
@@ -312,12 +342,36 @@ type Row = (Command, &'static str, &'static str, u64, u64);
 const COMMANDS: [Row; 7] = [
     (Command::Replay, CAPTURE, PRINTED, 44, 45),
     (Command::ReplayHistory, CAPTURE, FIRST_PING, 50, 51),
-    (Command::Audit, FIRST_PING, "legal 4\n", 30, 31),
-    (Command::Audit, OTHER_TICKET, "wrong 2\n", 25, 26),
-    (Command::Audit, ONE_CONNECTION, "wrong 2\n", 34, 35),
-    (Command::Audit, ADMITTED_TWICE, "wrong 3\n", 26, 27),
     (
-        Command::AuditExplained,
+        Command::Audit(Legality::Legal),
+        FIRST_PING,
+        "legal 4\n",
+        30,
+        31,
+    ),
+    (
+        Command::Audit(Legality::WrongAt(2)),
+        OTHER_TICKET,
+        "wrong 2\n",
+        25,
+        26,
+    ),
+    (
+        Command::Audit(Legality::WrongAt(2)),
+        ONE_CONNECTION,
+        "wrong 2\n",
+        34,
+        35,
+    ),
+    (
+        Command::Audit(Legality::WrongAt(3)),
+        ADMITTED_TWICE,
+        "wrong 3\n",
+        26,
+        27,
+    ),
+    (
+        Command::AuditExplained(Legality::WrongAt(2)),
         OTHER_TICKET,
         "wrong 2\nline 6: 0 admit 1 a1a1a1a1a1a1a1a1a1a1a1a1a1a1a1a100070000000000 = admitted 1\nrules: admitted 0\n",
         29,
@@ -334,32 +388,6 @@ struct Obeys<B> {
     is_shared: bool,
 }
 
-impl<B: Allocator + Copy> Obeys<B> {
-    /// What the command answers, and what it wrote.
-    fn obey<A: Allocator + Copy>(&self, alloc: A) -> (Result<(), ReplayFault>, Vec<u8, B>) {
-        let (command, read, _, _, _) = self.row;
-        let mut source = ReaderSource::new(read.as_bytes());
-        let mut sink = WriterSink::new(Vec::new(self.sink));
-        let ended = match command {
-            Command::Replay => {
-                replay::<A, TableRouter<A>, _, _>(alloc, &mut source, &mut sink).map(|_| ())
-            }
-            Command::ReplayHistory => {
-                replay_history::<A, TableRouter<A>, _, _>(alloc, &mut source, &mut sink).map(|_| ())
-            }
-            Command::Audit => {
-                audit::<A, TableRouter<A>, _, _>(alloc, &mut source, &mut sink).map(|_| ())
-            }
-            Command::AuditExplained => {
-                audit_explained::<A, TableRouter<A>, _, _>(alloc, &mut source, &mut sink).map(
-                    |_| (),
-                )
-            }
-        };
-        (ended, sink.into_inner())
-    }
-}
-
 /// The allocator of a command, and what it wrote last.
 #[derive(Drop)]
 struct Output<A, B: Allocator> {
@@ -370,7 +398,7 @@ struct Output<A, B: Allocator> {
 impl<A: Allocator + Copy, B: Allocator + Copy> Call<A> for Obeys<B> {
     type Subject = Output<A, B>;
 
-    type Answer = ();
+    type Answer = bool;
 
     fn subject(&self, alloc: A) -> Result<Output<A, B>, Fail> {
         Ok(Output {
@@ -379,11 +407,14 @@ impl<A: Allocator + Copy, B: Allocator + Copy> Call<A> for Obeys<B> {
         })
     }
 
-    fn make(&self, output: &mut Output<A, B>) -> Result<(), Failure> {
-        let (ended, written) = self.obey(output.alloc);
-        output.written = written;
-        match ended {
-            Ok(()) => Ok(()),
+    fn make(&self, output: &mut Output<A, B>) -> Result<bool, Failure> {
+        let (command, read, _, _, _) = self.row;
+        let mut source = ReaderSource::new(read.as_bytes());
+        let mut sink = WriterSink::new(Vec::new(self.sink));
+        let answer = command.obey(output.alloc, &mut source, &mut sink);
+        output.written = sink.into_inner();
+        match answer {
+            Ok(is_answer) => Ok(is_answer),
             Err(ReplayFault::NoMemory) => Err(Failure::NoMemory),
             Err(ReplayFault::Write) if self.is_shared => Err(Failure::NoMemory),
             Err(_) => Err(Failure::Other),
@@ -395,8 +426,8 @@ impl<A: Allocator + Copy, B: Allocator + Copy> Call<A> for Obeys<B> {
         self.row.2.as_bytes().starts_with(output.written.as_slice())
     }
 
-    fn is_right(&self, output: &mut Output<A, B>, _answer: &()) -> bool {
-        output.written.as_slice() == self.row.2.as_bytes()
+    fn is_right(&self, output: &mut Output<A, B>, is_answer: &bool) -> bool {
+        *is_answer && output.written.as_slice() == self.row.2.as_bytes()
     }
 }
 
