@@ -1,4 +1,5 @@
-//! What many threads call, where each growth is refused in turn: the lock, the stage queue, and whole runs. Tests alone.
+//! Texts, the stage queue, what lies under the lock and the lock, and the bodies of a link, where each growth is refused in
+//! turn. Tests alone.
 #![tactic(auto)]
 
 #[cfg(test)]
@@ -6,8 +7,8 @@ mod bodies;
 #[cfg(test)]
 mod lock;
 #[cfg(test)]
-mod runs;
-#[cfg(test)]
-mod serves;
-#[cfg(test)]
 mod stage;
+#[cfg(test)]
+mod steps;
+#[cfg(test)]
+mod texts;

@@ -2,13 +2,14 @@
 
 ghost use Rattle.std.specs.Prelude.{◌≡◌};
 
+use crate::steps::are_same;
 use gn_capture::read_history;
 use gn_fixtures::{ping, usual};
 use gn_growth::{Heap, Refused, Turn, Turns, growths};
 use gn_payload::Checked;
 use gn_plain::PlainRouter;
 use gn_router::TableRouter;
-use gn_rules::{Event, Refusal, RouterCore, Step, is_same_event, is_same_reply, is_step_of};
+use gn_rules::{Event, Refusal, RouterCore, is_step_of};
 use gn_service::{Actor, Hub, Next, Role, Service, ServiceFault};
 use std::alloc::{Allocator, Global};
 use std::marker::{Brand, PhantomData};
@@ -171,12 +172,6 @@ fn turn_at<A: Allocator + Copy, L: Ledger, P: Place<L, A>>(
     Ok(turn)
 }
 
-fn is_same_step<A: Allocator>(step: &Step<A>, other: &Step<A>) -> bool {
-    step.actor == other.actor
-        && is_same_event(&step.event, &other.event)
-        && is_same_reply(&step.reply, &other.reply)
-}
-
 /// Whether the calls left their history, and each actor the receipts of its own steps.
 fn is_whole<A: Allocator + Copy, C: RouterCore<A>, L: Ledger>(
     alloc: A,
@@ -185,18 +180,18 @@ fn is_whole<A: Allocator + Copy, C: RouterCore<A>, L: Ledger>(
 ) -> Result<bool, Fail> {
     let (_, wanted) = read_history(alloc, HISTORY.as_bytes()).map_err(|_| "a history")?;
     let history = hub.router().history();
-    let is_same = history.len() == wanted.len()
-        && history
-            .iter()
-            .zip(&wanted)
-            .all(|(step, other)| is_same_step(step, other));
     let are_own = actors.iter().all(|me| {
         me.receipts().iter().all(|receipt| match wanted.get(receipt.index as usize) {
             Some(step) => is_step_of(step, me.number(), receipt),
             None => false,
         })
     });
-    Ok(is_same && are_own && receipts_of(actors) == wanted.len() && hub.book() == 5)
+    Ok(
+        are_same(history, wanted.as_slice())
+            && are_own
+            && receipts_of(actors) == wanted.len()
+            && hub.book() == 5,
+    )
 }
 
 /// Makes all calls at the lock.

@@ -18,5 +18,3 @@ mod rows;
 mod steps;
 #[cfg(test)]
 mod tables;
-#[cfg(test)]
-mod texts;

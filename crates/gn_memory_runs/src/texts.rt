@@ -1,8 +1,9 @@
 //! Texts: captures and histories, read, written, replayed and audited.
 
-use crate::histories::FIRST_PING;
-use crate::steps::{are_same, read};
-use gn_capture::{Capture, HistorySteps, Line, open_history, read_capture, write_history};
+use crate::steps::are_same;
+use gn_capture::{
+    Capture, HistorySteps, Line, open_history, read_capture, read_history, write_history,
+};
 use gn_fixtures::{OWN, PING};
 use gn_growth::{Call, Failure, Heap, Refused, Turn, Turns, growths, turn_of};
 use gn_io::{ReaderSource, Sink, Source, WriterSink};
@@ -27,6 +28,16 @@ const PRINTED: &str = "0 connect = connected 1\n\
 0 connect = connected 2\n\
 0 admit 1 a1a1a1a1a1a1a1a1a1a1a1a1a1a1a1a100070000000000 = admitted 0\n\
 0 route 0 = routed local 1+a1a1a1a1a1a1a1a1a1a1a1a1a1a1a1a10101000e000000ca187f0000010500000028000000 2+a1a1a1a1a1a1a1a1a1a1a1a1a1a1a1a100060100000000\n";
+
+/// Its history.
+const FIRST_PING: &str = "gnutella-history 1\n\
+config 4 8 4 8 8 100\n\
+own eeeeeeeeeeeeeeeeeeeeeeeeeeeeeeee 127.0.0.1 6346 5 40\n\
+0 connect = connected 1\n\
+0 connect = connected 2\n\
+0 admit 1 a1a1a1a1a1a1a1a1a1a1a1a1a1a1a1a100070000000000 = admitted 0\n\
+0 route 0 = routed local 1+a1a1a1a1a1a1a1a1a1a1a1a1a1a1a1a10101000e000000ca187f0000010500000028000000 2+a1a1a1a1a1a1a1a1a1a1a1a1a1a1a1a100060100000000\n\
+end\n";
 
 /// Its history with another ticket.
 const OTHER_TICKET: &str = "gnutella-history 1\n\
@@ -155,7 +166,7 @@ impl<A: Allocator + Copy> Call<A> for Handles {
     type Answer = Known<A>;
 
     fn subject(&self, alloc: A) -> Result<Writing<A>, Fail> {
-        let (config, steps) = read(alloc, FIRST_PING)?;
+        let (config, steps) = read_history(alloc, FIRST_PING.as_bytes())?;
         Ok(Writing {
             alloc,
             config,
@@ -182,7 +193,7 @@ impl<A: Allocator + Copy> Call<A> for Handles {
                 Ok(capture) => Ok(Known::Capture(capture)),
                 Err(refusal) => Err(failure(refusal)),
             },
-            Text::ReadHistory => match read(writing.alloc, FIRST_PING) {
+            Text::ReadHistory => match read_history(writing.alloc, FIRST_PING.as_bytes()) {
                 Ok((config, steps)) => Ok(Known::History(config, steps)),
                 Err(refusal) => Err(failure(refusal)),
             },
@@ -255,7 +266,7 @@ struct ReadsStep(usize);
 impl<A: Allocator + Copy> Turns<A> for ReadsStep {
     fn turn(&self, heap: &Heap, alloc: A, refused: Refused) -> Result<Turn, Fail> {
         heap.refuse_none();
-        let (_, wanted) = read(alloc, FIRST_PING)?;
+        let (_, wanted) = read_history(alloc, FIRST_PING.as_bytes())?;
         let (_, mut left) = open_history(alloc, FIRST_PING.as_bytes())?;
         for _ in 0..self.0 {
             left.next_step()?;
