@@ -1,0 +1,14 @@
+//! Texts, the stage queue, what lies under the lock and the lock, and the bodies of a link, where each growth is refused in
+//! turn. Tests alone.
+#![tactic(auto)]
+
+#[cfg(test)]
+mod bodies;
+#[cfg(test)]
+mod lock;
+#[cfg(test)]
+mod stage;
+#[cfg(test)]
+mod steps;
+#[cfg(test)]
+mod texts;
