@@ -1,0 +1,140 @@
+//! A run over the loopback, of two clients that call.
+
+use gn_fixtures::{PING, usual};
+use gn_growth::{Heap, Refused, Turn, Turns, refusals};
+use gn_links::NoGate;
+use gn_plain::legal;
+use gn_router::TableRouter;
+use gn_rules::{Legality, RouterCore};
+use gn_run::Report;
+use gn_serve::serve_on;
+use gn_stage::StageFault;
+use gn_tcp::{TcpReader, TcpWriter, listen};
+use gn_threads::RunFault;
+use std::alloc::Allocator;
+use std::io::{Read, Write};
+use std::marker::PhantomData;
+use std::net::{Net, Shutdown, SocketAddr, TcpListener, TcpStream};
+use std::sync::Wait;
+use std::test::Fail;
+use std::thread::Threads;
+use std::time::Duration;
+use std::{io, thread};
+
+type Served<A> = Result<Report<TcpReader, TcpWriter, A>, RunFault>;
+
+/// Serves two callers, and lets the listener go: a caller that still waits for it is refused then.
+fn serve<
+    A: Allocator + Copy + Send + Sync,
+    C: RouterCore<A> + Drop + Send,
+    R: Threads + Wait + Net<Listener = TcpListener, Stream = TcpStream> + Sync,
+>(rt: &R, alloc: A, listener: TcpListener) -> Served<A> {
+    let Ok(config) = usual(100) else {
+        return Err(RunFault::BadWorkers);
+    };
+    serve_on::<C, _, _, _>(rt, alloc, &listener, &config, 2, &[], None, 1, &NoGate)
+}
+
+/// Reads to the end of what a peer sends, at most for ten seconds each time: how many bytes came.
+fn hears_all(peer: &mut TcpStream) -> io::Result<usize> {
+    let mut heard = [0u8; 256];
+    let mut all = 0usize;
+    for _ in 0..256 {
+        match peer.read(&mut heard)? {
+            0 => break,
+            n => all = all.wrapping_add(n),
+        }
+    }
+    Ok(all)
+}
+
+/// Two clients, who both have called and sent the Ping before either waits for an answer. How many bytes both heard.
+fn two_clients<N: Net<Listener = TcpListener, Stream = TcpStream>>(
+    net: &N,
+    at: SocketAddr,
+) -> io::Result<usize> {
+    let mut first = TcpStream::connect(net, at)?;
+    let mut second = TcpStream::connect(net, at)?;
+    let limit = Some(Duration::from_secs(10));
+    first.set_read_timeout(limit)?;
+    second.set_read_timeout(limit)?;
+    for client in [&mut first, &mut second] {
+        client.write_all(gn_shake::request())?;
+        client.write_all(PING)?;
+        client.shutdown(Shutdown::Write)?;
+    }
+    Ok(hears_all(&mut first)?.wrapping_add(hears_all(&mut second)?))
+}
+
+/// Both clients and the run that serves them: what they heard, and what it answered.
+fn both_are_served<
+    A: Allocator + Copy + Send + Sync,
+    C: RouterCore<A> + Drop + Send,
+    R: Threads + Wait + Net<Listener = TcpListener, Stream = TcpStream> + Sync,
+>(rt: &R, alloc: A) -> Result<(Option<usize>, Served<A>), Fail> {
+    let listener = listen(rt, 0).map_err(|_| "a listener")?;
+    let at = listener.local_addr()?;
+    Ok(thread::join(
+        rt,
+        move || two_clients(rt, at).ok(),
+        move || serve::<A, C, R>(rt, alloc, listener),
+    ))
+}
+
+/// Serves both clients: out of memory, or a legal history. With memory to spare each hears the consent, the one whose Ping was
+/// first the own Pong, and the other the Ping where it was connected by then.
+#[derive(Drop)]
+struct Serves<'a, R, C> {
+    rt: &'a R,
+    core: PhantomData<C>,
+}
+
+impl<
+    'a,
+    A: Allocator + Copy + Send + Sync,
+    C: RouterCore<A> + Drop + Send,
+    R: Threads + Wait + Net<Listener = TcpListener, Stream = TcpStream> + Sync,
+> Turns<A> for Serves<'a, R, C> {
+    fn turn(&self, heap: &Heap, alloc: A, refused: Refused) -> Result<Turn, Fail> {
+        let config = usual(100)?;
+        refused.begin(heap);
+        let both = both_are_served::<A, C, R>(self.rt, alloc);
+        let has_refused = heap.has_refused();
+        heap.refuse_none();
+        let (heard, served) = both?;
+        Ok(match served {
+            Ok(report) if legal(&config, report.history.as_slice()) == Legality::Legal => {
+                match heard {
+                    _ if has_refused => Turn::Refused,
+                    Some(63 | 86) => Turn::Answered,
+                    _ => Turn::Wrong,
+                }
+            }
+            Err(RunFault::NoMemory | RunFault::Stage(StageFault::NoMemory)) if has_refused => {
+                Turn::Refused
+            }
+            _ => Turn::Wrong,
+        })
+    }
+}
+
+/// How many growths were refused, alone and with the later ones.
+fn refusals_of<
+    A: Allocator + Copy + Send + Sync,
+    C: RouterCore<A> + Drop + Send,
+    R: Threads + Wait + Net<Listener = TcpListener, Stream = TcpStream> + Sync,
+>(rt: &R, heap: &Heap, alloc: A) -> Result<(u64, u64), Fail> {
+    let serves: Serves<R, C> = Serves {
+        rt,
+        core: PhantomData,
+    };
+    refusals(heap, alloc, &serves)
+}
+
+#[test]
+fn serves_of_two_clients(rt: HostRuntime) -> Result<(), Fail> {
+    let heap = Heap::new(rt.alloc());
+    let (alone, with_later) = refusals_of::<_, TableRouter<_>, _>(&rt, &heap, &heap)?;
+    assert!(rt; alone > 60 && with_later > 60, "{alone} and {with_later}");
+    Ok(())
+}
