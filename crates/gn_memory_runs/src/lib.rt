@@ -15,4 +15,6 @@ mod stage;
 #[cfg(test)]
 mod steps;
 #[cfg(test)]
+mod sweep;
+#[cfg(test)]
 mod texts;

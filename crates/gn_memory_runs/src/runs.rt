@@ -1,8 +1,9 @@
 //! Runs of two links of one Ping each by one worker.
 
+use crate::sweep::{has_answered, refused_at};
 use gn_bodies::{ReaderEnd, WriterEnd};
 use gn_fixtures::{OWN, PING};
-use gn_growth::{Heap, Refused, Turn, Turns, refusals};
+use gn_growth::{Heap, Refused, Turn};
 use gn_io::{ReaderSource, WriterSink};
 use gn_links::{MemoryLink, NoGate};
 use gn_load::{LoadFault, load};
@@ -14,7 +15,6 @@ use gn_shake::Role;
 use gn_stage::StageFault;
 use gn_threads::{RunFault, run};
 use std::alloc::{AllocError, Allocator};
-use std::marker::PhantomData;
 use std::sync::Wait;
 use std::test::Fail;
 use std::thread::Threads;
@@ -71,40 +71,27 @@ fn run_refused<
     })
 }
 
-#[derive(Drop)]
-struct Runs<'a, R, C> {
-    rt: &'a R,
-    core: PhantomData<C>,
-}
-
-impl<
-    'a,
+/// How many growths of a run are refused, each alone or with all later ones, until a run meets none.
+fn growths_of_runs<
     A: Allocator + Copy + Send + Sync,
     C: RouterCore<A> + Drop + Send,
     R: Threads + Wait + Sync,
-> Turns<A> for Runs<'a, R, C> {
-    fn turn(&self, heap: &Heap, alloc: A, refused: Refused) -> Result<Turn, Fail> {
-        run_refused::<A, C, R>(self.rt, heap, alloc, refused)
+>(rt: &R, heap: &Heap, alloc: A, with_later: bool) -> Result<u64, Fail> {
+    for number in 0..10_000 {
+        let refused = refused_at(number, with_later);
+        let turn = run_refused::<A, C, R>(rt, heap, alloc, refused)?;
+        if has_answered(refused, turn)? {
+            return Ok(number);
+        }
     }
-}
-
-/// How many growths of a run were refused, alone and with the later ones.
-fn refusals_of<
-    A: Allocator + Copy + Send + Sync,
-    C: RouterCore<A> + Drop + Send,
-    R: Threads + Wait + Sync,
->(rt: &R, heap: &Heap, alloc: A) -> Result<(u64, u64), Fail> {
-    let runs: Runs<R, C> = Runs {
-        rt,
-        core: PhantomData,
-    };
-    refusals(heap, alloc, &runs)
+    Err("a run with no end of growths".into())
 }
 
 #[test]
 fn runs_of_two_links(rt: HostRuntime) -> Result<(), Fail> {
     let heap = Heap::new(rt.alloc());
-    let (alone, with_later) = refusals_of::<_, TableRouter<_>, _>(&rt, &heap, &heap)?;
+    let alone = growths_of_runs::<_, TableRouter<_>, _>(&rt, &heap, &heap, false)?;
+    let with_later = growths_of_runs::<_, TableRouter<_>, _>(&rt, &heap, &heap, true)?;
     assert!(rt; alone > 60 && with_later > 60, "{alone} and {with_later}");
     Ok(())
 }
@@ -155,71 +142,61 @@ join\n\
 data 1 a1a1a1a1a1a1a1a1a1a1a1a1a1a1a1a100070000000000\n\
 data 2 a2a2a2a2a2a2a2a2a2a2a2a2a2a2a2a200070000000000\n";
 
-/// Loads the capture, and writes to a memory of its own: out of memory and nothing written, or a history to its end.
-#[derive(Drop)]
-struct Loads<'a, R, C, B> {
-    rt: &'a R,
-    sink: B,
-    core: PhantomData<C>,
-}
-
-impl<
-    'a,
+/// Loads the capture, where these growths are refused, and writes to a memory of its own: out of memory and nothing written, or
+/// a history to its end.
+fn load_refused<
     A: Allocator + Copy + Send + Sync,
     B: Allocator + Copy,
     C: RouterCore<A> + Drop + Send,
     R: Threads + Wait + Sync,
-> Turns<A> for Loads<'a, R, C, B> {
-    fn turn(&self, heap: &Heap, alloc: A, refused: Refused) -> Result<Turn, Fail> {
-        let mut source = ReaderSource::new(CAPTURE.as_bytes());
-        let mut sink = WriterSink::new(Vec::new(self.sink));
-        refused.begin(heap);
-        let loaded = load::<A, C, R, _, _>(self.rt, alloc, 1, &mut source, &mut sink);
-        let has_refused = heap.has_refused();
-        heap.refuse_none();
-        let written = sink.into_inner();
-        Ok(match loaded {
-            Ok(()) if written.ends_with(b"\nend\n") => {
-                if has_refused {
-                    Turn::Refused
-                } else {
-                    Turn::Answered
-                }
+>(rt: &R, heap: &Heap, alloc: A, rich: B, refused: Refused) -> Turn {
+    let mut source = ReaderSource::new(CAPTURE.as_bytes());
+    let mut sink = WriterSink::new(Vec::new(rich));
+    refused.begin(heap);
+    let loaded = load::<A, C, R, _, _>(rt, alloc, 1, &mut source, &mut sink);
+    let has_refused = heap.has_refused();
+    heap.refuse_none();
+    let written = sink.into_inner();
+    match loaded {
+        Ok(()) if written.ends_with(b"\nend\n") => {
+            if has_refused {
+                Turn::Refused
+            } else {
+                Turn::Answered
             }
-            Err(
-                LoadFault::Text(ReplayFault::NoMemory)
-                | LoadFault::Run(RunFault::NoMemory)
-                | LoadFault::Run(RunFault::Stage(StageFault::NoMemory)),
-            ) if has_refused && written.is_empty() => Turn::Refused,
-            _ => Turn::Wrong,
-        })
+        }
+        Err(
+            LoadFault::Text(ReplayFault::NoMemory)
+            | LoadFault::Run(RunFault::NoMemory)
+            | LoadFault::Run(RunFault::Stage(StageFault::NoMemory)),
+        ) if has_refused && written.is_empty() => Turn::Refused,
+        _ => Turn::Wrong,
     }
 }
 
-/// How many growths of a load were refused, alone and with the later ones.
-fn refusals_of_load<
+/// How many growths of a load are refused, each alone or with all later ones, until a load meets none.
+fn growths_of_loads<
     A: Allocator + Copy + Send + Sync,
     B: Allocator + Copy,
     C: RouterCore<A> + Drop + Send,
     R: Threads + Wait + Sync,
->(rt: &R, heap: &Heap, alloc: A, sink: B) -> Result<(u64, u64), Fail> {
-    let loads: Loads<R, C, B> = Loads {
-        rt,
-        sink,
-        core: PhantomData,
-    };
-    refusals(heap, alloc, &loads)
+>(rt: &R, heap: &Heap, alloc: A, rich: B, with_later: bool) -> Result<u64, Fail> {
+    for number in 0..10_000 {
+        let refused = refused_at(number, with_later);
+        let turn = load_refused::<A, B, C, R>(rt, heap, alloc, rich, refused);
+        if has_answered(refused, turn)? {
+            return Ok(number);
+        }
+    }
+    Err("a load with no end of growths".into())
 }
 
 #[test]
 fn loads_of_two_links(rt: HostRuntime) -> Result<(), Fail> {
     let heap = Heap::new(rt.alloc());
-    let (alone, with_later) = refusals_of_load::<_, _, TableRouter<_>, _>(
-        &rt,
-        &heap,
-        &heap,
-        rt.alloc(),
-    )?;
+    let rich = rt.alloc();
+    let alone = growths_of_loads::<_, _, TableRouter<_>, _>(&rt, &heap, &heap, rich, false)?;
+    let with_later = growths_of_loads::<_, _, TableRouter<_>, _>(&rt, &heap, &heap, rich, true)?;
     assert!(rt; alone > 80 && with_later > 80, "{alone} and {with_later}");
     Ok(())
 }

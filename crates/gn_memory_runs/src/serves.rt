@@ -1,7 +1,8 @@
 //! A run over the loopback, of two clients that call.
 
+use crate::sweep::{has_answered, refused_at};
 use gn_fixtures::{PING, usual};
-use gn_growth::{Heap, Refused, Turn, Turns, refusals};
+use gn_growth::{Heap, Refused, Turn};
 use gn_links::NoGate;
 use gn_plain::legal;
 use gn_router::TableRouter;
@@ -13,7 +14,6 @@ use gn_tcp::{TcpReader, TcpWriter, listen};
 use gn_threads::RunFault;
 use std::alloc::Allocator;
 use std::io::{Read, Write};
-use std::marker::PhantomData;
 use std::net::{Net, Shutdown, SocketAddr, TcpListener, TcpStream};
 use std::sync::Wait;
 use std::test::Fail;
@@ -48,6 +48,13 @@ fn hears_all(peer: &mut TcpStream) -> io::Result<usize> {
     Ok(all)
 }
 
+/// Asks for the consent, and sends a Ping and nothing after it.
+fn say_all(client: &mut TcpStream) -> io::Result<()> {
+    client.write_all(gn_shake::request())?;
+    client.write_all(PING)?;
+    client.shutdown(Shutdown::Write)
+}
+
 /// Two clients, who both have called and sent the Ping before either waits for an answer. How many bytes both heard.
 fn two_clients<N: Net<Listener = TcpListener, Stream = TcpStream>>(
     net: &N,
@@ -58,11 +65,8 @@ fn two_clients<N: Net<Listener = TcpListener, Stream = TcpStream>>(
     let limit = Some(Duration::from_secs(10));
     first.set_read_timeout(limit)?;
     second.set_read_timeout(limit)?;
-    for client in [&mut first, &mut second] {
-        client.write_all(gn_shake::request())?;
-        client.write_all(PING)?;
-        client.shutdown(Shutdown::Write)?;
-    }
+    say_all(&mut first)?;
+    say_all(&mut second)?;
     Ok(hears_all(&mut first)?.wrapping_add(hears_all(&mut second)?))
 }
 
@@ -81,60 +85,53 @@ fn both_are_served<
     ))
 }
 
-/// Serves both clients: out of memory, or a legal history. With memory to spare each hears the consent, the one whose Ping was
-/// first the own Pong, and the other the Ping where it was connected by then.
-#[derive(Drop)]
-struct Serves<'a, R, C> {
-    rt: &'a R,
-    core: PhantomData<C>,
-}
-
-impl<
-    'a,
+/// Serves both clients, where these growths are refused: out of memory, or a legal history. With memory to spare each hears the
+/// consent, the one whose Ping was first the own Pong, and the other the Ping where it was connected by then.
+fn serve_refused<
     A: Allocator + Copy + Send + Sync,
     C: RouterCore<A> + Drop + Send,
     R: Threads + Wait + Net<Listener = TcpListener, Stream = TcpStream> + Sync,
-> Turns<A> for Serves<'a, R, C> {
-    fn turn(&self, heap: &Heap, alloc: A, refused: Refused) -> Result<Turn, Fail> {
-        let config = usual(100)?;
-        refused.begin(heap);
-        let both = both_are_served::<A, C, R>(self.rt, alloc);
-        let has_refused = heap.has_refused();
-        heap.refuse_none();
-        let (heard, served) = both?;
-        Ok(match served {
-            Ok(report) if legal(&config, report.history.as_slice()) == Legality::Legal => {
-                match heard {
-                    _ if has_refused => Turn::Refused,
-                    Some(63 | 86) => Turn::Answered,
-                    _ => Turn::Wrong,
-                }
-            }
-            Err(RunFault::NoMemory | RunFault::Stage(StageFault::NoMemory)) if has_refused => {
-                Turn::Refused
-            }
+>(rt: &R, heap: &Heap, alloc: A, refused: Refused) -> Result<Turn, Fail> {
+    let config = usual(100)?;
+    refused.begin(heap);
+    let both = both_are_served::<A, C, R>(rt, alloc);
+    let has_refused = heap.has_refused();
+    heap.refuse_none();
+    let (heard, served) = both?;
+    Ok(match served {
+        Ok(report) if legal(&config, report.history.as_slice()) == Legality::Legal => match heard {
+            _ if has_refused => Turn::Refused,
+            Some(63 | 86) => Turn::Answered,
             _ => Turn::Wrong,
-        })
-    }
+        },
+        Err(RunFault::NoMemory | RunFault::Stage(StageFault::NoMemory)) if has_refused => {
+            Turn::Refused
+        }
+        _ => Turn::Wrong,
+    })
 }
 
-/// How many growths were refused, alone and with the later ones.
-fn refusals_of<
+/// How many growths of a serve are refused, each alone or with all later ones, until a serve meets none.
+fn growths_of_serves<
     A: Allocator + Copy + Send + Sync,
     C: RouterCore<A> + Drop + Send,
     R: Threads + Wait + Net<Listener = TcpListener, Stream = TcpStream> + Sync,
->(rt: &R, heap: &Heap, alloc: A) -> Result<(u64, u64), Fail> {
-    let serves: Serves<R, C> = Serves {
-        rt,
-        core: PhantomData,
-    };
-    refusals(heap, alloc, &serves)
+>(rt: &R, heap: &Heap, alloc: A, with_later: bool) -> Result<u64, Fail> {
+    for number in 0..10_000 {
+        let refused = refused_at(number, with_later);
+        let turn = serve_refused::<A, C, R>(rt, heap, alloc, refused)?;
+        if has_answered(refused, turn)? {
+            return Ok(number);
+        }
+    }
+    Err("a serve with no end of growths".into())
 }
 
 #[test]
 fn serves_of_two_clients(rt: HostRuntime) -> Result<(), Fail> {
     let heap = Heap::new(rt.alloc());
-    let (alone, with_later) = refusals_of::<_, TableRouter<_>, _>(&rt, &heap, &heap)?;
+    let alone = growths_of_serves::<_, TableRouter<_>, _>(&rt, &heap, &heap, false)?;
+    let with_later = growths_of_serves::<_, TableRouter<_>, _>(&rt, &heap, &heap, true)?;
     assert!(rt; alone > 60 && with_later > 60, "{alone} and {with_later}");
     Ok(())
 }
