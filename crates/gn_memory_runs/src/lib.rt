@@ -1,5 +1,5 @@
-//! Texts, the stage queue, what lies under the lock and the lock, and the bodies of a link, where each growth is refused in
-//! turn. Tests alone.
+//! Texts, the stage queue, what lies under the lock and the lock, the bodies of a link, and whole runs, where each growth is
+//! refused in turn. Tests alone.
 #![tactic(auto)]
 
 #[cfg(test)]
@@ -7,8 +7,14 @@ mod bodies;
 #[cfg(test)]
 mod lock;
 #[cfg(test)]
+mod runs;
+#[cfg(test)]
+mod serves;
+#[cfg(test)]
 mod stage;
 #[cfg(test)]
 mod steps;
+#[cfg(test)]
+mod sweep;
 #[cfg(test)]
 mod texts;
