@@ -5,12 +5,18 @@ use Rattle.std.specs.Result.{is_ok}
 use Rattle.std.specs.Io.KnownBytes.{Appends}
 use Rattle.std.specs.declared.alloc.Global.{Global}
 use Rattle.gn_io.specs.Parts.{AppendsPart, LeavesToWrite}
+use Rattle.gn_io.specs.Streams.{NoWriteFailed, SinkState}
 use Rattle.gn_io.proofs.StreamLemmas.{leaves_after, leaves_all, leaves_none, leaves_part, leaves_rest}
 use Rattle.gn_rules.specs.declared.receipt.Step.{Step}
+use Rattle.gn_text.specs.Faults.{IsRefused}
 use Rattle.gn_text.specs.declared.fault.CaptureFault.{CaptureFault}
+use Rattle.gn_text.specs.declared.fault.CaptureRefusal.{CaptureRefusal}
+use Rattle.gn_text.specs.declared.fault.CaptureRefusal.TheVariants as refusal
 use Rattle.gn_text.specs.Parsed.{Numbered}
 use Rattle.gn_capture.specs.Histories.{IsNextOf, map_result, steps_left}
 use Rattle.gn_capture.proofs.StepsLemmas.{known, one_known}
+use Rattle.gn_replay.specs.Faults.{of_refusal}
+use Rattle.gn_replay.specs.Runs.{IsPlayFault}
 use Rattle.gn_show.specs.declared.form.Form.{Form}
 use Rattle.gn_show.specs.Shown.{AppendsLines, AppendsLinesPart, line_of, lines_from}
 use Rattle.gn_show.proofs.CountLemmas.{all_known, none_known}
@@ -97,6 +103,15 @@ module _ (form : Form) (first mid : Option (List ℕ)) (waited : List ℕ) (inde
   -- it stopped before the next line
   pub showing_kept : IsOk all → AppendsLinesPart form all first mid
   showing_kept ok = part_of mid showing.made (steps_left old) showing.known ok (waited, showing.leaves)
+
+  -- where all has a reading, what is left is refused only as memory ran out
+  pub only_memory : (refusal : CaptureRefusal) (sink sink_new : SinkState) → IsOk all → IsRefused refusal (steps_left {A = Global} old) → NoWriteFailed sink sink_new
+      → IsPlayFault (of_refusal refusal) sink sink_new
+  only_memory refusal.NoMemory sink sink_new ok refused unfailed = unfailed
+  only_memory (refusal.Fault fault) sink sink_new ok refused unfailed =
+      let lost : all ≡ Err fault = sym showing.known ∙ ap (map_result (λ more. showing.made ++ more)) refused in
+      let bad : false ≡ true = subst (λ (r : Result (List (Step Global)) CaptureFault). is_ok r ≡ true) lost ok in
+      absurd (true≢false (sym bad))
 
   -- what waited was written in part
   pub showing_cut : (last : Option (List ℕ)) → IsOk all → AppendsPart mid last waited → AppendsLinesPart form all first last

@@ -2,11 +2,12 @@
 use Rattle.std.proofs.Common.{◌≡◌, ◌≤◌, ◌∙◌, ◌⊎◌, inl, inr, ℕ, List, length, refl, sym, ap, subst, arith, true≢false, Bool, true, false, Option, Some, Result, Ok, Err}
 use Rattle.std.specs.Prelude.{IfErr, IfOk, IsOk, OnErr, OnOk}
 use Rattle.std.specs.Result.{is_ok}
+use Rattle.std.proofs.KnownBytes.{Keeps-refl}
 use Rattle.std.specs.Io.KnownBytes.{Appends, Keeps}
 use Rattle.std.specs.declared.alloc.Global.{Global}
 use Rattle.gn_io.specs.Input.{input_limit}
 use Rattle.gn_io.specs.Parts.{AppendsPart}
-use Rattle.gn_io.specs.Streams.{SinkState, streams}
+use Rattle.gn_io.specs.Streams.{NoWriteFailed, SinkState, streams}
 use Rattle.gn_io.proofs.StreamLemmas.{leaves_all}
 use Rattle.gn_rules.specs.declared.config.Own.{Own}
 use Rattle.gn_rules.specs.declared.receipt.Step.{Step}
@@ -14,11 +15,12 @@ use Rattle.gn_rules.specs.declared.statistics.Stats.{Stats}
 use Rattle.gn_text.specs.Faults.{IsRefused}
 use Rattle.gn_text.specs.declared.fault.CaptureFault.{CaptureFault}
 use Rattle.gn_text.specs.declared.fault.CaptureRefusal.{CaptureRefusal}
+use Rattle.gn_text.specs.declared.fault.CaptureRefusal.TheVariants as refusal
 use Rattle.gn_text.specs.Settings.{Numbers}
 use Rattle.gn_text.specs.Statistics.{stats_text}
 use Rattle.gn_capture.specs.Histories.{history_of, map_result}
 use Rattle.gn_capture.proofs.HistoryLemmas.{history_read, left_refused}
-use Rattle.gn_replay.specs.Faults.{IsReplayFault, input_of}
+use Rattle.gn_replay.specs.Faults.{IsReplayFault, input_of, of_refusal}
 use Rattle.gn_replay.specs.Runs.{IsPlayFault}
 use Rattle.gn_replay.specs.declared.fault.ReplayFault.{ReplayFault}
 use Rattle.gn_replay.specs.declared.fault.ReplayFault.TheVariants as fault
@@ -115,6 +117,24 @@ pub text_fault : {T : Type 0} (text : List ℕ) (r : Result T ReplayFault) (sink
     → IfErr r (λ f. IsPlayFault f sink sink_new) → IfErr r (λ f. IsReplayFault f (history_of {A = Global}) (streams (input_of text) (input_of text) sink sink_new))
 text_fault text (Ok x) sink sink_new short ok cause = tt
 text_fault text (Err f) sink sink_new short ok cause = fault_so f text sink sink_new short ok cause
+
+-- where a text was refused nothing was written
+pub refused_stopped : (view : View) (refusal : CaptureRefusal) (text : List ℕ) (old : Option (List ℕ)) → HasShowStopped view (of_refusal refusal) (Some text) old old
+refused_stopped view refusal.NoMemory text old = inl (Keeps-refl old)
+refused_stopped view (refusal.Fault f) text old = Keeps-refl old
+
+pub refused_fault : (refusal : CaptureRefusal) (text : List ℕ) (sink sink_new : SinkState) → length text ≤ input_limit → IsRefused refusal (history_of {A = Global} text)
+    → IsReplayFault (of_refusal refusal) (history_of {A = Global}) (streams (input_of text) (input_of text) sink sink_new)
+refused_fault refusal.NoMemory text sink sink_new short refused = tt
+refused_fault (refusal.Fault f) text sink sink_new short refused = (short, refused)
+
+-- a text that is a history is refused only as memory ran out
+pub only_memory : (refusal : CaptureRefusal) (text : List ℕ) (sink sink_new : SinkState) → IsOk (history_of {A = Global} text) → IsRefused refusal (history_of {A = Global} text)
+    → NoWriteFailed sink sink_new → IsPlayFault (of_refusal refusal) sink sink_new
+only_memory refusal.NoMemory text sink sink_new ok refused unfailed = unfailed
+only_memory (refusal.Fault f) text sink sink_new ok refused unfailed =
+    let bad : false ≡ true = subst (λ (r : Result ((Numbers × Own) × List (Step Global)) CaptureFault). is_ok r ≡ true) refused ok in
+    absurd (true≢false (sym bad))
 
 -- the counters of what was left, or its refusal, are those of the text
 pub text_counted : (text : List ℕ) (settings : Numbers × Own) (left : Result (List (Step Global)) CaptureFault) (r : Result Stats CaptureRefusal)

@@ -6,8 +6,8 @@ use Rattle.gn_show.proofs.steps.write_steps.Given as goal
 
 abbrev pub invariant-loop-block : goal.invariant-loop-block
 invariant-loop-block g l = record {
-  showing = IsShowing l.form (g.W.Sink.state l.fn.sink).written (g.W.Sink.state l.sink).written l.block l.index l.steps (steps_left l.fn.steps);
-  writes = NoWriteFailed (g.W.Sink.state l.fn.sink) (g.W.Sink.state l.sink);
+  showing : IsShowing l.form (g.W.Sink.state l.fn.sink).written (g.W.Sink.state l.sink).written l.block l.index l.steps (steps_left l.fn.steps);
+  writes : NoWriteFailed (g.W.Sink.state l.fn.sink) (g.W.Sink.state l.sink);
 }
 
 abbrev pub decreases-loop-block : goal.decreases-loop-block
