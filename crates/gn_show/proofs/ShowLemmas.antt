@@ -1,6 +1,6 @@
 -- What is shown of a text that is a history.
 use Rattle.std.proofs.Common.{◌≡◌, ◌≤◌, ◌∙◌, ◌⊎◌, inl, inr, ℕ, List, length, refl, sym, ap, subst, arith, true≢false, Bool, true, false, Option, Some, Result, Ok, Err}
-use Rattle.std.specs.Prelude.{IfErr, IfOk, IsOk, OnErr, OnOk}
+use Rattle.std.specs.Prelude.{IfErr, IfOk, IsErrAnd, IsOk, OnErr, OnOk}
 use Rattle.std.specs.Result.{is_ok}
 use Rattle.std.proofs.KnownBytes.{Keeps-refl}
 use Rattle.std.specs.Io.KnownBytes.{Appends, Keeps}
@@ -106,6 +106,11 @@ err_so (Err e) so p = so p
 pub if_err_so : {T E : Type 0} {P Q : E → Type 0} (r : Result T E) → ((e : E) → P e → Q e) → IfErr r P → IfErr r Q
 if_err_so (Ok x) so p = tt
 if_err_so (Err e) so p = so e p
+
+-- what holds of the fault that an error is
+pub fault_is : {T : Type 0} (P : ReplayFault → Type 0) (r : Result T ReplayFault) (f : ReplayFault) → IsErrAnd r (λ e. e ≡ f) → P f → IfErr r P
+fault_is P (Ok x) f is p = tt
+fault_is P (Err e) f is p = subst P (sym is) p
 
 -- where showing a text stopped, by what was written of it
 pub text_stopped : {T : Type 0} (view : View) (text : List ℕ) (r : Result T ReplayFault) (sink sink_new : SinkState) (old new : Option (List ℕ))
