@@ -19,3 +19,6 @@ returns-in_err-stats-clause-fault g c =
     fault_is (λ fault. IsReplayFault fault (history_of {A = Global}) (streams (input_of c.args.text.now) (input_of c.args.text.now) sink sink)) c.from_residual.result
     (of_refusal c.in_err-stats.field-0.0) c.from_residual.ensures.1
     (refused_fault c.in_err-stats.field-0.0 c.args.text.now sink sink c.requires c.in_err-stats.ensures.refused)
+
+pub write_text-requires : goal.write_text-requires
+write_text-requires g c = counted_ok c.in_ok-stats.stats c.args.text.now c.in_ok-stats.ensures.counted
