@@ -41,12 +41,12 @@ left_ok text settings (Err fault) opened ok =
 pub lines_shown : (form : Form) (text : List ℕ) (settings : Numbers × Own) (left : Result (List (Step Global)) CaptureFault) (old new : Option (List ℕ))
     → history_of text ≡ map_result (λ steps. (settings, steps)) left → AppendsLines form left old new → AppendsShown (Steps form) text old new
 lines_shown form text settings left old new opened lines =
-    (shown (Steps form) lines.0, record { settings = settings; steps = lines.0; parsed = history_read text settings left lines.0 opened lines.1.0; shown = refl }, lines.1.1)
+    (shown (Steps form) lines.0, record { settings = settings; steps = lines.0; parsed = history_read text settings left lines.0 opened lines.1; shown = refl }, lines.2)
 
 pub lines_shown_part : (form : Form) (text : List ℕ) (settings : Numbers × Own) (left : Result (List (Step Global)) CaptureFault) (old new : Option (List ℕ))
     → history_of text ≡ map_result (λ steps. (settings, steps)) left → AppendsLinesPart form left old new → AppendsShownPart (Steps form) text old new
 lines_shown_part form text settings left old new opened lines =
-    (shown (Steps form) lines.0, record { settings = settings; steps = lines.0; parsed = history_read text settings left lines.0 opened lines.1.0; shown = refl }, lines.1.1)
+    (shown (Steps form) lines.0, record { settings = settings; steps = lines.0; parsed = history_read text settings left lines.0 opened lines.1; shown = refl }, lines.2)
 
 -- nothing was written yet
 none_by : (view : View) (text : List ℕ) (old : Option (List ℕ)) (r : Result ((Numbers × Own) × List (Step Global)) CaptureFault) → history_of text ≡ r → IsOk r → AppendsShownPart view text old old
@@ -60,16 +60,16 @@ none_shown view text old ok = none_by view text old (history_of text) refl ok
 
 -- what was counted is a history
 pub counted_ok : (stats : Stats) (text : List ℕ) → IsCounted stats text → IsOk (history_of {A = Global} text)
-counted_ok stats text counted = subst (λ (r : Result ((Numbers × Own) × List (Step Global)) CaptureFault). IsOk r) (sym counted.1.1.0) refl
+counted_ok stats text counted = subst (λ (r : Result ((Numbers × Own) × List (Step Global)) CaptureFault). IsOk r) (sym counted.2) refl
 
 -- the counters of what was left are those of the text
 pub left_counted : (stats : Stats) (text : List ℕ) (settings : Numbers × Own) (left : Result (List (Step Global)) CaptureFault)
     → history_of text ≡ map_result (λ steps. (settings, steps)) left → AreCounted stats left → IsCounted stats text
-left_counted stats text settings left opened counted = (settings, counted.0, history_read text settings left counted.0 opened counted.1.0, counted.1.1)
+left_counted stats text settings left opened counted = (settings, counted.0, history_read text settings left counted.0 opened counted.1, counted.2)
 
 -- the line of the counters
 stats_is : (stats : Stats) (text : List ℕ) → IsCounted stats text → IsShown Counters text (stats_text stats)
-stats_is stats text counted = record { settings = counted.0; steps = counted.1.0; parsed = counted.1.1.0; shown = ap stats_text counted.1.1.1 }
+stats_is stats text counted = record { settings = counted.0; steps = counted.1; parsed = counted.2; shown = ap stats_text counted.3 }
 
 pub stats_shown : (stats : Stats) (text : List ℕ) (old new : Option (List ℕ)) → IsCounted stats text → Appends old new (stats_text stats) → AppendsShown Counters text old new
 stats_shown stats text old new counted appends = (stats_text stats, stats_is stats text counted, appends)
