@@ -181,7 +181,6 @@ fn output_fails(rt: HostRuntime) {
     for (words, input) in [
         (["gn", "replay"], JOINED),
         (["gn", "audit"], SERVED),
-        (["gn", "show"], SERVED),
         (["gn", "--help"], ""),
     ] {
         let (status, _, faults) = answer(&rt, &words, input.as_bytes(), Broken);
