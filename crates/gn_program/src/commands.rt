@@ -7,7 +7,7 @@ ghost use Rattle.clap.specs.Kinds.{IsAmong};
 ghost use Rattle.clap.specs.Words.{kind_of};
 ghost use Rattle.clap.specs.declared.error.kind.ErrorKind.{ErrorKind as Kind};
 ghost use Rattle.clap.specs.declared.error.kind.ErrorKind.TheVariants.{OutOfMemory};
-ghost use Rattle.gn_program.specs.Commands.{Does, IsTurnedAway, IsUnread, audit_status, load_status, replay_status, serve_status};
+ghost use Rattle.gn_program.specs.Commands.{Does, IsTurnedAway, IsUnread, audit_status, load_status, replay_status, serve_status, show_status};
 ghost use Rattle.gn_io.specs.Streams.{streams};
 ghost use Rattle.gn_program.specs.Words.{kinds_of, request_of};
 ghost use Rattle.gn_program.specs.declared.request.Request.{Request as Asked};
@@ -26,6 +26,7 @@ use gn_replay::{Exit, ReplayFault, audit, audit_explained, replay, replay_histor
 use gn_router::TableRouter;
 use gn_rules::Legality;
 use gn_serve::ServeFault;
+use gn_show::show;
 use std::alloc::Global;
 use std::convert::AsStr;
 use std::io;
@@ -67,6 +68,16 @@ fn end_audit<F: Sink>(faults: &mut F, answer: Result<Legality, ReplayFault>) -> 
     match answer {
         Ok(Legality::Legal) => DONE,
         Ok(Legality::WrongAt(_)) => FAULT,
+        Err(fault) => write_fault(faults, Fault::from(fault)),
+    }
+}
+
+/// The status after a history was shown, whose fault is written.
+fn end_show<F: Sink>(faults: &mut F, answer: Result<(), ReplayFault>) -> u8
+    ensures { result ≡ show_status answer }
+{
+    match answer {
+        Ok(()) => DONE,
         Err(fault) => write_fault(faults, Fault::from(fault)),
     }
 }
@@ -121,6 +132,10 @@ fn obey<
                 alloc, reader, writer,
             );
             end_audit(faults, answer)
+        }
+        Request::Show(view) => {
+            let answer = show(alloc, view, reader, writer);
+            end_show(faults, answer)
         }
         Request::Load(workers) => {
             let answer = load::<Global, TableRouter, R, S, W>(rt, alloc, workers, reader, writer);

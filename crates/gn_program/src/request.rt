@@ -1,5 +1,6 @@
 //! What a command line asks for.
 
+use gn_show::View;
 use gn_wire::Guid;
 use std::marker::Model;
 
@@ -14,6 +15,8 @@ pub enum Request {
     Audit,
     /// A history is audited, and its first wrong step explained.
     Explain,
+    /// A history is shown: its steps, or its counters.
+    Show(View),
     /// The links of a capture are run by so many workers, 1 to 16, and the history of the router is written.
     Load(u32),
     /// A router is run over TCP, and its history is written.
