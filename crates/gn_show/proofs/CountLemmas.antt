@@ -11,7 +11,7 @@ use Rattle.gn_rules.specs.Statistics.{count_in, counter_of, is_same_counter, no_
 use Rattle.gn_rules.proofs.CounterLemmas.{counters_count}
 use Rattle.gn_text.specs.declared.fault.CaptureFault.{CaptureFault}
 use Rattle.gn_text.specs.Parsed.{Numbered}
-use Rattle.gn_text.specs.Settings.{Numbers}
+use Rattle.gn_rules.specs.declared.limits.Numbers.{Numbers}
 use Rattle.gn_rules.specs.declared.config.Own.{Own}
 use Rattle.gn_capture.specs.Histories.{IsNextOf, history_of, map_result, steps_left}
 use Rattle.gn_capture.proofs.HistoryLemmas.{history_read}

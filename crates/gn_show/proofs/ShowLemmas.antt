@@ -16,7 +16,7 @@ use Rattle.gn_text.specs.Faults.{IsRefused}
 use Rattle.gn_text.specs.declared.fault.CaptureFault.{CaptureFault}
 use Rattle.gn_text.specs.declared.fault.CaptureRefusal.{CaptureRefusal}
 use Rattle.gn_text.specs.declared.fault.CaptureRefusal.TheVariants as refusal
-use Rattle.gn_text.specs.Settings.{Numbers}
+use Rattle.gn_rules.specs.declared.limits.Numbers.{Numbers}
 use Rattle.gn_text.specs.Statistics.{stats_text}
 use Rattle.gn_capture.specs.Histories.{history_of, map_result}
 use Rattle.gn_capture.proofs.HistoryLemmas.{history_read, left_refused}

@@ -7,7 +7,7 @@ use Rattle.gn_rules.specs.Statistics.{stats_of}
 use Rattle.gn_rules.specs.declared.config.Own.{Own}
 use Rattle.gn_rules.specs.declared.receipt.Step.{Step}
 use Rattle.gn_rules.specs.declared.statistics.Stats.{Stats}
-use Rattle.gn_text.specs.Settings.{Numbers}
+use Rattle.gn_rules.specs.declared.limits.Numbers.{Numbers}
 use Rattle.gn_text.specs.Statistics.{stats_text}
 use Rattle.gn_text.specs.declared.fault.CaptureFault.{CaptureFault}
 use Rattle.gn_capture.specs.Histories.{history_of}

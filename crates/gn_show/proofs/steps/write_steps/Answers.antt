@@ -71,3 +71,9 @@ returns-in_err-write_rest-clause-err g c =
     on_err c.from_residual-in_err-write_rest.result
     (showing_cut c.args.form (g.W.Sink.state c.args.sink.now).written (g.W.Sink.state c.loop-block.sink).written c.loop-block.block c.loop-block.index c.loop-block.steps
     (steps_left c.args.steps.now) c.loop-block.invariant.showing (g.W.Sink.state c.write_rest.new.sink).written c.requires c.in_err-write_rest.ensures.err)
+
+pub returns-clause-ok : goal.returns-clause-ok
+returns-clause-ok g c =
+    let none = subst (λ found. IsNextOf (Ok found) (steps_left c.loop-block.steps) (steps_left c.next_step.new.self)) c.in_default.is c.in_ok-step.ensures.next in
+    showing_all c.args.form (g.W.Sink.state c.args.sink.now).written (g.W.Sink.state c.loop-block.sink).written c.loop-block.block c.loop-block.index c.loop-block.steps
+    (steps_left c.args.steps.now) c.loop-block.invariant.showing (g.W.Sink.state c.write_rest.new.sink).written none c.in_ok-write_rest.ensures.ok
