@@ -28,11 +28,14 @@ lines_both form index (step ∷ made) more =
     ap (λ (xs : List ℕ). line_of form index step ++ xs) (lines_both form (index + 1) made more ∙ ap (λ (n : ℕ). lines_from form (index + 1) made ++ lines_from form n more) (omega arith))
     ∙ sym (append_assoc (line_of form index step) (lines_from form (index + 1) made) _)
 
+-- an index that counts from 0
+none_before : (n : ℕ) → 0 + n ≡ n
+none_before n = omega arith
+
 -- one line more
 lines_more : (form : Form) (made : List (Step Global)) (step : Step Global) → lines_from form 0 (made ++ step ∷ []) ≡ lines_from form 0 made ++ line_of form (length made) step
 lines_more form made step =
-    let same : 0 + length made ≡ length made = omega arith in
-    lines_both form 0 made (step ∷ []) ∙ ap (λ (n : ℕ). lines_from form 0 made ++ lines_from form n (step ∷ [])) same
+    lines_both form 0 made (step ∷ []) ∙ ap (λ (n : ℕ). lines_from form 0 made ++ lines_from form n (step ∷ [])) (none_before (length made))
     ∙ ap (λ (xs : List ℕ). lines_from form 0 made ++ xs) (append-nil (line_of form (length made) step))
 
 -- steps stand before what is left, with it they are all, and of their lines all was written but what waits
@@ -92,7 +95,8 @@ module _ (form : Form) (first mid : Option (List ℕ)) (waited : List ℕ) (inde
       (
         part.1.0,
         part.1.1,
-        sym (append_assoc part.1.0 part.0 _) ∙ ap (λ (xs : List ℕ). xs ++ lines_from form (length made) more) part.1.2 ∙ sym (lines_both form 0 made more),
+        sym (append_assoc part.1.0 part.0 _) ∙ ap (λ (xs : List ℕ). xs ++ lines_from form (length made) more) part.1.2
+            ∙ sym (lines_both form 0 made more ∙ ap (λ (n : ℕ). lines_from form 0 made ++ lines_from form n more) (none_before (length made))),
       ),
     ),
   )

@@ -34,6 +34,7 @@ fn count_steps(steps: &mut HistorySteps) -> Result<Stats, CaptureRefusal>
     while let Some(step) = steps.next_step()? {
         index = next_index(index)?;
         stats.raise(Counter::of(&step.reply));
+        drop(step);
     }
     Ok(stats)
 }

@@ -63,6 +63,7 @@ fn write_steps<W: Sink>(
         let line = line_of(alloc, form, index, &step)?;
         write_step(&line, &mut block, sink)?;
         index = next_index(index)?;
+        drop(step);
     }
     block.write_rest(sink)?;
     Ok(())
