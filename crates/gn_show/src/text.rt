@@ -1,6 +1,6 @@
 //! Texts of payloads, and the names that stand in lines.
 
-ghost use Rattle.std.specs.Prelude.{◌≡◌, true, false, string_bytes, IfOk, MatchOption};
+ghost use Rattle.std.specs.Prelude.{◌≡◌, ◌++◌, true, false, decimal, string_bytes, IfOk, MatchOption, OnOk};
 ghost use Rattle.std.specs.Str.{is_utf8};
 ghost use Rattle.gn_text.specs.Addresses.{ip_text};
 ghost use Rattle.gn_text.specs.Steps.{reason_text};
@@ -8,6 +8,7 @@ ghost use Rattle.gn_show.specs.Words.{kind_name};
 
 use gn_rules::DropReason;
 use gn_wire::Kind;
+use itoa::Buffer;
 use std::alloc::{AllocError, Global};
 use std::str;
 
@@ -20,12 +21,28 @@ pub(crate) fn utf8(bytes: &[u8]) -> Option<&str>
     str::from_utf8(bytes).ok()
 }
 
+/// Appends a word and then a number in decimal digits.
+#[tactic(auto, using(std::proofs::Common::append_assoc))]
+fn push_part(text: &mut String, word: &str, number: u8) -> Result<(), AllocError>
+    ensures { OnOk result (string_bytes text.new ≡ string_bytes text.old ++ word.now ++ decimal number) }
+{
+    let mut buffer = Buffer::new();
+    text.push_str(word)?;
+    text.push_str(buffer.format(number))
+}
+
 /// An address in dotted decimal.
+#[tactic(auto, using(std::proofs::Common::append_assoc))]
 pub(crate) fn dotted(alloc: Global, ip: [u8; 4]) -> Result<String, AllocError>
     ensures { IfOk result (λ text. string_bytes text ≡ ip_text ip) }
 {
     let [a, b, c, d] = ip;
-    format!(in alloc; "{a}.{b}.{c}.{d}")
+    let mut text = String::new(alloc);
+    push_part(&mut text, "", a)?;
+    push_part(&mut text, ".", b)?;
+    push_part(&mut text, ".", c)?;
+    push_part(&mut text, ".", d)?;
+    Ok(text)
 }
 
 /// The name of a kind in JSON.
