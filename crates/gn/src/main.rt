@@ -1,11 +1,15 @@
 //! The program `gn`: its command line, with the standard streams.
 #![tactic(auto)]
 
+mod unfreed;
+
 use gn_io::{ReaderSource, WriterSink};
-use gn_program::{command, refuse_words};
+use gn_program::{command_with, refuse_words};
+use gn_router::TableRouter;
 use std::env::Env;
 use std::process::ExitCode;
 use std::{env, io};
+use unfreed::Unfreed;
 
 fn words_of<R: Env + AllocGlobal>(rt: &R) -> io::Result<Vec<String>> {
     Ok(env::args(rt)?.collect(rt.alloc())?)
@@ -16,7 +20,7 @@ fn main(rt: HostRuntime) -> ExitCode {
     let mut writer = WriterSink::new(rt.stdout());
     let mut faults = WriterSink::new(rt.stderr());
     let status = match words_of(&rt) {
-        Ok(words) => command(
+        Ok(words) => command_with::<Unfreed<TableRouter>, _, _, _, _, _>(
             &rt,
             rt.alloc(),
             words.as_slice(),

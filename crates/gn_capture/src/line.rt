@@ -45,7 +45,7 @@ impl<A: Allocator> Model for PieceBytes<A> {
 
 impl<A: Allocator> PieceBytes<A> {
     /// These bytes. An `Err` is out of memory.
-    pub(crate) fn of(alloc: A, bytes: Vec<u8, A>) -> Result<Self, AllocError>
+    pub fn of(alloc: A, bytes: Vec<u8, A>) -> Result<Self, AllocError>
         ensures { IfOk result (λ p. p ≡ bytes.items) }
     {
         let bytes = Box::new(alloc, bytes)?;
@@ -75,8 +75,8 @@ impl<A: Allocator> Model for LocalRequest<A> {
 }
 
 impl<A: Allocator> LocalRequest<A> {
-    /// This descriptor. An `Err` is out of memory.
-    pub(crate) fn of(alloc: A, descriptor: Descriptor<A>) -> Result<Self, AllocError>
+    /// This descriptor. A router refuses one that the local servent may not send. An `Err` is out of memory.
+    pub fn of(alloc: A, descriptor: Descriptor<A>) -> Result<Self, AllocError>
         ensures { IfOk result (λ r. r ≡ descriptor) }
     {
         let descriptor = Box::new(alloc, descriptor)?;

@@ -1,4 +1,5 @@
 pub mod Commands
+pub mod FaultTexts
 pub mod Options
 pub mod Serving
 pub mod Words

@@ -16,7 +16,6 @@ use crate::fault::Fault;
 use crate::request::Request;
 use crate::serves::serve;
 use crate::text::write_text;
-use crate::unfreed::Unfreed;
 use crate::words::read_words;
 use clap::Error;
 use clap::error::ErrorKind;
@@ -24,7 +23,7 @@ use gn_io::{Sink, Source};
 use gn_load::{LoadFault, load};
 use gn_replay::{Exit, ReplayFault, audit, audit_explained, replay, replay_history};
 use gn_router::TableRouter;
-use gn_rules::Legality;
+use gn_rules::{Legality, RouterCore};
 use gn_serve::ServeFault;
 use gn_show::show;
 use std::alloc::Global;
@@ -104,6 +103,7 @@ fn end_serve<F: Sink>(faults: &mut F, answer: Result<(), ServeFault>) -> u8
 
 /// Does what is asked for, and gives the status.
 fn obey<
+    C: RouterCore<Global> + Drop,
     R: Threads + Wait + Net<Listener = TcpListener, Stream = TcpStream> + Sync,
     S: Source,
     W: Sink,
@@ -114,23 +114,19 @@ fn obey<
 {
     match request {
         Request::Replay => {
-            let answer = replay::<Global, Unfreed<TableRouter>, S, W>(alloc, reader, writer);
+            let answer = replay::<Global, C, S, W>(alloc, reader, writer);
             end_replay(faults, answer)
         }
         Request::History => {
-            let answer = replay_history::<Global, Unfreed<TableRouter>, S, W>(
-                alloc, reader, writer,
-            );
+            let answer = replay_history::<Global, C, S, W>(alloc, reader, writer);
             end_replay(faults, answer)
         }
         Request::Audit => {
-            let answer = audit::<Global, Unfreed<TableRouter>, S, W>(alloc, reader, writer);
+            let answer = audit::<Global, C, S, W>(alloc, reader, writer);
             end_audit(faults, answer)
         }
         Request::Explain => {
-            let answer = audit_explained::<Global, Unfreed<TableRouter>, S, W>(
-                alloc, reader, writer,
-            );
+            let answer = audit_explained::<Global, C, S, W>(alloc, reader, writer);
             end_audit(faults, answer)
         }
         Request::Show(view) => {
@@ -187,8 +183,29 @@ pub fn command<
         × IsTurnedAway kind writer.old writer.new result }
     ensures unread { request_of (map T.text words.now) ≡ None → reader.new ≡ reader.old }
 {
+    command_with::<TableRouter, R, T, S, W, F>(rt, alloc, words, reader, writer, faults)
+}
+
+/// Does the same, with a replay's and an audit's router of type C. They give back all memory that such a router gives back
+/// when it is dropped.
+pub fn command_with<
+    C: RouterCore<Global> + Drop,
+    R: Threads + Wait + Net<Listener = TcpListener, Stream = TcpStream> + Sync,
+    T: AsStr,
+    S: Source,
+    W: Sink,
+    F: Sink,
+>(rt: &R, alloc: Global, words: &[T], reader: &mut S, writer: &mut W, faults: &mut F) -> u8
+    ensures asked { (request : Asked) → request_of (map T.text words.now) ≡ Some request
+        → IsUnread reader.old reader.new writer.old writer.new result ⊎ Does request
+        (streams (S.state reader.old) (S.state reader.new) (W.state writer.old) (W.state writer.new)) result }
+    ensures neither { request_of (map T.text words.now) ≡ None → (kind : Kind)
+        × ((kind ≡ OutOfMemory) ⊎ IsAmong kind (kinds_of (map T.text words.now)))
+        × IsTurnedAway kind writer.old writer.new result }
+    ensures unread { request_of (map T.text words.now) ≡ None → reader.new ≡ reader.old }
+{
     match read_words(alloc, words) {
-        Ok(request) => obey(rt, alloc, request, reader, writer, faults),
+        Ok(request) => obey::<C, R, S, W, F>(rt, alloc, request, reader, writer, faults),
         Err(error) => turn_away(error, writer, faults),
     }
 }

@@ -1,52 +1,72 @@
 //! The fault lines.
 
+ghost use Rattle.std.specs.Prelude.{◌≡◌};
+ghost use Rattle.gn_program.specs.FaultTexts as texts;
+
 use gn_load::LoadFault;
 use gn_replay::ReplayFault;
 use gn_serve::ServeFault;
 use gn_stage::StageFault;
 use gn_text::{CaptureFault, Cause};
 use gn_threads::RunFault;
+use std::fmt;
+use std::fmt::{Display, Formatter, Write};
 use thiserror::Error;
 
 /// Why a command wasn't done. Its text is its line, with the line feed.
-#[derive(Debug, Drop, Error)]
+#[derive(Clone, Copy, Debug, Error)]
 pub(crate) enum Fault {
-    #[error("fault: input failed\n")]
     Input,
-    #[error("fault: input too large\n")]
     InputTooLarge,
-    #[error("fault: line {line}: {cause}\n")]
-    Line { line: u64, cause: &'static str },
-    #[error("fault: output failed\n")]
+    Line(CaptureFault),
     Output,
-    #[error("fault: no memory\n")]
     NoMemory,
-    #[error("fault: history full\n")]
     HistoryFull,
-    #[error("fault: listen\n")]
     Listen,
-    #[error("fault: call {0}\n")]
     Call(u32),
-    #[error("fault: link {0}\n")]
     Link(u32),
-    #[error("fault: stage missing\n")]
     StageMissing,
-    #[error("fault: audit {0}\n")]
     Audit(u32),
     /// The command line refuses such a number of workers before.
-    #[error("fault: workers\n")]
     Workers,
 }
 
+impl Display for Fault {
+    ghost use Rattle.std.specs.Prelude.{Some};
+    ghost use Rattle.gn_program.specs.FaultTexts.{fault_text};
+
+    ghost output = { λ fault. Some (fault_text fault) };
+
+    fn fmt<W: Write>(&self, f: &mut Formatter<W>) -> fmt::Result {
+        match self {
+            Fault::Input => f.write_str("fault: input failed\n"),
+            Fault::InputTooLarge => f.write_str("fault: input too large\n"),
+            Fault::Line(CaptureFault { line, cause }) => {
+                writeln!(f, "fault: line {line}: {}", cause_word(*cause))
+            }
+            Fault::Output => f.write_str("fault: output failed\n"),
+            Fault::NoMemory => f.write_str("fault: no memory\n"),
+            Fault::HistoryFull => f.write_str("fault: history full\n"),
+            Fault::Listen => f.write_str("fault: listen\n"),
+            Fault::Call(peer) => writeln!(f, "fault: call {peer}"),
+            Fault::Link(link) => writeln!(f, "fault: link {link}"),
+            Fault::StageMissing => f.write_str("fault: stage missing\n"),
+            Fault::Audit(actor) => writeln!(f, "fault: audit {actor}"),
+            Fault::Workers => f.write_str("fault: workers\n"),
+        }
+    }
+}
+
 impl From<ReplayFault> for Fault {
+    ghost use Rattle.gn_program.specs.FaultTexts.{of_replay};
+
+    ghost from_gives = { λ fault line. line ≡ of_replay fault };
+
     fn from(fault: ReplayFault) -> Fault {
         match fault {
             ReplayFault::Read => Fault::Input,
             ReplayFault::TooLarge => Fault::InputTooLarge,
-            ReplayFault::Capture(CaptureFault { line, cause }) => Fault::Line {
-                line,
-                cause: cause_word(cause),
-            },
+            ReplayFault::Capture(fault) => Fault::Line(fault),
             ReplayFault::Write => Fault::Output,
             ReplayFault::NoMemory => Fault::NoMemory,
         }
@@ -54,6 +74,10 @@ impl From<ReplayFault> for Fault {
 }
 
 impl From<RunFault> for Fault {
+    ghost use Rattle.gn_program.specs.FaultTexts.{of_run};
+
+    ghost from_gives = { λ fault line. line ≡ of_run fault };
+
     fn from(fault: RunFault) -> Fault {
         match fault {
             RunFault::BadWorkers => Fault::Workers,
@@ -69,6 +93,10 @@ impl From<RunFault> for Fault {
 }
 
 impl From<LoadFault> for Fault {
+    ghost use Rattle.gn_program.specs.FaultTexts.{of_load};
+
+    ghost from_gives = { λ fault line. line ≡ of_load fault };
+
     fn from(fault: LoadFault) -> Fault {
         match fault {
             LoadFault::Text(fault) => Fault::from(fault),
@@ -78,6 +106,10 @@ impl From<LoadFault> for Fault {
 }
 
 impl From<ServeFault> for Fault {
+    ghost use Rattle.gn_program.specs.FaultTexts.{of_serve};
+
+    ghost from_gives = { λ fault line. line ≡ of_serve fault };
+
     fn from(fault: ServeFault) -> Fault {
         match fault {
             ServeFault::Run(fault) => Fault::from(fault),
@@ -86,7 +118,9 @@ impl From<ServeFault> for Fault {
     }
 }
 
-fn cause_word(cause: Cause) -> &'static str {
+fn cause_word(cause: Cause) -> &'static str
+    ensures { result.now ≡ texts.cause_word cause }
+{
     match cause {
         Cause::Header => "header",
         Cause::Config => "config",

@@ -143,7 +143,8 @@ standard output is the history of the router, which `gn audit` reads.
 
 A link ends as its peer closes it. Two routers that call each other and nobody else each wait for
 the other's end: `--idle 2` ends a link of which nothing was heard for 2 seconds. A router waits for
-its A callers without a limit.
+its A callers without a limit. One whose run has failed, as by a full history, lets its peers go and
+calls nobody else, but the caller that it waits for by then has to come before it ends.
 
 Example: two routers of which the second calls the first. Both end after 2 seconds of silence.
 

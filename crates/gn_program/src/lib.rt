@@ -9,10 +9,9 @@ mod request;
 mod serves;
 mod shown;
 mod text;
-mod unfreed;
 mod unread;
 mod words;
 
-pub use commands::{command, refuse_words};
+pub use commands::{command, command_with, refuse_words};
 pub use request::{Peer, Request, Serving};
 pub use words::plain_words_are_read;

@@ -1,7 +1,9 @@
 //! A router that serves, as a command line asks for it.
 
-ghost use Rattle.std.specs.Prelude.{◌≡◌, length, IfOk};
+ghost use Rattle.std.specs.Prelude.{◌≡◌, ◌≢◌, ◌*◌, Some, length, map, IfOk, MatchOption};
+ghost use Rattle.std.specs.Duration.{as_nanos};
 ghost use Rattle.gn_program.specs.Commands.{IsServeAnswer, IsServing};
+ghost use Rattle.gn_program.specs.Serving.{peer_at};
 
 use crate::request::{Peer, Serving};
 use crate::text::write_text;
@@ -14,7 +16,7 @@ use gn_threads::RunFault;
 use std::alloc::{AllocError, Global};
 use std::fmt;
 use std::fmt::{Display, Formatter, Write};
-use std::net::{Ipv4Addr, Net, SocketAddr, TcpListener, TcpStream};
+use std::net::{Ipv4Addr, Net, SocketAddr, SocketAddrV4, TcpListener, TcpStream};
 use std::sync::Wait;
 use std::thread::Threads;
 use std::time::Duration;
@@ -46,19 +48,24 @@ fn settings(serving: &Serving) -> Config
     }
 }
 
-/// The addresses of peers.
+/// The addresses of peers, in order.
 fn addresses(alloc: Global, peers: &[Peer]) -> Result<Vec<SocketAddr>, AllocError>
-    ensures { IfOk result (λ addresses. length addresses.items ≡ length peers.now) }
+    ensures many { IfOk result (λ addresses. length addresses.items ≡ length peers.now) }
+    ensures each { IfOk result (λ addresses. map peer_at addresses.items ≡ map Some peers.now) }
 {
     let mut addresses = Vec::new(alloc);
     for peer in peers {
-        addresses.push(SocketAddr::from((Ipv4Addr::from(peer.ip), peer.port)))?;
+        let address = SocketAddrV4::new(Ipv4Addr::from(peer.ip), peer.port);
+        addresses.push(SocketAddr::V4(address))?;
     }
     Ok(addresses)
 }
 
 /// The time limit of so many seconds; none, where there are none.
-fn limit(seconds: u32) -> Option<Duration> {
+fn limit(seconds: u32) -> Option<Duration>
+    ensures { MatchOption result (seconds ≡ 0)
+        (λ limit. (seconds ≢ 0) × (as_nanos limit ≡ seconds * 1_000_000_000)) }
+{
     if seconds == 0 {
         None
     } else {

@@ -1,10 +1,10 @@
 //! Captures of each word, and the first fault of each kind.
 
-use gn_capture::{Capture, CaptureRefusal, Cause, Line, read_capture};
+use gn_capture::{Capture, CaptureRefusal, Cause, Line, LocalRequest, PieceBytes, read_capture};
 use gn_fixtures::OWN;
 use gn_rules::Own;
 use gn_wire::{Guid, Kind};
-use std::alloc::{AllocError, Allocator};
+use std::alloc::{AllocError, Allocator, Global};
 use std::test::Fail;
 
 /// The three lines that the captures of these tests begin with.
@@ -202,6 +202,35 @@ fn are_each_word<A: Allocator>(lines: &[(u64, Line<A>)]) -> bool {
     }
 }
 
+/// The same lines, made with no text.
+fn made_of_each_word(alloc: Global) -> Result<Vec<(u64, Line)>, AllocError> {
+    let one = PieceBytes::of(alloc, Vec::from_slice(alloc, b"\xa1")?)?;
+    let none = PieceBytes::of(alloc, Vec::new(alloc))?;
+    let lines = vec![in alloc;
+        (4, Line::Join),
+        (6, Line::Greeted),
+        (
+            8,
+            Line::Piece {
+                link: 2,
+                bytes: one
+            }
+        ),
+        (
+            9,
+            Line::Piece {
+                link: 1,
+                bytes: none
+            }
+        ),
+        (10, Line::Route(0)),
+        (11, Line::Take(1)),
+        (12, Line::Close(4_294_967_295)),
+        (13, Line::Stats),
+    ]?;
+    Ok(lines)
+}
+
 #[test]
 fn each_word(rt: HostRuntime) -> Result<(), Fail> {
     let lines =
@@ -212,6 +241,7 @@ fn each_word(rt: HostRuntime) -> Result<(), Fail> {
     for ((number, _), expected) in capture.lines.iter().zip([4, 6, 8, 9, 10, 11, 12, 13]) {
         assert_eq!(rt; *number, expected);
     }
+    assert_eq!(rt; are_each_word(&made_of_each_word(rt.alloc())?), true);
     Ok(())
 }
 
@@ -247,6 +277,8 @@ fn requests(rt: HostRuntime) -> Result<(), Fail> {
         assert_eq!(rt; (d.id(), d.kind()), (Guid([0xd1; 16]), kind));
         assert_eq!(rt; (d.ttl(), d.hops()), (ttl, 0));
         assert_eq!(rt; d.payload().as_slice(), payload);
+        let made = LocalRequest::of(rt.alloc(), d.copy()?)?;
+        assert_eq!(rt; made.descriptor().id(), d.id());
     }
     Ok(())
 }

@@ -6,6 +6,8 @@ mod failing;
 #[cfg(test)]
 mod in_step;
 #[cfg(test)]
+mod in_time;
+#[cfg(test)]
 mod loads;
 #[cfg(test)]
 mod prompt;

@@ -214,3 +214,13 @@ fn a_peer_that_is_not_there_ends_the_run(rt: HostRuntime) -> Result<(), Fail> {
     assert_eq!(rt; served.err(), Some(RunFault::Call(1)));
     Ok(())
 }
+
+#[test]
+fn a_listener_that_fails_ends_the_run(rt: HostRuntime) -> Result<(), Fail> {
+    let listener = listen(&rt, 0).map_err(|_| "a listener")?;
+    // it doesn't wait, and nobody has called
+    listener.set_nonblocking(true)?;
+    let served = serve(&rt, rt.alloc(), &listener, 100, 1, &[]);
+    assert_eq!(rt; served.err(), Some(RunFault::Listen));
+    Ok(())
+}

@@ -4,6 +4,7 @@ use Rattle.std.specs.List.{sum_by}
 use Rattle.gn_rules.specs.declared.receipt.Receipt.{Receipt}
 use Rattle.gn_bodies.specs.declared.ends.ReaderEnd.{ReaderEnd}
 use Rattle.gn_bodies.specs.declared.ends.WriterEnd.{WriterEnd}
+use Rattle.gn_bodies.specs.declared.worker.WorkerDone.{WorkerDone}
 use Rattle.gn_run.specs.declared.report.LinkReport.{LinkReport}
 use Rattle.gn_threads.specs.Kept.{Ended}
 
@@ -26,3 +27,11 @@ link_receipts links = sum_by receipts_at links
 -- how many receipts these workers have
 abbrev pub worker_receipts : {A : Type 0} → List (Vec (Receipt A) A) → ℕ
 worker_receipts workers = sum_by (λ worker. length worker.items) workers
+
+-- a worker's receipts, as the report has them
+abbrev pub receipt_list : {A : Type 0} → Vec (Receipt A) A → List (Receipt A)
+receipt_list receipts = receipts.items
+
+-- the receipts of a worker's body as it ended
+abbrev pub receipts_given : {S L A : Type 0} → WorkerDone S L A → List (Receipt A)
+receipts_given done = done.actor.receipts

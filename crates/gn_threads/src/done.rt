@@ -1,7 +1,7 @@
 //! What the bodies of a run gave back.
 
 ghost use Rattle.gn_rules.specs.Limits.{most_workers};
-ghost use Rattle.std.specs.Prelude.{◌≡◌, ◌+◌, ◌<◌, ◌≤◌, ◌||◌, ℕ, None, length, slice_index_or, IfSome, IsOk};
+ghost use Rattle.std.specs.Prelude.{◌≡◌, ◌+◌, ◌<◌, ◌≤◌, ◌||◌, ℕ, None, length, slice_index_or, true, IfSome, IsOk, is_err};
 ghost use Rattle.std.specs.List.{list_any};
 ghost use Rattle.gn_bodies.specs.declared.worker.WorkerDone.{WorkerDone};
 ghost use Rattle.gn_threads.specs.Faults as faults;
@@ -74,6 +74,10 @@ pub(crate) fn first_refused<S: Site, L: Ledger, A: Allocator>(
     ensures none { result ≡ None → (k : ℕ) (d : WorkerDone S L A) → k < length workers.now
         → IsOk (slice_index_or workers.now k d).end }
     ensures some { IfSome result (λ a. a < first + length workers.now) }
+    ensures refused { IfSome result (λ a. (k : ℕ) (d : WorkerDone S L A) → first + k ≡ a
+        → is_err (slice_index_or workers.now k d).end ≡ true) }
+    ensures least { IfSome result (λ a. (k : ℕ) (d : WorkerDone S L A) → first + k < a
+        → IsOk (slice_index_or workers.now k d).end) }
 {
     let mut actor = first;
     for worker in workers {

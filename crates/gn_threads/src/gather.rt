@@ -3,7 +3,14 @@
 ghost use Rattle.gn_rules.specs.Limits.{most_links};
 ghost use Rattle.std.specs.Prelude.{◌≡◌, ◌+◌, ◌++◌, ◌∷◌, ◌<◌, ◌≤◌, [], ℕ, map, vec_len, IfErr, IfOk, Ok};
 ghost use Rattle.gn_threads.specs.Faults.{IsFaultOf};
-ghost use Rattle.gn_threads.specs.Gathered.{link_receipts, reader_reported, worker_receipts, writer_reported};
+ghost use Rattle.gn_threads.specs.Gathered.{
+  link_receipts,
+  reader_reported,
+  receipt_list,
+  receipts_given,
+  worker_receipts,
+  writer_reported,
+};
 ghost use Rattle.gn_threads.specs.Kept.{reader_ended, reader_homed, writer_ended};
 ghost use Rattle.gn_threads.specs.Shares.{amount_of, parts_of};
 
@@ -178,6 +185,7 @@ pub(crate) fn gather_workers<S: Site, L: Ledger, A: Allocator + Copy>(
     workers: Vec<WorkerDone<S, L, A>, A>,
 ) -> Result<(Worked<L, A>, Vec<OutletHome<S, A>, A>), AllocError>
     ensures many { IfOk result (λ made. vec_len made.0.receipts ≡ vec_len workers) }
+    ensures receipts { IfOk result (λ made. map receipt_list made.0.receipts.items ≡ map receipts_given workers.items) }
 {
     let (mut receipts, mut homes) = (Vec::new(alloc), Vec::new(alloc));
     let mut tally = Tally::new();

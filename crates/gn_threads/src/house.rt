@@ -1,6 +1,7 @@
 //! The house: the caller of a run, who routes what the stage had left.
 
-ghost use Rattle.std.specs.Prelude.{◌∷◌, [], OnOk};
+ghost use Rattle.std.specs.Prelude.{◌≡◌, ◌∷◌, [], OnOk};
+ghost use Rattle.gn_threads.specs.House as house;
 ghost use Rattle.gn_threads.specs.House.{HasRouted};
 
 use gn_bodies::BodyFault;
@@ -12,7 +13,9 @@ use std::alloc::Allocator;
 use std::sync::ledger::Ledger;
 
 /// Why a job couldn't be routed.
-fn fault_of(refusal: Refusal) -> BodyFault {
+fn fault_of(refusal: Refusal) -> BodyFault
+    ensures { result ≡ house.fault_of refusal }
+{
     match refusal {
         Refusal::HistoryFull => BodyFault::HistoryFull,
         Refusal::NoMemory => BodyFault::NoMemory,

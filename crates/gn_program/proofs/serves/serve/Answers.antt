@@ -17,7 +17,7 @@ returns g c =
     let ran = c.serve_history.ensures in
     let inside = c.serving.inside in
     let many : length c.deref-2.result.now ≡ length inside.peers.items =
-    ap (λ xs. length xs) c.deref-2.ensures.value ∙ c.in_ok-peers.ensures ∙ ap (λ xs. length xs) c.deref.ensures.value in
+    ap (λ xs. length xs) c.deref-2.ensures.value ∙ c.in_ok-peers.ensures.many ∙ ap (λ xs. length xs) c.deref.ensures.value in
     rw (← c.serving.view_is) (answered (record {
       port = inside.port;
       accept = inside.accept;

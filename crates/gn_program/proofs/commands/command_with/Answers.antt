@@ -1,6 +1,6 @@
 use Rattle.std.proofs.Common.{inl, map}
 use Rattle.gn_program.proofs.CommandLemmas.{unread}
-use Rattle.gn_program.proofs.commands.command.Goals as goal
+use Rattle.gn_program.proofs.commands.command_with.Goals as goal
 
 pub returns-in-Err-clause-asked : goal.returns-in-Err-clause-asked
 returns-in-Err-clause-asked g c request asked =
