@@ -28,7 +28,7 @@ use Rattle.gn_rules.specs.declared.legality.Legality.{Legality}
 use Rattle.gn_rules.specs.declared.legality.Legality.TheVariants.{Legal, WrongAt}
 use Rattle.gn_program.specs.Serving.{AskedServe}
 use Rattle.gn_program.specs.declared.request.Request.{Request}
-use Rattle.gn_program.specs.declared.request.Request.TheVariants.{Replay, History, Audit, Explain, Show, Load, Serve}
+use Rattle.gn_program.specs.declared.request.Request.TheVariants.{Replay, History, Audit, Explain, Show, Load, Watched, Serve}
 
 -- what replay answers: the input was a capture, no longer than it may be, and its replay text was written, its steps
 -- and refusals counted; or it stopped, at a fault that the streams confirm, and what was written then is a prefix of
@@ -180,6 +180,7 @@ Does Audit s status = Audits s status
 Does Explain s status = Explains s status
 Does (Show view) s status = Shows view s status
 Does (Load workers) s status = Loads workers s status
+Does (Watched workers) s status = Loads workers s status
 Does (Serve serving) s status = Serves serving s status
 
 -- words that ask for no work: at help and the version the status is 0 or 1 and anything may be written; else nothing is

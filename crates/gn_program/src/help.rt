@@ -100,9 +100,12 @@ pub(crate) const LOAD: &str =
     "Runs the links of a capture with many threads, and prints the history";
 
 pub(crate) const LOAD_USAGE: &str =
-    "gn load --workers V < CAPTURE   (the capture is read from standard input)";
+    "gn load --workers V [--progress] < CAPTURE   (the capture is read from standard input)";
 
 pub(crate) const WORKERS: &str = "How many threads route what was admitted, 1 to 16";
+
+pub(crate) const PROGRESS: &str =
+    "Says on standard error once a second how many descriptors are routed and admitted";
 
 pub(crate) const LOAD_TEXTS: &str = "\
 Standard input is a capture of `join`, `open` and `data LINK HEX` lines alone. Each link is read by

@@ -19,6 +19,8 @@ pub enum Request {
     Show(View),
     /// The links of a capture are run by so many workers, 1 to 16, and the history of the router is written.
     Load(u32),
+    /// The same, and how far the run is is said as it goes on.
+    Watched(u32),
     /// A router is run over TCP, and its history is written.
     Serve(Serving),
 }

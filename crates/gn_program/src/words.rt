@@ -152,7 +152,8 @@ fn load_command<'a>(alloc: Global) -> Result<Command<'a>, AllocError>
         help::LOAD_USAGE,
         help::LOAD_TEXTS,
     )
-    .arg(value(alloc, "workers", "V", help::WORKERS))
+    .arg(value(alloc, "workers", "V", help::WORKERS))?
+    .arg(flag(alloc, "progress", help::PROGRESS))
 }
 
 /// The subcommand `serve` with the options that have to be given.
@@ -239,6 +240,7 @@ fn request_named(alloc: Global, name: &str, options: &ArgMatches<'_>) -> Result<
         "audit" if is_set(options, "explain") => Ok(Request::Explain),
         "audit" => Ok(Request::Audit),
         "show" => Ok(Request::Show(view_of(options)?)),
+        "load" if is_set(options, "progress") => Ok(Request::Watched(workers_of(options)?)),
         "load" => Ok(Request::Load(workers_of(options)?)),
         "serve" => Ok(Request::Serve(serving_of(alloc, options)?)),
         _ => Err(Unread::Mistake("there is no such subcommand")),
