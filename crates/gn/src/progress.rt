@@ -11,9 +11,6 @@ use std::time::{Clock, Instant};
 /// The clock is read at each so many jobs.
 const LOOK: u32 = 64;
 
-/// Milliseconds from one line to the next.
-const PAUSE: u64 = 1_000;
-
 /// A load's gate that holds nobody and counts who passes. Who finds that a second has gone by writes the line: on a terminal
 /// over the line before, else below it.
 #[derive(Drop)]
@@ -26,7 +23,7 @@ pub(crate) struct Progress<'r, R> {
     routed: AtomicU32,
     /// Descriptors that were admitted when the last of these was, and it.
     admitted: AtomicU32,
-    /// When the next line is due, in milliseconds from the start.
+    /// When the next line is due, in seconds from the start.
     due: AtomicU64,
     has_written: AtomicBool,
 }
@@ -54,7 +51,7 @@ impl<'r, R: Clock + AllocGlobal> Progress<'r, R> {
             links: AtomicU64::new(0),
             routed: AtomicU32::new(0),
             admitted: AtomicU32::new(0),
-            due: AtomicU64::new(PAUSE),
+            due: AtomicU64::new(1),
             has_written: AtomicBool::new(false),
         }
     }
@@ -85,11 +82,11 @@ impl<'r, R: Clock + AllocGlobal> Progress<'r, R> {
         }
     }
 
-    /// Milliseconds since it was made; 0 where the clock can't be read.
+    /// Whole seconds since it was made; 0 where the clock can't be read.
     fn elapsed(&self) -> u64 {
         match &self.start {
             Some(start) => match start.elapsed(self.rt) {
-                Ok(time) => time.as_millis() as u64,
+                Ok(time) => time.as_secs(),
                 Err(_) => 0,
             },
             None => 0,
@@ -100,7 +97,7 @@ impl<'r, R: Clock + AllocGlobal> Progress<'r, R> {
     fn look(&self) {
         let now = self.elapsed();
         let due = self.due.load(Ordering::SeqCst);
-        let next = now.saturating_add(PAUSE);
+        let next = now.saturating_add(1);
         if now >= due
             && self
                 .due
@@ -115,7 +112,8 @@ impl<'r, R: Clock + AllocGlobal> Progress<'r, R> {
 impl<'r, R: Clock + AllocGlobal> Gate for Progress<'r, R> {
     fn enter<W: Wait>(&self, _rt: &W, _worker: u32, ticket: u32) {
         let routed = self.routed.fetch_add(1, Ordering::SeqCst);
-        self.admitted.fetch_max(ticket.saturating_add(1), Ordering::SeqCst);
+        self.admitted
+            .fetch_max(ticket.saturating_add(1), Ordering::SeqCst);
         if routed % LOOK == 0 {
             self.look();
         }

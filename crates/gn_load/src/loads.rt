@@ -25,13 +25,7 @@ fn history_of<
     C: RouterCore<A> + Drop + Send,
     R: Threads + Wait + Sync,
     G: Watch + Sync,
->(
-    rt: &R,
-    alloc: A,
-    workers: u32,
-    watch: &G,
-    text: Vec<u8, A>,
-) -> Result<Vec<u8, A>, LoadFault>
+>(rt: &R, alloc: A, workers: u32, watch: &G, text: Vec<u8, A>) -> Result<Vec<u8, A>, LoadFault>
     ensures history { IfOk result (λ history. IsLoadText A workers text.items history.items) }
     ensures fault { IfErr result (λ fault. IsRunLoadFault workers fault (load_of A text.items)) }
 {
@@ -84,14 +78,7 @@ pub fn load_watched<
     G: Watch + Sync,
     S: Source,
     W: Sink,
->(
-    rt: &R,
-    alloc: A,
-    workers: u32,
-    watch: &G,
-    source: &mut S,
-    sink: &mut W,
-) -> Result<(), LoadFault>
+>(rt: &R, alloc: A, workers: u32, watch: &G, source: &mut S, sink: &mut W) -> Result<(), LoadFault>
     ensures short { OnOk result (IfSome (S.state source.old).rest (λ text. length text ≤ input_limit)) }
     ensures valid { OnOk result (IfSome (S.state source.old).rest (λ text. IsOk (load_of A text))) }
     ensures written { OnOk result (IfSome (S.state source.old).rest (λ text.

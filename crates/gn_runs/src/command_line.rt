@@ -128,7 +128,7 @@ end
 
 /// The mistake of a number of workers that isn't one of 1 to 16.
 const BAD_WORKERS: &str =
-    "error: --workers takes a number of 1 to 16\n\nUsage: gn load --workers V < CAPTURE";
+    "error: --workers takes a number of 1 to 16\n\nUsage: gn load --workers V [--progress] < CAPTURE";
 
 /// A capture of nothing but its first lines, and one join.
 const JOINED: &str = "gnutella-capture 1\nconfig 4 8 4 8 8 100\n\

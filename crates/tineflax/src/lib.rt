@@ -135,7 +135,7 @@ pub mod show {
 
 /// The links of a capture, run by many threads.
 pub mod load {
-    pub use gn_load::{LoadFault, links_of, load};
+    pub use gn_load::{LoadFault, Watch, links_of, load, load_watched};
 }
 
 /// A whole command line of `gn`.
