@@ -35,9 +35,7 @@ fn history_of<
     let Capture { config, lines } = capture;
     drop(lines);
     watch.begin(links.len());
-    let ran = run::<C, _, _, A, R>(rt, alloc, &config, links, workers, watch);
-    watch.end();
-    let report = ran?;
+    let report = run::<C, _, _, A, R>(rt, alloc, &config, links, workers, watch)?;
     let mut history = Vec::new(alloc);
     write_history(&config, &report.history, &mut history)?;
     Ok(history)
@@ -91,7 +89,8 @@ pub fn load_watched<
         (streams (S.state source.old) (S.state source.new) (W.state sink.old) (W.state sink.new))) }
 {
     let text = read_input(alloc, source)?;
-    let history = history_of::<A, C, R, G>(rt, alloc, workers, watch, text)?;
-    write_all(sink, &history)?;
+    let answer = history_of::<A, C, R, G>(rt, alloc, workers, watch, text);
+    watch.end();
+    write_all(sink, &answer?)?;
     Ok(())
 }

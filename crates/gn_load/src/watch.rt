@@ -7,7 +7,7 @@ pub trait Watch: Gate {
     /// So many links are run next.
     fn begin(&self, links: usize);
 
-    /// The run has ended, well or not.
+    /// The run has ended, well or not, or there is none.
     fn end(&self);
 }
 
