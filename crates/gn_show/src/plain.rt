@@ -12,7 +12,7 @@ use std::alloc::{AllocError, Global};
 
 /// Appends words, and a number after them.
 fn push_numbered(out: &mut Vec<u8>, words: &[u8], number: u32) -> Result<(), AllocError>
-    ensures { OnOk result (out.new.items ≡ out.old.items ++ words.now ++ decimal number) }
+    ensures { OnOk result (out.new.items ≡ out.old.items ++ (words.now ++ decimal number)) }
 {
     out.extend_from_slice(words)?;
     push_number(out, number)
