@@ -1,8 +1,7 @@
 -- Steps of a history that are counted one by one.
-use Rattle.std.proofs.Common.{◌≡◌, ◌<◌, ◌≤◌, ◌+◌, ◌^◌, ◌++◌, ◌∙◌, ℕ, List, [], ◌∷◌, length, filter, reverse, refl, sym, ap, subst, arith, append-nil, length-append, Some, Result, Ok, Err, IfOk}
+use Rattle.std.proofs.Common.{◌≡◌, ◌<◌, ◌≤◌, ◌+◌, ◌++◌, ◌∙◌, ℕ, List, [], ◌∷◌, length, reverse, refl, sym, ap, arith, append-nil, length-append, Some, Result, Ok, Err}
 use Rattle.std.proofs.lemmas.List.{length-reverse, reverse-append}
 use Rattle.std.proofs.lemmas.List.Sums.{length-filter, count_by-le-length}
-use Rattle.std.specs.Prelude.{IfErr, IsOk}
 use Rattle.std.specs.declared.alloc.Global.{Global}
 use Rattle.gn_rules.specs.declared.receipt.Step.{Step}
 use Rattle.gn_rules.specs.declared.statistics.Counter.{Counter}
@@ -11,12 +10,9 @@ use Rattle.gn_rules.specs.Statistics.{count_in, counter_of, is_same_counter, no_
 use Rattle.gn_rules.proofs.CounterLemmas.{counters_count}
 use Rattle.gn_text.specs.declared.fault.CaptureFault.{CaptureFault}
 use Rattle.gn_text.specs.Parsed.{Numbered}
-use Rattle.gn_rules.specs.declared.limits.Numbers.{Numbers}
-use Rattle.gn_rules.specs.declared.config.Own.{Own}
-use Rattle.gn_capture.specs.Histories.{IsNextOf, history_of, map_result, steps_left}
-use Rattle.gn_capture.proofs.HistoryLemmas.{history_read}
+use Rattle.gn_capture.specs.Histories.{IsNextOf, map_result, steps_left}
 use Rattle.gn_capture.proofs.StepsLemmas.{known, one_known}
-use Rattle.gn_show.specs.Shown.{AreCounted, IsCounted}
+use Rattle.gn_show.specs.Shown.{AreCounted}
 
 -- nothing stands before what is left
 pub none_known : (left : Numbered) → known {A = Global} [] left ≡ steps_left left

@@ -1,12 +1,12 @@
 -- Steps of a history that are shown one by one.
-use Rattle.std.proofs.Common.{◌≡◌, ◌+◌, ◌++◌, ◌∙◌, ℕ, zero, List, [], ◌∷◌, length, refl, sym, ap, subst, arith, true≢false, Bool, true, false, append_assoc, append-nil, length-append, Option, Some, Result, Ok, Err}
+use Rattle.std.proofs.Common.{◌≡◌, ◌+◌, ◌++◌, ◌∙◌, ℕ, List, [], ◌∷◌, length, refl, sym, ap, subst, arith, true≢false, true, false, append_assoc, append-nil, length-append, Option, Some, Result, Ok, Err}
 use Rattle.std.specs.Prelude.{IsOk}
 use Rattle.std.specs.Result.{is_ok}
 use Rattle.std.specs.Io.KnownBytes.{Appends}
 use Rattle.std.specs.declared.alloc.Global.{Global}
 use Rattle.gn_io.specs.Parts.{AppendsPart, LeavesToWrite}
 use Rattle.gn_io.specs.Streams.{NoWriteFailed, SinkState}
-use Rattle.gn_io.proofs.StreamLemmas.{leaves_after, leaves_all, leaves_none, leaves_part, leaves_rest}
+use Rattle.gn_io.proofs.StreamLemmas.{leaves_after, leaves_all, leaves_part, leaves_rest}
 use Rattle.gn_rules.specs.declared.receipt.Step.{Step}
 use Rattle.gn_text.specs.Faults.{IsRefused}
 use Rattle.gn_text.specs.declared.fault.CaptureFault.{CaptureFault}

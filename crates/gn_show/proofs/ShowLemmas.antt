@@ -1,9 +1,9 @@
 -- What is shown of a text that is a history.
-use Rattle.std.proofs.Common.{◌≡◌, ◌≤◌, ◌∙◌, ◌⊎◌, inl, inr, ℕ, List, length, refl, sym, ap, subst, arith, true≢false, Bool, true, false, Option, Some, Result, Ok, Err}
+use Rattle.std.proofs.Common.{◌≡◌, ◌≤◌, inl, inr, ℕ, List, length, refl, sym, ap, subst, true≢false, true, false, Option, Some, Result, Ok, Err}
 use Rattle.std.specs.Prelude.{IfErr, IfOk, IsOk, OnErr, OnOk}
 use Rattle.std.specs.Result.{IsErrAnd, is_ok}
 use Rattle.std.proofs.KnownBytes.{Keeps-refl}
-use Rattle.std.specs.Io.KnownBytes.{Appends, Keeps}
+use Rattle.std.specs.Io.KnownBytes.{Appends}
 use Rattle.std.specs.declared.alloc.Global.{Global}
 use Rattle.gn_io.specs.Input.{input_limit}
 use Rattle.gn_io.specs.Parts.{AppendsPart}

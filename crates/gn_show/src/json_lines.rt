@@ -8,7 +8,6 @@ use gn_rules::Step;
 use std::alloc::{AllocError, Global};
 
 /// The line of a step, whose index counts from 0.
-#[tactic(auto, using(crate::proofs::FloatLemmas::step_plain))]
 pub(crate) fn json_line(alloc: Global, index: u32, step: &Step) -> Result<Vec<u8>, AllocError>
     ensures { IfOk result (λ line. line.items ≡ json_line index step.now) }
 {

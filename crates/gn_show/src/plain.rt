@@ -10,6 +10,14 @@ use gn_rules::{Event, Reply, Sending, Step};
 use gn_text::push_number;
 use std::alloc::{AllocError, Global};
 
+/// Appends words, and a number after them.
+fn push_numbered(out: &mut Vec<u8>, words: &[u8], number: u32) -> Result<(), AllocError>
+    ensures { OnOk result (out.new.items ≡ out.old.items ++ (words.now ++ decimal number)) }
+{
+    out.extend_from_slice(words)?;
+    push_number(out, number)
+}
+
 /// Appends so many spaces.
 fn push_spaces(out: &mut Vec<u8>, count: usize) -> Result<(), AllocError>
     ensures { OnOk result (out.new.items ≡ out.old.items ++ replicate count 32) }
@@ -48,24 +56,15 @@ fn push_event(alloc: Global, out: &mut Vec<u8>, event: &Event) -> Result<(), All
 {
     match event {
         Event::Connect => out.extend_from_slice(b"connects"),
-        Event::Close(c) => {
-            out.extend_from_slice(b"closes ")?;
-            push_number(out, *c)
-        }
+        Event::Close(c) => push_numbered(out, b"closes ", *c),
         Event::Admit(c, descriptor) => {
             out.extend_from_slice(b"from ")?;
             push_number(out, *c)?;
             out.extend_from_slice(b": ")?;
             push_descriptor(alloc, out, descriptor)
         }
-        Event::Route(ticket) => {
-            out.extend_from_slice(b"routes #")?;
-            push_number(out, *ticket)
-        }
-        Event::Take(c) => {
-            out.extend_from_slice(b"takes for ")?;
-            push_number(out, *c)
-        }
+        Event::Route(ticket) => push_numbered(out, b"routes #", *ticket),
+        Event::Take(c) => push_numbered(out, b"takes for ", *c),
         Event::Originate(descriptor) => {
             out.extend_from_slice(b"own: ")?;
             push_descriptor(alloc, out, descriptor)
@@ -89,19 +88,10 @@ fn push_reply(alloc: Global, out: &mut Vec<u8>, reply: &Reply) -> Result<(), All
     ensures { OnOk result (out.new.items ≡ out.old.items ++ reply_words reply.now) }
 {
     match reply {
-        Reply::Connected(c) => {
-            out.extend_from_slice(b"connected as ")?;
-            push_number(out, *c)
-        }
+        Reply::Connected(c) => push_numbered(out, b"connected as ", *c),
         Reply::TooMany => out.extend_from_slice(b"too many"),
-        Reply::Closed(count) => {
-            out.extend_from_slice(b"closed, discarded ")?;
-            push_number(out, *count)
-        }
-        Reply::Admitted(ticket) => {
-            out.extend_from_slice(b"admitted as #")?;
-            push_number(out, *ticket)
-        }
+        Reply::Closed(count) => push_numbered(out, b"closed, discarded ", *count),
+        Reply::Admitted(ticket) => push_numbered(out, b"admitted as #", *ticket),
         Reply::Busy => out.extend_from_slice(b"busy"),
         Reply::Routed { sends, local } => {
             out.extend_from_slice(if *local { b"routed here" } else { b"routed" })?;

@@ -41,7 +41,6 @@ returns-in_err-step-clause-cause g c =
 
 pub returns-in_err-line-clause-err : goal.returns-in_err-line-clause-err
 returns-in_err-line-clause-err g c =
-    let next = subst (λ found. IsNextOf (Ok found) (steps_left c.loop-block.steps) (steps_left c.next_step.new.self)) c.in-Some.is c.in_ok-step.ensures.next in
     on_err c.from_residual-in_err-line.result
     (showing_kept c.args.form (g.W.Sink.state c.args.sink.now).written (g.W.Sink.state c.loop-block.sink).written c.loop-block.block c.loop-block.index c.loop-block.steps
     (steps_left c.args.steps.now) c.loop-block.invariant.showing c.requires)

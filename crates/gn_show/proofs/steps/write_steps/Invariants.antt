@@ -1,4 +1,4 @@
-use Rattle.std.specs.Prelude.{◌≡◌, length}
+use Rattle.std.specs.Prelude.{length}
 use Rattle.gn_capture.specs.Histories.{steps_left}
 use Rattle.gn_io.specs.Streams.{NoWriteFailed}
 use Rattle.gn_show.proofs.LinesLemmas.{IsShowing}
