@@ -1,5 +1,5 @@
 -- How the words of a command line are read: by the rules of the crate clap, for this command.
-use Rattle.std.specs.Prelude.{◌≡◌, ◌∷◌, List, [], Bool, true, false, Option, Some, None, codes, is_some, option_map, replicate, if◌then◌else◌}
+use Rattle.std.specs.Prelude.{◌≡◌, ◌∷◌, ℕ, List, [], Bool, true, false, Option, Some, None, codes, is_some, option_map, replicate, if◌then◌else◌}
 use Rattle.std.specs.Option.{option_map_or}
 use Rattle.std.specs.Str.{bytes_eq}
 use Rattle.clap.specs.Words.{App, Row, Rule, Text, fault_of, first_of, new_app, new_rule, subcommand_of, with_rule, with_subcommand}
