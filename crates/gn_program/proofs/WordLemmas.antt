@@ -47,6 +47,7 @@ plain_words = record {
   stats = λ program. refl;
   both = λ program. refl;
   load = λ program. refl;
+  watched = λ program. refl;
   most = λ program. refl;
   none = λ program. refl;
   many = λ program. refl;
