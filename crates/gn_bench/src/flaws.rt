@@ -11,7 +11,7 @@ use gn_router::TableRouter;
 use gn_rules::{Config, Event, Legality, Receipt, RouterCore, Step};
 use gn_run::{LinkReport, Report};
 use gn_shake::Role;
-use std::alloc::Allocator;
+use std::alloc::Global;
 use std::io;
 use std::rt::Runtime;
 use std::time::Instant;
@@ -24,92 +24,102 @@ const WORKER: u32 = 16;
 /// The steps that one ID takes: it comes on each link, is routed each time, and its one packet is taken.
 const STEPS_OF_ONE: u32 = 17;
 
-/// A run as it is made up: its router, and the receipts of each actor.
-#[derive(Drop)]
-struct MadeUp<A: Allocator + Copy> {
-    core: TableRouter<A>,
-    receipts: Vec<Vec<Receipt<A>, A>, A>,
+/// The step of the run at this place, of so many in all: each link connects; one ID after another comes on each link in turn,
+/// each routed at once, of which the first is answered with a Pong, which is taken, and the others are duplicates; then each
+/// writer closes its connection.
+fn step_at(place: u32, all: u32) -> io::Result<(u32, Event)> {
+    if place < LINKS {
+        return Ok((place, Event::Connect));
+    }
+    let left = all.saturating_sub(place);
+    if left <= LINKS {
+        let link = LINKS - left;
+        return Ok((LINKS + link, Event::Close(link + 1)));
+    }
+    let number = (place - LINKS) / STEPS_OF_ONE;
+    let of_one = (place - LINKS) % STEPS_OF_ONE;
+    let link = of_one / 2;
+    Ok(if link >= LINKS {
+        (LINKS, Event::Take(1))
+    } else if of_one % 2 == 0 {
+        (link, Event::Admit(link + 1, ping(number)?))
+    } else {
+        let ticket = number.wrapping_mul(LINKS).wrapping_add(link);
+        (WORKER, Event::Route(ticket))
+    })
 }
 
-impl<A: Allocator + Copy> MadeUp<A> {
+/// A run as it is made up: its router, what each link's bodies did, and the worker's receipts.
+#[derive(Drop)]
+struct MadeUp {
+    core: TableRouter,
+    links: Vec<LinkReport<(), ()>>,
+    worker: Vec<Receipt>,
+}
+
+impl MadeUp {
     /// A run with no steps.
-    fn new(alloc: A, config: &Config) -> io::Result<Self> {
-        let core = TableRouter::make(alloc, config)?;
-        let mut receipts = Vec::new(alloc);
-        for _ in 0..=WORKER {
-            receipts.push(Vec::new(alloc))?;
+    fn new(alloc: Global, config: &Config) -> io::Result<Self> {
+        let mut links = Vec::new(alloc);
+        for link in 0..LINKS {
+            links.push(LinkReport {
+                conn: Some(link + 1),
+                reader_end: ReaderEnd::Bytes,
+                reader_receipts: Vec::new(alloc),
+                reader: (),
+                writer_end: WriterEnd::Drained,
+                writer_receipts: Vec::new(alloc),
+                writer: (),
+            })?;
         }
-        Ok(MadeUp { core, receipts })
+        Ok(MadeUp {
+            core: TableRouter::make(alloc, config)?,
+            links,
+            worker: Vec::new(alloc),
+        })
     }
 
-    /// An actor's step, and the ticket that it admitted.
-    fn step(&mut self, actor: u32, event: &Event<A>) -> io::Result<Option<u32>> {
-        let receipt = self.core.apply(actor, event).map_err(fault)?;
-        let admitted = receipt.reply.admitted();
-        if let Some(own) = self.receipts.get_mut(actor as usize) {
-            own.push(receipt)?;
-        }
-        Ok(admitted)
-    }
-
-    /// One ID on each link in turn, each routed. The first is answered with a Pong, which is taken, the others are duplicates.
-    fn flood(&mut self, number: u32) -> io::Result<()> {
-        let first = number % LINKS;
-        for k in 0..LINKS {
-            let link = (first + k) % LINKS;
-            if let Some(ticket) = self.step(link, &Event::Admit(link + 1, ping(number)?))? {
-                self.step(WORKER, &Event::Route(ticket))?;
+    /// An actor's receipt.
+    fn give(&mut self, actor: u32, receipt: Receipt) -> io::Result<()> {
+        if actor >= WORKER {
+            self.worker.push(receipt)?;
+        } else if let Some(link) = self.links.get_mut((actor % LINKS) as usize) {
+            if actor < LINKS {
+                link.reader_receipts.push(receipt)?;
+            } else {
+                link.writer_receipts.push(receipt)?;
             }
         }
-        self.step(LINKS + first, &Event::Take(first + 1))?;
         Ok(())
     }
 
-    /// Each link connects, so many IDs come, and each writer closes its connection.
-    fn play(&mut self, count: u32) -> io::Result<()> {
-        for link in 0..LINKS {
-            self.step(link, &Event::Connect)?;
-        }
-        for number in 0..count {
-            self.flood(number)?;
-        }
-        for link in 0..LINKS {
-            self.step(LINKS + link, &Event::Close(link + 1))?;
+    /// So many steps.
+    fn play(&mut self, all: u32) -> io::Result<()> {
+        for place in 0..all {
+            let (actor, event) = step_at(place, all)?;
+            let receipt = self.core.apply(actor, &event).map_err(fault)?;
+            self.give(actor, receipt)?;
         }
         Ok(())
     }
 
     /// Its report.
-    fn into_report(self, alloc: A) -> io::Result<Report<(), (), A>>
+    fn into_report(self, alloc: Global) -> io::Result<Report<(), ()>>
         ensures { IfOk result (λ report. length report.links.items ≡ 8) }
     {
-        let stats = self.core.stats();
-        let history = self.core.into_history();
-        let mut lists = self.receipts.into_iter();
-        let readers = lists.by_ref().take(8).collect::<Vec<_, A>>(alloc)?;
-        let writers = lists.by_ref().take(8).collect::<Vec<_, A>>(alloc)?;
-        let workers = lists.collect::<Vec<_, A>>(alloc)?;
-        let mut links = Vec::new(alloc);
-        for (conn, (reader_receipts, writer_receipts)) in (1u32..).zip(
-            readers.into_iter().zip(writers),
-        ) {
-            links.push(LinkReport {
-                conn: Some(conn),
-                reader_end: ReaderEnd::Bytes,
-                reader_receipts,
-                reader: (),
-                writer_end: WriterEnd::Drained,
-                writer_receipts,
-                writer: (),
-            })?;
-        }
-        if links.len() != 8 || workers.len() != 1 {
+        let MadeUp {
+            core,
+            links,
+            worker,
+        } = self;
+        if links.len() != LINKS as usize {
             return Err(fault(()));
         }
+        let stats = core.stats();
         Ok(Report {
-            history,
+            history: core.into_history(),
             links,
-            workers,
+            workers: vec![in alloc; worker]?,
             house: Vec::new(alloc),
             stats,
         })
@@ -117,36 +127,34 @@ impl<A: Allocator + Copy> MadeUp<A> {
 }
 
 /// What the audit of a history takes, and whether it is legal.
-fn time_audit<R: Runtime<A: Copy>>(
+fn time_audit<R: Runtime>(
     rt: &R,
+    alloc: Global,
     config: &Config,
-    steps: &[Step<R::A>],
+    steps: &[Step],
 ) -> io::Result<(u128, bool)> {
-    let mut history = Vec::new(rt.alloc());
+    let mut history = Vec::new(alloc);
     write_history(config, steps, &mut history)?;
     let start = Instant::now(rt)?;
     let mut source = ReaderSource::new(history.as_slice());
-    let mut sink = WriterSink::new(Vec::new(rt.alloc()));
-    let legality = audit::<R::A, TableRouter<R::A>, _, _>(
-        rt.alloc(),
-        &mut source,
-        &mut sink,
-    ).map_err(fault)?;
+    let mut sink = WriterSink::new(Vec::new(alloc));
+    let legality = audit::<Global, TableRouter, _, _>(alloc, &mut source, &mut sink);
     let time = each(rt, steps.len() as u64, &start)?;
-    Ok((time, legality == Legality::Legal))
+    Ok((time, matches!(legality, Ok(Legality::Legal))))
 }
 
 /// The flaw of the report of a run of about so many steps, and the audit of its history.
-pub(crate) fn measure_flaw<R: Runtime<A: Copy>>(rt: &R, steps: u32) -> io::Result<()> {
-    let config = config(LINKS)?;
-    let mut run = MadeUp::new(rt.alloc(), &config)?;
-    run.play(steps.saturating_sub(2 * LINKS) / STEPS_OF_ONE)?;
-    let report = run.into_report(rt.alloc())?;
+pub(crate) fn measure_flaw<R: Runtime>(rt: &R, alloc: Global, steps: u32) -> io::Result<()> {
+    let config = config(LINKS, 64, 1_000_000)?;
+    let mut run = MadeUp::new(alloc, &config)?;
+    let ids = steps.saturating_sub(2 * LINKS) / STEPS_OF_ONE;
+    run.play(ids.saturating_mul(STEPS_OF_ONE).saturating_add(2 * LINKS))?;
+    let report = run.into_report(alloc)?;
     let start = Instant::now(rt)?;
     let flaw = report.flaw(&[Role::Plain; 8]);
     let count = report.history.len();
     let time = each(rt, count as u64, &start)?;
-    let (audit, is_legal) = time_audit(rt, &config, &report.history)?;
+    let (audit, is_legal) = time_audit(rt, alloc, &config, &report.history)?;
     let found = if flaw.is_none() { "no flaw" } else { "a flaw" };
     let legality = if is_legal { "legal" } else { "wrong" };
     println!(rt; "flaw: {count} steps, {found}, {legality}")?;

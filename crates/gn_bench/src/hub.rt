@@ -1,10 +1,10 @@
-//! Steps through one service, from threads that make calls beside writers that wait.
+//! Steps through one service, from threads that make calls beside as many writers that wait.
 
 ghost use Rattle.std.specs.Prelude.{◌≡◌};
 
 use crate::setup::{config, fault};
 use gn_router::TableRouter;
-use gn_rules::Event;
+use gn_rules::{Event, RouterCore};
 use gn_service::{Actor, Role, Service};
 use std::alloc::Global;
 use std::marker::Brand;
@@ -15,105 +15,94 @@ use std::thread::Threads;
 use std::time::{Clock, Duration, Instant};
 use std::{io, thread};
 
-/// The links of the run. The actors below this number call, those from it on wait.
+/// The links of the run. The actors below this number are readers, those from it on writers.
 const LINKS: u32 = 16;
 
-/// So many times a Connect, and the Close of the connection that it got.
-fn make_calls<L: Ledger, R: Wait>(
+/// A reader's part: so many times a Connect, and the Close of the connection that it got.
+fn make_calls<C: RouterCore<Global> + Drop, L: Ledger, R: Wait>(
     rt: &R,
-    service: &Service<TableRouter, L>,
-    mut me: Actor<L>,
+    service: &Service<C, L>,
+    me: &mut Actor<L>,
     rounds: u32,
-) -> Actor<L> {
+) {
     for _ in 0..rounds {
-        if service.call(rt, &mut me, &Event::Connect).is_err() {
+        if service.call(rt, me, &Event::Connect).is_err() {
             break;
         }
         let last = me.receipts().last();
         if let Some(c) = last.and_then(|receipt| receipt.reply.connected()) {
-            let _ = service.call(rt, &mut me, &Event::Close(c));
+            let _ = service.call(rt, me, &Event::Close(c));
         }
     }
-    me
 }
 
-/// Waits for a packet of the first connection, which gets none, until the run has failed.
-fn wait<L: Ledger, R: Wait>(
+/// An actor's part. A reader below the count of threads makes its calls, and a writer of those waits for a packet of the
+/// first connection, which gets none, until all readers are done.
+fn play_part<C: RouterCore<Global> + Drop, L: Ledger, R: Wait>(
     rt: &R,
-    service: &Service<TableRouter, L>,
+    service: &Service<C, L>,
     mut me: Actor<L>,
-) -> Actor<L> {
-    let _ = service.next_out(rt, &mut me, 1);
-    me
+    threads: u32,
+    rounds: u32,
+) {
+    let number = me.number();
+    if number < threads {
+        make_calls(rt, service, &mut me, rounds);
+    }
+    if number < LINKS {
+        service.reader_done(rt, number);
+    } else if number - LINKS < threads {
+        let _ = service.next_out(rt, &mut me, 1);
+    }
 }
 
-/// How long the callers took, each in a thread of its own.
-fn time_callers<L: Ledger + Send + Sync, R: Threads + Wait + Sync + Clock>(
+/// How long the actors' parts took, each in a thread of its own.
+fn time_parts<
+    C: RouterCore<Global> + Drop + Send,
+    L: Ledger + Send + Sync,
+    R: Threads + Wait + Sync + Clock,
+>(
     rt: &R,
-    service: &Service<TableRouter, L>,
-    callers: Vec<Actor<L>>,
+    service: &Service<C, L>,
+    actors: Vec<Actor<L>>,
+    threads: u32,
     rounds: u32,
 ) -> io::Result<Duration> {
     let start = Instant::now(rt)?;
     thread::scope(thread::scope_env(), rt, |scope| {
-        for me in callers {
-            let _ = scope.spawn(move || make_calls(rt, service, me, rounds));
+        for me in actors {
+            let _ = scope.spawn(move || play_part(rt, service, me, threads, rounds));
         }
     });
     start.elapsed(rt)
 }
 
-/// How long the callers took beside the writers, which wait until these are done.
-fn time_calls<L: Ledger + Send + Sync, R: Threads + Wait + Sync + Clock>(
-    rt: &R,
-    service: &Service<TableRouter, L>,
-    callers: Vec<Actor<L>>,
-    writers: Vec<Actor<L>>,
-    rounds: u32,
-) -> io::Result<Duration> {
-    thread::scope(thread::scope_env(), rt, |scope| -> io::Result<Duration> {
-        for me in writers {
-            let _ = scope.spawn(move || wait(rt, service, me));
-        }
-        let time = time_callers(rt, service, callers, rounds);
-        service.fail(rt);
-        time
-    })
-}
-
 /// How many steps a new service made, and how long they took: a first connection, which the writers wait for, then the calls.
-fn play<L: Ledger + Send + Sync, R: Threads + Wait + Sync + Clock>(
-    rt: &R,
-    alloc: Global,
-    blank: Blank,
-    threads: u32,
-    rounds: u32,
-    waiting: u32,
-) -> io::Result<(u64, Duration)>
+fn play<
+    C: RouterCore<Global> + Drop + Send,
+    L: Ledger + Send + Sync,
+    R: Threads + Wait + Sync + Clock,
+>(rt: &R, alloc: Global, blank: Blank, threads: u32, rounds: u32) -> io::Result<(u64, Duration)>
     requires name { blank.name ≡ L.name }
     requires parts { (blank.parts ≡ L.parts) × (blank.parts ≡ 34) }
 {
-    let roles = [Role::Plain; 16];
-    let made = Service::<TableRouter, L>::new(alloc, blank, &config(64)?, &roles, 1);
-    let (service, all) = made.map_err(fault)?;
-    let (mut callers, mut writers) = (Vec::new(alloc), Vec::new(alloc));
-    for me in all {
-        let number = me.number();
-        if number < threads {
-            callers.push(me)?;
-        } else if number >= LINKS && number - LINKS < waiting {
-            writers.push(me)?;
-        }
-    }
-    if let Some(first) = callers.first_mut() {
+    let made = Service::<C, L>::new(
+        alloc,
+        blank,
+        &config(64, 64, 1_000_000)?,
+        &[Role::Plain; 16],
+        1,
+    );
+    let (service, mut actors) = made.map_err(fault)?;
+    if let Some(first) = actors.first_mut() {
         service.call(rt, first, &Event::Connect).map_err(fault)?;
     }
-    let time = time_calls(rt, &service, callers, writers, rounds)?;
+    let time = time_parts(rt, &service, actors, threads, rounds)?;
     Ok((service.into_hub().book(), time))
 }
 
 /// So many steps through one service by so many threads, 16 at most, Connects and Closes in turn, of which each Close wakes
-/// all that wait; with no writer that waits, and with as many as call.
+/// as many writers that wait.
 pub(crate) fn measure_hub<R: Runtime + Threads + Wait + Sync>(
     rt: &R,
     alloc: Global,
@@ -121,12 +110,9 @@ pub(crate) fn measure_hub<R: Runtime + Threads + Wait + Sync>(
     steps: u32,
 ) -> io::Result<()> {
     let threads = threads.clamp(1, LINKS);
-    for waiting in [0, threads] {
-        let rounds = steps / threads / 2;
-        let (made, time) = play::<Brand, R>(rt, alloc, Blank::new(34), threads, rounds, waiting)?;
-        let each = time.as_nanos() / u128::from(made.max(1));
-        println!(rt; "hub {threads}, {waiting} waiting: {made} steps")?;
-        eprintln!(rt; "hub {threads}, {waiting} waiting: {each} ns a step")?;
-    }
-    Ok(())
+    let rounds = steps / threads / 2;
+    let (made, time) = play::<TableRouter, Brand, R>(rt, alloc, Blank::new(34), threads, rounds)?;
+    let each = time.as_nanos() / u128::from(made.max(1));
+    println!(rt; "hub {threads}, as many waiting: {made} steps")?;
+    eprintln!(rt; "hub {threads}, as many waiting: {each} ns a step")
 }

@@ -15,29 +15,31 @@ use std::rt::Runtime;
 use std::{env, io};
 use tables::measure_tables;
 
-/// The number that a word is, where it is one above 0.
-fn amount_in(word: Option<&String>) -> Option<u32> {
-    word.and_then(|word| word.as_str().parse::<u32>().ok())
-        .filter(|amount| *amount > 0)
+/// The number that a word is, or the usual one where there is no such word, or it is no number above 0.
+fn amount_in(word: Option<&String>, usual: u32) -> u32 {
+    match word.map(|word| word.as_str().parse::<u32>()) {
+        Some(Ok(amount)) if amount > 0 => amount,
+        _ => usual,
+    }
 }
 
 fn main(rt: HostRuntime) -> io::Result<()> {
     let alloc = rt.alloc();
     let words = env::args(&rt)?.skip(1).collect::<Vec<String, _>>(alloc)?;
-    let amount = amount_in(words.get(1));
+    let million = amount_in(words.get(1), 1_000_000);
     match words.first().map_or("", |word| word.as_str()) {
-        "tables" => measure_tables(&rt, amount.unwrap_or(1_000_000)),
-        "stage" => measure_stage(&rt, alloc, amount.unwrap_or(1_000_000)),
+        "tables" => measure_tables(&rt, alloc, million),
+        "stage" => measure_stage(&rt, alloc, million),
         "hub" => {
-            let steps = amount_in(words.get(2)).unwrap_or(100_000);
-            measure_hub(&rt, alloc, amount.unwrap_or(4), steps)
+            let steps = amount_in(words.get(2), 100_000);
+            measure_hub(&rt, alloc, amount_in(words.get(1), 4), steps)
         }
-        "flaw" => measure_flaw(&rt, amount.unwrap_or(1_000_000)),
+        "flaw" => measure_flaw(&rt, alloc, million),
         _ => {
-            measure_tables(&rt, 1_000)?;
+            measure_tables(&rt, alloc, 1_000)?;
             measure_stage(&rt, alloc, 1_000)?;
             measure_hub(&rt, alloc, 4, 1_000)?;
-            measure_flaw(&rt, 1_000)
+            measure_flaw(&rt, alloc, 1_000)
         }
     }
 }

@@ -3,10 +3,8 @@
 use bytes::Bytes;
 use gn_rules::{Config, Own};
 use gn_wire::{Descriptor, Guid, Kind};
-use std::alloc::Allocator;
 use std::io::{self, ErrorKind};
-use std::rt::Runtime;
-use std::time::Instant;
+use std::time::{Clock, Instant};
 
 const OWN: Own = Own {
     servent: Guid([0x47; 16]),
@@ -16,9 +14,9 @@ const OWN: Own = Own {
     kbytes: 0,
 };
 
-/// The configuration of a captured run, with so many neighbours.
-pub(crate) fn config(neighbours: u32) -> io::Result<Config> {
-    Config::new(neighbours, 1_024, 64, 16, 64, 1_000_000, OWN).map_err(fault)
+/// A configuration with so many neighbours and steps, and with this size of each table and queue.
+pub(crate) fn config(neighbours: u32, size: u32, steps: u32) -> io::Result<Config> {
+    Config::new(neighbours, size, size, size, size, steps, OWN).map_err(fault)
 }
 
 /// An ID of its own for each number.
@@ -27,12 +25,12 @@ pub(crate) fn numbered(number: u32) -> Guid {
 }
 
 /// A Ping with the number's ID, which is answered and not passed on.
-pub(crate) fn ping<A: Allocator>(number: u32) -> io::Result<Descriptor<A>> {
+pub(crate) fn ping(number: u32) -> io::Result<Descriptor> {
     Descriptor::new(numbered(number), Kind::Ping, 1, 0, Bytes::new()).map_err(fault)
 }
 
 /// The nanoseconds that each of so many calls or steps took, which were begun at this instant.
-pub(crate) fn each<R: Runtime>(rt: &R, count: u64, start: &Instant) -> io::Result<u128> {
+pub(crate) fn each<R: Clock>(rt: &R, count: u64, start: &Instant) -> io::Result<u128> {
     Ok(start.elapsed(rt)?.as_nanos() / u128::from(count.max(1)))
 }
 

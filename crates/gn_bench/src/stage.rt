@@ -3,7 +3,7 @@
 ghost use Rattle.std.specs.Prelude.{◌≡◌};
 
 use crate::setup::{each, ping};
-use gn_stage::{Intake, IntakeHome, Job, Outlet, OutletHome, Site, Stage};
+use gn_stage::{Intake, Job, Outlet, Site, Stage};
 use std::alloc::{AllocError, Global};
 use std::marker::Brand;
 use std::rt::Runtime;
@@ -14,7 +14,7 @@ use std::{io, thread};
 
 const CAPACITY: usize = 1_024;
 
-fn put_all<S: Site, R: Wait>(rt: &R, mut intake: Intake<S>, jobs: u32) -> IntakeHome<S> {
+fn put_all<S: Site, R: Wait>(rt: &R, mut intake: Intake<S>, jobs: u32) {
     for ticket in 0..jobs {
         let Ok(descriptor) = ping(ticket) else {
             break;
@@ -23,16 +23,20 @@ fn put_all<S: Site, R: Wait>(rt: &R, mut intake: Intake<S>, jobs: u32) -> Intake
             break;
         }
     }
-    intake.finish()
+    let _ = intake.finish();
 }
 
-fn take_all<S: Site, R: Wait>(rt: &R, mut outlet: Outlet<S>) -> OutletHome<S> {
+/// How many jobs came.
+fn take_all<S: Site, R: Wait>(rt: &R, mut outlet: Outlet<S>) -> u64 {
+    let mut taken = 0u64;
     for _ in rt.forever() {
         if outlet.take(rt).is_none() {
             break;
         }
+        taken = taken.wrapping_add(1);
     }
-    outlet.finish()
+    let _ = outlet.finish();
+    taken
 }
 
 /// How many jobs came out of the stage, each of two threads having put so many.
@@ -44,32 +48,25 @@ fn pass_on<S: Site + Send, R: Threads + Wait + Sync>(
 ) -> Result<u64, AllocError>
     requires { stage ≡ S.stage }
 {
-    let (ins, outs, desk) = stage.ends::<S>(alloc, 2, 2)?;
-    let (ins, outs) = thread::scope(
+    let (ins, outs, _desk) = stage.ends::<S>(alloc, 2, 2)?;
+    thread::scope(
         thread::scope_env(),
         rt,
-        |scope| -> Result<(Vec<IntakeHome<S>>, Vec<OutletHome<S>>), AllocError> {
-            let (mut putting, mut taking) = (Vec::new(alloc), Vec::new(alloc));
+        |scope| -> Result<u64, AllocError> {
+            for intake in ins {
+                scope.spawn(move || put_all(rt, intake, jobs))?;
+            }
+            let mut taking = Vec::new(alloc);
             for outlet in outs {
                 taking.push(scope.spawn(move || take_all(rt, outlet))?)?;
             }
-            for intake in ins {
-                putting.push(scope.spawn(move || put_all(rt, intake, jobs))?)?;
-            }
-            let (mut ins, mut outs) = (Vec::new(alloc), Vec::new(alloc));
-            for thread in putting {
-                ins.push(thread.join(rt))?;
-            }
+            let mut taken = 0u64;
             for thread in taking {
-                outs.push(thread.join(rt))?;
+                taken = taken.wrapping_add(thread.join(rt));
             }
-            Ok((ins, outs))
+            Ok(taken)
         },
-    )?;
-    match desk.settle(rt, alloc, ins, outs) {
-        Ok(settled) => Ok(settled.taken),
-        Err(_) => Err(AllocError),
-    }
+    )
 }
 
 /// So many jobs through a stage of capacity 1,024, and what each took.

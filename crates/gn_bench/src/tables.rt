@@ -1,62 +1,53 @@
 //! What a call of each table takes, with few entries and with many: it doesn't grow with their number.
 
-ghost use Rattle.std.specs.Prelude.{◌≡◌, ◌<◌, ◌≤◌};
+ghost use Rattle.std.specs.Prelude.{◌<◌, ◌≤◌};
 
 use crate::setup::{each, numbered, ping};
 use gn_tables::{Flights, Neighbours, SeenTable, ServentTable};
-use gn_wire::{Descriptor, Kind};
-use std::alloc::{AllocError, Allocator};
+use gn_wire::Kind;
+use std::alloc::Global;
 use std::io;
 use std::rt::Runtime;
-use std::time::Instant;
-
-/// Keeps the number's key, where it isn't kept yet.
-fn keep_new<A: Allocator + Copy>(seen: &mut SeenTable<A>, number: u32) -> Result<(), AllocError> {
-    let id = numbered(number);
-    match seen.source(Kind::Ping, &id) {
-        Some(_) => Ok(()),
-        None => seen.keep(Kind::Ping, id, number),
-    }
-}
+use std::time::{Clock, Instant};
 
 /// Keys that are new, each kept in a full table.
-fn time_seen<R: Runtime<A: Copy>>(rt: &R, size: u32, calls: u32) -> io::Result<u128>
-    requires positive { 0 < size }
-    requires limit { size ≤ 65536 }
+fn time_seen<R: Clock>(rt: &R, alloc: Global, size: u32, calls: u32) -> io::Result<u128>
+    requires { (0 < size) × (size ≤ 65536) }
 {
-    let mut seen = SeenTable::new(rt.alloc(), size)?;
-    for number in 0..size {
-        keep_new(&mut seen, number)?;
-    }
-    let start = Instant::now(rt)?;
-    for number in 0..calls {
-        keep_new(&mut seen, number.wrapping_add(size))?;
+    let mut seen = SeenTable::new(alloc, size)?;
+    let mut start = Instant::now(rt)?;
+    for number in 0..size.saturating_add(calls) {
+        if number == size {
+            start = Instant::now(rt)?;
+        }
+        let id = numbered(number);
+        if seen.source(Kind::Ping, &id).is_none() {
+            seen.keep(Kind::Ping, id, number)?;
+        }
     }
     each(rt, u64::from(calls), &start)
 }
 
 /// Servents that are new, each learned in a full table.
-fn time_servents<R: Runtime<A: Copy>>(rt: &R, size: u32, calls: u32) -> io::Result<u128>
-    requires positive { 0 < size }
-    requires limit { size ≤ 65536 }
+fn time_servents<R: Clock>(rt: &R, alloc: Global, size: u32, calls: u32) -> io::Result<u128>
+    requires { (0 < size) × (size ≤ 65536) }
 {
-    let mut servents = ServentTable::new(rt.alloc(), size)?;
-    for number in 0..size {
+    let mut servents = ServentTable::new(alloc, size)?;
+    let mut start = Instant::now(rt)?;
+    for number in 0..size.saturating_add(calls) {
+        if number == size {
+            start = Instant::now(rt)?;
+        }
         servents.learn(numbered(number), 1)?;
-    }
-    let start = Instant::now(rt)?;
-    for number in 0..calls {
-        servents.learn(numbered(number.wrapping_add(size)), 2)?;
     }
     each(rt, u64::from(calls), &start)
 }
 
 /// The first packet of a full ring, put after the others again.
-fn time_packets<R: Runtime<A: Copy>>(rt: &R, size: u32, calls: u32) -> io::Result<u128>
-    requires positive { 0 < size }
-    requires limit { size ≤ 4096 }
+fn time_packets<R: Clock>(rt: &R, alloc: Global, size: u32, calls: u32) -> io::Result<u128>
+    requires { (0 < size) × (size ≤ 4096) }
 {
-    let mut neighbours = Neighbours::new(rt.alloc(), 1, size)?;
+    let mut neighbours = Neighbours::new(alloc, 1, size)?;
     neighbours.add(1)?;
     for number in 0..size {
         let _ = neighbours.push(1, ping(number)?);
@@ -70,59 +61,46 @@ fn time_packets<R: Runtime<A: Copy>>(rt: &R, size: u32, calls: u32) -> io::Resul
     each(rt, u64::from(calls), &start)
 }
 
-/// Adds a flight, where there is a place and the ticket is new.
-fn add_new<A: Allocator + Copy>(
-    flights: &mut Flights<A>,
-    most: u32,
-    ticket: u32,
-    descriptor: Descriptor<A>,
-) -> Result<(), AllocError>
-    requires { flights.old.most ≡ most }
-    ensures { flights.new.most ≡ most }
+/// The oldest flight of a full table, and one more under a new ticket.
+fn time_flights<R: Clock>(rt: &R, alloc: Global, size: u32, calls: u32) -> io::Result<u128>
+    requires { (0 < size) × (size ≤ 4096) }
 {
-    if flights.len() < most && flights.get(ticket).is_none() {
-        flights.add(ticket, 1, descriptor)?;
-    }
-    Ok(())
-}
-
-/// The oldest flight of a full table, added again under a new ticket.
-fn time_flights<R: Runtime<A: Copy>>(rt: &R, size: u32, calls: u32) -> io::Result<u128>
-    requires positive { 0 < size }
-    requires limit { size ≤ 4096 }
-{
-    let mut flights = Flights::new(rt.alloc(), size);
-    for number in 0..size {
-        add_new(&mut flights, size, number, ping(number)?)?;
-    }
-    let start = Instant::now(rt)?;
-    for number in 0..calls {
-        if let Some(flight) = flights.finish(number) {
-            let ticket = number.wrapping_add(size);
-            add_new(&mut flights, size, ticket, flight.descriptor)?;
+    let mut flights = Flights::new(alloc, size);
+    let mut start = Instant::now(rt)?;
+    for ticket in 0..size.saturating_add(calls) {
+        if ticket == size {
+            start = Instant::now(rt)?;
+        }
+        let _ = flights.finish(ticket.wrapping_sub(size));
+        if flights.len() < size && flights.get(ticket).is_none() {
+            flights.add(ticket, 1, ping(ticket)?)?;
         }
     }
     each(rt, u64::from(calls), &start)
 }
 
+/// So many calls of each table, with so many keys or so many packets in it.
+fn time_tables<R: Runtime>(
+    rt: &R,
+    alloc: Global,
+    keys: u32,
+    packets: u32,
+    calls: u32,
+) -> io::Result<()>
+    requires keys { (0 < keys) × (keys ≤ 65536) }
+    requires packets { (0 < packets) × (packets ≤ 4096) }
+{
+    let seen = time_seen(rt, alloc, keys, calls)?;
+    let servents = time_servents(rt, alloc, keys, calls)?;
+    let outputs = time_packets(rt, alloc, packets, calls)?;
+    let flights = time_flights(rt, alloc, packets, calls)?;
+    eprintln!(rt; "{keys} entries: source, keep {seen} ns; learn {servents} ns")?;
+    eprintln!(rt; "{packets} entries: pop, push {outputs} ns; finish, get, add {flights} ns")
+}
+
 /// Each table with few entries and with many, and so many calls on it.
-pub(crate) fn measure_tables<R: Runtime<A: Copy>>(rt: &R, calls: u32) -> io::Result<()> {
-    let (few, many) = (time_seen(rt, 1_000, calls)?, time_seen(rt, 65_536, calls)?);
-    eprintln!(rt; "source, keep: {few} ns with 1,000 entries, {many} ns with 65,536")?;
-    let (few, many) = (
-        time_servents(rt, 1_000, calls)?,
-        time_servents(rt, 65_536, calls)?,
-    );
-    eprintln!(rt; "learn: {few} ns with 1,000 entries, {many} ns with 65,536")?;
-    let (few, many) = (
-        time_packets(rt, 1_000, calls)?,
-        time_packets(rt, 4_096, calls)?,
-    );
-    eprintln!(rt; "pop, push: {few} ns with 1,000 entries, {many} ns with 4,096")?;
-    let (few, many) = (
-        time_flights(rt, 1_000, calls)?,
-        time_flights(rt, 4_096, calls)?,
-    );
-    eprintln!(rt; "finish, get, add: {few} ns with 1,000 entries, {many} ns with 4,096")?;
+pub(crate) fn measure_tables<R: Runtime>(rt: &R, alloc: Global, calls: u32) -> io::Result<()> {
+    time_tables(rt, alloc, 1_000, 1_000, calls)?;
+    time_tables(rt, alloc, 65_536, 4_096, calls)?;
     println!(rt; "tables: {calls} calls each")
 }

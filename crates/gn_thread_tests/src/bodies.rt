@@ -11,7 +11,7 @@ mod worked;
 use fakes::Doorman;
 use gn_bodies::{BodyFault, ReaderEnd, WriterEnd, reader_body, worker_body, writer_body};
 use gn_fixtures::{PING, ping, usual};
-use gn_links::{Link, LinkReader, LinkWriter, MemoryLink, MemoryWriter};
+use gn_links::{Link, LinkReader, LinkWriter, MemoryLink, MemoryReader, MemoryWriter};
 use gn_router::TableRouter;
 use gn_rules::{Receipt, RouterCore, Step};
 use gn_service::{Actor, Door, Service};
@@ -64,19 +64,17 @@ pub(crate) struct Ran<W: LinkWriter, A: Allocator = Global> {
     has_failed: bool,
 }
 
-/// What a run of one link is like: the most steps of its history, the ticket of a job that waits in its queue and that
-/// nobody admitted, and whether a worker takes jobs.
+/// What a run of one link is like: the most steps of its history, and the ticket of a job that waits in its queue and that
+/// nobody admitted.
 #[derive(Clone, Copy)]
 pub(crate) struct Setting {
     steps: u32,
     forged: Option<u32>,
-    has_worker: bool,
 }
 
 pub(crate) const USUAL: Setting = Setting {
     steps: 100,
     forged: None,
-    has_worker: true,
 };
 
 /// The reader, the worker and the writer of one link, one after the other.
@@ -86,7 +84,7 @@ fn in_turn<C, S: Site, L: Ledger, Rd: LinkReader, W: LinkWriter, A: Allocator + 
     service: Service<C, L, A>,
     actors: Vec<Actor<L, A>, A>,
     intake: Intake<S, A>,
-    outlet: Option<Outlet<S, A>>,
+    outlet: Outlet<S, A>,
     role: Role,
     reader: Rd,
     writer: W,
@@ -106,18 +104,12 @@ where
     let gate = Doorman {
         last: Cell::new(None),
     };
-    let (k, worked) = match outlet {
-        Some(outlet) => {
-            let done = worker_body(rt, &service, k, WORKER, &gate, outlet);
-            (done.actor, done.end)
-        }
-        None => (k, Ok(())),
-    };
+    let worked = worker_body(rt, &service, k, WORKER, &gate, outlet);
     let wrote = writer_body(rt, alloc, &service, w, 0, role, writer);
     let hub = service.into_hub();
     Some(Ran {
         read: read.end,
-        worked,
+        worked: worked.end,
         passed: gate.last.get(),
         wrote: wrote.end,
         writer: wrote.writer,
@@ -128,7 +120,7 @@ where
             history: hub.into_router().into_history(),
             reader: read.actor.into_parts().0,
             writer: wrote.actor.into_parts().0,
-            worker: k.into_parts().0,
+            worker: worked.actor.into_parts().0,
         },
     })
 }
@@ -163,41 +155,14 @@ where
     let config = usual(setting.steps).ok()?;
     let (service, actors) = Service::<C, L, A>::new(alloc, blank, &config, &[role], 1).ok()?;
     let (mut ins, mut outs, _desk) = stage.ends::<S>(alloc, 1, 1).ok()?;
-    let mut intake = ins.pop()?;
-    let outlet = outs.pop().filter(|_| setting.has_worker);
+    let (mut intake, outlet) = (ins.pop()?, outs.pop()?);
     forge(rt, &mut intake, setting.forged);
     in_turn(
         rt, alloc, service, actors, intake, outlet, role, reader, writer,
     )
 }
 
-/// The bodies of one link in turn, over the table router.
-fn run<Rd: LinkReader, W: LinkWriter, R: Wait>(
-    rt: &R,
-    alloc: Global,
-    setting: Setting,
-    role: Role,
-    reader: Rd,
-    writer: W,
-) -> Option<Ran<W>>
-    requires reader { IsNewReader (Rd.bytes_read reader) (Rd.failures reader) (Rd.pieces reader) (Rd.has_ended reader) }
-    requires writer { IsNewWriter (W.bytes_written writer) (W.failures writer) (W.is_stuck writer)
-        (W.is_finished writer) }
-{
-    let stage = Stage::new(alloc, 8).ok()?;
-    in_stage::<TableRouter, Brand, Brand, Rd, W, Global, R>(
-        rt,
-        alloc,
-        Blank::new(4),
-        stage,
-        setting,
-        role,
-        reader,
-        writer,
-    )
-}
-
-/// The same over a memory link.
+/// The bodies of one memory link in turn, over the table router.
 fn run_link<R: Wait>(
     rt: &R,
     alloc: Global,
@@ -206,7 +171,10 @@ fn run_link<R: Wait>(
 ) -> Option<Ran<MemoryWriter>> {
     let role = link.role();
     let (reader, writer) = link.split().ok()?;
-    run(rt, alloc, setting, role, reader, writer)
+    let (blank, stage) = (Blank::new(4), Stage::new(alloc, 8).ok()?);
+    in_stage::<TableRouter, Brand, Brand, MemoryReader, MemoryWriter, Global, R>(
+        rt, alloc, blank, stage, setting, role, reader, writer,
+    )
 }
 
 /// A plain link of one Ping.

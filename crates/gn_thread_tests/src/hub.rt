@@ -1,12 +1,15 @@
-//! The worked run on the lent hub, at the plain router. Each helper is generic in the router, so that one function alone
-//! names it.
+//! Runs on the lent hub, at the plain router: the worked one, and one over jobs that were never admitted, or not so.
+//!
+//! Each helper is generic in the router, so that one function alone names it. What a worker does with such a job stands with
+//! the tests of the bodies. A run over one can't be had: all jobs are put by the run's own readers, and no caller has an
+//! intake.
 
 ghost use Rattle.std.specs.Prelude.{◌≡◌, ◌+◌};
 
 use gn_fixtures::{ping, usual};
 use gn_payload::Checked;
 use gn_plain::PlainRouter;
-use gn_rules::{ConnId, Event, RouterCore, Step, is_step_of};
+use gn_rules::{ConnId, Event, Refusal, RouterCore, Step, Ticket, is_step_of};
 use gn_service::{Actor, Hub, Next, Role, Service};
 use gn_text::push_step;
 use std::alloc::Global;
@@ -14,12 +17,12 @@ use std::marker::Brand;
 use std::sync::ledger::{Blank, Ledger};
 use std::test::Fail;
 
-/// A call of the worked run, with the answer that is wanted.
+/// A call, with the answer that is wanted. A Ping is named by the byte that its ID repeats.
 #[derive(Clone, Copy)]
 enum Call {
     Connects(u32),
-    Admits,
-    Routes,
+    Admits(u8),
+    Routes(Ticket, u8, Result<(), Refusal>),
     Next(ConnId, Next),
     Done(u32, bool),
 }
@@ -28,8 +31,8 @@ enum Call {
 const CALLS: [(usize, Call); 12] = [
     (0, Call::Connects(0)),
     (1, Call::Connects(1)),
-    (0, Call::Admits),
-    (4, Call::Routes),
+    (0, Call::Admits(0xa1)),
+    (4, Call::Routes(0, 0xa1, Ok(()))),
     (3, Call::Next(2, Next::Packet)),
     (3, Call::Next(2, Next::Later)),
     (0, Call::Done(0, false)),
@@ -52,6 +55,29 @@ const WORKED: &str = "\
 2 close 1 = closed 0
 ";
 
+/// Two Pings are admitted, and each is routed once: who makes each call, and what it is.
+const FORGED_CALLS: [(usize, Call); 10] = [
+    (0, Call::Connects(0)),
+    (0, Call::Admits(0xa1)),
+    (0, Call::Admits(0xa2)),
+    (4, Call::Routes(2, 0xa1, Err(Refusal::NoTicket))),
+    (4, Call::Routes(0, 0xa2, Err(Refusal::Strange))),
+    (4, Call::Routes(0, 0xa1, Ok(()))),
+    (4, Call::Routes(0, 0xa1, Err(Refusal::NoTicket))),
+    (4, Call::Routes(1, 0xa1, Err(Refusal::Strange))),
+    (4, Call::Routes(1, 0xa2, Ok(()))),
+    (4, Call::Routes(1, 0xa2, Err(Refusal::NoTicket))),
+];
+
+/// The steps of those calls: the refused ones make none.
+const FORGED: &str = "\
+0 connect = connected 1
+0 admit 1 a1a1a1a1a1a1a1a1a1a1a1a1a1a1a1a100070000000000 = admitted 0
+0 admit 1 a2a2a2a2a2a2a2a2a2a2a2a2a2a2a2a200070000000000 = admitted 1
+4 route 0 = routed local 1+a1a1a1a1a1a1a1a1a1a1a1a1a1a1a1a10101000e000000ca187f0000010500000028000000
+4 route 1 = routed local 1+a2a2a2a2a2a2a2a2a2a2a2a2a2a2a2a20101000e000000ca187f0000010500000028000000
+";
+
 /// Makes a call: whether its answer is the wanted one.
 fn is_answered<C: RouterCore<Global>, L: Ledger>(
     hub: &mut Hub<C, L>,
@@ -60,8 +86,10 @@ fn is_answered<C: RouterCore<Global>, L: Ledger>(
 ) -> Result<bool, Fail> {
     Ok(match call {
         Call::Connects(link) => me.number() == link && hub.connect(me, link).is_ok(),
-        Call::Admits => hub.call(me, &Event::Admit(1, ping(0xa1, 7, 0)?)).is_ok(),
-        Call::Routes => hub.route(me, 0, &Checked::new(ping(0xa1, 7, 0)?)).is_ok(),
+        Call::Admits(byte) => hub.call(me, &Event::Admit(1, ping(byte, 7, 0)?)).is_ok(),
+        Call::Routes(ticket, byte, wanted) => {
+            hub.route(me, ticket, &Checked::new(ping(byte, 7, 0)?)) == wanted
+        }
         Call::Next(c, next) => hub.next_out(me, c) == Ok(next),
         Call::Done(link, closing) => {
             hub.reader_done(link);
@@ -87,7 +115,7 @@ pub(crate) fn lines_of(alloc: Global, steps: &[Step]) -> Result<Vec<u8>, Fail> {
     Ok(lines)
 }
 
-/// What the worked run left: whether each answer was the wanted one and each receipt stands in the history, the book, each
+/// What a run left: whether each answer was the wanted one and each receipt stands in the history, the book, each
 /// actor's share, and the history.
 #[derive(Drop)]
 struct Worked {
@@ -98,26 +126,28 @@ struct Worked {
     history: Vec<Step>,
 }
 
-/// Makes all calls of the worked run: whether each answer was the wanted one.
+/// Makes all calls: whether each answer was the wanted one.
 fn are_answered<C: RouterCore<Global>, L: Ledger>(
     hub: &mut Hub<C, L>,
     actors: &mut [Actor<L>],
+    calls: &[(usize, Call)],
 ) -> Result<bool, Fail> {
-    for (who, call) in CALLS {
-        let Some(me) = actors.get_mut(who) else {
+    for (who, call) in calls {
+        let Some(me) = actors.get_mut(*who) else {
             return Ok(false);
         };
-        if !is_answered(hub, me, call)? {
+        if !is_answered(hub, me, *call)? {
             return Ok(false);
         }
     }
     Ok(true)
 }
 
-/// Two plain links connect, the first sends a Ping, and both writers take what there is until the run closes.
+/// The calls of a run of two plain links and one worker.
 fn work<C: RouterCore<Global> + Drop, L: Ledger>(
     alloc: Global,
     blank: Blank,
+    calls: &[(usize, Call)],
 ) -> Result<Worked, Fail>
     requires name { blank.name ≡ L.name }
     requires parts { (blank.parts ≡ L.parts) × (blank.parts ≡ 6) }
@@ -126,7 +156,7 @@ fn work<C: RouterCore<Global> + Drop, L: Ledger>(
     let made = Service::<C, L>::new(alloc, blank, &usual(100)?, &roles, 1);
     let (service, mut actors) = made.map_err(|_| "a service")?;
     let mut hub = service.into_hub();
-    let are_answered = are_answered(&mut hub, actors.as_mut_slice())?;
+    let are_answered = are_answered(&mut hub, actors.as_mut_slice(), calls)?;
     let book = hub.book();
     let history = hub.into_router().into_history();
     let shares = actors.iter().map(|me| me.share()).collect(alloc)?;
@@ -140,17 +170,28 @@ fn work<C: RouterCore<Global> + Drop, L: Ledger>(
     })
 }
 
-fn work_plain(alloc: Global) -> Result<Worked, Fail> {
-    work::<PlainRouter, Brand>(alloc, Blank::new(6))
+fn work_plain(alloc: Global, calls: &[(usize, Call)]) -> Result<Worked, Fail> {
+    work::<PlainRouter, Brand>(alloc, Blank::new(6), calls)
 }
 
+/// Two plain links connect, the first sends a Ping, and both writers take what there is until the run closes.
 #[test]
 fn a_ping_through_the_lent_hub(rt: HostRuntime) -> Result<(), Fail> {
-    let worked = work_plain(rt.alloc())?;
+    let worked = work_plain(rt.alloc(), &CALLS)?;
     assert!(rt; worked.are_answered && worked.are_in_history);
     assert_eq!(rt; worked.book, 8);
     assert_eq!(rt; worked.shares.as_slice(), [2, 1, 2, 2, 1, 0].as_slice());
     let lines = lines_of(rt.alloc(), worked.history.as_slice())?;
     assert_eq!(rt; lines.as_slice(), WORKED.as_bytes());
+    Ok(())
+}
+
+#[test]
+fn forged_routes_are_refused(rt: HostRuntime) -> Result<(), Fail> {
+    let worked = work_plain(rt.alloc(), &FORGED_CALLS)?;
+    assert!(rt; worked.are_answered && worked.are_in_history);
+    assert_eq!(rt; worked.shares.as_slice(), [3, 0, 0, 0, 2, 0].as_slice());
+    let lines = lines_of(rt.alloc(), worked.history.as_slice())?;
+    assert_eq!(rt; lines.as_slice(), FORGED.as_bytes());
     Ok(())
 }

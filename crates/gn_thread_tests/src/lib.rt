@@ -4,8 +4,6 @@
 #[cfg(test)]
 mod bodies;
 #[cfg(test)]
-mod forged;
-#[cfg(test)]
 mod hub;
 #[cfg(test)]
 mod links;

@@ -3,13 +3,11 @@
 ghost use Rattle.std.specs.Prelude.{◌≡◌, ◌+◌};
 
 use crate::hub::stands_in;
-use bytes::Bytes;
-use gn_fixtures::usual;
+use gn_fixtures::{ping, usual};
 use gn_payload::Checked;
 use gn_plain::{PlainRouter, legal};
 use gn_rules::{Event, Legality, RouterCore, Step};
 use gn_service::{Actor, Role, Service};
-use gn_wire::{Descriptor, Guid, Kind};
 use std::alloc::Global;
 use std::marker::Brand;
 use std::sync::Wait;
@@ -113,20 +111,6 @@ fn takes<C: RouterCore<Global> + Drop, L: Ledger, R: Wait>(
     Some(taken)
 }
 
-/// Admits and routes a Ping of connection 1, the first under ticket 0.
-fn ping<C: RouterCore<Global> + Drop, L: Ledger, R: Wait>(
-    rt: &R,
-    service: &Service<C, L>,
-    reader: &mut Actor<L>,
-    worker: &mut Actor<L>,
-    number: u8,
-) -> Option<()> {
-    let ping = Descriptor::new(Guid([number; 16]), Kind::Ping, 7, 0, Bytes::new()).ok()?;
-    let checked = Checked::new(ping.copy().ok()?);
-    service.call(rt, reader, &Event::Admit(1, ping)).ok()?;
-    service.route(rt, worker, u32::from(number), &checked).ok()
-}
-
 /// A reader's part and a worker's: connects, and admits and routes so many Pings; then the reader is done.
 fn pings<C: RouterCore<Global> + Drop, L: Ledger, R: Wait>(
     rt: &R,
@@ -140,7 +124,12 @@ fn pings<C: RouterCore<Global> + Drop, L: Ledger, R: Wait>(
     }
     service.connect(rt, &mut reader, 0).ok()?;
     for number in 0..count {
-        ping(rt, service, &mut reader, &mut worker, number)?;
+        let admit = Event::Admit(1, ping(number, 7, 0).ok()?);
+        service.call(rt, &mut reader, &admit).ok()?;
+        let checked = Checked::new(ping(number, 7, 0).ok()?);
+        service
+            .route(rt, &mut worker, u32::from(number), &checked)
+            .ok()?;
     }
     service.reader_done(rt, 0);
     Some(())

@@ -2,9 +2,8 @@
 
 ghost use Rattle.std.specs.Prelude.{◌≡◌, ◌<◌, ◌≤◌};
 
-use bytes::Bytes;
+use gn_fixtures::ping;
 use gn_stage::*;
-use gn_wire::{Descriptor, Guid, Kind};
 use linked_list_allocator::LocalHeap;
 use std::alloc::{AllocError, Allocator, Global};
 use std::marker::Brand;
@@ -16,7 +15,7 @@ use std::time::{Clock, Duration};
 
 /// A Ping with this ticket.
 fn job<A: Allocator>(ticket: u32) -> Result<Job<A>, AllocError> {
-    match Descriptor::new(Guid([0; 16]), Kind::Ping, 5, 0, Bytes::new()) {
+    match ping(0xa1, 7, 0) {
         Ok(descriptor) => Ok(Job { ticket, descriptor }),
         Err(_) => Err(AllocError),
     }
@@ -34,18 +33,16 @@ fn summary_of<A: Allocator>(
     Ok((settled.put, settled.taken, tickets))
 }
 
-/// Two jobs are put and one is taken. With two intakes the second comes home late.
+/// Two jobs are put and one is taken. The second intake comes home late: the fault before it does, and what is settled then.
 fn one_thread<S: Site, R: Wait>(
     rt: &R,
     alloc: Global,
     stage: Stage,
-    intakes: u32,
-) -> Result<(Option<u32>, Option<StageFault>, Settled), AllocError>
+) -> Result<(Option<u32>, StageFault, Settled), AllocError>
     requires { stage ≡ S.stage }
 {
-    let (mut ins, mut outs, desk) = stage.ends::<S>(alloc, intakes, 1)?;
-    let late = if intakes == 2 { ins.pop() } else { None };
-    let (Some(mut intake), Some(mut outlet)) = (ins.pop(), outs.pop()) else {
+    let (mut ins, mut outs, desk) = stage.ends::<S>(alloc, 2, 1)?;
+    let (Some(late), Some(mut intake), Some(mut outlet)) = (ins.pop(), ins.pop(), outs.pop()) else {
         return Err(AllocError);
     };
     for ticket in 0..2 {
@@ -54,48 +51,42 @@ fn one_thread<S: Site, R: Wait>(
         }
     }
     let first = outlet.take(rt).map(|job| job.ticket);
-    let (mut ins, mut outs) = (Vec::new(alloc), Vec::new(alloc));
-    ins.push(intake.finish())?;
-    outs.push(outlet.finish())?;
+    let (ins, outs) = (
+        vec![in alloc; intake.finish()]?,
+        vec![in alloc; outlet.finish()]?,
+    );
+    let Err(
+        Unsettled {
+            fault,
+            desk,
+            intakes: mut ins,
+            outlets: outs,
+        },
+    ) = desk.settle(rt, alloc, ins, outs)
+    else {
+        return Err(AllocError);
+    };
+    ins.push(late.finish())?;
     match desk.settle(rt, alloc, ins, outs) {
-        Ok(settled) => Ok((first, None, settled)),
-        Err(
-            Unsettled {
-                fault,
-                desk,
-                intakes: mut ins,
-                outlets: outs,
-            },
-        ) => {
-            if let Some(late) = late {
-                ins.insert(0, late.finish())?;
-            }
-            match desk.settle(rt, alloc, ins, outs) {
-                Ok(settled) => Ok((first, Some(fault), settled)),
-                Err(_) => Err(AllocError),
-            }
-        }
+        Ok(settled) => Ok((first, fault, settled)),
+        Err(_) => Err(AllocError),
     }
 }
 
 fn in_one_thread<R: Wait>(
     rt: &R,
     alloc: Global,
-    intakes: u32,
-) -> Result<(Option<u32>, Option<StageFault>, Settled), AllocError> {
-    one_thread::<Brand, R>(rt, alloc, Stage::new(alloc, 2)?, intakes)
+) -> Result<(Option<u32>, StageFault, Settled), AllocError> {
+    one_thread::<Brand, R>(rt, alloc, Stage::new(alloc, 2)?)
 }
 
 #[test]
 fn stage_settles(rt: HostRuntime) -> Result<(), Fail> {
-    for (intakes, want) in [(1, None), (2, Some(StageFault::Missing))] {
-        let (first, fault, settled) = in_one_thread(&rt, rt.alloc(), intakes)?;
-        let (put, taken, drained) = summary_of(rt.alloc(), &settled)?;
-        assert_eq!(rt; first, Some(0));
-        assert_eq!(rt; fault, want);
-        assert_eq!(rt; (put, taken), (2, 1));
-        assert_eq!(rt; drained.as_slice(), [1].as_slice());
-    }
+    let (first, fault, settled) = in_one_thread(&rt, rt.alloc())?;
+    let (put, taken, drained) = summary_of(rt.alloc(), &settled)?;
+    assert_eq!(rt; (first, fault), (Some(0), StageFault::Missing));
+    assert_eq!(rt; (put, taken), (2, 1));
+    assert_eq!(rt; drained.as_slice(), [1].as_slice());
     Ok(())
 }
 
@@ -282,50 +273,35 @@ fn outlet_leaves<S: Site + Send, R: Threads + Wait + Sync + Clock>(
     rt: &R,
     alloc: Global,
     stage: Stage,
-) -> Result<(Option<u32>, Settled), AllocError>
+) -> Result<Option<u32>, AllocError>
     requires { stage ≡ S.stage }
 {
-    let (mut ins, mut outs, desk) = stage.ends::<S>(alloc, 1, 1)?;
+    let (mut ins, mut outs, _desk) = stage.ends::<S>(alloc, 1, 1)?;
     let (Some(mut intake), Some(outlet)) = (ins.pop(), outs.pop()) else {
         return Err(AllocError);
     };
-    let (ins, outs, back) = thread::scope(
-        thread::scope_env(),
+    let _ = intake.put(rt, job(0)?);
+    let second = job(1)?;
+    let (back, _) = thread::join(
         rt,
-        |scope| -> Result<(Vec<IntakeHome<S>>, Vec<OutletHome<S>>, Option<u32>), AllocError> {
-            let _ = intake.put(rt, job(0)?);
-            let second = job(1)?;
-            let putting = scope.spawn(move || {
-                let back = intake.put(rt, second).err().map(|job| job.ticket);
-                (intake.finish(), back)
-            })?;
+        move || intake.put(rt, second).err().map(|job| job.ticket),
+        move || {
             thread::sleep(rt, Duration::from_millis(100));
-            let (mut ins, mut outs) = (Vec::new(alloc), Vec::new(alloc));
-            outs.push(outlet.finish())?;
-            let (home, back) = putting.join(rt);
-            ins.push(home)?;
-            Ok((ins, outs, back))
+            outlet.finish()
         },
-    )?;
-    match desk.settle(rt, alloc, ins, outs) {
-        Ok(settled) => Ok((back, settled)),
-        Err(_) => Err(AllocError),
-    }
+    );
+    Ok(back)
 }
 
 fn left<R: Threads + Wait + Sync + Clock>(
     rt: &R,
     alloc: Global,
-) -> Result<(Option<u32>, Settled), AllocError> {
+) -> Result<Option<u32>, AllocError> {
     outlet_leaves::<Brand, R>(rt, alloc, Stage::new(alloc, 1)?)
 }
 
 #[test]
 fn a_put_that_waits_gets_its_job_back(rt: HostRuntime) -> Result<(), Fail> {
-    let (back, settled) = left(&rt, rt.alloc())?;
-    let (put, taken, drained) = summary_of(rt.alloc(), &settled)?;
-    assert_eq!(rt; back, Some(1));
-    assert_eq!(rt; (put, taken), (1, 0));
-    assert_eq!(rt; drained.as_slice(), [0].as_slice());
+    assert_eq!(rt; left(&rt, rt.alloc())?, Some(1));
     Ok(())
 }

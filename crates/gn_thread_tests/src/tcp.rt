@@ -33,16 +33,16 @@ fn a_called_link_and_an_accepted_one(rt: HostRuntime) -> Result<(), Fail> {
     );
     let (mut reader, mut writer) = called.split().map_err(|_| "halves")?;
     let (mut theirs, mut answers) = accepted.split().map_err(|_| "halves")?;
-    let mut buffer = [0u8; 8];
+    let (mut asked, mut answered) = ([0u8; 3], [0u8; 5]);
     assert_eq!(rt; writer.write(&rt, b"GNU"), Ok(3));
-    assert_eq!(rt; theirs.read(&rt, &mut buffer), Ok(3));
-    assert_eq!(rt; &buffer[..3], b"GNU".as_slice());
+    assert_eq!(rt; theirs.read(&rt, &mut asked), Ok(3));
+    assert_eq!(rt; asked.as_slice(), b"GNU".as_slice());
     assert_eq!(rt; answers.write(&rt, b"TELLA"), Ok(5));
-    assert_eq!(rt; reader.read(&rt, &mut buffer), Ok(5));
-    assert_eq!(rt; &buffer[..5], b"TELLA".as_slice());
+    assert_eq!(rt; reader.read(&rt, &mut answered), Ok(5));
+    assert_eq!(rt; answered.as_slice(), b"TELLA".as_slice());
     writer.finish(&rt);
-    assert_eq!(rt; theirs.read(&rt, &mut buffer), Ok(0));
-    assert_eq!(rt; reader.read(&rt, &mut buffer), Ok(0));
+    assert_eq!(rt; theirs.read(&rt, &mut asked), Ok(0));
+    assert_eq!(rt; reader.read(&rt, &mut answered), Ok(0));
     Ok(())
 }
 

@@ -1,7 +1,7 @@
-//! Jobs that were never admitted, and jobs that are handed back.
+//! A job that was never admitted, before one that was.
 
 use super::{Setting, USUAL, one_ping};
-use gn_bodies::{BodyFault, ReaderEnd};
+use gn_bodies::BodyFault;
 use gn_rules::{Step, Ticket};
 use std::test::Fail;
 
@@ -20,17 +20,5 @@ fn a_forged_job_is_passed_over(rt: HostRuntime) -> Result<(), Fail> {
     let ran = one_ping(&rt, rt.alloc(), setting).ok_or("memory")?;
     assert!(rt; ran.worked == Err(BodyFault::Refused) && !ran.has_failed && ran.is_closing);
     assert!(rt; routes(ran.steps.history.as_slice(), 2, 0) == 1 && ran.steps.history.len() == 5);
-    Ok(())
-}
-
-#[test]
-fn a_job_that_is_handed_back_is_routed(rt: HostRuntime) -> Result<(), Fail> {
-    let setting = Setting {
-        has_worker: false,
-        ..USUAL
-    };
-    let ran = one_ping(&rt, rt.alloc(), setting).ok_or("memory")?;
-    assert!(rt; ran.read == Ok(ReaderEnd::Bytes));
-    assert!(rt; routes(ran.steps.history.as_slice(), 0, 0) == 1 && ran.steps.history.len() == 5);
     Ok(())
 }

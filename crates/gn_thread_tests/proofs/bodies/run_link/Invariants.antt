@@ -1,4 +1,4 @@
-use Rattle.gn_thread_tests.proofs.bodies.run.Given as goal
+use Rattle.gn_thread_tests.proofs.bodies.run_link.Given as goal
 
 abbrev pub ghosts-in_stage-L-Ledger : goal.ghosts-in_stage-L-Ledger
 ghosts-in_stage-L-Ledger g a = record { name = a.blank.name; parts = a.blank.parts }

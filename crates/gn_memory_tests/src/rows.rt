@@ -1,0 +1,110 @@
+//! The runs at both routers, and the growths that their steps meet.
+
+use crate::event_lists::growths_of_list;
+use crate::histories::*;
+use crate::steps::{Asked, growths_of};
+use gn_growth::Heap;
+use gn_plain::PlainRouter;
+use gn_router::TableRouter;
+use gn_rules::Refusal;
+use std::test::Fail;
+
+/// How a step is made, in which history, and the growths that each of its steps meets.
+type Row = (Asked, &'static str, &'static [u64]);
+
+/// At the router with tables. A step grows for its receipt, its packets, and where a table or the history is full.
+const WITH_TABLES: [Row; 13] = [
+    (Asked::Apply, FIRST_PING, &[2, 1, 4, 10]),
+    (
+        Asked::Apply,
+        REMEMBERED_AND_FORGOTTEN,
+        &[2, 4, 10, 0, 7, 0, 0, 0, 7, 0, 6],
+    ),
+    (
+        Asked::Apply,
+        ONE_REMEMBERED,
+        &[2, 1, 4, 10, 1, 6, 0, 0, 1, 3],
+    ),
+    (
+        Asked::Apply,
+        PONGS_GO_BACK,
+        &[2, 1, 4, 10, 1, 3, 0, 3, 1, 0],
+    ),
+    (Asked::Apply, CLOSE_AND_REJOIN, &[2, 1, 4, 10, 1, 1, 0, 0]),
+    (
+        Asked::Apply,
+        BUSY_AND_FULL_OUTPUT,
+        &[2, 1, 4, 0, 11, 0, 6, 0, 1, 6],
+    ),
+    (Asked::Apply, ORIGINATED, &[2, 7, 4, 0, 4]),
+    (
+        Asked::Apply,
+        FORGOTTEN_SERVENTS,
+        &[2, 1, 1, 4, 8, 0, 8, 0, 5, 0, 3, 0, 3, 0, 3, 0, 1],
+    ),
+    (Asked::Route, FIRST_PING, &[10]),
+    (Asked::Enter, FIRST_PING, &[2, 1, 4, 9]),
+    (Asked::Enter, ORIGINATED, &[2, 6, 4, 0, 3]),
+    (Asked::Add, FIRST_PING, &[2, 1, 4, 5]),
+    (Asked::Add, ORIGINATED, &[2, 5, 4, 0, 2]),
+];
+
+/// At the router that searches its history, which is all that grows beside packets and receipts.
+const IN_HISTORY: [Row; 9] = [
+    (Asked::Apply, FIRST_PING, &[2, 0, 0, 5]),
+    (Asked::Apply, PONGS_GO_BACK, &[2, 0, 0, 5, 1, 2, 0, 2, 1, 0]),
+    (Asked::Apply, CLOSE_AND_REJOIN, &[2, 0, 0, 5, 1, 0, 0, 0]),
+    (Asked::Apply, ORIGINATED, &[2, 2, 0, 0, 3]),
+    (Asked::Route, FIRST_PING, &[5]),
+    (Asked::Enter, FIRST_PING, &[2, 0, 0, 4]),
+    (Asked::Enter, ORIGINATED, &[2, 1, 0, 0, 2]),
+    (Asked::Add, FIRST_PING, &[2, 0, 0, 0]),
+    (Asked::Add, ORIGINATED, &[2, 0, 0, 0, 1]),
+];
+
+#[test]
+fn steps_with_tables(rt: HostRuntime) -> Result<(), Fail> {
+    let heap = Heap::new(rt.alloc());
+    for (asked, history, wanted) in WITH_TABLES {
+        let growths = growths_of::<_, TableRouter<_>>(rt.alloc(), &heap, &heap, asked, history)?;
+        assert_eq!(rt; growths.as_slice(), wanted, "{asked:?} {history}");
+    }
+    Ok(())
+}
+
+#[test]
+fn steps_in_history(rt: HostRuntime) -> Result<(), Fail> {
+    let heap = Heap::new(rt.alloc());
+    for (asked, history, wanted) in IN_HISTORY {
+        let growths = growths_of::<_, PlainRouter<_>>(rt.alloc(), &heap, &heap, asked, history)?;
+        assert_eq!(rt; growths.as_slice(), wanted, "{asked:?} {history}");
+    }
+    Ok(())
+}
+
+/// Runs as lists of events, what two events after them are refused, and the growths that all meet at both routers.
+const LISTS: [(&str, &[Refusal], u64, u64); 7] = [
+    (FIRST_PING, &[], 18, 8),
+    (EXPIRED_PING, &[], 20, 9),
+    (TTL_AND_HOPS_LIMITS, &[], 26, 15),
+    (REMEMBERED_AND_FORGOTTEN, &[], 37, 25),
+    (ONE_REMEMBERED, &[], 29, 17),
+    (PONGS_GO_BACK, &[], 26, 14),
+    (
+        CLOSE_AND_REJOIN,
+        &[Refusal::NothingWaiting, Refusal::NotLive],
+        20,
+        9,
+    ),
+];
+
+#[test]
+fn lists_of_events(rt: HostRuntime) -> Result<(), Fail> {
+    let heap = Heap::new(rt.alloc());
+    for (history, further, table, plain) in LISTS {
+        let with_tables = growths_of_list::<_, TableRouter<_>>(&heap, &heap, history, further)?;
+        let in_history = growths_of_list::<_, PlainRouter<_>>(&heap, &heap, history, further)?;
+        assert_eq!(rt; (with_tables, in_history), (table, plain), "{history}");
+    }
+    Ok(())
+}

@@ -1,0 +1,212 @@
+//! One step of a history, made by each of the calls that make one.
+
+use gn_capture::{CaptureRefusal, read_history};
+use gn_growth::{Call, Failure, Heap, Refused, Turn, Turns, growths, turn_of};
+use gn_payload::Checked;
+use gn_rules::{
+    Config, Event, Receipt, Refusal, Reply, RouterCore, Step, is_same_event, is_same_reply,
+    is_step_of,
+};
+use std::alloc::{AllocError, Allocator, Global};
+use std::marker::PhantomData;
+use std::test::Fail;
+
+/// The call that makes a step.
+#[derive(Clone, Copy, Debug)]
+pub(crate) enum Asked {
+    Apply,
+    Route,
+    Enter,
+    Add,
+}
+
+/// The configuration and the steps of a history.
+pub(crate) fn read<A: Allocator + Copy>(
+    alloc: A,
+    history: &str,
+) -> Result<(Config, Vec<Step<A>, A>), CaptureRefusal> {
+    read_history(alloc, history.as_bytes())
+}
+
+fn is_same_step<A: Allocator>(step: &Step<A>, other: &Step<A>) -> bool {
+    step.actor == other.actor
+        && is_same_event(&step.event, &other.event)
+        && is_same_reply(&step.reply, &other.reply)
+}
+
+/// Whether two histories are the same.
+pub(crate) fn are_same<A: Allocator>(steps: &[Step<A>], others: &[Step<A>]) -> bool {
+    steps.len() == others.len()
+        && steps
+            .iter()
+            .zip(others)
+            .all(|(step, other)| is_same_step(step, other))
+}
+
+/// The descriptor that was admitted under a ticket.
+fn admitted<A: Allocator + Copy>(
+    steps: &[Step<A>],
+    wanted: u32,
+) -> Result<Option<Checked<A>>, AllocError> {
+    for step in steps {
+        if let (Event::Admit(_, descriptor), Reply::Admitted(ticket)) = (&step.event, &step.reply) {
+            if *ticket == wanted {
+                return Ok(Some(Checked::new(descriptor.copy()?)));
+            }
+        }
+    }
+    Ok(None)
+}
+
+/// A router, all steps of the history, the one that it is to make, and the descriptor that this one routes.
+#[derive(Drop)]
+struct Subject<A: Allocator + Copy, C> {
+    core: C,
+    steps: Vec<Step<A>, A>,
+    step: Step<A>,
+    checked: Option<Checked<A>>,
+}
+
+/// Makes the step of this number, after those before it.
+#[derive(Drop)]
+struct Makes<C> {
+    asked: Asked,
+    history: &'static str,
+    number: usize,
+    core: PhantomData<C>,
+}
+
+fn failure(refusal: Refusal) -> Failure {
+    match refusal {
+        Refusal::NoMemory => Failure::NoMemory,
+        _ => Failure::Other,
+    }
+}
+
+/// The first steps, so many of them.
+fn before<A: Allocator>(steps: &[Step<A>], number: usize) -> &[Step<A>] {
+    steps.get(..number).unwrap_or(steps)
+}
+
+/// Whether a router gives the replies of these steps, one after another.
+fn goes_on<A: Allocator + Copy, C: RouterCore<A>>(core: &mut C, steps: &[Step<A>]) -> bool {
+    for step in steps {
+        match core.apply(0, &step.event) {
+            Ok(receipt) if is_step_of(step, 0, &receipt) => {}
+            _ => return false,
+        }
+    }
+    true
+}
+
+impl<A: Allocator + Copy, C: RouterCore<A> + Drop> Call<A> for Makes<C> {
+    type Subject = Subject<A, C>;
+
+    type Answer = Option<Receipt<A>>;
+
+    fn subject(&self, alloc: A) -> Result<Subject<A, C>, Fail> {
+        let (config, steps) = read(alloc, self.history)?;
+        let Some(wanted) = steps.get(self.number) else {
+            return Err("a step of the history".into());
+        };
+        let step = Step {
+            actor: wanted.actor,
+            event: wanted.event.copy()?,
+            reply: wanted.reply.copy(alloc)?,
+        };
+        let checked = match wanted.event {
+            Event::Route(ticket) => admitted(&steps, ticket)?,
+            _ => None,
+        };
+        let mut core = C::make(alloc, &config)?;
+        if !goes_on(&mut core, before(&steps, self.number)) {
+            return Err("the steps before".into());
+        }
+        Ok(Subject {
+            core,
+            steps,
+            step,
+            checked,
+        })
+    }
+
+    fn make(&self, subject: &mut Subject<A, C>) -> Result<Option<Receipt<A>>, Failure> {
+        let Subject {
+            core,
+            step,
+            checked,
+            ..
+        } = subject;
+        match self.asked {
+            Asked::Apply => core.apply(0, &step.event).map(Some).map_err(failure),
+            Asked::Route => match (&step.event, checked) {
+                (Event::Route(ticket), Some(checked)) => {
+                    core.route(0, *ticket, checked).map(Some).map_err(failure)
+                }
+                _ => Err(Failure::Other),
+            },
+            Asked::Enter => core
+                .enter(0, &mut step.event)
+                .map(|()| None)
+                .map_err(failure),
+            Asked::Add if core.is_answered(step) => {
+                core.add(step).map(|()| None).map_err(|_| Failure::NoMemory)
+            }
+            Asked::Add => Err(Failure::Other),
+        }
+    }
+
+    fn is_unchanged(&self, subject: &Subject<A, C>, other: &Subject<A, C>) -> bool {
+        are_same(subject.core.history(), other.core.history())
+            && is_same_step(&subject.step, &other.step)
+            && subject.core.stats() == other.core.stats()
+            && subject.core.flights() == other.core.flights()
+            && (0..6).all(|c| {
+                subject.core.is_live(c) == other.core.is_live(c)
+                    && subject.core.waiting(c) == other.core.waiting(c)
+            })
+    }
+
+    fn is_right(&self, subject: &mut Subject<A, C>, answer: &Option<Receipt<A>>) -> bool {
+        let Subject { core, steps, .. } = subject;
+        let (made, left) = steps.split_at(self.number.saturating_add(1).min(steps.len()));
+        let fits = match (answer, made.last()) {
+            (Some(receipt), Some(wanted)) => {
+                receipt.index as usize == self.number && is_step_of(wanted, 0, receipt)
+            }
+            _ => answer.is_none(),
+        };
+        fits && are_same(core.history(), made) && goes_on(core, left)
+    }
+}
+
+impl<A: Allocator + Copy, C: RouterCore<A> + Drop> Turns<A> for Makes<C> {
+    fn turn(&self, heap: &Heap, alloc: A, refused: Refused) -> Result<Turn, Fail> {
+        turn_of(self, heap, alloc, refused)
+    }
+}
+
+/// How many growths each step of a history meets, where this call makes it: of its Routes alone where it is `route`.
+pub(crate) fn growths_of<A: Allocator + Copy, C: RouterCore<A> + Drop>(
+    out: Global,
+    heap: &Heap,
+    alloc: A,
+    asked: Asked,
+    history: &'static str,
+) -> Result<Vec<u64>, Fail> {
+    let (_, steps) = read(alloc, history)?;
+    let mut all = Vec::new(out);
+    for (number, step) in steps.iter().enumerate() {
+        if matches!(asked, Asked::Route) && step.event.ticket().is_none() {
+            continue;
+        }
+        let call: Makes<C> = Makes {
+            asked,
+            history,
+            number,
+            core: PhantomData,
+        };
+        all.push(growths(heap, alloc, &call)?)?;
+    }
+    Ok(all)
+}
