@@ -1,11 +1,13 @@
 //! The program `gn`: its command line, with the standard streams.
 #![tactic(auto)]
 
+mod progress;
 mod unfreed;
 
 use gn_io::{ReaderSource, WriterSink};
 use gn_program::{command_with, refuse_words};
 use gn_router::TableRouter;
+use progress::Progress;
 use std::env::Env;
 use std::process::ExitCode;
 use std::{env, io};
@@ -19,11 +21,13 @@ fn main(rt: HostRuntime) -> ExitCode {
     let mut reader = ReaderSource::new(rt.stdin());
     let mut writer = WriterSink::new(rt.stdout());
     let mut faults = WriterSink::new(rt.stderr());
+    let progress = Progress::new(&rt, rt.stderr());
     let status = match words_of(&rt) {
-        Ok(words) => command_with::<Unfreed<TableRouter>, _, _, _, _, _>(
+        Ok(words) => command_with::<Unfreed<TableRouter>, _, _, _, _, _, _>(
             &rt,
             rt.alloc(),
             words.as_slice(),
+            &progress,
             &mut reader,
             &mut writer,
             &mut faults,

@@ -88,8 +88,8 @@ fn read_all<
     ensures row { IfOk result (λ r. Rd.is_known ≡ true
         → ReadRow role r.1 r.0 (link_events me.new.actor) (Rd.bytes_read reader.new)) }
     ensures made { Rd.made_of reader.new ≡ Rd.made_of reader.old }
-    ensures prefix { Rd.is_known ≡ true → IsReadOf (Rd.gives (Rd.made_of reader.new)).bytes
-        (Rd.bytes_read reader.new) (Rd.has_ended reader.new) }
+    ensures prefix { (Rd.gives (Rd.made_of reader.new)).is_foretold ≡ true
+        → IsReadOf (Rd.gives (Rd.made_of reader.new)).bytes (Rd.bytes_read reader.new) (Rd.has_ended reader.new) }
     ensures failed { IfOk result (λ r. r.1 ≡ ReadFailed → (Rd.gives (Rd.made_of reader.new)).may_fail ≡ true) }
     ensures source { IfOk result (λ r. SourceRow r.1 (Rd.failures reader.new) (Rd.pieces reader.new)
         (Rd.has_ended reader.new)) }
@@ -153,8 +153,8 @@ fn read_link<
     ensures row { IfOk result (λ end. Rd.is_known ≡ true
         → ReaderRow role end (connection_of me.new.actor) (link_events me.new.actor) (Rd.bytes_read reader.new)) }
     ensures made { Rd.made_of reader.new ≡ Rd.made_of reader.old }
-    ensures prefix { Rd.is_known ≡ true → IsReadOf (Rd.gives (Rd.made_of reader.new)).bytes
-        (Rd.bytes_read reader.new) (Rd.has_ended reader.new) }
+    ensures prefix { (Rd.gives (Rd.made_of reader.new)).is_foretold ≡ true
+        → IsReadOf (Rd.gives (Rd.made_of reader.new)).bytes (Rd.bytes_read reader.new) (Rd.has_ended reader.new) }
     ensures failed { IfOk result (λ end. end ≡ ReadFailed → (Rd.gives (Rd.made_of reader.new)).may_fail ≡ true) }
     ensures source { IfOk result (λ end. SourceRow end (Rd.failures reader.new) (Rd.pieces reader.new)
         (Rd.has_ended reader.new)) }
@@ -209,8 +209,8 @@ pub fn reader_body<
     ensures row { IfOk result.end (λ end. Rd.is_known ≡ true
         → ReaderRow role end (connection_of result.actor) (link_events result.actor) (Rd.bytes_read result.reader)) }
     ensures made { Rd.made_of result.reader ≡ Rd.made_of reader }
-    ensures prefix { Rd.is_known ≡ true → IsReadOf (Rd.gives (Rd.made_of result.reader)).bytes
-        (Rd.bytes_read result.reader) (Rd.has_ended result.reader) }
+    ensures prefix { (Rd.gives (Rd.made_of result.reader)).is_foretold ≡ true
+        → IsReadOf (Rd.gives (Rd.made_of result.reader)).bytes (Rd.bytes_read result.reader) (Rd.has_ended result.reader) }
     ensures failed { IfOk result.end (λ end. end ≡ ReadFailed
         → (Rd.gives (Rd.made_of result.reader)).may_fail ≡ true) }
     ensures source { IfOk result.end (λ end. SourceRow end (Rd.failures result.reader) (Rd.pieces result.reader)

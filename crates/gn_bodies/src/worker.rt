@@ -1,10 +1,8 @@
 //! The body of a worker.
 
-ghost use Rattle.std.specs.Prelude.{◌≡◌, ◌++◌, [], false, MatchResult, OnOk};
+ghost use Rattle.std.specs.Prelude.{◌≡◌, ◌++◌, [], MatchResult, OnOk};
 ghost use Rattle.gn_rules.specs.declared.event.Event.TheVariants.{Route};
 ghost use Rattle.gn_service.specs.Receipts.{HasReceipt};
-ghost use Rattle.gn_stage.specs.Lessons.{WasEmpty};
-ghost use Rattle.gn_bodies.specs.Ends.{is_stopped};
 ghost use Rattle.gn_bodies.specs.Events.{events_of, link_events};
 ghost use Rattle.gn_bodies.specs.Jobs.{routes_of};
 
@@ -58,7 +56,6 @@ fn route_all<G: Gate, S: Site, C: RouterCore<A> + Drop, L: Ledger, A: Allocator 
     ensures home { outlet.new.number ≡ outlet.old.number }
     ensures routes { link_events me.new ≡ [] }
     ensures each { OnOk result (routes_of outlet.new.jobs ≡ routes_of outlet.old.jobs ++ events_of me.new) }
-    ensures over { is_stopped result ≡ false → WasEmpty outlet.new }
 {
     let mut is_refused = false;
     for _ in rt.forever() {
@@ -82,7 +79,7 @@ fn route_all<G: Gate, S: Site, C: RouterCore<A> + Drop, L: Ledger, A: Allocator 
 /// routed each job that it took once, in order. A job that is refused its route makes no step; the worker goes on with the
 /// next one, and ends as Refused.
 ///
-/// A stop fails the run. In any case its outlet is finished.
+/// A stop fails the run. In any case its outlet is finished. That it went on until there was no job, no clause says.
 pub fn worker_body<
     G: Gate,
     S: Site,
@@ -103,7 +100,6 @@ pub fn worker_body<
     ensures home { result.home.number ≡ outlet.number }
     ensures routes { link_events result.actor ≡ [] }
     ensures each { OnOk result.end (routes_of result.home.jobs ≡ routes_of outlet.jobs ++ events_of result.actor) }
-    ensures over { is_stopped result.end ≡ false → WasEmpty result.home }
 {
     let (mut actor, mut outlet) = (actor, outlet);
     let end = route_all(rt, service, &mut actor, worker, gate, &mut outlet);

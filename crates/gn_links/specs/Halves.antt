@@ -34,8 +34,9 @@ is_stall (Err fault) length = false
 abbrev pub IsNewReader : List ℕ → ℕ → ℕ → Bool → Type 0
 IsNewReader bytes failures pieces has_ended = (bytes ≡ []) × (failures ≡ 0) × (pieces ≡ 0) × (has_ended ≡ false)
 
--- what a reader is to give: all its bytes, where they are known, and whether a read may fail
+-- what a reader is to give: whether all its bytes are known beforehand, and then these bytes; and whether a read may fail
 pub record Source : Type 0 where
+  pub is_foretold : Bool
   pub bytes : List ℕ
   pub may_fail : Bool
 

@@ -12,9 +12,9 @@ pub record Memory : Type 0 where
   pub read : Option ℕ
   pub write : Option ℕ
 
--- what its reader gives: all its bytes; a read fails only where the link says from which one on
+-- what its reader gives: all its bytes, which are known beforehand; a read fails only where the link says from which one on
 abbrev pub source_of : Memory → Source
-source_of link = record { bytes = link.bytes; may_fail = is_some link.read }
+source_of link = record { is_foretold = true; bytes = link.bytes; may_fail = is_some link.read }
 
 -- its reading half: the link that it was split from, how many of the bytes it gave, how many reads were made, how many
 -- failed, how many gave bytes, whether it ended, and whether it is finished

@@ -1,6 +1,6 @@
 -- What a half of a link says of itself, as one record.
 use Rattle.std.specs.Prelude.{◌≡◌, ℕ, Bool, true, List}
-use Rattle.gn_links.specs.Halves.{IsReadOf}
+use Rattle.gn_links.specs.Halves.{IsReadOf, Source}
 
 -- a half that was read: whether its bytes are known, and then these bytes, how many reads failed, how many gave bytes, and
 -- whether it ended
@@ -44,7 +44,7 @@ writes_of known bytes failures stuck finished half =
       is_finished = finished half;
     }
 
--- what was read of these bytes, where they are known: numbers below 256, the first of the bytes, in order, and all of
--- them where a read gave no more
-abbrev pub IsReadFrom : List ℕ → ReadHalf → Type 0
-IsReadFrom all half = half.is_known ≡ true → IsReadOf all half.bytes half.has_ended
+-- what was read of a link that is to give this, where all its bytes are known beforehand: numbers below 256, the first of the
+-- bytes, in order, and all of them where a read gave no more
+abbrev pub IsReadFrom : Source → ReadHalf → Type 0
+IsReadFrom source half = source.is_foretold ≡ true → IsReadOf source.bytes half.bytes half.has_ended

@@ -27,13 +27,13 @@ pub trait LinkReader: Drop {
     /// What it says of the link that it was split from.
     type Origin;
 
-    /// Whether its bytes are known.
+    /// Whether the bytes that it read are known.
     ghost is_known: { Bool };
 
     /// The link that it was split from.
     ghost made_of: { Self → Self.Origin };
 
-    /// What the reader of such a link is to give.
+    /// What the reader of such a link is to give. A link whose reader knows only what it has read isn't foretold.
     ghost gives: { Self.Origin → Source };
 
     /// The bytes that its reads gave so far, where they are known.
@@ -57,7 +57,7 @@ pub trait LinkReader: Drop {
         ensures within { IfOk result (λ n. n ≤ length buffer.old) }
         ensures made { made_of self.new ≡ made_of self.old }
         ensures bytes { is_known ≡ true → bytes_read self.new ≡ bytes_read self.old ++ read_by result buffer.new }
-        ensures prefix { is_known ≡ true
+        ensures prefix { (gives (made_of self.new)).is_foretold ≡ true
             → IsReadOf (gives (made_of self.new)).bytes (bytes_read self.new) (has_ended self.new) }
         ensures allowed { OnErr result ((gives (made_of self.new)).may_fail ≡ true) }
         ensures failures { failures self.new ≡ counted (is_err result) (failures self.old) }

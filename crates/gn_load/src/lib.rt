@@ -5,7 +5,9 @@ mod fault;
 mod gathered;
 mod links;
 mod loads;
+mod watch;
 
 pub use fault::LoadFault;
 pub use links::links_of;
-pub use loads::load;
+pub use loads::{load, load_watched};
+pub use watch::Watch;

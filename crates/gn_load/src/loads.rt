@@ -8,6 +8,7 @@ ghost use Rattle.gn_load.specs.Loads.{AppendsLoad, HasStopped, IsLoadText, load_
 
 use crate::fault::LoadFault;
 use crate::links::links_of;
+use crate::watch::Watch;
 use gn_capture::{Capture, read_capture, write_history};
 use gn_io::{Sink, Source, read_input, write_all};
 use gn_links::NoGate;
@@ -23,7 +24,8 @@ fn history_of<
     A: Allocator + Copy + Send + Sync,
     C: RouterCore<A> + Drop + Send,
     R: Threads + Wait + Sync,
->(rt: &R, alloc: A, workers: u32, text: Vec<u8, A>) -> Result<Vec<u8, A>, LoadFault>
+    G: Watch + Sync,
+>(rt: &R, alloc: A, workers: u32, watch: &G, text: Vec<u8, A>) -> Result<Vec<u8, A>, LoadFault>
     ensures history { IfOk result (λ history. IsLoadText A workers text.items history.items) }
     ensures fault { IfErr result (λ fault. IsRunLoadFault workers fault (load_of A text.items)) }
 {
@@ -32,7 +34,8 @@ fn history_of<
     let links = links_of(alloc, &capture.lines)?;
     let Capture { config, lines } = capture;
     drop(lines);
-    let report = run::<C, _, _, A, R>(rt, alloc, &config, links, workers, &NoGate)?;
+    watch.begin(links.len());
+    let report = run::<C, _, _, A, R>(rt, alloc, &config, links, workers, watch)?;
     let mut history = Vec::new(alloc);
     write_history(&config, &report.history, &mut history)?;
     Ok(history)
@@ -62,8 +65,32 @@ pub fn load<
     ensures fault { IfErr result (λ fault. IsLoadFault workers fault (load_of A)
         (streams (S.state source.old) (S.state source.new) (W.state sink.old) (W.state sink.new))) }
 {
+    load_watched::<A, C, R, NoGate, S, W>(rt, alloc, workers, &NoGate, source, sink)
+}
+
+/// Does the same, and each worker passes this gate before it routes.
+pub fn load_watched<
+    A: Allocator + Copy + Send + Sync,
+    C: RouterCore<A> + Drop + Send,
+    R: Threads + Wait + Sync,
+    G: Watch + Sync,
+    S: Source,
+    W: Sink,
+>(rt: &R, alloc: A, workers: u32, watch: &G, source: &mut S, sink: &mut W) -> Result<(), LoadFault>
+    ensures short { OnOk result (IfSome (S.state source.old).rest (λ text. length text ≤ input_limit)) }
+    ensures valid { OnOk result (IfSome (S.state source.old).rest (λ text. IsOk (load_of A text))) }
+    ensures written { OnOk result (IfSome (S.state source.old).rest (λ text.
+        AppendsLoad A workers text (W.state sink.old).written (W.state sink.new).written)) }
+    ensures unfailed { OnOk result (NoneFailed
+        (streams (S.state source.old) (S.state source.new) (W.state sink.old) (W.state sink.new))) }
+    ensures stopped { IfErr result (λ fault. HasStopped A workers fault (S.state source.old).rest
+        (W.state sink.old).written (W.state sink.new).written) }
+    ensures fault { IfErr result (λ fault. IsLoadFault workers fault (load_of A)
+        (streams (S.state source.old) (S.state source.new) (W.state sink.old) (W.state sink.new))) }
+{
     let text = read_input(alloc, source)?;
-    let history = history_of::<A, C, R>(rt, alloc, workers, text)?;
-    write_all(sink, &history)?;
+    let answer = history_of::<A, C, R, G>(rt, alloc, workers, watch, text);
+    watch.end();
+    write_all(sink, &answer?)?;
     Ok(())
 }

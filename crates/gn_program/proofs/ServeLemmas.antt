@@ -1,5 +1,5 @@
 -- What a serve answers, from what the run answered.
-use Rattle.std.proofs.Common.{◌≡◌, ◌+◌, ℕ, List, length, IfErr, OnOk, Option, Some, None, Result, Ok, Err, refl, sym, subst}
+use Rattle.std.proofs.Common.{◌≡◌, ◌+◌, ℕ, true, List, length, IfErr, OnOk, Option, Some, None, Result, Ok, Err, refl, sym, subst}
 use Rattle.std.specs.Io.KnownBytes.{Keeps}
 use Rattle.std.specs.Result.{IsErrAnd}
 use Rattle.std.specs.declared.alloc.Global.{Global}
@@ -9,7 +9,7 @@ use Rattle.gn_rules.specs.declared.config.Config.{Config}
 use Rattle.gn_serve.specs.Histories.{AppendsServed, HasServeStopped, IsServeFault}
 use Rattle.gn_serve.specs.declared.fault.ServeFault.{ServeFault}
 use Rattle.gn_serve.specs.declared.fault.ServeFault.TheVariants.{Run}
-use Rattle.gn_threads.specs.Faults.{IsFaultOf}
+use Rattle.gn_threads.specs.Faults.{IsArrivingFault}
 use Rattle.gn_threads.specs.declared.fault.RunFault.{RunFault}
 use Rattle.gn_program.specs.Commands.{IsServeAnswer, IsServing}
 use Rattle.gn_program.specs.Serving.{AskedServe}
@@ -44,7 +44,7 @@ keeps (Some xs) = refl
 
 -- all that is answered where there was no run
 pub unserved : (serving : AskedServe) (settings : Config) (sink : SinkState) (answer : Result (Unit {0}) ServeFault) (fault : RunFault)
-    → IsServing serving settings → IsErrAnd answer (λ e. e ≡ Run fault) → IsFaultOf (length serving.peers + serving.accept) serving.workers fault
+    → IsServing serving settings → IsErrAnd answer (λ e. e ≡ Run fault) → IsArrivingFault true (length serving.peers + serving.accept) serving.workers fault
     → IsServeAnswer serving sink sink answer
 unserved serving settings sink (Ok done) fault configured is one = absurd is
 unserved serving settings sink (Err e) fault configured is one =

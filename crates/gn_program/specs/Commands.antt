@@ -1,4 +1,4 @@
--- What a command does: what replay, audit, load or serve answers to its input and output, and the status that stands for it.
+-- What a command does: what replay, audit, show, load or serve answers to its input and output, and the status that stands for it.
 use Rattle.std.specs.Prelude.{◌≡◌, ◌≢◌, ◌⊎◌, ◌≤◌, ◌+◌, ◌∷◌, [], ℕ, length, IfSome, IsOk, Result, Ok, Err, IfOk, IfErr, OnOk}
 use Rattle.std.specs.declared.alloc.Global.{Global}
 use Rattle.clap.specs.declared.error.kind.ErrorKind.{ErrorKind}
@@ -14,6 +14,8 @@ use Rattle.gn_replay.specs.ReplayHistory.{AppendsHistory, HasHistoryStopped}
 use Rattle.gn_capture.specs.Histories.{history_of}
 use Rattle.gn_replay.specs.Audits.{AppendsVerdict, HasStopped as HasAuditStopped}
 use Rattle.gn_replay.specs.Explained.{AppendsExplained, HasExplainedStopped}
+use Rattle.gn_show.specs.Shown.{AppendsShown, HasShowStopped}
+use Rattle.gn_show.specs.declared.form.View.{View}
 use Rattle.gn_load.specs.Faults.{IsLoadFault}
 use Rattle.gn_load.specs.Loads.{AppendsLoad, HasStopped as HasLoadStopped, load_of}
 use Rattle.gn_load.specs.declared.fault.LoadFault.{LoadFault}
@@ -26,7 +28,7 @@ use Rattle.gn_rules.specs.declared.legality.Legality.{Legality}
 use Rattle.gn_rules.specs.declared.legality.Legality.TheVariants.{Legal, WrongAt}
 use Rattle.gn_program.specs.Serving.{AskedServe}
 use Rattle.gn_program.specs.declared.request.Request.{Request}
-use Rattle.gn_program.specs.declared.request.Request.TheVariants.{Replay, History, Audit, Explain, Load, Serve}
+use Rattle.gn_program.specs.declared.request.Request.TheVariants.{Replay, History, Audit, Explain, Show, Load, Watched, Serve}
 
 -- what replay answers: the input was a capture, no longer than it may be, and its replay text was written, its steps
 -- and refusals counted; or it stopped, at a fault that the streams confirm, and what was written then is a prefix of
@@ -60,6 +62,13 @@ pub record IsExplainAnswer (s : Streams) (answer : Result Legality ReplayFault) 
   pub written : IfOk answer (λ legality. IfSome s.source.rest (λ text.
       AppendsExplained Global text legality s.sink.written s.sink_new.written))
   pub stopped : IfErr answer (λ fault. HasExplainedStopped Global fault s.source.rest s.sink.written s.sink_new.written)
+
+-- what show answers: the input was a history, no longer than it may be, and what is shown of it was written; or it stopped,
+-- at a fault that the streams confirm, and what was written then is a prefix of that
+pub record IsShowAnswer (view : View) (s : Streams) (answer : Result (Unit {0}) ReplayFault) : Type 0 where
+  pub answered : IsAnswerOn (history_of {A = Global}) s answer
+  pub written : OnOk answer (IfSome s.source.rest (λ text. AppendsShown view text s.sink.written s.sink_new.written))
+  pub stopped : IfErr answer (λ fault. HasShowStopped view fault s.source.rest s.sink.written s.sink_new.written)
 
 -- what load answers: the input was a capture of lines that a load takes, no longer than it may be, no read and no write
 -- failed, and the history of a run with so many workers over the links of those lines was written; or it stopped, at a
@@ -124,6 +133,11 @@ audit_status (Ok Legal) = 0
 audit_status (Ok (WrongAt i)) = 1
 audit_status (Err fault) = 1
 
+-- the status of a history that is shown: 0 where it was done, else 1
+abbrev pub show_status : Result (Unit {0}) ReplayFault → ℕ
+show_status (Ok done) = 0
+show_status (Err fault) = 1
+
 -- the status of a load: 0 where it was done, else 1
 abbrev pub load_status : Result (Unit {0}) LoadFault → ℕ
 load_status (Ok done) = 0
@@ -151,6 +165,11 @@ Audits s status = (answer : Result Legality ReplayFault) × IsAuditAnswer s answ
 abbrev pub Explains : Streams → ℕ → Type 0
 Explains s status = (answer : Result Legality ReplayFault) × IsExplainAnswer s answer × (status ≡ audit_status answer)
 
+-- the streams are as some answer of show leaves them, and the status is that answer's
+abbrev pub Shows : View → Streams → ℕ → Type 0
+Shows view s status =
+    (answer : Result (Unit {0}) ReplayFault) × IsShowAnswer view s answer × (status ≡ show_status answer)
+
 -- the streams are as some answer of load with so many workers leaves them, and the status is that answer's
 abbrev pub Loads : ℕ → Streams → ℕ → Type 0
 Loads workers s status =
@@ -168,7 +187,9 @@ Does Replay s status = Replays s status
 Does History s status = ReplaysHistory s status
 Does Audit s status = Audits s status
 Does Explain s status = Explains s status
+Does (Show view) s status = Shows view s status
 Does (Load workers) s status = Loads workers s status
+Does (Watched workers) s status = Loads workers s status
 Does (Serve serving) s status = Serves serving s status
 
 -- words that ask for no work: at help and the version the status is 0 or 1 and anything may be written; else nothing is

@@ -1,5 +1,5 @@
 -- How the words of a command line are read: by the rules of the crate clap, for this command.
-use Rattle.std.specs.Prelude.{◌≡◌, ◌∷◌, List, [], Bool, true, false, Option, Some, None, codes, is_some, option_map, replicate, if◌then◌else◌}
+use Rattle.std.specs.Prelude.{◌≡◌, ◌∷◌, ℕ, List, [], Bool, true, false, Option, Some, None, codes, is_some, option_map, replicate, if◌then◌else◌}
 use Rattle.std.specs.Option.{option_map_or}
 use Rattle.std.specs.Str.{bytes_eq}
 use Rattle.clap.specs.Words.{App, Row, Rule, Text, fault_of, first_of, new_app, new_rule, subcommand_of, with_rule, with_subcommand}
@@ -8,7 +8,10 @@ use Rattle.clap.specs.declared.builder.action.ArgAction.TheVariants.{Append, Set
 use Rattle.clap.specs.declared.error.kind.ErrorKind.TheVariants.{ValueValidation}
 use Rattle.gn_program.specs.Options.{peer_of, peers_in, serving_of, workers_of}
 use Rattle.gn_program.specs.declared.request.Request.{Request}
-use Rattle.gn_program.specs.declared.request.Request.TheVariants.{Replay, History, Audit, Explain, Load, Serve}
+use Rattle.gn_program.specs.declared.request.Request.TheVariants.{Replay, History, Audit, Explain, Show, Load, Watched, Serve}
+use Rattle.gn_show.specs.declared.form.Form.TheVariants.{Plain, Json}
+use Rattle.gn_show.specs.declared.form.View.{View}
+use Rattle.gn_show.specs.declared.form.View.TheVariants.{Steps, Stats}
 
 -- the flag `--NAME`, which is set where it stands
 abbrev pub flag_rule : Text → Rule
@@ -21,6 +24,10 @@ replay_app = with_rule (new_app (codes "replay")) (flag_rule (codes "history"))
 -- the subcommand `audit`: it takes the flag `--explain`
 abbrev pub audit_app : App
 audit_app = with_rule (new_app (codes "audit")) (flag_rule (codes "explain"))
+
+-- the subcommand `show`: it takes the flags `--json` and `--stats`
+abbrev pub show_app : App
+show_app = with_rule (with_rule (new_app (codes "show")) (flag_rule (codes "json"))) (flag_rule (codes "stats"))
 
 -- the option `--NAME VALUE`, which has to be given
 abbrev pub value_rule : Text → Rule
@@ -35,9 +42,9 @@ default_rule name default =
 abbrev pub repeated_rule : Text → Rule
 repeated_rule name = record (new_rule name) { long = Some name; action = Some Append; value_names = 1 }
 
--- the subcommand `load`: it takes the option `--workers V`
+-- the subcommand `load`: it takes the option `--workers V` and the flag `--progress`
 abbrev pub load_app : App
-load_app = with_rule (new_app (codes "load")) (value_rule (codes "workers"))
+load_app = with_rule (with_rule (new_app (codes "load")) (value_rule (codes "workers"))) (flag_rule (codes "progress"))
 
 -- the subcommand `serve` with the options that have to be given
 abbrev pub served_app : App
@@ -66,7 +73,7 @@ bare_app =
 
 -- the command `gn` with the subcommands that start no threads
 abbrev pub texts_app : App
-texts_app = with_subcommand (with_subcommand bare_app replay_app.top) audit_app.top
+texts_app = with_subcommand (with_subcommand (with_subcommand bare_app replay_app.top) audit_app.top) show_app.top
 
 -- the command `gn`: it has these subcommands, of which none takes more than its flags and options
 abbrev pub gn_app : App
@@ -76,13 +83,30 @@ gn_app = with_subcommand (with_subcommand texts_app load_app.top) serve_app.top
 abbrev pub is_set : Text → List Row → Bool
 is_set flag rows = option_map_or (λ value. bytes_eq value (codes "true")) (first_of flag rows) false
 
+-- what of a history is shown; nothing, where both flags are set
+abbrev pub view_by : Bool → Bool → Option View
+view_by false false = Some (Steps Plain)
+view_by true false = Some (Steps Json)
+view_by false true = Some Stats
+view_by true true = None
+
+-- what of a history is shown, by the flags `--json` and `--stats`
+abbrev pub view_of : List Row → Option View
+view_of rows = view_by (is_set (codes "json") rows) (is_set (codes "stats") rows)
+
+-- a load with so many workers, by the flag `--progress`
+abbrev pub load_by : Bool → ℕ → Request
+load_by false workers = Load workers
+load_by true workers = Watched workers
+
 -- the request that a subcommand with these flags and options stands for; nothing, where a value isn't within its limits
 abbrev pub request_named : Text → List Row → Option Request
 request_named name rows =
     if bytes_eq name (codes "replay") then Some (if is_set (codes "history") rows then History else Replay)
     else (if bytes_eq name (codes "audit") then Some (if is_set (codes "explain") rows then Explain else Audit)
-    else (if bytes_eq name (codes "load") then option_map Load (workers_of rows)
-    else (if bytes_eq name (codes "serve") then option_map Serve (serving_of rows) else None)))
+    else (if bytes_eq name (codes "show") then option_map Show (view_of rows)
+    else (if bytes_eq name (codes "load") then option_map (load_by (is_set (codes "progress") rows)) (workers_of rows)
+    else (if bytes_eq name (codes "serve") then option_map Serve (serving_of rows) else None))))
 
 -- what is wrong with the values of a subcommand's options: one isn't within its limits, so that they stand for no request
 abbrev pub value_kinds : Option (Text × List Row) → Kinds
@@ -110,6 +134,10 @@ request_of words = request_by (kinds_of words) (subcommand_of gn_app words)
 abbrev pub load_words : Text → Text → List Text
 load_words program workers = program ∷ codes "load" ∷ codes "--workers" ∷ workers ∷ []
 
+-- the words of a load that says how far it is
+abbrev pub progress_words : Text → Text → List Text
+progress_words program workers = program ∷ codes "load" ∷ codes "--workers" ∷ workers ∷ codes "--progress" ∷ []
+
 -- the words of a serve, with these texts for its port, the peers that may call, and its workers, and these words after them
 abbrev pub serve_words : Text → Text → Text → Text → List Text → List Text
 serve_words program port accept workers more =
@@ -122,7 +150,13 @@ pub record PlainWordsAreRead : Type 0 where
   pub history : (program : Text) → request_of (program ∷ codes "replay" ∷ codes "--history" ∷ []) ≡ Some History
   pub audit : (program : Text) → request_of (program ∷ codes "audit" ∷ []) ≡ Some Audit
   pub explain : (program : Text) → request_of (program ∷ codes "audit" ∷ codes "--explain" ∷ []) ≡ Some Explain
+  pub show : (program : Text) → request_of (program ∷ codes "show" ∷ []) ≡ Some (Show (Steps Plain))
+  pub json : (program : Text) → request_of (program ∷ codes "show" ∷ codes "--json" ∷ []) ≡ Some (Show (Steps Json))
+  pub stats : (program : Text) → request_of (program ∷ codes "show" ∷ codes "--stats" ∷ []) ≡ Some (Show Stats)
+  pub both : (program : Text)
+      → kinds_of (program ∷ codes "show" ∷ codes "--json" ∷ codes "--stats" ∷ []) ≡ ValueValidation ∷ []
   pub load : (program : Text) → request_of (load_words program (codes "4")) ≡ Some (Load 4)
+  pub watched : (program : Text) → request_of (progress_words program (codes "4")) ≡ Some (Watched 4)
   pub most : (program : Text) → request_of (load_words program (codes "64")) ≡ Some (Load 64)
   pub none : (program : Text) → kinds_of (load_words program (codes "0")) ≡ ValueValidation ∷ []
   pub many : (program : Text) → kinds_of (load_words program (codes "65")) ≡ ValueValidation ∷ []

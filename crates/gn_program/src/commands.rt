@@ -7,7 +7,7 @@ ghost use Rattle.clap.specs.Kinds.{IsAmong};
 ghost use Rattle.clap.specs.Words.{kind_of};
 ghost use Rattle.clap.specs.declared.error.kind.ErrorKind.{ErrorKind as Kind};
 ghost use Rattle.clap.specs.declared.error.kind.ErrorKind.TheVariants.{OutOfMemory};
-ghost use Rattle.gn_program.specs.Commands.{Does, IsTurnedAway, IsUnread, audit_status, load_status, replay_status, serve_status};
+ghost use Rattle.gn_program.specs.Commands.{Does, IsTurnedAway, IsUnread, audit_status, load_status, replay_status, serve_status, show_status};
 ghost use Rattle.gn_io.specs.Streams.{streams};
 ghost use Rattle.gn_program.specs.Words.{kinds_of, request_of};
 ghost use Rattle.gn_program.specs.declared.request.Request.{Request as Asked};
@@ -20,11 +20,13 @@ use crate::words::read_words;
 use clap::Error;
 use clap::error::ErrorKind;
 use gn_io::{Sink, Source};
-use gn_load::{LoadFault, load};
+use gn_links::NoGate;
+use gn_load::{LoadFault, Watch, load, load_watched};
 use gn_replay::{Exit, ReplayFault, audit, audit_explained, replay, replay_history};
 use gn_router::TableRouter;
 use gn_rules::{Legality, RouterCore};
 use gn_serve::ServeFault;
+use gn_show::show;
 use std::alloc::Global;
 use std::convert::AsStr;
 use std::io;
@@ -70,6 +72,16 @@ fn end_audit<F: Sink>(faults: &mut F, answer: Result<Legality, ReplayFault>) -> 
     }
 }
 
+/// The status after a history was shown, whose fault is written.
+fn end_show<F: Sink>(faults: &mut F, answer: Result<(), ReplayFault>) -> u8
+    ensures { result ≡ show_status answer }
+{
+    match answer {
+        Ok(()) => DONE,
+        Err(fault) => write_fault(faults, Fault::from(fault)),
+    }
+}
+
 /// The status after a load, whose fault is written.
 fn end_load<F: Sink>(faults: &mut F, answer: Result<(), LoadFault>) -> u8
     ensures { result ≡ load_status answer }
@@ -94,10 +106,19 @@ fn end_serve<F: Sink>(faults: &mut F, answer: Result<(), ServeFault>) -> u8
 fn obey<
     C: RouterCore<Global> + Drop,
     R: Threads + Wait + Net<Listener = TcpListener, Stream = TcpStream> + Sync,
+    G: Watch + Sync,
     S: Source,
     W: Sink,
     F: Sink,
->(rt: &R, alloc: Global, request: Request, reader: &mut S, writer: &mut W, faults: &mut F) -> u8
+>(
+    rt: &R,
+    alloc: Global,
+    request: Request,
+    watch: &G,
+    reader: &mut S,
+    writer: &mut W,
+    faults: &mut F,
+) -> u8
     ensures { Does request
         (streams (S.state reader.old) (S.state reader.new) (W.state writer.old) (W.state writer.new)) result }
 {
@@ -118,8 +139,18 @@ fn obey<
             let answer = audit_explained::<Global, C, S, W>(alloc, reader, writer);
             end_audit(faults, answer)
         }
+        Request::Show(view) => {
+            let answer = show(alloc, view, reader, writer);
+            end_show(faults, answer)
+        }
         Request::Load(workers) => {
             let answer = load::<Global, TableRouter, R, S, W>(rt, alloc, workers, reader, writer);
+            end_load(faults, answer)
+        }
+        Request::Watched(workers) => {
+            let answer = load_watched::<Global, TableRouter, R, G, S, W>(
+                rt, alloc, workers, watch, reader, writer,
+            );
             end_load(faults, answer)
         }
         Request::Serve(serving) => {
@@ -168,19 +199,30 @@ pub fn command<
         × IsTurnedAway kind writer.old writer.new result }
     ensures unread { request_of (map T.text words.now) ≡ None → reader.new ≡ reader.old }
 {
-    command_with::<TableRouter, R, T, S, W, F>(rt, alloc, words, reader, writer, faults)
+    command_with::<TableRouter, R, NoGate, T, S, W, F>(
+        rt, alloc, words, &NoGate, reader, writer, faults,
+    )
 }
 
-/// Does the same, with a replay's and an audit's router of type C. They give back all memory that such a router gives back
-/// when it is dropped.
+/// Does the same, with a replay's and an audit's router of type C, which give back all memory that such a router gives back
+/// when it is dropped; and a load with `--progress` is watched by `watch`, where `command` says nothing.
 pub fn command_with<
     C: RouterCore<Global> + Drop,
     R: Threads + Wait + Net<Listener = TcpListener, Stream = TcpStream> + Sync,
+    G: Watch + Sync,
     T: AsStr,
     S: Source,
     W: Sink,
     F: Sink,
->(rt: &R, alloc: Global, words: &[T], reader: &mut S, writer: &mut W, faults: &mut F) -> u8
+>(
+    rt: &R,
+    alloc: Global,
+    words: &[T],
+    watch: &G,
+    reader: &mut S,
+    writer: &mut W,
+    faults: &mut F,
+) -> u8
     ensures asked { (request : Asked) → request_of (map T.text words.now) ≡ Some request
         → IsUnread reader.old reader.new writer.old writer.new result ⊎ Does request
         (streams (S.state reader.old) (S.state reader.new) (W.state writer.old) (W.state writer.new)) result }
@@ -190,7 +232,9 @@ pub fn command_with<
     ensures unread { request_of (map T.text words.now) ≡ None → reader.new ≡ reader.old }
 {
     match read_words(alloc, words) {
-        Ok(request) => obey::<C, R, S, W, F>(rt, alloc, request, reader, writer, faults),
+        Ok(request) => {
+            obey::<C, R, G, S, W, F>(rt, alloc, request, watch, reader, writer, faults)
+        }
         Err(error) => turn_away(error, writer, faults),
     }
 }

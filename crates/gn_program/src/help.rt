@@ -11,6 +11,7 @@ Examples:
   gn audit < examples/first_ping.history
   gn audit --explain < examples/wrong_ticket.history
   gn replay --history < examples/first_ping.capture | gn audit
+  gn show < examples/first_ping.history
   gn load --workers 4 < examples/six_links.capture | gn audit
   gn serve --port 6346 --accept 0 --workers 4
 
@@ -76,13 +77,35 @@ prints
 
   legal 1";
 
+pub(crate) const SHOW: &str = "Reads a history, and prints each step in plain words or as JSON";
+
+pub(crate) const SHOW_USAGE: &str =
+    "gn show [--json | --stats] < HISTORY   (the history is read from standard input)";
+
+pub(crate) const JSON: &str = "Prints each step as a JSON object on a line of its own";
+
+pub(crate) const STATS: &str = "Prints the line of the counters, as `stats` in a capture does";
+
+pub(crate) const SHOW_TEXTS: &str = "\
+Standard input is a history, which need not be legal. Standard output is a line for each step: its
+index, its actor, its event and its answer, with the payloads read. A history with a fault prints
+none, and its first fault is a line on standard error.
+
+Example: the third and fourth step of examples/first_ping.history, the last one cut.
+
+      2  actor   0  from 1: Ping 7/0 a1a1a1a1..       admitted as #0
+      3  actor   0  routes #0                         routed here; to 1: Pong 1/0 a1a1a1a1.. ..";
+
 pub(crate) const LOAD: &str =
     "Runs the links of a capture with many threads, and prints the history";
 
 pub(crate) const LOAD_USAGE: &str =
-    "gn load --workers V < CAPTURE   (the capture is read from standard input)";
+    "gn load --workers V [--progress] < CAPTURE   (the capture is read from standard input)";
 
 pub(crate) const WORKERS: &str = "How many threads route what was admitted, 1 to 64";
+
+pub(crate) const PROGRESS: &str =
+    "Says on standard error once a second how many descriptors are routed and admitted";
 
 pub(crate) const LOAD_TEXTS: &str = "\
 Standard input is a capture of `join`, `open` and `data LINK HEX` lines alone. Each link is read by

@@ -7,6 +7,7 @@ mod help;
 mod options;
 mod request;
 mod serves;
+mod shown;
 mod text;
 mod unread;
 mod words;

@@ -1,5 +1,6 @@
 //! What a command line asks for.
 
+use gn_show::View;
 use gn_wire::Guid;
 use std::marker::Model;
 
@@ -14,8 +15,12 @@ pub enum Request {
     Audit,
     /// A history is audited, and its first wrong step explained.
     Explain,
+    /// A history is shown: its steps, or its counters.
+    Show(View),
     /// The links of a capture are run by so many workers, 1 to 64, and the history of the router is written.
     Load(u32),
+    /// The same, and how far the run is is said as it goes on.
+    Watched(u32),
     /// A router is run over TCP, and its history is written.
     Serve(Serving),
 }

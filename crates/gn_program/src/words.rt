@@ -30,6 +30,7 @@ ghost use Rattle.gn_program.specs.Words.{
 use crate::help;
 use crate::options::{serving_of, workers_of};
 use crate::request::Request;
+use crate::shown::{show_command, view_of};
 use crate::unread::Unread;
 use clap::error::ErrorKind;
 use clap::{Arg, ArgAction, ArgMatches, Command, Error};
@@ -42,7 +43,7 @@ const OWN_SERVENT: &str = "47474747474747474747474747474747";
 /// The version that is printed.
 const VERSION: &str = "0.1.0";
 
-fn flag<'a>(alloc: Global, name: &'a str, text: &'a str) -> Arg<'a>
+pub(crate) fn flag<'a>(alloc: Global, name: &'a str, text: &'a str) -> Arg<'a>
     ensures rule { rule_of result ≡ flag_rule name.now }
     ensures local { result.global ≡ false }
 {
@@ -52,7 +53,7 @@ fn flag<'a>(alloc: Global, name: &'a str, text: &'a str) -> Arg<'a>
         .help(text)
 }
 
-fn leaf<'a>(
+pub(crate) fn leaf<'a>(
     alloc: Global,
     name: &'a str,
     about: &'a str,
@@ -151,7 +152,8 @@ fn load_command<'a>(alloc: Global) -> Result<Command<'a>, AllocError>
         help::LOAD_USAGE,
         help::LOAD_TEXTS,
     )
-    .arg(value(alloc, "workers", "V", help::WORKERS))
+    .arg(value(alloc, "workers", "V", help::WORKERS))?
+    .arg(flag(alloc, "progress", help::PROGRESS))
 }
 
 /// The subcommand `serve` with the options that have to be given.
@@ -205,7 +207,8 @@ fn texts_command<'a>(alloc: Global) -> Result<Command<'a>, AllocError>
 {
     bare_command(alloc)
         .subcommand(replay_command(alloc)?)?
-        .subcommand(audit_command(alloc)?)
+        .subcommand(audit_command(alloc)?)?
+        .subcommand(show_command(alloc)?)
 }
 
 fn gn_command<'a>(alloc: Global) -> Result<Command<'a>, AllocError>
@@ -225,7 +228,7 @@ fn is_true(value: Option<&str>) -> bool
     }
 }
 
-fn is_set(options: &ArgMatches<'_>, flag: &str) -> bool
+pub(crate) fn is_set(options: &ArgMatches<'_>, flag: &str) -> bool
     ensures { result ≡ is_set flag.now (rows_of (found_of options.now)) }
 {
     is_true(options.get_str(flag))
@@ -240,6 +243,8 @@ fn request_named(alloc: Global, name: &str, options: &ArgMatches<'_>) -> Result<
         "replay" => Ok(Request::Replay),
         "audit" if is_set(options, "explain") => Ok(Request::Explain),
         "audit" => Ok(Request::Audit),
+        "show" => Ok(Request::Show(view_of(options)?)),
+        "load" if is_set(options, "progress") => Ok(Request::Watched(workers_of(options)?)),
         "load" => Ok(Request::Load(workers_of(options)?)),
         "serve" => Ok(Request::Serve(serving_of(alloc, options)?)),
         _ => Err(Unread::Mistake("there is no such subcommand")),
@@ -251,6 +256,7 @@ fn mistake(alloc: Global, name: &str, text: &str) -> Result<Error, AllocError>
     ensures { IfOk result (λ error. kind_of error ≡ ValueValidation) }
 {
     let mut command = match name {
+        "show" => show_command(alloc)?,
         "serve" => serve_command(alloc)?,
         _ => load_command(alloc)?,
     };

@@ -11,11 +11,12 @@ use std::test::Fail;
 use std::thread::Threads;
 
 /// Words, the status, and how the output and the written faults begin.
-const ANSWERS: [(&[&str], u8, &str, &str); 19] = [
+const ANSWERS: [(&[&str], u8, &str, &str); 20] = [
     (&["gn", "--version"], 0, "gn 0.1.0\n", ""),
     (&["gn", "--help"], 0, "Tineflax, a packet router", ""),
     (&["gn", "replay", "--help"], 0, "Reads a capture,", ""),
     (&["gn", "audit", "-h"], 0, "Reads a history,", ""),
+    (&["gn", "show", "-h"], 0, "Reads a history, and prints", ""),
     (&["gn"], 2, "", "error: 'gn' requires a subcommand"),
     (&["gn", "route"], 2, "", "error: unrecognized subcommand"),
     (&["gn", "replay", "x"], 2, "", "error: unexpected argument"),
@@ -127,7 +128,7 @@ end
 
 /// The mistake of a number of workers that isn't one of 1 to 64.
 const BAD_WORKERS: &str =
-    "error: --workers takes a number of 1 to 64\n\nUsage: gn load --workers V < CAPTURE";
+    "error: --workers takes a number of 1 to 64\n\nUsage: gn load --workers V [--progress] < CAPTURE";
 
 /// A capture of nothing but its first lines, and one join.
 const JOINED: &str = "gnutella-capture 1\nconfig 4 8 4 8 8 100\n\

@@ -22,8 +22,6 @@ mod link_runs;
 #[cfg(test)]
 mod load_runs;
 #[cfg(test)]
-mod out_of_memory;
-#[cfg(test)]
 mod played;
 #[cfg(test)]
 mod replays;

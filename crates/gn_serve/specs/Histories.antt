@@ -1,10 +1,10 @@
 -- The history of a run over TCP, as it is written.
-use Rattle.std.specs.Prelude.{◌≡◌, ◌+◌, ℕ, List, length, Option}
+use Rattle.std.specs.Prelude.{◌≡◌, ◌+◌, ℕ, true, List, length, Option}
 use Rattle.std.specs.Io.KnownBytes.{Appends, Keeps}
 use Rattle.gn_rules.specs.declared.config.Config.{Config}
 use Rattle.gn_run.specs.declared.report.Report.{Report}
 use Rattle.gn_tcp.specs.Tcp.{TcpReading, TcpWriting}
-use Rattle.gn_threads.specs.Faults.{IsFaultOf}
+use Rattle.gn_threads.specs.Faults.{IsArrivingFault}
 use Rattle.gn_threads.specs.Headline.{Holds}
 use Rattle.gn_capture.specs.Histories.{history_text}
 use Rattle.gn_io.specs.Parts.{AppendsPart}
@@ -41,10 +41,10 @@ HasServeStopped A s calls accept workers (Run fault) old new = Keeps old new
 -- what a fault may be where so many links and workers were asked for, 1 to 64 workers: one of such a run; or Write, where
 -- a write failed or took nothing
 abbrev pub IsServeFault : ℕ → ℕ → ServeFault → SinkState → SinkState → Type 0
-IsServeFault links workers (Run fault) old new = IsFaultOf links workers fault
+IsServeFault links workers (Run fault) old new = IsArrivingFault true links workers fault
 IsServeFault links workers Write old new = HasWriteFailed old new
 
 -- what it may be where nothing is written yet
 abbrev pub IsRunFault : ℕ → ℕ → ServeFault → Type 0
-IsRunFault links workers (Run fault) = IsFaultOf links workers fault
+IsRunFault links workers (Run fault) = IsArrivingFault true links workers fault
 IsRunFault links workers Write = ⊥

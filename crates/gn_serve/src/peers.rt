@@ -1,10 +1,10 @@
 //! Where the links of a run over TCP come from.
 
 ghost use Rattle.gn_rules.specs.Limits.{most_links};
-ghost use Rattle.std.specs.Prelude.{◌≡◌, ◌<◌, ◌≤◌, ℕ, length, take, IfErr, IfOk};
+ghost use Rattle.std.specs.Prelude.{◌≡◌, ◌<◌, ◌≤◌, ℕ, length, take, true, IfErr, IfOk};
 ghost use Rattle.std.specs.List.{slice_get};
 ghost use Rattle.gn_shake.specs.declared.role.Role.TheVariants.{Accepting, Calling};
-ghost use Rattle.gn_threads.specs.Faults.{IsFaultOf};
+ghost use Rattle.gn_threads.specs.Faults.{IsArrivingFault};
 ghost use Rattle.gn_serve.specs.Links.{roles_of};
 
 use gn_links::Link;
@@ -47,7 +47,8 @@ impl<'a, N: Net<Listener = TcpListener, Stream = TcpStream>> Peers<'a, N> {
     fn meet(&self, link: u32, role: Role) -> Result<TcpLink, RunFault>
         ensures found { IfOk result (λ found. found ≡
             record { role = role; origin = record { link = 0; called = slice_get self.now.called.now link } }) }
-        ensures fault { IfErr result (λ fault. (links workers : ℕ) → link < links → IsFaultOf links workers fault) }
+        ensures fault { IfErr result (λ fault. (links workers : ℕ) → link < links
+            → IsArrivingFault true links workers fault) }
     {
         match (role, self.called.get(link as usize)) {
             (Role::Calling, Some(peer)) => match TcpLink::call(self.net, *peer) {
@@ -65,12 +66,15 @@ impl<'a, N: Net<Listener = TcpListener, Stream = TcpStream>> Peers<'a, N> {
 
 impl<'a, N: Net<Listener = TcpListener, Stream = TcpStream>> Arrivals for Peers<'a, N> {
     ghost use Rattle.gn_serve.specs.Links.{origins_from};
+    ghost use Rattle.std.specs.Prelude.{true};
 
     type Origin = TcpOrigin;
 
     type Reader = TcpReader;
 
     type Writer = TcpWriter;
+
+    ghost has_peers = { true };
 
     ghost coming = { λ peers. origins_from peers.called.now peers.next peers.left };
 

@@ -1,9 +1,9 @@
 //! A run over TCP.
 
-ghost use Rattle.std.specs.Prelude.{◌≡◌, ◌+◌, ◌≤◌, ◌↔◌, length, IfErr, IfOk};
+ghost use Rattle.std.specs.Prelude.{◌≡◌, ◌+◌, ◌≤◌, ◌↔◌, length, true, IfErr, IfOk};
 ghost use Rattle.gn_rules.specs.Limits.{IsCrew, most_links};
 ghost use Rattle.gn_threads.specs.declared.fault.RunFault.TheVariants.{BadWorkers};
-ghost use Rattle.gn_threads.specs.Faults.{IsFaultOf};
+ghost use Rattle.gn_threads.specs.Faults.{IsArrivingFault};
 ghost use Rattle.gn_threads.specs.Headline.{
   AreMadeOf,
   HasCountedSteps,
@@ -53,7 +53,8 @@ pub fn serve_on<
     requires few { accept + length peers.now ≤ most_links }
     ensures workers { IfOk result (λ _. IsCrew workers) }
     ensures bad_workers { IfErr result (λ fault. (fault ≡ BadWorkers) ↔ (¬ IsCrew workers)) }
-    ensures fault { IfErr result (λ fault. IsCrew workers → IsFaultOf (length peers.now + accept) workers fault) }
+    ensures fault { IfErr result (λ fault. IsCrew workers
+        → IsArrivingFault true (length peers.now + accept) workers fault) }
     ensures legal { IfOk result (λ report. HasLegalHistory config.now report) }
     ensures counted { IfOk result (λ report. HasCountedSteps report) }
     ensures own { IfOk result (λ report. HasOwnSteps report) }

@@ -58,7 +58,7 @@ impl<S: Site, A: Allocator> Outlet<S, A> {
     }
 
     /// Waits for a job, and takes the one that was queued first. `None` comes once every intake has finished and the queue
-    /// is empty.
+    /// is empty; its clause says that at one moment a queue was empty, and not which: it holds of every outlet.
     pub fn take<R: Wait>(&mut self, rt: &R) -> Option<Job<A>>
         ensures { MatchOption result
             ((self.new ≡ self.old) × WasEmpty self.old)

@@ -71,7 +71,7 @@ impl LinkReader for TcpReader {
 
     ghost made_of = { λ r. r.origin };
 
-    ghost gives = { λ _. record { bytes = []; may_fail = true } };
+    ghost gives = { λ _. record { is_foretold = false; bytes = []; may_fail = true } };
 
     ghost bytes_read = { λ _. [] };
 

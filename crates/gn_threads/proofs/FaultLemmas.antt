@@ -1,13 +1,14 @@
 -- Faults that a run may meet.
-use Rattle.std.proofs.Common.{◌≡◌, ◌⊎◌, ◌<◌, ◌≤◌, ℕ, Bool, true, false, Option, Some, None, Result, if◌then◌else◌, sym, subst, inl, inr, arith}
+use Rattle.std.proofs.Common.{◌≡◌, ◌⊎◌, ◌<◌, ◌≤◌, ℕ, Bool, true, false, Option, Some, None, Result, Ok, Err, if◌then◌else◌, sym, subst, inl, inr, arith}
 use Rattle.std.specs.Prelude.{IfErr, IfSome, IsErrAnd}
 use Rattle.std.proofs.lemmas.Result.{err_from_is_err_and}
 use Rattle.gn_threads.specs.declared.fault.RunFault.{RunFault}
-use Rattle.gn_threads.specs.declared.fault.RunFault.TheVariants.{BadWorkers, HistoryFull, NoMemory}
+use Rattle.gn_threads.specs.declared.fault.RunFault.TheVariants.{BadWorkers, Listen, Call, Link, HistoryFull, NoMemory, Stage, Audit}
 use Rattle.gn_links.specs.declared.split.SplitFault.{SplitFault}
 use Rattle.gn_links.specs.declared.split.SplitFault.TheVariants as split
 use Rattle.gn_links.specs.Split.{IsSplitFault}
-use Rattle.gn_threads.specs.Faults.{IsFaultOf, of_split, stop_of}
+use Rattle.gn_rules.specs.Limits.{IsCrew}
+use Rattle.gn_threads.specs.Faults.{IsArrivingFault, IsFaultOf, of_split, stop_of}
 
 -- where a `?` hands a fault on, what holds of the fault holds of the result
 pub handed_on : {T : Type 0} (P : RunFault → Type 0) (r : Result T RunFault) (fault : RunFault) → IsErrAnd r (λ e. e ≡ fault) → P fault → IfErr r P
@@ -28,6 +29,40 @@ of_stop false false fault is links workers = cc
 pub split_is_fault : (links workers : ℕ) (fault : SplitFault) → IsSplitFault links fault → IsFaultOf links workers (of_split fault)
 split_is_fault links workers (split.Link k) below = below
 split_is_fault links workers split.NoMemory below = tt
+
+-- what it may be where all links are there it may be where they come one after another
+pub in_arriving : (has_peers : Bool) (links workers : ℕ) (fault : RunFault) → IsFaultOf links workers fault → IsArrivingFault has_peers links workers fault
+in_arriving has_peers links workers BadWorkers holds = holds
+in_arriving has_peers links workers Listen holds = absurd holds
+in_arriving has_peers links workers (Call k) holds = absurd holds
+in_arriving has_peers links workers (Link k) holds = holds
+in_arriving has_peers links workers HistoryFull holds = holds
+in_arriving has_peers links workers NoMemory holds = holds
+in_arriving has_peers links workers (Stage fault) holds = holds
+in_arriving has_peers links workers (Audit a) holds = holds
+
+-- so of what is answered
+pub err_in_arriving : {T : Type 0} (has_peers : Bool) (links workers : ℕ) (r : Result T RunFault) → IfErr r (λ fault. IsFaultOf links workers fault)
+    → IfErr r (λ fault. IsArrivingFault has_peers links workers fault)
+err_in_arriving has_peers links workers (Ok x) holds = tt
+err_in_arriving has_peers links workers (Err fault) holds = in_arriving has_peers links workers fault holds
+
+-- where there are no peers the two are the same
+pub without_peers : (links workers : ℕ) (fault : RunFault) → IsArrivingFault false links workers fault → IsFaultOf links workers fault
+without_peers links workers BadWorkers holds = holds
+without_peers links workers Listen holds = absurd (cc)
+without_peers links workers (Call k) holds = let no : false ≡ true = holds.0 in absurd (cc)
+without_peers links workers (Link k) holds = holds
+without_peers links workers HistoryFull holds = holds
+without_peers links workers NoMemory holds = holds
+without_peers links workers (Stage fault) holds = holds
+without_peers links workers (Audit a) holds = holds
+
+-- so of a run with as many workers as it may have
+pub err_without_peers : {T : Type 0} (links workers : ℕ) (r : Result T RunFault) → IfErr r (λ fault. IsCrew workers → IsArrivingFault false links workers fault)
+    → IfErr r (λ fault. IsCrew workers → IsFaultOf links workers fault)
+err_without_peers links workers (Ok x) holds = tt
+err_without_peers links workers (Err fault) holds = λ crew. without_peers links workers fault (holds crew)
 
 -- such a fault isn't that there are too few or too many workers
 pub not_bad_workers : (links workers : ℕ) (fault : RunFault) → IsFaultOf links workers fault → ¬ (fault ≡ BadWorkers)

@@ -154,8 +154,8 @@ read_own reads made_of gives link end body is promised =
     let counts : SourceRow end half.failures half.pieces half.has_ended = subst (λ r. IfOk r (λ e. SourceRow e half.failures half.pieces half.has_ended)) is promised.kept.1 in
     record {
       first = promised.own;
-      whole = λ known ends.
-          let read = promised.own known in
+      whole = λ foretold ends.
+          let read = promised.own foretold in
           let none = read.ended (subst (λ e. SourceRow e half.failures half.pieces half.has_ended) ends counts) in
           sym (read.whole ∙ ap (λ rest. half.bytes ++ rest) none ∙ append-nil half.bytes);
       failed = subst (λ r. IfOk r (λ e. e ≡ ReadFailed → (gives (made_of link.half)).may_fail ≡ true)) is promised.failed;

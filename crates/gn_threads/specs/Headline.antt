@@ -70,10 +70,10 @@ LinksHold {Rd} {W} {A} reads writes roles report =
 
 -- what the reader of a link read, which is to give this
 pub record ReadsOwn (source : Source) (end : ReaderEnd) (half : ReadHalf) : Type 0 where
-  -- the first of the link's bytes, in order, and all of them where a read gave no more; where they are known
-  pub first : IsReadFrom source.bytes half
+  -- the first of the link's bytes, in order, and all of them where a read gave no more; where they are known beforehand
+  pub first : IsReadFrom source half
   -- so all of them where the reader ended as Bytes
-  pub whole : half.is_known ≡ true → end ≡ Bytes → half.bytes ≡ source.bytes
+  pub whole : source.is_foretold ≡ true → end ≡ Bytes → half.bytes ≡ source.bytes
   -- it ended as ReadFailed only where a read of the link may fail
   pub failed : end ≡ ReadFailed → source.may_fail ≡ true
 

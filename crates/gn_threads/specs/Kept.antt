@@ -42,12 +42,13 @@ WriterKeeps role body =
     × (body.half.is_finished ≡ true)
 
 -- what the thread of a reader promises of the half that it began with: what its body keeps; that the half it gives back was
--- split from the same link; that what was read are the bytes of that link; and that a read failed only where one may
+-- split from the same link; that what was read are the bytes of that link, where they are known beforehand; and that a read
+-- failed only where one may
 pub record ReaderPromises {A Rd O : Type 0} (reads : Rd → ReadHalf) (made_of : Rd → O) (gives : O → Source)
     (link : Half Rd) (body : Ended A ReaderEnd Rd) : Type 0 where
   pub kept : ReaderKeeps link.role (halved reads body)
   pub made : made_of body.half ≡ made_of link.half
-  pub own : IsReadFrom (gives (made_of link.half)).bytes (reads body.half)
+  pub own : IsReadFrom (gives (made_of link.half)) (reads body.half)
   pub failed : IfOk body.end (λ end. end ≡ ReadFailed → (gives (made_of link.half)).may_fail ≡ true)
 
 -- what the thread of a writer promises of the half that it began with: what its body keeps, and that the half it gives back

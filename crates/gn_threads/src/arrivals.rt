@@ -1,8 +1,8 @@
 //! Where the links of a run come from.
 
-ghost use Rattle.std.specs.Prelude.{◌≡◌, ◌<◌, ◌∷◌, ℕ, List, map, IfErr, IfOk};
+ghost use Rattle.std.specs.Prelude.{◌≡◌, ◌<◌, ◌∷◌, ℕ, Bool, List, map, IfErr, IfOk};
 ghost use Rattle.gn_links.specs.Halves.{IsNewReader, IsNewWriter};
-ghost use Rattle.gn_threads.specs.Faults.{IsFaultOf};
+ghost use Rattle.gn_threads.specs.Faults.{IsArrivingFault};
 
 use crate::fault::RunFault;
 use gn_links::{Link, LinkReader, LinkWriter, SplitLink};
@@ -19,6 +19,9 @@ pub trait Arrivals: Drop {
 
     type Writer: LinkWriter<Origin = Self::Origin>;
 
+    /// Whether peers are called and accepted, either of which may fail.
+    ghost has_peers: { Bool };
+
     /// The links that are still to come, in order, as their halves will say of them.
     ghost coming: { Self → List Self.Origin };
 
@@ -30,7 +33,8 @@ pub trait Arrivals: Drop {
             (Self.Writer.is_stuck h.1) (Self.Writer.is_finished h.1)) }
         ensures made { IfOk result (λ h. (coming self.old ≡ Self.Reader.made_of h.0 ∷ coming self.new)
             × (Self.Writer.made_of h.1 ≡ Self.Reader.made_of h.0)) }
-        ensures fault { IfErr result (λ fault. (links workers : ℕ) → link < links → IsFaultOf links workers fault) };
+        ensures fault { IfErr result (λ fault. (links workers : ℕ) → link < links
+            → IsArrivingFault has_peers links workers fault) };
 }
 
 /// Links that are all there, in order.
@@ -40,7 +44,7 @@ pub(crate) struct Arrived<K: Link, A: Allocator = Global> {
 }
 
 impl<K: Link, A: Allocator> Arrivals for Arrived<K, A> {
-    ghost use Rattle.std.specs.Prelude.{map};
+    ghost use Rattle.std.specs.Prelude.{false, map};
     ghost use Rattle.std.specs.Vec.Iter.{into_iter_items};
 
     type Origin = K::Origin;
@@ -48,6 +52,8 @@ impl<K: Link, A: Allocator> Arrivals for Arrived<K, A> {
     type Reader = K::Reader;
 
     type Writer = K::Writer;
+
+    ghost has_peers = { false };
 
     ghost coming = { λ arrived. map (λ link. K.Reader.made_of link.reader) (into_iter_items arrived.links) };
 

@@ -3,7 +3,7 @@
 ghost use Rattle.std.specs.Prelude.{◌≡◌, ◌+◌, ◌*◌, ◌≤◌, ◌↔◌, length, map, take, vec_len, IfErr, IfOk};
 ghost use Rattle.gn_rules.specs.Limits.{IsCrew, most_links};
 ghost use Rattle.gn_threads.specs.declared.fault.RunFault.TheVariants.{BadWorkers};
-ghost use Rattle.gn_threads.specs.Faults.{IsFaultOf};
+ghost use Rattle.gn_threads.specs.Faults.{IsArrivingFault};
 ghost use Rattle.gn_links.specs.Views.{reads_of, writes_of};
 ghost use Rattle.gn_threads.specs.Headline.{
   AreMadeOf,
@@ -57,7 +57,8 @@ pub fn run_arriving<
     requires few { length roles.now ≤ most_links }
     ensures workers { IfOk result (λ _. IsCrew workers) }
     ensures bad_workers { IfErr result (λ fault. (fault ≡ BadWorkers) ↔ (¬ IsCrew workers)) }
-    ensures fault { IfErr result (λ fault. IsCrew workers → IsFaultOf (length roles.now) workers fault) }
+    ensures fault { IfErr result (λ fault. IsCrew workers
+        → IsArrivingFault V.has_peers (length roles.now) workers fault) }
     ensures legal { IfOk result (λ report. HasLegalHistory config.now report) }
     ensures counted { IfOk result (λ report. HasCountedSteps report) }
     ensures own { IfOk result (λ report. HasOwnSteps report) }
@@ -115,7 +116,7 @@ fn run_arriving_in<
     requires stage { stage ≡ S.stage }
     requires few { length roles.now ≤ most_links }
     requires workers { IsCrew workers }
-    ensures fault { IfErr result (λ fault. IsFaultOf (length roles.now) workers fault) }
+    ensures fault { IfErr result (λ fault. IsArrivingFault V.has_peers (length roles.now) workers fault) }
     ensures holds { IfOk result (λ report. Holds
         (reads_of Rd.is_known Rd.bytes_read Rd.failures Rd.pieces Rd.has_ended)
         (writes_of W.is_known W.bytes_written W.failures W.is_stuck W.is_finished)

@@ -1,7 +1,7 @@
 //! How all bodies of a run are started and joined.
 
-ghost use Rattle.std.specs.Prelude.{◌≡◌, ◌<◌, ◌++◌, ◌∷◌, [], ℕ, All, map, vec_len, IfErr, IfOk, OnOk};
-ghost use Rattle.gn_threads.specs.Faults.{IsFaultOf};
+ghost use Rattle.std.specs.Prelude.{◌≡◌, ◌<◌, ◌++◌, ◌∷◌, [], ℕ, All, Bool, map, vec_len, IfErr, IfOk, OnOk};
+ghost use Rattle.gn_threads.specs.Faults.{IsArrivingFault};
 ghost use Rattle.gn_links.specs.Views.{reads_of, writes_of};
 ghost use Rattle.gn_threads.specs.Joined.{AreJoinedOf};
 ghost use Rattle.gn_threads.specs.Kept.{ReaderPromises, WriterPromises};
@@ -56,7 +56,8 @@ fn start_link<
         ++ V.coming arrivals.new
         ≡ map (λ h. W.made_of h.promise.start.value.writer) handles.old.writers.items ++ V.coming arrivals.old) }
     ensures workers { handles.new.workers ≡ handles.old.workers }
-    ensures fault { IfErr result (λ fault. (links workers : ℕ) → reading.link < links → IsFaultOf links workers fault) }
+    ensures fault { IfErr result (λ fault. (links workers : ℕ) → reading.link < links
+        → IsArrivingFault V.has_peers links workers fault) }
 {
     if service.failed(rt) {
         return Err(RunFault::NoMemory);
@@ -107,7 +108,8 @@ fn start_links<
     ensures written { OnOk result (map (λ h. W.made_of h.promise.start.value.writer) handles.new.writers.items
         ++ V.coming arrivals.new ≡ V.coming arrivals.old) }
     ensures workers { handles.new.workers ≡ handles.old.workers }
-    ensures fault { IfErr result (λ fault. (workers : ℕ) → IsFaultOf (vec_len readers) workers fault) }
+    ensures fault { IfErr result (λ fault. (workers : ℕ)
+        → IsArrivingFault V.has_peers (vec_len readers) workers fault) }
 {
     let mut writers = writers.into_iter();
     for reading in readers {
@@ -158,7 +160,8 @@ fn start_all<
     ensures written { OnOk result (map (λ h. W.made_of h.promise.start.value.writer) handles.new.writers.items
         ++ V.coming arrivals.new ≡ V.coming arrivals.old) }
     ensures workers { OnOk result (vec_len handles.new.workers ≡ vec_len places.workers) }
-    ensures fault { IfErr result (λ fault. (workers : ℕ) → IsFaultOf (vec_len places.readers) workers fault) }
+    ensures fault { IfErr result (λ fault. (workers : ℕ)
+        → IsArrivingFault V.has_peers (vec_len places.readers) workers fault) }
 {
     let Places {
         readers,
@@ -201,7 +204,8 @@ fn start_and_join_in<
         (WriterPromises (writes_of W.is_known W.bytes_written W.failures W.is_stuck W.is_finished) W.made_of)
         Rd.made_of W.made_of (map (λ p. p.role) places.readers.items) (map (λ p. p.role) places.writers.items)
         (V.coming arrivals) (vec_len places.workers) done) }
-    ensures fault { IfErr result (λ fault. (workers : ℕ) → IsFaultOf (vec_len places.readers) workers fault) }
+    ensures fault { IfErr result (λ fault. (workers : ℕ)
+        → IsArrivingFault V.has_peers (vec_len places.readers) workers fault) }
 {
     let mut handles = Handles::new(alloc);
     match start_all(
@@ -224,8 +228,8 @@ fn start_and_join_in<
 
 /// The first of two faults, where the second is a full history or memory.
 fn first(fault: RunFault, found: RunFault) -> RunFault
-    ensures { (links workers : ℕ) → IsFaultOf links workers fault → IsFaultOf links workers found
-        → IsFaultOf links workers result }
+    ensures { (has_peers : Bool) (links workers : ℕ) → IsArrivingFault has_peers links workers fault
+        → IsArrivingFault has_peers links workers found → IsArrivingFault has_peers links workers result }
 {
     match fault {
         RunFault::NoMemory => found,
@@ -257,7 +261,8 @@ pub(crate) fn start_and_join<
         (WriterPromises (writes_of W.is_known W.bytes_written W.failures W.is_stuck W.is_finished) W.made_of)
         Rd.made_of W.made_of (map (λ p. p.role) places.readers.items) (map (λ p. p.role) places.writers.items)
         (V.coming arrivals) (vec_len places.workers) done) }
-    ensures fault { IfErr result (λ fault. (workers : ℕ) → IsFaultOf (vec_len places.readers) workers fault) }
+    ensures fault { IfErr result (λ fault. (workers : ℕ)
+        → IsArrivingFault V.has_peers (vec_len places.readers) workers fault) }
 {
     thread::scope(thread::scope_env(), rt, |scope| {
         start_and_join_in(rt, alloc, scope, service, gate, arrivals, places)

@@ -14,6 +14,7 @@ pub mod Streams
 pub mod Texts
 pub mod Capture
 pub mod Replay
+pub mod Show
 pub mod Load
 pub mod Program
 pub mod Types

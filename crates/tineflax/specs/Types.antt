@@ -34,3 +34,5 @@ pub use Rattle.gn_text.specs.declared.fault.CaptureRefusal
 pub use Rattle.gn_text.specs.declared.fault.Cause
 pub use Rattle.gn_replay.specs.declared.fault.ReplayFault
 pub use Rattle.gn_load.specs.declared.fault.LoadFault
+pub use Rattle.gn_show.specs.declared.form.Form
+pub use Rattle.gn_show.specs.declared.form.View

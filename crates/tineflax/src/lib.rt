@@ -128,9 +128,14 @@ pub mod replay {
     };
 }
 
+/// Histories as a reader sees them: steps in plain words or as JSON, and the counters.
+pub mod show {
+    pub use gn_show::{Form, View, show};
+}
+
 /// The links of a capture, run by many threads.
 pub mod load {
-    pub use gn_load::{LoadFault, links_of, load};
+    pub use gn_load::{LoadFault, Watch, links_of, load, load_watched};
 }
 
 /// A whole command line of `gn`.

@@ -6,41 +6,46 @@ use gn_shake::Role;
 use std::snapshot::Snapshot;
 use std::sync::Wait;
 
-/// Gives a zero byte a read, without end.
+/// Gives a zero byte a read, as often as a u64 counts. What it will give isn't known beforehand; what it gave is.
 #[derive(Drop)]
 pub(super) struct EndlessReader {
     link: Snapshot<MemoryLink>,
     pieces: u64,
+    has_ended: bool,
     is_finished: bool,
 }
 
 impl LinkReader for EndlessReader {
     type Origin = MemoryLink;
 
-    ghost use Rattle.std.specs.Prelude.{[], false};
+    ghost use Rattle.std.specs.Prelude.{[], false, true, replicate};
 
-    ghost is_known = { false };
+    ghost is_known = { true };
 
     ghost made_of = { λ r. r.link.value };
 
-    ghost gives = { λ _. record { bytes = []; may_fail = false } };
+    ghost gives = { λ _. record { is_foretold = false; bytes = []; may_fail = false } };
 
-    ghost bytes_read = { λ _. [] };
+    ghost bytes_read = { λ r. replicate r.pieces 0 };
 
     ghost failures = { λ _. 0 };
 
     ghost pieces = { λ r. r.pieces };
 
-    ghost has_ended = { λ _. false };
+    ghost has_ended = { λ r. r.has_ended };
 
     ghost is_finished = { λ r. r.is_finished };
 
     fn read<R: Wait>(&mut self, _rt: &R, buffer: &mut [u8]) -> Result<usize, LinkFault> {
-        if buffer.is_empty() {
+        let Some(byte) = buffer.first_mut() else {
             return Ok(0);
-        }
-        buffer[0] = 0;
-        self.pieces = self.pieces.saturating_add(1);
+        };
+        let Some(pieces) = self.pieces.checked_add(1) else {
+            self.has_ended = true;
+            return Ok(0);
+        };
+        *byte = 0;
+        self.pieces = pieces;
         Ok(1)
     }
 
@@ -83,6 +88,7 @@ impl Link for EndlessLink {
         let reader = EndlessReader {
             link,
             pieces: 0,
+            has_ended: false,
             is_finished: false,
         };
         Ok((reader, SlowWriter::new(writer, false)))

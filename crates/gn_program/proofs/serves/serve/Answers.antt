@@ -10,7 +10,7 @@ returns-in_err-peers g c =
     c.from_residual.ensures.1 tt
 
 pub returns-in_default : goal.returns-in_default
-returns-in_default g c = unserved c.args.serving.now c.settings-config.result (g.W.Sink.state c.args.writer.now) _ Listen c.settings-config.ensures refl tt
+returns-in_default g c = unserved c.args.serving.now c.settings-config.result (g.W.Sink.state c.args.writer.now) _ Listen c.settings-config.ensures refl refl
 
 pub returns : goal.returns
 returns g c =

@@ -3,9 +3,9 @@ use Rattle.std.proofs.lemmas.List.{length-map}
 use Rattle.std.proofs.lemmas.Result.{IfOk-weaker}
 use Rattle.std.proofs.lemmas.Simd.{map-map}
 use Rattle.std.specs.Prelude.{IfErr, IfOk}
-use Rattle.gn_threads.specs.Faults.{IsFaultOf}
+use Rattle.gn_threads.specs.Faults.{IsArrivingFault, IsFaultOf}
 use Rattle.gn_links.specs.Views.{reads_of, writes_of}
-use Rattle.gn_threads.proofs.FaultLemmas.{handed_on}
+use Rattle.gn_threads.proofs.FaultLemmas.{err_in_arriving, handed_on}
 use Rattle.gn_threads.specs.Kept.{reader_ended, writer_ended}
 use Rattle.gn_threads.proofs.HoldsLemmas.{are_made_of, both_ok, links_read_own, readers_keep, writers_keep}
 use Rattle.gn_threads.proofs.arriving.run_arriving_in.Goals as goal
@@ -24,11 +24,12 @@ finish-requires-clause-writers g c =
 
 pub returns-in_err-done-clause-fault : goal.returns-in_err-done-clause-fault
 returns-in_err-done-clause-fault g c =
-    subst (λ n. IfErr c.from_residual-in_err-done.result (λ fault. IsFaultOf n c.args.workers fault)) c.in_ok-places.ensures.many
-    (handed_on (λ fault. IsFaultOf (vec_len c.in_ok-places.places.readers) c.args.workers fault) c.from_residual-in_err-done.result _ c.from_residual-in_err-done.ensures.1 (c.in_err-done.ensures.fault c.args.workers))
+    subst (λ n. IfErr c.from_residual-in_err-done.result (λ fault. IsArrivingFault g.V.Arrivals.has_peers n c.args.workers fault)) c.in_ok-places.ensures.many
+    (handed_on (λ fault. IsArrivingFault g.V.Arrivals.has_peers (vec_len c.in_ok-places.places.readers) c.args.workers fault) c.from_residual-in_err-done.result _ c.from_residual-in_err-done.ensures.1 (c.in_err-done.ensures.fault c.args.workers))
 
 pub returns-clause-fault : goal.returns-clause-fault
 returns-clause-fault g c =
+    err_in_arriving g.V.Arrivals.has_peers (length c.args.roles.now) c.args.workers c.finish.result $
     subst (λ n. IfErr c.finish.result (λ fault. IsFaultOf (length c.args.roles.now) n fault)) (c.in_ok-done.ensures.joined.joined.worked ∙ c.in_ok-places.ensures.workers ∙ c.in_ok-opening.ensures.ends.1) c.finish.ensures.fault
 
 pub returns-clause-workers : goal.returns-clause-workers

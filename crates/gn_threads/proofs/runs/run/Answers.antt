@@ -7,7 +7,7 @@ use Rattle.gn_rules.specs.Limits.{IsCrew}
 use Rattle.gn_threads.specs.Faults.{IsFaultOf}
 use Rattle.gn_links.specs.Views.{reads_of, writes_of}
 use Rattle.gn_threads.specs.Headline.{AreMadeOf, LinksHold, LinksReadOwn}
-use Rattle.gn_threads.proofs.FaultLemmas.{handed_on, not_bad_workers, split_is_fault}
+use Rattle.gn_threads.proofs.FaultLemmas.{err_without_peers, handed_on, not_bad_workers, split_is_fault}
 use Rattle.gn_threads.proofs.KeptLemmas.{all_come}
 use Rattle.gn_threads.proofs.runs.run.Goals as goal
 
@@ -20,7 +20,9 @@ pub returns-in_err-split-clause-fault : goal.returns-in_err-split-clause-fault
 returns-in_err-split-clause-fault g c = handed_on _ c.from_residual.result _ c.from_residual.ensures.1 (λ within. split_is_fault _ c.args.workers _ c.in_err-split.ensures.fault)
 
 pub returns-clause-fault : goal.returns-clause-fault
-returns-clause-fault g c = subst (λ n. IfErr c.run_arriving.result (λ fault. IsCrew c.args.workers → IsFaultOf n c.args.workers fault)) (ap length (c.as_slice.ensures.value ∙ c.in_ok-split.ensures.roles) ∙ length-map c.args.links.items g.K.Link.role_of) c.run_arriving.ensures.fault
+returns-clause-fault g c =
+    subst (λ n. IfErr c.run_arriving.result (λ fault. IsCrew c.args.workers → IsFaultOf n c.args.workers fault)) (ap length (c.as_slice.ensures.value ∙ c.in_ok-split.ensures.roles) ∙ length-map c.args.links.items g.K.Link.role_of)
+    (err_without_peers _ c.args.workers c.run_arriving.result c.run_arriving.ensures.fault)
 
 pub returns-clause-each : goal.returns-clause-each
 returns-clause-each g c = subst (λ n. IfOk c.run_arriving.result (λ report. (length report.links.items ≡ n) × (length report.workers.items ≡ c.args.workers))) (ap length (c.as_slice.ensures.value ∙ c.in_ok-split.ensures.roles) ∙ length-map c.args.links.items g.K.Link.role_of) c.run_arriving.ensures.each

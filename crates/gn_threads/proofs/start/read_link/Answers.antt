@@ -11,6 +11,6 @@ returns g c =
     record {
       kept = (read.row, read.source);
       made = read.made;
-      own = λ known. subst (λ o. IsReadOf (g.Rd.LinkReader.gives o).bytes (g.Rd.LinkReader.bytes_read done.reader) (g.Rd.LinkReader.has_ended done.reader)) read.made (read.prefix known);
+      own = subst (λ o. (g.Rd.LinkReader.gives o).is_foretold ≡ true → IsReadOf (g.Rd.LinkReader.gives o).bytes (g.Rd.LinkReader.bytes_read done.reader) (g.Rd.LinkReader.has_ended done.reader)) read.made read.prefix;
       failed = subst (λ o. IfOk done.end (λ end. end ≡ ReadFailed → (g.Rd.LinkReader.gives o).may_fail ≡ true)) read.made read.failed;
     }

@@ -1,0 +1,344 @@
+//! The calls that make steps under the lock: of what lies under it, and of the lock itself.
+
+ghost use Rattle.std.specs.Prelude.{◌≡◌};
+
+use crate::steps::are_same;
+use gn_capture::read_history;
+use gn_fixtures::{ping, usual};
+use gn_growth::{Heap, Refused, Turn, Turns, growths};
+use gn_payload::Checked;
+use gn_plain::PlainRouter;
+use gn_router::TableRouter;
+use gn_rules::{Event, Refusal, RouterCore, is_step_of};
+use gn_service::{Actor, Hub, Next, Role, Service, ServiceFault};
+use std::alloc::{Allocator, Global};
+use std::marker::{Brand, PhantomData};
+use std::sync::Wait;
+use std::sync::ledger::{Blank, Ledger};
+use std::test::Fail;
+
+/// A call of the run.
+#[derive(Clone, Copy)]
+enum Made {
+    Connects(u32),
+    Admits,
+    Routes,
+    Takes,
+}
+
+/// The calls of the run, each with the actor who makes it: two links connect, the first sends a Ping, a worker routes it, and
+/// the writer of the second takes it.
+const CALLS: [(usize, Made); 5] = [
+    (0, Made::Connects(0)),
+    (1, Made::Connects(1)),
+    (0, Made::Admits),
+    (4, Made::Routes),
+    (3, Made::Takes),
+];
+
+/// Their history.
+const HISTORY: &str = "gnutella-history 1\n\
+config 4 8 4 8 8 100\n\
+own eeeeeeeeeeeeeeeeeeeeeeeeeeeeeeee 127.0.0.1 6346 5 40\n\
+0 connect = connected 1\n\
+1 connect = connected 2\n\
+0 admit 1 a1a1a1a1a1a1a1a1a1a1a1a1a1a1a1a100070000000000 = admitted 0\n\
+4 route 0 = routed local 1+a1a1a1a1a1a1a1a1a1a1a1a1a1a1a1a10101000e000000ca187f0000010500000028000000 2+a1a1a1a1a1a1a1a1a1a1a1a1a1a1a1a100060100000000\n\
+3 take 2 = taken a1a1a1a1a1a1a1a1a1a1a1a1a1a1a1a100060100000000\n\
+end\n";
+
+/// Where the calls are made: on what lies under the lock, or on the lock.
+trait Place<L: Ledger, A: Allocator + Copy> {
+    fn call(&mut self, me: &mut Actor<L, A>, event: &Event<A>) -> Result<(), Refusal>;
+
+    fn route(&mut self, me: &mut Actor<L, A>, checked: &Checked<A>) -> Result<(), Refusal>;
+
+    /// Connects the actor's own link.
+    fn connect(&mut self, me: &mut Actor<L, A>, link: u32) -> Result<(), Refusal>;
+
+    /// Takes a packet of the second connection. `NothingWaiting` where there is none.
+    fn take(&mut self, me: &mut Actor<L, A>) -> Result<(), Refusal>;
+}
+
+impl<A: Allocator + Copy, C: RouterCore<A>, L: Ledger> Place<L, A> for Hub<C, L, A> {
+    fn call(&mut self, me: &mut Actor<L, A>, event: &Event<A>) -> Result<(), Refusal> {
+        Hub::call(self, me, event)
+    }
+
+    fn route(&mut self, me: &mut Actor<L, A>, checked: &Checked<A>) -> Result<(), Refusal> {
+        Hub::route(self, me, 0, checked)
+    }
+
+    fn connect(&mut self, me: &mut Actor<L, A>, link: u32) -> Result<(), Refusal> {
+        if me.number() != link {
+            return Err(Refusal::NotLive);
+        }
+        Hub::connect(self, me, link)
+    }
+
+    fn take(&mut self, me: &mut Actor<L, A>) -> Result<(), Refusal> {
+        match self.next_out(me, 2)? {
+            Next::Packet => Ok(()),
+            Next::Later | Next::Over => Err(Refusal::NothingWaiting),
+        }
+    }
+}
+
+/// The lock, and the runtime by which it is waited for.
+#[derive(Drop)]
+struct Locked<'r, 's, R, C: RouterCore<A> + Drop, L: Ledger, A: Allocator + Copy> {
+    rt: &'r R,
+    service: &'s Service<C, L, A>,
+}
+
+impl<'r, 's, A: Allocator + Copy, C: RouterCore<A> + Drop, L: Ledger, R: Wait> Place<L, A>
+    for Locked<'r, 's, R, C, L, A> {
+    fn call(&mut self, me: &mut Actor<L, A>, event: &Event<A>) -> Result<(), Refusal> {
+        self.service.call(self.rt, me, event)
+    }
+
+    fn route(&mut self, me: &mut Actor<L, A>, checked: &Checked<A>) -> Result<(), Refusal> {
+        self.service.route(self.rt, me, 0, checked)
+    }
+
+    fn connect(&mut self, me: &mut Actor<L, A>, link: u32) -> Result<(), Refusal> {
+        if me.number() != link {
+            return Err(Refusal::NotLive);
+        }
+        self.service.connect(self.rt, me, link)
+    }
+
+    fn take(&mut self, me: &mut Actor<L, A>) -> Result<(), Refusal> {
+        match self.service.next_out(self.rt, me, 2)? {
+            true => Ok(()),
+            false => Err(Refusal::NothingWaiting),
+        }
+    }
+}
+
+/// Makes the call of this number.
+fn make<A: Allocator + Copy, L: Ledger, P: Place<L, A>>(
+    place: &mut P,
+    actors: &mut [Actor<L, A>],
+    number: usize,
+) -> Result<Result<(), Refusal>, Fail> {
+    let (who, made) = CALLS[number.min(4)];
+    let Some(me) = actors.get_mut(who) else {
+        return Err("an actor".into());
+    };
+    Ok(match made {
+        Made::Connects(link) => place.connect(me, link),
+        Made::Admits => place.call(me, &Event::Admit(1, ping(0xa1, 7, 0)?)),
+        Made::Routes => place.route(me, &Checked::new(ping(0xa1, 7, 0)?)),
+        Made::Takes => place.take(me),
+    })
+}
+
+/// How many receipts all actors have.
+fn receipts_of<A: Allocator, L: Ledger>(actors: &[Actor<L, A>]) -> usize {
+    let mut receipts = 0usize;
+    for me in actors {
+        receipts = receipts.wrapping_add(me.receipts().len());
+    }
+    receipts
+}
+
+/// Makes all calls, where the one of this number meets the refusal and is made again.
+fn turn_at<A: Allocator + Copy, L: Ledger, P: Place<L, A>>(
+    heap: &Heap,
+    place: &mut P,
+    actors: &mut [Actor<L, A>],
+    number: usize,
+    refused: Refused,
+) -> Result<Turn, Fail> {
+    for before in 0..number {
+        make(place, actors, before)?.map_err(|_| "a call before")?;
+    }
+    refused.begin(heap);
+    let answer = make(place, actors, number);
+    let has_refused = heap.has_refused();
+    heap.refuse_none();
+    let turn = match answer? {
+        Ok(()) if !has_refused => Turn::Answered,
+        Err(Refusal::NoMemory) if has_refused && receipts_of(actors) == number => {
+            make(place, actors, number)?.map_err(|_| "the same call again")?;
+            Turn::Refused
+        }
+        _ => return Ok(Turn::Wrong),
+    };
+    for after in number.saturating_add(1)..CALLS.len() {
+        make(place, actors, after)?.map_err(|_| "a call after")?;
+    }
+    Ok(turn)
+}
+
+/// Whether the calls left their history, and each actor the receipts of its own steps.
+fn is_whole<A: Allocator + Copy, C: RouterCore<A>, L: Ledger>(
+    alloc: A,
+    hub: &Hub<C, L, A>,
+    actors: &[Actor<L, A>],
+) -> Result<bool, Fail> {
+    let (_, wanted) = read_history(alloc, HISTORY.as_bytes()).map_err(|_| "a history")?;
+    let history = hub.router().history();
+    let are_own = actors.iter().all(|me| {
+        me.receipts().iter().all(|receipt| match wanted.get(receipt.index as usize) {
+            Some(step) => is_step_of(step, me.number(), receipt),
+            None => false,
+        })
+    });
+    Ok(
+        are_same(history, wanted.as_slice())
+            && are_own
+            && receipts_of(actors) == wanted.len()
+            && hub.book() == 5,
+    )
+}
+
+/// Makes all calls at the lock.
+fn turn_locked<'r, 's, A: Allocator + Copy, C: RouterCore<A> + Drop, L: Ledger, R: Wait>(
+    rt: &'r R,
+    heap: &Heap,
+    service: &'s Service<C, L, A>,
+    actors: &mut [Actor<L, A>],
+    number: usize,
+    refused: Refused,
+) -> Result<Turn, Fail> {
+    let mut place = Locked { rt, service };
+    turn_at(heap, &mut place, actors, number, refused)
+}
+
+/// Makes all calls at the lock, or on what lies under it.
+fn turn_of<A: Allocator + Copy, C: RouterCore<A> + Drop, L: Ledger, R: Wait>(
+    rt: &R,
+    heap: &Heap,
+    alloc: A,
+    blank: Blank,
+    call: (usize, bool),
+    refused: Refused,
+) -> Result<Turn, Fail>
+    requires name { blank.name ≡ L.name }
+    requires parts { (blank.parts ≡ L.parts) × (blank.parts ≡ 6) }
+{
+    heap.refuse_none();
+    let roles = [Role::Plain, Role::Plain];
+    let made = Service::<C, L, A>::new(alloc, blank, &usual(100)?, &roles, 1);
+    let (service, mut actors) = made.map_err(|_| "a service")?;
+    let (number, is_locked) = call;
+    let (turn, hub) = if is_locked {
+        let turn = turn_locked(rt, heap, &service, actors.as_mut_slice(), number, refused)?;
+        (turn, service.into_hub())
+    } else {
+        let mut hub = service.into_hub();
+        (
+            turn_at(heap, &mut hub, actors.as_mut_slice(), number, refused)?,
+            hub,
+        )
+    };
+    Ok(match turn {
+        Turn::Wrong => Turn::Wrong,
+        _ if is_whole(alloc, &hub, actors.as_slice())? => turn,
+        _ => Turn::Wrong,
+    })
+}
+
+/// The call of this number, at the lock or on what lies under it.
+#[derive(Drop)]
+struct Calls<'a, R, C> {
+    rt: &'a R,
+    number: usize,
+    is_locked: bool,
+    core: PhantomData<C>,
+}
+
+impl<'a, A: Allocator + Copy, C: RouterCore<A> + Drop, R: Wait> Turns<A> for Calls<'a, R, C> {
+    fn turn(&self, heap: &Heap, alloc: A, refused: Refused) -> Result<Turn, Fail> {
+        let call = (self.number, self.is_locked);
+        turn_of::<A, C, Brand, R>(self.rt, heap, alloc, Blank::new(6), call, refused)
+    }
+}
+
+/// Makes a service: how many actors it has.
+fn actors_of<A: Allocator + Copy, C: RouterCore<A> + Drop, L: Ledger>(
+    alloc: A,
+    blank: Blank,
+) -> Result<usize, ServiceFault>
+    requires name { blank.name ≡ L.name }
+    requires parts { (blank.parts ≡ L.parts) × (blank.parts ≡ 6) }
+{
+    let Ok(config) = usual(100) else {
+        return Err(ServiceFault::BadWorkers);
+    };
+    let roles = [Role::Plain, Role::Plain];
+    let (_, actors) = Service::<C, L, A>::new(alloc, blank, &config, &roles, 1)?;
+    Ok(actors.len())
+}
+
+/// How many actors a service has that is made.
+fn opened<A: Allocator + Copy, C: RouterCore<A> + Drop>(alloc: A) -> Result<usize, ServiceFault> {
+    actors_of::<A, C, Brand>(alloc, Blank::new(6))
+}
+
+/// Makes a service.
+#[derive(Drop)]
+struct Opens<C> {
+    core: PhantomData<C>,
+}
+
+impl<A: Allocator + Copy, C: RouterCore<A> + Drop> Turns<A> for Opens<C> {
+    fn turn(&self, heap: &Heap, alloc: A, refused: Refused) -> Result<Turn, Fail> {
+        refused.begin(heap);
+        let made = opened::<A, C>(alloc);
+        let has_refused = heap.has_refused();
+        heap.refuse_none();
+        Ok(match made {
+            Ok(6) if !has_refused => Turn::Answered,
+            Err(ServiceFault::NoMemory) if has_refused => {
+                match opened::<A, C>(alloc) {
+                    Ok(6) => Turn::Refused,
+                    _ => Turn::Wrong,
+                }
+            }
+            _ => Turn::Wrong,
+        })
+    }
+}
+
+/// How many growths the calls meet: making a service, and each call, on what lies under the lock and at the lock.
+fn all_growths<A: Allocator + Copy, C: RouterCore<A> + Drop, R: Wait>(
+    rt: &R,
+    out: Global,
+    heap: &Heap,
+    alloc: A,
+) -> Result<Vec<u64>, Fail> {
+    let mut all = Vec::new(out);
+    let making: Opens<C> = Opens { core: PhantomData };
+    all.push(growths(heap, alloc, &making)?)?;
+    for is_locked in [false, true] {
+        for number in 0..CALLS.len() {
+            let call: Calls<R, C> = Calls {
+                rt,
+                number,
+                is_locked,
+                core: PhantomData,
+            };
+            all.push(growths(heap, alloc, &call)?)?;
+        }
+    }
+    Ok(all)
+}
+
+/// At the router with tables.
+const TABLE: [u64; 11] = [7, 3, 2, 4, 11, 2, 3, 2, 4, 11, 2];
+
+/// At the router that searches its history.
+const PLAIN: [u64; 11] = [3, 3, 1, 0, 6, 2, 3, 1, 0, 6, 2];
+
+#[test]
+fn calls_under_the_lock(rt: HostRuntime) -> Result<(), Fail> {
+    let heap = Heap::new(rt.alloc());
+    let table = all_growths::<_, TableRouter<_>, _>(&rt, rt.alloc(), &heap, &heap)?;
+    let plain = all_growths::<_, PlainRouter<_>, _>(&rt, rt.alloc(), &heap, &heap)?;
+    assert_eq!(rt; table.as_slice(), TABLE.as_slice());
+    assert_eq!(rt; plain.as_slice(), PLAIN.as_slice());
+    Ok(())
+}

@@ -1,0 +1,133 @@
+//! The stage queue: how it is made, and settled with a job left.
+
+ghost use Rattle.std.specs.Prelude.{◌≡◌};
+
+use gn_fixtures::ping;
+use gn_growth::{Heap, Refused, Turn, Turns, growths};
+use gn_stage::{Job, Settled, Site, Stage, StageFault, Unsettled};
+use std::alloc::{AllocError, Allocator};
+use std::marker::Brand;
+use std::sync::Wait;
+use std::test::Fail;
+
+fn job<A: Allocator>(ticket: u32) -> Result<Job<A>, Fail> {
+    let descriptor = ping(0xa1, 5, 0)?;
+    Ok(Job { ticket, descriptor })
+}
+
+/// Whether two jobs were put, one was taken, and the second was left.
+fn is_right<A: Allocator>(settled: &Settled<A>) -> bool {
+    let left = match settled.drained.as_slice() {
+        [job] => job.ticket == 1,
+        _ => false,
+    };
+    (settled.put, settled.taken, left) == (2, 1, true)
+}
+
+/// Settles a stage after two jobs were put and one was taken. After out of memory it is settled again.
+fn settles_of<A: Allocator + Copy, S: Site, R: Wait>(
+    rt: &R,
+    heap: &Heap,
+    alloc: A,
+    stage: Stage<A>,
+    refused: Refused,
+) -> Result<Turn, Fail>
+    requires { stage ≡ S.stage }
+{
+    let (mut ins, mut outs, desk) = stage.ends::<S>(alloc, 1, 1)?;
+    let (Some(mut intake), Some(mut outlet)) = (ins.pop(), outs.pop()) else {
+        return Err("both ends".into());
+    };
+    for ticket in 0..2 {
+        if intake.put(rt, job(ticket)?).is_err() {
+            return Err("room for a job".into());
+        }
+    }
+    if outlet.take(rt).map(|job| job.ticket) != Some(0) {
+        return Err("the first job".into());
+    }
+    let (mut intakes, mut outlets) = (Vec::new(alloc), Vec::new(alloc));
+    intakes.push(intake.finish())?;
+    outlets.push(outlet.finish())?;
+    refused.begin(heap);
+    let answer = desk.settle(rt, alloc, intakes, outlets);
+    let has_refused = heap.has_refused();
+    heap.refuse_none();
+    Ok(match answer {
+        Ok(settled) => answered(&settled, has_refused, Turn::Answered),
+        Err(
+            Unsettled {
+                fault,
+                desk,
+                intakes,
+                outlets,
+            },
+        ) => match desk.settle(rt, alloc, intakes, outlets) {
+            Ok(settled) if fault == StageFault::NoMemory => {
+                answered(&settled, !has_refused, Turn::Refused)
+            }
+            _ => Turn::Wrong,
+        },
+    })
+}
+
+/// This turn, where nothing is amiss and the answer is the right one.
+fn answered<A: Allocator>(settled: &Settled<A>, is_amiss: bool, turn: Turn) -> Turn {
+    if !is_amiss && is_right(settled) {
+        turn
+    } else {
+        Turn::Wrong
+    }
+}
+
+/// Settles a stage.
+#[derive(Drop)]
+struct Settles<'a, R> {
+    rt: &'a R,
+}
+
+impl<'a, A: Allocator + Copy, R: Wait> Turns<A> for Settles<'a, R> {
+    fn turn(&self, heap: &Heap, alloc: A, refused: Refused) -> Result<Turn, Fail> {
+        heap.refuse_none();
+        settles_of::<A, Brand, R>(self.rt, heap, alloc, Stage::new(alloc, 2)?, refused)
+    }
+}
+
+/// Whether a stage has the ends that are asked for.
+fn has_ends<A: Allocator + Copy, S: Site>(alloc: A, stage: Stage<A>) -> Result<bool, AllocError>
+    requires { stage ≡ S.stage }
+{
+    let (ins, outs, _desk) = stage.ends::<S>(alloc, 1, 1)?;
+    Ok((ins.len(), outs.len()) == (1, 1))
+}
+
+/// Makes a stage and its ends.
+#[derive(Drop)]
+struct Makes;
+
+/// Whether a stage could be made.
+fn is_made<A: Allocator + Copy>(alloc: A) -> Result<bool, AllocError> {
+    has_ends::<A, Brand>(alloc, Stage::new(alloc, 2)?)
+}
+
+impl<A: Allocator + Copy> Turns<A> for Makes {
+    fn turn(&self, heap: &Heap, alloc: A, refused: Refused) -> Result<Turn, Fail> {
+        refused.begin(heap);
+        let made = is_made(alloc);
+        let has_refused = heap.has_refused();
+        heap.refuse_none();
+        Ok(match made {
+            Ok(true) if !has_refused => Turn::Answered,
+            Err(_) if has_refused && is_made(alloc)? => Turn::Refused,
+            _ => Turn::Wrong,
+        })
+    }
+}
+
+#[test]
+fn the_stage_queue(rt: HostRuntime) -> Result<(), Fail> {
+    let heap = Heap::new(rt.alloc());
+    assert_eq!(rt; growths(&heap, &heap, &Makes)?, 14);
+    assert_eq!(rt; growths(&heap, &heap, &Settles { rt: &rt })?, 1);
+    Ok(())
+}

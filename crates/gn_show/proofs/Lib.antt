@@ -1,0 +1,5 @@
+pub mod CountLemmas
+pub mod FloatLemmas
+pub mod LinesLemmas
+pub mod ShowLemmas
+pub mod ValueLemmas

@@ -1,0 +1,78 @@
+use Rattle.std.proofs.Common.{◌+◌, ◌∙◌, Ok, refl, subst}
+use Rattle.gn_capture.specs.Histories.{IsNextOf, steps_left}
+use Rattle.gn_replay.specs.Faults.{of_refusal}
+use Rattle.gn_replay.specs.Runs.{IsPlayFault}
+use Rattle.gn_replay.proofs.RunLemmas.{on_err}
+use Rattle.gn_show.proofs.LinesLemmas.{line_cut, only_memory, showing_all, showing_cut, showing_kept, showing_more, showing_none}
+use Rattle.gn_show.proofs.ShowLemmas.{fault_is}
+use Rattle.gn_show.proofs.steps.write_steps.Goals as goal
+
+pub loop-block-init : goal.loop-block-init
+loop-block-init g c = record {
+  showing = showing_none c.args.form (g.W.Sink.state c.args.sink.now).written _ c.args.steps.now c.new-block.ensures;
+  writes = (refl, refl);
+}
+
+pub loop-block-preserved : goal.loop-block-preserved
+loop-block-preserved g c =
+    let next = subst (λ found. IsNextOf (Ok found) (steps_left c.loop-block.steps) (steps_left c.next_step.new.self)) c.in-Some.is c.in_ok-step.ensures.next in
+    record {
+      showing = rw c.in_ok-index.ensures
+          (showing_more c.args.form (g.W.Sink.state c.args.sink.now).written (g.W.Sink.state c.loop-block.sink).written c.loop-block.block c.loop-block.index c.loop-block.steps
+          (steps_left c.args.steps.now) c.loop-block.invariant.showing (g.W.Sink.state c.write_step.new.sink).written c.write_step.new.block c.deref.result.now c.next_step.new.self
+          c.in-Some.step next (c.deref.ensures.value ∙ c.in_ok-line.ensures) c.in_ok-write_step.ensures.ok);
+      writes =
+          (c.in_ok-write_step.ensures.writes.0 ∙ c.loop-block.invariant.writes.0, c.in_ok-write_step.ensures.writes.1 ∙ c.loop-block.invariant.writes.1);
+    }
+
+pub returns-in_err-step-clause-err : goal.returns-in_err-step-clause-err
+returns-in_err-step-clause-err g c =
+    on_err c.from_residual.result
+    (showing_kept c.args.form (g.W.Sink.state c.args.sink.now).written (g.W.Sink.state c.loop-block.sink).written c.loop-block.block c.loop-block.index c.loop-block.steps
+    (steps_left c.args.steps.now) c.loop-block.invariant.showing c.requires)
+
+pub returns-in_err-step-clause-cause : goal.returns-in_err-step-clause-cause
+returns-in_err-step-clause-cause g c =
+    fault_is (λ fault. IsPlayFault fault (g.W.Sink.state c.args.sink.now) (g.W.Sink.state c.loop-block.sink)) c.from_residual.result (of_refusal c.in_err-step.field-0.0)
+    c.from_residual.ensures.1
+    (only_memory c.args.form (g.W.Sink.state c.args.sink.now).written (g.W.Sink.state c.loop-block.sink).written c.loop-block.block c.loop-block.index c.loop-block.steps
+    (steps_left c.args.steps.now) c.loop-block.invariant.showing c.in_err-step.field-0.0 (g.W.Sink.state c.args.sink.now) (g.W.Sink.state c.loop-block.sink) c.requires
+    c.in_err-step.ensures.next c.loop-block.invariant.writes)
+
+pub returns-in_err-line-clause-err : goal.returns-in_err-line-clause-err
+returns-in_err-line-clause-err g c =
+    on_err c.from_residual-in_err-line.result
+    (showing_kept c.args.form (g.W.Sink.state c.args.sink.now).written (g.W.Sink.state c.loop-block.sink).written c.loop-block.block c.loop-block.index c.loop-block.steps
+    (steps_left c.args.steps.now) c.loop-block.invariant.showing c.requires)
+
+pub returns-in_err-write_step-clause-err : goal.returns-in_err-write_step-clause-err
+returns-in_err-write_step-clause-err g c =
+    let next = subst (λ found. IsNextOf (Ok found) (steps_left c.loop-block.steps) (steps_left c.next_step.new.self)) c.in-Some.is c.in_ok-step.ensures.next in
+    on_err c.from_residual-in_err-write_step.result
+    (line_cut c.args.form (g.W.Sink.state c.args.sink.now).written (g.W.Sink.state c.loop-block.sink).written c.loop-block.block c.loop-block.index c.loop-block.steps
+    (steps_left c.args.steps.now) c.loop-block.invariant.showing (g.W.Sink.state c.write_step.new.sink).written c.deref.result.now c.next_step.new.self
+    c.in-Some.step c.requires next (c.deref.ensures.value ∙ c.in_ok-line.ensures) c.in_err-write_step.ensures.err)
+
+pub returns-in_err-index-clause-err : goal.returns-in_err-index-clause-err
+returns-in_err-index-clause-err g c =
+    let next = subst (λ found. IsNextOf (Ok found) (steps_left c.loop-block.steps) (steps_left c.next_step.new.self)) c.in-Some.is c.in_ok-step.ensures.next in
+    let first = (g.W.Sink.state c.args.sink.now).written in
+    let last = (g.W.Sink.state c.write_step.new.sink).written in
+    let all = steps_left c.args.steps.now in
+    on_err c.from_residual-in_err-index.result
+    (showing_kept c.args.form first last c.write_step.new.block (c.loop-block.index + 1) c.next_step.new.self all
+    (showing_more c.args.form first (g.W.Sink.state c.loop-block.sink).written c.loop-block.block c.loop-block.index c.loop-block.steps
+    all c.loop-block.invariant.showing last c.write_step.new.block c.deref.result.now c.next_step.new.self
+    c.in-Some.step next (c.deref.ensures.value ∙ c.in_ok-line.ensures) c.in_ok-write_step.ensures.ok) c.requires)
+
+pub returns-in_err-write_rest-clause-err : goal.returns-in_err-write_rest-clause-err
+returns-in_err-write_rest-clause-err g c =
+    on_err c.from_residual-in_err-write_rest.result
+    (showing_cut c.args.form (g.W.Sink.state c.args.sink.now).written (g.W.Sink.state c.loop-block.sink).written c.loop-block.block c.loop-block.index c.loop-block.steps
+    (steps_left c.args.steps.now) c.loop-block.invariant.showing (g.W.Sink.state c.write_rest.new.sink).written c.requires c.in_err-write_rest.ensures.err)
+
+pub returns-clause-ok : goal.returns-clause-ok
+returns-clause-ok g c =
+    let none = subst (λ found. IsNextOf (Ok found) (steps_left c.loop-block.steps) (steps_left c.next_step.new.self)) c.in_default.is c.in_ok-step.ensures.next in
+    showing_all c.args.form (g.W.Sink.state c.args.sink.now).written (g.W.Sink.state c.loop-block.sink).written c.loop-block.block c.loop-block.index c.loop-block.steps
+    (steps_left c.args.steps.now) c.loop-block.invariant.showing (g.W.Sink.state c.write_rest.new.sink).written none c.in_ok-write_rest.ensures.ok

@@ -1,0 +1,14 @@
+use Rattle.std.specs.Prelude.{length}
+use Rattle.gn_capture.specs.Histories.{steps_left}
+use Rattle.gn_io.specs.Streams.{NoWriteFailed}
+use Rattle.gn_show.proofs.LinesLemmas.{IsShowing}
+use Rattle.gn_show.proofs.steps.write_steps.Given as goal
+
+abbrev pub invariant-loop-block : goal.invariant-loop-block
+invariant-loop-block g l = record {
+  showing : IsShowing l.form (g.W.Sink.state l.fn.sink).written (g.W.Sink.state l.sink).written l.block l.index l.steps (steps_left l.fn.steps);
+  writes : NoWriteFailed (g.W.Sink.state l.fn.sink) (g.W.Sink.state l.sink);
+}
+
+abbrev pub decreases-loop-block : goal.decreases-loop-block
+decreases-loop-block g l = length l.steps.lines

@@ -1,0 +1,4 @@
+pub mod Plain
+pub mod Shown
+pub mod Values
+pub mod Words

@@ -1,0 +1,17 @@
+//! Histories as a reader sees them: each step as a line of plain words or of JSON, and the counters.
+#![tactic(auto)]
+
+mod descriptor_json;
+mod form;
+mod json_lines;
+mod payload_json;
+mod plain;
+mod plain_descriptor;
+mod shows;
+mod stats;
+mod step_json;
+mod steps;
+mod text;
+
+pub use form::{Form, View};
+pub use shows::show;

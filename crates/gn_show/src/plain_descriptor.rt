@@ -1,0 +1,206 @@
+//! Descriptors and their payloads in plain words.
+#![tactic(auto, using(std::proofs::Common::append_assoc))]
+
+ghost use Rattle.std.specs.Prelude.{◌≡◌, ◌++◌, ℕ, List, OnOk};
+ghost use Rattle.gn_payload.specs.Grammar.{IsPong, IsPush};
+ghost use Rattle.gn_payload.specs.Views.{query_fields, result_fields};
+ghost use Rattle.gn_show.specs.Plain.{
+  descriptor_words,
+  hit_words,
+  id_words,
+  kind_words,
+  payload_words,
+  place_words,
+  pong_words,
+  push_words,
+  query_words,
+  result_words,
+  results_words,
+  text_words,
+  unread_words,
+};
+
+use crate::text::utf8;
+use gn_payload::{
+    HitResult, Pong, Push, Query, QueryHit, read_hit, read_pong, read_push, read_query,
+};
+use gn_text::{push_hex, push_ip, push_number};
+use gn_wire::{Descriptor, Guid, Kind};
+use serde_json::json;
+use std::alloc::{AllocError, Global};
+
+fn push_id(out: &mut Vec<u8>, id: Guid) -> Result<(), AllocError>
+    ensures { OnOk result (out.new.items ≡ out.old.items ++ id_words id) }
+{
+    push_hex(out, &id.0[..4])?;
+    out.extend_from_slice(b"..")
+}
+
+fn push_place(out: &mut Vec<u8>, ip: [u8; 4], port: u16) -> Result<(), AllocError>
+    ensures { OnOk result (out.new.items ≡ out.old.items ++ place_words ip port) }
+{
+    push_ip(out, ip)?;
+    out.extend_from_slice(b":")?;
+    push_number(out, u32::from(port))
+}
+
+/// Appends a text in quotes as in JSON, so that a line feed in it ends no line; or its bytes in hex.
+fn push_text(alloc: Global, out: &mut Vec<u8>, text: &[u8]) -> Result<(), AllocError>
+    ensures { OnOk result (out.new.items ≡ out.old.items ++ text_words text.now) }
+{
+    match utf8(text) {
+        Some(text) => {
+            let quoted = json!(in alloc; text)?.to_string(alloc)?;
+            out.extend_from_slice(quoted.as_bytes())
+        }
+        None => {
+            out.extend_from_slice(b"hex ")?;
+            push_hex(out, text)
+        }
+    }
+}
+
+fn push_pong(out: &mut Vec<u8>, pong: &Pong) -> Result<(), AllocError>
+    ensures { OnOk result ((bytes : List ℕ) → IsPong bytes pong.now
+        → out.new.items ≡ out.old.items ++ pong_words bytes) }
+{
+    out.extend_from_slice(b" ")?;
+    push_place(out, pong.ip, pong.port)?;
+    out.extend_from_slice(b" ")?;
+    push_number(out, pong.files)?;
+    out.extend_from_slice(b" files ")?;
+    push_number(out, pong.kbytes)?;
+    out.extend_from_slice(b" kB")
+}
+
+fn push_push(out: &mut Vec<u8>, push: &Push) -> Result<(), AllocError>
+    ensures { OnOk result ((bytes : List ℕ) → IsPush bytes push.now
+        → out.new.items ≡ out.old.items ++ push_words bytes) }
+{
+    out.extend_from_slice(b" servent ")?;
+    push_id(out, push.servent)?;
+    out.extend_from_slice(b" file ")?;
+    push_number(out, push.file)?;
+    out.extend_from_slice(b" to ")?;
+    push_place(out, push.ip, push.port)
+}
+
+fn push_query(alloc: Global, out: &mut Vec<u8>, query: &Query<'_>) -> Result<(), AllocError>
+    ensures { OnOk result (out.new.items ≡ out.old.items ++ query_words (query_fields query.now)) }
+{
+    out.extend_from_slice(b" ")?;
+    push_text(alloc, out, query.text)?;
+    out.extend_from_slice(b" speed ")?;
+    push_number(out, u32::from(query.speed))
+}
+
+fn push_result(alloc: Global, out: &mut Vec<u8>, found: &HitResult<'_>) -> Result<(), AllocError>
+    ensures { OnOk result (out.new.items ≡ out.old.items ++ result_words (result_fields found.now)) }
+{
+    out.extend_from_slice(b", file ")?;
+    push_number(out, found.file)?;
+    out.extend_from_slice(b" ")?;
+    push_text(alloc, out, found.name)?;
+    out.extend_from_slice(b" of ")?;
+    push_number(out, found.size)?;
+    out.extend_from_slice(b" bytes")
+}
+
+fn push_results(alloc: Global, out: &mut Vec<u8>, hit: &QueryHit<'_>) -> Result<(), AllocError>
+    ensures { OnOk result (out.new.items ≡ out.old.items ++ results_words hit.now.results) }
+{
+    for found in hit.results() {
+        push_result(alloc, out, &found)?;
+    }
+    Ok(())
+}
+
+fn push_hit(alloc: Global, out: &mut Vec<u8>, hit: &QueryHit<'_>) -> Result<(), AllocError>
+    ensures { OnOk result (out.new.items ≡ out.old.items ++ hit_words hit.now) }
+{
+    out.extend_from_slice(b" servent ")?;
+    push_id(out, hit.servent())?;
+    out.extend_from_slice(b" ")?;
+    push_place(out, hit.ip(), hit.port())?;
+    out.extend_from_slice(b" speed ")?;
+    push_number(out, hit.speed())?;
+    push_results(alloc, out, hit)
+}
+
+/// A payload that has no reading, or that of an unknown kind.
+fn push_unread(out: &mut Vec<u8>, payload: &[u8]) -> Result<(), AllocError>
+    ensures { OnOk result (out.new.items ≡ out.old.items ++ unread_words payload.now) }
+{
+    out.extend_from_slice(b" unread ")?;
+    push_hex(out, payload)
+}
+
+#[tactic(auto, using(crate::proofs::ValueLemmas::readings))]
+fn push_payload(
+    alloc: Global,
+    out: &mut Vec<u8>,
+    kind: Kind,
+    payload: &[u8],
+) -> Result<(), AllocError>
+    ensures { OnOk result (out.new.items ≡ out.old.items ++ payload_words kind payload.now) }
+{
+    match kind {
+        Kind::Ping if payload.is_empty() => Ok(()),
+        Kind::Pong => match read_pong(payload) {
+            Some(pong) => push_pong(out, &pong),
+            None => push_unread(out, payload),
+        },
+        Kind::Push => match read_push(payload) {
+            Some(push) => push_push(out, &push),
+            None => push_unread(out, payload),
+        },
+        Kind::Query => match read_query(payload) {
+            Some(query) => push_query(alloc, out, &query),
+            None => push_unread(out, payload),
+        },
+        Kind::QueryHit => match read_hit(payload) {
+            Some(hit) => push_hit(alloc, out, &hit),
+            None => push_unread(out, payload),
+        },
+        _ => push_unread(out, payload),
+    }
+}
+
+fn push_kind(out: &mut Vec<u8>, kind: Kind) -> Result<(), AllocError>
+    ensures { OnOk result (out.new.items ≡ out.old.items ++ kind_words kind) }
+{
+    match kind {
+        Kind::Ping => out.extend_from_slice(b"Ping"),
+        Kind::Pong => out.extend_from_slice(b"Pong"),
+        Kind::Push => out.extend_from_slice(b"Push"),
+        Kind::Query => out.extend_from_slice(b"Query"),
+        Kind::QueryHit => out.extend_from_slice(b"Query Hit"),
+        Kind::Unknown(code) => {
+            out.extend_from_slice(b"kind ")?;
+            push_number(out, u32::from(code))
+        }
+    }
+}
+
+/// Appends a descriptor: its kind, `TTL/HOPS`, the first four bytes of its ID, and what its payload says.
+pub(crate) fn push_descriptor(
+    alloc: Global,
+    out: &mut Vec<u8>,
+    descriptor: &Descriptor,
+) -> Result<(), AllocError>
+    ensures { OnOk result (out.new.items ≡ out.old.items ++ descriptor_words descriptor.now) }
+{
+    push_kind(out, descriptor.kind())?;
+    out.extend_from_slice(b" ")?;
+    push_number(out, u32::from(descriptor.ttl()))?;
+    out.extend_from_slice(b"/")?;
+    push_number(out, u32::from(descriptor.hops()))?;
+    out.extend_from_slice(b" ")?;
+    push_id(out, descriptor.id())?;
+    push_payload(
+        alloc,
+        out,
+        descriptor.kind(),
+        descriptor.payload().as_slice(),
+    )
+}

@@ -1,0 +1,89 @@
+//! The steps of a history, shown one after another.
+
+ghost use Rattle.std.specs.Prelude.{◌≡◌, ◌++◌, IfErr, IfOk, IsOk, OnErr, OnOk};
+ghost use Rattle.gn_capture.specs.Histories.{history_of, steps_left};
+ghost use Rattle.gn_io.specs.Parts.{AppendsPart, LeavesToWrite};
+ghost use Rattle.gn_io.specs.Streams.{NoWriteFailed};
+ghost use Rattle.gn_replay.specs.Runs.{IsPlayFault};
+ghost use Rattle.gn_show.specs.Shown.{AppendsLines, AppendsLinesPart, AppendsShown, AppendsShownPart, line_of};
+ghost use Rattle.gn_show.specs.declared.form.View.TheVariants.{Steps};
+
+use crate::form::Form;
+use crate::json_lines::json_line;
+use crate::plain::plain_line;
+use crate::stats::next_index;
+use gn_capture::{HistorySteps, open_history};
+use gn_io::{Block, Sink};
+use gn_replay::ReplayFault;
+use gn_rules::Step;
+use std::alloc::{AllocError, Global};
+
+/// The line of a step, whose index counts from 0.
+fn line_of(alloc: Global, form: Form, index: u32, step: &Step) -> Result<Vec<u8>, AllocError>
+    ensures { IfOk result (λ line. line.items ≡ line_of form index step.now) }
+{
+    match form {
+        Form::Plain => plain_line(alloc, index, step),
+        Form::Json => json_line(alloc, index, step),
+    }
+}
+
+/// Shows one step. Its line waits after what waited, and is written once that is a block.
+fn write_step<W: Sink>(line: &[u8], block: &mut Block, sink: &mut W) -> Result<(), ReplayFault>
+    ensures ok { OnOk result (LeavesToWrite (W.state sink.old).written (W.state sink.new).written block.new
+        (block.old ++ line.now)) }
+    ensures err { OnErr result (AppendsPart (W.state sink.old).written (W.state sink.new).written
+        (block.old ++ line.now)) }
+    ensures cause { IfErr result (λ fault. IsPlayFault fault (W.state sink.old) (W.state sink.new)) }
+    ensures writes { OnOk result (NoWriteFailed (W.state sink.old) (W.state sink.new)) }
+{
+    block.add(line)?;
+    block.write_full(sink)?;
+    Ok(())
+}
+
+/// Shows the steps that are left of a history, each as it is read.
+fn write_steps<W: Sink>(
+    alloc: Global,
+    form: Form,
+    steps: &mut HistorySteps,
+    sink: &mut W,
+) -> Result<(), ReplayFault>
+    requires { IsOk (steps_left {A = Global} steps.old) }
+    ensures ok { OnOk result (AppendsLines form (steps_left steps.old)
+        (W.state sink.old).written (W.state sink.new).written) }
+    ensures err { OnErr result (AppendsLinesPart form (steps_left steps.old)
+        (W.state sink.old).written (W.state sink.new).written) }
+    ensures cause { IfErr result (λ fault. IsPlayFault fault (W.state sink.old) (W.state sink.new)) }
+    ensures writes { OnOk result (NoWriteFailed (W.state sink.old) (W.state sink.new)) }
+{
+    let mut block = Block::new(alloc);
+    let mut index = 0u32;
+    while let Some(step) = steps.next_step()? {
+        let line = line_of(alloc, form, index, &step)?;
+        write_step(&line, &mut block, sink)?;
+        index = next_index(index)?;
+        drop(step);
+    }
+    block.write_rest(sink)?;
+    Ok(())
+}
+
+/// Shows the steps of a history's text.
+pub(crate) fn write_text<W: Sink>(
+    alloc: Global,
+    form: Form,
+    text: &[u8],
+    sink: &mut W,
+) -> Result<(), ReplayFault>
+    requires { IsOk (history_of {A = Global} text.now) }
+    ensures ok { OnOk result (AppendsShown (Steps form) text.now
+        (W.state sink.old).written (W.state sink.new).written) }
+    ensures err { OnErr result (AppendsShownPart (Steps form) text.now
+        (W.state sink.old).written (W.state sink.new).written) }
+    ensures cause { IfErr result (λ fault. IsPlayFault fault (W.state sink.old) (W.state sink.new)) }
+    ensures writes { OnOk result (NoWriteFailed (W.state sink.old) (W.state sink.new)) }
+{
+    let (_, mut steps) = open_history(alloc, text)?;
+    write_steps(alloc, form, &mut steps, sink)
+}

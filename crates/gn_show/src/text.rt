@@ -1,0 +1,75 @@
+//! Texts of payloads, and the names that stand in lines.
+
+ghost use Rattle.std.specs.Prelude.{◌≡◌, ◌++◌, true, false, decimal, string_bytes, IfOk, MatchOption, OnOk};
+ghost use Rattle.std.specs.Str.{is_utf8};
+ghost use Rattle.gn_text.specs.Addresses.{ip_text};
+ghost use Rattle.gn_text.specs.Steps.{reason_text};
+ghost use Rattle.gn_show.specs.Words.{kind_name};
+
+use gn_rules::DropReason;
+use gn_wire::Kind;
+use itoa::Buffer;
+use std::alloc::{AllocError, Global};
+use std::str;
+
+/// The text that bytes are, where they are UTF-8.
+#[tactic(auto, using(crate::proofs::ValueLemmas::utf8_tests))]
+pub(crate) fn utf8(bytes: &[u8]) -> Option<&str>
+    ensures { MatchOption result (is_utf8 bytes.now ≡ false)
+        (λ text. (is_utf8 bytes.now ≡ true) × (text.now ≡ bytes.now)) }
+{
+    str::from_utf8(bytes).ok()
+}
+
+/// Appends a word and then a number in decimal digits.
+#[tactic(auto, using(std::proofs::Common::append_assoc))]
+fn push_part(text: &mut String, word: &str, number: u8) -> Result<(), AllocError>
+    ensures { OnOk result (string_bytes text.new ≡ string_bytes text.old ++ word.now ++ decimal number) }
+{
+    let mut buffer = Buffer::new();
+    text.push_str(word)?;
+    text.push_str(buffer.format(number))
+}
+
+/// An address in dotted decimal.
+#[tactic(auto, using(std::proofs::Common::append_assoc))]
+pub(crate) fn dotted(alloc: Global, ip: [u8; 4]) -> Result<String, AllocError>
+    ensures { IfOk result (λ text. string_bytes text ≡ ip_text ip) }
+{
+    let [a, b, c, d] = ip;
+    let mut text = String::new(alloc);
+    push_part(&mut text, "", a)?;
+    push_part(&mut text, ".", b)?;
+    push_part(&mut text, ".", c)?;
+    push_part(&mut text, ".", d)?;
+    Ok(text)
+}
+
+/// The name of a kind in JSON.
+pub(crate) fn name_of(kind: Kind) -> &'static str
+    ensures { result.now ≡ kind_name kind }
+{
+    match kind {
+        Kind::Ping => "ping",
+        Kind::Pong => "pong",
+        Kind::Push => "push",
+        Kind::Query => "query",
+        Kind::QueryHit => "query_hit",
+        Kind::Unknown(_) => "unknown",
+    }
+}
+
+/// Why a descriptor was dropped, by the name of its counter.
+pub(crate) fn reason_word(reason: DropReason) -> &'static str
+    ensures { result.now ≡ reason_text reason }
+{
+    match reason {
+        DropReason::UnknownKind => "unknownkind",
+        DropReason::Malformed => "malformed",
+        DropReason::Duplicate => "duplicate",
+        DropReason::NoRoute => "noroute",
+        DropReason::RouteGone => "routegone",
+        DropReason::BackToSender => "backtosender",
+        DropReason::Expired => "expired",
+    }
+}
