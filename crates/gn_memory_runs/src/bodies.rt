@@ -223,10 +223,10 @@ fn growths_of<A: Allocator + Copy, B: Allocator + Copy, C: RouterCore<A> + Drop,
     growths(heap, alloc, &bodies)
 }
 
-/// The reader connects, which takes three, cuts the Ping out of its piece, three, and admits it, four. The worker's route
+/// The reader connects, which takes three, cuts the Ping out of its piece, three, and admits it, eight. The worker's route
 /// takes ten, as at the router alone, and one for its first receipt. The writer has a first receipt too, encodes the Pong,
 /// which takes two, and its Close is the fifth step of the history.
-const GROWTHS: u64 = 10 + 11 + 4;
+const GROWTHS: u64 = 14 + 11 + 4;
 
 #[test]
 fn bodies_of_one_link(rt: HostRuntime) -> Result<(), Fail> {

@@ -328,7 +328,7 @@ fn all_growths<A: Allocator + Copy, C: RouterCore<A> + Drop, R: Wait>(
 }
 
 /// At the router with tables.
-const TABLE: [u64; 11] = [7, 3, 2, 4, 11, 2, 3, 2, 4, 11, 2];
+const TABLE: [u64; 11] = [7, 3, 2, 8, 11, 2, 3, 2, 8, 11, 2];
 
 /// At the router that searches its history.
 const PLAIN: [u64; 11] = [3, 3, 1, 0, 6, 2, 3, 1, 0, 6, 2];

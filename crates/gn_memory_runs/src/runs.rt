@@ -21,7 +21,7 @@ use std::thread::Threads;
 
 /// The configuration of six links of a hundred Pings.
 fn ample() -> Result<Config, BadConfig> {
-    Config::new(8, 1024, 64, 1024, 1024, 100_000, OWN)
+    Config::new(8, 1024, 64, 1024, 1024, 100_000, 0, 0, OWN)
 }
 
 /// Two plain links of one Ping each, in a list over an allocator of its own.

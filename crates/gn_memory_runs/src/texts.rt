@@ -90,7 +90,7 @@ const TEXTS: [(Text, u64); 5] = [
     (Text::ReadCapture, 9),
     // The header, each step, and the list of four steps.
     (Text::ReadHistory, 13),
-    // 376 bytes where six are full: the first line fills 25, and that doubles up to 400.
+    // 376 bytes where six are full: the first title fills 24, and that doubles up to 384.
     (Text::WriteHistory, 5),
 ];
 
@@ -184,7 +184,7 @@ impl<A: Allocator + Copy> Call<A> for Handles {
                 Err(_) => Err(Failure::NoMemory),
             },
             Text::ReadHeader => {
-                match read_header(writing.alloc, b"gnutella-history 1", &mut writing.lines) {
+                match read_header(writing.alloc, gn_text::Text::History, &mut writing.lines) {
                     Ok(config) => Ok(Known::Header(config)),
                     Err(refusal) => Err(failure(refusal)),
                 }
@@ -351,14 +351,14 @@ impl Command {
 type Row = (Command, &'static str, &'static str, u64, u64);
 
 const COMMANDS: [Row; 7] = [
-    (Command::Replay, CAPTURE, PRINTED, 44, 45),
-    (Command::ReplayHistory, CAPTURE, FIRST_PING, 50, 51),
+    (Command::Replay, CAPTURE, PRINTED, 48, 49),
+    (Command::ReplayHistory, CAPTURE, FIRST_PING, 54, 55),
     (
         Command::Audit(Legality::Legal),
         FIRST_PING,
         "legal 4\n",
-        30,
-        31,
+        34,
+        35,
     ),
     (
         Command::Audit(Legality::WrongAt(2)),
@@ -371,15 +371,15 @@ const COMMANDS: [Row; 7] = [
         Command::Audit(Legality::WrongAt(2)),
         ONE_CONNECTION,
         "wrong 2\n",
-        34,
-        35,
+        38,
+        39,
     ),
     (
         Command::Audit(Legality::WrongAt(3)),
         ADMITTED_TWICE,
         "wrong 3\n",
-        26,
-        27,
+        30,
+        31,
     ),
     (
         Command::AuditExplained(Legality::WrongAt(2)),

@@ -80,7 +80,7 @@ fn of_descriptors<A: Allocator + Copy>(heap: &Heap, alloc: A) -> Result<(bool, u
     };
     let is_right = query.is_same(&query)
         && query.copy()?.is_same(&query)
-        && query.forwarded().is_some()
+        && query.forwarded(0).is_some()
         && frames.pending() == 22
         && Reassembler::new(alloc)?.pending() == 0
         && Checked::new(query).verdict() == Verdict::Sound;

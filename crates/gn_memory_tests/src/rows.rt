@@ -14,39 +14,39 @@ type Row = (Asked, &'static str, &'static [u64]);
 
 /// At the router with tables. A step grows for its receipt, its packets, and where a table or the history is full.
 const WITH_TABLES: [Row; 13] = [
-    (Asked::Apply, FIRST_PING, &[2, 1, 4, 10]),
+    (Asked::Apply, FIRST_PING, &[2, 1, 8, 10]),
     (
         Asked::Apply,
         REMEMBERED_AND_FORGOTTEN,
-        &[2, 4, 10, 0, 7, 0, 0, 0, 7, 0, 6],
+        &[2, 8, 10, 0, 7, 0, 0, 0, 7, 0, 6],
     ),
     (
         Asked::Apply,
         ONE_REMEMBERED,
-        &[2, 1, 4, 10, 1, 6, 0, 0, 1, 3],
+        &[2, 1, 8, 10, 1, 6, 0, 0, 1, 3],
     ),
     (
         Asked::Apply,
         PONGS_GO_BACK,
-        &[2, 1, 4, 10, 1, 3, 0, 3, 1, 0],
+        &[2, 1, 8, 10, 1, 3, 0, 3, 1, 0],
     ),
-    (Asked::Apply, CLOSE_AND_REJOIN, &[2, 1, 4, 10, 1, 1, 0, 0]),
+    (Asked::Apply, CLOSE_AND_REJOIN, &[2, 1, 8, 10, 1, 1, 0, 0]),
     (
         Asked::Apply,
         BUSY_AND_FULL_OUTPUT,
-        &[2, 1, 4, 0, 11, 0, 6, 0, 1, 6],
+        &[2, 1, 8, 0, 11, 0, 6, 0, 1, 6],
     ),
-    (Asked::Apply, ORIGINATED, &[2, 7, 4, 0, 4]),
+    (Asked::Apply, ORIGINATED, &[2, 7, 8, 0, 4]),
     (
         Asked::Apply,
         FORGOTTEN_SERVENTS,
-        &[2, 1, 1, 4, 8, 0, 8, 0, 5, 0, 3, 0, 3, 0, 3, 0, 1],
+        &[2, 1, 1, 8, 8, 0, 8, 0, 5, 0, 3, 0, 3, 0, 3, 0, 1],
     ),
     (Asked::Route, FIRST_PING, &[10]),
-    (Asked::Enter, FIRST_PING, &[2, 1, 4, 9]),
-    (Asked::Enter, ORIGINATED, &[2, 6, 4, 0, 3]),
-    (Asked::Add, FIRST_PING, &[2, 1, 4, 5]),
-    (Asked::Add, ORIGINATED, &[2, 5, 4, 0, 2]),
+    (Asked::Enter, FIRST_PING, &[2, 1, 8, 9]),
+    (Asked::Enter, ORIGINATED, &[2, 6, 8, 0, 3]),
+    (Asked::Add, FIRST_PING, &[2, 1, 8, 5]),
+    (Asked::Add, ORIGINATED, &[2, 5, 8, 0, 2]),
 ];
 
 /// At the router that searches its history, which is all that grows beside packets and receipts.
@@ -84,16 +84,16 @@ fn steps_in_history(rt: HostRuntime) -> Result<(), Fail> {
 
 /// Runs as lists of events, what two events after them are refused, and the growths that all meet at both routers.
 const LISTS: [(&str, &[Refusal], u64, u64); 7] = [
-    (FIRST_PING, &[], 18, 8),
-    (EXPIRED_PING, &[], 20, 9),
-    (TTL_AND_HOPS_LIMITS, &[], 26, 15),
-    (REMEMBERED_AND_FORGOTTEN, &[], 37, 25),
-    (ONE_REMEMBERED, &[], 29, 17),
-    (PONGS_GO_BACK, &[], 26, 14),
+    (FIRST_PING, &[], 22, 8),
+    (EXPIRED_PING, &[], 24, 9),
+    (TTL_AND_HOPS_LIMITS, &[], 30, 15),
+    (REMEMBERED_AND_FORGOTTEN, &[], 41, 25),
+    (ONE_REMEMBERED, &[], 33, 17),
+    (PONGS_GO_BACK, &[], 30, 14),
     (
         CLOSE_AND_REJOIN,
         &[Refusal::NothingWaiting, Refusal::NotLive],
-        20,
+        24,
         9,
     ),
 ];

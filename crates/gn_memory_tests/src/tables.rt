@@ -231,6 +231,6 @@ impl<A: Allocator + Copy> Turns<A> for AddsFlight {
 fn what_is_added(rt: HostRuntime) -> Result<(), Fail> {
     let heap = Heap::new(rt.alloc());
     assert_eq!(rt; growths(&heap, &heap, &AddsNeighbour)?, 1);
-    assert_eq!(rt; growths(&heap, &heap, &AddsFlight)?, 4);
+    assert_eq!(rt; growths(&heap, &heap, &AddsFlight)?, 8);
     Ok(())
 }

@@ -77,6 +77,7 @@ reply_plain reply.TooMany = refl
 reply_plain (reply.Closed count) = refl
 reply_plain (reply.Admitted t) = refl
 reply_plain reply.Busy = refl
+reply_plain reply.Crowded = refl
 reply_plain (reply.Routed sends local) = rw (items_plain sending_data sending_plain sends) refl
 reply_plain (reply.Dropped reason) = refl
 reply_plain (reply.Taken d) = rw (descriptor_plain d) refl

@@ -140,6 +140,7 @@ reply_words reply.TooMany = codes "too many"
 reply_words (reply.Closed count) = codes "closed, discarded " ++ decimal count
 reply_words (reply.Admitted t) = codes "admitted as #" ++ decimal t
 reply_words reply.Busy = codes "busy"
+reply_words reply.Crowded = codes "crowded"
 reply_words (reply.Routed sends local) = routed_words local ++ sends_words sends
 reply_words (reply.Dropped reason) = codes "dropped " ++ reason_text reason
 reply_words (reply.Taken d) = descriptor_words d

@@ -137,6 +137,7 @@ reply_data reply.TooMany = kind_data (codes "toomany")
 reply_data (reply.Closed count) = before_kind (codes "discarded") (number_data count) (codes "closed")
 reply_data (reply.Admitted t) = after_kind (codes "admitted") (codes "ticket") (number_data t)
 reply_data reply.Busy = kind_data (codes "busy")
+reply_data reply.Crowded = kind_data (codes "crowded")
 reply_data (reply.Routed sends local) =
     object (member (codes "kind") (string (codes "routed")) (member (codes "local") (boolean local)
     (member (codes "sends") (sends_data sends) no_members)))

@@ -93,6 +93,7 @@ fn push_reply(alloc: Global, out: &mut Vec<u8>, reply: &Reply) -> Result<(), All
         Reply::Closed(count) => push_numbered(out, b"closed, discarded ", *count),
         Reply::Admitted(ticket) => push_numbered(out, b"admitted as #", *ticket),
         Reply::Busy => out.extend_from_slice(b"busy"),
+        Reply::Crowded => out.extend_from_slice(b"crowded"),
         Reply::Routed { sends, local } => {
             out.extend_from_slice(if *local { b"routed here" } else { b"routed" })?;
             push_sends(alloc, out, sends.as_slice())

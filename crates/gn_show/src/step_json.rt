@@ -107,6 +107,7 @@ fn reply_value(alloc: Global, reply: &Reply) -> Result<Value, AllocError>
         Reply::Closed(count) => closed_value(alloc, *count),
         Reply::Admitted(ticket) => ticket_value(alloc, "admitted", *ticket),
         Reply::Busy => kind_value(alloc, "busy"),
+        Reply::Crowded => kind_value(alloc, "crowded"),
         Reply::Routed { sends, local } => routed_value(alloc, sends.as_slice(), *local),
         Reply::Dropped(reason) => dropped_value(alloc, *reason),
         Reply::Taken(descriptor) => whole_value(alloc, descriptor, "taken"),
