@@ -4,7 +4,7 @@ use Rattle.std.proofs.Math.Bridge.{le_prop}
 use Rattle.gn_rules.specs.declared.config.Config.{Config}
 use Rattle.gn_rules.specs.declared.config.Own.{Own}
 use Rattle.gn_rules.specs.declared.limits.Numbers.{Numbers}
-use Rattle.gn_rules.specs.Limits.{AreWithin, IsWithin, most}
+use Rattle.gn_rules.specs.Limits.{AreWithin, IsWithin}
 
 -- a number is within its limit in one manner
 within_is_one : {n limit : ℕ} (a b : IsWithin n limit) → a ≡ b

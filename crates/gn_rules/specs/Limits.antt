@@ -11,7 +11,8 @@ pub record IsWithin (number most : ℕ) : Type 0 where
 abbrev pub most : Numbers
 most = record { neighbours = 256; seen = 65536; servents = 65536; stage = 4096; out = 4096; steps = 1000000; life = 255; crowd = 4096 }
 
--- each number of a configuration is from 1 to its limit; the limit on a descriptor's life and the threshold of a connection may be 0, which is none
+-- each number of a configuration is from 1 to its limit; the limit on a descriptor's life and the threshold of a connection may
+-- be 0, which is none
 pub record AreWithin (n : Numbers) : Type 0 where
   pub neighbours : IsWithin n.neighbours most.neighbours
   pub seen : IsWithin n.seen most.seen

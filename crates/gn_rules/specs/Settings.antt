@@ -5,7 +5,7 @@ use Rattle.gn_rules.specs.declared.limits.Numbers.{Numbers}
 use Rattle.gn_rules.specs.declared.config.Own.{Own}
 use Rattle.gn_rules.specs.declared.config.Field.{Field}
 use Rattle.gn_rules.specs.declared.config.Field.TheVariants.{Neighbours, Seen, Servents, Stage, Out, Steps, Crowd}
-use Rattle.gn_rules.specs.Limits.{AreWithin, IsWithin, most}
+use Rattle.gn_rules.specs.Limits.{IsWithin, most}
 
 -- a configuration keeps the numbers and the servent that it was made of
 abbrev pub IsMadeOf : Config → Numbers → Own → Type 0

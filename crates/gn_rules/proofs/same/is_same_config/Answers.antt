@@ -1,6 +1,14 @@
-use Rattle.std.proofs.Common.{rules, ◌≡◌, IsTrue}
+use Rattle.std.proofs.Common.{rules, ◌≡◌, ◌&&◌, Bool, IsTrue, eqb}
+use lib.Pointwise.{pointwise}
+use Rattle.gn_rules.specs.declared.config.Own.{Own}
 use Rattle.gn_rules.proofs.ConfigLemmas.{same_servents}
 use Rattle.gn_rules.proofs.same.is_same_config.Goals as goal
+
+-- of equal servents all is equal that is compared
+compared : (x y : Own) (r : Bool)
+    → r ≡ (pointwise eqb x.servent.0 y.servent.0 && (pointwise eqb x.ip y.ip && (eqb x.port y.port && (eqb x.files y.files && eqb x.kbytes y.kbytes))))
+    → x ≡ y → IsTrue r
+compared x y r is same = search rules
 
 pub returns-then-eq : goal.returns-then-eq
 returns-then-eq c =
@@ -8,4 +16,4 @@ returns-then-eq c =
     let b = c.args.b.now in
     let numbers : a.numbers ≡ b.numbers = search rules in
     let own : IsTrue c.eq-then-eq.result → a.own ≡ b.own = search rules in
-    let back : a.own ≡ b.own → IsTrue c.eq-then-eq.result = search rules in same_servents a b c.eq-then-eq.result numbers (own, back)
+    same_servents a b c.eq-then-eq.result numbers (own, compared a.own b.own c.eq-then-eq.result c.eq-then-eq.ensures)
