@@ -1,3 +1,4 @@
 pub mod CommandLemmas
+pub mod OptionLemmas
 pub mod ServeLemmas
 pub mod WordLemmas
