@@ -56,12 +56,16 @@ served_app =
 abbrev pub usual_servent : Text
 usual_servent = codes "47474747474747474747474747474747"
 
--- the subcommand `serve`: it takes these options too
+-- the subcommand `serve` with the options that say who the router is, whom it calls, and when it gives a peer up
+abbrev pub calling_app : App
+calling_app =
+    with_rule (with_rule (with_rule served_app (default_rule (codes "servent") usual_servent))
+    (repeated_rule (codes "peer"))) (default_rule (codes "idle") (codes "0"))
+
+-- the subcommand `serve`: it takes the numbers of the router's rules too
 abbrev pub serve_app : App
 serve_app =
-    with_rule (with_rule (with_rule (with_rule (with_rule served_app (default_rule (codes "servent") usual_servent))
-    (repeated_rule (codes "peer"))) (default_rule (codes "idle") (codes "0"))) (default_rule (codes "life") (codes "0")))
-    (default_rule (codes "crowd") (codes "0"))
+    with_rule (with_rule calling_app (default_rule (codes "life") (codes "0"))) (default_rule (codes "crowd") (codes "0"))
 
 -- the command `gn` before it has its subcommands: it has a version, and one of them has to be named; `help` is none
 abbrev pub bare_app : App

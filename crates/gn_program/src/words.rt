@@ -11,6 +11,7 @@ ghost use Rattle.gn_program.specs.Words.{
   PlainWordsAreRead,
   audit_app,
   bare_app,
+  calling_app,
   default_rule,
   flag_rule,
   gn_app,
@@ -173,20 +174,26 @@ fn served_command<'a>(alloc: Global) -> Result<Command<'a>, AllocError>
     .arg(value(alloc, "workers", "V", help::WORKERS))
 }
 
-fn serve_command<'a>(alloc: Global) -> Result<Command<'a>, AllocError>
-    ensures shape { IfOk result (λ command. app_of command ≡ serve_app) }
+/// The subcommand `serve` with the options that say who the router is, whom it calls, and when it gives a peer up.
+fn calling_command<'a>(alloc: Global) -> Result<Command<'a>, AllocError>
+    ensures shape { IfOk result (λ command. app_of command ≡ calling_app) }
     ensures globals { IfOk result (λ command. (fields_of command).has_globals ≡ false) }
 {
     let servent = value_or(alloc, "servent", "HEX32", OWN_SERVENT, help::SERVENT);
     let idle = value_or(alloc, "idle", "SECONDS", "0", help::IDLE);
-    let life = value_or(alloc, "life", "L", "0", help::LIFE);
-    let crowd = value_or(alloc, "crowd", "Q", "0", help::CROWD);
     served_command(alloc)?
         .arg(servent)?
         .arg(values(alloc, "peer", "IP:PORT", help::PEER))?
-        .arg(idle)?
-        .arg(life)?
-        .arg(crowd)
+        .arg(idle)
+}
+
+fn serve_command<'a>(alloc: Global) -> Result<Command<'a>, AllocError>
+    ensures shape { IfOk result (λ command. app_of command ≡ serve_app) }
+    ensures globals { IfOk result (λ command. (fields_of command).has_globals ≡ false) }
+{
+    let life = value_or(alloc, "life", "L", "0", help::LIFE);
+    let crowd = value_or(alloc, "crowd", "Q", "0", help::CROWD);
+    calling_command(alloc)?.arg(life)?.arg(crowd)
 }
 
 /// The command `gn` before it has its subcommands.
