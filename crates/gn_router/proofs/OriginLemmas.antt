@@ -1,7 +1,7 @@
 -- How many tickets in flight a connection admitted, counted in the table.
-use Rattle.std.proofs.Common.{◌≡◌, ℕ, ◌+◌, ◌==◌, ◌||◌, ◌&&◌, Bool, true, false, not, cond, if◌then◌else◌, nat_eq, List, [], ◌∷◌, ◌++◌, length, filter, Option, Some, None, is_some, refl, sym, ap, ◌∙◌, subst, arith}
+use Rattle.std.proofs.Common.{◌≡◌, ℕ, ◌+◌, ◌==◌, ◌||◌, ◌&&◌, Bool, true, false, not, if◌then◌else◌, nat_eq, List, [], ◌∷◌, ◌++◌, length, filter, Option, Some, None, is_some, refl, sym, ap, ◌∙◌, arith}
 use Rattle.std.specs.Cmp.{nat_cmp_total}
-use Rattle.std.specs.FinMap.{from_entries, get, get-from_entries, len-empty, len-entries, entries, nat_cmp-IsAntisymmetric, same_map, values}
+use Rattle.std.specs.FinMap.{from_entries, get, len-empty, len-entries, entries, nat_cmp-IsAntisymmetric, same_map, values}
 use Rattle.std.specs.List.{All, list_any}
 use Rattle.std.specs.Map.{lookup}
 use Rattle.std.specs.Option.{option_map, option_to_list}
@@ -15,8 +15,8 @@ use Rattle.gn_rules.specs.Flight.{Admission, admission, flying, flying_from, in_
 use Rattle.gn_tables.specs.declared.flights.Flight.{Flight}
 use Rattle.gn_tables.specs.Flying.{Flying}
 use Rattle.gn_tables.specs.Origins.{flights_from, from_count}
-use Rattle.gn_tables.proofs.MapLemmas.{find_lookup, get_entries}
-use Rattle.gn_tables.proofs.OriginLemmas.{count_insert, none_from, one}
+use Rattle.gn_tables.proofs.MapLemmas.{get_entries}
+use Rattle.gn_tables.proofs.OriginLemmas.{count_insert, none_from}
 use Rattle.gn_router.specs.Tabled.{AreApart, AreFlying, flight_of}
 use Rattle.gn_router.proofs.FlightLemmas.{ticket_listed}
 use Rattle.gn_router.proofs.NumberLemmas.{apart_filter}
