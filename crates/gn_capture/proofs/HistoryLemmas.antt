@@ -1,6 +1,6 @@
 -- A text put together, and one that was read in parts.
-use Rattle.std.proofs.Common.{◌≡◌, ℕ, List, ◌++◌, length, take, refl, ap, ◌∙◌, append_assoc, Result, Ok, Err}
-use Rattle.std.specs.Prelude.{if◌then◌else◌, OnErr, OnOk}
+use Rattle.std.proofs.Common.{◌≡◌, ℕ, List, ◌++◌, length, take, refl, ap, ◌∙◌, Result, Ok, Err}
+use Rattle.std.specs.Prelude.{if◌then◌else◌, OnErr}
 use Rattle.std.specs.Result.{is_ok}
 use Rattle.std.proofs.Math.Seq.{take-append_seam}
 use Rattle.gn_rules.specs.declared.config.Own.{Own}
@@ -12,6 +12,7 @@ use Rattle.gn_text.specs.Faults.{IsRefused}
 use Rattle.gn_text.specs.declared.version.Text.TheVariants.{History}
 use Rattle.gn_text.specs.Header.{header_of}
 use Rattle.gn_text.specs.Parsed.{parsed_of, line_after}
+use Rattle.gn_text.proofs.KeptLemmas.{two_parts}
 use Rattle.gn_rules.specs.declared.limits.Numbers.{Numbers}
 use Rattle.gn_capture.specs.Histories.{history_of, map_result, steps_from}
 
@@ -19,16 +20,7 @@ use Rattle.gn_capture.specs.Histories.{history_of, map_result, steps_from}
 begins : (old more new : List ℕ) → new ≡ old ++ more → take (length old) new ≡ old
 begins old more new is = rw is (take-append_seam old more)
 
--- two parts, one appended after the other
-two_parts : (old t1 t2 a b : List ℕ) → t1 ≡ old ++ a → t2 ≡ t1 ++ b → t2 ≡ old ++ (a ++ b)
-two_parts old t1 t2 a b first second = second ∙ ap (λ xs. xs ++ b) first ∙ append_assoc old a b
-
--- parts that were appended one after the other, the last one only where all is well
-pub whole_text : {X E : Type 0} (r : Result X E) (old t1 t2 new a b c : List ℕ) → t1 ≡ old ++ a → t2 ≡ t1 ++ b
-    → new ≡ (if is_ok r then t2 ++ c else t2) → OnOk r (new ≡ old ++ ((a ++ b) ++ c))
-whole_text (Ok x) old t1 t2 new a b c first second last = two_parts old t2 new (a ++ b) c (two_parts old t1 t2 a b first second) last
-whole_text (Err e) old t1 t2 new a b c first second last = _
-
+-- what stood before parts that were appended one after the other stays where the last one fails
 pub part_of_text : {X E : Type 0} (r : Result X E) (old t1 t2 new a b c : List ℕ) → t1 ≡ old ++ a → t2 ≡ t1 ++ b
     → new ≡ (if is_ok r then t2 ++ c else t2) → OnErr r (take (length old) new ≡ old)
 part_of_text (Ok x) old t1 t2 new a b c first second last = _

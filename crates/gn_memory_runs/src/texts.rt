@@ -138,6 +138,8 @@ fn is_configuration(config: &Config) -> bool {
         stage: 8,
         out: 8,
         steps: 100,
+        life: 0,
+        crowd: 0,
     };
     config.numbers == numbers && config.own == OWN
 }

@@ -1,6 +1,7 @@
 //! The tables at their limits.
 
-use gn_tables::{SeenTable, ServentTable};
+use gn_fixtures::ping;
+use gn_tables::{Flights, SeenTable, ServentTable};
 use gn_wire::{Descriptor, Guid, Key, Kind};
 use std::alloc::{AllocError, Allocator};
 use std::mem::size_of;

@@ -91,11 +91,15 @@ own_of fields = after_word (codes "own") servent_parsed fields
 abbrev pub field_text : ℕ → List ℕ
 field_text n = codes " " ++ decimal n
 
+-- the part of the line that each version has
+abbrev pub six_text : Numbers → List ℕ
+six_text n =
+    codes "config" ++ field_text n.neighbours ++ field_text n.seen ++ field_text n.servents ++ field_text n.stage ++ field_text n.out
+    ++ field_text n.steps
+
 -- the line of the numbers, without its line feed, in the least version that can say them
 abbrev pub config_line : Config → List ℕ
-config_line s =
-    codes "config" ++ field_text s.numbers.neighbours ++ field_text s.numbers.seen ++ field_text s.numbers.servents ++ field_text s.numbers.stage
-    ++ field_text s.numbers.out ++ field_text s.numbers.steps ++ later_text (version_for s.numbers) s.numbers
+config_line s = six_text s.numbers ++ later_text (version_for s.numbers) s.numbers
 
 -- the line of the own servent, without its line feed
 abbrev pub own_line : Own → List ℕ

@@ -2,7 +2,7 @@
 #![tactic(auto, using(crate::proofs::KeptLemmas::kept))]
 
 ghost use Rattle.std.specs.Prelude.{◌≡◌, length, map, option_map, take, IfOk, ◌++◌, OnOk, OnErr};
-ghost use Rattle.gn_text.specs.Settings.{config_of, numbers_of, numbers_parsed, numbers_within, each_within, own_of, servent_parsed, config_text, own_text, settings_text};
+ghost use Rattle.gn_text.specs.Settings.{config_of, numbers_of, numbers_parsed, numbers_within, each_within, own_of, servent_parsed, six_text, config_text, own_text, settings_text};
 ghost use Rattle.gn_text.specs.Versions.{later_text, version_for};
 
 use crate::address::{ip, push_ip};
@@ -156,27 +156,34 @@ fn push_later<B: Allocator>(out: &mut Vec<u8, B>, numbers: &Numbers) -> Result<(
     }
 }
 
-fn write_config<B: Allocator>(out: &mut Vec<u8, B>, config: &Config) -> Result<(), AllocError>
-    ensures ok { OnOk result (out.new.items ≡ out.old.items ++ config_text config.now) }
-    ensures err { OnErr result (take (length out.old.items) out.new.items ≡ out.old.items) }
+fn push_six<B: Allocator>(out: &mut Vec<u8, B>, numbers: &Numbers) -> Result<(), AllocError>
+    ensures ok { OnOk result (out.new.items ≡ out.old.items ++ six_text numbers.now) }
+    ensures err { OnErr result (out.new.items ≡ out.old.items) }
 {
     push_parts(
         out,
         &[
             Part::Word(b"config "),
-            Part::Number(config.numbers.neighbours),
+            Part::Number(numbers.neighbours),
             Part::Word(b" "),
-            Part::Number(config.numbers.seen),
+            Part::Number(numbers.seen),
             Part::Word(b" "),
-            Part::Number(config.numbers.servents),
+            Part::Number(numbers.servents),
             Part::Word(b" "),
-            Part::Number(config.numbers.stage),
+            Part::Number(numbers.stage),
             Part::Word(b" "),
-            Part::Number(config.numbers.out),
+            Part::Number(numbers.out),
             Part::Word(b" "),
-            Part::Number(config.numbers.steps),
+            Part::Number(numbers.steps),
         ],
-    )?;
+    )
+}
+
+fn write_config<B: Allocator>(out: &mut Vec<u8, B>, config: &Config) -> Result<(), AllocError>
+    ensures ok { OnOk result (out.new.items ≡ out.old.items ++ config_text config.now) }
+    ensures err { OnErr result (take (length out.old.items) out.new.items ≡ out.old.items) }
+{
+    push_six(out, &config.numbers)?;
     push_later(out, &config.numbers)?;
     out.extend_from_slice(b"\n")
 }

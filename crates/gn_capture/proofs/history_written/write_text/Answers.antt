@@ -1,9 +1,9 @@
 use Rattle.std.proofs.Common.{codes}
-use Rattle.gn_text.proofs.KeptLemmas.{kept_before, on_error}
+use Rattle.gn_text.proofs.KeptLemmas.{kept_before, on_error, whole_text}
 use Rattle.gn_text.specs.declared.version.Text.TheVariants.{History}
 use Rattle.gn_text.specs.Header.{header_text}
 use Rattle.gn_capture.specs.Histories.{steps_text}
-use Rattle.gn_capture.proofs.HistoryLemmas.{part_of_text, whole_text}
+use Rattle.gn_capture.proofs.HistoryLemmas.{part_of_text}
 use Rattle.gn_capture.proofs.history_written.write_text.Goals as goal
 
 pub returns-in_err-write_steps-clause-err : goal.returns-in_err-write_steps-clause-err
