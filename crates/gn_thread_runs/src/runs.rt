@@ -52,6 +52,19 @@ where
     run::<TableRouter, _, _, _, _>(rt, alloc, &config, links, workers, gate)
 }
 
+/// How many receipts all actors of a run have.
+fn receipts_of<Rd, W>(report: &Report<Rd, W>) -> usize {
+    let mut count = report.house.len();
+    for link in &report.links {
+        count = count.wrapping_add(link.reader_receipts.len());
+        count = count.wrapping_add(link.writer_receipts.len());
+    }
+    for receipts in &report.workers {
+        count = count.wrapping_add(receipts.len());
+    }
+    count
+}
+
 #[test]
 fn two_workers_meet(rt: HostRuntime) -> Result<(), Fail> {
     let meeting = Meeting::new();
@@ -65,6 +78,7 @@ fn two_workers_meet(rt: HostRuntime) -> Result<(), Fail> {
     for receipts in &report.workers {
         assert_eq!(rt; receipts.len(), 300);
     }
+    assert_eq!(rt; receipts_of(&report), report.history.len());
     assert_eq!(rt; meeting.begun(), (300, 300));
     assert!(rt; !meeting.is_missed.load(Ordering::SeqCst));
     Ok(())
