@@ -1,1 +1,2 @@
 mod MemoryLemmas
+mod SplitLemmas

@@ -128,6 +128,9 @@ pub trait Link: Drop {
     /// The link itself, as its halves say of it.
     ghost origin_of: { Self → Self.Origin };
 
+    /// Whether its split may fail.
+    ghost may_not_split: { Self → Bool };
+
     /// How it begins.
     fn role(&self) -> Role
         ensures { result ≡ role_of self.now };
@@ -138,6 +141,7 @@ pub trait Link: Drop {
         Self: Sized,
         ensures reader { IfOk result (λ h. IsNewReader (Self.Reader.bytes_read h.0) (Self.Reader.failures h.0)
             (Self.Reader.pieces h.0) (Self.Reader.has_ended h.0)) }
+        ensures allowed { OnErr result (may_not_split self ≡ true) }
         ensures made { IfOk result (λ h. (Self.Reader.made_of h.0 ≡ origin_of self)
             × (Self.Writer.made_of h.1 ≡ origin_of self)) }
         ensures open { IfOk result (λ h. Self.Reader.is_finished h.0 ≡ false) }

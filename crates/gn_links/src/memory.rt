@@ -86,6 +86,8 @@ impl<A: Allocator + Copy> Link for MemoryLink<A> {
 
     ghost origin_of = { λ l. l };
 
+    ghost may_not_split = { λ _. false };
+
     fn role(&self) -> Role {
         self.role
     }

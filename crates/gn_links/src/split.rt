@@ -56,7 +56,7 @@ pub fn split_all<K: Link, A: Allocator + Copy>(
     ensures roles { IfOk result (λ split. split.roles.items ≡ map K.role_of links.items) }
     ensures made { IfOk result (λ split.
         map (λ link. K.Reader.made_of link.reader) split.links.items ≡ map K.origin_of links.items) }
-    ensures fault { IfErr result (IsSplitFault (length links.items)) }
+    ensures fault { IfErr result (IsSplitFault (map K.may_not_split links.items)) }
 {
     let mut number = 0u32;
     let (mut roles, mut split) = (Vec::new(alloc), Vec::new(alloc));

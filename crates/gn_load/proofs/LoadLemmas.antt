@@ -1,6 +1,9 @@
 -- What a load reads of its input, and why it stops.
-use Rattle.std.proofs.Common.{◌≡◌, ◌↔◌, ℕ, List, [], ◌++◌, length, map, IfErr, Result, Ok, Err, refl, sym, ap, ◌∙◌, subst}
+use Rattle.std.proofs.Common.{◌≡◌, ◌↔◌, ℕ, Bool, true, false, List, [], ◌++◌, length, map, IfErr, Option, Some, None, Result, Ok, Err, refl, sym, ap, ◌∙◌, subst}
 use Rattle.std.proofs.lemmas.List.{length-map, map-id}
+use Rattle.std.proofs.lemmas.Option.{slice_get-map}
+use Rattle.std.specs.List.{slice_get}
+use Rattle.std.specs.Option.{option_map}
 use Rattle.std.specs.Result.{IsErrAnd, IsOkAnd}
 use Rattle.gn_links.specs.Memory.{Memory, MemoryReading, MemoryWriting, source_of}
 use Rattle.gn_rules.specs.declared.config.Config.{Config}
@@ -16,8 +19,8 @@ use Rattle.gn_capture.specs.Captures.{capture_of, capture_seen}
 use Rattle.gn_capture.specs.Histories.{history_text}
 use Rattle.gn_run.specs.declared.report.Report.{Report}
 use Rattle.gn_threads.specs.declared.fault.RunFault.{RunFault}
-use Rattle.gn_threads.specs.declared.fault.RunFault.TheVariants.{BadWorkers}
-use Rattle.gn_threads.specs.Faults.{IsFaultOf}
+use Rattle.gn_threads.specs.declared.fault.RunFault.TheVariants.{BadWorkers, Listen, Call, Link, HistoryFull, NoMemory, Stage, Audit}
+use Rattle.gn_threads.specs.Faults.{IsFaultOf, IsWholeFault}
 use Rattle.gn_threads.specs.Headline.{AreMadeOf, HasCountedSteps, HasLegalHistory, HasOwnStats, HasOwnSteps, Holds, LinksHold, LinksReadOwn, OthersRoute, RoutesEachOnce}
 use Rattle.gn_load.specs.declared.fault.LoadFault.TheVariants.{Run}
 use Rattle.gn_load.specs.Faults.{IsRunFault, IsRunLoadFault}
@@ -57,6 +60,22 @@ held s links report legal counted own each hold others routed stats =
       routed = routed;
       stats = stats;
     }
+
+-- no link over memory is one whose split may fail
+never_split : (o : Option Memory) → option_map (λ l. false) o ≡ Some true → ⊥
+never_split None is = cc
+never_split (Some l) is = cc
+
+-- so the fault of a run over such links names none
+pub none_split : (links : List Memory) (workers : ℕ) (fault : RunFault) → IsWholeFault (map (λ (l : Memory). false) links) workers fault → IsFaultOf (length links) workers fault
+none_split links workers BadWorkers holds = holds
+none_split links workers Listen holds = holds
+none_split links workers (Call k) holds = holds
+none_split links workers (Link k) holds = never_split (slice_get links k) (sym (slice_get-map (λ l. false) links k) ∙ holds)
+none_split links workers HistoryFull holds = holds
+none_split links workers NoMemory holds = holds
+none_split links workers (Stage fault) holds = holds
+none_split links workers (Audit a) holds = subst (λ n. IsFaultOf n workers (Audit a)) (length-map links (λ l. false)) holds
 
 -- a capture that was read, with the links that its lines make
 module _ {A : Type 0} (text : List ℕ) (capture : Capture A) where

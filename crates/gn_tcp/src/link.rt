@@ -1,6 +1,6 @@
 //! A link over TCP: accepted or called, and split into its halves.
 
-ghost use Rattle.std.specs.Prelude.{◌≡◌, IfOk, None, OnOk, Some};
+ghost use Rattle.std.specs.Prelude.{◌≡◌, IfOk, None, OnOk, Some, true};
 ghost use Rattle.gn_shake.specs.declared.role.Role.TheVariants.{Accepting, Calling};
 ghost use Rattle.gn_tcp.specs.Tcp.{IsLoopback};
 
@@ -134,6 +134,8 @@ impl Link for TcpLink {
     ghost role_of = { λ l. l.role };
 
     ghost origin_of = { λ l. l.origin };
+
+    ghost may_not_split = { λ _. true };
 
     fn role(&self) -> Role {
         self.role

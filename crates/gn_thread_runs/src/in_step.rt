@@ -107,6 +107,8 @@ pub(crate) struct PacedLink<'a, K: Link> {
 }
 
 impl<'a, K: Link> Link for PacedLink<'a, K> {
+    ghost use Rattle.std.specs.Prelude.{◌||◌, is_none};
+
     type Origin = K::Origin;
 
     type Reader = PacedReader<'a, K::Reader>;
@@ -116,6 +118,8 @@ impl<'a, K: Link> Link for PacedLink<'a, K> {
     ghost role_of = { λ l. K.role_of l.link };
 
     ghost origin_of = { λ l. K.origin_of l.link };
+
+    ghost may_not_split = { λ l. is_none l.meeting || K.may_not_split l.link };
 
     fn role(&self) -> Role {
         self.link.role()

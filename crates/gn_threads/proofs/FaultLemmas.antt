@@ -1,5 +1,5 @@
 -- Faults that a run may meet.
-use Rattle.std.proofs.Common.{◌≡◌, ◌⊎◌, ◌<◌, ◌≤◌, ℕ, Bool, true, false, Option, Some, None, Result, Ok, Err, if◌then◌else◌, sym, subst, inl, inr, arith}
+use Rattle.std.proofs.Common.{◌≡◌, ◌⊎◌, ◌<◌, ◌≤◌, ℕ, Bool, true, false, List, length, Option, Some, None, Result, Ok, Err, if◌then◌else◌, sym, subst, inl, inr, arith}
 use Rattle.std.specs.Prelude.{IfErr, IfSome, IsErrAnd}
 use Rattle.std.proofs.lemmas.Result.{err_from_is_err_and}
 use Rattle.gn_threads.specs.declared.fault.RunFault.{RunFault}
@@ -8,7 +8,7 @@ use Rattle.gn_links.specs.declared.split.SplitFault.{SplitFault}
 use Rattle.gn_links.specs.declared.split.SplitFault.TheVariants as split
 use Rattle.gn_links.specs.Split.{IsSplitFault}
 use Rattle.gn_rules.specs.Limits.{IsCrew}
-use Rattle.gn_threads.specs.Faults.{IsArrivingFault, IsFaultOf, of_split, stop_of}
+use Rattle.gn_threads.specs.Faults.{IsArrivingFault, IsFaultOf, IsWholeFault, of_split, stop_of}
 
 -- where a `?` hands a fault on, what holds of the fault holds of the result
 pub handed_on : {T : Type 0} (P : RunFault → Type 0) (r : Result T RunFault) (fault : RunFault) → IsErrAnd r (λ e. e ≡ fault) → P fault → IfErr r P
@@ -26,16 +26,27 @@ of_stop false true fault is links workers = let same : fault ≡ NoMemory = cc i
 of_stop false false fault is links workers = cc
 
 -- the fault of a run whose links couldn't be taken apart
-pub split_is_fault : (links workers : ℕ) (fault : SplitFault) → IsSplitFault links fault → IsFaultOf links workers (of_split fault)
-split_is_fault links workers (split.Link k) below = below
-split_is_fault links workers split.NoMemory below = tt
+pub split_is_fault : (may : List Bool) (workers : ℕ) (fault : SplitFault) → IsSplitFault may fault → IsWholeFault may workers (of_split fault)
+split_is_fault may workers (split.Link k) one = one
+split_is_fault may workers split.NoMemory one = tt
+
+-- what it may be once they were taken apart it may be where they are there whole
+pub in_whole : (may : List Bool) (workers : ℕ) (fault : RunFault) → IsFaultOf (length may) workers fault → IsWholeFault may workers fault
+in_whole may workers BadWorkers holds = holds
+in_whole may workers Listen holds = holds
+in_whole may workers (Call k) holds = holds
+in_whole may workers (Link k) holds = absurd holds
+in_whole may workers HistoryFull holds = holds
+in_whole may workers NoMemory holds = holds
+in_whole may workers (Stage fault) holds = holds
+in_whole may workers (Audit a) holds = holds
 
 -- what it may be where all links are there it may be where they come one after another
 pub in_arriving : (has_peers : Bool) (links workers : ℕ) (fault : RunFault) → IsFaultOf links workers fault → IsArrivingFault has_peers links workers fault
 in_arriving has_peers links workers BadWorkers holds = holds
 in_arriving has_peers links workers Listen holds = absurd holds
 in_arriving has_peers links workers (Call k) holds = absurd holds
-in_arriving has_peers links workers (Link k) holds = holds
+in_arriving has_peers links workers (Link k) holds = absurd holds
 in_arriving has_peers links workers HistoryFull holds = holds
 in_arriving has_peers links workers NoMemory holds = holds
 in_arriving has_peers links workers (Stage fault) holds = holds
@@ -58,21 +69,22 @@ pub without_peers : (links workers : ℕ) (fault : RunFault) → IsArrivingFault
 without_peers links workers BadWorkers holds = holds
 without_peers links workers Listen holds = absurd (cc)
 without_peers links workers (Call k) holds = let no : false ≡ true = holds.0 in absurd (cc)
-without_peers links workers (Link k) holds = holds
+without_peers links workers (Link k) holds = let no : false ≡ true = holds.0 in absurd (cc)
 without_peers links workers HistoryFull holds = holds
 without_peers links workers NoMemory holds = holds
 without_peers links workers (Stage fault) holds = holds
 without_peers links workers (Audit a) holds = holds
 
--- so of a run with as many workers as it may have
-pub err_without_peers : {T : Type 0} (links workers : ℕ) (r : Result T RunFault) → IfErr r (λ fault. IsCrew workers → IsArrivingFault false links workers fault)
-    → IfErr r (λ fault. IsCrew workers → IsFaultOf links workers fault)
-err_without_peers links workers (Ok x) holds = tt
-err_without_peers links workers (Err fault) holds = λ crew. without_peers links workers fault (holds crew)
+-- so of a run with as many workers as it may have, over links of which as much is known
+pub err_without_peers : {T : Type 0} (may : List Bool) (links workers : ℕ) (r : Result T RunFault) → length may ≡ links
+    → IfErr r (λ fault. IsCrew workers → IsArrivingFault false links workers fault) → IfErr r (λ fault. IsCrew workers → IsWholeFault may workers fault)
+err_without_peers may links workers (Ok x) many holds = tt
+err_without_peers may links workers (Err fault) many holds =
+    λ crew. in_whole may workers fault (subst (λ n. IsFaultOf n workers fault) (sym many) (without_peers links workers fault (holds crew)))
 
 -- such a fault isn't that there are too few or too many workers
-pub not_bad_workers : (links workers : ℕ) (fault : RunFault) → IsFaultOf links workers fault → ¬ (fault ≡ BadWorkers)
-not_bad_workers links workers fault holds is = subst (λ x. IsFaultOf links workers x) is holds
+pub not_bad_workers : (may : List Bool) (workers : ℕ) (fault : RunFault) → IsWholeFault may workers fault → ¬ (fault ≡ BadWorkers)
+not_bad_workers may workers fault holds is = subst (λ x. IsWholeFault may workers x) is holds
 
 -- the least of two actors is below what both are below
 pub least_below : (a b : Option ℕ) (k n : ℕ) → IfSome a (λ i. i < n) → IfSome b (λ i. i < n) → (a ≡ Some k) ⊎ (b ≡ Some k) → k < n

@@ -1,5 +1,6 @@
 -- What a fault of a run says.
-use Rattle.std.specs.Prelude.{◌≡◌, ℕ, ◌+◌, ◌<◌, ⊤, Bool, true, false, Option, Some, None, Result, Ok, Err}
+use Rattle.std.specs.Prelude.{◌≡◌, ℕ, ◌+◌, ◌<◌, ⊤, Bool, true, false, List, length, Option, Some, None, Result, Ok, Err}
+use Rattle.std.specs.List.{slice_get}
 use Rattle.gn_links.specs.declared.split.SplitFault.{SplitFault}
 use Rattle.gn_links.specs.declared.split.SplitFault.TheVariants as split
 use Rattle.gn_bodies.specs.declared.ends.BodyFault.{BodyFault}
@@ -7,24 +8,31 @@ use Rattle.gn_bodies.specs.declared.ends.BodyFault.TheVariants as body
 use Rattle.gn_threads.specs.declared.fault.RunFault.{RunFault}
 use Rattle.gn_threads.specs.declared.fault.RunFault.TheVariants.{BadWorkers, Listen, Call, Link, HistoryFull, NoMemory, Stage, Audit}
 
--- what a fault may be in a run over so many links that are all there, with so many workers, 1 to 64: it isn't BadWorkers, nobody was
--- called or waited for, and the link or the actor that it names is one of the run's
+-- what a fault may be in a run over so many links that are all there and were taken apart, with so many workers, 1 to 64: it isn't
+-- BadWorkers, nobody was called or waited for, nothing was split, and the actor that it names is one of the run's
 abbrev pub IsFaultOf : ℕ → ℕ → RunFault → Type 0
 IsFaultOf links workers BadWorkers = ⊥
 IsFaultOf links workers Listen = ⊥
 IsFaultOf links workers (Call k) = ⊥
-IsFaultOf links workers (Link k) = k < links
+IsFaultOf links workers (Link k) = ⊥
 IsFaultOf links workers HistoryFull = ⊤
 IsFaultOf links workers NoMemory = ⊤
 IsFaultOf links workers (Stage fault) = ⊤
 IsFaultOf links workers (Audit a) = a < links + links + workers + 1
 
 -- what it may be where the links come one after another, and peers are called and accepted, or not: where they are, a link that
--- couldn't be accepted, too, or a peer that couldn't be called, over a link of the run
+-- couldn't be accepted, too, or a peer that couldn't be called, or what couldn't be split, a link of the run
 abbrev pub IsArrivingFault : Bool → ℕ → ℕ → RunFault → Type 0
 IsArrivingFault has_peers links workers Listen = has_peers ≡ true
 IsArrivingFault has_peers links workers (Call k) = (has_peers ≡ true) × (k < links)
+IsArrivingFault has_peers links workers (Link k) = (has_peers ≡ true) × (k < links)
 IsArrivingFault has_peers links workers fault = IsFaultOf links workers fault
+
+-- what it may be where the links are there whole, and it is known of each, in order, whether its split may fail: a link that couldn't
+-- be split, too, one of those whose split may fail
+abbrev pub IsWholeFault : List Bool → ℕ → RunFault → Type 0
+IsWholeFault may_not_split workers (Link k) = slice_get may_not_split k ≡ Some true
+IsWholeFault may_not_split workers fault = IsFaultOf (length may_not_split) workers fault
 
 -- whether a body ended because the history was full
 abbrev pub is_full : {E : Type 0} → Result E BodyFault → Bool

@@ -57,9 +57,10 @@ impl<K: Link, A: Allocator> Arrivals for Arrived<K, A> {
 
     ghost coming = { λ arrived. map (λ link. K.Reader.made_of link.reader) (into_iter_items arrived.links) };
 
+    /// Where no link is left, which doesn't come, its reader is named.
     fn next(&mut self, link: u32, _role: Role) -> Result<(K::Reader, K::Writer), RunFault> {
         let Some(next) = self.links.next() else {
-            return Err(RunFault::Link(link));
+            return Err(RunFault::Audit(link));
         };
         let SplitLink { reader, writer } = next;
         Ok((reader, writer))

@@ -4,7 +4,7 @@ ghost use Rattle.std.specs.Prelude.{◌≡◌, ◌≤◌, ◌↔◌, length, map
 ghost use Rattle.gn_rules.specs.Limits.{IsCrew, most_links};
 ghost use Rattle.gn_links.specs.Views.{reads_of, writes_of};
 ghost use Rattle.gn_threads.specs.declared.fault.RunFault.TheVariants.{BadWorkers};
-ghost use Rattle.gn_threads.specs.Faults.{IsFaultOf};
+ghost use Rattle.gn_threads.specs.Faults.{IsWholeFault};
 ghost use Rattle.gn_threads.specs.Headline.{
   AreMadeOf,
   HasCountedSteps,
@@ -52,7 +52,8 @@ where
     requires few { length links.items ≤ most_links }
     ensures workers { IfOk result (λ _. IsCrew workers) }
     ensures bad_workers { IfErr result (λ fault. (fault ≡ BadWorkers) ↔ (¬ IsCrew workers)) }
-    ensures fault { IfErr result (λ fault. IsCrew workers → IsFaultOf (length links.items) workers fault) }
+    ensures fault { IfErr result (λ fault. IsCrew workers
+        → IsWholeFault (map K.may_not_split links.items) workers fault) }
     ensures legal { IfOk result (λ report. HasLegalHistory config.now report) }
     ensures counted { IfOk result (λ report. HasCountedSteps report) }
     ensures own { IfOk result (λ report. HasOwnSteps report) }

@@ -68,6 +68,8 @@ impl EndlessLink {
 }
 
 impl Link for EndlessLink {
+    ghost use Rattle.std.specs.Prelude.{false};
+
     type Origin = MemoryLink;
 
     type Reader = EndlessReader;
@@ -77,6 +79,8 @@ impl Link for EndlessLink {
     ghost role_of = { λ l. l.link.role };
 
     ghost origin_of = { λ l. l.link };
+
+    ghost may_not_split = { λ _. false };
 
     fn role(&self) -> Role {
         self.link.role()

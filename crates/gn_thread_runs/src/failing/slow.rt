@@ -100,6 +100,8 @@ impl Link for SlowLink {
 
     ghost origin_of = { λ l. l.link };
 
+    ghost may_not_split = { λ _. false };
+
     fn role(&self) -> Role {
         self.link.role()
     }

@@ -6,7 +6,7 @@ use Rattle.gn_load.specs.declared.fault.LoadFault.TheVariants.{Run}
 use Rattle.gn_load.specs.Faults.{IsRunLoadFault}
 use Rattle.gn_load.specs.Loads.{IsLoadText, load_of}
 use Rattle.gn_load.proofs.FewLemmas.{few_links}
-use Rattle.gn_load.proofs.LoadLemmas.{halves_made, held, history_printed, made_of, on_err, refused_run}
+use Rattle.gn_load.proofs.LoadLemmas.{halves_made, held, history_printed, made_of, none_split, on_err, refused_run}
 use Rattle.gn_load.proofs.loads.history_of.Goals as goal
 
 pub run-requires-clause-few : goal.run-requires-clause-few
@@ -21,7 +21,8 @@ returns-in_err-report-clause-fault g c =
     c.from_residual-in_err-report.ensures.1
     (refused_run c.deref.result.now c.in_ok-capture.capture c.args.workers c.in_ok-links.links.items c.in_err-report.field-0.0 c.in_ok-capture.ensures.read
     (made_of c.deref-2.result.now c.in_ok-capture.capture.lines.items _ c.deref-2.ensures.value c.in_ok-links.ensures)
-    c.in_err-report.ensures.bad_workers c.in_err-report.ensures.fault))
+    c.in_err-report.ensures.bad_workers
+    (λ crew. none_split c.in_ok-links.links.items c.args.workers c.in_err-report.field-0.0 (c.in_err-report.ensures.fault crew))))
 
 pub returns-clause-history : goal.returns-clause-history
 returns-clause-history g c =

@@ -4,7 +4,6 @@ use Rattle.std.specs.Vec.Iter.{into_iter_items}
 use Rattle.std.proofs.lemmas.List.{length-map}
 use Rattle.std.proofs.lemmas.Simd.{map-map}
 use Rattle.gn_rules.specs.Limits.{IsCrew}
-use Rattle.gn_threads.specs.Faults.{IsFaultOf}
 use Rattle.gn_links.specs.Views.{reads_of, writes_of}
 use Rattle.gn_threads.specs.Headline.{AreMadeOf, LinksHold, LinksReadOwn}
 use Rattle.gn_threads.proofs.FaultLemmas.{err_without_peers, handed_on, not_bad_workers, split_is_fault}
@@ -21,8 +20,8 @@ returns-in_err-split-clause-fault g c = handed_on _ c.from_residual.result _ c.f
 
 pub returns-clause-fault : goal.returns-clause-fault
 returns-clause-fault g c =
-    subst (λ n. IfErr c.run_arriving.result (λ fault. IsCrew c.args.workers → IsFaultOf n c.args.workers fault)) (ap length (c.as_slice.ensures.value ∙ c.in_ok-split.ensures.roles) ∙ length-map c.args.links.items g.K.Link.role_of)
-    (err_without_peers _ c.args.workers c.run_arriving.result c.run_arriving.ensures.fault)
+    let many = length-map c.args.links.items g.K.Link.may_not_split ∙ sym (ap length (c.as_slice.ensures.value ∙ c.in_ok-split.ensures.roles) ∙ length-map c.args.links.items g.K.Link.role_of) in
+    err_without_peers (map g.K.Link.may_not_split c.args.links.items) _ c.args.workers c.run_arriving.result many c.run_arriving.ensures.fault
 
 pub returns-clause-each : goal.returns-clause-each
 returns-clause-each g c = subst (λ n. IfOk c.run_arriving.result (λ report. (length report.links.items ≡ n) × (length report.workers.items ≡ c.args.workers))) (ap length (c.as_slice.ensures.value ∙ c.in_ok-split.ensures.roles) ∙ length-map c.args.links.items g.K.Link.role_of) c.run_arriving.ensures.each
