@@ -4,6 +4,12 @@ import sys
 
 # The sends of a reply: connection, + where the packet was queued, - where it wasn't, and the packet's hex.
 SENDS = re.compile(r" (\d+)([+-])([0-9a-fA-F]+)")
+# A descriptor in hex: 23 bytes of header, and its payload.
+HEX = r"[0-9a-fA-F]{46,}"
+STEP = re.compile(
+    rf"\d+ (?:connect|(?:close|route|take) \d+|admit \d+ {HEX}|originate {HEX}) = (?:toomany|busy|dropped [a-z]+|taken {HEX}"
+    rf"|(?:connected|closed|admitted) \d+|(?:routed local|routed away|sent)(?: \d+[+-]{HEX})*)"
+)
 
 
 def fail(text):
@@ -20,7 +26,7 @@ def steps(lines):
     if "end" not in kept:
         fail("the history has no end")
     for line in kept[3 : kept.index("end")]:
-        event, equals, reply = line.partition(" = ")
-        if not equals:
+        if not STEP.fullmatch(line):
             fail(f"not a step: {line[:60]}")
+        event, _, reply = line.partition(" = ")
         yield event.split(" ")[1:], reply

@@ -1,7 +1,6 @@
 //! Small runs of many threads over memory links.
 
 use crate::in_step::{Meeting, PacedLink};
-use crate::in_time::watch;
 use bytes::Bytes;
 use gn_bodies::WriterEnd;
 use gn_fixtures::OWN;
@@ -14,9 +13,8 @@ use gn_threads::{RunFault, run};
 use gn_wire::{Descriptor, Guid, Kind};
 use std::alloc::Global;
 use std::sync::Wait;
-use std::sync::atomic::{AtomicBool, Ordering};
+use std::sync::atomic::Ordering;
 use std::test::Fail;
-use std::thread;
 use std::thread::Threads;
 
 /// Pings with these numbers in their IDs, TTL 7 and Hops 0, one after another.
@@ -54,6 +52,19 @@ where
     run::<TableRouter, _, _, _, _>(rt, alloc, &config, links, workers, gate)
 }
 
+/// How many receipts all actors of a run have.
+fn receipts_of<Rd, W>(report: &Report<Rd, W>) -> usize {
+    let mut count = report.house.len();
+    for link in &report.links {
+        count = count.wrapping_add(link.reader_receipts.len());
+        count = count.wrapping_add(link.writer_receipts.len());
+    }
+    for receipts in &report.workers {
+        count = count.wrapping_add(receipts.len());
+    }
+    count
+}
+
 #[test]
 fn two_workers_meet(rt: HostRuntime) -> Result<(), Fail> {
     let meeting = Meeting::new();
@@ -62,22 +73,12 @@ fn two_workers_meet(rt: HostRuntime) -> Result<(), Fail> {
         let bytes = pings(rt.alloc(), number, 100)?;
         links.push(MemoryLink::new(Role::Plain, bytes, 4096))?;
     }
-    let is_over = AtomicBool::new(false);
-    let (host, gate, is_over) = (&rt, &meeting, &is_over);
-    let (ran, ()) = thread::join(
-        host,
-        move || {
-            let ran = table_run(host, host.alloc(), links, 2, gate);
-            is_over.store(true, Ordering::SeqCst);
-            ran
-        },
-        move || watch(host, is_over),
-    );
-    let report = ran.map_err(|_| "a report")?;
+    let report = table_run(&rt, rt.alloc(), links, 2, &meeting).map_err(|_| "a report")?;
     assert_eq!(rt; report.workers.len(), 2);
     for receipts in &report.workers {
         assert_eq!(rt; receipts.len(), 300);
     }
+    assert_eq!(rt; receipts_of(&report), report.history.len());
     assert_eq!(rt; meeting.begun(), (300, 300));
     assert!(rt; !meeting.is_missed.load(Ordering::SeqCst));
     Ok(())

@@ -1,5 +1,6 @@
 //! Runs over the loopback, with both ends in one process.
 
+use crate::in_time::watch;
 use gn_bodies::{ReaderEnd, WriterEnd};
 use gn_fixtures::{OWN_PONG, PING, usual};
 use gn_links::NoGate;
@@ -11,10 +12,12 @@ use gn_threads::RunFault;
 use std::alloc::Global;
 use std::io::{ErrorKind, Read, Write};
 use std::net::{Net, Shutdown, SocketAddr, TcpListener, TcpStream};
+use std::process::Abort;
 use std::sync::Wait;
+use std::sync::atomic::{AtomicBool, Ordering};
 use std::test::Fail;
 use std::thread::Threads;
-use std::time::Duration;
+use std::time::{Clock, Duration};
 use std::{io, thread};
 
 pub(crate) type Served = Result<Report<TcpReader, TcpWriter>, RunFault>;
@@ -26,7 +29,7 @@ const FORWARDED: [u8; 23] = [
 ];
 
 /// A run of at most so many steps over the table router with one worker.
-pub(crate) fn serve<R: Threads + Wait + Net<Listener = TcpListener, Stream = TcpStream> + Sync>(
+fn run_over<R: Threads + Wait + Net<Listener = TcpListener, Stream = TcpStream> + Sync>(
     rt: &R,
     alloc: Global,
     listener: &TcpListener,
@@ -43,6 +46,36 @@ pub(crate) fn serve<R: Threads + Wait + Net<Listener = TcpListener, Stream = Tcp
     serve_on::<TableRouter, _, _, _>(
         rt, alloc, listener, &config, accept, peers, None, 1, &NoGate,
     )
+}
+
+/// Two mistakes after which a client waits for ever, for its consent or for its Pong.
+const UNSERVED: &str =
+    "a run that isn't over within 20 seconds: a writer waits at the door of another's link, or an intake \
+     tells no outlet of its job";
+
+/// Such a run, which ends the test where it isn't over within 20 seconds.
+pub(crate) fn serve<
+    R: Threads + Wait + Net<Listener = TcpListener, Stream = TcpStream> + Sync + Abort + Clock,
+>(
+    rt: &R,
+    alloc: Global,
+    listener: &TcpListener,
+    steps: u32,
+    accept: u32,
+    peers: &[SocketAddr],
+) -> Served {
+    let is_over = AtomicBool::new(false);
+    let is_over = &is_over;
+    let (served, ()) = thread::join(
+        rt,
+        move || {
+            let served = run_over(rt, alloc, listener, steps, accept, peers);
+            is_over.store(true, Ordering::SeqCst);
+            served
+        },
+        move || watch(rt, is_over, UNSERVED),
+    );
+    served
 }
 
 /// How the two bodies of a link ended.

@@ -47,6 +47,12 @@ pub err_in_arriving : {T : Type 0} (has_peers : Bool) (links workers : ℕ) (r :
 err_in_arriving has_peers links workers (Ok x) holds = tt
 err_in_arriving has_peers links workers (Err fault) holds = in_arriving has_peers links workers fault holds
 
+-- so of what is answered whatever the links and workers
+pub each_in_arriving : {T : Type 0} (has_peers : Bool) (links : ℕ) (r : Result T RunFault) → IfErr r (λ fault. (links workers : ℕ) → IsFaultOf links workers fault)
+    → IfErr r (λ fault. (workers : ℕ) → IsArrivingFault has_peers links workers fault)
+each_in_arriving has_peers links (Ok x) holds = tt
+each_in_arriving has_peers links (Err fault) holds = λ workers. in_arriving has_peers links workers fault (holds links workers)
+
 -- where there are no peers the two are the same
 pub without_peers : (links workers : ℕ) (fault : RunFault) → IsArrivingFault false links workers fault → IsFaultOf links workers fault
 without_peers links workers BadWorkers holds = holds

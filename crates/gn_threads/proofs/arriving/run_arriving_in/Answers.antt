@@ -29,8 +29,8 @@ returns-in_err-done-clause-fault g c =
 
 pub returns-clause-fault : goal.returns-clause-fault
 returns-clause-fault g c =
-    err_in_arriving g.V.Arrivals.has_peers (length c.args.roles.now) c.args.workers c.finish.result $
-    subst (λ n. IfErr c.finish.result (λ fault. IsFaultOf (length c.args.roles.now) n fault)) (c.in_ok-done.ensures.joined.joined.worked ∙ c.in_ok-places.ensures.workers ∙ c.in_ok-opening.ensures.ends.1) c.finish.ensures.fault
+    err_in_arriving g.V.Arrivals.has_peers (length c.args.roles.now) c.args.workers c.finish.result
+    (subst (λ n. IfErr c.finish.result (λ fault. IsFaultOf (length c.args.roles.now) n fault)) (c.in_ok-done.ensures.joined.joined.worked ∙ c.in_ok-places.ensures.workers ∙ c.in_ok-opening.ensures.ends.1) c.finish.ensures.fault)
 
 pub returns-clause-workers : goal.returns-clause-workers
 returns-clause-workers g c =

@@ -6,12 +6,15 @@ use Rattle.gn_links.specs.Views.{reads_of, writes_of}
 use Rattle.gn_threads.specs.Halves.{half_of}
 use Rattle.gn_threads.specs.Joined.{AreJoined, AreJoinedOf}
 use Rattle.gn_threads.specs.Kept.{ReaderPromises, WriterPromises}
-use Rattle.gn_threads.proofs.FaultLemmas.{in_arriving}
+use Rattle.gn_threads.proofs.FaultLemmas.{each_in_arriving, in_arriving}
 use Rattle.gn_threads.proofs.PlaceLemmas.{first_come}
 use Rattle.gn_threads.proofs.starting.start_and_join_in.Goals as goal
 
 pub returns-clause-fault : goal.returns-clause-fault
 returns-clause-fault g c = λ workers. c.first.ensures g.V.Arrivals.has_peers (vec_len c.args.places.readers) workers (c.in-Err.ensures.fault workers) (in_arriving g.V.Arrivals.has_peers (vec_len c.args.places.readers) workers _ (c.give_up-found.ensures (vec_len c.args.places.readers) workers))
+
+pub returns-in-Ok-clause-fault : goal.returns-in-Ok-clause-fault
+returns-in-Ok-clause-fault g c = each_in_arriving g.V.Arrivals.has_peers (vec_len c.args.places.readers) c.join.result c.join.ensures.fault
 
 pub returns-in-Ok-clause-joined : goal.returns-in-Ok-clause-joined
 returns-in-Ok-clause-joined g c =
