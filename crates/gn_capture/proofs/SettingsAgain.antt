@@ -102,17 +102,17 @@ config_line_is s =
     let version = version_for s.numbers in
     ap (list_all (λ b. not (b == 10))) (config_spaced s) ∙ spaced_line (codes "config") (config_fields version s.numbers) refl (config_plain version s)
 
--- the numbers of a configuration that a version may lack
-abbrev later_of : Numbers → Later
-later_of n = record { life = n.life; crowd = n.crowd }
+-- the numbers that a version may lack
+abbrev later : ℕ → ℕ → Later
+later life crowd = record { life = life; crowd = crowd }
 
-later_is : (life crowd a b : ℕ) → life ≡ a → crowd ≡ b → Some {A = Later} (record { life = life; crowd = crowd }) ≡ Some (record { life = a; crowd = b })
+later_is : (life crowd a b : ℕ) → life ≡ a → crowd ≡ b → Some (later life crowd) ≡ Some (later a b)
 later_is life crowd a b e f = rw (e, f) refl
 
 -- those of the fields after the sixth are read again, where a version that lacks one is that of its being 0
 later_again : (s : Config) (uncrowded unlimited : Bool) → (s.numbers.crowd == 0) ≡ uncrowded → (s.numbers.life == 0) ≡ unlimited
     → later_parsed (if uncrowded then if unlimited then First else Second else Third) (later_fields (if uncrowded then if unlimited then First else Second else Third) s.numbers)
-    ≡ Some (later_of s.numbers)
+    ≡ Some (later s.numbers.life s.numbers.crowd)
 later_again s true true e f =
     later_is 0 0 s.numbers.life s.numbers.crowd (sym (exact_unsigned_eq s.numbers.life 0 f)) (sym (exact_unsigned_eq s.numbers.crowd 0 e))
 later_again s true false e f =

@@ -29,7 +29,8 @@ answer_makes s past (Close c) reply e = sym (ap connected_of (answered s past (C
 answer_makes s past (Admit c d) reply e =
     elim ((answered s past (Admit c d) reply e).1) as (λ x. None ≡ connected_of reply) [
       | inl is ↦ sym (ap connected_of is)
-      | inr is ↦ sym (ap connected_of is)
+      | inr (inl is) ↦ sym (ap connected_of is)
+      | inr (inr is) ↦ sym (ap connected_of is)
     ]
 answer_makes s past (Route t) reply e =
     let routed = answered s past (Route t) reply e in
