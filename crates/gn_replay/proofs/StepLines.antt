@@ -10,7 +10,7 @@ use Rattle.gn_text.specs.declared.version.Text.{Text}
 use Rattle.gn_text.specs.declared.version.Text.TheVariants.{History}
 use Rattle.gn_text.specs.declared.version.Version.{Version}
 use Rattle.gn_text.specs.Versions.{version_of}
-use Rattle.gn_text.specs.Faults.{fault_at, numbered_at, ◌>>=◌}
+use Rattle.gn_text.specs.Faults.{numbered_at, ◌>>=◌}
 use Rattle.gn_text.specs.Header.{config_from, header_of, own_from}
 use Rattle.gn_text.specs.Lines.{fields_of, is_word}
 use Rattle.gn_text.specs.Parsed.{line_after, parsed_of}
