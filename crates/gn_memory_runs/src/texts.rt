@@ -366,8 +366,8 @@ const COMMANDS: [Row; 7] = [
         Command::Audit(Legality::WrongAt(2)),
         OTHER_TICKET,
         "wrong 2\n",
-        25,
-        26,
+        29,
+        30,
     ),
     (
         Command::Audit(Legality::WrongAt(2)),
@@ -387,8 +387,8 @@ const COMMANDS: [Row; 7] = [
         Command::AuditExplained(Legality::WrongAt(2)),
         OTHER_TICKET,
         "wrong 2\nline 6: 0 admit 1 a1a1a1a1a1a1a1a1a1a1a1a1a1a1a1a100070000000000 = admitted 1\nrules: admitted 0\n",
-        29,
-        30,
+        33,
+        34,
     ),
 ];
 
