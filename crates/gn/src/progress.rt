@@ -21,7 +21,7 @@ pub(crate) struct Progress<'r, R> {
     links: AtomicU64,
     /// Jobs that a worker took to route.
     routed: AtomicU32,
-    /// Descriptors that were admitted when the last of these was, and it.
+    /// Descriptors that were admitted.
     admitted: AtomicU32,
     /// When the next line is due, in seconds from the start.
     due: AtomicU64,
@@ -110,13 +110,15 @@ impl<'r, R: Clock + AllocGlobal> Progress<'r, R> {
 }
 
 impl<'r, R: Clock + AllocGlobal> Gate for Progress<'r, R> {
-    fn enter<W: Wait>(&self, _rt: &W, _worker: u32, ticket: u32) {
+    fn enter<W: Wait>(&self, _rt: &W, _worker: u32, _ticket: u32) {
         let routed = self.routed.fetch_add(1, Ordering::SeqCst);
-        self.admitted
-            .fetch_max(ticket.saturating_add(1), Ordering::SeqCst);
         if routed % LOOK == 0 {
             self.look();
         }
+    }
+
+    fn admitted(&self, _ticket: u32) {
+        self.admitted.fetch_add(1, Ordering::SeqCst);
     }
 }
 

@@ -11,6 +11,7 @@ ghost use Rattle.gn_bodies.specs.ReaderRows.{WithClose};
 use crate::asking::{admit, close, connect, route};
 use crate::ends::BodyFault;
 use crate::piece::Halt;
+use gn_links::Gate;
 use gn_payload::Checked;
 use gn_rules::{ConnId, Refusal, RouterCore};
 use gn_service::{Actor, Service};
@@ -21,15 +22,16 @@ use std::marker::Model;
 use std::sync::Wait;
 use std::sync::ledger::Ledger;
 
-/// The actor and the intake of a reader, and whether a job that was handed back was refused its route.
+/// The gate, the actor and the intake of a reader, and whether a job that was handed back was refused its route.
 #[derive(Drop)]
-pub(crate) struct Admitter<S: Site, L: Ledger, A: Allocator = Global> {
+pub(crate) struct Admitter<'g, G, S: Site, L: Ledger, A: Allocator = Global> {
+    pub(crate) gate: &'g G,
     pub(crate) actor: Actor<L, A>,
     pub(crate) intake: Intake<S, A>,
     pub(crate) is_refused: bool,
 }
 
-impl<S: Site, L: Ledger, A: Allocator> Model for Admitter<S, L, A> {
+impl<'g, G, S: Site, L: Ledger, A: Allocator> Model for Admitter<'g, G, S, L, A> {
     ghost use Rattle.gn_bodies.specs.Admitting.{Admitting};
 
     ghost Value = { Admitting A };
@@ -37,7 +39,7 @@ impl<S: Site, L: Ledger, A: Allocator> Model for Admitter<S, L, A> {
     ghost view = { λ a. record { actor = a.actor; intake = a.intake; is_refused = a.is_refused } };
 }
 
-impl<S: Site, L: Ledger, A: Allocator + Copy> Admitter<S, L, A> {
+impl<'g, G: Gate, S: Site, L: Ledger, A: Allocator + Copy> Admitter<'g, G, S, L, A> {
     /// Connects the link. The connection, or none where too many are live.
     pub(crate) fn connect<C: RouterCore<A> + Drop, R: Wait>(
         &mut self,
@@ -56,7 +58,7 @@ impl<S: Site, L: Ledger, A: Allocator + Copy> Admitter<S, L, A> {
         connect(rt, service, &mut self.actor, link)
     }
 
-    /// Admits a descriptor, and puts its job, or routes it where it is handed back.
+    /// Admits a descriptor, tells the gate, and puts its job, or routes it where it is handed back.
     fn admit<C: RouterCore<A> + Drop, R: Wait>(
         &mut self,
         rt: &R,
@@ -72,10 +74,13 @@ impl<S: Site, L: Ledger, A: Allocator + Copy> Admitter<S, L, A> {
         ensures settled { StaysSettled self.old self.new }
     {
         match admit(rt, service, &mut self.actor, c, descriptor) {
-            Ok(Some(job)) => match self.put(rt, service, job) {
-                Ok(()) => Ok(()),
-                Err(fault) => Err(Halt::Stop(fault)),
-            },
+            Ok(Some(job)) => {
+                self.gate.admitted(job.ticket);
+                match self.put(rt, service, job) {
+                    Ok(()) => Ok(()),
+                    Err(fault) => Err(Halt::Stop(fault)),
+                }
+            }
             Ok(None) => Ok(()),
             Err(Refusal::NotLive) => Err(Halt::NotLive),
             Err(Refusal::HistoryFull) => Err(Halt::Stop(BodyFault::HistoryFull)),

@@ -13,7 +13,7 @@ use crate::admitter::Admitter;
 use crate::ends::{BodyFault, ReaderEnd};
 use crate::piece::{Piece, Reading};
 use crate::reading::{open, take_piece};
-use gn_links::LinkReader;
+use gn_links::{Gate, LinkReader};
 use gn_rules::{ConnId, RouterCore};
 use gn_service::{Actor, Service};
 use gn_shake::{Role, Shake};
@@ -36,11 +36,11 @@ pub struct ReaderDone<Rd, S: Site, L: Ledger, A: Allocator = Global> {
 const TURNS: u32 = 1_000_000;
 
 /// A link that has no bytes yet: a plain one is connected at once.
-fn begin<S: Site, C: RouterCore<A> + Drop, L: Ledger, A: Allocator + Copy, R: Wait>(
+fn begin<G: Gate, S: Site, C: RouterCore<A> + Drop, L: Ledger, A: Allocator + Copy, R: Wait>(
     rt: &R,
     alloc: A,
     service: &Service<C, L, A>,
-    me: &mut Admitter<S, L, A>,
+    me: &mut Admitter<'_, G, S, L, A>,
     link: u32,
     role: Role,
 ) -> Piece<A>
@@ -64,6 +64,7 @@ fn begin<S: Site, C: RouterCore<A> + Drop, L: Ledger, A: Allocator + Copy, R: Wa
 #[tactic(auto, using(crate::proofs::ReadingLemmas::nothing_read))]
 fn read_all<
     Rd: LinkReader,
+    G: Gate,
     S: Site,
     C: RouterCore<A> + Drop,
     L: Ledger,
@@ -73,7 +74,7 @@ fn read_all<
     rt: &R,
     alloc: A,
     service: &Service<C, L, A>,
-    me: &mut Admitter<S, L, A>,
+    me: &mut Admitter<'_, G, S, L, A>,
     reader: &mut Rd,
     link: u32,
     role: Role,
@@ -129,6 +130,7 @@ fn closes(end: ReaderEnd) -> bool
 /// Reads to the end, and closes the connection or shuts the door.
 fn read_link<
     Rd: LinkReader,
+    G: Gate,
     S: Site,
     C: RouterCore<A> + Drop,
     L: Ledger,
@@ -138,7 +140,7 @@ fn read_link<
     rt: &R,
     alloc: A,
     service: &Service<C, L, A>,
-    me: &mut Admitter<S, L, A>,
+    me: &mut Admitter<'_, G, S, L, A>,
     reader: &mut Rd,
     link: u32,
     role: Role,
@@ -176,13 +178,14 @@ fn read_link<
     Ok(end)
 }
 
-/// The body of a reader: it awaits the greeting, connects, and admits what its bytes offer, in order. The job of each
-/// admitted descriptor is put, or routed by the reader itself where the intake hands it back.
+/// The body of a reader: it awaits the greeting, connects, and admits what its bytes offer, in order. The gate learns of each
+/// admitted descriptor, and its job is put, or routed by the reader itself where the intake hands it back.
 ///
 /// The link's door is shut where it doesn't connect, and a stop fails the run. In any case the reader is done, and the
 /// link's reader and the intake are finished.
 pub fn reader_body<
     Rd: LinkReader,
+    G: Gate,
     S: Site,
     C: RouterCore<A> + Drop,
     L: Ledger,
@@ -192,6 +195,7 @@ pub fn reader_body<
     rt: &R,
     alloc: A,
     service: &Service<C, L, A>,
+    gate: &G,
     actor: Actor<L, A>,
     link: u32,
     role: Role,
@@ -220,6 +224,7 @@ pub fn reader_body<
 {
     let mut reader = reader;
     let mut me = Admitter {
+        gate,
         actor,
         intake,
         is_refused: false,

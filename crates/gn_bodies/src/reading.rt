@@ -12,6 +12,7 @@ use crate::admitter::Admitter;
 use crate::ends::{BodyFault, ReaderEnd};
 use crate::piece::{Delivery, Halt, Piece, Reading};
 use gn_frames::{Fed, Reassembler};
+use gn_links::Gate;
 use gn_rules::{ConnId, RouterCore};
 use gn_service::Service;
 use gn_shake::{Shake, ShakeState};
@@ -21,10 +22,10 @@ use std::sync::Wait;
 use std::sync::ledger::Ledger;
 
 /// Takes a piece of a connected link.
-fn deliver<S: Site, C: RouterCore<A> + Drop, L: Ledger, A: Allocator + Copy, R: Wait>(
+fn deliver<G: Gate, S: Site, C: RouterCore<A> + Drop, L: Ledger, A: Allocator + Copy, R: Wait>(
     rt: &R,
     service: &Service<C, L, A>,
-    me: &mut Admitter<S, L, A>,
+    me: &mut Admitter<'_, G, S, L, A>,
     c: ConnId,
     frames: &mut Reassembler<A>,
     piece: &[u8],
@@ -52,10 +53,10 @@ fn deliver<S: Site, C: RouterCore<A> + Drop, L: Ledger, A: Allocator + Copy, R: 
 }
 
 /// Takes a piece of a connected link, of which the frames are kept.
-fn deliver_on<S: Site, C: RouterCore<A> + Drop, L: Ledger, A: Allocator + Copy, R: Wait>(
+fn deliver_on<G: Gate, S: Site, C: RouterCore<A> + Drop, L: Ledger, A: Allocator + Copy, R: Wait>(
     rt: &R,
     service: &Service<C, L, A>,
-    me: &mut Admitter<S, L, A>,
+    me: &mut Admitter<'_, G, S, L, A>,
     c: ConnId,
     frames: Reassembler<A>,
     piece: &[u8],
@@ -88,11 +89,18 @@ fn deliver_on<S: Site, C: RouterCore<A> + Drop, L: Ledger, A: Allocator + Copy, 
 }
 
 /// Connects a link whose greeting is done, and takes the bytes after it.
-pub(crate) fn open<S: Site, C: RouterCore<A> + Drop, L: Ledger, A: Allocator + Copy, R: Wait>(
+pub(crate) fn open<
+    G: Gate,
+    S: Site,
+    C: RouterCore<A> + Drop,
+    L: Ledger,
+    A: Allocator + Copy,
+    R: Wait,
+>(
     rt: &R,
     alloc: A,
     service: &Service<C, L, A>,
-    me: &mut Admitter<S, L, A>,
+    me: &mut Admitter<'_, G, S, L, A>,
     link: u32,
     piece: &[u8],
 ) -> Piece<A>
@@ -121,11 +129,11 @@ pub(crate) fn open<S: Site, C: RouterCore<A> + Drop, L: Ledger, A: Allocator + C
 }
 
 /// Takes a piece of a link that awaits its greeting.
-fn greet<S: Site, C: RouterCore<A> + Drop, L: Ledger, A: Allocator + Copy, R: Wait>(
+fn greet<G: Gate, S: Site, C: RouterCore<A> + Drop, L: Ledger, A: Allocator + Copy, R: Wait>(
     rt: &R,
     alloc: A,
     service: &Service<C, L, A>,
-    me: &mut Admitter<S, L, A>,
+    me: &mut Admitter<'_, G, S, L, A>,
     link: u32,
     shake: Shake,
     piece: &[u8],
@@ -170,11 +178,18 @@ fn rest_of(piece: &[u8], used: usize) -> &[u8]
 }
 
 /// Takes a piece of a link.
-pub(crate) fn take_piece<S: Site, C: RouterCore<A> + Drop, L: Ledger, A: Allocator + Copy, R: Wait>(
+pub(crate) fn take_piece<
+    G: Gate,
+    S: Site,
+    C: RouterCore<A> + Drop,
+    L: Ledger,
+    A: Allocator + Copy,
+    R: Wait,
+>(
     rt: &R,
     alloc: A,
     service: &Service<C, L, A>,
-    me: &mut Admitter<S, L, A>,
+    me: &mut Admitter<'_, G, S, L, A>,
     link: u32,
     reading: Reading<A>,
     piece: &[u8],

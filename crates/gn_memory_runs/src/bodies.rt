@@ -135,7 +135,9 @@ where
     let (worker, writer) = (last_new(&mut actors, 2)?, last_new(&mut actors, 1)?);
     let reader = last_new(&mut actors, 0)?;
     refused.begin(heap);
-    let read = reader_body(rt, alloc, &service, reader, 0, role, source, intake);
+    let read = reader_body(
+        rt, alloc, &service, &NoGate, reader, 0, role, source, intake,
+    );
     let worked = worker_body(rt, &service, worker, 0, &NoGate, outlet);
     let wrote = writer_body(rt, alloc, &service, writer, 0, role, sink);
     let has_refused = heap.has_refused();

@@ -13,21 +13,32 @@ use std::fmt;
 use std::fmt::{Display, Formatter, Write};
 use thiserror::Error;
 
-/// Why a command wasn't done. Its text is its line, with the line feed.
+/// Why a command wasn't done, or what a host's own run came to, for its fault stream. Its text is its line, with the line feed.
 #[derive(Clone, Copy, Debug, Error)]
-pub(crate) enum Fault {
+pub enum Fault {
+    /// A read of the input failed.
     Input,
+    /// The input has more than 67,108,864 bytes.
     InputTooLarge,
+    /// The input isn't what it has to be: its first fault.
     Line(CaptureFault),
+    /// A write of the output failed, or took nothing.
     Output,
+    /// Out of memory, or a thread couldn't be started.
     NoMemory,
+    /// The history has as many steps as it may have.
     HistoryFull,
+    /// A link couldn't be accepted, or the port couldn't be listened at.
     Listen,
+    /// A peer couldn't be called: its number, from 0 on.
     Call(u32),
+    /// A link couldn't be split: its number, from 0 on.
     Link(u32),
+    /// The stage queue lost what was put into it.
     StageMissing,
+    /// The least actor of which something isn't confirmed.
     Audit(u32),
-    /// The command line refuses such a number of workers before.
+    /// Not 1 to 64 workers, which the command line refuses before.
     Workers,
 }
 

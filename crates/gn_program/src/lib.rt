@@ -13,5 +13,6 @@ mod unread;
 mod words;
 
 pub use commands::{command, command_with, refuse_words};
+pub use fault::Fault;
 pub use request::{Peer, Request, Serving};
 pub use words::plain_words_are_read;

@@ -18,6 +18,8 @@ mod encoding;
 #[cfg(test)]
 mod event_lists;
 #[cfg(test)]
+mod fault_lines;
+#[cfg(test)]
 mod link_runs;
 #[cfg(test)]
 mod load_runs;

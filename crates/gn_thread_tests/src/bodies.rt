@@ -50,12 +50,14 @@ pub(crate) struct Steps<A: Allocator = Global> {
     pub(crate) worker: Vec<Receipt<A>, A>,
 }
 
-/// What the bodies of one link gave back, who passed the gate last with which ticket, and what they left of the run.
+/// What the bodies of one link gave back, who passed the gate last with which ticket, how many admissions the gate learned of,
+/// and what they left of the run.
 #[derive(Drop)]
 pub(crate) struct Ran<W: LinkWriter, A: Allocator = Global> {
     read: Result<ReaderEnd, BodyFault>,
     worked: Result<(), BodyFault>,
     passed: Option<(u32, u32)>,
+    admitted: u32,
     wrote: Result<WriterEnd, BodyFault>,
     writer: W,
     pub(crate) steps: Steps<A>,
@@ -100,10 +102,11 @@ where
     let k = last_actor(&mut actors, 2)?;
     let w = last_actor(&mut actors, 1)?;
     let a = last_actor(&mut actors, 0)?;
-    let read = reader_body(rt, alloc, &service, a, 0, role, reader, intake);
     let gate = Doorman {
         last: Cell::new(None),
+        admitted: Cell::new(0),
     };
+    let read = reader_body(rt, alloc, &service, &gate, a, 0, role, reader, intake);
     let worked = worker_body(rt, &service, k, WORKER, &gate, outlet);
     let wrote = writer_body(rt, alloc, &service, w, 0, role, writer);
     let hub = service.into_hub();
@@ -111,6 +114,7 @@ where
         read: read.end,
         worked: worked.end,
         passed: gate.last.get(),
+        admitted: gate.admitted.get(),
         wrote: wrote.end,
         writer: wrote.writer,
         door: hub.door(0),

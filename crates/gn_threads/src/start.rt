@@ -111,12 +111,14 @@ fn read_link<
     S: Site,
     C: RouterCore<A> + Drop,
     L: Ledger,
+    G: Gate,
     A: Allocator + Copy,
     R: Wait,
 >(
     rt: &R,
     alloc: A,
     service: &Service<C, L, A>,
+    gate: &G,
     start: ReaderStart<Rd, S, L, A>,
 ) -> ReaderDone<Rd, S, L, A>
     ensures { ReaderPromises (reads_of Rd.is_known Rd.bytes_read Rd.failures Rd.pieces Rd.has_ended) Rd.made_of Rd.gives
@@ -129,7 +131,7 @@ fn read_link<
         reader,
         intake,
     } = start;
-    reader_body(rt, alloc, service, actor, link, role, reader, intake)
+    reader_body(rt, alloc, service, gate, actor, link, role, reader, intake)
 }
 
 /// Starts a reader. False where no thread can be made.
@@ -140,6 +142,7 @@ pub(crate) fn start_reader<
     S: Site + Send + 's,
     C: RouterCore<A> + Drop + Send + 's,
     L: Ledger + Send + Sync + 's,
+    G: Gate + Sync + 's,
     A: Allocator + Copy + Send + Sync + 's,
     R: Threads + Wait + Sync + 's,
 >(
@@ -147,6 +150,7 @@ pub(crate) fn start_reader<
     alloc: A,
     scope: &'s Scope<'s, E>,
     service: &'s Service<C, L, A>,
+    gate: &'s G,
     start: ReaderStart<Rd, S, L, A>,
     handles: &mut Vec<ReaderHandle<Rd, S, L, A>, A>,
 ) -> bool
@@ -159,7 +163,7 @@ pub(crate) fn start_reader<
     let promise = Reads {
         start: Snapshot::of(&start),
     };
-    match scope.spawn_with(promise, move || read_link(rt, alloc, service, start)) {
+    match scope.spawn_with(promise, move || read_link(rt, alloc, service, gate, start)) {
         Ok(handle) => {
             handles.push_reserved(handle);
             true

@@ -33,6 +33,7 @@ fn start_link<
     S: Site + Send + 's,
     C: RouterCore<A> + Drop + Send + 's,
     L: Ledger + Send + Sync + 's,
+    G: Gate + Sync + 's,
     A: Allocator + Copy + Send + Sync + 's,
     R: Threads + Wait + Sync + 's,
 >(
@@ -40,6 +41,7 @@ fn start_link<
     alloc: A,
     scope: &'s Scope<'s, E>,
     service: &'s Service<C, L, A>,
+    gate: &'s G,
     arrivals: &mut V,
     reading: ReaderPlace<S, L, A>,
     writing: WriterPlace<L, A>,
@@ -64,7 +66,15 @@ fn start_link<
     }
     let (reader, writer) = arrivals.next(reading.link, reading.role)?;
     let (reading, writing) = (reading.with(reader), writing.with(writer));
-    if !start_reader(rt, alloc, scope, service, reading, &mut handles.readers) {
+    if !start_reader(
+        rt,
+        alloc,
+        scope,
+        service,
+        gate,
+        reading,
+        &mut handles.readers,
+    ) {
         return Err(RunFault::NoMemory);
     }
     if !start_writer(rt, alloc, scope, service, writing, &mut handles.writers) {
@@ -84,6 +94,7 @@ fn start_links<
     S: Site + Send + 's,
     C: RouterCore<A> + Drop + Send + 's,
     L: Ledger + Send + Sync + 's,
+    G: Gate + Sync + 's,
     A: Allocator + Copy + Send + Sync + 's,
     R: Threads + Wait + Sync + 's,
 >(
@@ -91,6 +102,7 @@ fn start_links<
     alloc: A,
     scope: &'s Scope<'s, E>,
     service: &'s Service<C, L, A>,
+    gate: &'s G,
     arrivals: &mut V,
     readers: Vec<ReaderPlace<S, L, A>, A>,
     writers: Vec<WriterPlace<L, A>, A>,
@@ -117,7 +129,7 @@ fn start_links<
             unreachable!()
         };
         match start_link(
-            rt, alloc, scope, service, arrivals, reading, writing, handles,
+            rt, alloc, scope, service, gate, arrivals, reading, writing, handles,
         ) {
             Ok(()) => {}
             Err(fault) => return Err(fault),
@@ -172,7 +184,7 @@ fn start_all<
         return Err(RunFault::NoMemory);
     }
     start_links(
-        rt, alloc, scope, service, arrivals, readers, writers, handles,
+        rt, alloc, scope, service, gate, arrivals, readers, writers, handles,
     )
 }
 

@@ -140,5 +140,5 @@ pub mod load {
 
 /// A whole command line of `gn`.
 pub mod program {
-    pub use gn_program::{command, command_with};
+    pub use gn_program::{Fault, command, command_with};
 }
