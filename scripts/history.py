@@ -7,7 +7,7 @@ SENDS = re.compile(r" (\d+)([+-])([0-9a-fA-F]+)")
 # A descriptor in hex: 23 bytes of header, and its payload.
 HEX = r"[0-9a-fA-F]{46,}"
 STEP = re.compile(
-    rf"\d+ (?:connect|(?:close|route|take) \d+|admit \d+ {HEX}|originate {HEX}) = (?:toomany|busy|dropped [a-z]+|taken {HEX}"
+    rf"\d+ (?:connect|(?:close|route|take) \d+|admit \d+ {HEX}|originate {HEX}) = (?:toomany|busy|crowded|dropped [a-z]+|taken {HEX}"
     rf"|(?:connected|closed|admitted) \d+|(?:routed local|routed away|sent)(?: \d+[+-]{HEX})*)"
 )
 
