@@ -43,7 +43,7 @@ test:
 	rt ci
 
 # What a call of each table and a job through the stage queue takes; then, three times in a process of its own, what a step through
-# the lock takes, and the flaw of a report beside the audit of its history: these go to standard error. Then tables of what the
+# the lock takes, and the flaw of a report: these go to standard error. Then tables of what the
 # program gn takes: replays and audits of mixed captures, and loads of 1, 2, 4 and 16 workers beside replays.
 bench: build
 	scripts/build gn_bench

@@ -1,14 +1,11 @@
-//! The flaw of the report of a run that is made up, beside the audit of its history.
+//! The flaw of the report of a run that is made up.
 
 ghost use Rattle.std.specs.Prelude.{◌≡◌, length, IfOk};
 
 use crate::setup::{config, each, fault, ping};
 use gn_bodies::{ReaderEnd, WriterEnd};
-use gn_capture::write_history;
-use gn_io::{ReaderSource, WriterSink};
-use gn_replay::audit;
 use gn_router::TableRouter;
-use gn_rules::{Config, Event, Legality, Receipt, RouterCore, Step};
+use gn_rules::{Config, Event, Receipt, RouterCore};
 use gn_run::{LinkReport, Report};
 use gn_shake::Role;
 use std::alloc::Global;
@@ -126,24 +123,7 @@ impl MadeUp {
     }
 }
 
-/// What the audit of a history takes, and whether it is legal.
-fn time_audit<R: Runtime>(
-    rt: &R,
-    alloc: Global,
-    config: &Config,
-    steps: &[Step],
-) -> io::Result<(u128, bool)> {
-    let mut history = Vec::new(alloc);
-    write_history(config, steps, &mut history)?;
-    let start = Instant::now(rt)?;
-    let mut source = ReaderSource::new(history.as_slice());
-    let mut sink = WriterSink::new(Vec::new(alloc));
-    let legality = audit::<Global, TableRouter, _, _>(alloc, &mut source, &mut sink);
-    let time = each(rt, steps.len() as u64, &start)?;
-    Ok((time, matches!(legality, Ok(Legality::Legal))))
-}
-
-/// The flaw of the report of a run of about so many steps, and the audit of its history.
+/// The flaw of the report of a run of about so many steps.
 pub(crate) fn measure_flaw<R: Runtime>(rt: &R, alloc: Global, steps: u32) -> io::Result<()> {
     let config = config(LINKS, 64, 1_000_000)?;
     let mut run = MadeUp::new(alloc, &config)?;
@@ -154,9 +134,7 @@ pub(crate) fn measure_flaw<R: Runtime>(rt: &R, alloc: Global, steps: u32) -> io:
     let flaw = report.flaw(&[Role::Plain; 8]);
     let count = report.history.len();
     let time = each(rt, count as u64, &start)?;
-    let (audit, is_legal) = time_audit(rt, alloc, &config, &report.history)?;
     let found = if flaw.is_none() { "no flaw" } else { "a flaw" };
-    let legality = if is_legal { "legal" } else { "wrong" };
-    println!(rt; "flaw: {count} steps, {found}, {legality}")?;
-    eprintln!(rt; "flaw: {time} ns a step, audit: {audit} ns a step")
+    println!(rt; "flaw: {count} steps, {found}")?;
+    eprintln!(rt; "flaw: {time} ns a step")
 }

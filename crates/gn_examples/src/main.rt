@@ -8,6 +8,7 @@ use std::process::ExitCode;
 use std::rt::Files;
 use std::sync::Wait;
 use std::thread::Threads;
+use std::time::Clock;
 use std::{fs, io};
 
 /// The captures, each beside what `replay` prints of it.
@@ -33,11 +34,14 @@ const CAPTURES: [&str; 15] = [
 const LOADS: [&str; 1] = ["six_links"];
 
 /// What a command answers: its status, what it prints, and the faults that it writes.
-fn answer<R: Threads + Wait + Net<Listener = TcpListener, Stream = TcpStream> + Sync + AllocGlobal>(
-    rt: &R,
-    words: &[&str],
-    input: &[u8],
-) -> (u8, Vec<u8>, Vec<u8>) {
+fn answer<
+    R: Threads
+        + Wait
+        + Net<Listener = TcpListener, Stream = TcpStream>
+        + Clock
+        + Sync
+        + AllocGlobal,
+>(rt: &R, words: &[&str], input: &[u8]) -> (u8, Vec<u8>, Vec<u8>) {
     let mut reader = ReaderSource::new(input);
     let mut writer = WriterSink::new(Vec::new(rt.alloc()));
     let mut faults = WriterSink::new(Vec::new(rt.alloc()));
@@ -47,7 +51,12 @@ fn answer<R: Threads + Wait + Net<Listener = TcpListener, Stream = TcpStream> + 
 
 /// What a command printed, where it ended with this status and wrote no fault.
 fn printed<
-    R: Threads + Wait + Net<Listener = TcpListener, Stream = TcpStream> + Sync + AllocGlobal,
+    R: Threads
+        + Wait
+        + Net<Listener = TcpListener, Stream = TcpStream>
+        + Clock
+        + Sync
+        + AllocGlobal,
 >(rt: &R, words: &[&str], input: &[u8], status: u8) -> Option<Vec<u8>> {
     let (ended, text, faults) = answer(rt, words, input);
     if ended == status && faults.is_empty() {
@@ -59,7 +68,12 @@ fn printed<
 
 /// Whether a command prints what is wanted, stated in words.
 fn compared<
-    R: Threads + Wait + Net<Listener = TcpListener, Stream = TcpStream> + Sync + AllocGlobal,
+    R: Threads
+        + Wait
+        + Net<Listener = TcpListener, Stream = TcpStream>
+        + Clock
+        + Sync
+        + AllocGlobal,
 >(rt: &R, words: &[&str], input: &[u8], status: u8, wanted: &[u8]) -> &'static str {
     match printed(rt, words, input, status) {
         Some(text) if text.as_slice() == wanted => "as in",
@@ -68,11 +82,14 @@ fn compared<
 }
 
 /// Whether the history that a command prints of a capture is legal, stated in words.
-fn judged<R: Threads + Wait + Net<Listener = TcpListener, Stream = TcpStream> + Sync + AllocGlobal>(
-    rt: &R,
-    words: &[&str],
-    capture: &[u8],
-) -> &'static str {
+fn judged<
+    R: Threads
+        + Wait
+        + Net<Listener = TcpListener, Stream = TcpStream>
+        + Clock
+        + Sync
+        + AllocGlobal,
+>(rt: &R, words: &[&str], capture: &[u8]) -> &'static str {
     let legality = match printed(rt, words, capture, 0) {
         Some(history) => printed(rt, &["gn", "audit"], &history, 0),
         None => None,
@@ -88,6 +105,7 @@ fn replay_all<
     R: Threads
         + Wait
         + Net<Listener = TcpListener, Stream = TcpStream>
+        + Clock
         + Sync
         + Files
         + Print
@@ -108,6 +126,7 @@ fn load_all<
     R: Threads
         + Wait
         + Net<Listener = TcpListener, Stream = TcpStream>
+        + Clock
         + Sync
         + Files
         + Print
@@ -136,6 +155,7 @@ fn is_as_wanted<
     R: Threads
         + Wait
         + Net<Listener = TcpListener, Stream = TcpStream>
+        + Clock
         + Sync
         + Files
         + AllocGlobal,
@@ -157,6 +177,7 @@ fn answer_all<
     R: Threads
         + Wait
         + Net<Listener = TcpListener, Stream = TcpStream>
+        + Clock
         + Sync
         + Files
         + Print

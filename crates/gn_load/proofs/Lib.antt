@@ -3,3 +3,4 @@ pub mod UnfailedLemmas
 pub mod LineLemmas
 pub mod SendLemmas
 pub mod LoadLemmas
+pub mod PrintLemmas

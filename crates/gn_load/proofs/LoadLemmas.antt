@@ -4,11 +4,11 @@ use Rattle.std.proofs.lemmas.List.{length-map, map-id}
 use Rattle.std.proofs.lemmas.Option.{slice_get-map}
 use Rattle.std.specs.List.{slice_get}
 use Rattle.std.specs.Option.{option_map}
+use Rattle.std.specs.Prelude.{IfSome, IsOk}
 use Rattle.std.specs.Result.{IsErrAnd, IsOkAnd}
 use Rattle.gn_links.specs.Memory.{Memory, MemoryReading, MemoryWriting, source_of}
 use Rattle.gn_rules.specs.declared.config.Config.{Config}
 use Rattle.gn_rules.specs.declared.config.Own.{Own}
-use Rattle.gn_rules.specs.declared.receipt.Step.{Step}
 use Rattle.gn_rules.specs.Limits.{IsCrew}
 use Rattle.gn_text.specs.declared.fault.CaptureFault.{CaptureFault}
 use Rattle.gn_rules.specs.declared.limits.Numbers.{Numbers}
@@ -32,6 +32,15 @@ use Rattle.gn_load.proofs.UnfailedLemmas.{none_failed}
 pub on_err : {T E : Type 0} (r : Result T E) (e : E) (P : E → Type 0) → IsErrAnd r (λ x. x ≡ e) → P e → IfErr r P
 on_err (Ok x) e P is h = absurd is
 on_err (Err x) e P is h = subst P (sym is) h
+
+-- what holds of an input that was read whole holds of it as far as it is known
+pub of_known : (rest : Option (List ℕ)) (input : List ℕ) (P : List ℕ → Type 0) → IfSome rest (λ bytes. input ≡ bytes) → P input → IfSome rest P
+of_known None input P whole holds = tt
+of_known (Some bytes) input P whole holds = subst P whole holds
+
+-- what was read is read
+pub is_read : {X E : Type 0} (r : Result X E) (x : X) → r ≡ Ok x → IsOk r
+is_read r x is = subst IsOk (sym is) refl
 
 -- the links of lines that were lent
 pub made_of : {A : Type 0} (lent lines : List (ℕ × Line A)) (made : Result (List Memory) CaptureFault) → lent ≡ lines → links_from [] lent ≡ made
@@ -93,14 +102,14 @@ module _ {A : Type 0} (text : List ℕ) (capture : Capture A) where
       subst P (sym (loaded links read made)) (record { bad = bad; other = other })
 
   -- the history of a run that has one
-  pub history_printed : (workers : ℕ) (links : List Memory) (report : Report MemoryReading MemoryWriting A) (before printed : List ℕ) (steps : List (Step A))
+  pub history_printed : (workers : ℕ) (links : List Memory) (report : Report MemoryReading MemoryWriting A)
       → capture_of text ≡ Ok (capture_seen capture) → links_from [] capture.lines.items ≡ Ok links
       → Holds half_read half_written capture.config (map (λ link. link.role) links) report
       → LinksReadOwn half_read (map source_of links) report
       → AreMadeOf (λ (half : MemoryReading). half.link) (λ (half : MemoryWriting). half.link) links links report → IsCrew workers
       → length report.workers.items ≡ workers
-      → before ≡ [] → steps ≡ report.history.items → printed ≡ before ++ history_text capture.config steps → IsLoadText A workers text printed
-  history_printed workers links report before printed steps read made holds bytes halves within many empty lent wrote =
+      → IsLoadText A workers text (history_text capture.config report.history.items)
+  history_printed workers links report read made holds bytes halves within many =
       record {
         settings = capture.config;
         links = links;
@@ -112,5 +121,5 @@ module _ {A : Type 0} (text : List ℕ) (capture : Capture A) where
         unfailed = none_failed capture.lines.items links report made (holds.each ∙ length-map links (λ link. link.role)) bytes;
         within = within;
         many = many;
-        printed = wrote ∙ ap (λ (xs : List ℕ). xs ++ history_text capture.config steps) empty ∙ ap (history_text capture.config) lent;
+        printed = refl;
       }

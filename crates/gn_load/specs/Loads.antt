@@ -1,5 +1,5 @@
 -- What a load makes of its input, and what it writes.
-use Rattle.std.specs.Prelude.{◌≡◌, ◌<◌, ℕ, true, false, List, [], length, map, slice_index_or, take, Option, IfSome, Result, Ok}
+use Rattle.std.specs.Prelude.{◌≡◌, ◌⊎◌, ◌<◌, ℕ, true, false, List, [], length, map, slice_index_or, take, Option, IfSome, Result, Ok}
 use Rattle.std.specs.Io.KnownBytes.{Appends, Keeps}
 use Rattle.gn_rules.specs.declared.config.Config.{Config}
 use Rattle.gn_rules.specs.declared.config.Own.{Own}
@@ -17,7 +17,7 @@ use Rattle.gn_text.specs.Settings.{settings_of}
 use Rattle.gn_capture.specs.Captures.{capture_of}
 use Rattle.gn_capture.specs.Histories.{history_text, map_result}
 use Rattle.gn_io.specs.Parts.{AppendsPart}
-use Rattle.gn_replay.specs.declared.fault.ReplayFault.TheVariants.{Write}
+use Rattle.gn_replay.specs.declared.fault.ReplayFault.TheVariants.{NoMemory, Write}
 use Rattle.gn_load.specs.declared.fault.LoadFault.{LoadFault}
 use Rattle.gn_load.specs.declared.fault.LoadFault.TheVariants.{Text}
 use Rattle.gn_load.specs.Links.{links_from}
@@ -81,8 +81,10 @@ AppendsLoad A workers input old new = (text : List ℕ) × IsLoadText A workers 
 abbrev pub AppendsLoadPart : (A : Type 0) → ℕ → List ℕ → Option (List ℕ) → Option (List ℕ) → Type 0
 AppendsLoadPart A workers input old new = (text : List ℕ) × IsLoadText A workers input text × AppendsPart old new text
 
--- what was written where a load stopped: a prefix of such a text at Write, where a write failed or took nothing; at any other
--- fault nothing
+-- what was written where a load stopped: a prefix of such a text at Write, where a write failed or took nothing; where memory
+-- ran out, nothing or such a prefix; at any other fault nothing
 abbrev pub HasStopped : (A : Type 0) → ℕ → LoadFault → Option (List ℕ) → Option (List ℕ) → Option (List ℕ) → Type 0
 HasStopped A workers (Text Write) rest old new = IfSome rest (λ input. AppendsLoadPart A workers input old new)
+HasStopped A workers (Text NoMemory) rest old new =
+    Keeps old new ⊎ IfSome rest (λ input. AppendsLoadPart A workers input old new)
 HasStopped A workers fault rest old new = Keeps old new

@@ -1,13 +1,15 @@
-//! The links of a capture, run by many threads, and the history of that run.
+//! The links of a capture, run by many threads, and the history of that run, written.
 #![tactic(auto)]
 
 mod fault;
 mod gathered;
 mod links;
 mod loads;
+mod printed;
 mod watch;
 
 pub use fault::LoadFault;
 pub use links::links_of;
 pub use loads::{load, load_watched};
+pub use printed::{PrintFault, print_history};
 pub use watch::Watch;

@@ -1,6 +1,7 @@
 //! A capture, loaded: its links are run, and the history of the run is written.
 
 ghost use Rattle.std.specs.Prelude.{◌≡◌, ◌≤◌, length, IfOk, IfErr, IfSome, IsOk, OnOk};
+ghost use Rattle.gn_capture.specs.Histories.{history_text};
 ghost use Rattle.gn_io.specs.Input.{input_limit};
 ghost use Rattle.gn_io.specs.Streams.{NoneFailed, streams};
 ghost use Rattle.gn_load.specs.Faults.{IsLoadFault, IsRunLoadFault};
@@ -8,25 +9,33 @@ ghost use Rattle.gn_load.specs.Loads.{AppendsLoad, HasStopped, IsLoadText, load_
 
 use crate::fault::LoadFault;
 use crate::links::links_of;
+use crate::printed::{PrintFault, print_history};
 use crate::watch::Watch;
-use gn_capture::{Capture, read_capture, write_history};
-use gn_io::{Sink, Source, read_input, write_all};
+use gn_capture::{Capture, read_capture};
+use gn_io::{Sink, Source, read_input};
 use gn_links::NoGate;
-use gn_rules::RouterCore;
+use gn_replay::ReplayFault;
+use gn_rules::{Config, RouterCore, Step};
 use gn_threads::run;
 use std::alloc::Allocator;
 use std::sync::Wait;
 use std::thread::Threads;
 
-/// The history text of a router that so many workers run over the links that a capture makes. Of the capture only what its
-/// links hold lasts through the run.
-fn history_of<
+/// How a router is set up that so many workers run over the links that a capture makes, and the steps of its history. Of the
+/// capture only what its links hold lasts through the run.
+fn run_links<
     A: Allocator + Copy + Send + Sync,
     C: RouterCore<A> + Drop + Send,
     R: Threads + Wait + Sync,
     G: Watch + Sync,
->(rt: &R, alloc: A, workers: u32, watch: &G, text: Vec<u8, A>) -> Result<Vec<u8, A>, LoadFault>
-    ensures history { IfOk result (λ history. IsLoadText A workers text.items history.items) }
+>(
+    rt: &R,
+    alloc: A,
+    workers: u32,
+    watch: &G,
+    text: Vec<u8, A>,
+) -> Result<(Config, Vec<Step<A>, A>), LoadFault>
+    ensures history { IfOk result (λ ran. IsLoadText A workers text.items (history_text ran.0 ran.1.items)) }
     ensures fault { IfErr result (λ fault. IsRunLoadFault workers fault (load_of A text.items)) }
 {
     let capture = read_capture(alloc, &text)?;
@@ -36,17 +45,15 @@ fn history_of<
     drop(lines);
     watch.begin(links.len());
     let report = run::<C, _, _, A, R>(rt, alloc, &config, links, workers, watch)?;
-    let mut history = Vec::new(alloc);
-    write_history(&config, &report.history, &mut history)?;
-    Ok(history)
+    Ok((config, report.history))
 }
 
 /// Reads a capture of `join`, `open` and `data` lines whole, runs its links with so many workers, 1 to 64, until each link's
 /// bytes are read and all that was queued to it is taken, and writes the history of the router, which `audit` reads. Each
 /// link is one over memory with all its bytes, which are read 4,096 at a time.
 ///
-/// Nothing is written before the run has ended; `Write` leaves a prefix of the history, any other `Err` nothing. A line that
-/// isn't taken is stated where the capture has no other fault.
+/// Nothing is written before the run has ended, and then the history in blocks: out of memory and `Write` may leave a prefix
+/// of it, any other `Err` leaves nothing. A line that isn't taken is stated where the capture has no other fault.
 pub fn load<
     A: Allocator + Copy + Send + Sync,
     C: RouterCore<A> + Drop + Send,
@@ -89,8 +96,12 @@ pub fn load_watched<
         (streams (S.state source.old) (S.state source.new) (W.state sink.old) (W.state sink.new))) }
 {
     let text = read_input(alloc, source)?;
-    let answer = history_of::<A, C, R, G>(rt, alloc, workers, watch, text);
+    let answer = run_links::<A, C, R, G>(rt, alloc, workers, watch, text);
     watch.end();
-    write_all(sink, &answer?)?;
-    Ok(())
+    let (config, steps) = answer?;
+    match print_history(alloc, &config, &steps, sink) {
+        Ok(()) => Ok(()),
+        Err(PrintFault::Write) => Err(LoadFault::Text(ReplayFault::Write)),
+        Err(PrintFault::NoMemory) => Err(LoadFault::Text(ReplayFault::NoMemory)),
+    }
 }

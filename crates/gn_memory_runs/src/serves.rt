@@ -3,12 +3,12 @@
 use crate::sweep::{has_answered, refused_at};
 use gn_fixtures::{PING, usual};
 use gn_growth::{Heap, Refused, Turn};
+use gn_legal::legal;
 use gn_links::NoGate;
-use gn_plain::legal;
 use gn_router::TableRouter;
 use gn_rules::{Legality, RouterCore};
 use gn_run::Report;
-use gn_serve::serve_on;
+use gn_serve::{Serving, serve_on};
 use gn_stage::StageFault;
 use gn_tcp::{TcpReader, TcpWriter, listen};
 use gn_threads::RunFault;
@@ -18,7 +18,7 @@ use std::net::{Net, Shutdown, SocketAddr, TcpListener, TcpStream};
 use std::sync::Wait;
 use std::test::Fail;
 use std::thread::Threads;
-use std::time::Duration;
+use std::time::{Clock, Duration};
 use std::{io, thread};
 
 type Served<A> = Result<Report<TcpReader, TcpWriter, A>, RunFault>;
@@ -27,12 +27,22 @@ type Served<A> = Result<Report<TcpReader, TcpWriter, A>, RunFault>;
 fn serve<
     A: Allocator + Copy + Send + Sync,
     C: RouterCore<A> + Drop + Send,
-    R: Threads + Wait + Net<Listener = TcpListener, Stream = TcpStream> + Sync,
+    R: Threads + Wait + Net<Listener = TcpListener, Stream = TcpStream> + Clock + Sync,
 >(rt: &R, alloc: A, listener: TcpListener) -> Served<A> {
     let Ok(config) = usual(100) else {
         return Err(RunFault::BadWorkers);
     };
-    serve_on::<C, _, _, _>(rt, alloc, &listener, &config, 2, &[], None, 1, &NoGate)
+    serve_on::<C, _, _, _>(
+        rt,
+        alloc,
+        &listener,
+        &config,
+        2,
+        &[],
+        &Serving::UNLIMITED,
+        1,
+        &NoGate,
+    )
 }
 
 /// Reads to the end of what a peer sends, at most for ten seconds each time: how many bytes came.
@@ -74,7 +84,7 @@ fn two_clients<N: Net<Listener = TcpListener, Stream = TcpStream>>(
 fn both_are_served<
     A: Allocator + Copy + Send + Sync,
     C: RouterCore<A> + Drop + Send,
-    R: Threads + Wait + Net<Listener = TcpListener, Stream = TcpStream> + Sync,
+    R: Threads + Wait + Net<Listener = TcpListener, Stream = TcpStream> + Clock + Sync,
 >(rt: &R, alloc: A) -> Result<(Option<usize>, Served<A>), Fail> {
     let listener = listen(rt, 0).map_err(|_| "a listener")?;
     let at = listener.local_addr()?;
@@ -90,7 +100,7 @@ fn both_are_served<
 fn serve_refused<
     A: Allocator + Copy + Send + Sync,
     C: RouterCore<A> + Drop + Send,
-    R: Threads + Wait + Net<Listener = TcpListener, Stream = TcpStream> + Sync,
+    R: Threads + Wait + Net<Listener = TcpListener, Stream = TcpStream> + Clock + Sync,
 >(rt: &R, heap: &Heap, alloc: A, refused: Refused) -> Result<Turn, Fail> {
     let config = usual(100)?;
     refused.begin(heap);
@@ -115,7 +125,7 @@ fn serve_refused<
 fn growths_of_serves<
     A: Allocator + Copy + Send + Sync,
     C: RouterCore<A> + Drop + Send,
-    R: Threads + Wait + Net<Listener = TcpListener, Stream = TcpStream> + Sync,
+    R: Threads + Wait + Net<Listener = TcpListener, Stream = TcpStream> + Clock + Sync,
 >(rt: &R, heap: &Heap, alloc: A, with_later: bool) -> Result<u64, Fail> {
     for number in 0..10_000 {
         let refused = refused_at(number, with_later);

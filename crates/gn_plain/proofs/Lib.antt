@@ -1,9 +1,7 @@
 pub mod CounterLemmas
 pub mod FlightLemmas
 pub mod KeptLemmas
-pub mod LegalityLemmas
 pub mod LegalLemmas
 pub mod LiveLemmas
 pub mod OutputLemmas
-pub mod PlaceLemmas
 pub mod SendLemmas

@@ -1,4 +1,2 @@
 pub mod Kept
-pub mod Place
 pub mod Places
-pub mod Views

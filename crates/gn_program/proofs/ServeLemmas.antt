@@ -6,6 +6,7 @@ use Rattle.std.specs.declared.alloc.Global.{Global}
 use Rattle.gn_io.specs.Streams.{NoWriteFailed, SinkState}
 use Rattle.gn_rules.specs.Limits.{IsCrew}
 use Rattle.gn_rules.specs.declared.config.Config.{Config}
+use Rattle.gn_serve.proofs.HistoryLemmas.{none_written}
 use Rattle.gn_serve.specs.Histories.{AppendsServed, HasServeStopped, IsServeFault}
 use Rattle.gn_serve.specs.declared.fault.ServeFault.{ServeFault}
 use Rattle.gn_serve.specs.declared.fault.ServeFault.TheVariants.{Run}
@@ -24,7 +25,7 @@ known links workers sink sink_new (Err e) within fault = fault within
 pub answered : (serving : AskedServe) (settings : Config) (calls : ℕ) (sink sink_new : SinkState) (answer : Result (Unit {0}) ServeFault)
     → IsServing serving settings → calls ≡ length serving.peers → IsCrew serving.workers → OnOk answer (NoWriteFailed sink sink_new)
     → OnOk answer (AppendsServed Global settings calls serving.accept serving.workers sink.written sink_new.written)
-    → IfErr answer (λ fault. HasServeStopped Global settings calls serving.accept serving.workers fault sink.written sink_new.written)
+    → IfErr answer (λ fault. HasServeStopped Global serving.keeps settings calls serving.accept serving.workers fault sink.written sink_new.written)
     → IfErr answer (λ fault. IsCrew serving.workers → IsServeFault (calls + serving.accept) serving.workers fault sink sink_new)
     → IsServeAnswer serving sink sink_new answer
 answered serving settings calls sink sink_new answer configured many within unfailed written stopped fault =
@@ -33,14 +34,22 @@ answered serving settings calls sink sink_new answer configured many within unfa
       configured = configured;
       unfailed = unfailed;
       written = subst (λ n. OnOk answer (AppendsServed Global settings n serving.accept serving.workers sink.written sink_new.written)) many written;
-      stopped = subst (λ n. IfErr answer (λ fault. HasServeStopped Global settings n serving.accept serving.workers fault sink.written sink_new.written)) many stopped;
+      stopped = subst (λ n. IfErr answer (λ fault. HasServeStopped Global serving.keeps settings n serving.accept serving.workers fault sink.written sink_new.written)) many stopped;
       fault = known (length serving.peers + serving.accept) serving.workers sink sink_new answer within
           (subst (λ n. IfErr answer (λ fault. IsCrew serving.workers → IsServeFault (n + serving.accept) serving.workers fault sink sink_new)) many fault);
     }
 
-keeps : (o : Option (List ℕ)) → Keeps o o
-keeps None = tt
-keeps (Some xs) = refl
+-- all that is answered where the run has no report, or its history wasn't written
+pub failed : (serving : AskedServe) (settings : Config) (calls : ℕ) (sink sink_new : SinkState) (answer : Result (Unit {0}) ServeFault) (fault : ServeFault)
+    → IsServing serving settings → calls ≡ length serving.peers → IsCrew serving.workers → IsErrAnd answer (λ e. e ≡ fault)
+    → HasServeStopped Global serving.keeps settings calls serving.accept serving.workers fault sink.written sink_new.written
+    → (IsCrew serving.workers → IsServeFault (calls + serving.accept) serving.workers fault sink sink_new)
+    → IsServeAnswer serving sink sink_new answer
+failed serving settings calls sink sink_new (Ok done) fault configured many within is stopped one = absurd is
+failed serving settings calls sink sink_new (Err e) fault configured many within is stopped one =
+    answered serving settings calls sink sink_new (Err e) configured many within tt tt
+    (subst (λ f. HasServeStopped Global serving.keeps settings calls serving.accept serving.workers f sink.written sink_new.written) (sym is) stopped)
+    (subst (λ f. IsCrew serving.workers → IsServeFault (calls + serving.accept) serving.workers f sink sink_new) (sym is) one)
 
 -- all that is answered where there was no run
 pub unserved : (serving : AskedServe) (settings : Config) (sink : SinkState) (answer : Result (Unit {0}) ServeFault) (fault : RunFault)
@@ -53,6 +62,6 @@ unserved serving settings sink (Err e) fault configured is one =
       configured = configured;
       unfailed = tt;
       written = tt;
-      stopped = subst (λ f. HasServeStopped Global settings (length serving.peers) serving.accept serving.workers f sink.written sink.written) (sym is) (keeps sink.written);
+      stopped = subst (λ f. HasServeStopped Global serving.keeps settings (length serving.peers) serving.accept serving.workers f sink.written sink.written) (sym is) (none_written Global serving.keeps settings (length serving.peers) serving.accept serving.workers fault sink.written);
       fault = subst (λ f. IsServeFault (length serving.peers + serving.accept) serving.workers f sink sink) (sym is) one;
     }

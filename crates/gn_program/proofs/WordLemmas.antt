@@ -23,8 +23,8 @@ use Rattle.clap.specs.declared.error.kind.ErrorKind.TheVariants.{ValueValidation
 use Rattle.clap.proofs.OnLiterals.{clap_on_literals}
 use Rattle.clap.proofs.WalkLemmas.{first_value-rows, raw_values-rows}
 use Rattle.hex.specs.Hex.{decode_pairs}
-use Rattle.gn_program.specs.Options.{peers_in, peers_of}
-use Rattle.gn_program.specs.Words.{PlainWordsAreRead, gn_app, is_set, kinds_of, request_by, request_named, request_of, value_kinds}
+use Rattle.gn_program.specs.Options.{is_set, peers_in, peers_of}
+use Rattle.gn_program.specs.Words.{PlainWordsAreRead, gn_app, kinds_of, request_by, request_named, request_of, value_kinds}
 use Rattle.gn_program.specs.declared.request.Request.{Request}
 
 gn_is_simple : is_simple gn_app ≡ true

@@ -103,13 +103,14 @@ IsServing serving settings =
       servents = 1024;
       stage = 1024;
       out = 1024;
-      steps = 1000000;
+      steps = serving.steps;
       life = serving.life;
       crowd = serving.crowd;
     }) (own_served serving)
 
 -- what serve answers: no write failed, and the history of a run with so many workers, over links to the peers that are
--- called and to so many that call, was written; or it stopped, and what was written then is a prefix of such a history
+-- called and to so many that call, was written; or it stopped, and what was written then is a prefix of such a history, or of
+-- one that is kept
 pub record IsServeAnswer (serving : AskedServe) (sink sink_new : SinkState) (answer : Result (Unit {0}) ServeFault) : Type 0 where
   pub settings : Config
   pub configured : IsServing serving settings
@@ -117,7 +118,7 @@ pub record IsServeAnswer (serving : AskedServe) (sink sink_new : SinkState) (ans
   pub written : OnOk answer (AppendsServed Global settings (length serving.peers) serving.accept serving.workers
       sink.written sink_new.written)
   pub stopped : IfErr answer (λ fault.
-      HasServeStopped Global settings (length serving.peers) serving.accept serving.workers fault sink.written
+      HasServeStopped Global serving.keeps settings (length serving.peers) serving.accept serving.workers fault sink.written
       sink_new.written)
   pub fault : IfErr answer (λ fault.
       IsServeFault (length serving.peers + serving.accept) serving.workers fault sink sink_new)

@@ -1,6 +1,8 @@
 -- What the values of options say.
-use Rattle.std.specs.Prelude.{◌≡◌, ◌∷◌, ◌++◌, ◌==◌, ◌&&◌, ℕ, List, [], Option, Some, None, Result, Ok, Err, codes, length, nat_le, slice_index, unwrap_or, if◌then◌else◌}
+use Rattle.std.specs.Prelude.{◌≡◌, ◌∷◌, ◌++◌, ◌==◌, ◌&&◌, ℕ, Bool, false, List, [], Option, Some, None, Result, Ok, Err, codes, length, nat_le, slice_index, unwrap_or, if◌then◌else◌}
 use Rattle.std.specs.List.{slice_split}
+use Rattle.std.specs.Option.{option_map_or}
+use Rattle.std.specs.Str.{bytes_eq}
 use Rattle.clap.specs.Words.{Row, Text, all_of, first_of}
 use Rattle.gn_rules.specs.Limits.{most, most_workers}
 use Rattle.gn_text.specs.Addresses.{ip_of, ◌>>=◌}
@@ -11,6 +13,10 @@ use Rattle.gn_program.specs.Serving.{AskedServe}
 use Rattle.gn_program.specs.declared.request.Peer.{Peer}
 use Rattle.gn_program.specs.declared.unread.Unread.{Unread}
 use Rattle.gn_program.specs.declared.unread.Unread.TheVariants.{Mistake, NoMemory}
+
+-- whether a flag is set
+abbrev pub is_set : Text → List Row → Bool
+is_set flag rows = option_map_or (λ value. bytes_eq value (codes "true")) (first_of flag rows) false
 
 -- the number that a text says, where it is within these
 abbrev pub number_between : ℕ → ℕ → Text → Option ℕ
@@ -77,6 +83,9 @@ serving_of rows = do
   idle ← number_asked (codes "idle") 0 86400 rows
   life ← number_asked (codes "life") 0 most.life rows
   crowd ← number_asked (codes "crowd") 0 most.crowd rows
+  retry ← number_asked (codes "retry") 0 86400 rows
+  seconds ← number_asked (codes "for") 0 86400 rows
+  steps ← number_asked (codes "steps") 1 most.steps rows
   Some (record {
     port = port;
     accept = accept;
@@ -86,6 +95,12 @@ serving_of rows = do
     idle = idle;
     life = life;
     crowd = crowd;
+    retry = retry;
+    seconds = seconds;
+    steps = steps;
+    keeps = is_set (codes "keep-history") rows;
+    report = is_set (codes "report") rows;
+    progress = is_set (codes "progress") rows;
   })
 
 -- a value was read as the definition says; a mistake is where it says none, and memory may run out at any time. view is how the

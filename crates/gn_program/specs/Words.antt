@@ -1,12 +1,11 @@
 -- How the words of a command line are read: by the rules of the crate clap, for this command.
 use Rattle.std.specs.Prelude.{◌≡◌, ◌∷◌, ℕ, List, [], Bool, true, false, Option, Some, None, codes, is_some, option_map, replicate, if◌then◌else◌}
-use Rattle.std.specs.Option.{option_map_or}
 use Rattle.std.specs.Str.{bytes_eq}
-use Rattle.clap.specs.Words.{App, Row, Rule, Text, fault_of, first_of, new_app, new_rule, subcommand_of, with_rule, with_subcommand}
+use Rattle.clap.specs.Words.{App, Row, Rule, Text, fault_of, new_app, new_rule, subcommand_of, with_rule, with_subcommand}
 use Rattle.clap.specs.Kinds.{Kinds, or_else}
 use Rattle.clap.specs.declared.builder.action.ArgAction.TheVariants.{Append, Set, SetTrue}
 use Rattle.clap.specs.declared.error.kind.ErrorKind.TheVariants.{ValueValidation}
-use Rattle.gn_program.specs.Options.{peer_of, peers_in, serving_of, workers_of}
+use Rattle.gn_program.specs.Options.{is_set, peer_of, peers_in, serving_of, workers_of}
 use Rattle.gn_program.specs.declared.request.Request.{Request}
 use Rattle.gn_program.specs.declared.request.Request.TheVariants.{Replay, History, Audit, Explain, Show, Load, Watched, Serve}
 use Rattle.gn_show.specs.declared.form.Form.TheVariants.{Plain, Json}
@@ -62,10 +61,22 @@ calling_app =
     with_rule (with_rule (with_rule served_app (default_rule (codes "servent") usual_servent))
     (repeated_rule (codes "peer"))) (default_rule (codes "idle") (codes "0"))
 
--- the subcommand `serve`: it takes the numbers of the router's rules too
+-- the same with the numbers of the router's rules
+abbrev pub ruled_app : App
+ruled_app =
+    with_rule (with_rule calling_app (default_rule (codes "life") (codes "0"))) (default_rule (codes "crowd") (codes "0"))
+
+-- the same with the options for how long it calls, how long it goes on, and how many steps it makes
+abbrev pub limited_app : App
+limited_app =
+    with_rule (with_rule (with_rule ruled_app (default_rule (codes "retry") (codes "0")))
+    (default_rule (codes "for") (codes "0"))) (default_rule (codes "steps") (codes "1000000"))
+
+-- the subcommand `serve`: it takes these flags too
 abbrev pub serve_app : App
 serve_app =
-    with_rule (with_rule calling_app (default_rule (codes "life") (codes "0"))) (default_rule (codes "crowd") (codes "0"))
+    with_rule (with_rule (with_rule limited_app (flag_rule (codes "keep-history"))) (flag_rule (codes "report")))
+    (flag_rule (codes "progress"))
 
 -- the command `gn` before it has its subcommands: it has a version, and one of them has to be named; `help` is none
 abbrev pub bare_app : App
@@ -82,10 +93,6 @@ texts_app = with_subcommand (with_subcommand (with_subcommand bare_app replay_ap
 -- the command `gn`: it has these subcommands, of which none takes more than its flags and options
 abbrev pub gn_app : App
 gn_app = with_subcommand (with_subcommand texts_app load_app.top) serve_app.top
-
--- whether a flag is set
-abbrev pub is_set : Text → List Row → Bool
-is_set flag rows = option_map_or (λ value. bytes_eq value (codes "true")) (first_of flag rows) false
 
 -- what of a history is shown; nothing, where both flags are set
 abbrev pub view_by : Bool → Bool → Option View
@@ -175,6 +182,12 @@ pub record PlainWordsAreRead : Type 0 where
         idle = 0;
         life = 0;
         crowd = 0;
+        retry = 0;
+        seconds = 0;
+        steps = 1000000;
+        keeps = false;
+        report = false;
+        progress = false;
       }))
   pub no_port : (program : Text)
       → kinds_of (serve_words program (codes "0") (codes "1") (codes "1") []) ≡ ValueValidation ∷ []

@@ -33,6 +33,7 @@ use std::io;
 use std::net::{Net, TcpListener, TcpStream};
 use std::sync::Wait;
 use std::thread::Threads;
+use std::time::Clock;
 
 /// Done, or legal.
 const DONE: u8 = 0;
@@ -105,7 +106,7 @@ fn end_serve<F: Sink>(faults: &mut F, answer: Result<(), ServeFault>) -> u8
 /// Does what is asked for, and gives the status.
 fn obey<
     C: RouterCore<Global> + Drop,
-    R: Threads + Wait + Net<Listener = TcpListener, Stream = TcpStream> + Sync,
+    R: Threads + Wait + Net<Listener = TcpListener, Stream = TcpStream> + Clock + Sync,
     G: Watch + Sync,
     S: Source,
     W: Sink,
@@ -153,8 +154,12 @@ fn obey<
             );
             end_load(faults, answer)
         }
+        Request::Serve(serving) if serving.progress => {
+            let answer = serve(rt, alloc, &serving, watch, writer, faults);
+            end_serve(faults, answer)
+        }
         Request::Serve(serving) => {
-            let answer = serve(rt, alloc, &serving, writer, faults);
+            let answer = serve(rt, alloc, &serving, &NoGate, writer, faults);
             end_serve(faults, answer)
         }
     }
@@ -185,7 +190,7 @@ fn turn_away<W: Sink, F: Sink>(error: Error, writer: &mut W, faults: &mut F) -> 
 /// A load and a serve alone start threads and wait; a serve alone opens sockets, reads nothing, and says `listening PORT`
 /// on a line of `faults` once it can be called.
 pub fn command<
-    R: Threads + Wait + Net<Listener = TcpListener, Stream = TcpStream> + Sync,
+    R: Threads + Wait + Net<Listener = TcpListener, Stream = TcpStream> + Clock + Sync,
     T: AsStr,
     S: Source,
     W: Sink,
@@ -205,10 +210,10 @@ pub fn command<
 }
 
 /// Does the same, with a replay's and an audit's router of type C, which give back all memory that such a router gives back
-/// when it is dropped; and a load with `--progress` is watched by `watch`, where `command` says nothing.
+/// when it is dropped; and a load or a serve with `--progress` is watched by `watch`, where `command` says nothing.
 pub fn command_with<
     C: RouterCore<Global> + Drop,
-    R: Threads + Wait + Net<Listener = TcpListener, Stream = TcpStream> + Sync,
+    R: Threads + Wait + Net<Listener = TcpListener, Stream = TcpStream> + Clock + Sync,
     G: Watch + Sync,
     T: AsStr,
     S: Source,

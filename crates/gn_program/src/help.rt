@@ -120,8 +120,9 @@ Example:
 pub(crate) const SERVE: &str = "Routes for peers on this machine over TCP, and prints the history";
 
 pub(crate) const SERVE_USAGE: &str =
-    "gn serve --port P --accept A --workers V [--servent HEX32] [--peer IP:PORT].. [--idle SECONDS] \
-     [--life L] [--crowd Q]";
+    "gn serve --port P --accept A --workers V [--servent HEX32] [--peer IP:PORT].. [--idle SECONDS]
+                [--life L] [--crowd Q] [--retry SECONDS] [--for SECONDS] [--steps N] [--keep-history]
+                [--report] [--progress]";
 
 pub(crate) const PORT: &str = "The port of 127.0.0.1 that peers call, 1 to 65535";
 
@@ -139,11 +140,36 @@ pub(crate) const BAD_PEER: &str =
 pub(crate) const IDLE: &str =
     "Seconds after which a peer that is silent, or takes nothing, is given up, 0 to 86400; 0: never";
 
+pub(crate) const BAD_IDLE: &str = "--idle takes a number of seconds, 0 to 86400";
+
 pub(crate) const LIFE: &str =
     "What TTL and Hops of a descriptor that is passed on are together at most, 0 to 255; 0: no limit";
 
 pub(crate) const CROWD: &str =
     "How many descriptors of one peer may be in flight at once, 0 to 4096; 0: as many as of all";
+
+pub(crate) const RETRY: &str =
+    "Seconds for which a peer that doesn't listen yet is called again, 0 to 86400; 0: it is called once";
+
+pub(crate) const BAD_RETRY: &str = "--retry takes a number of seconds, 0 to 86400";
+
+pub(crate) const SECONDS: &str =
+    "Seconds after which the router stops: it reads no more and waits for no caller, but loses nothing \
+     that it admitted, 0 to 86400; 0: never";
+
+pub(crate) const BAD_SECONDS: &str = "--for takes a number of seconds, 0 to 86400";
+
+pub(crate) const STEPS: &str =
+    "The most steps of the history, 1 to 1000000; a run that needs more ends with `fault: history full`";
+
+pub(crate) const KEEP: &str =
+    "Prints what stands of the history also where the run stops at a fault, as where it has its most steps";
+
+pub(crate) const REPORT: &str =
+    "Writes on standard error what became of each link, and the counters, once the run has ended";
+
+pub(crate) const SERVE_PROGRESS: &str =
+    "Writes on standard error once a second, while it routes, how many descriptors are routed and admitted";
 
 pub(crate) const SERVE_TEXTS: &str = "\
 The peers are called first, in their order, and then A others may call. Each link is greeted and
@@ -154,13 +180,20 @@ standard output is the history of the router, which `gn audit` reads.
 A link ends as its peer closes it. Two routers that call each other and nobody else each wait for
 the other's end: `--idle 2` ends a link of which nothing was heard for 2 seconds. A router waits for
 its A callers without a limit. One whose run has failed, as by a full history, lets its peers go and
-calls nobody else, but the caller that it waits for by then has to come before it ends.
+calls nobody else, but the caller that it waits for by then has to come before it ends. With
+`--for` it ends after so many seconds in any case, with its whole history. A neighbour that has gone
+keeps its place until something is written to it, or `--idle` is over.
 
-Example: two routers of which the second calls the first. Both end after 2 seconds of silence.
+A run that would make more than its most steps prints no history, unless `--keep-history` is given.
+An audit reads at most 64 MiB, which are some 600,000 steps of small packets: `--steps 500000` keeps
+below it.
 
-  gn serve --port 6346 --accept 1 --workers 4 --idle 2 > first.history &
-  sleep 1
-  gn serve --port 6347 --accept 0 --workers 4 --idle 2 --peer 127.0.0.1:6346 > second.history
+Example: two routers of which the second calls the first, in whichever order they start. Both end
+after 5 seconds.
+
+  gn serve --port 6347 --accept 0 --workers 4 --for 5 --peer 127.0.0.1:6346 --retry 3 \
+    > second.history &
+  gn serve --port 6346 --accept 1 --workers 4 --for 5 > first.history
   wait
   gn audit < first.history
   gn audit < second.history";

@@ -5,6 +5,7 @@ mod commands;
 mod fault;
 mod help;
 mod options;
+mod reports;
 mod request;
 mod serves;
 mod shown;

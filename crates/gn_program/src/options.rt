@@ -23,6 +23,7 @@ ghost use Rattle.gn_program.specs.Options.{
 use crate::help;
 use crate::request::{Peer, Serving};
 use crate::unread::Unread;
+use crate::words::is_set;
 use clap::ArgMatches;
 use gn_rules::{MOST_WORKERS, Numbers};
 use gn_text::{guid, ip, number, number_u16};
@@ -88,13 +89,23 @@ fn accept_of(options: &ArgMatches<'_>) -> Result<u32, Unread>
     }
 }
 
-/// The seconds of `--idle`, where they are no more than a day.
-fn idle_of(options: &ArgMatches<'_>) -> Result<u32, Unread>
-    ensures { IsReadAs (λ n. n) (number_asked (codes "idle") 0 86400 (rows_of (found_of options.now))) result }
+/// The seconds that an option asks for, where they are no more than a day; or what is wrong with them.
+fn seconds_of(options: &ArgMatches<'_>, option: &str, mistake: &'static str) -> Result<u32, Unread>
+    ensures { IsReadAs (λ n. n) (number_asked option.now 0 86400 (rows_of (found_of options.now))) result }
 {
-    match number_asked(options, "idle", 0, 86_400) {
+    match number_asked(options, option, 0, 86_400) {
         Some(seconds) => Ok(seconds),
-        None => Err(Unread::Mistake("--idle takes a number of seconds, 0 to 86400")),
+        None => Err(Unread::Mistake(mistake)),
+    }
+}
+
+/// The steps that `--steps` asks for, where they are no more than a history may have.
+fn steps_of(options: &ArgMatches<'_>) -> Result<u32, Unread>
+    ensures { IsReadAs (λ n. n) (number_asked (codes "steps") 1 most.steps (rows_of (found_of options.now))) result }
+{
+    match number_asked(options, "steps", 1, 1_000_000) {
+        Some(steps) => Ok(steps),
+        None => Err(Unread::Mistake("--steps takes a number of 1 to 1000000")),
     }
 }
 
@@ -219,8 +230,14 @@ pub(crate) fn serving_of(alloc: Global, options: &ArgMatches<'_>) -> Result<Serv
         workers: workers_of(options)?,
         servent: servent_of(options)?,
         peers: peers_of(alloc, options)?,
-        idle: idle_of(options)?,
+        idle: seconds_of(options, "idle", help::BAD_IDLE)?,
         life: life_of(options)?,
         crowd: crowd_of(options)?,
+        retry: seconds_of(options, "retry", help::BAD_RETRY)?,
+        seconds: seconds_of(options, "for", help::BAD_SECONDS)?,
+        steps: steps_of(options)?,
+        keeps: is_set(options, "keep-history"),
+        report: is_set(options, "report"),
+        progress: is_set(options, "progress"),
     })
 }

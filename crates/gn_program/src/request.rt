@@ -49,11 +49,23 @@ pub struct Serving {
     pub(crate) life: u8,
     /// The threshold of a connection; 0: there is none but that of all.
     pub(crate) crowd: u32,
+    /// The seconds for which a peer that doesn't listen is called again; 0: it is called once.
+    pub(crate) retry: u32,
+    /// The seconds after which the run is stopped; 0: it never is.
+    pub(crate) seconds: u32,
+    /// The most steps that the history may have.
+    pub(crate) steps: u32,
+    /// Whether what stands of the history is written where the run stops at a fault.
+    pub(crate) keeps: bool,
+    /// Whether it is written what became of each link.
+    pub(crate) report: bool,
+    /// Whether how far the run is is said as it goes on.
+    pub(crate) progress: bool,
 }
 
 impl Model for Serving {
     ghost use Rattle.std.specs.Prelude.{◌+◌, ◌≤◌, length};
-    ghost use Rattle.gn_rules.specs.Limits.{IsCrew, most, most_links};
+    ghost use Rattle.gn_rules.specs.Limits.{IsCrew, IsWithin, most, most_links};
     ghost use Rattle.gn_program.specs.Serving.{AskedServe};
 
     ghost Value = { AskedServe };
@@ -67,8 +79,14 @@ impl Model for Serving {
       idle = s.idle;
       life = s.life;
       crowd = s.crowd;
+      retry = s.retry;
+      seconds = s.seconds;
+      steps = s.steps;
+      keeps = s.keeps;
+      report = s.report;
+      progress = s.progress;
     } };
 
     ghost invariant = { λ s. (IsCrew s.workers) × (s.accept + length s.peers.items ≤ most_links)
-        × (s.crowd ≤ most.crowd) };
+        × (s.crowd ≤ most.crowd) × (IsWithin s.steps most.steps) };
 }

@@ -5,9 +5,11 @@ ghost use Rattle.std.specs.Duration.{as_nanos};
 ghost use Rattle.gn_program.specs.Commands.{IsServeAnswer, IsServing};
 ghost use Rattle.gn_program.specs.Serving.{peer_at};
 
+use crate::reports::write_report;
 use crate::request::{Peer, Serving};
 use crate::text::write_text;
 use gn_io::Sink;
+use gn_load::Watch;
 use gn_router::TableRouter;
 use gn_rules::{Config, Numbers, Own};
 use gn_serve::{ServeFault, serve_history};
@@ -19,7 +21,7 @@ use std::fmt::{Display, Formatter, Write};
 use std::net::{Ipv4Addr, Net, SocketAddr, SocketAddrV4, TcpListener, TcpStream};
 use std::sync::Wait;
 use std::thread::Threads;
-use std::time::Duration;
+use std::time::{Clock, Duration};
 
 /// The line that says that the router listens on this port.
 #[derive(Clone, Copy, Debug)]
@@ -48,7 +50,7 @@ fn settings(serving: &Serving) -> Config
         servents: 1024,
         stage: 1024,
         out: 1024,
-        steps: 1_000_000,
+        steps: serving.steps,
         life: serving.life,
         crowd: serving.crowd,
     };
@@ -83,15 +85,30 @@ fn limit(seconds: u32) -> Option<Duration>
     }
 }
 
-/// Listens, says so with the faults, runs the router, and writes its history.
+/// How long the router goes on and waits for its peers, and whether its history is kept.
+fn limits(serving: &Serving) -> gn_serve::Serving
+    ensures { result.is_kept ≡ serving.now.keeps }
+{
+    gn_serve::Serving {
+        idle: limit(serving.idle),
+        retry: limit(serving.retry),
+        limit: limit(serving.seconds),
+        is_kept: serving.keeps,
+    }
+}
+
+/// Listens, says so with the faults, runs the router, writes its history, and then what became of its links with the faults,
+/// where that is asked for. It is watched as it runs.
 pub(crate) fn serve<
-    R: Threads + Wait + Net<Listener = TcpListener, Stream = TcpStream> + Sync,
+    R: Threads + Wait + Net<Listener = TcpListener, Stream = TcpStream> + Clock + Sync,
+    G: Watch + Sync,
     W: Sink,
     F: Sink,
 >(
     rt: &R,
     alloc: Global,
     serving: &Serving,
+    watch: &G,
     writer: &mut W,
     faults: &mut F,
 ) -> Result<(), ServeFault>
@@ -103,15 +120,21 @@ pub(crate) fn serve<
         return Err(ServeFault::Run(RunFault::Listen));
     };
     let _ = write_text(faults, Listening(serving.port));
-    serve_history::<TableRouter, _, _, _>(
+    let limits = limits(serving);
+    let report = serve_history::<TableRouter, _, _, _, _>(
         rt,
         alloc,
         &listener,
         &config,
         serving.accept,
         &peers,
-        limit(serving.idle),
+        &limits,
         serving.workers,
+        watch,
         writer,
-    )
+    )?;
+    if serving.report {
+        write_report(alloc, faults, &report);
+    }
+    Ok(())
 }

@@ -6,7 +6,7 @@ ghost use Rattle.std.specs.Str.{bytes_eq};
 ghost use Rattle.clap.specs.Words.{app_of, found_of, kind_of, new_app, rows_of, rule_of, HasKind};
 ghost use Rattle.clap.specs.declared.builder.command.Command.TheViews.{out-Command as fields_of};
 ghost use Rattle.clap.specs.declared.error.kind.ErrorKind.TheVariants.{ValueValidation};
-ghost use Rattle.gn_program.specs.Options.{IsReadAs};
+ghost use Rattle.gn_program.specs.Options.{IsReadAs, is_set};
 ghost use Rattle.gn_program.specs.Words.{
   PlainWordsAreRead,
   audit_app,
@@ -15,11 +15,12 @@ ghost use Rattle.gn_program.specs.Words.{
   default_rule,
   flag_rule,
   gn_app,
-  is_set,
   kinds_of,
+  limited_app,
   load_app,
   repeated_rule,
   replay_app,
+  ruled_app,
   request_named,
   request_of,
   serve_app,
@@ -187,13 +188,35 @@ fn calling_command<'a>(alloc: Global) -> Result<Command<'a>, AllocError>
         .arg(idle)
 }
 
-fn serve_command<'a>(alloc: Global) -> Result<Command<'a>, AllocError>
-    ensures shape { IfOk result (λ command. app_of command ≡ serve_app) }
+/// The same with the options for the numbers of the router's rules.
+fn ruled_command<'a>(alloc: Global) -> Result<Command<'a>, AllocError>
+    ensures shape { IfOk result (λ command. app_of command ≡ ruled_app) }
     ensures globals { IfOk result (λ command. (fields_of command).has_globals ≡ false) }
 {
     let life = value_or(alloc, "life", "L", "0", help::LIFE);
     let crowd = value_or(alloc, "crowd", "Q", "0", help::CROWD);
     calling_command(alloc)?.arg(life)?.arg(crowd)
+}
+
+/// The same with the options for how long it calls, how long it goes on, and how many steps it makes.
+fn limited_command<'a>(alloc: Global) -> Result<Command<'a>, AllocError>
+    ensures shape { IfOk result (λ command. app_of command ≡ limited_app) }
+    ensures globals { IfOk result (λ command. (fields_of command).has_globals ≡ false) }
+{
+    let retry = value_or(alloc, "retry", "SECONDS", "0", help::RETRY);
+    let seconds = value_or(alloc, "for", "SECONDS", "0", help::SECONDS);
+    let steps = value_or(alloc, "steps", "N", "1000000", help::STEPS);
+    ruled_command(alloc)?.arg(retry)?.arg(seconds)?.arg(steps)
+}
+
+fn serve_command<'a>(alloc: Global) -> Result<Command<'a>, AllocError>
+    ensures shape { IfOk result (λ command. app_of command ≡ serve_app) }
+    ensures globals { IfOk result (λ command. (fields_of command).has_globals ≡ false) }
+{
+    limited_command(alloc)?
+        .arg(flag(alloc, "keep-history", help::KEEP))?
+        .arg(flag(alloc, "report", help::REPORT))?
+        .arg(flag(alloc, "progress", help::SERVE_PROGRESS))
 }
 
 /// The command `gn` before it has its subcommands.

@@ -9,6 +9,7 @@ use std::net::{Net, TcpListener, TcpStream};
 use std::sync::Wait;
 use std::test::Fail;
 use std::thread::Threads;
+use std::time::Clock;
 
 /// Words, the status, and how the output and the written faults begin.
 const ANSWERS: [(&[&str], u8, &str, &str); 20] = [
@@ -76,6 +77,35 @@ const ANSWERS: [(&[&str], u8, &str, &str); 20] = [
     ),
 ];
 
+/// Numbers of a serve that are out of their limits, and how the written mistakes begin.
+const OUT_OF_LIMITS: [(&str, &str); 7] = [
+    (
+        "--idle=86401",
+        "error: --idle takes a number of seconds, 0 to 86400\n",
+    ),
+    (
+        "--retry=86401",
+        "error: --retry takes a number of seconds, 0 to 86400\n",
+    ),
+    (
+        "--for=86401",
+        "error: --for takes a number of seconds, 0 to 86400\n",
+    ),
+    (
+        "--steps=0",
+        "error: --steps takes a number of 1 to 1000000\n",
+    ),
+    (
+        "--steps=1000001",
+        "error: --steps takes a number of 1 to 1000000\n",
+    ),
+    ("--life=256", "error: --life takes a number of 0 to 255\n"),
+    (
+        "--crowd=4097",
+        "error: --crowd takes a number of 0 to 4096\n",
+    ),
+];
+
 /// A port that is taken while a serve asks for it.
 const TAKEN: u16 = 26_349;
 
@@ -118,6 +148,24 @@ const SERVES: [(&[&str], u8, &str, &str); 3] = [
     ),
 ];
 
+/// A serve that calls itself, and is stopped after a second.
+const CALLS_ITSELF: &[&str] = &[
+    "gn",
+    "serve",
+    "--port=26350",
+    "--accept=1",
+    "--workers=1",
+    "--peer=127.0.0.1:26350",
+    "--for=1",
+    "--report",
+];
+
+/// How its faults begin: the link that it accepted connected first, once it had heard the request.
+const REPORTED: &str = "\
+listening 26350
+link 0 127.0.0.1:26350 connection 2 reader bytes writer drained offered 0 busy 0 taken 0
+link 1 127.0.0.1:";
+
 /// The history of a router that nobody called.
 const SERVED: &str = "\
 gnutella-history 1
@@ -141,7 +189,12 @@ fn begins(text: &[u8], wanted: &str) -> bool {
 
 /// What a command answers that reads from here and writes there: its status, where it wrote, and the faults that it wrote.
 fn answer<
-    R: Threads + Wait + Net<Listener = TcpListener, Stream = TcpStream> + Sync + AllocGlobal,
+    R: Threads
+        + Wait
+        + Net<Listener = TcpListener, Stream = TcpStream>
+        + Clock
+        + Sync
+        + AllocGlobal,
     I: Read + Drop,
     O: Write + Drop,
 >(rt: &R, words: &[&str], input: I, output: O) -> (u8, O, Vec<u8>) {
@@ -160,6 +213,20 @@ fn words(rt: HostRuntime) {
         assert!(rt; begins(&text, printed), "{words:?}");
         assert!(rt; begins(&faults, faulted), "{words:?}");
     }
+    for (option, faulted) in OUT_OF_LIMITS {
+        let words = [
+            "gn",
+            "serve",
+            "--port=46346",
+            "--accept=0",
+            "--workers=1",
+            option,
+        ];
+        let (ended, text, faults) = answer(&rt, &words, b"".as_slice(), Vec::new(rt.alloc()));
+        assert_eq!(rt; ended, 2, "{option}");
+        assert!(rt; text.is_empty(), "{option}");
+        assert!(rt; begins(&faults, faulted), "{option}");
+    }
 }
 
 #[test]
@@ -171,6 +238,11 @@ fn nobody_calls(rt: HostRuntime) -> Result<(), Fail> {
         assert_eq!(rt; text.as_slice(), printed.as_bytes());
         assert_eq!(rt; faults.as_slice(), faulted.as_bytes());
     }
+    let (ended, text, faults) = answer(&rt, CALLS_ITSELF, b"".as_slice(), Vec::new(rt.alloc()));
+    assert_eq!(rt; ended, 0);
+    assert!(rt; begins(&faults, REPORTED));
+    let (_, verdict, _) = answer(&rt, &["gn", "audit"], text.as_slice(), Vec::new(rt.alloc()));
+    assert_eq!(rt; verdict.as_slice(), b"legal 4\n".as_slice());
     Ok(())
 }
 

@@ -1,4 +1,5 @@
-//! The worked runs: captures, what they print, and what is stated of their histories. Tests alone.
+//! The worked runs: captures, what they print, and what is stated of their histories; the command line; and a whole program
+//! over the one library. Tests alone.
 #![tactic(auto)]
 
 #[cfg(test)]
@@ -23,6 +24,8 @@ mod fault_lines;
 mod link_runs;
 #[cfg(test)]
 mod load_runs;
+#[cfg(test)]
+mod one_library;
 #[cfg(test)]
 mod played;
 #[cfg(test)]

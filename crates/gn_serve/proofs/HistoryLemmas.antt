@@ -1,14 +1,23 @@
 -- The history of a run over TCP.
-use Rattle.std.proofs.Common.{◌≡◌, ◌+◌, ◌-◌, ◌++◌, ℕ, List, [], length, replicate, ap, sym, ◌∙◌, arith}
+use Rattle.std.proofs.Common.{◌≡◌, ◌<◌, ◌+◌, ◌-◌, ◌++◌, ℕ, Bool, true, List, [], length, reverse, replicate, ap, sym, refl, subst, inl, inr, Option, Some, None, OnOk, OnErr, IfErr, Result, Ok, Err, ◌∙◌, arith, append-nil}
 use Rattle.std.proofs.lemmas.List.{length-append, length-replicate}
 use Rattle.gn_shake.specs.declared.role.Role.TheVariants.{Accepting, Calling}
+use Rattle.gn_io.specs.Parts.{AppendsPart}
+use Rattle.gn_load.specs.declared.printed.PrintFault.{PrintFault}
+use Rattle.gn_rules.specs.Legal.{IsLegal}
 use Rattle.gn_rules.specs.declared.config.Config.{Config}
 use Rattle.gn_rules.specs.declared.receipt.Step.{Step}
 use Rattle.gn_tcp.specs.Tcp.{TcpReading, TcpWriting}
 use Rattle.gn_run.specs.declared.report.Report.{Report}
 use Rattle.gn_capture.specs.Histories.{history_text}
 use Rattle.gn_threads.specs.Headline.{HasCountedSteps, HasLegalHistory, HasOwnStats, HasOwnSteps, Holds, LinksHold, OthersRoute, RoutesEachOnce}
-use Rattle.gn_serve.specs.Histories.{IsServedText}
+use Rattle.gn_threads.specs.Faults.{IsArrivingFault}
+use Rattle.gn_threads.specs.declared.fault.RunFault.{RunFault}
+use Rattle.std.specs.Result.{IsErrAnd}
+use Rattle.gn_threads.specs.declared.fault.RunFault.TheVariants.{Audit, BadWorkers, Call, HistoryFull, Link, Listen, NoMemory, Stage}
+use Rattle.std.specs.Io.KnownBytes.{Appends, Keeps}
+use Rattle.gn_serve.specs.Histories.{AppendsServed, AppendsServedPart, HasKept, HasServeStopped, IsServedText}
+use Rattle.gn_serve.specs.declared.fault.ServeFault.TheVariants.{Run}
 use Rattle.gn_serve.specs.Links.{roles_of, tcp_reads, tcp_writes}
 
 -- there is a role of each link
@@ -18,6 +27,11 @@ many_roles calls accept =
     length-append (replicate calls Calling) (replicate ((calls + accept) - calls) Accepting)
     ∙ ap (λ n. n + length (replicate ((calls + accept) - calls) Accepting)) (length-replicate calls Calling)
     ∙ ap (λ n. calls + n) (length-replicate ((calls + accept) - calls) Accepting ∙ rest)
+
+-- bytes that stay are kept
+pub kept : (old : Option (List ℕ)) → Keeps old old
+kept None = _
+kept (Some xs) = refl
 
 module _ {A : Type 0} (s : Config) (calls accept : ℕ) (report : Report TcpReading TcpWriting A) where
   -- all of the headline
@@ -37,13 +51,53 @@ module _ {A : Type 0} (s : Config) (calls accept : ℕ) (report : Report TcpRead
       }
 
   -- the text of its history
-  pub history_printed : (workers : ℕ) (before printed : List ℕ) (steps : List (Step A)) → Holds tcp_reads tcp_writes s (roles_of calls (calls + accept)) report
-      → length report.workers.items ≡ workers → before ≡ [] → steps ≡ report.history.items → printed ≡ before ++ history_text s steps
-      → IsServedText A s calls accept workers printed
-  history_printed workers before printed steps holds many empty lent wrote =
-      record {
-        report = report;
-        holds = holds;
-        many = many;
-        printed = wrote ∙ ap (λ (xs : List ℕ). xs ++ history_text s steps) empty ∙ ap (history_text s) lent;
-      }
+  pub served : (workers : ℕ) → Holds tcp_reads tcp_writes s (roles_of calls (calls + accept)) report
+      → length report.workers.items ≡ workers → IsServedText A s calls accept workers (history_text s report.history.items)
+  served workers holds many = record { report = report; holds = holds; many = many; printed = refl }
+
+  -- it was written
+  pub written : (workers : ℕ) → Holds tcp_reads tcp_writes s (roles_of calls (calls + accept)) report → length report.workers.items ≡ workers
+      → (steps : List (Step A)) (old new : Option (List ℕ)) → steps ≡ report.history.items → Appends old new (history_text s steps)
+      → AppendsServed A s calls accept workers old new
+  written workers holds many steps old new same whole =
+      (history_text s report.history.items, served workers holds many, subst (λ (xs : List (Step A)). Appends old new (history_text s xs)) same whole)
+
+  -- a prefix of it was
+  pub written_part : (workers : ℕ) → Holds tcp_reads tcp_writes s (roles_of calls (calls + accept)) report → length report.workers.items ≡ workers
+      → (steps : List (Step A)) (old new : Option (List ℕ)) → steps ≡ report.history.items → AppendsPart old new (history_text s steps)
+      → AppendsServedPart A s calls accept workers old new
+  written_part workers holds many steps old new same part =
+      (history_text s report.history.items, served workers holds many, subst (λ (xs : List (Step A)). AppendsPart old new (history_text s xs)) same part)
+
+-- a history that is kept was written, whole or up to where that failed
+pub kept_part : {A : Type 0} (s : Config) (is_kept : Bool) (steps : List (Step A)) (old new : Option (List ℕ)) (r : Result (Unit {0}) PrintFault)
+    → is_kept ≡ true → IsLegal s (reverse steps) → OnOk r (Appends old new (history_text s steps)) → OnErr r (AppendsPart old new (history_text s steps))
+    → HasKept A is_kept s old new
+kept_part s is_kept steps old new (Ok done) set legal whole part =
+    inr (set, history_text s steps, record { steps = steps; legal = legal; printed = refl }, ([], (history_text s steps, whole, append-nil (history_text s steps))))
+kept_part s is_kept steps old new (Err fault) set legal whole part =
+    inr (set, history_text s steps, record { steps = steps; legal = legal; printed = refl }, part)
+
+-- a fault that may come of any run may come of one with this link
+pub handed_on : {T : Type 0} (link : ℕ) (r : Result T RunFault) (fault : RunFault) → IsErrAnd r (λ e. e ≡ fault)
+    → ((links workers : ℕ) → IsArrivingFault true links workers fault)
+    → IfErr r (λ fault. (links workers : ℕ) → link < links → IsArrivingFault true links workers fault)
+handed_on link (Ok x) fault is holds = tt
+handed_on link (Err e) fault is holds = λ links workers below. subst (λ (f : RunFault). IsArrivingFault true links workers f) (sym is) (holds links workers)
+
+-- where a run has no report, what is kept of its history was written
+pub kept_written : (A : Type 0) (is_kept : Bool) (s : Config) (calls accept workers : ℕ) (fault : RunFault) (old new : Option (List ℕ))
+    → HasKept A is_kept s old new → HasServeStopped A is_kept s calls accept workers (Run fault) old new
+kept_written A is_kept s calls accept workers BadWorkers old new has = has
+kept_written A is_kept s calls accept workers Listen old new has = has
+kept_written A is_kept s calls accept workers (Call peer) old new has = has
+kept_written A is_kept s calls accept workers (Link link) old new has = has
+kept_written A is_kept s calls accept workers HistoryFull old new has = has
+kept_written A is_kept s calls accept workers NoMemory old new has = inl has
+kept_written A is_kept s calls accept workers (Stage fault) old new has = has
+kept_written A is_kept s calls accept workers (Audit actor) old new has = has
+
+-- or nothing
+pub none_written : (A : Type 0) (is_kept : Bool) (s : Config) (calls accept workers : ℕ) (fault : RunFault) (old : Option (List ℕ))
+    → HasServeStopped A is_kept s calls accept workers (Run fault) old old
+none_written A is_kept s calls accept workers fault old = kept_written A is_kept s calls accept workers fault old old (inl (kept old))

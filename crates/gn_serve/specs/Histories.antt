@@ -1,10 +1,13 @@
 -- The history of a run over TCP, as it is written.
-use Rattle.std.specs.Prelude.{◌≡◌, ◌+◌, ℕ, true, List, length, Option}
+use Rattle.std.specs.Prelude.{◌≡◌, ◌⊎◌, ◌+◌, ℕ, Bool, true, List, length, reverse, Option}
 use Rattle.std.specs.Io.KnownBytes.{Appends, Keeps}
 use Rattle.gn_rules.specs.declared.config.Config.{Config}
+use Rattle.gn_rules.specs.declared.receipt.Step.{Step}
+use Rattle.gn_rules.specs.Legal.{IsLegal}
 use Rattle.gn_run.specs.declared.report.Report.{Report}
 use Rattle.gn_tcp.specs.Tcp.{TcpReading, TcpWriting}
 use Rattle.gn_threads.specs.Faults.{IsArrivingFault}
+use Rattle.gn_threads.specs.declared.fault.RunFault.TheVariants.{NoMemory}
 use Rattle.gn_threads.specs.Headline.{Holds}
 use Rattle.gn_capture.specs.Histories.{history_text}
 use Rattle.gn_io.specs.Parts.{AppendsPart}
@@ -32,19 +35,28 @@ abbrev pub AppendsServedPart : (A : Type 0) → Config → ℕ → ℕ → ℕ �
 AppendsServedPart A s calls accept workers old new =
     (text : List ℕ) × IsServedText A s calls accept workers text × AppendsPart old new text
 
--- what was written at a fault: a prefix of such a text at Write; where the run has no report, nothing
+-- a text is the history of a run of this configuration that stopped: each of its answers is the one that the rules give
+pub record IsKeptText (A : Type 0) (s : Config) (text : List ℕ) : Type 0 where
+  pub steps : List (Step A)
+  pub legal : IsLegal s (reverse steps)
+  pub printed : text ≡ history_text s steps
+
+-- nothing was written; or, where such a history is kept, a prefix of the text of one
+abbrev pub HasKept : (A : Type 0) → Bool → Config → Option (List ℕ) → Option (List ℕ) → Type 0
+HasKept A is_kept s old new =
+    Keeps old new ⊎ ((is_kept ≡ true) × (text : List ℕ) × IsKeptText A s text × AppendsPart old new text)
+
+-- what was written at a fault: a prefix of the text of a history with a report at Write, and maybe where memory ran out; where
+-- the run has no report, nothing, or what is kept of its history
 abbrev pub HasServeStopped :
-    (A : Type 0) → Config → ℕ → ℕ → ℕ → ServeFault → Option (List ℕ) → Option (List ℕ) → Type 0
-HasServeStopped A s calls accept workers Write old new = AppendsServedPart A s calls accept workers old new
-HasServeStopped A s calls accept workers (Run fault) old new = Keeps old new
+    (A : Type 0) → Bool → Config → ℕ → ℕ → ℕ → ServeFault → Option (List ℕ) → Option (List ℕ) → Type 0
+HasServeStopped A is_kept s calls accept workers Write old new = AppendsServedPart A s calls accept workers old new
+HasServeStopped A is_kept s calls accept workers (Run NoMemory) old new =
+    HasKept A is_kept s old new ⊎ AppendsServedPart A s calls accept workers old new
+HasServeStopped A is_kept s calls accept workers (Run fault) old new = HasKept A is_kept s old new
 
 -- what a fault may be where so many links and workers were asked for, 1 to 64 workers: one of such a run; or Write, where
 -- a write failed or took nothing
 abbrev pub IsServeFault : ℕ → ℕ → ServeFault → SinkState → SinkState → Type 0
 IsServeFault links workers (Run fault) old new = IsArrivingFault true links workers fault
 IsServeFault links workers Write old new = HasWriteFailed old new
-
--- what it may be where nothing is written yet
-abbrev pub IsRunFault : ℕ → ℕ → ServeFault → Type 0
-IsRunFault links workers (Run fault) = IsArrivingFault true links workers fault
-IsRunFault links workers Write = ⊥

@@ -1,67 +1,58 @@
 //! A run over TCP, and the history of it, written.
 
-ghost use Rattle.std.specs.Prelude.{◌≡◌, ◌+◌, ◌≤◌, ◌↔◌, length, IfErr, IfOk, OnOk};
+ghost use Rattle.std.specs.Prelude.{◌≡◌, ◌+◌, ◌≤◌, ◌↔◌, length, reverse, IfErr, IfOk, IfSome, OnOk};
+ghost use Rattle.gn_rules.specs.Legal.{IsLegal};
+ghost use Rattle.std.specs.Io.KnownBytes.{Appends};
+ghost use Rattle.gn_capture.specs.Histories.{history_text};
 ghost use Rattle.gn_io.specs.Streams.{NoWriteFailed};
 ghost use Rattle.gn_rules.specs.Limits.{IsCrew, most_links};
 ghost use Rattle.gn_threads.specs.declared.fault.RunFault.TheVariants.{BadWorkers};
 ghost use Rattle.gn_serve.specs.declared.fault.ServeFault.TheVariants.{Run};
-ghost use Rattle.gn_serve.specs.Histories.{
-  AppendsServed,
-  HasServeStopped,
-  IsRunFault,
-  IsServeFault,
-  IsServedText,
-};
+ghost use Rattle.gn_serve.specs.Histories.{AppendsServed, HasKept, HasServeStopped, IsServeFault};
 
 use crate::fault::ServeFault;
-use crate::serve::serve_on;
-use gn_capture::write_history;
-use gn_io::{Sink, write_all};
-use gn_links::NoGate;
-use gn_rules::{Config, RouterCore};
+use crate::serve::serve_kept;
+use crate::serving::Serving;
+use gn_io::Sink;
+use gn_load::{PrintFault, Watch, print_history};
+use gn_rules::{Config, RouterCore, Step};
+use gn_run::Report;
+use gn_tcp::{TcpReader, TcpWriter};
+use gn_threads::{RunFault, Stopped};
 use std::alloc::Allocator;
 use std::net::{Net, SocketAddr, TcpListener, TcpStream};
 use std::sync::Wait;
 use std::thread::Threads;
-use std::time::Duration;
+use std::time::Clock;
 
-/// The history text of a router that so many workers run over links to these peers, and to so many others.
-fn history_of<
-    C: RouterCore<A> + Drop + Send,
-    A: Allocator + Copy + Send + Sync,
-    R: Threads + Wait + Net<Listener = TcpListener, Stream = TcpStream> + Sync,
->(
-    rt: &R,
+/// Writes what stands of the history of a run that stopped after its first step, where it is to be kept. That it can't be
+/// written changes no fault.
+fn keep<A: Allocator + Copy, W: Sink>(
     alloc: A,
-    listener: &TcpListener,
     config: &Config,
-    accept: u32,
-    peers: &[SocketAddr],
-    idle: Option<Duration>,
-    workers: u32,
-) -> Result<Vec<u8, A>, ServeFault>
-    requires few { accept + length peers.now ≤ most_links }
-    ensures workers { IfOk result (λ _. IsCrew workers) }
-    ensures bad_workers { IfErr result (λ fault. (fault ≡ Run BadWorkers) ↔ (¬ IsCrew workers)) }
-    ensures fault { IfErr result (λ fault. IsCrew workers
-        → IsRunFault (length peers.now + accept) workers fault) }
-    ensures history { IfOk result (λ history.
-        IsServedText A config.now (length peers.now) accept workers history.items) }
+    is_kept: bool,
+    history: Option<Vec<Step<A>, A>>,
+    sink: &mut W,
+)
+    requires { IfSome history (λ steps. IsLegal config.now (reverse steps.items)) }
+    ensures { HasKept A is_kept config.now (W.state sink.old).written (W.state sink.new).written }
 {
-    let report = serve_on::<C, _, A, R>(
-        rt, alloc, listener, config, accept, peers, idle, workers, &NoGate,
-    )?;
-    let mut history = Vec::new(alloc);
-    write_history(config, &report.history, &mut history)?;
-    Ok(history)
+    let Some(steps) = history else {
+        return;
+    };
+    if is_kept && !steps.is_empty() {
+        let _ = print_history(alloc, config, &steps, sink);
+    }
 }
 
-/// Runs a router as `serve_on` does, and writes its history, which `audit` reads, once the run has ended. `Write` leaves a
-/// prefix of the history, any other `Err` nothing.
+/// Runs a router as `serve_on` does, and writes its history, which `audit` reads, in blocks once the run has ended. The report
+/// comes back. Out of memory and `Write` may leave a prefix of the history. Where the run stopped at a fault and its history is to be
+/// kept, what stands of it is written all the same, up to where memory or a write fails; else any other `Err` leaves nothing.
 pub fn serve_history<
     C: RouterCore<A> + Drop + Send,
     A: Allocator + Copy + Send + Sync,
-    R: Threads + Wait + Net<Listener = TcpListener, Stream = TcpStream> + Sync,
+    R: Threads + Wait + Net<Listener = TcpListener, Stream = TcpStream> + Clock + Sync,
+    G: Watch + Sync,
     W: Sink,
 >(
     rt: &R,
@@ -70,10 +61,11 @@ pub fn serve_history<
     config: &Config,
     accept: u32,
     peers: &[SocketAddr],
-    idle: Option<Duration>,
+    serving: &Serving,
     workers: u32,
+    watch: &G,
     sink: &mut W,
-) -> Result<(), ServeFault>
+) -> Result<Report<TcpReader, TcpWriter, A>, ServeFault>
     requires few { accept + length peers.now ≤ most_links }
     ensures workers { OnOk result (IsCrew workers) }
     ensures bad_workers { IfErr result (λ fault. (fault ≡ Run BadWorkers) ↔ (¬ IsCrew workers)) }
@@ -81,11 +73,26 @@ pub fn serve_history<
         (W.state sink.old) (W.state sink.new)) }
     ensures written { OnOk result (AppendsServed A config.now (length peers.now) accept workers
         (W.state sink.old).written (W.state sink.new).written) }
+    ensures report { IfOk result (λ report. Appends (W.state sink.old).written (W.state sink.new).written
+        (history_text config.now report.history.items)) }
     ensures unfailed { OnOk result (NoWriteFailed (W.state sink.old) (W.state sink.new)) }
-    ensures stopped { IfErr result (λ fault. HasServeStopped A config.now (length peers.now) accept workers fault
+    ensures stopped { IfErr result (λ fault. HasServeStopped A serving.now.is_kept config.now (length peers.now) accept workers fault
         (W.state sink.old).written (W.state sink.new).written) }
 {
-    let history = history_of::<C, A, R>(rt, alloc, listener, config, accept, peers, idle, workers)?;
-    write_all(sink, &history)?;
-    Ok(())
+    let answer = serve_kept::<C, G, A, R>(
+        rt, alloc, listener, config, accept, peers, serving, workers, watch,
+    );
+    watch.end();
+    let report = match answer {
+        Ok(report) => report,
+        Err(Stopped { fault, history }) => {
+            keep(alloc, config, serving.is_kept, history, sink);
+            return Err(ServeFault::Run(fault));
+        }
+    };
+    match print_history(alloc, config, &report.history, sink) {
+        Ok(()) => Ok(report),
+        Err(PrintFault::Write) => Err(ServeFault::Write),
+        Err(PrintFault::NoMemory) => Err(ServeFault::Run(RunFault::NoMemory)),
+    }
 }

@@ -5,7 +5,10 @@ mod fault;
 mod histories;
 mod peers;
 mod serve;
+mod serving;
+mod stops;
 
 pub use fault::ServeFault;
 pub use histories::serve_history;
-pub use serve::serve_on;
+pub use serve::{serve_kept, serve_on};
+pub use serving::Serving;

@@ -1,23 +1,34 @@
 //! Where the links of a run over TCP come from.
 
 ghost use Rattle.gn_rules.specs.Limits.{most_links};
-ghost use Rattle.std.specs.Prelude.{◌≡◌, ◌<◌, ◌≤◌, ℕ, length, take, true, IfErr, IfOk};
+ghost use Rattle.std.specs.Prelude.{◌≡◌, ◌<◌, ◌≤◌, ℕ, length, take, true, IfErr, IfOk, None, Some};
 ghost use Rattle.std.specs.List.{slice_get};
 ghost use Rattle.gn_shake.specs.declared.role.Role.TheVariants.{Accepting, Calling};
 ghost use Rattle.gn_threads.specs.Faults.{IsArrivingFault};
 ghost use Rattle.gn_serve.specs.Links.{roles_of};
 
-use gn_links::Link;
+use crate::serving::Serving;
+use crate::stops::{Stops, call_own};
+use gn_links::{Link, LinkFault};
+use gn_load::Watch;
 use gn_rules::MOST_LINKS;
 use gn_shake::Role;
 use gn_tcp::{TcpLink, TcpOrigin, TcpReader, TcpWriter};
 use gn_threads::{Arrivals, RunFault};
+use std::alloc::{Allocator, Global};
 use std::net::{Net, SocketAddr, TcpListener, TcpStream};
-use std::time::Duration;
+use std::sync::Wait;
+use std::thread;
+use std::time::{Clock, Duration, Instant};
+
+/// Seconds for which a call that may be made again waits for its answer.
+const CALL: u64 = 1;
+
+/// Milliseconds that are waited before a peer is called again.
+const PAUSE: u64 = 50;
 
 /// The peers that are called, in order, and where the others call.
-#[derive(Drop)]
-pub(crate) struct Peers<'a, N> {
+pub(crate) struct Peers<'a, N, G, A: Allocator = Global> {
     pub net: &'a N,
     pub listener: &'a TcpListener,
     pub called: &'a [SocketAddr],
@@ -25,7 +36,26 @@ pub(crate) struct Peers<'a, N> {
     pub next: u32,
     /// How many links are still to come.
     pub left: u32,
-    pub idle: Option<Duration>,
+    pub serving: Serving,
+    pub stops: &'a Stops<A>,
+    pub watch: &'a G,
+}
+
+impl<'a, N, G, A: Allocator> Drop for Peers<'a, N, G, A> {
+    /// A run lets them go once it is over.
+    fn drop(self) {
+        let Peers {
+            net: _,
+            listener: _,
+            called: _,
+            next: _,
+            left: _,
+            serving: _,
+            stops,
+            watch: _,
+        } = self;
+        stops.end();
+    }
 }
 
 /// The roles of the links of a run that calls so many peers: the called ones come first.
@@ -42,7 +72,62 @@ pub(crate) fn roles_of(calls: usize, links: usize) -> [Role; MOST_LINKS]
     roles
 }
 
-impl<'a, N: Net<Listener = TcpListener, Stream = TcpStream>> Peers<'a, N> {
+impl<
+    'a,
+    N: Wait + Net<Listener = TcpListener, Stream = TcpStream> + Clock,
+    G: Watch,
+    A: Allocator,
+> Peers<'a, N, G, A> {
+    /// Calls a peer, again until it listens, the time for that is over or the run is stopped.
+    fn call(&self, peer: SocketAddr) -> Result<TcpLink, LinkFault>
+        ensures { IfOk result (λ found. found ≡
+            record { role = Calling; origin = record { link = 0; called = Some peer } }) }
+    {
+        let (Some(limit), Ok(begun)) = (self.serving.retry, Instant::now(self.net)) else {
+            return TcpLink::call(self.net, peer);
+        };
+        for _ in 0..u64::MAX {
+            if let Ok(found) = TcpLink::call_within(self.net, peer, Duration::from_secs(CALL)) {
+                return Ok(found);
+            }
+            match begun.elapsed(self.net) {
+                Ok(since) if since < limit && !self.stops.is_stopped() => thread::sleep(
+                    self.net,
+                    Duration::from_millis(PAUSE),
+                ),
+                _ => break,
+            }
+        }
+        Err(LinkFault)
+    }
+
+    /// Waits for a caller. Where the run is stopped that is nobody but itself, or one that called before.
+    fn accept(&self) -> Result<TcpLink, LinkFault>
+        ensures { IfOk result (λ found. found ≡
+            record { role = Accepting; origin = record { link = 0; called = None } }) }
+    {
+        if self.stops.is_stopped() {
+            call_own(self.net, self.listener);
+        }
+        TcpLink::accept(self.listener)
+    }
+
+    /// Has the link stopped with the run, where the run may be.
+    fn register(&self, found: &TcpLink) -> Result<(), RunFault>
+        ensures { IfErr result (λ fault. (links workers : ℕ) → IsArrivingFault true links workers fault) }
+    {
+        if self.serving.limit.is_none() {
+            return Ok(());
+        }
+        let Ok(stopper) = found.stopper() else {
+            return Err(RunFault::NoMemory);
+        };
+        match self.stops.add(self.net, stopper) {
+            Ok(()) => Ok(()),
+            Err(_) => Err(RunFault::NoMemory),
+        }
+    }
+
     /// Calls the peer of this link, or waits for one that calls.
     fn meet(&self, link: u32, role: Role) -> Result<TcpLink, RunFault>
         ensures found { IfOk result (λ found. found ≡
@@ -51,11 +136,11 @@ impl<'a, N: Net<Listener = TcpListener, Stream = TcpStream>> Peers<'a, N> {
             → IsArrivingFault true links workers fault) }
     {
         match (role, self.called.get(link as usize)) {
-            (Role::Calling, Some(peer)) => match TcpLink::call(self.net, *peer) {
+            (Role::Calling, Some(peer)) => match self.call(*peer) {
                 Ok(found) => Ok(found),
                 Err(_) => Err(RunFault::Call(link)),
             },
-            (Role::Accepting, None) => match TcpLink::accept(self.listener) {
+            (Role::Accepting, None) => match self.accept() {
                 Ok(found) => Ok(found),
                 Err(_) => Err(RunFault::Listen),
             },
@@ -64,7 +149,12 @@ impl<'a, N: Net<Listener = TcpListener, Stream = TcpStream>> Peers<'a, N> {
     }
 }
 
-impl<'a, N: Net<Listener = TcpListener, Stream = TcpStream>> Arrivals for Peers<'a, N> {
+impl<
+    'a,
+    N: Wait + Net<Listener = TcpListener, Stream = TcpStream> + Clock,
+    G: Watch,
+    A: Allocator,
+> Arrivals for Peers<'a, N, G, A> {
     ghost use Rattle.gn_serve.specs.Links.{origins_from};
     ghost use Rattle.std.specs.Prelude.{true};
 
@@ -85,12 +175,17 @@ impl<'a, N: Net<Listener = TcpListener, Stream = TcpStream>> Arrivals for Peers<
         if link != self.next {
             return Err(RunFault::Link(link));
         }
-        let found = self.meet(link, role)?.numbered(link).with_idle(self.idle);
+        let found = self
+            .meet(link, role)?
+            .numbered(link)
+            .with_idle(self.serving.idle);
+        self.register(&found)?;
         let Ok(halves) = found.split() else {
             return Err(RunFault::Link(link));
         };
         self.next = next;
         self.left = left;
+        self.watch.begin(next as usize);
         Ok(halves)
     }
 }

@@ -1,6 +1,7 @@
 //! A run over TCP.
 
-ghost use Rattle.std.specs.Prelude.{◌≡◌, ◌+◌, ◌≤◌, ◌↔◌, length, true, IfErr, IfOk};
+ghost use Rattle.std.specs.Prelude.{◌≡◌, ◌+◌, ◌≤◌, ◌↔◌, length, reverse, true, IfErr, IfOk, IfSome};
+ghost use Rattle.gn_rules.specs.Legal.{IsLegal};
 ghost use Rattle.gn_rules.specs.Limits.{IsCrew, most_links};
 ghost use Rattle.gn_threads.specs.declared.fault.RunFault.TheVariants.{BadWorkers};
 ghost use Rattle.gn_threads.specs.Faults.{IsArrivingFault};
@@ -15,30 +16,35 @@ ghost use Rattle.gn_threads.specs.Headline.{
   RoutesEachOnce,
 };
 ghost use Rattle.gn_serve.specs.Links.{origins_of, roles_of, tcp_reads, tcp_writes};
+ghost use Rattle.gn_serve.specs.Serves.{IsServed};
 
 use crate::peers::{Peers, roles_of};
-use gn_links::Gate;
+use crate::serving::Serving;
+use crate::stops::Stops;
+use gn_load::Watch;
 use gn_rules::{Config, RouterCore};
 use gn_run::Report;
 use gn_tcp::{TcpReader, TcpWriter};
-use gn_threads::{RunFault, run_arriving};
+use gn_threads::{RunFault, Stopped, run_arriving_kept};
 use std::alloc::Allocator;
 use std::net::{Net, SocketAddr, TcpListener, TcpStream};
 use std::sync::Wait;
+use std::thread;
 use std::thread::Threads;
-use std::time::Duration;
+use std::time::Clock;
 
 /// Runs a router over links to these peers, which it calls in order, and after them to so many others that call the
-/// listener. The bodies of each link start as soon as it has come; it waits for a caller without a time limit. A read or a
-/// write that waits longer than `idle` fails. At most 256 links.
+/// listener. The bodies of each link start as soon as it has come; it waits for a caller without a time limit, for peers and
+/// what they send and take as `serving` says. Each worker passes `watch` before it routes, and each link is counted there as it
+/// comes. At most 256 links.
 ///
 /// Of several faults it answers the one that `run` of gn_threads does. Where a call, an accept or a split fails, the bodies that
 /// have started are ended and joined first, and their peers are let go.
 pub fn serve_on<
     C: RouterCore<A> + Drop + Send,
-    G: Gate + Sync,
+    G: Watch + Sync,
     A: Allocator + Copy + Send + Sync,
-    R: Threads + Wait + Net<Listener = TcpListener, Stream = TcpStream> + Sync,
+    R: Threads + Wait + Net<Listener = TcpListener, Stream = TcpStream> + Clock + Sync,
 >(
     rt: &R,
     alloc: A,
@@ -46,9 +52,9 @@ pub fn serve_on<
     config: &Config,
     accept: u32,
     peers: &[SocketAddr],
-    idle: Option<Duration>,
+    serving: &Serving,
     workers: u32,
-    gate: &G,
+    watch: &G,
 ) -> Result<Report<TcpReader, TcpWriter, A>, RunFault>
     requires few { accept + length peers.now ≤ most_links }
     ensures workers { IfOk result (λ _. IsCrew workers) }
@@ -68,15 +74,123 @@ pub fn serve_on<
     ensures routed { IfOk result (λ report. RoutesEachOnce report) }
     ensures stats { IfOk result (λ report. HasOwnStats report) }
 {
+    match serve_kept::<C, G, A, R>(
+        rt, alloc, listener, config, accept, peers, serving, workers, watch,
+    ) {
+        Ok(report) => Ok(report),
+        Err(stopped) => Err(stopped.fault),
+    }
+}
+
+/// Does the same, and a fault comes with what stands of the history, which is legal by the configuration of the call.
+pub fn serve_kept<
+    C: RouterCore<A> + Drop + Send,
+    G: Watch + Sync,
+    A: Allocator + Copy + Send + Sync,
+    R: Threads + Wait + Net<Listener = TcpListener, Stream = TcpStream> + Clock + Sync,
+>(
+    rt: &R,
+    alloc: A,
+    listener: &TcpListener,
+    config: &Config,
+    accept: u32,
+    peers: &[SocketAddr],
+    serving: &Serving,
+    workers: u32,
+    watch: &G,
+) -> Result<Report<TcpReader, TcpWriter, A>, Stopped<A>>
+    requires few { accept + length peers.now ≤ most_links }
+    ensures workers { IfOk result (λ _. IsCrew workers) }
+    ensures bad_workers { IfErr result (λ stopped. (stopped.fault ≡ BadWorkers) ↔ (¬ IsCrew workers)) }
+    ensures fault { IfErr result (λ stopped. IsCrew workers
+        → IsArrivingFault true (length peers.now + accept) workers stopped.fault) }
+    ensures kept { IfErr result (λ stopped. IfSome stopped.history (λ history.
+        IsLegal config.now (reverse history.items))) }
+    ensures legal { IfOk result (λ report. HasLegalHistory config.now report) }
+    ensures counted { IfOk result (λ report. HasCountedSteps report) }
+    ensures own { IfOk result (λ report. HasOwnSteps report) }
+    ensures each { IfOk result (λ report. (length report.links.items ≡ length peers.now + accept)
+        × (length report.workers.items ≡ workers)) }
+    ensures links { IfOk result (λ report. LinksHold tcp_reads tcp_writes
+        (roles_of (length peers.now) (length peers.now + accept)) report) }
+    ensures made { IfOk result (λ report. AreMadeOf (λ half. half.origin) (λ half. half.origin)
+        (origins_of peers.now (length peers.now + accept)) (origins_of peers.now (length peers.now + accept)) report) }
+    ensures others { IfOk result (λ report. OthersRoute report) }
+    ensures routed { IfOk result (λ report. RoutesEachOnce report) }
+    ensures stats { IfOk result (λ report. HasOwnStats report) }
+{
+    let stops = Stops::new(alloc);
+    let stops = &stops;
+    let limit = serving.limit;
+    let ((), answer) = thread::join(
+        rt,
+        || {
+            if let Some(limit) = limit {
+                stops.stop_after(rt, listener, limit);
+            }
+        },
+        ||
+            requires { accept + length peers.now ≤ most_links }
+            ensures { IsServed config.entry.now peers.entry.now accept workers result }
+        {
+            run_links::<C, G, A, R>(
+                rt, alloc, listener, config, accept, peers, serving, workers, watch, stops,
+            )
+        },
+    );
+    answer
+}
+
+/// Runs a router over these links, which `stops` ends where the time for that has come.
+fn run_links<
+    C: RouterCore<A> + Drop + Send,
+    G: Watch + Sync,
+    A: Allocator + Copy + Send + Sync,
+    R: Threads + Wait + Net<Listener = TcpListener, Stream = TcpStream> + Clock + Sync,
+>(
+    rt: &R,
+    alloc: A,
+    listener: &TcpListener,
+    config: &Config,
+    accept: u32,
+    peers: &[SocketAddr],
+    serving: &Serving,
+    workers: u32,
+    watch: &G,
+    stops: &Stops<A>,
+) -> Result<Report<TcpReader, TcpWriter, A>, Stopped<A>>
+    requires few { accept + length peers.now ≤ most_links }
+    ensures workers { IfOk result (λ _. IsCrew workers) }
+    ensures bad_workers { IfErr result (λ stopped. (stopped.fault ≡ BadWorkers) ↔ (¬ IsCrew workers)) }
+    ensures fault { IfErr result (λ stopped. IsCrew workers
+        → IsArrivingFault true (length peers.now + accept) workers stopped.fault) }
+    ensures kept { IfErr result (λ stopped. IfSome stopped.history (λ history.
+        IsLegal config.now (reverse history.items))) }
+    ensures legal { IfOk result (λ report. HasLegalHistory config.now report) }
+    ensures counted { IfOk result (λ report. HasCountedSteps report) }
+    ensures own { IfOk result (λ report. HasOwnSteps report) }
+    ensures each { IfOk result (λ report. (length report.links.items ≡ length peers.now + accept)
+        × (length report.workers.items ≡ workers)) }
+    ensures links { IfOk result (λ report. LinksHold tcp_reads tcp_writes
+        (roles_of (length peers.now) (length peers.now + accept)) report) }
+    ensures made { IfOk result (λ report. AreMadeOf (λ half. half.origin) (λ half. half.origin)
+        (origins_of peers.now (length peers.now + accept)) (origins_of peers.now (length peers.now + accept)) report) }
+    ensures others { IfOk result (λ report. OthersRoute report) }
+    ensures routed { IfOk result (λ report. RoutesEachOnce report) }
+    ensures stats { IfOk result (λ report. HasOwnStats report) }
+{
     let links = peers.len() + accept as usize;
-    let roles = roles_of(peers.len(), links);
+    let all = roles_of(peers.len(), links);
+    let roles = &all[..links];
     let arrivals = Peers {
         net: rt,
         listener,
         called: peers,
         next: 0,
         left: links as u32,
-        idle,
+        serving: *serving,
+        stops,
+        watch,
     };
-    run_arriving::<C, _, _, _, _, _, _>(rt, alloc, config, &roles[..links], arrivals, workers, gate)
+    run_arriving_kept::<C, _, _, _, _, _, _>(rt, alloc, config, roles, arrivals, workers, watch)
 }

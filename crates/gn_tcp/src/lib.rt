@@ -3,10 +3,13 @@
 
 mod link;
 mod origin;
+mod patience;
 mod reader;
+mod stopper;
 mod writer;
 
 pub use link::{TcpLink, listen};
 pub use origin::TcpOrigin;
 pub use reader::TcpReader;
+pub use stopper::TcpStopper;
 pub use writer::TcpWriter;

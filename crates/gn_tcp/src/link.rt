@@ -5,7 +5,9 @@ ghost use Rattle.gn_shake.specs.declared.role.Role.TheVariants.{Accepting, Calli
 ghost use Rattle.gn_tcp.specs.Tcp.{IsLoopback};
 
 use crate::origin::TcpOrigin;
+use crate::patience::Patience;
 use crate::reader::TcpReader;
+use crate::stopper::TcpStopper;
 use crate::writer::TcpWriter;
 use gn_links::{Link, LinkFault};
 use gn_shake::Role;
@@ -28,6 +30,7 @@ pub fn listen<N: Net<Listener = TcpListener, Stream = TcpStream>>(
 #[derive(Drop)]
 pub struct TcpLink {
     stream: TcpStream,
+    peer: SocketAddr,
     role: Role,
     origin: TcpOrigin,
     idle: Option<Duration>,
@@ -47,8 +50,9 @@ impl TcpLink {
         ensures { IfOk result (λ link. link ≡ record { role = Accepting; origin = record { link = 0; called = None } }) }
     {
         match listener.accept() {
-            Ok((stream, _)) => Ok(TcpLink {
+            Ok((stream, peer)) => Ok(TcpLink {
                 stream,
+                peer,
                 role: Role::Accepting,
                 origin: TcpOrigin {
                     link: 0,
@@ -73,32 +77,68 @@ impl TcpLink {
             return Err(LinkFault);
         }
         match net.connect(peer) {
-            Ok(stream) => Ok(TcpLink {
-                stream,
-                role: Role::Calling,
-                origin: TcpOrigin {
-                    link: 0,
-                    called: Some(peer),
-                },
-                idle: None,
-            }),
+            Ok(stream) => Ok(TcpLink::calling(stream, peer)),
             Err(_) => Err(LinkFault),
         }
     }
 
-    /// The link, whose reads and writes fail where they wait for longer than this; `None`: they wait for ever. `split` fails
-    /// where the limit is zero.
+    /// As `call`, but the peer has to answer within this time.
+    pub fn call_within<N: Net<Listener = TcpListener, Stream = TcpStream>>(
+        net: &N,
+        peer: SocketAddr,
+        limit: Duration,
+    ) -> Result<TcpLink, LinkFault>
+        ensures called { IfOk result (λ link. link ≡
+            record { role = Calling; origin = record { link = 0; called = Some peer } }) }
+        ensures near { OnOk result (IsLoopback peer) }
+    {
+        if !peer.ip().is_loopback() {
+            return Err(LinkFault);
+        }
+        match net.connect_timeout(peer, limit) {
+            Ok(stream) => Ok(TcpLink::calling(stream, peer)),
+            Err(_) => Err(LinkFault),
+        }
+    }
+
+    fn calling(stream: TcpStream, peer: SocketAddr) -> TcpLink
+        ensures { result ≡ record { role = Calling; origin = record { link = 0; called = Some peer } } }
+    {
+        TcpLink {
+            stream,
+            peer,
+            role: Role::Calling,
+            origin: TcpOrigin {
+                link: 0,
+                called: Some(peer),
+            },
+            idle: None,
+        }
+    }
+
+    /// Another handle of the link's socket, by which its reading half can be ended. It fails where the system gives none.
+    pub fn stopper(&self) -> Result<TcpStopper, LinkFault> {
+        match self.stream.try_clone() {
+            Ok(stream) => Ok(TcpStopper::new(stream)),
+            Err(_) => Err(LinkFault),
+        }
+    }
+
+    /// The link, whose reads and writes fail where they wait for longer than this, or its greeting comes in pieces and takes more
+    /// than some two times as long; `None`: they wait for ever. `split` fails where the limit is zero.
     pub fn with_idle(self, idle: Option<Duration>) -> TcpLink
         ensures { result ≡ self }
     {
         let TcpLink {
             stream,
+            peer,
             role,
             origin,
             ..
         } = self;
         TcpLink {
             stream,
+            peer,
             role,
             origin,
             idle,
@@ -111,17 +151,24 @@ impl TcpLink {
     {
         let TcpLink {
             stream,
+            peer,
             role,
             origin: TcpOrigin { called, .. },
             idle,
         } = self;
         TcpLink {
             stream,
+            peer,
             role,
             origin: TcpOrigin { link, called },
             idle,
         }
     }
+}
+
+/// How long the reader of a link in this role waits, where it has a time limit.
+fn patience_of(idle: Option<Duration>, role: Role) -> Option<Patience> {
+    Some(Patience::new(idle?, role))
 }
 
 impl Link for TcpLink {
@@ -145,9 +192,10 @@ impl Link for TcpLink {
     fn split(self) -> Result<(TcpReader, TcpWriter), LinkFault> {
         let TcpLink {
             stream,
+            peer,
+            role,
             origin,
             idle,
-            ..
         } = self;
         if stream.set_read_timeout(idle).is_err() || stream.set_write_timeout(idle).is_err() {
             return Err(LinkFault);
@@ -155,9 +203,10 @@ impl Link for TcpLink {
         // A packet is small and waits for no other, so it shan't wait for the acknowledgement of the one before it either.
         // Where the system doesn't take this, the link is slower and else the same.
         let _ = stream.set_nodelay(true);
+        let patience = patience_of(idle, role);
         match stream.try_clone() {
             Ok(other) => Ok((
-                TcpReader::new(stream, origin),
+                TcpReader::new(stream, peer, origin, patience),
                 TcpWriter::new(other, origin),
             )),
             Err(_) => Err(LinkFault),

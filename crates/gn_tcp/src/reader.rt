@@ -3,10 +3,11 @@
 ghost use Rattle.std.specs.Prelude.{◌≡◌, ◌≤◌, [], false, not, true, length, IfOk};
 
 use crate::origin::TcpOrigin;
+use crate::patience::Patience;
 use gn_links::{LinkFault, LinkReader};
 use std::io::{ErrorKind, Read};
 use std::marker::Model;
-use std::net::TcpStream;
+use std::net::{SocketAddr, TcpStream};
 use std::sync::Wait;
 
 /// Reads from a socket. It gives its handle of the socket up at the end of the bytes, at a read that fails, and where it is
@@ -14,7 +15,10 @@ use std::sync::Wait;
 #[derive(Drop)]
 pub struct TcpReader {
     stream: Option<TcpStream>,
+    peer: SocketAddr,
     origin: TcpOrigin,
+    /// `None`: it waits without a limit.
+    patience: Option<Patience>,
     failures: u64,
     pieces: u64,
     has_ended: bool,
@@ -36,16 +40,39 @@ impl Model for TcpReader {
 }
 
 impl TcpReader {
-    pub(crate) fn new(stream: TcpStream, origin: TcpOrigin) -> Self
+    pub(crate) fn new(
+        stream: TcpStream,
+        peer: SocketAddr,
+        origin: TcpOrigin,
+        patience: Option<Patience>,
+    ) -> Self
         ensures { result ≡
             record { origin = origin; is_open = true; failures = 0; pieces = 0; has_ended = false } }
     {
         TcpReader {
             stream: Some(stream),
+            peer,
             origin,
+            patience,
             failures: 0,
             pieces: 0,
             has_ended: false,
+        }
+    }
+
+    /// The peer's address, also once the peer was let go.
+    pub fn peer(&self) -> SocketAddr {
+        self.peer
+    }
+
+    /// So many bytes have come, and the next wait has its limit.
+    fn hear(&mut self, n: usize)
+        ensures { self.new ≡ self.old }
+    {
+        if let Some(stream) = &self.stream {
+            if let Some(patience) = &mut self.patience {
+                patience.hear(stream, n);
+            }
         }
     }
 }
@@ -84,7 +111,7 @@ impl LinkReader for TcpReader {
     /// Also where its bytes ended or a read failed: it has given its handle up.
     ghost is_finished = { λ r. not r.is_open };
 
-    /// Fails too where it waits for longer than the link's time limit, and where it failed before or was finished.
+    /// Fails too where it waits for longer than the link's time limit allows, and where it failed before or was finished.
     fn read<R: Wait>(&mut self, rt: &R, buffer: &mut [u8]) -> Result<usize, LinkFault> {
         let answer = match &mut self.stream {
             Some(stream) => read_some(rt, stream, buffer),
@@ -92,7 +119,10 @@ impl LinkReader for TcpReader {
             None => Err(LinkFault),
         };
         match answer {
-            Ok(n) if n > 0 => self.pieces = self.pieces.saturating_add(1),
+            Ok(n) if n > 0 => {
+                self.pieces = self.pieces.saturating_add(1);
+                self.hear(n);
+            }
             Ok(_) => {
                 if !buffer.is_empty() {
                     self.has_ended = true;

@@ -1,7 +1,8 @@
 //! One short history, judged under several configurations and from several steps on.
 
 use gn_fixtures::{OWN, ping};
-use gn_plain::{PlainRouter, legal};
+use gn_legal::legal;
+use gn_plain::PlainRouter;
 use gn_rules::{Config, Event, Legality, Own, RouterCore, Step};
 use std::alloc::Global;
 use std::test::Fail;

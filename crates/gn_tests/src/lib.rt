@@ -1,8 +1,12 @@
-//! The tests of the crates of one thread but the texts, each over its crate's public calls. Tests alone.
+//! The tests of the crates of one thread and of texts, each over its crate's public calls. Tests alone.
 #![tactic(auto)]
 
 #[cfg(test)]
+mod captures;
+#[cfg(test)]
 mod frames;
+#[cfg(test)]
+mod histories;
 #[cfg(test)]
 mod legality;
 #[cfg(test)]

@@ -1,4 +1,4 @@
-//! Payloads byte for byte, both ways: a Push, Queries and Query Hits, and what is refused.
+//! Payloads byte for byte, both ways: Queries and Query Hits, and what is refused.
 
 use gn_payload::*;
 use gn_wire::Guid;
@@ -6,12 +6,6 @@ use std::alloc::{AllocError, Allocator};
 use std::test::Fail;
 
 const SERVENT: Guid = Guid([0x5e; 16]);
-
-/// The payload of a Push to the servent whose ID is `5e` sixteen times.
-const PUSH: [u8; 26] = [
-    0x5e, 0x5e, 0x5e, 0x5e, 0x5e, 0x5e, 0x5e, 0x5e, 0x5e, 0x5e, 0x5e, 0x5e, 0x5e, 0x5e, 0x5e, 0x5e,
-    1, 0, 0, 0, 127, 0, 0, 1, 0xca, 0x18,
-];
 
 /// Two results, one without extra bytes and one with.
 const RESULTS: [HitResult<'static>; 2] = [
@@ -49,23 +43,6 @@ fn listed<'a, A: Allocator>(alloc: A, hit: &QueryHit<'a>) -> Result<Vec<HitResul
         results.push(result)?;
     }
     Ok(results)
-}
-
-#[test]
-fn pushes(rt: HostRuntime) -> Result<(), Fail> {
-    let push = Push {
-        servent: SERVENT,
-        file: 1,
-        ip: [127, 0, 0, 1],
-        port: 6346,
-    };
-    assert_eq!(rt; read_push(&PUSH), Some(push));
-    assert_eq!(rt; servent_of_push(&PUSH), SERVENT);
-    assert_eq!(rt; read_push(&PUSH[1..]), None);
-    let mut out = Vec::new(rt.alloc());
-    write_push(&push, &mut out)?;
-    assert_eq!(rt; out.as_slice(), &PUSH[..]);
-    Ok(())
 }
 
 #[test]

@@ -1,9 +1,6 @@
 //! The tables at their limits.
 
-ghost use Rattle.std.specs.Prelude.{◌≡◌};
-
-use gn_fixtures::ping;
-use gn_tables::{Flights, SeenTable, ServentTable};
+use gn_tables::{SeenTable, ServentTable};
 use gn_wire::{Descriptor, Guid, Key, Kind};
 use std::alloc::{AllocError, Allocator};
 use std::mem::size_of;
@@ -39,43 +36,6 @@ fn as_many_as_there_may_be(rt: HostRuntime) -> Result<(), Fail> {
     for (number, found) in [(0, None), (1, Some(1)), (65_536, Some(65_536))] {
         assert_eq!(rt; seen.source(Kind::Ping, &numbered(number)), found);
         assert_eq!(rt; servents.route(&numbered(number)), found);
-    }
-    Ok(())
-}
-
-/// Adds a flight under a new ticket, where there is room for eight, and says whether it did.
-fn add_new<A: Allocator + Copy>(
-    flights: &mut Flights<A>,
-    ticket: u32,
-    from: u32,
-) -> Result<bool, Fail>
-    requires { flights.old.most ≡ 8 }
-    ensures { flights.new.most ≡ 8 }
-{
-    if flights.len() >= 8 || flights.get(ticket).is_some() {
-        return Ok(false);
-    }
-    flights.add(ticket, from, ping(0xa1, 6, 1)?)?;
-    Ok(true)
-}
-
-#[test]
-fn flights_of_each_connection(rt: HostRuntime) -> Result<(), Fail> {
-    let mut flights = Flights::new(rt.alloc(), 8);
-    assert!(rt; add_new(&mut flights, 0, 1)?);
-    assert!(rt; add_new(&mut flights, 1, 2)?);
-    assert!(rt; add_new(&mut flights, 2, 1)?);
-    assert!(rt; add_new(&mut flights, 3, 1)?);
-    assert_eq!(rt; (flights.of(1), flights.of(2), flights.of(3)), (3, 1, 0));
-    for (ticket, left) in [
-        (2, (2, 1)),
-        (1, (2, 0)),
-        (1, (2, 0)),
-        (0, (1, 0)),
-        (3, (0, 0)),
-    ] {
-        drop(flights.finish(ticket));
-        assert_eq!(rt; (flights.of(1), flights.of(2)), left);
     }
     Ok(())
 }

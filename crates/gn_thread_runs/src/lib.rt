@@ -8,6 +8,8 @@ mod in_step;
 #[cfg(test)]
 mod in_time;
 #[cfg(test)]
+mod limited;
+#[cfg(test)]
 mod loads;
 #[cfg(test)]
 mod prompt;

@@ -6,7 +6,7 @@ use gn_fixtures::{OWN_PONG, PING, usual};
 use gn_links::NoGate;
 use gn_router::TableRouter;
 use gn_run::Report;
-use gn_serve::serve_on;
+use gn_serve::{Serving, serve_on};
 use gn_tcp::{TcpReader, TcpWriter, listen};
 use gn_threads::RunFault;
 use std::alloc::Global;
@@ -28,14 +28,15 @@ const FORWARDED: [u8; 23] = [
     0, 6, 1, 0, 0, 0, 0,
 ];
 
-/// A run of at most so many steps over the table router with one worker.
-fn run_over<R: Threads + Wait + Net<Listener = TcpListener, Stream = TcpStream> + Sync>(
+/// A run of at most so many steps over the table router with one worker, within these limits.
+fn run_within<R: Threads + Wait + Net<Listener = TcpListener, Stream = TcpStream> + Clock + Sync>(
     rt: &R,
     alloc: Global,
     listener: &TcpListener,
     steps: u32,
     accept: u32,
     peers: &[SocketAddr],
+    serving: &Serving,
 ) -> Served {
     let Ok(config) = usual(steps) else {
         return Err(RunFault::BadWorkers);
@@ -44,7 +45,7 @@ fn run_over<R: Threads + Wait + Net<Listener = TcpListener, Stream = TcpStream> 
         return Err(RunFault::BadWorkers);
     }
     serve_on::<TableRouter, _, _, _>(
-        rt, alloc, listener, &config, accept, peers, None, 1, &NoGate,
+        rt, alloc, listener, &config, accept, peers, serving, 1, &NoGate,
     )
 }
 
@@ -54,6 +55,32 @@ const UNSERVED: &str =
      tells no outlet of its job";
 
 /// Such a run, which ends the test where it isn't over within 20 seconds.
+pub(crate) fn serve_within<
+    R: Threads + Wait + Net<Listener = TcpListener, Stream = TcpStream> + Sync + Abort + Clock,
+>(
+    rt: &R,
+    alloc: Global,
+    listener: &TcpListener,
+    steps: u32,
+    accept: u32,
+    peers: &[SocketAddr],
+    serving: &Serving,
+) -> Served {
+    let is_over = AtomicBool::new(false);
+    let is_over = &is_over;
+    let (served, ()) = thread::join(
+        rt,
+        move || {
+            let served = run_within(rt, alloc, listener, steps, accept, peers, serving);
+            is_over.store(true, Ordering::SeqCst);
+            served
+        },
+        move || watch(rt, is_over, UNSERVED),
+    );
+    served
+}
+
+/// The same without such limits.
 pub(crate) fn serve<
     R: Threads + Wait + Net<Listener = TcpListener, Stream = TcpStream> + Sync + Abort + Clock,
 >(
@@ -64,28 +91,28 @@ pub(crate) fn serve<
     accept: u32,
     peers: &[SocketAddr],
 ) -> Served {
-    let is_over = AtomicBool::new(false);
-    let is_over = &is_over;
-    let (served, ()) = thread::join(
+    serve_within(
         rt,
-        move || {
-            let served = run_over(rt, alloc, listener, steps, accept, peers);
-            is_over.store(true, Ordering::SeqCst);
-            served
-        },
-        move || watch(rt, is_over, UNSERVED),
-    );
-    served
+        alloc,
+        listener,
+        steps,
+        accept,
+        peers,
+        &Serving::UNLIMITED,
+    )
 }
 
 /// How the two bodies of a link ended.
-fn ends_of(report: &Report<TcpReader, TcpWriter>, link: usize) -> Option<(ReaderEnd, WriterEnd)> {
+pub(crate) fn ends_of(
+    report: &Report<TcpReader, TcpWriter>,
+    link: usize,
+) -> Option<(ReaderEnd, WriterEnd)> {
     let link = report.links.get(link)?;
     Some((link.reader_end, link.writer_end))
 }
 
 /// Whether exactly these bytes come next.
-fn hears(peer: &mut TcpStream, bytes: &[u8]) -> io::Result<bool> {
+pub(crate) fn hears(peer: &mut TcpStream, bytes: &[u8]) -> io::Result<bool> {
     let mut heard = [0u8; 64];
     let n = bytes.len().min(64);
     peer.read_exact(&mut heard[..n])?;
@@ -93,7 +120,7 @@ fn hears(peer: &mut TcpStream, bytes: &[u8]) -> io::Result<bool> {
 }
 
 /// Whether no more bytes come.
-fn hears_the_end(peer: &mut TcpStream) -> io::Result<bool> {
+pub(crate) fn hears_the_end(peer: &mut TcpStream) -> io::Result<bool> {
     let mut heard = [0u8; 1];
     Ok(peer.read(&mut heard)? == 0)
 }
@@ -197,7 +224,7 @@ fn a_stranger_is_let_go(rt: HostRuntime) -> Result<(), Fail> {
 
 /// A peer that is called. Where it consents it sends a Ping, hears the Pong and sends no more. In any case it hears the end,
 /// and stays: the run doesn't wait for it.
-fn is_called(listener: &TcpListener, consents: bool) -> io::Result<Option<TcpStream>> {
+pub(crate) fn is_called(listener: &TcpListener, consents: bool) -> io::Result<Option<TcpStream>> {
     let (mut caller, _) = listener.accept()?;
     let mut good = hears(&mut caller, gn_shake::request())?;
     if consents {

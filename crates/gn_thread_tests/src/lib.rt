@@ -6,8 +6,6 @@ mod bodies;
 #[cfg(test)]
 mod hub;
 #[cfg(test)]
-mod links;
-#[cfg(test)]
 mod report;
 #[cfg(test)]
 mod service;

@@ -5,7 +5,7 @@ ghost use Rattle.std.specs.Prelude.{◌≡◌, length, IfOk};
 use crate::bodies::{Steps, USUAL, one_ping};
 use gn_bodies::{ReaderEnd, WriterEnd};
 use gn_fixtures::ping;
-use gn_rules::{DropReason, Event, Receipt, Reply, Stats, Step};
+use gn_rules::{Event, Receipt, Reply, Stats, Step};
 use gn_run::*;
 use gn_shake::Role;
 use std::alloc::Global;
@@ -99,63 +99,5 @@ fn the_house_is_named_for_a_ticket(rt: HostRuntime) -> Result<(), Fail> {
     };
     let unrouted = report(alloc, steps, ReaderEnd::ReadFailed, WriterEnd::Closed)?;
     assert_eq!(rt; unrouted.flaw(&[Role::Plain]), Some(3));
-    Ok(())
-}
-
-/// The report of a link that connected, admitted ticket 0 and closed, and of a worker that routed these tickets before the Close.
-fn routing(alloc: Global, tickets: &[u32]) -> Result<Report<(), ()>, Fail>
-    ensures { IfOk result (λ r. length r.links.items ≡ 1) }
-{
-    let connect = step(alloc, 0, 0, Event::Connect, Reply::Connected(1))?;
-    let admit = step(
-        alloc,
-        1,
-        0,
-        Event::Admit(1, ping(0xa1, 7, 0)?),
-        Reply::Admitted(0),
-    )?;
-    let mut history = vec![in alloc; connect.0, admit.0]?;
-    let mut worker = Vec::new(alloc);
-    let mut index = 2u32;
-    for ticket in tickets {
-        let reply = Reply::Dropped(DropReason::NoRoute);
-        let route = step(alloc, index, 2, Event::Route(*ticket), reply)?;
-        history.push(route.0)?;
-        worker.push(route.1)?;
-        index = index.saturating_add(1);
-    }
-    let close = step(alloc, index, 0, Event::Close(1), Reply::Closed(0))?;
-    history.push(close.0)?;
-    let steps = Steps {
-        history,
-        reader: vec![in alloc; connect.1, admit.1, close.1]?,
-        writer: Vec::new(alloc),
-        worker,
-    };
-    report(alloc, steps, ReaderEnd::ReadFailed, WriterEnd::Closed)
-}
-
-#[test]
-fn tickets_are_looked_for_and_not_counted(rt: HostRuntime) -> Result<(), Fail> {
-    let alloc = rt.alloc();
-    assert_eq!(rt; routing(alloc, &[0])?.flaw(&[Role::Plain]), None);
-    assert_eq!(rt; routing(alloc, &[7])?.flaw(&[Role::Plain]), Some(3));
-    assert_eq!(rt; routing(alloc, &[0, 0])?.flaw(&[Role::Plain]), None);
-    Ok(())
-}
-
-#[test]
-fn a_route_makes_no_connection(rt: HostRuntime) -> Result<(), Fail> {
-    let alloc = rt.alloc();
-    let route = step(alloc, 0, 0, Event::Route(0), Reply::Connected(5))?;
-    let steps = Steps {
-        history: vec![in alloc; route.0]?,
-        reader: vec![in alloc; route.1]?,
-        writer: Vec::new(alloc),
-        worker: Vec::new(alloc),
-    };
-    let routed = report(alloc, steps, ReaderEnd::ReadFailed, WriterEnd::NeverOpened)?;
-    assert_eq!(rt; routed.links[0].conn, None);
-    assert_eq!(rt; routed.flaw(&[Role::Plain]), None);
     Ok(())
 }

@@ -4,8 +4,9 @@ ghost use Rattle.std.specs.Prelude.{◌≡◌, ◌+◌};
 
 use crate::hub::stands_in;
 use gn_fixtures::{ping, usual};
+use gn_legal::legal;
 use gn_payload::Checked;
-use gn_plain::{PlainRouter, legal};
+use gn_plain::PlainRouter;
 use gn_rules::{Event, Legality, RouterCore, Step};
 use gn_service::{Actor, Role, Service};
 use std::alloc::Global;

@@ -4,7 +4,6 @@ ghost use Rattle.std.specs.Prelude.{◌≡◌, ◌<◌, ◌≤◌};
 
 use gn_fixtures::ping;
 use gn_stage::*;
-use linked_list_allocator::LocalHeap;
 use std::alloc::{AllocError, Allocator, Global};
 use std::marker::Brand;
 use std::sync::Wait;
@@ -87,60 +86,6 @@ fn stage_settles(rt: HostRuntime) -> Result<(), Fail> {
     assert_eq!(rt; (first, fault), (Some(0), StageFault::Missing));
     assert_eq!(rt; (put, taken), (2, 1));
     assert_eq!(rt; drained.as_slice(), [1].as_slice());
-    Ok(())
-}
-
-/// The desk is first given a heap with no room, then the one that the stage was made on.
-fn poor_then_rich<A: Allocator + Copy, S: Site, R: Wait>(
-    rt: &R,
-    poor: A,
-    rich: A,
-    stage: Stage<A>,
-) -> Result<(StageFault, Settled<A>), AllocError>
-    requires { stage ≡ S.stage }
-{
-    let (mut ins, _, desk) = stage.ends::<S>(rich, 1, 0)?;
-    let mut homes = Vec::new(rich);
-    if let Some(intake) = ins.pop() {
-        homes.push(intake.finish())?;
-    }
-    let Err(
-        Unsettled {
-            fault,
-            desk,
-            intakes,
-            outlets,
-        },
-    ) = desk.settle(rt, poor, homes, Vec::new(rich))
-    else {
-        return Err(AllocError);
-    };
-    match desk.settle(rt, rich, intakes, outlets) {
-        Ok(settled) => Ok((fault, settled)),
-        Err(_) => Err(AllocError),
-    }
-}
-
-fn on_two_heaps<A: Allocator + Copy, R: Wait>(
-    rt: &R,
-    poor: A,
-    rich: A,
-) -> Result<(StageFault, Settled<A>), AllocError> {
-    poor_then_rich::<A, Brand, R>(rt, poor, rich, Stage::new(rich, 64)?)
-}
-
-#[test]
-fn no_memory_hands_all_back(rt: HostRuntime) -> Result<(), Fail> {
-    let (poor, rich) = (
-        LocalHeap::new(rt.alloc(), 64)?,
-        LocalHeap::new(rt.alloc(), 65_536)?,
-    );
-    let (fault, settled) = on_two_heaps(&rt, &poor, &rich)?;
-    assert_eq!(rt; fault, StageFault::NoMemory);
-    assert_eq!(rt;
-        summary_of(rt.alloc(), &settled)?,
-        (0, 0, Vec::new(rt.alloc()))
-    );
     Ok(())
 }
 

@@ -103,6 +103,21 @@ fn close<L: Ledger, C: RouterCore<A>, A: Allocator + Copy>(
     }
 }
 
+/// What stands of the history of a run that stopped; nothing, where its router hasn't the configuration of the call.
+pub(crate) fn kept<L: Ledger, C: RouterCore<A>, A: Allocator + Copy>(
+    config: &Config,
+    hub: Hub<C, L, A>,
+) -> Option<Vec<Step<A>, A>>
+    ensures { IfSome result (λ history. IsLegal config.now (reverse history.items)) }
+{
+    let Closed {
+        history,
+        is_configured,
+        ..
+    } = close(config, hub);
+    if is_configured { Some(history) } else { None }
+}
+
 /// The report of a run, compared with its ledger, its history and the configuration of the call. `suspect` is a worker or the
 /// house, where one was refused a route.
 pub(crate) fn report<

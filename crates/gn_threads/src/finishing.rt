@@ -11,6 +11,7 @@ ghost use Rattle.std.specs.Prelude.{
   None,
   length,
   map,
+  reverse,
   slice_index_or,
   vec_len,
   IfErr,
@@ -19,6 +20,7 @@ ghost use Rattle.std.specs.Prelude.{
   IsOk,
 };
 ghost use Rattle.gn_bodies.specs.declared.worker.WorkerDone.{WorkerDone};
+ghost use Rattle.gn_rules.specs.Legal.{IsLegal};
 ghost use Rattle.gn_threads.specs.Faults.{IsFaultOf};
 ghost use Rattle.gn_threads.specs.Gathered.{reader_reported, writer_reported};
 ghost use Rattle.gn_links.specs.Views.{reads_of, writes_of};
@@ -34,14 +36,14 @@ ghost use Rattle.gn_threads.specs.Kept.{
 };
 ghost use Rattle.gn_threads.specs.Shares.{parts_of};
 
-use crate::confirming::{least, report};
+use crate::confirming::{kept, least, report};
 use crate::done::{Done, first_refused};
 use crate::fault::RunFault;
 use crate::gather::{HomedReader, Worked, gather_links, gather_workers, send_home};
 use crate::house::route_all;
 use gn_bodies::{BodyFault, WriterDone};
 use gn_links::{LinkReader, LinkWriter};
-use gn_rules::{Config, RouterCore};
+use gn_rules::{Config, RouterCore, Step};
 use gn_run::Report;
 use gn_service::{Actor, Hub};
 use gn_shake::Role;
@@ -50,7 +52,8 @@ use std::alloc::Allocator;
 use std::sync::Wait;
 use std::sync::ledger::Ledger;
 
-/// Settles the stage of a run whose threads are joined, has the house route the rest, and reports.
+/// Settles the stage of a run whose threads are joined, has the house route the rest, and reports. Where a body or the house was
+/// stopped, what stands of the history is kept.
 pub(crate) fn finish<
     L: Ledger,
     S: Site,
@@ -68,7 +71,9 @@ pub(crate) fn finish<
     desk: Desk<S, A>,
     done: Done<Rd, W, S, L, A>,
     house: Actor<L, A>,
+    history: &mut Option<Vec<Step<A>, A>>,
 ) -> Result<Report<Rd, W, A>, RunFault>
+    requires none { history.old ≡ None }
     requires parts { L.parts ≡ 2 * length roles.now + vec_len done.workers + 1 }
     requires few { (length roles.now ≤ most_links) × (vec_len done.workers ≤ most_workers) }
     requires many { (vec_len done.readers ≡ length roles.now) × (vec_len done.writers ≡ length roles.now) }
@@ -90,8 +95,10 @@ pub(crate) fn finish<
         map writer_reported report.links.items ≡ map writer_ended done.writers.items) }
     ensures clean { IfOk result (λ _. (k : ℕ) (d : WorkerDone S L A) → k < vec_len done.workers
         → IsOk (slice_index_or done.workers.items k d).end) }
+    ensures kept { IfSome history.new (λ steps. IsLegal config.now (reverse steps.items)) }
 {
     if let Some(fault) = done.stop() {
+        *history = kept(config, hub);
         return Err(fault);
     }
     let Done {
@@ -105,9 +112,15 @@ pub(crate) fn finish<
     let (readers, intakes) = send_home(alloc, readers)?;
     let (worked, outlets) = gather_workers(alloc, workers)?;
     let (mut hub, mut house) = (hub, house);
-    let idle = settle(
+    let idle = match settle(
         rt, alloc, &mut hub, &mut house, desk, intakes, outlets, number,
-    )?;
+    ) {
+        Ok(idle) => idle,
+        Err(fault) => {
+            *history = kept(config, hub);
+            return Err(fault);
+        }
+    };
     let suspect = least(worker, idle);
     assemble(
         alloc, config, roles, hub, house, readers, writers, worked, suspect,

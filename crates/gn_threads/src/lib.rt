@@ -16,10 +16,12 @@ mod places;
 mod runs;
 mod start;
 mod starting;
+mod stopped;
 mod tally;
 mod waiting;
 
 pub use arrivals::Arrivals;
-pub use arriving::run_arriving;
+pub use arriving::{run_arriving, run_arriving_kept};
 pub use fault::RunFault;
 pub use runs::run;
+pub use stopped::Stopped;

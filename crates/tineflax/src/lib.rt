@@ -2,9 +2,6 @@
 //! definitions that its contracts cite stand by the same subjects in specs/.
 #![tactic(auto)]
 
-#[cfg(test)]
-mod worked;
-
 /// IDs, headers and descriptors, and their encodings.
 pub mod wire {
     pub use bytes::Bytes;
@@ -59,7 +56,8 @@ pub mod laws {
 
 /// The router with tables, the one that searches its history, and whether a history is legal.
 pub mod router {
-    pub use gn_plain::{PlainRouter, legal};
+    pub use gn_legal::legal;
+    pub use gn_plain::PlainRouter;
     pub use gn_router::TableRouter;
 }
 
@@ -87,7 +85,7 @@ pub mod links {
         Gate, Link, LinkFault, LinkReader, LinkWriter, MemoryLink, MemoryReader, MemoryWriter,
         NoGate, SplitFault, SplitLink, SplitLinks, split_all,
     };
-    pub use gn_tcp::{TcpLink, TcpOrigin, TcpReader, TcpWriter, listen};
+    pub use gn_tcp::{TcpLink, TcpOrigin, TcpReader, TcpStopper, TcpWriter, listen};
 }
 
 /// What the threads of a run do.
@@ -101,8 +99,8 @@ pub mod bodies {
 /// Runs of many threads, and their reports.
 pub mod run {
     pub use gn_run::{LinkReport, Report};
-    pub use gn_serve::{ServeFault, serve_history, serve_on};
-    pub use gn_threads::{Arrivals, RunFault, run, run_arriving};
+    pub use gn_serve::{ServeFault, Serving, serve_history, serve_kept, serve_on};
+    pub use gn_threads::{Arrivals, RunFault, Stopped, run, run_arriving, run_arriving_kept};
 }
 
 /// Sources and sinks of bytes.
@@ -135,7 +133,7 @@ pub mod show {
 
 /// The links of a capture, run by many threads.
 pub mod load {
-    pub use gn_load::{LoadFault, Watch, links_of, load, load_watched};
+    pub use gn_load::{LoadFault, PrintFault, Watch, links_of, load, load_watched, print_history};
 }
 
 /// A whole command line of `gn`.

@@ -7,7 +7,7 @@ use gn_links::NoGate;
 use gn_router::TableRouter;
 use gn_rules::Config;
 use gn_run::Report;
-use gn_serve::serve_on;
+use gn_serve::{Serving, serve_on};
 use gn_shake::{Role, consent, request};
 use gn_tcp::{TcpReader, TcpWriter, listen};
 use gn_threads::RunFault;
@@ -22,9 +22,11 @@ use std::{io, thread};
 
 type Served = Result<Report<TcpReader, TcpWriter>, RunFault>;
 
-/// What a peer does once it has sent its greeting.
+/// What a peer does, the first with its greeting, the others once they have sent it.
 #[derive(Clone, Copy)]
 enum Peer {
+    /// Sends it a byte at a time, each sooner after the one before than the time limit.
+    Dawdles,
     /// Sends a part of a Ping, and resets: it lets its socket go with the consent unread.
     Resets,
     /// Reads the consent, shuts its reading half, and sends a Ping and its end.
@@ -52,7 +54,16 @@ struct Row {
     closers: &'static [u32],
 }
 
-const ROWS: [Row; 4] = [
+const ROWS: [Row; 5] = [
+    Row {
+        peer: Peer::Dawdles,
+        clients: 1,
+        idle: Some(1),
+        reader: Some(ReaderEnd::ReadFailed),
+        writer: WriterEnd::NeverOpened,
+        admits: Some(0),
+        closers: &[],
+    },
     Row {
         peer: Peer::Resets,
         clients: 1,
@@ -110,6 +121,22 @@ fn hears(client: &mut TcpStream, bytes: &[u8]) -> io::Result<bool> {
     let n = bytes.len().min(64);
     client.read_exact(&mut heard[..n])?;
     Ok(&heard[..n] == bytes)
+}
+
+/// Sends its greeting so slowly that it is refused before that is whole.
+fn dawdles<N: Clock + Net<Listener = TcpListener, Stream = TcpStream>>(
+    net: &N,
+    at: SocketAddr,
+) -> io::Result<bool> {
+    let mut client = TcpStream::connect(net, at)?;
+    client.set_nodelay(true)?;
+    for byte in request() {
+        if client.write_all(&[*byte]).is_err() {
+            return Ok(true);
+        }
+        thread::sleep(net, Duration::from_millis(400));
+    }
+    Ok(false)
 }
 
 /// Sends a Ping and then its end, and reads nothing.
@@ -208,20 +235,20 @@ fn play<N: Clock + Net<Listener = TcpListener, Stream = TcpStream>>(
     peer: Peer,
     payload: &[u8],
 ) -> io::Result<bool> {
-    let mut client = greeted(net, at)?;
     match peer {
+        Peer::Dawdles => dawdles(net, at),
         Peer::Resets => {
-            client.write_all(&PING[..10])?;
+            greeted(net, at)?.write_all(&PING[..10])?;
             Ok(true)
         }
-        Peer::ShutsReading => shuts_reading(&mut client),
-        Peer::Drips => drips(&mut client),
-        Peer::NeverReads => never_reads(net, at, &mut client, payload),
+        Peer::ShutsReading => shuts_reading(&mut greeted(net, at)?),
+        Peer::Drips => drips(&mut greeted(net, at)?),
+        Peer::NeverReads => never_reads(net, at, &mut greeted(net, at)?, payload),
     }
 }
 
 /// A run over the table router with one worker and at most two clients.
-fn serve<R: Threads + Wait + Net<Listener = TcpListener, Stream = TcpStream> + Sync>(
+fn serve<R: Threads + Wait + Net<Listener = TcpListener, Stream = TcpStream> + Clock + Sync>(
     rt: &R,
     alloc: Global,
     listener: &TcpListener,
@@ -232,8 +259,21 @@ fn serve<R: Threads + Wait + Net<Listener = TcpListener, Stream = TcpStream> + S
     if accept > 2 {
         return Err(RunFault::BadWorkers);
     }
-    let idle = idle.map(Duration::from_secs);
-    serve_on::<TableRouter, _, _, _>(rt, alloc, listener, config, accept, &[], idle, 1, &NoGate)
+    let serving = Serving {
+        idle: idle.map(Duration::from_secs),
+        ..Serving::UNLIMITED
+    };
+    serve_on::<TableRouter, _, _, _>(
+        rt,
+        alloc,
+        listener,
+        config,
+        accept,
+        &[],
+        &serving,
+        1,
+        &NoGate,
+    )
 }
 
 /// What the run of a row left, where its clients heard what they had to.

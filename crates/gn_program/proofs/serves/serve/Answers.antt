@@ -1,7 +1,10 @@
-use Rattle.std.proofs.Common.{◌≡◌, ◌∙◌, ap, refl, length, subst, sym}
+use Rattle.std.proofs.Common.{◌≡◌, ◌∙◌, Bool, ap, refl, length, subst, sym, Ok}
+use Rattle.std.specs.declared.alloc.Global.{Global}
+use Rattle.gn_serve.specs.Histories.{HasServeStopped}
 use Rattle.gn_threads.specs.declared.fault.RunFault.TheVariants.{Listen, NoMemory}
 use Rattle.gn_program.specs.Commands.{IsServing}
-use Rattle.gn_program.proofs.ServeLemmas.{answered, unserved}
+use Rattle.gn_program.specs.Serving.{AskedServe}
+use Rattle.gn_program.proofs.ServeLemmas.{answered, failed, unserved}
 use Rattle.gn_program.proofs.serves.serve.Goals as goal
 
 pub returns-in_err-peers : goal.returns-in_err-peers
@@ -12,9 +15,39 @@ returns-in_err-peers g c =
 pub returns-in_default : goal.returns-in_default
 returns-in_default g c = unserved c.args.serving.now c.settings-config.result (g.W.Sink.state c.args.writer.now) _ Listen c.settings-config.ensures refl refl
 
+pub returns-in_err-report : goal.returns-in_err-report
+returns-in_err-report g c =
+    let ran = c.in_err-report.ensures in
+    let inside = c.serving.inside in
+    let many : length c.deref-2.result.now ≡ length inside.peers.items =
+    ap (λ xs. length xs) c.deref-2.ensures.value ∙ c.in_ok-peers.ensures.many ∙ ap (λ xs. length xs) c.deref.ensures.value in
+    let kept : c.limits-limits.result.is_kept ≡ inside.keeps = c.limits-limits.ensures ∙ ap (λ (s : AskedServe). s.keeps) (sym c.serving.view_is) in
+    let stopped =
+    subst (λ (keeps : Bool). HasServeStopped Global keeps c.settings-config.result (length c.deref-2.result.now) inside.accept inside.workers c.in_err-report.field-0.0
+    (g.W.Sink.state c.args.writer.now).written (g.W.Sink.state c.serve_history.new.sink).written) kept ran.stopped
+    in
+    rw (← c.serving.view_is) (failed (record {
+      port = inside.port;
+      accept = inside.accept;
+      workers = inside.workers;
+      servent = inside.servent;
+      peers = inside.peers.items;
+      idle = inside.idle;
+      life = inside.life;
+      crowd = inside.crowd;
+      retry = inside.retry;
+      seconds = inside.seconds;
+      steps = inside.steps;
+      keeps = inside.keeps;
+      report = inside.report;
+      progress = inside.progress;
+    }) c.settings-config.result (length c.deref-2.result.now) (g.W.Sink.state c.args.writer.now) (g.W.Sink.state c.serve_history.new.sink) c.from_residual-in_err-report.result
+    c.in_err-report.field-0.0 (subst (λ s. IsServing s c.settings-config.result) (sym c.serving.view_is) c.settings-config.ensures) many c.serving.invariant.0
+    c.from_residual-in_err-report.ensures.1 stopped ran.fault)
+
 pub returns : goal.returns
 returns g c =
-    let ran = c.serve_history.ensures in
+    let ran = c.in_ok-report.ensures in
     let inside = c.serving.inside in
     let many : length c.deref-2.result.now ≡ length inside.peers.items =
     ap (λ xs. length xs) c.deref-2.ensures.value ∙ c.in_ok-peers.ensures.many ∙ ap (λ xs. length xs) c.deref.ensures.value in
@@ -27,5 +60,11 @@ returns g c =
       idle = inside.idle;
       life = inside.life;
       crowd = inside.crowd;
-    }) c.settings-config.result (length c.deref-2.result.now) (g.W.Sink.state c.args.writer.now) (g.W.Sink.state c.serve_history.new.sink) c.serve_history.result
-    (subst (λ s. IsServing s c.settings-config.result) (sym c.serving.view_is) c.settings-config.ensures) many c.serving.invariant.0 ran.unfailed ran.written ran.stopped ran.fault)
+      retry = inside.retry;
+      seconds = inside.seconds;
+      steps = inside.steps;
+      keeps = inside.keeps;
+      report = inside.report;
+      progress = inside.progress;
+    }) c.settings-config.result (length c.deref-2.result.now) (g.W.Sink.state c.args.writer.now) (g.W.Sink.state c.serve_history.new.sink) (Ok tt)
+    (subst (λ s. IsServing s c.settings-config.result) (sym c.serving.view_is) c.settings-config.ensures) many c.serving.invariant.0 ran.unfailed ran.written tt tt)

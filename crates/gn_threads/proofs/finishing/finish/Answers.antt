@@ -12,8 +12,8 @@ use Rattle.gn_threads.proofs.finishing.finish.Goals as goal
 pub returns-in-Some-clause-fault : goal.returns-in-Some-clause-fault
 returns-in-Some-clause-fault g c = of_stop _ _ c.in-Some.fault c.in-Some.ensures _ _
 
-pub returns-in_err-idle-clause-fault : goal.returns-in_err-idle-clause-fault
-returns-in_err-idle-clause-fault g c = handed_on _ c.from_residual-in_err-idle.result _ c.from_residual-in_err-idle.ensures.1 (c.in_err-idle.ensures.fault _ _ (omega (arith, c.len.ensures)))
+pub returns-in-Err-clause-fault : goal.returns-in-Err-clause-fault
+returns-in-Err-clause-fault g c = c.in-Err.ensures.fault _ _ (omega (arith, c.len.ensures))
 
 pub assemble-requires-clause-readers : goal.assemble-requires-clause-readers
 assemble-requires-clause-readers g c =
@@ -24,8 +24,8 @@ pub assemble-requires-clause-suspect : goal.assemble-requires-clause-suspect
 assemble-requires-clause-suspect g c =
     let n = length c.args.roles.now + length c.args.roles.now + vec_len c.in_ok-worked.worked.receipts + 1 in
     let long = ap length c.as_slice.ensures.value in
-    answer_below c.first_refused-worker.result c.in_ok-idle.idle c.least-suspect.result n (below_more c.first_refused-worker.result _ n (omega (arith, long, c.args.done.workers.ok, c.in_ok-worked.ensures.many)) c.first_refused-worker.ensures.some)
-    (number_below c.in_ok-idle.idle _ n (omega (arith, c.len.ensures, c.in_ok-worked.ensures.many)) c.in_ok-idle.ensures.house) c.least-suspect.ensures.some
+    answer_below c.first_refused-worker.result c.in-Ok.idle c.least-suspect.result n (below_more c.first_refused-worker.result _ n (omega (arith, long, c.args.done.workers.ok, c.in_ok-worked.ensures.many)) c.first_refused-worker.ensures.some)
+    (number_below c.in-Ok.idle _ n (omega (arith, c.len.ensures, c.in_ok-worked.ensures.many)) c.in-Ok.ensures.house) c.least-suspect.ensures.some
 
 pub returns-clause-fault : goal.returns-clause-fault
 returns-clause-fault g c = subst (λ n. IfErr c.assemble.result (λ fault. IsFaultOf (length c.args.roles.now) n fault)) c.in_ok-worked.ensures.many c.assemble.ensures.fault

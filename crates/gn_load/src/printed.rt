@@ -1,0 +1,120 @@
+//! A history, written in blocks.
+
+ghost use Rattle.std.specs.Prelude.{◌≡◌, ◌++◌, IfErr, IfOk, OnErr, OnOk};
+ghost use Rattle.std.specs.Io.KnownBytes.{Appends};
+ghost use Rattle.gn_capture.specs.Histories.{history_text, steps_text};
+ghost use Rattle.gn_io.specs.Parts.{AppendsPart, LeavesToWrite};
+ghost use Rattle.gn_io.specs.Streams.{NoWriteFailed};
+ghost use Rattle.gn_load.specs.Printed.{IsPrintFault};
+ghost use Rattle.gn_text.specs.Header.{header_text};
+ghost use Rattle.gn_text.specs.Steps.{step_text};
+ghost use Rattle.gn_text.specs.declared.version.Text.TheVariants.{History};
+
+use gn_io::{Block, IoFault, Sink};
+use gn_rules::{Config, Step};
+use gn_text::{Text, push_header, push_step};
+use std::alloc::{AllocError, Allocator};
+
+/// Why a text wasn't written whole.
+#[derive(Clone, Copy, Debug, PartialEq, Eq)]
+pub enum PrintFault {
+    /// A write failed, or took nothing.
+    Write,
+    /// Out of memory.
+    NoMemory,
+}
+
+impl From<IoFault> for PrintFault {
+    ghost use Rattle.gn_load.specs.declared.printed.PrintFault.TheVariants.{Write};
+
+    ghost from_gives = { λ _ e. e ≡ Write };
+
+    fn from(_fault: IoFault) -> PrintFault {
+        PrintFault::Write
+    }
+}
+
+impl From<AllocError> for PrintFault {
+    ghost use Rattle.gn_load.specs.declared.printed.PrintFault.TheVariants.{NoMemory};
+
+    ghost from_gives = { λ _ e. e ≡ NoMemory };
+
+    fn from(_e: AllocError) -> PrintFault {
+        PrintFault::NoMemory
+    }
+}
+
+/// Adds a step's line to what waits, which is written once it is a block.
+fn print_step<A: Allocator, B: Allocator, W: Sink>(
+    step: &Step<A>,
+    line: &mut Vec<u8, B>,
+    block: &mut Block<B>,
+    sink: &mut W,
+) -> Result<(), PrintFault>
+    ensures ok { OnOk result (LeavesToWrite (W.state sink.old).written (W.state sink.new).written block.new
+        (block.old ++ step_text step.now)) }
+    ensures err { OnErr result (AppendsPart (W.state sink.old).written (W.state sink.new).written
+        (block.old ++ step_text step.now)) }
+    ensures cause { IfErr result (λ fault. IsPrintFault fault (W.state sink.old) (W.state sink.new)) }
+    ensures writes { OnOk result (NoWriteFailed (W.state sink.old) (W.state sink.new)) }
+{
+    line.clear();
+    push_step(line, step)?;
+    block.add(line)?;
+    block.write_full(sink)?;
+    Ok(())
+}
+
+/// Adds a line for each step to what waits, and writes in blocks.
+fn print_steps<A: Allocator, B: Allocator, W: Sink>(
+    steps: &[Step<A>],
+    line: &mut Vec<u8, B>,
+    block: &mut Block<B>,
+    sink: &mut W,
+) -> Result<(), PrintFault>
+    ensures ok { OnOk result (LeavesToWrite (W.state sink.old).written (W.state sink.new).written block.new
+        (block.old ++ steps_text steps.now)) }
+    ensures err { OnErr result (AppendsPart (W.state sink.old).written (W.state sink.new).written
+        (block.old ++ steps_text steps.now)) }
+    ensures cause { IfErr result (λ fault. IsPrintFault fault (W.state sink.old) (W.state sink.new)) }
+    ensures writes { OnOk result (NoWriteFailed (W.state sink.old) (W.state sink.new)) }
+{
+    for step in steps {
+        print_step(step, line, block, sink)?;
+    }
+    Ok(())
+}
+
+/// What stands in a history before its steps.
+fn heading<B: Allocator + Copy>(alloc: B, config: &Config) -> Result<Block<B>, AllocError>
+    ensures { IfOk result (λ block. block ≡ header_text History config.now) }
+{
+    let mut line = Vec::new(alloc);
+    push_header(&mut line, Text::History, config)?;
+    let mut block = Block::new(alloc);
+    block.add(&line)?;
+    Ok(block)
+}
+
+/// Writes the text of a history, as `write_history` of gn_capture has it, in blocks of at least 32,768 bytes, the last one
+/// shorter: no more than a block and a line of it are in memory. An `Err` leaves a prefix of the text.
+pub fn print_history<A: Allocator, B: Allocator + Copy, W: Sink>(
+    alloc: B,
+    config: &Config,
+    steps: &[Step<A>],
+    sink: &mut W,
+) -> Result<(), PrintFault>
+    ensures ok { OnOk result (Appends (W.state sink.old).written (W.state sink.new).written
+        (history_text config.now steps.now)) }
+    ensures err { OnErr result (AppendsPart (W.state sink.old).written (W.state sink.new).written
+        (history_text config.now steps.now)) }
+    ensures cause { IfErr result (λ fault. IsPrintFault fault (W.state sink.old) (W.state sink.new)) }
+    ensures unfailed { OnOk result (NoWriteFailed (W.state sink.old) (W.state sink.new)) }
+{
+    let mut block = heading(alloc, config)?;
+    let mut line = Vec::new(alloc);
+    print_steps(steps, &mut line, &mut block, sink)?;
+    block.add(b"end\n")?;
+    block.write_rest(sink)?;
+    Ok(())
+}

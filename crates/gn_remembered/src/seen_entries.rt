@@ -1,0 +1,64 @@
+//! Searches of a history for the descriptors that are remembered.
+
+ghost use Rattle.std.specs.Prelude.{◌≡◌, reverse};
+ghost use Rattle.std.specs.Map.{lookup};
+ghost use Rattle.gn_wire.specs.Keys.{is_same_key};
+ghost use Rattle.gn_rules.specs.SeenEntries as rules;
+ghost use Rattle.gn_remembered.specs.Place.{place};
+
+use crate::admitted::admission_in;
+use gn_rules::{Config, ConnId, Event, Step};
+use gn_wire::Key;
+use std::alloc::Allocator;
+
+/// The key and the source that a step keeps after this history.
+fn entry_in<A: Allocator>(history: &[Step<A>], step: &Step<A>) -> Option<(Key, ConnId)>
+    ensures { result ≡ rules.entry_of (reverse history.now) step.now.event step.now.reply }
+{
+    match &step.event {
+        Event::Route(t) => {
+            let (origin, packet) = admission_in(history, *t)?;
+            if step.reply.keeps(packet.kind()) {
+                Some((packet.key(), origin))
+            } else {
+                None
+            }
+        }
+        Event::Originate(packet) if step.reply.is_sent() => Some((packet.key(), 0)),
+        _ => None,
+    }
+}
+
+/// The source of the key's last kept entry, and how many seen entries are kept after it.
+#[tactic(auto, using(gn_rules::proofs::PastLemmas::past_more, gn_wire::proofs::KeyLemmas::same_key))]
+fn last_entry<A: Allocator>(history: &[Step<A>], key: &Key) -> (Option<ConnId>, usize)
+    ensures source { result.0 ≡ lookup (is_same_key key.now) (rules.seen_entries (reverse history.now)) }
+    ensures later { result.1 ≡ place (is_same_key key.now) (rules.seen_entries (reverse history.now)) }
+{
+    let mut source = None;
+    let mut later = 0usize;
+    for i in 0..history.len() {
+        if let Some((other, origin)) = entry_in(&history[..i], &history[i]) {
+            if *key == other {
+                source = Some(origin);
+                later = 0;
+            } else {
+                later += 1;
+            }
+        }
+    }
+    (source, later)
+}
+
+/// The source of the key, where it is remembered.
+#[tactic(auto, using(crate::proofs::PlaceLemmas::found_among, crate::proofs::PlaceLemmas::missed_among))]
+pub fn source_of<A: Allocator>(config: &Config, history: &[Step<A>], key: &Key) -> Option<ConnId>
+    ensures { result ≡ rules.source config.now (reverse history.now) key.now }
+{
+    let (source, later) = last_entry(history, key);
+    if later < config.numbers.seen as usize {
+        source
+    } else {
+        None
+    }
+}
