@@ -1,8 +1,9 @@
 //! The progress of a load or a serve, as what watches it.
 
-use gn_links::Gate;
+use gn_links::{Gate, Half, Made};
 use gn_load::Watch;
 use gn_progress::Progress;
+use std::net::SocketAddr;
 use std::sync::Wait;
 use std::time::Clock;
 
@@ -15,14 +16,26 @@ impl<'r, R: Clock + AllocGlobal> Gate for Watched<'r, R> {
         self.0.enter(rt, worker, ticket);
     }
 
-    fn admitted(&self, ticket: u32) {
-        self.0.admitted(ticket);
+    fn made(&self, link: u32, step: Made) {
+        self.0.made(link, step);
+    }
+
+    fn ended(&self, link: u32, half: Half) {
+        self.0.ended(link, half);
     }
 }
 
 impl<'r, R: Clock + AllocGlobal> Watch for Watched<'r, R> {
     fn begin(&self, links: usize) {
         self.0.begin(links);
+    }
+
+    fn open(&self, steps: u32) {
+        self.0.open(steps);
+    }
+
+    fn came(&self, link: u32, peer: SocketAddr) {
+        self.0.came(link, peer);
     }
 
     fn end(&self) {

@@ -11,7 +11,7 @@ ghost use Rattle.gn_bodies.specs.ReaderRows.{WithClose};
 use crate::asking::{admit, close, connect, route};
 use crate::ends::BodyFault;
 use crate::piece::Halt;
-use gn_links::Gate;
+use gn_links::{Gate, Made};
 use gn_payload::Checked;
 use gn_rules::{ConnId, Refusal, RouterCore};
 use gn_service::{Actor, Service};
@@ -55,10 +55,10 @@ impl<'g, G: Gate, S: Site, L: Ledger, A: Allocator + Copy> Admitter<'g, G, S, L,
         ensures alone { OnOk result (events_of self.new.actor ≡ link_events self.new.actor) }
         ensures settled { StaysSettled self.old self.new }
     {
-        connect(rt, service, &mut self.actor, link)
+        connect(rt, service, self.gate, &mut self.actor, link)
     }
 
-    /// Admits a descriptor, tells the gate, and puts its job, or routes it where it is handed back.
+    /// Admits a descriptor, and puts its job, or routes it where it is handed back.
     fn admit<C: RouterCore<A> + Drop, R: Wait>(
         &mut self,
         rt: &R,
@@ -75,13 +75,17 @@ impl<'g, G: Gate, S: Site, L: Ledger, A: Allocator + Copy> Admitter<'g, G, S, L,
     {
         match admit(rt, service, &mut self.actor, c, descriptor) {
             Ok(Some(job)) => {
-                self.gate.admitted(job.ticket);
+                self.gate
+                    .made(self.actor.number(), Made::Admitted(job.ticket));
                 match self.put(rt, service, job) {
                     Ok(()) => Ok(()),
                     Err(fault) => Err(Halt::Stop(fault)),
                 }
             }
-            Ok(None) => Ok(()),
+            Ok(None) => {
+                self.gate.made(self.actor.number(), Made::Busy);
+                Ok(())
+            }
             Err(Refusal::NotLive) => Err(Halt::NotLive),
             Err(Refusal::HistoryFull) => Err(Halt::Stop(BodyFault::HistoryFull)),
             Err(Refusal::NoMemory) => Err(Halt::Stop(BodyFault::NoMemory)),
@@ -112,7 +116,10 @@ impl<'g, G: Gate, S: Site, L: Ledger, A: Allocator + Copy> Admitter<'g, G, S, L,
             ticket,
             &Checked::new(descriptor),
         ) {
-            Ok(()) => Ok(()),
+            Ok(()) => {
+                self.gate.made(self.actor.number(), Made::Routed);
+                Ok(())
+            }
             Err(fault) => {
                 self.is_refused = true;
                 if fault.is_stop() {
@@ -159,6 +166,7 @@ impl<'g, G: Gate, S: Site, L: Ledger, A: Allocator + Copy> Admitter<'g, G, S, L,
         ensures closed { WithClose c (link_events self.new.actor) (link_events self.old.actor) }
         ensures settled { StaysSettled self.old self.new }
     {
-        close(rt, service, &mut self.actor, c)
+        let link = self.actor.number();
+        close(rt, service, self.gate, &mut self.actor, link, c)
     }
 }

@@ -10,6 +10,7 @@ ghost use Rattle.gn_bodies.specs.Events.{connection_of, events_of, link_events, 
 ghost use Rattle.gn_bodies.specs.Jobs.{jobs_left};
 
 use crate::ends::BodyFault;
+use gn_links::{Gate, Made};
 use gn_payload::Checked;
 use gn_rules::{ConnId, Event, Refusal, RouterCore, Ticket};
 use gn_service::{Actor, Service};
@@ -67,10 +68,19 @@ pub(crate) fn route<C: RouterCore<A> + Drop, L: Ledger, A: Allocator + Copy, R: 
     }
 }
 
+/// What a Connect made, by the connection that it gave.
+fn made_by(connection: Option<ConnId>) -> Made {
+    match connection {
+        Some(_) => Made::Connected,
+        None => Made::TooMany,
+    }
+}
+
 /// Connects a link, whose reader has no receipts yet. The connection, or none where too many are live.
-pub(crate) fn connect<C: RouterCore<A> + Drop, L: Ledger, A: Allocator + Copy, R: Wait>(
+pub(crate) fn connect<G: Gate, C: RouterCore<A> + Drop, L: Ledger, A: Allocator + Copy, R: Wait>(
     rt: &R,
     service: &Service<C, L, A>,
+    gate: &G,
     me: &mut Actor<L, A>,
     link: u32,
 ) -> Result<Option<ConnId>, BodyFault>
@@ -84,25 +94,34 @@ pub(crate) fn connect<C: RouterCore<A> + Drop, L: Ledger, A: Allocator + Copy, R
     ensures err { OnErr result (me.new ≡ me.old) }
 {
     match service.connect(rt, me, link) {
-        Ok(()) => Ok(me.last_reply().connected()),
+        Ok(()) => {
+            let connection = me.last_reply().connected();
+            gate.made(link, made_by(connection));
+            Ok(connection)
+        }
         Err(Refusal::HistoryFull) => Err(BodyFault::HistoryFull),
         Err(Refusal::NoMemory) => Err(BodyFault::NoMemory),
         Err(_) => unreachable!(),
     }
 }
 
-/// Closes a connection, if it is still live.
-pub(crate) fn close<C: RouterCore<A> + Drop, L: Ledger, A: Allocator + Copy, R: Wait>(
+/// Closes the connection of a link, if it is still live.
+pub(crate) fn close<G: Gate, C: RouterCore<A> + Drop, L: Ledger, A: Allocator + Copy, R: Wait>(
     rt: &R,
     service: &Service<C, L, A>,
+    gate: &G,
     me: &mut Actor<L, A>,
+    link: u32,
     c: ConnId,
 ) -> Result<(), BodyFault>
     ensures closed { MayClose c me.old me.new }
     ensures packets { packets_of me.new ≡ packets_of me.old }
 {
     match service.call(rt, me, &Event::Close(c)) {
-        Ok(()) => Ok(()),
+        Ok(()) => {
+            gate.made(link, Made::Closed);
+            Ok(())
+        }
         Err(Refusal::NotLive) => Ok(()),
         Err(Refusal::HistoryFull) => Err(BodyFault::HistoryFull),
         Err(Refusal::NoMemory) => Err(BodyFault::NoMemory),

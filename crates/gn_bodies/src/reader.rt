@@ -13,7 +13,7 @@ use crate::admitter::Admitter;
 use crate::ends::{BodyFault, ReaderEnd};
 use crate::piece::{Piece, Reading};
 use crate::reading::{open, take_piece};
-use gn_links::{Gate, LinkReader};
+use gn_links::{Gate, Half, LinkReader};
 use gn_rules::{ConnId, RouterCore};
 use gn_service::{Actor, Service};
 use gn_shake::{Role, Shake};
@@ -178,8 +178,8 @@ fn read_link<
     Ok(end)
 }
 
-/// The body of a reader: it awaits the greeting, connects, and admits what its bytes offer, in order. The gate learns of each
-/// admitted descriptor, and its job is put, or routed by the reader itself where the intake hands it back.
+/// The body of a reader: it awaits the greeting, connects, and admits what its bytes offer, in order. The job of each admitted
+/// descriptor is put, or routed by the reader itself where the intake hands it back. The gate learns of each step.
 ///
 /// The link's door is shut where it doesn't connect, and a stop fails the run. In any case the reader is done, and the
 /// link's reader and the intake are finished.
@@ -232,9 +232,11 @@ pub fn reader_body<
     let end = read_link(rt, alloc, service, &mut me, &mut reader, link, role);
     if let Err(BodyFault::HistoryFull | BodyFault::NoMemory) = end {
         service.fail(rt);
+        gate.failed();
     }
     service.reader_done(rt, link);
     reader.finish(rt);
+    gate.ended(link, Half::Reader);
     let Admitter { actor, intake, .. } = me;
     ReaderDone {
         actor,

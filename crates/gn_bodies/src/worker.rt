@@ -105,6 +105,7 @@ pub fn worker_body<
     let end = route_all(rt, service, &mut actor, worker, gate, &mut outlet);
     if let Err(BodyFault::HistoryFull | BodyFault::NoMemory) = end {
         service.fail(rt);
+        gate.failed();
     }
     WorkerDone {
         actor,

@@ -17,7 +17,7 @@ ghost use Rattle.gn_bodies.specs.Written.{IsHurt, PacketRow, PacketSteps, Writer
 
 use crate::asking::close;
 use crate::ends::{BodyFault, WriterEnd};
-use gn_links::LinkWriter;
+use gn_links::{Gate, Half, LinkWriter, Made};
 use gn_rules::{ConnId, Refusal, Reply, RouterCore};
 use gn_service::{Actor, Service};
 use gn_shake::Role;
@@ -65,11 +65,13 @@ fn write_all<W: LinkWriter, R: Wait>(rt: &R, writer: &mut W, text: &[u8]) -> boo
     true
 }
 
-/// Takes the next packet, or finds out how the connection is over.
-fn take_next<C: RouterCore<A> + Drop, L: Ledger, A: Allocator + Copy, R: Wait>(
+/// Takes the link's next packet, or finds out how its connection is over.
+fn take_next<G: Gate, C: RouterCore<A> + Drop, L: Ledger, A: Allocator + Copy, R: Wait>(
     rt: &R,
     service: &Service<C, L, A>,
+    gate: &G,
     me: &mut Actor<L, A>,
+    link: u32,
     c: ConnId,
 ) -> Result<Out, BodyFault>
     ensures number { me.new.number ≡ me.old.number }
@@ -79,9 +81,13 @@ fn take_next<C: RouterCore<A> + Drop, L: Ledger, A: Allocator + Copy, R: Wait>(
 {
     let before = me.receipts().len();
     match service.next_out(rt, me, c) {
-        Ok(true) => Ok(Out::Packet),
+        Ok(true) => {
+            gate.made(link, Made::Taken);
+            Ok(Out::Packet)
+        }
         Ok(false) => {
             if me.receipts().len() > before {
+                gate.made(link, Made::Closed);
                 Ok(Out::Drained)
             } else {
                 Ok(Out::Closed)
@@ -111,11 +117,20 @@ fn encode_last<L: Ledger, A: Allocator + Copy>(
 }
 
 /// Takes, encodes and writes each packet.
-fn write_packets<W: LinkWriter, C: RouterCore<A> + Drop, L: Ledger, A: Allocator + Copy, R: Wait>(
+fn write_packets<
+    W: LinkWriter,
+    G: Gate,
+    C: RouterCore<A> + Drop,
+    L: Ledger,
+    A: Allocator + Copy,
+    R: Wait,
+>(
     rt: &R,
     alloc: A,
     service: &Service<C, L, A>,
+    gate: &G,
     me: &mut Actor<L, A>,
+    link: u32,
     writer: &mut W,
     role: Role,
     c: ConnId,
@@ -131,7 +146,7 @@ fn write_packets<W: LinkWriter, C: RouterCore<A> + Drop, L: Ledger, A: Allocator
         → IsHurt (W.failures writer.new) (W.is_stuck writer.new)) }
 {
     for _ in rt.forever() {
-        match take_next(rt, service, me, c)? {
+        match take_next(rt, service, gate, me, link, c)? {
             Out::Packet => {
                 let Ok(text) = encode_last(alloc, me) else {
                     return Err(BodyFault::NoMemory);
@@ -148,10 +163,18 @@ fn write_packets<W: LinkWriter, C: RouterCore<A> + Drop, L: Ledger, A: Allocator
 }
 
 /// Opens the link, writes, and closes it where a write failed.
-fn write_link<W: LinkWriter, C: RouterCore<A> + Drop, L: Ledger, A: Allocator + Copy, R: Wait>(
+fn write_link<
+    W: LinkWriter,
+    G: Gate,
+    C: RouterCore<A> + Drop,
+    L: Ledger,
+    A: Allocator + Copy,
+    R: Wait,
+>(
     rt: &R,
     alloc: A,
     service: &Service<C, L, A>,
+    gate: &G,
     me: &mut Actor<L, A>,
     link: u32,
     role: Role,
@@ -177,25 +200,34 @@ fn write_link<W: LinkWriter, C: RouterCore<A> + Drop, L: Ledger, A: Allocator + 
     };
     if let Role::Accepting = role {
         if !write_all(rt, writer, gn_shake::consent()) {
-            close(rt, service, me, c)?;
+            close(rt, service, gate, me, link, c)?;
             return Ok(WriterEnd::WriteFailed);
         }
     }
-    let end = write_packets(rt, alloc, service, me, writer, role, c)?;
+    let end = write_packets(rt, alloc, service, gate, me, link, writer, role, c)?;
     if let WriterEnd::WriteFailed = end {
-        close(rt, service, me, c)?;
+        close(rt, service, gate, me, link, c)?;
     }
     Ok(end)
 }
 
 /// The body of a writer: it writes the request of a calling link, waits until the link has connected, writes the consent of
-/// an accepting one, and then each packet that it takes. It closes the connection where a write failed.
+/// an accepting one, and then each packet that it takes. It closes the connection where a write failed. The gate learns of each
+/// step.
 ///
 /// A stop fails the run. In any case the link's writer is finished.
-pub fn writer_body<W: LinkWriter, C: RouterCore<A> + Drop, L: Ledger, A: Allocator + Copy, R: Wait>(
+pub fn writer_body<
+    W: LinkWriter,
+    G: Gate,
+    C: RouterCore<A> + Drop,
+    L: Ledger,
+    A: Allocator + Copy,
+    R: Wait,
+>(
     rt: &R,
     alloc: A,
     service: &Service<C, L, A>,
+    gate: &G,
     actor: Actor<L, A>,
     link: u32,
     role: Role,
@@ -214,11 +246,22 @@ pub fn writer_body<W: LinkWriter, C: RouterCore<A> + Drop, L: Ledger, A: Allocat
     ensures finished { W.is_finished result.writer ≡ true }
 {
     let (mut actor, mut writer) = (actor, writer);
-    let end = write_link(rt, alloc, service, &mut actor, link, role, &mut writer);
+    let end = write_link(
+        rt,
+        alloc,
+        service,
+        gate,
+        &mut actor,
+        link,
+        role,
+        &mut writer,
+    );
     if let Err(BodyFault::HistoryFull | BodyFault::NoMemory) = end {
         service.fail(rt);
+        gate.failed();
     }
     writer.finish(rt);
+    gate.ended(link, Half::Writer);
     WriterDone {
         actor,
         role,

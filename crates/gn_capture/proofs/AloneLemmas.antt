@@ -1,7 +1,7 @@
 -- A number that stands alone, with the cause where there is none and without it.
 use Rattle.std.proofs.Common.{◌≡◌, ℕ, List, [], ◌∷◌, refl, sym, Option, Some, None}
 use Rattle.std.specs.Result.{result_ok}
-use Rattle.gn_text.specs.Numbers.{number_of}
+use Rattle.gn_numbers.specs.Numbers.{number_of}
 use Rattle.gn_capture.specs.CaptureLines.{number_alone}
 use Rattle.gn_capture.specs.Outcomes.{parsed}
 use Rattle.gn_capture.specs.Replies.{alone}

@@ -4,9 +4,8 @@ use Rattle.std.specs.Prelude.{IfSome, slice_get, map, option_map}
 use lib.Pointwise.{bytes_decides}
 use Rattle.gn_wire.specs.Packet.{Packet}
 use Rattle.gn_rules.specs.declared.sends.Sending.{Sending}
-use Rattle.gn_text.specs.Addresses.{◌>>=◌}
 use Rattle.gn_text.specs.Lines.{is_word}
-use Rattle.gn_text.specs.Numbers.{number_of}
+use Rattle.gn_numbers.specs.Numbers.{number_of, ◌>>=◌}
 use Rattle.gn_capture.specs.Packets.{packet_parsed}
 use Rattle.gn_capture.specs.Replies.{hex_of, mark_place, marked_parsed, sending_parsed, sends_parsed}
 use Rattle.gn_capture.specs.Known.{SaysLast}

@@ -9,8 +9,8 @@ use Rattle.std.proofs.lemmas.Bool.Decides.{nat_tests}
 use Rattle.std.proofs.lemmas.List.Splits.{slice_split_at, slice_split_none}
 use Rattle.std.proofs.lemmas.List.Sums.{AllPass-from_list_all}
 use Rattle.gn_text.specs.Addresses.{ip_of, ip_of_parts, ip_text}
-use Rattle.gn_text.specs.Numbers.{below, is_numeral, number_below, number_of}
-use Rattle.gn_text.proofs.NumberLemmas.{own, numeral_is, fits}
+use Rattle.gn_numbers.specs.Numbers.{below, is_numeral, number_below, number_of}
+use Rattle.gn_numbers.proofs.NumberLemmas.{own, numeral_is, fits}
 use Rattle.gn_capture.proofs.Spaced.{IsPlain, digits_plain, all_append, is_plain}
 
 pub number_digits : (n : ℕ) → n < 2 ^ 32 → list_all is_ascii_digit (decimal n) ≡ true

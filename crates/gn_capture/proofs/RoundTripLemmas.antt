@@ -4,10 +4,11 @@ use Rattle.std.specs.List.{AllByRecursion}
 use Rattle.gn_rules.specs.declared.config.Config.{Config}
 use Rattle.gn_rules.specs.declared.receipt.Step.{Step}
 use Rattle.gn_text.specs.Lines.{lines_of}
-use Rattle.gn_text.specs.declared.version.Text.TheVariants.{History}
-use Rattle.gn_text.specs.declared.version.Version.{Version}
-use Rattle.gn_text.specs.declared.version.Version.TheVariants.{First, Second, Third}
-use Rattle.gn_text.specs.Versions.{title_of, version_for, version_of}
+use Rattle.gn_text.specs.declared.title.Text.TheVariants.{History}
+use Rattle.gn_numbers.specs.declared.version.Version.{Version}
+use Rattle.gn_numbers.specs.declared.version.Version.TheVariants.{First, Second, Third}
+use Rattle.gn_text.specs.Titles.{title_of, version_of}
+use Rattle.gn_numbers.specs.Versions.{version_for}
 use Rattle.gn_text.specs.Header.{header_of}
 use Rattle.gn_text.specs.Parsed.{numbered_from, parsed_of, line_after}
 use Rattle.gn_text.specs.Settings.{settings_of, config_line, own_line}

@@ -13,11 +13,11 @@ use Rattle.gn_text.specs.Lines.{fields_of}
 use Rattle.gn_rules.specs.declared.config.Config.{Config}
 use Rattle.gn_rules.specs.declared.config.Own.{Own}
 use Rattle.gn_rules.specs.declared.limits.Numbers.{Numbers}
-use Rattle.gn_text.specs.declared.version.Later.{Later}
-use Rattle.gn_text.specs.declared.version.Version.{Version}
-use Rattle.gn_text.specs.declared.version.Version.TheVariants.{First, Second, Third}
+use Rattle.gn_numbers.specs.declared.version.Later.{Later}
+use Rattle.gn_numbers.specs.declared.version.Version.{Version}
+use Rattle.gn_numbers.specs.declared.version.Version.TheVariants.{First, Second, Third}
 use Rattle.gn_text.specs.Settings.{config_of, numbers_of, numbers_parsed, numbers_within, own_of, config_line, field_text, own_line}
-use Rattle.gn_text.specs.Versions.{later_parsed, later_text, version_for}
+use Rattle.gn_numbers.specs.Versions.{later_parsed, later_text, version_for}
 use Rattle.gn_text.proofs.SettingsLemmas.{config_within}
 use Rattle.gn_capture.specs.RoundTrip.{IsOwn}
 use Rattle.gn_capture.proofs.DescriptorsAgain.{hex_plain}

@@ -2,7 +2,7 @@
 use Rattle.std.specs.Prelude.{ℕ, ◌+◌, ◌==◌, ◌&&◌, nat_le, if◌then◌else◌, List, [], ◌∷◌, Option, Some, None, Result, Ok, Err}
 use Rattle.gn_rules.specs.Limits.{most_links}
 use Rattle.gn_text.specs.Bytes.{bytes_parsed}
-use Rattle.gn_text.specs.Numbers.{number_of}
+use Rattle.gn_numbers.specs.Numbers.{number_of}
 use Rattle.gn_text.specs.declared.fault.Cause.{Cause}
 use Rattle.gn_text.specs.declared.fault.Cause.TheVariants as cause
 use Rattle.gn_capture.specs.declared.line.Line.{Line}

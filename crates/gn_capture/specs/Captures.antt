@@ -4,7 +4,7 @@ use Rattle.gn_rules.specs.declared.config.Own.{Own}
 use Rattle.gn_text.specs.Lines.{fields_of}
 use Rattle.gn_text.specs.declared.fault.CaptureFault.{CaptureFault}
 use Rattle.gn_text.specs.Faults.{◌>>=◌}
-use Rattle.gn_text.specs.declared.version.Text.TheVariants as text
+use Rattle.gn_text.specs.declared.title.Text.TheVariants as text
 use Rattle.gn_text.specs.Header.{header_of}
 use Rattle.gn_text.specs.Parsed.{line_after, parsed_of}
 use Rattle.gn_rules.specs.declared.limits.Numbers.{Numbers}

@@ -4,9 +4,8 @@ use Rattle.std.proofs.Common.{Bor}
 use Rattle.gn_wire.specs.Packet.{Packet}
 use Rattle.gn_rules.specs.declared.event.Event.{Event}
 use Rattle.gn_rules.specs.declared.event.Event.TheVariants.{Connect, Close, Admit, Route, Take, Originate}
-use Rattle.gn_text.specs.Addresses.{◌>>=◌}
 use Rattle.gn_text.specs.Lines.{is_word}
-use Rattle.gn_text.specs.Numbers.{number_of}
+use Rattle.gn_numbers.specs.Numbers.{number_of, ◌>>=◌}
 use Rattle.gn_capture.specs.Packets.{packet_parsed}
 
 -- a value that the first fields say, with the fields after them, and what these refer to

@@ -9,7 +9,7 @@ use Rattle.gn_text.specs.declared.fault.Cause.TheVariants as cause
 use Rattle.gn_text.specs.declared.fault.CaptureFault.{CaptureFault}
 use Rattle.gn_text.specs.declared.fault.CaptureRefusal.{CaptureRefusal}
 use Rattle.gn_text.specs.Faults.{IsRefused, fault_at, numbered_at, ◌>>=◌}
-use Rattle.gn_text.specs.declared.version.Text.TheVariants.{History}
+use Rattle.gn_text.specs.declared.title.Text.TheVariants.{History}
 use Rattle.gn_text.specs.Header.{header_of, header_text}
 use Rattle.gn_text.specs.Parsed.{Numbered, parsed_of, line_after}
 use Rattle.gn_rules.specs.declared.limits.Numbers.{Numbers}

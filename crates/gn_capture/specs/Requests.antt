@@ -7,7 +7,7 @@ use Rattle.gn_payload.specs.Fields.{QueryFields}
 use Rattle.gn_payload.specs.Refusals.{has_zero}
 use Rattle.gn_payload.specs.Encoding.{query_bytes}
 use Rattle.gn_text.specs.Bytes.{bytes_parsed, guid_of}
-use Rattle.gn_text.specs.Numbers.{number_below}
+use Rattle.gn_numbers.specs.Numbers.{number_below}
 use Rattle.gn_text.specs.declared.fault.Cause.{Cause}
 use Rattle.gn_text.specs.declared.fault.Cause.TheVariants.{Fields, Field}
 use Rattle.gn_text.specs.Faults.{◌>>=◌}

@@ -2,7 +2,7 @@
 use Rattle.std.specs.Prelude.{ℕ, if◌then◌else◌, List, [], ◌∷◌, codes, Option, Some, None}
 use Rattle.gn_rules.specs.declared.receipt.Step.{Step}
 use Rattle.gn_rules.specs.declared.reply.Reply.{Reply}
-use Rattle.gn_text.specs.Addresses.{◌>>=◌}
+use Rattle.gn_numbers.specs.Numbers.{◌>>=◌}
 use Rattle.gn_text.specs.Lines.{is_word}
 use Rattle.gn_capture.specs.Events.{number_first, event_first}
 use Rattle.gn_capture.specs.Replies.{reply_parsed}

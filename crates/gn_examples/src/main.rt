@@ -3,6 +3,7 @@
 
 use gn_io::{ReaderSource, WriterSink};
 use gn_program::command;
+use std::io::StdinLock;
 use std::net::{Net, TcpListener, TcpStream};
 use std::process::ExitCode;
 use std::rt::Files;
@@ -39,6 +40,7 @@ fn answer<
         + Wait
         + Net<Listener = TcpListener, Stream = TcpStream>
         + Clock
+        + Input<Reader = StdinLock<'static>>
         + Sync
         + AllocGlobal,
 >(rt: &R, words: &[&str], input: &[u8]) -> (u8, Vec<u8>, Vec<u8>) {
@@ -55,6 +57,7 @@ fn printed<
         + Wait
         + Net<Listener = TcpListener, Stream = TcpStream>
         + Clock
+        + Input<Reader = StdinLock<'static>>
         + Sync
         + AllocGlobal,
 >(rt: &R, words: &[&str], input: &[u8], status: u8) -> Option<Vec<u8>> {
@@ -72,6 +75,7 @@ fn compared<
         + Wait
         + Net<Listener = TcpListener, Stream = TcpStream>
         + Clock
+        + Input<Reader = StdinLock<'static>>
         + Sync
         + AllocGlobal,
 >(rt: &R, words: &[&str], input: &[u8], status: u8, wanted: &[u8]) -> &'static str {
@@ -87,6 +91,7 @@ fn judged<
         + Wait
         + Net<Listener = TcpListener, Stream = TcpStream>
         + Clock
+        + Input<Reader = StdinLock<'static>>
         + Sync
         + AllocGlobal,
 >(rt: &R, words: &[&str], capture: &[u8]) -> &'static str {
@@ -106,6 +111,7 @@ fn replay_all<
         + Wait
         + Net<Listener = TcpListener, Stream = TcpStream>
         + Clock
+        + Input<Reader = StdinLock<'static>>
         + Sync
         + Files
         + Print
@@ -127,6 +133,7 @@ fn load_all<
         + Wait
         + Net<Listener = TcpListener, Stream = TcpStream>
         + Clock
+        + Input<Reader = StdinLock<'static>>
         + Sync
         + Files
         + Print
@@ -156,6 +163,7 @@ fn is_as_wanted<
         + Wait
         + Net<Listener = TcpListener, Stream = TcpStream>
         + Clock
+        + Input<Reader = StdinLock<'static>>
         + Sync
         + Files
         + AllocGlobal,
@@ -178,6 +186,7 @@ fn answer_all<
         + Wait
         + Net<Listener = TcpListener, Stream = TcpStream>
         + Clock
+        + Input<Reader = StdinLock<'static>>
         + Sync
         + Files
         + Print

@@ -1,44 +1,95 @@
-//! What the tests of several crates share: the own servent, the usual configuration, and a Ping with its answer.
+//! What the tests of several crates share: the own servent, the usual configuration, and a Ping with its answer; an allocator
+//! which counts the growths that it is asked for and refuses those that a test names; and the test of a call that can be out of
+//! memory, where each of its growths is refused in turn.
 #![tactic(auto)]
 
-ghost use Rattle.std.specs.Prelude.{◌≡◌, [], IfOk};
-ghost use Rattle.gn_rules.specs.Settings.{IsMadeOf};
-ghost use Rattle.gn_wire.specs.declared.kind.Kind.TheVariants.{Ping};
+mod samples;
+mod turn;
 
-use bytes::Bytes;
-use gn_rules::{BadConfig, Config, Own};
-use gn_wire::{Descriptor, FrameFault, Guid, Kind};
-use std::alloc::Allocator;
+pub use samples::{OWN, OWN_PONG, PING, ping, usual};
+use std::alloc::{AllocError, Allocator};
+use std::sync::atomic::{AtomicU64, Ordering};
+pub use turn::{Call, Failure, Heap, Refused, Turn, Turns, growths, growths_of_call};
 
-/// The router's own servent.
-pub const OWN: Own = Own {
-    servent: Guid([0xee; 16]),
-    ip: [127, 0, 0, 1],
-    port: 6346,
-    files: 5,
-    kbytes: 40,
-};
-
-/// A Ping's encoding, with TTL 7 and Hops 0.
-pub const PING: &[u8] =
-    b"\xa1\xa1\xa1\xa1\xa1\xa1\xa1\xa1\xa1\xa1\xa1\xa1\xa1\xa1\xa1\xa1\x00\x07\x00\x00\x00\x00\x00";
-
-/// The encoding of the own Pong that answers it, with TTL 1 and Hops 0.
-pub const OWN_PONG: &[u8] =
-    b"\xa1\xa1\xa1\xa1\xa1\xa1\xa1\xa1\xa1\xa1\xa1\xa1\xa1\xa1\xa1\xa1\x01\x01\x00\x0e\x00\x00\x00\xca\x18\x7f\x00\x00\x01\x05\x00\x00\x00\x28\x00\x00\x00";
-
-/// The configuration of most runs, but with so many steps.
-pub fn usual(steps: u32) -> Result<Config, BadConfig>
-    ensures { IfOk result (λ config. IsMadeOf config
-        (record { neighbours = 4; seen = 8; servents = 4; stage = 8; out = 8; steps = steps; life = 0; crowd = 0 }) OWN) }
-{
-    Config::new(4, 8, 4, 8, 8, steps, 0, 0, OWN)
+/// Growths count from 0. Those from `first` on, but not from `end` on, are refused.
+#[derive(Drop)]
+struct Plan {
+    asked: AtomicU64,
+    first: AtomicU64,
+    end: AtomicU64,
 }
 
-/// A Ping with an ID that repeats this byte.
-pub fn ping<A: Allocator>(byte: u8, ttl: u8, hops: u8) -> Result<Descriptor<A>, FrameFault>
-    ensures kind { IfOk result (λ ping. (ping.kind ≡ Ping) × (ping.payload ≡ [])) }
-    ensures fields { IfOk result (λ ping. (ping.ttl ≡ ttl) × (ping.hops ≡ hops)) }
-{
-    Descriptor::new(Guid([byte; 16]), Kind::Ping, ttl, hops, Bytes::new())
+/// Counts a growth, and says whether it is refused.
+fn refuses(plan: &Plan) -> bool {
+    let number = plan.asked.fetch_add(1, Ordering::SeqCst);
+    plan.first.load(Ordering::SeqCst) <= number && number < plan.end.load(Ordering::SeqCst)
+}
+
+/// An allocator that passes on to another each growth that it doesn't refuse. Collections hold a `&` to it, on any thread.
+/// No clause says which growths are refused, since the count is an atomic: so a test asserts how many its call met.
+#[derive(Drop)]
+pub struct Refusing<B: Allocator> {
+    inner: B,
+    plan: Plan,
+}
+
+impl<B: Allocator> Refusing<B> {
+    /// Refuses nothing yet.
+    pub fn new(inner: B) -> Self {
+        Refusing {
+            inner,
+            plan: Plan {
+                asked: AtomicU64::new(0),
+                first: AtomicU64::new(u64::MAX),
+                end: AtomicU64::new(u64::MAX),
+            },
+        }
+    }
+
+    /// Counts from 0 again, and refuses these growths.
+    fn plan(&self, first: u64, end: u64) {
+        self.plan.first.store(first, Ordering::SeqCst);
+        self.plan.end.store(end, Ordering::SeqCst);
+        self.plan.asked.store(0, Ordering::SeqCst);
+    }
+
+    /// From now on refuses the growth of this number alone. Growths count from 0, beginning now.
+    pub fn refuse_only(&self, number: u64) {
+        self.plan(number, number.saturating_add(1));
+    }
+
+    /// From now on refuses the growth of this number and each later one. Growths count from 0, beginning now.
+    pub fn refuse_from(&self, number: u64) {
+        self.plan(number, u64::MAX);
+    }
+
+    /// From now on refuses nothing.
+    pub fn refuse_none(&self) {
+        self.plan(u64::MAX, u64::MAX);
+    }
+
+    /// How many growths it was asked for since a `refuse_..` was called last, the refused ones among them.
+    pub fn asked(&self) -> u64 {
+        self.plan.asked.load(Ordering::SeqCst)
+    }
+
+    /// Whether it has refused one of these.
+    pub fn has_refused(&self) -> bool {
+        self.asked() > self.plan.first.load(Ordering::SeqCst)
+    }
+}
+
+unsafe impl<B: Allocator> Allocator for Refusing<B> {
+    ghost dealloc_token = { λ heap ty ptr. B.dealloc_token heap.inner ty ptr };
+
+    fn allocate(&self, size: usize, align: usize) -> Result<*mut u8, AllocError> {
+        if refuses(&self.plan) {
+            return Err(AllocError);
+        }
+        self.inner.allocate(size, align)
+    }
+
+    unsafe fn deallocate(&self, ptr: *mut u8, size: usize, align: usize) {
+        self.inner.deallocate(ptr, size, align);
+    }
 }

@@ -8,7 +8,7 @@ mod memory_reader;
 mod memory_writer;
 mod split;
 
-pub use gate::{Gate, NoGate};
+pub use gate::{Gate, Half, Made, NoGate};
 pub use link::{Link, LinkFault, LinkReader, LinkWriter};
 pub use memory::MemoryLink;
 pub use memory_reader::MemoryReader;

@@ -4,7 +4,7 @@ use Rattle.std.proofs.lemmas.List.{length-set}
 use Rattle.gn_links.specs.Memory.{Memory}
 use Rattle.gn_text.specs.Bytes.{bytes_parsed}
 use Rattle.gn_text.specs.Lines.{fields_of, is_word}
-use Rattle.gn_text.specs.Numbers.{number_of}
+use Rattle.gn_numbers.specs.Numbers.{number_of}
 use Rattle.gn_text.specs.declared.fault.Cause.{Cause}
 use Rattle.gn_text.specs.declared.fault.Cause.TheVariants as cause
 use Rattle.gn_text.specs.declared.fault.CaptureFault.{CaptureFault}

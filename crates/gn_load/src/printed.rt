@@ -8,12 +8,15 @@ ghost use Rattle.gn_io.specs.Streams.{NoWriteFailed};
 ghost use Rattle.gn_load.specs.Printed.{IsPrintFault};
 ghost use Rattle.gn_text.specs.Header.{header_text};
 ghost use Rattle.gn_text.specs.Steps.{step_text};
-ghost use Rattle.gn_text.specs.declared.version.Text.TheVariants.{History};
+ghost use Rattle.gn_text.specs.declared.title.Text.TheVariants.{History};
 
-use gn_io::{Block, IoFault, Sink};
+use gn_io::{Block, IoFault, Sink, write_all};
 use gn_rules::{Config, Step};
 use gn_text::{Text, push_header, push_step};
 use std::alloc::{AllocError, Allocator};
+
+/// A line of so many bytes or more isn't copied into what waits.
+const LONG: usize = 32_768;
 
 /// Why a text wasn't written whole.
 #[derive(Clone, Copy, Debug, PartialEq, Eq)]
@@ -44,6 +47,24 @@ impl From<AllocError> for PrintFault {
     }
 }
 
+/// Writes what waits and a long line behind it, so that the line isn't in memory twice.
+fn print_long<B: Allocator, W: Sink>(
+    line: &[u8],
+    block: &mut Block<B>,
+    sink: &mut W,
+) -> Result<(), PrintFault>
+    ensures ok { OnOk result (LeavesToWrite (W.state sink.old).written (W.state sink.new).written block.new
+        (block.old ++ line.now)) }
+    ensures err { OnErr result (AppendsPart (W.state sink.old).written (W.state sink.new).written
+        (block.old ++ line.now)) }
+    ensures cause { IfErr result (λ fault. IsPrintFault fault (W.state sink.old) (W.state sink.new)) }
+    ensures writes { OnOk result (NoWriteFailed (W.state sink.old) (W.state sink.new)) }
+{
+    block.write_rest(sink)?;
+    write_all(sink, line)?;
+    Ok(())
+}
+
 /// Adds a step's line to what waits, which is written once it is a block.
 fn print_step<A: Allocator, B: Allocator, W: Sink>(
     step: &Step<A>,
@@ -60,6 +81,9 @@ fn print_step<A: Allocator, B: Allocator, W: Sink>(
 {
     line.clear();
     push_step(line, step)?;
+    if line.len() >= LONG {
+        return print_long(line, block, sink);
+    }
     block.add(line)?;
     block.write_full(sink)?;
     Ok(())

@@ -1,11 +1,18 @@
-//! Who watches a load while it runs.
+//! Who watches a run while it goes on.
 
 use gn_links::{Gate, NoGate};
+use std::net::SocketAddr;
 
-/// The gate that a load's workers pass. It learns when they start, and when they have ended.
+/// A gate that learns when the run of a load begins, or that of a serve, and when it has ended.
 pub trait Watch: Gate {
-    /// So many links are run next.
+    /// So many links are loaded next.
     fn begin(&self, links: usize);
+
+    /// A router serves next, whose links come one by one, and whose history has at most so many steps.
+    fn open(&self, steps: u32);
+
+    /// A link of a serve has come: the peer at this address called, or was called.
+    fn came(&self, link: u32, peer: SocketAddr);
 
     /// The run has ended, well or not, or there is none.
     fn end(&self);
@@ -13,6 +20,10 @@ pub trait Watch: Gate {
 
 impl Watch for NoGate {
     fn begin(&self, _links: usize) {}
+
+    fn open(&self, _steps: u32) {}
+
+    fn came(&self, _link: u32, _peer: SocketAddr) {}
 
     fn end(&self) {}
 }

@@ -4,8 +4,7 @@ ghost use Rattle.std.specs.Prelude.{◌≡◌, [], true, IfOk};
 ghost use Rattle.gn_links.specs.Halves.{IsNewReader, IsNewWriter};
 
 use gn_bodies::{BodyFault, ReaderEnd, WriterEnd, reader_body, worker_body, writer_body};
-use gn_fixtures::{OWN_PONG, PING, usual};
-use gn_growth::{Heap, Refused, Turn, Turns, growths};
+use gn_fixtures::{Heap, OWN_PONG, PING, Refused, Turn, Turns, growths, usual};
 use gn_legal::legal;
 use gn_links::{Link, LinkReader, LinkWriter, MemoryLink, MemoryWriter, NoGate};
 use gn_router::TableRouter;
@@ -139,7 +138,7 @@ where
         rt, alloc, &service, &NoGate, reader, 0, role, source, intake,
     );
     let worked = worker_body(rt, &service, worker, 0, &NoGate, outlet);
-    let wrote = writer_body(rt, alloc, &service, writer, 0, role, sink);
+    let wrote = writer_body(rt, alloc, &service, &NoGate, writer, 0, role, sink);
     let has_refused = heap.has_refused();
     heap.refuse_none();
     let hub = service.into_hub();

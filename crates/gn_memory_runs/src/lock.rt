@@ -4,8 +4,7 @@ ghost use Rattle.std.specs.Prelude.{◌≡◌};
 
 use crate::steps::are_same;
 use gn_capture::read_history;
-use gn_fixtures::{ping, usual};
-use gn_growth::{Heap, Refused, Turn, Turns, growths};
+use gn_fixtures::{Heap, Refused, Turn, Turns, growths, ping, usual};
 use gn_payload::Checked;
 use gn_plain::PlainRouter;
 use gn_router::TableRouter;

@@ -1,8 +1,7 @@
 //! A run over the loopback, of two clients that call.
 
 use crate::sweep::{has_answered, refused_at};
-use gn_fixtures::{PING, usual};
-use gn_growth::{Heap, Refused, Turn};
+use gn_fixtures::{Heap, PING, Refused, Turn, usual};
 use gn_legal::legal;
 use gn_links::NoGate;
 use gn_router::TableRouter;
@@ -21,7 +20,7 @@ use std::thread::Threads;
 use std::time::{Clock, Duration};
 use std::{io, thread};
 
-type Served<A> = Result<Report<TcpReader, TcpWriter, A>, RunFault>;
+type Served<A> = Result<Report<TcpReader<'static>, TcpWriter, A>, RunFault>;
 
 /// Serves two callers, and lets the listener go: a caller that still waits for it is refused then.
 fn serve<

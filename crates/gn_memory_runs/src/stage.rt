@@ -2,8 +2,7 @@
 
 ghost use Rattle.std.specs.Prelude.{◌≡◌};
 
-use gn_fixtures::ping;
-use gn_growth::{Heap, Refused, Turn, Turns, growths};
+use gn_fixtures::{Heap, Refused, Turn, Turns, growths, ping};
 use gn_stage::{Job, Settled, Site, Stage, StageFault, Unsettled};
 use std::alloc::{AllocError, Allocator};
 use std::marker::Brand;

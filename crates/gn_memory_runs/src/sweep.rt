@@ -1,6 +1,6 @@
 //! Which growth a turn refuses, and what a turn says of it.
 
-use gn_growth::{Refused, Turn};
+use gn_fixtures::{Refused, Turn};
 use std::test::Fail;
 
 /// The growth of this number is refused, alone or with all later ones.

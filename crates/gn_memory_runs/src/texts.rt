@@ -4,8 +4,7 @@ use crate::steps::are_same;
 use gn_capture::{
     Capture, HistorySteps, Line, open_history, read_capture, read_history, write_history,
 };
-use gn_fixtures::{OWN, PING};
-use gn_growth::{Call, Failure, Heap, Refused, Turn, Turns, growths, turn_of};
+use gn_fixtures::{Call, Failure, Heap, OWN, PING, Refused, Turn, Turns, growths, growths_of_call};
 use gn_io::{ReaderSource, Sink, Source, WriterSink};
 use gn_replay::{Exit, ReplayFault, audit, audit_explained, replay, replay_history};
 use gn_router::TableRouter;
@@ -236,12 +235,6 @@ impl<A: Allocator + Copy> Call<A> for Handles {
     }
 }
 
-impl<A: Allocator + Copy> Turns<A> for Handles {
-    fn turn(&self, heap: &Heap, alloc: A, refused: Refused) -> Result<Turn, Fail> {
-        turn_of(self, heap, alloc, refused)
-    }
-}
-
 /// The steps that are left, after this one.
 fn with_rest<A: Allocator + Copy>(
     alloc: A,
@@ -299,7 +292,11 @@ const STEPS: [u64; 5] = [2, 0, 1, 4, 0];
 fn what_is_read_and_written(rt: HostRuntime) -> Result<(), Fail> {
     let heap = Heap::new(rt.alloc());
     for (text, wanted) in TEXTS {
-        assert_eq!(rt; growths(&heap, &heap, &Handles(text))?, wanted, "{text:?}");
+        assert_eq!(rt;
+            growths_of_call(&heap, &heap, &Handles(text))?,
+            wanted,
+            "{text:?}"
+        );
     }
     let mut met = STEPS;
     for (number, growths_met) in met.iter_mut().enumerate() {
@@ -444,12 +441,6 @@ impl<A: Allocator + Copy, B: Allocator + Copy> Call<A> for Obeys<B> {
     }
 }
 
-impl<A: Allocator + Copy, B: Allocator + Copy> Turns<A> for Obeys<B> {
-    fn turn(&self, heap: &Heap, alloc: A, refused: Refused) -> Result<Turn, Fail> {
-        turn_of(self, heap, alloc, refused)
-    }
-}
-
 #[test]
 fn what_is_replayed_and_audited(rt: HostRuntime) -> Result<(), Fail> {
     let heap = Heap::new(rt.alloc());
@@ -459,14 +450,18 @@ fn what_is_replayed_and_audited(rt: HostRuntime) -> Result<(), Fail> {
             sink: rt.alloc(),
             is_shared: false,
         };
-        assert_eq!(rt; growths(&heap, &heap, &apart)?, row.3, "command {number}");
+        assert_eq!(rt;
+            growths_of_call(&heap, &heap, &apart)?,
+            row.3,
+            "command {number}"
+        );
         let shared = Obeys {
             row,
             sink: &heap,
             is_shared: true,
         };
         assert_eq!(rt;
-            growths(&heap, &heap, &shared)?,
+            growths_of_call(&heap, &heap, &shared)?,
             row.4,
             "command {number}, shared"
         );

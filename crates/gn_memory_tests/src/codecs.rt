@@ -1,9 +1,8 @@
 //! What writes bytes, copies a descriptor, or puts descriptors together from pieces.
 
 use bytes::Bytes;
-use gn_fixtures::OWN_PONG;
+use gn_fixtures::{Call, Failure, Heap, OWN_PONG, growths_of_call};
 use gn_frames::{FeedRefusal, Reassembler};
-use gn_growth::{Call, Failure, Heap, Refused, Turn, Turns, growths, turn_of};
 use gn_payload::{
     HitResult, Pong, Push, WriteRefusal, write_hit, write_pong, write_push, write_query,
 };
@@ -128,18 +127,12 @@ impl<A: Allocator> Call<A> for Writes {
     }
 }
 
-impl<A: Allocator + Copy> Turns<A> for Writes {
-    fn turn(&self, heap: &Heap, alloc: A, refused: Refused) -> Result<Turn, Fail> {
-        turn_of(self, heap, alloc, refused)
-    }
-}
-
 #[test]
 fn what_is_written(rt: HostRuntime) -> Result<(), Fail> {
     let heap = Heap::new(rt.alloc());
     for (written, bytes, wanted) in WRITTEN {
         assert_eq!(rt;
-            growths(&heap, &heap, &Writes { written, bytes })?,
+            growths_of_call(&heap, &heap, &Writes { written, bytes })?,
             wanted,
             "{bytes:?}"
         );
@@ -170,12 +163,6 @@ impl<A: Allocator + Copy> Call<A> for Copies {
 
     fn is_right(&self, pong: &mut Descriptor<A>, copied: &Descriptor<A>) -> bool {
         copied.is_same(pong) && copied.payload().as_slice() == &OWN_PONG[23..]
-    }
-}
-
-impl<A: Allocator + Copy> Turns<A> for Copies {
-    fn turn(&self, heap: &Heap, alloc: A, refused: Refused) -> Result<Turn, Fail> {
-        turn_of(self, heap, alloc, refused)
     }
 }
 
@@ -265,20 +252,14 @@ impl<A: Allocator + Copy> Call<A> for Feeds {
     }
 }
 
-impl<A: Allocator + Copy> Turns<A> for Feeds {
-    fn turn(&self, heap: &Heap, alloc: A, refused: Refused) -> Result<Turn, Fail> {
-        turn_of(self, heap, alloc, refused)
-    }
-}
-
 #[test]
 fn what_is_read_and_copied(rt: HostRuntime) -> Result<(), Fail> {
     let heap = Heap::new(rt.alloc());
-    assert_eq!(rt; growths(&heap, &heap, &Copies)?, 0);
+    assert_eq!(rt; growths_of_call(&heap, &heap, &Copies)?, 0);
     let mut before = (0, 0, 0);
     for piece in PIECES {
         assert_eq!(rt;
-            growths(&heap, &heap, &Feeds { before, piece })?,
+            growths_of_call(&heap, &heap, &Feeds { before, piece })?,
             piece.2,
             "{piece:?}"
         );

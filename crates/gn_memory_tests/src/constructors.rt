@@ -1,8 +1,7 @@
 //! What is made anew.
 
-use gn_fixtures::usual;
+use gn_fixtures::{Call, Failure, Heap, growths_of_call, usual};
 use gn_frames::Reassembler;
-use gn_growth::{Call, Failure, Heap, Refused, Turn, Turns, growths, turn_of};
 use gn_plain::PlainRouter;
 use gn_router::TableRouter;
 use gn_rules::RouterCore;
@@ -92,17 +91,15 @@ impl<A: Allocator + Copy> Call<A> for Makes {
     }
 }
 
-impl<A: Allocator + Copy> Turns<A> for Makes {
-    fn turn(&self, heap: &Heap, alloc: A, refused: Refused) -> Result<Turn, Fail> {
-        turn_of(self, heap, alloc, refused)
-    }
-}
-
 #[test]
 fn what_is_made(rt: HostRuntime) -> Result<(), Fail> {
     let heap = Heap::new(rt.alloc());
     for (made, wanted) in MADE {
-        assert_eq!(rt; growths(&heap, &heap, &Makes(made))?, wanted, "{made:?}");
+        assert_eq!(rt;
+            growths_of_call(&heap, &heap, &Makes(made))?,
+            wanted,
+            "{made:?}"
+        );
     }
     Ok(())
 }

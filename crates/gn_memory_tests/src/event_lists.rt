@@ -1,7 +1,7 @@
 //! A list of events, of which some meet a refusal.
 
 use crate::steps::{are_same, read};
-use gn_growth::{Heap, Refused, Turn, Turns, growths};
+use gn_fixtures::{Heap, Refused, Turn, Turns, growths};
 use gn_rules::{Event, Receipt, Refusal, RouterCore, Step, is_step_of, run_events};
 use std::alloc::Allocator;
 use std::marker::PhantomData;

@@ -3,7 +3,7 @@
 use crate::event_lists::growths_of_list;
 use crate::histories::*;
 use crate::steps::{Asked, growths_of};
-use gn_growth::Heap;
+use gn_fixtures::Heap;
 use gn_plain::PlainRouter;
 use gn_router::TableRouter;
 use gn_rules::Refusal;

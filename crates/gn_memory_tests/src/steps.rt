@@ -1,7 +1,7 @@
 //! One step of a history, made by each of the calls that make one.
 
 use gn_capture::{CaptureRefusal, read_history};
-use gn_growth::{Call, Failure, Heap, Refused, Turn, Turns, growths, turn_of};
+use gn_fixtures::{Call, Failure, Heap, growths_of_call};
 use gn_payload::Checked;
 use gn_rules::{
     Config, Event, Receipt, Refusal, Reply, RouterCore, Step, is_same_event, is_same_reply,
@@ -180,12 +180,6 @@ impl<A: Allocator + Copy, C: RouterCore<A> + Drop> Call<A> for Makes<C> {
     }
 }
 
-impl<A: Allocator + Copy, C: RouterCore<A> + Drop> Turns<A> for Makes<C> {
-    fn turn(&self, heap: &Heap, alloc: A, refused: Refused) -> Result<Turn, Fail> {
-        turn_of(self, heap, alloc, refused)
-    }
-}
-
 /// How many growths each step of a history meets, where this call makes it: of its Routes alone where it is `route`.
 pub(crate) fn growths_of<A: Allocator + Copy, C: RouterCore<A> + Drop>(
     out: Global,
@@ -206,7 +200,7 @@ pub(crate) fn growths_of<A: Allocator + Copy, C: RouterCore<A> + Drop>(
             number,
             core: PhantomData,
         };
-        all.push(growths(heap, alloc, &call)?)?;
+        all.push(growths_of_call(heap, alloc, &call)?)?;
     }
     Ok(all)
 }

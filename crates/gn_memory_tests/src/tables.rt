@@ -3,8 +3,7 @@
 ghost use Rattle.std.specs.Prelude.{◌≡◌, ◌<◌, None};
 ghost use Rattle.std.specs.FinMap as map;
 
-use gn_fixtures::ping;
-use gn_growth::{Call, Failure, Heap, Refused, Turn, Turns, growths, turn_of};
+use gn_fixtures::{Call, Failure, Heap, Refused, Turn, Turns, growths, growths_of_call, ping};
 use gn_tables::{Flights, Neighbours, SeenTable, ServentTable};
 use gn_wire::{Guid, Kind};
 use std::alloc::Allocator;
@@ -125,18 +124,12 @@ impl<A: Allocator + Copy> Call<A> for Remembers {
     }
 }
 
-impl<A: Allocator + Copy> Turns<A> for Remembers {
-    fn turn(&self, heap: &Heap, alloc: A, refused: Refused) -> Result<Turn, Fail> {
-        turn_of(self, heap, alloc, refused)
-    }
-}
-
 #[test]
 fn what_is_remembered(rt: HostRuntime) -> Result<(), Fail> {
     let heap = Heap::new(rt.alloc());
     for (number, entry) in ENTRIES.iter().copied().enumerate() {
         assert_eq!(rt;
-            growths(&heap, &heap, &Remembers { number, entry })?,
+            growths_of_call(&heap, &heap, &Remembers { number, entry })?,
             entry.4,
             "entry {number}"
         );

@@ -3,8 +3,7 @@ use Rattle.std.proofs.Common.{◌≡◌, ◌≤◌, ◌+◌, ◌&&◌, ℕ, List
 use Rattle.std.proofs.lemmas.Bool.Decides.{nat_tests}
 use Rattle.std.specs.Prelude.{nat_le, if◌then◌else◌}
 use Rattle.clap.specs.Words.{Row, Text, first_of}
-use Rattle.gn_text.specs.Addresses.{◌>>=◌}
-use Rattle.gn_text.specs.Numbers.{number_of}
+use Rattle.gn_numbers.specs.Numbers.{number_of, ◌>>=◌}
 use Rattle.gn_program.specs.Options.{number_asked, number_between}
 
 kept : (least most m n : ℕ) → (if nat_le least m && nat_le m most then Some m else None) ≡ Some n → (least ≤ n) × (n ≤ most)

@@ -5,9 +5,9 @@ use Rattle.std.specs.Option.{option_map_or}
 use Rattle.std.specs.Str.{bytes_eq}
 use Rattle.clap.specs.Words.{Row, Text, all_of, first_of}
 use Rattle.gn_rules.specs.Limits.{most, most_workers}
-use Rattle.gn_text.specs.Addresses.{ip_of, ◌>>=◌}
+use Rattle.gn_text.specs.Addresses.{ip_of}
 use Rattle.gn_text.specs.Bytes.{guid_of}
-use Rattle.gn_text.specs.Numbers.{number_below, number_of}
+use Rattle.gn_numbers.specs.Numbers.{number_below, number_of, ◌>>=◌}
 use Rattle.gn_wire.specs.declared.kind.Guid.{Guid}
 use Rattle.gn_program.specs.Serving.{AskedServe}
 use Rattle.gn_program.specs.declared.request.Peer.{Peer}
@@ -97,6 +97,8 @@ serving_of rows = do
     crowd = crowd;
     retry = retry;
     seconds = seconds;
+    early = is_set (codes "stop-early") rows;
+    until_eof = is_set (codes "until-eof") rows;
     steps = steps;
     keeps = is_set (codes "keep-history") rows;
     report = is_set (codes "report") rows;

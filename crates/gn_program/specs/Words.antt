@@ -72,10 +72,14 @@ limited_app =
     with_rule (with_rule (with_rule ruled_app (default_rule (codes "retry") (codes "0")))
     (default_rule (codes "for") (codes "0"))) (default_rule (codes "steps") (codes "1000000"))
 
+-- the same with the flags for what else stops it
+abbrev pub stopped_app : App
+stopped_app = with_rule (with_rule limited_app (flag_rule (codes "stop-early"))) (flag_rule (codes "until-eof"))
+
 -- the subcommand `serve`: it takes these flags too
 abbrev pub serve_app : App
 serve_app =
-    with_rule (with_rule (with_rule limited_app (flag_rule (codes "keep-history"))) (flag_rule (codes "report")))
+    with_rule (with_rule (with_rule stopped_app (flag_rule (codes "keep-history"))) (flag_rule (codes "report")))
     (flag_rule (codes "progress"))
 
 -- the command `gn` before it has its subcommands: it has a version, and one of them has to be named; `help` is none
@@ -184,6 +188,8 @@ pub record PlainWordsAreRead : Type 0 where
         crowd = 0;
         retry = 0;
         seconds = 0;
+        early = false;
+        until_eof = false;
         steps = 1000000;
         keeps = false;
         report = false;

@@ -30,6 +30,7 @@ use gn_show::show;
 use std::alloc::Global;
 use std::convert::AsStr;
 use std::io;
+use std::io::StdinLock;
 use std::net::{Net, TcpListener, TcpStream};
 use std::sync::Wait;
 use std::thread::Threads;
@@ -106,7 +107,12 @@ fn end_serve<F: Sink>(faults: &mut F, answer: Result<(), ServeFault>) -> u8
 /// Does what is asked for, and gives the status.
 fn obey<
     C: RouterCore<Global> + Drop,
-    R: Threads + Wait + Net<Listener = TcpListener, Stream = TcpStream> + Clock + Sync,
+    R: Threads
+        + Wait
+        + Net<Listener = TcpListener, Stream = TcpStream>
+        + Clock
+        + Input<Reader = StdinLock<'static>>
+        + Sync,
     G: Watch + Sync,
     S: Source,
     W: Sink,
@@ -140,10 +146,7 @@ fn obey<
             let answer = audit_explained::<Global, C, S, W>(alloc, reader, writer);
             end_audit(faults, answer)
         }
-        Request::Show(view) => {
-            let answer = show(alloc, view, reader, writer);
-            end_show(faults, answer)
-        }
+        Request::Show(view) => end_show(faults, show(alloc, view, reader, writer)),
         Request::Load(workers) => {
             let answer = load::<Global, TableRouter, R, S, W>(rt, alloc, workers, reader, writer);
             end_load(faults, answer)
@@ -187,10 +190,16 @@ fn turn_away<W: Sink, F: Sink>(error: Error, writer: &mut W, faults: &mut F) -> 
 /// is read from `reader` and written to `writer`; at help, the version and mistakes nothing is read, and help and the
 /// version are written to `writer` too. A fault is one line on `faults`, where a failed write changes nothing.
 ///
-/// A load and a serve alone start threads and wait; a serve alone opens sockets, reads nothing, and says `listening PORT`
-/// on a line of `faults` once it can be called.
+/// A load and a serve alone start threads and wait; a serve alone opens sockets, reads nothing from `reader`, and says
+/// `listening PORT` on a line of `faults` once it can be called. With `--until-eof` it reads the standard input of `rt`, by a
+/// thread that goes on where that hasn't ended.
 pub fn command<
-    R: Threads + Wait + Net<Listener = TcpListener, Stream = TcpStream> + Clock + Sync,
+    R: Threads
+        + Wait
+        + Net<Listener = TcpListener, Stream = TcpStream>
+        + Clock
+        + Input<Reader = StdinLock<'static>>
+        + Sync,
     T: AsStr,
     S: Source,
     W: Sink,
@@ -213,7 +222,12 @@ pub fn command<
 /// when it is dropped; and a load or a serve with `--progress` is watched by `watch`, where `command` says nothing.
 pub fn command_with<
     C: RouterCore<Global> + Drop,
-    R: Threads + Wait + Net<Listener = TcpListener, Stream = TcpStream> + Clock + Sync,
+    R: Threads
+        + Wait
+        + Net<Listener = TcpListener, Stream = TcpStream>
+        + Clock
+        + Input<Reader = StdinLock<'static>>
+        + Sync,
     G: Watch + Sync,
     T: AsStr,
     S: Source,

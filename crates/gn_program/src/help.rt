@@ -121,8 +121,8 @@ pub(crate) const SERVE: &str = "Routes for peers on this machine over TCP, and p
 
 pub(crate) const SERVE_USAGE: &str =
     "gn serve --port P --accept A --workers V [--servent HEX32] [--peer IP:PORT].. [--idle SECONDS]
-                [--life L] [--crowd Q] [--retry SECONDS] [--for SECONDS] [--steps N] [--keep-history]
-                [--report] [--progress]";
+                [--life L] [--crowd Q] [--retry SECONDS] [--for SECONDS] [--steps N] [--stop-early]
+                [--until-eof] [--keep-history] [--report] [--progress]";
 
 pub(crate) const PORT: &str = "The port of 127.0.0.1 that peers call, 1 to 65535";
 
@@ -162,6 +162,12 @@ pub(crate) const BAD_SECONDS: &str = "--for takes a number of seconds, 0 to 8640
 pub(crate) const STEPS: &str =
     "The most steps of the history, 1 to 1000000; a run that needs more ends with `fault: history full`";
 
+pub(crate) const EARLY: &str =
+    "Stops the router as --for does once nine tenths of its most steps are made, with what is in flight";
+
+pub(crate) const UNTIL_EOF: &str =
+    "Stops the router as --for does at the end of standard input, which is read and not looked at";
+
 pub(crate) const KEEP: &str =
     "Prints what stands of the history also where the run stops at a fault, as where it has its most steps";
 
@@ -169,7 +175,8 @@ pub(crate) const REPORT: &str =
     "Writes on standard error what became of each link, and the counters, once the run has ended";
 
 pub(crate) const SERVE_PROGRESS: &str =
-    "Writes on standard error once a second, while it routes, how many descriptors are routed and admitted";
+    "Writes on standard error each link that comes or ends, once a second how far the router is, and at a \
+     half and nine tenths of its most steps which link offered most";
 
 pub(crate) const SERVE_TEXTS: &str = "\
 The peers are called first, in their order, and then A others may call. Each link is greeted and
@@ -179,14 +186,16 @@ standard output is the history of the router, which `gn audit` reads.
 
 A link ends as its peer closes it. Two routers that call each other and nobody else each wait for
 the other's end: `--idle 2` ends a link of which nothing was heard for 2 seconds. A router waits for
-its A callers without a limit. One whose run has failed, as by a full history, lets its peers go and
-calls nobody else, but the caller that it waits for by then has to come before it ends. With
-`--for` it ends after so many seconds in any case, with its whole history. A neighbour that has gone
-keeps its place until something is written to it, or `--idle` is over.
+its A callers without a limit. One whose run has failed, as by a full history, lets its peers go,
+and calls and waits for nobody else. With `--for` it ends after so many seconds in any case, with
+`--until-eof` as standard input ends, with its whole history. A neighbour that has gone keeps its
+place until something is written to it, or `--idle` is over.
 
-A run that would make more than its most steps prints no history, unless `--keep-history` is given.
-An audit reads at most 64 MiB, which are some 600,000 steps of small packets: `--steps 500000` keeps
-below it.
+A run that would make more than its most steps prints no history, unless `--keep-history` is given:
+one neighbour alone makes a million in a second. With `--stop-early` the router stops before, and
+prints its whole history; what it still has to read of a piece and to write takes the last tenth of
+the steps. An audit reads at most 64 MiB, which are some 600,000 steps of small packets: `--steps
+500000` keeps below it.
 
 Example: two routers of which the second calls the first, in whichever order they start. Both end
 after 5 seconds.

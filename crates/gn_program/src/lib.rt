@@ -2,6 +2,7 @@
 #![tactic(auto)]
 
 mod commands;
+mod eof;
 mod fault;
 mod help;
 mod options;

@@ -235,6 +235,8 @@ pub(crate) fn serving_of(alloc: Global, options: &ArgMatches<'_>) -> Result<Serv
         crowd: crowd_of(options)?,
         retry: seconds_of(options, "retry", help::BAD_RETRY)?,
         seconds: seconds_of(options, "for", help::BAD_SECONDS)?,
+        early: is_set(options, "stop-early"),
+        until_eof: is_set(options, "until-eof"),
         steps: steps_of(options)?,
         keeps: is_set(options, "keep-history"),
         report: is_set(options, "report"),

@@ -92,7 +92,7 @@ fn writer_word(end: WriterEnd) -> &'static str {
 }
 
 /// The line of this link.
-fn line_of(link: usize, report: &LinkReport<TcpReader, TcpWriter>) -> LinkLine {
+fn line_of(link: usize, report: &LinkReport<TcpReader<'_>, TcpWriter>) -> LinkLine {
     let mut tally = Tally {
         offered: 0,
         busy: 0,
@@ -115,7 +115,7 @@ fn line_of(link: usize, report: &LinkReport<TcpReader, TcpWriter>) -> LinkLine {
 pub(crate) fn write_report<F: Sink>(
     alloc: Global,
     faults: &mut F,
-    report: &Report<TcpReader, TcpWriter>,
+    report: &Report<TcpReader<'_>, TcpWriter>,
 ) {
     for (link, done) in report.links.iter().enumerate() {
         let _ = write_text(faults, line_of(link, done));

@@ -51,8 +51,12 @@ pub struct Serving {
     pub(crate) crowd: u32,
     /// The seconds for which a peer that doesn't listen is called again; 0: it is called once.
     pub(crate) retry: u32,
-    /// The seconds after which the run is stopped; 0: it never is.
+    /// The seconds after which the run is stopped; 0: no time stops it.
     pub(crate) seconds: u32,
+    /// Whether the run is stopped once it has made nine tenths of its steps.
+    pub(crate) early: bool,
+    /// Whether the run is stopped at the end of standard input.
+    pub(crate) until_eof: bool,
     /// The most steps that the history may have.
     pub(crate) steps: u32,
     /// Whether what stands of the history is written where the run stops at a fault.
@@ -81,6 +85,8 @@ impl Model for Serving {
       crowd = s.crowd;
       retry = s.retry;
       seconds = s.seconds;
+      early = s.early;
+      until_eof = s.until_eof;
       steps = s.steps;
       keeps = s.keeps;
       report = s.report;

@@ -5,6 +5,7 @@ ghost use Rattle.std.specs.Duration.{as_nanos};
 ghost use Rattle.gn_program.specs.Commands.{IsServeAnswer, IsServing};
 ghost use Rattle.gn_program.specs.Serving.{peer_at};
 
+use crate::eof::stop_at_eof;
 use crate::reports::write_report;
 use crate::request::{Peer, Serving};
 use crate::text::write_text;
@@ -12,14 +13,15 @@ use gn_io::Sink;
 use gn_load::Watch;
 use gn_router::TableRouter;
 use gn_rules::{Config, Numbers, Own};
-use gn_serve::{ServeFault, serve_history};
+use gn_serve::{ServeFault, Stop, serve_history};
 use gn_tcp::listen;
 use gn_threads::RunFault;
 use std::alloc::{AllocError, Global};
 use std::fmt;
 use std::fmt::{Display, Formatter, Write};
+use std::io::StdinLock;
 use std::net::{Ipv4Addr, Net, SocketAddr, SocketAddrV4, TcpListener, TcpStream};
-use std::sync::Wait;
+use std::sync::{Arc, Wait};
 use std::thread::Threads;
 use std::time::{Clock, Duration};
 
@@ -85,22 +87,45 @@ fn limit(seconds: u32) -> Option<Duration>
     }
 }
 
+/// Whether anything but its peers stops the router.
+fn may_stop(serving: &Serving) -> bool {
+    serving.seconds != 0 || serving.early || serving.until_eof
+}
+
 /// How long the router goes on and waits for its peers, and whether its history is kept.
-fn limits(serving: &Serving) -> gn_serve::Serving
+fn limits<'s>(serving: &Serving, stop: &'s Stop) -> gn_serve::Serving<'s>
     ensures { result.is_kept ≡ serving.now.keeps }
 {
     gn_serve::Serving {
         idle: limit(serving.idle),
         retry: limit(serving.retry),
-        limit: limit(serving.seconds),
+        stop: may_stop(serving).then_some(stop),
         is_kept: serving.keeps,
     }
+}
+
+/// By what the router is stopped before its peers end it. Where that is the end of standard input, it is read from now on.
+fn stop_of<R: Threads + Input<Reader = StdinLock<'static>>>(
+    rt: &R,
+    alloc: Global,
+    serving: &Serving,
+) -> Result<Arc<Stop, Global>, AllocError> {
+    let stop = Arc::new(alloc, Stop::new(limit(serving.seconds), serving.early))?;
+    if serving.until_eof {
+        stop_at_eof(rt, &stop)?;
+    }
+    Ok(stop)
 }
 
 /// Listens, says so with the faults, runs the router, writes its history, and then what became of its links with the faults,
 /// where that is asked for. It is watched as it runs.
 pub(crate) fn serve<
-    R: Threads + Wait + Net<Listener = TcpListener, Stream = TcpStream> + Clock + Sync,
+    R: Threads
+        + Wait
+        + Net<Listener = TcpListener, Stream = TcpStream>
+        + Clock
+        + Input<Reader = StdinLock<'static>>
+        + Sync,
     G: Watch + Sync,
     W: Sink,
     F: Sink,
@@ -116,11 +141,12 @@ pub(crate) fn serve<
 {
     let config = settings(serving);
     let peers = addresses(alloc, &serving.peers)?;
+    let stop = stop_of(rt, alloc, serving)?;
     let Ok(listener) = listen(rt, serving.port) else {
         return Err(ServeFault::Run(RunFault::Listen));
     };
     let _ = write_text(faults, Listening(serving.port));
-    let limits = limits(serving);
+    let limits = limits(serving, &stop);
     let report = serve_history::<TableRouter, _, _, _, _>(
         rt,
         alloc,

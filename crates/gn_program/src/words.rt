@@ -25,6 +25,7 @@ ghost use Rattle.gn_program.specs.Words.{
   request_of,
   serve_app,
   served_app,
+  stopped_app,
   texts_app,
   value_rule,
 };
@@ -209,11 +210,21 @@ fn limited_command<'a>(alloc: Global) -> Result<Command<'a>, AllocError>
     ruled_command(alloc)?.arg(retry)?.arg(seconds)?.arg(steps)
 }
 
+/// The same with the flags for what else stops it.
+fn stopped_command<'a>(alloc: Global) -> Result<Command<'a>, AllocError>
+    ensures shape { IfOk result (λ command. app_of command ≡ stopped_app) }
+    ensures globals { IfOk result (λ command. (fields_of command).has_globals ≡ false) }
+{
+    limited_command(alloc)?
+        .arg(flag(alloc, "stop-early", help::EARLY))?
+        .arg(flag(alloc, "until-eof", help::UNTIL_EOF))
+}
+
 fn serve_command<'a>(alloc: Global) -> Result<Command<'a>, AllocError>
     ensures shape { IfOk result (λ command. app_of command ≡ serve_app) }
     ensures globals { IfOk result (λ command. (fields_of command).has_globals ≡ false) }
 {
-    limited_command(alloc)?
+    stopped_command(alloc)?
         .arg(flag(alloc, "keep-history", help::KEEP))?
         .arg(flag(alloc, "report", help::REPORT))?
         .arg(flag(alloc, "progress", help::SERVE_PROGRESS))

@@ -4,7 +4,7 @@ use crate::broken::Broken;
 use gn_io::{ReaderSource, WriterSink};
 use gn_program::{command, refuse_words};
 use gn_tcp::listen;
-use std::io::{self, ErrorKind, Read, Write};
+use std::io::{self, ErrorKind, Read, StdinLock, Write};
 use std::net::{Net, TcpListener, TcpStream};
 use std::sync::Wait;
 use std::test::Fail;
@@ -77,8 +77,8 @@ const ANSWERS: [(&[&str], u8, &str, &str); 20] = [
     ),
 ];
 
-/// Numbers of a serve that are out of their limits, and how the written mistakes begin.
-const OUT_OF_LIMITS: [(&str, &str); 7] = [
+/// Options of a serve whose values are out of their limits, or that take none, and how the written mistakes begin.
+const OUT_OF_LIMITS: [(&str, &str); 9] = [
     (
         "--idle=86401",
         "error: --idle takes a number of seconds, 0 to 86400\n",
@@ -104,6 +104,8 @@ const OUT_OF_LIMITS: [(&str, &str); 7] = [
         "--crowd=4097",
         "error: --crowd takes a number of 0 to 4096\n",
     ),
+    ("--stop-early=1", "error: unexpected value"),
+    ("--until-eof=1", "error: unexpected value"),
 ];
 
 /// A port that is taken while a serve asks for it.
@@ -117,7 +119,7 @@ const SERVES: [(&[&str], u8, &str, &str); 3] = [
             "gn",
             "serve",
             "--port",
-            "46346",
+            "26351",
             "--accept",
             "0",
             "--workers",
@@ -125,7 +127,7 @@ const SERVES: [(&[&str], u8, &str, &str); 3] = [
         ],
         0,
         SERVED,
-        "listening 46346\n",
+        "listening 26351\n",
     ),
     (
         &[
@@ -170,7 +172,7 @@ link 1 127.0.0.1:";
 const SERVED: &str = "\
 gnutella-history 1
 config 64 4096 1024 1024 1024 1000000
-own 47474747474747474747474747474747 127.0.0.1 46346 0 0
+own 47474747474747474747474747474747 127.0.0.1 26351 0 0
 end
 ";
 
@@ -193,6 +195,7 @@ fn answer<
         + Wait
         + Net<Listener = TcpListener, Stream = TcpStream>
         + Clock
+        + Input<Reader = StdinLock<'static>>
         + Sync
         + AllocGlobal,
     I: Read + Drop,

@@ -3,7 +3,7 @@
 use crate::compare::same;
 use crate::encoding::encoded;
 use crate::run::{USUAL, capture_text};
-use gn_growth::Heap;
+use gn_fixtures::Heap;
 use gn_io::{ReaderSource, WriterSink};
 use gn_replay::{Exit, ReplayFault, replay, replay_text_is_one};
 use gn_router::TableRouter;

@@ -49,6 +49,7 @@ fn keep<A: Allocator + Copy, W: Sink>(
 /// comes back. Out of memory and `Write` may leave a prefix of the history. Where the run stopped at a fault and its history is to be
 /// kept, what stands of it is written all the same, up to where memory or a write fails; else any other `Err` leaves nothing.
 pub fn serve_history<
+    's,
     C: RouterCore<A> + Drop + Send,
     A: Allocator + Copy + Send + Sync,
     R: Threads + Wait + Net<Listener = TcpListener, Stream = TcpStream> + Clock + Sync,
@@ -61,11 +62,11 @@ pub fn serve_history<
     config: &Config,
     accept: u32,
     peers: &[SocketAddr],
-    serving: &Serving,
+    serving: &Serving<'s>,
     workers: u32,
     watch: &G,
     sink: &mut W,
-) -> Result<Report<TcpReader, TcpWriter, A>, ServeFault>
+) -> Result<Report<TcpReader<'s>, TcpWriter, A>, ServeFault>
     requires few { accept + length peers.now ≤ most_links }
     ensures workers { OnOk result (IsCrew workers) }
     ensures bad_workers { IfErr result (λ fault. (fault ≡ Run BadWorkers) ↔ (¬ IsCrew workers)) }

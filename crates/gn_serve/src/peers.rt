@@ -28,7 +28,7 @@ const CALL: u64 = 1;
 const PAUSE: u64 = 50;
 
 /// The peers that are called, in order, and where the others call.
-pub(crate) struct Peers<'a, N, G, A: Allocator = Global> {
+pub(crate) struct Peers<'a, 's, N, G, A: Allocator = Global> {
     pub net: &'a N,
     pub listener: &'a TcpListener,
     pub called: &'a [SocketAddr],
@@ -36,12 +36,12 @@ pub(crate) struct Peers<'a, N, G, A: Allocator = Global> {
     pub next: u32,
     /// How many links are still to come.
     pub left: u32,
-    pub serving: Serving,
-    pub stops: &'a Stops<A>,
+    pub serving: Serving<'s>,
+    pub stops: &'a Stops<'a, A>,
     pub watch: &'a G,
 }
 
-impl<'a, N, G, A: Allocator> Drop for Peers<'a, N, G, A> {
+impl<'a, 's, N, G, A: Allocator> Drop for Peers<'a, 's, N, G, A> {
     /// A run lets them go once it is over.
     fn drop(self) {
         let Peers {
@@ -74,12 +74,13 @@ pub(crate) fn roles_of(calls: usize, links: usize) -> [Role; MOST_LINKS]
 
 impl<
     'a,
+    's,
     N: Wait + Net<Listener = TcpListener, Stream = TcpStream> + Clock,
     G: Watch,
     A: Allocator,
-> Peers<'a, N, G, A> {
+> Peers<'a, 's, N, G, A> {
     /// Calls a peer, again until it listens, the time for that is over or the run is stopped.
-    fn call(&self, peer: SocketAddr) -> Result<TcpLink, LinkFault>
+    fn call(&self, peer: SocketAddr) -> Result<TcpLink<'static>, LinkFault>
         ensures { IfOk result (λ found. found ≡
             record { role = Calling; origin = record { link = 0; called = Some peer } }) }
     {
@@ -102,7 +103,7 @@ impl<
     }
 
     /// Waits for a caller. Where the run is stopped that is nobody but itself, or one that called before.
-    fn accept(&self) -> Result<TcpLink, LinkFault>
+    fn accept(&self) -> Result<TcpLink<'static>, LinkFault>
         ensures { IfOk result (λ found. found ≡
             record { role = Accepting; origin = record { link = 0; called = None } }) }
     {
@@ -113,10 +114,10 @@ impl<
     }
 
     /// Has the link stopped with the run, where the run may be.
-    fn register(&self, found: &TcpLink) -> Result<(), RunFault>
+    fn register(&self, found: &TcpLink<'s>) -> Result<(), RunFault>
         ensures { IfErr result (λ fault. (links workers : ℕ) → IsArrivingFault true links workers fault) }
     {
-        if self.serving.limit.is_none() {
+        if self.serving.stop.is_none() {
             return Ok(());
         }
         let Ok(stopper) = found.stopper() else {
@@ -129,7 +130,7 @@ impl<
     }
 
     /// Calls the peer of this link, or waits for one that calls.
-    fn meet(&self, link: u32, role: Role) -> Result<TcpLink, RunFault>
+    fn meet(&self, link: u32, role: Role) -> Result<TcpLink<'static>, RunFault>
         ensures found { IfOk result (λ found. found ≡
             record { role = role; origin = record { link = 0; called = slice_get self.now.called.now link } }) }
         ensures fault { IfErr result (λ fault. (links workers : ℕ) → link < links
@@ -151,16 +152,17 @@ impl<
 
 impl<
     'a,
+    's,
     N: Wait + Net<Listener = TcpListener, Stream = TcpStream> + Clock,
     G: Watch,
     A: Allocator,
-> Arrivals for Peers<'a, N, G, A> {
+> Arrivals for Peers<'a, 's, N, G, A> {
     ghost use Rattle.gn_serve.specs.Links.{origins_from};
     ghost use Rattle.std.specs.Prelude.{true};
 
     type Origin = TcpOrigin;
 
-    type Reader = TcpReader;
+    type Reader = TcpReader<'s>;
 
     type Writer = TcpWriter;
 
@@ -168,7 +170,7 @@ impl<
 
     ghost coming = { λ peers. origins_from peers.called.now peers.next peers.left };
 
-    fn next(&mut self, link: u32, role: Role) -> Result<(TcpReader, TcpWriter), RunFault> {
+    fn next(&mut self, link: u32, role: Role) -> Result<(TcpReader<'s>, TcpWriter), RunFault> {
         let (Some(next), Some(left)) = (self.next.checked_add(1), self.left.checked_sub(1)) else {
             return Err(RunFault::Link(link));
         };
@@ -178,14 +180,15 @@ impl<
         let found = self
             .meet(link, role)?
             .numbered(link)
-            .with_idle(self.serving.idle);
+            .with_idle(self.serving.idle)
+            .with_stop(self.serving.flag());
         self.register(&found)?;
         let Ok(halves) = found.split() else {
             return Err(RunFault::Link(link));
         };
         self.next = next;
         self.left = left;
-        self.watch.begin(next as usize);
+        self.watch.came(link, halves.0.peer());
         Ok(halves)
     }
 }

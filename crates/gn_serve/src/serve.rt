@@ -18,8 +18,10 @@ ghost use Rattle.gn_threads.specs.Headline.{
 ghost use Rattle.gn_serve.specs.Links.{origins_of, roles_of, tcp_reads, tcp_writes};
 ghost use Rattle.gn_serve.specs.Serves.{IsServed};
 
+use crate::counted::Counted;
 use crate::peers::{Peers, roles_of};
 use crate::serving::Serving;
+use crate::stop::Stop;
 use crate::stops::Stops;
 use gn_load::Watch;
 use gn_rules::{Config, RouterCore};
@@ -35,12 +37,13 @@ use std::time::Clock;
 
 /// Runs a router over links to these peers, which it calls in order, and after them to so many others that call the
 /// listener. The bodies of each link start as soon as it has come; it waits for a caller without a time limit, for peers and
-/// what they send and take as `serving` says. Each worker passes `watch` before it routes, and each link is counted there as it
-/// comes. At most 256 links.
+/// what they send and take as `serving` says, and where it has failed for nobody. `watch` learns of each link as it comes, and
+/// each worker passes it before it routes. At most 256 links.
 ///
 /// Of several faults it answers the one that `run` of gn_threads does. Where a call, an accept or a split fails, the bodies that
 /// have started are ended and joined first, and their peers are let go.
 pub fn serve_on<
+    's,
     C: RouterCore<A> + Drop + Send,
     G: Watch + Sync,
     A: Allocator + Copy + Send + Sync,
@@ -52,10 +55,10 @@ pub fn serve_on<
     config: &Config,
     accept: u32,
     peers: &[SocketAddr],
-    serving: &Serving,
+    serving: &Serving<'s>,
     workers: u32,
     watch: &G,
-) -> Result<Report<TcpReader, TcpWriter, A>, RunFault>
+) -> Result<Report<TcpReader<'s>, TcpWriter, A>, RunFault>
     requires few { accept + length peers.now ≤ most_links }
     ensures workers { IfOk result (λ _. IsCrew workers) }
     ensures bad_workers { IfErr result (λ fault. (fault ≡ BadWorkers) ↔ (¬ IsCrew workers)) }
@@ -84,6 +87,7 @@ pub fn serve_on<
 
 /// Does the same, and a fault comes with what stands of the history, which is legal by the configuration of the call.
 pub fn serve_kept<
+    's,
     C: RouterCore<A> + Drop + Send,
     G: Watch + Sync,
     A: Allocator + Copy + Send + Sync,
@@ -95,10 +99,10 @@ pub fn serve_kept<
     config: &Config,
     accept: u32,
     peers: &[SocketAddr],
-    serving: &Serving,
+    serving: &Serving<'s>,
     workers: u32,
     watch: &G,
-) -> Result<Report<TcpReader, TcpWriter, A>, Stopped<A>>
+) -> Result<Report<TcpReader<'s>, TcpWriter, A>, Stopped<A>>
     requires few { accept + length peers.now ≤ most_links }
     ensures workers { IfOk result (λ _. IsCrew workers) }
     ensures bad_workers { IfErr result (λ stopped. (stopped.fault ≡ BadWorkers) ↔ (¬ IsCrew workers)) }
@@ -119,16 +123,16 @@ pub fn serve_kept<
     ensures routed { IfOk result (λ report. RoutesEachOnce report) }
     ensures stats { IfOk result (λ report. HasOwnStats report) }
 {
-    let stops = Stops::new(alloc);
+    let own = Stop::new(None, false);
+    let stop = match serving.stop {
+        Some(stop) => stop,
+        None => &own,
+    };
+    let stops = Stops::new(alloc, stop);
     let stops = &stops;
-    let limit = serving.limit;
     let ((), answer) = thread::join(
         rt,
-        || {
-            if let Some(limit) = limit {
-                stops.stop_after(rt, listener, limit);
-            }
-        },
+        || stops.watch(rt, listener),
         ||
             requires { accept + length peers.now ≤ most_links }
             ensures { IsServed config.entry.now peers.entry.now accept workers result }
@@ -141,8 +145,9 @@ pub fn serve_kept<
     answer
 }
 
-/// Runs a router over these links, which `stops` ends where the time for that has come.
+/// Runs a router over these links, which `stops` ends where the run is stopped.
 fn run_links<
+    's,
     C: RouterCore<A> + Drop + Send,
     G: Watch + Sync,
     A: Allocator + Copy + Send + Sync,
@@ -154,11 +159,11 @@ fn run_links<
     config: &Config,
     accept: u32,
     peers: &[SocketAddr],
-    serving: &Serving,
+    serving: &Serving<'s>,
     workers: u32,
     watch: &G,
-    stops: &Stops<A>,
-) -> Result<Report<TcpReader, TcpWriter, A>, Stopped<A>>
+    stops: &Stops<'_, A>,
+) -> Result<Report<TcpReader<'s>, TcpWriter, A>, Stopped<A>>
     requires few { accept + length peers.now ≤ most_links }
     ensures workers { IfOk result (λ _. IsCrew workers) }
     ensures bad_workers { IfErr result (λ stopped. (stopped.fault ≡ BadWorkers) ↔ (¬ IsCrew workers)) }
@@ -182,6 +187,9 @@ fn run_links<
     let links = peers.len() + accept as usize;
     let all = roles_of(peers.len(), links);
     let roles = &all[..links];
+    let steps = config.numbers.steps;
+    watch.open(steps);
+    let gate = Counted::new(watch, stops.stop, steps);
     let arrivals = Peers {
         net: rt,
         listener,
@@ -192,5 +200,5 @@ fn run_links<
         stops,
         watch,
     };
-    run_arriving_kept::<C, _, _, _, _, _, _>(rt, alloc, config, roles, arrivals, workers, watch)
+    run_arriving_kept::<C, _, _, _, _, _, _>(rt, alloc, config, roles, arrivals, workers, &gate)
 }

@@ -1,38 +1,36 @@
 //! How a run over TCP is stopped before its peers end it.
 
+use crate::stop::Stop;
 use gn_tcp::TcpStopper;
 use std::alloc::{AllocError, Allocator, Global};
 use std::net::{Net, TcpListener, TcpStream};
 use std::sync::atomic::{AtomicBool, Ordering};
 use std::sync::{Mutex, Wait};
-use std::thread::Parker;
-use std::time::{Clock, Duration, Instant};
+use std::time::{Clock, Duration};
 
 /// Seconds for which the run's own call of its port waits for its answer.
 const CALL: u64 = 1;
 
-/// The links of a run that may be stopped, and whether it was.
+/// The links of a run that may be stopped, and whether the run is over.
 #[derive(Drop)]
-pub(crate) struct Stops<A: Allocator = Global> {
+pub(crate) struct Stops<'a, A: Allocator = Global> {
+    pub stop: &'a Stop,
     links: Mutex<Vec<TcpStopper, A>>,
-    is_stopped: AtomicBool,
     is_over: AtomicBool,
-    waiter: Parker,
 }
 
-impl<A: Allocator> Stops<A> {
+impl<'a, A: Allocator> Stops<'a, A> {
     /// No link has come yet.
-    pub(crate) fn new(alloc: A) -> Self {
+    pub(crate) fn new(alloc: A, stop: &'a Stop) -> Self {
         Stops {
+            stop,
             links: Mutex::new(Vec::new(alloc)),
-            is_stopped: AtomicBool::new(false),
             is_over: AtomicBool::new(false),
-            waiter: Parker::new(),
         }
     }
 
     pub(crate) fn is_stopped(&self) -> bool {
-        self.is_stopped.load(Ordering::SeqCst)
+        self.stop.is_set()
     }
 
     /// A link has come. Where the run was stopped by then, so is the link.
@@ -46,44 +44,32 @@ impl<A: Allocator> Stops<A> {
         Ok(())
     }
 
-    /// The run is over: nobody waits for its time any more.
+    /// The run is over: nobody waits for its stop any more.
     pub(crate) fn end(&self) {
         self.is_over.store(true, Ordering::SeqCst);
-        self.waiter.unpark();
+        self.stop.wake();
     }
 
-    /// Stops each link that has come; those that come later are stopped as they come.
-    fn stop<R: Wait>(&self, rt: &R) {
+    /// Ends the waits of each link that has come. One that comes between sees that the run is stopped, or is among them.
+    fn stop_links<R: Wait>(&self, rt: &R) {
+        self.stop.set();
         let links = self.links.lock(rt);
-        // under the lock, so that no link comes between
-        self.is_stopped.store(true, Ordering::SeqCst);
         for link in &*links {
             link.stop();
         }
     }
 
-    /// Waits until the run is over, or for so long: then the run is stopped, and a caller that it waits for comes.
-    pub(crate) fn stop_after<R: Wait + Net<Listener = TcpListener, Stream = TcpStream> + Clock>(
+    /// Waits until the run is over, or is stopped: then its links are read no more, and a caller that it waits for comes.
+    pub(crate) fn watch<R: Wait + Net<Listener = TcpListener, Stream = TcpStream> + Clock>(
         &self,
         rt: &R,
         listener: &TcpListener,
-        limit: Duration,
     ) {
-        let Ok(begun) = Instant::now(rt) else {
+        self.stop.wait(rt, &self.is_over);
+        if self.is_over.load(Ordering::SeqCst) {
             return;
-        };
-        for _ in rt.forever() {
-            if self.is_over.load(Ordering::SeqCst) {
-                return;
-            }
-            match begun.elapsed(rt) {
-                Ok(since) if since < limit => {
-                    self.waiter.park_timeout(rt, limit.saturating_sub(since));
-                }
-                _ => break,
-            }
         }
-        self.stop(rt);
+        self.stop_links(rt);
         call_own(rt, listener);
     }
 }

@@ -13,6 +13,7 @@ use gn_links::{Link, LinkFault};
 use gn_shake::Role;
 use std::marker::Model;
 use std::net::{Ipv4Addr, Net, SocketAddr, TcpListener, TcpStream};
+use std::sync::atomic::AtomicBool;
 use std::time::Duration;
 
 /// Listens on this port of 127.0.0.1; on one that the system picks where the port is 0.
@@ -28,15 +29,16 @@ pub fn listen<N: Net<Listener = TcpListener, Stream = TcpStream>>(
 
 /// A connected socket, how the link over it begins, and where it comes from. No clause says which bytes go over it.
 #[derive(Drop)]
-pub struct TcpLink {
+pub struct TcpLink<'s> {
     stream: TcpStream,
     peer: SocketAddr,
     role: Role,
     origin: TcpOrigin,
     idle: Option<Duration>,
+    stop: Option<&'s AtomicBool>,
 }
 
-impl Model for TcpLink {
+impl<'s> Model for TcpLink<'s> {
     ghost use Rattle.gn_tcp.specs.Tcp.{TcpLinked};
 
     ghost Value = { TcpLinked };
@@ -44,9 +46,9 @@ impl Model for TcpLink {
     ghost view = { λ l. record { role = l.role; origin = l.origin } };
 }
 
-impl TcpLink {
+impl TcpLink<'static> {
     /// Waits for the next peer that calls, without a time limit. The link's number is 0.
-    pub fn accept(listener: &TcpListener) -> Result<TcpLink, LinkFault>
+    pub fn accept(listener: &TcpListener) -> Result<Self, LinkFault>
         ensures { IfOk result (λ link. link ≡ record { role = Accepting; origin = record { link = 0; called = None } }) }
     {
         match listener.accept() {
@@ -59,6 +61,7 @@ impl TcpLink {
                     called: None,
                 },
                 idle: None,
+                stop: None,
             }),
             Err(_) => Err(LinkFault),
         }
@@ -68,7 +71,7 @@ impl TcpLink {
     pub fn call<N: Net<Listener = TcpListener, Stream = TcpStream>>(
         net: &N,
         peer: SocketAddr,
-    ) -> Result<TcpLink, LinkFault>
+    ) -> Result<Self, LinkFault>
         ensures called { IfOk result (λ link. link ≡
             record { role = Calling; origin = record { link = 0; called = Some peer } }) }
         ensures near { OnOk result (IsLoopback peer) }
@@ -87,7 +90,7 @@ impl TcpLink {
         net: &N,
         peer: SocketAddr,
         limit: Duration,
-    ) -> Result<TcpLink, LinkFault>
+    ) -> Result<Self, LinkFault>
         ensures called { IfOk result (λ link. link ≡
             record { role = Calling; origin = record { link = 0; called = Some peer } }) }
         ensures near { OnOk result (IsLoopback peer) }
@@ -101,7 +104,7 @@ impl TcpLink {
         }
     }
 
-    fn calling(stream: TcpStream, peer: SocketAddr) -> TcpLink
+    fn calling(stream: TcpStream, peer: SocketAddr) -> Self
         ensures { result ≡ record { role = Calling; origin = record { link = 0; called = Some peer } } }
     {
         TcpLink {
@@ -113,9 +116,12 @@ impl TcpLink {
                 called: Some(peer),
             },
             idle: None,
+            stop: None,
         }
     }
+}
 
+impl<'s> TcpLink<'s> {
     /// Another handle of the link's socket, by which its reading half can be ended. It fails where the system gives none.
     pub fn stopper(&self) -> Result<TcpStopper, LinkFault> {
         match self.stream.try_clone() {
@@ -126,15 +132,16 @@ impl TcpLink {
 
     /// The link, whose reads and writes fail where they wait for longer than this, or its greeting comes in pieces and takes more
     /// than some two times as long; `None`: they wait for ever. `split` fails where the limit is zero.
-    pub fn with_idle(self, idle: Option<Duration>) -> TcpLink
-        ensures { result ≡ self }
+    pub fn with_idle(self, idle: Option<Duration>) -> Self
+        ensures { result ≡ self.entry }
     {
         let TcpLink {
             stream,
             peer,
             role,
             origin,
-            ..
+            idle: _,
+            stop,
         } = self;
         TcpLink {
             stream,
@@ -142,12 +149,36 @@ impl TcpLink {
             role,
             origin,
             idle,
+            stop,
+        }
+    }
+
+    /// The link, whose bytes end once this is set, whatever its peer still sends; `None`: they end with the peer's. A read that
+    /// waits by then goes on waiting: a `stopper` ends it.
+    pub fn with_stop<'t>(self, stop: Option<&'t AtomicBool>) -> TcpLink<'t>
+        ensures { result ≡ self.entry }
+    {
+        let TcpLink {
+            stream,
+            peer,
+            role,
+            origin,
+            idle,
+            stop: _,
+        } = self;
+        TcpLink {
+            stream,
+            peer,
+            role,
+            origin,
+            idle,
+            stop,
         }
     }
 
     /// The link, which has this number in its run.
-    pub fn numbered(self, link: u32) -> TcpLink
-        ensures { result ≡ record self { origin = record self.origin { link = link } } }
+    pub fn numbered(self, link: u32) -> Self
+        ensures { result ≡ record self.entry { origin = record self.entry.origin { link = link } } }
     {
         let TcpLink {
             stream,
@@ -155,6 +186,7 @@ impl TcpLink {
             role,
             origin: TcpOrigin { called, .. },
             idle,
+            stop,
         } = self;
         TcpLink {
             stream,
@@ -162,6 +194,7 @@ impl TcpLink {
             role,
             origin: TcpOrigin { link, called },
             idle,
+            stop,
         }
     }
 }
@@ -171,10 +204,10 @@ fn patience_of(idle: Option<Duration>, role: Role) -> Option<Patience> {
     Some(Patience::new(idle?, role))
 }
 
-impl Link for TcpLink {
+impl<'s> Link for TcpLink<'s> {
     type Origin = TcpOrigin;
 
-    type Reader = TcpReader;
+    type Reader = TcpReader<'s>;
 
     type Writer = TcpWriter;
 
@@ -189,13 +222,14 @@ impl Link for TcpLink {
     }
 
     /// Fails where the system gives no second handle of the socket, or doesn't take the time limit.
-    fn split(self) -> Result<(TcpReader, TcpWriter), LinkFault> {
+    fn split(self) -> Result<(TcpReader<'s>, TcpWriter), LinkFault> {
         let TcpLink {
             stream,
             peer,
             role,
             origin,
             idle,
+            stop,
         } = self;
         if stream.set_read_timeout(idle).is_err() || stream.set_write_timeout(idle).is_err() {
             return Err(LinkFault);
@@ -206,7 +240,7 @@ impl Link for TcpLink {
         let patience = patience_of(idle, role);
         match stream.try_clone() {
             Ok(other) => Ok((
-                TcpReader::new(stream, peer, origin, patience),
+                TcpReader::new(stream, peer, origin, patience, stop),
                 TcpWriter::new(other, origin),
             )),
             Err(_) => Err(LinkFault),

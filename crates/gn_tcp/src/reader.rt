@@ -9,22 +9,25 @@ use std::io::{ErrorKind, Read};
 use std::marker::Model;
 use std::net::{SocketAddr, TcpStream};
 use std::sync::Wait;
+use std::sync::atomic::{AtomicBool, Ordering};
 
 /// Reads from a socket. It gives its handle of the socket up at the end of the bytes, at a read that fails, and where it is
 /// finished: once both halves have, the peer is let go.
 #[derive(Drop)]
-pub struct TcpReader {
+pub struct TcpReader<'s> {
     stream: Option<TcpStream>,
     peer: SocketAddr,
     origin: TcpOrigin,
     /// `None`: it waits without a limit.
     patience: Option<Patience>,
+    /// Once it is set, nothing is read any more.
+    stop: Option<&'s AtomicBool>,
     failures: u64,
     pieces: u64,
     has_ended: bool,
 }
 
-impl Model for TcpReader {
+impl<'s> Model for TcpReader<'s> {
     ghost use Rattle.std.specs.Prelude.{is_some};
     ghost use Rattle.gn_tcp.specs.Tcp.{TcpReading};
 
@@ -39,12 +42,13 @@ impl Model for TcpReader {
     } };
 }
 
-impl TcpReader {
+impl<'s> TcpReader<'s> {
     pub(crate) fn new(
         stream: TcpStream,
         peer: SocketAddr,
         origin: TcpOrigin,
         patience: Option<Patience>,
+        stop: Option<&'s AtomicBool>,
     ) -> Self
         ensures { result ≡
             record { origin = origin; is_open = true; failures = 0; pieces = 0; has_ended = false } }
@@ -54,6 +58,7 @@ impl TcpReader {
             peer,
             origin,
             patience,
+            stop,
             failures: 0,
             pieces: 0,
             has_ended: false,
@@ -77,6 +82,14 @@ impl TcpReader {
     }
 }
 
+/// Whether nothing is to be read any more.
+fn is_set(stop: Option<&AtomicBool>) -> bool {
+    match stop {
+        Some(stop) => stop.load(Ordering::SeqCst),
+        None => false,
+    }
+}
+
 /// Waits for bytes, again where a signal cut the call short.
 fn read_some<R: Wait>(rt: &R, stream: &mut TcpStream, buffer: &mut [u8]) -> Result<usize, LinkFault>
     ensures { IfOk result (λ n. n ≤ length buffer.old) }
@@ -91,7 +104,7 @@ fn read_some<R: Wait>(rt: &R, stream: &mut TcpStream, buffer: &mut [u8]) -> Resu
     Err(LinkFault)
 }
 
-impl LinkReader for TcpReader {
+impl<'s> LinkReader for TcpReader<'s> {
     type Origin = TcpOrigin;
 
     ghost is_known = { false };
@@ -111,9 +124,11 @@ impl LinkReader for TcpReader {
     /// Also where its bytes ended or a read failed: it has given its handle up.
     ghost is_finished = { λ r. not r.is_open };
 
-    /// Fails too where it waits for longer than the link's time limit allows, and where it failed before or was finished.
+    /// Gives no bytes once the link's stop is set. Fails too where it waits for longer than the link's time limit allows, and
+    /// where it failed before or was finished.
     fn read<R: Wait>(&mut self, rt: &R, buffer: &mut [u8]) -> Result<usize, LinkFault> {
         let answer = match &mut self.stream {
+            Some(_) if is_set(self.stop) => Ok(0),
             Some(stream) => read_some(rt, stream, buffer),
             None if self.has_ended => Ok(0),
             None => Err(LinkFault),
@@ -138,9 +153,7 @@ impl LinkReader for TcpReader {
     }
 
     /// What the peer sends from now on, once the writer is finished too, is refused by the system.
-    fn finish<R: Wait>(&mut self, _rt: &R)
-        ensures same { self.new ≡ record self.old { is_open = false } }
-    {
+    fn finish<R: Wait>(&mut self, _rt: &R) {
         self.stream = None;
     }
 }

@@ -13,7 +13,8 @@ impl TcpStopper {
         TcpStopper { stream }
     }
 
-    /// Ends the bytes that the link's reader gets, once it has read what has come by now. What is written goes on.
+    /// Ends the wait of the link's reader: it gets what has come by now, and then no bytes, but for those that the peer still
+    /// sends. What is written goes on.
     pub fn stop(&self) {
         // it fails where the peer is gone, whose bytes have ended then
         let _ = self.stream.shutdown(Shutdown::Read);

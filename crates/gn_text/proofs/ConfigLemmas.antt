@@ -7,11 +7,11 @@ use Rattle.gn_rules.specs.declared.config.Own.{Own}
 use Rattle.gn_rules.specs.declared.limits.Numbers.{Numbers}
 use Rattle.gn_rules.specs.Limits.{AreWithin}
 use Rattle.gn_text.specs.Lines.{is_word}
-use Rattle.gn_text.specs.Numbers.{number_of}
+use Rattle.gn_numbers.specs.Numbers.{number_of}
 use Rattle.gn_text.specs.Settings.{are_within, config_of, each_within, numbers_parsed, settings_of}
-use Rattle.gn_text.specs.declared.version.Later.{Later}
-use Rattle.gn_text.specs.declared.version.Version.{Version}
-use Rattle.gn_text.specs.Versions.{later_parsed}
+use Rattle.gn_numbers.specs.declared.version.Later.{Later}
+use Rattle.gn_numbers.specs.declared.version.Version.{Version}
+use Rattle.gn_numbers.specs.Versions.{later_parsed}
 
 -- the settings are those of a configuration
 abbrev pub IsConfigured : Numbers × Own → Type 0

@@ -8,9 +8,9 @@ use Rattle.gn_text.specs.Faults.{numbered_at, ◌>>=◌}
 use Rattle.gn_text.specs.Header.{config_from, header_of, own_from}
 use Rattle.gn_rules.specs.declared.limits.Numbers.{Numbers}
 use Rattle.gn_text.specs.Settings.{config_of, own_of}
-use Rattle.gn_text.specs.declared.version.Text.{Text}
-use Rattle.gn_text.specs.declared.version.Version.{Version}
-use Rattle.gn_text.specs.Versions.{version_of}
+use Rattle.gn_text.specs.declared.title.Text.{Text}
+use Rattle.gn_numbers.specs.declared.version.Version.{Version}
+use Rattle.gn_text.specs.Titles.{version_of}
 use Rattle.gn_text.proofs.ConfigLemmas.{ArePassed, IsConfigured, config_is_within, made}
 
 -- the settings that a text's first lines say, and the lines after them

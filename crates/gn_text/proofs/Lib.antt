@@ -5,7 +5,6 @@ pub mod FirstLines
 pub mod HeaderLemmas
 pub mod HexLemmas
 pub mod KeptLemmas
-pub mod NumberLemmas
 pub mod ParsedLemmas
 pub mod PartLemmas
 pub mod PartsLemmas

@@ -12,7 +12,7 @@ use Rattle.gn_rules.specs.declared.config.Field.TheVariants.{Neighbours, Seen, S
 use Rattle.gn_rules.specs.declared.config.Own.{Own}
 use Rattle.gn_rules.specs.declared.limits.Numbers.{Numbers}
 use Rattle.gn_text.specs.Settings.{numbers_of, is_within, are_within, numbers_parsed, numbers_within, servent_parsed}
-use Rattle.gn_text.specs.declared.version.Version.{Version}
+use Rattle.gn_numbers.specs.declared.version.Version.{Version}
 
 within : (n limit : ℕ) → IsWithin n limit → is_within n limit ≡ true
 within n limit h = grind (arith, nat_tests)

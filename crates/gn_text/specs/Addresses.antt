@@ -1,13 +1,7 @@
 -- What dotted decimals say.
 use Rattle.std.specs.Prelude.{ℕ, ◌==◌, List, [], ◌∷◌, ◌++◌, slice_index, codes, decimal, Option, Some, None}
 use Rattle.std.specs.List.{slice_split}
-use Rattle.std.specs.Option.{option_and_then}
-use Rattle.gn_text.specs.Numbers.{number_below}
-
--- the next step, where there is a value
-infixl 10 ◌>>=◌
-abbrev pub ◌>>=◌ : {X Y : Type 0} → Option X → (X → Option Y) → Option Y
-o >>= f = option_and_then f o
+use Rattle.gn_numbers.specs.Numbers.{number_below, ◌>>=◌}
 
 -- the address of four numbers up to 255
 abbrev pub ip_of_parts : List (List ℕ) → Option (List ℕ)

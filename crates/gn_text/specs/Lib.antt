@@ -4,11 +4,10 @@ pub mod Faults
 pub mod Header
 pub mod Lines
 pub mod Links
-pub mod Numbers
 pub mod Parts
 pub mod Refusals
 pub mod Parsed
 pub mod Settings
 pub mod Statistics
 pub mod Steps
-pub mod Versions
+pub mod Titles

@@ -4,13 +4,13 @@ use Rattle.gn_rules.specs.declared.config.Config.{Config}
 use Rattle.gn_rules.specs.declared.config.Own.{Own}
 use Rattle.gn_rules.specs.declared.limits.Numbers.{Numbers}
 use Rattle.gn_rules.specs.Limits.{most}
-use Rattle.gn_text.specs.declared.version.Later.{Later}
-use Rattle.gn_text.specs.declared.version.Version.{Version}
-use Rattle.gn_text.specs.Addresses.{ip_of, ◌>>=◌, ip_text}
+use Rattle.gn_numbers.specs.declared.version.Later.{Later}
+use Rattle.gn_numbers.specs.declared.version.Version.{Version}
+use Rattle.gn_text.specs.Addresses.{ip_of, ip_text}
 use Rattle.gn_text.specs.Bytes.{guid_of}
 use Rattle.gn_text.specs.Lines.{is_word}
-use Rattle.gn_text.specs.Numbers.{number_of, number_below}
-use Rattle.gn_text.specs.Versions.{later_parsed, later_text, version_for}
+use Rattle.gn_numbers.specs.Numbers.{number_of, number_below, ◌>>=◌}
+use Rattle.gn_numbers.specs.Versions.{later_parsed, later_text, version_for}
 use Rattle.hex.specs.Hex.{encode_lower}
 
 -- those that a configuration keeps

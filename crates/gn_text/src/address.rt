@@ -4,8 +4,8 @@ ghost use Rattle.std.specs.Prelude.{◌≡◌, ◌++◌, map, IfOk, OnErr, OnOk}
 ghost use Rattle.gn_text.specs.Addresses.{ip_of, ip_of_parts, ip_text};
 
 use crate::line::parts;
-use crate::numbers::number_u8;
 use crate::part::{Part, push_parts};
+use gn_numbers::number_u8;
 use std::alloc::{AllocError, Allocator};
 
 fn ip_of_parts(parts: &[&[u8]]) -> Option<[u8; 4]>

@@ -3,14 +3,13 @@
 
 ghost use Rattle.std.specs.Prelude.{◌≡◌, length, map, option_map, take, IfOk, ◌++◌, OnOk, OnErr};
 ghost use Rattle.gn_text.specs.Settings.{config_of, numbers_of, numbers_parsed, numbers_within, each_within, own_of, servent_parsed, six_text, config_text, own_text, settings_text};
-ghost use Rattle.gn_text.specs.Versions.{later_text, version_for};
+ghost use Rattle.gn_numbers.specs.Versions.{later_text, version_for};
 
 use crate::address::{ip, push_ip};
 use crate::line::is_word;
-use crate::numbers::{number, number_u16};
 use crate::octets::guid;
 use crate::part::{Part, push_parts};
-use crate::version::{Later, Version, least_version, read_later};
+use gn_numbers::{Later, Version, least_version, number, number_u16, read_later};
 use gn_rules::{Config, Numbers, Own};
 use gn_wire::Guid;
 use std::alloc::{AllocError, Allocator};

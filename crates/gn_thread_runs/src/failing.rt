@@ -5,6 +5,7 @@ mod rows;
 mod slow;
 mod sockets;
 
+use crate::wanted::a_report;
 use gn_bodies::{ReaderEnd, WriterEnd};
 use gn_links::{Link, MemoryLink, NoGate};
 use gn_router::TableRouter;
@@ -118,7 +119,7 @@ where
         return Err(Fail::from("memory"));
     }
     let ran = run::<TableRouter, _, _, _, _>(rt, alloc, config, links, 1, &NoGate);
-    let report = ran.map_err(|_| "a report")?;
+    let report = a_report(ran)?;
     let (left, writer) = left_of(alloc, config, &[role], report)?;
     Ok((left, writer.into_bytes()))
 }

@@ -1,4 +1,5 @@
-//! Runs of many threads, over links in memory and over TCP, and loads of captures. Tests alone.
+//! Runs of many threads, over links in memory and over TCP, and loads of captures; links over TCP, and what the report of a
+//! run is compared by. Tests alone.
 #![tactic(auto)]
 
 #[cfg(test)]
@@ -14,6 +15,12 @@ mod loads;
 #[cfg(test)]
 mod prompt;
 #[cfg(test)]
+mod report;
+#[cfg(test)]
 mod runs;
 #[cfg(test)]
 mod serves;
+#[cfg(test)]
+mod tcp;
+#[cfg(test)]
+mod wanted;

@@ -1,19 +1,26 @@
-//! Runs over the loopback that call a peer until it listens, runs that are stopped, and what is kept of one that stops.
+//! Runs over the loopback that call a peer until it listens, and runs that are stopped, with what is written of them.
 
-use crate::serves::{ends_of, hears, hears_the_end, is_called, serve_within};
+use crate::in_time::watch;
+use crate::serves::{Served, ends_of, hears, hears_the_end, is_called, serve_within};
+use crate::wanted::{a_listener, a_report};
 use gn_bodies::{ReaderEnd, WriterEnd};
 use gn_fixtures::{OWN_PONG, PING, usual};
 use gn_io::{ReaderSource, WriterSink};
 use gn_links::NoGate;
 use gn_replay::audit;
 use gn_router::TableRouter;
-use gn_rules::Legality;
-use gn_serve::{ServeFault, Serving, serve_history};
+use gn_rules::{Config, Legality};
+use gn_serve::{ServeFault, Serving, Stop, serve_history};
 use gn_tcp::listen;
 use gn_threads::RunFault;
+use std::alloc::Global;
 use std::io::{Read, Write};
 use std::net::{Ipv4Addr, Net, SocketAddr, TcpListener, TcpStream};
+use std::process::Abort;
+use std::sync::Wait;
+use std::sync::atomic::{AtomicBool, Ordering};
 use std::test::Fail;
+use std::thread::Threads;
 use std::time::{Clock, Duration};
 use std::{io, thread};
 
@@ -31,7 +38,7 @@ fn comes_late<N: Net<Listener = TcpListener, Stream = TcpStream> + Clock>(
 
 #[test]
 fn a_peer_is_called_until_it_listens(rt: HostRuntime) -> Result<(), Fail> {
-    let listener = listen(&rt, 0).map_err(|_| "a listener")?;
+    let listener = a_listener(&rt)?;
     let at = [SocketAddr::from((Ipv4Addr::LOCALHOST, LATE))];
     let serving = Serving {
         retry: Some(Duration::from_secs(20)),
@@ -44,53 +51,128 @@ fn a_peer_is_called_until_it_listens(rt: HostRuntime) -> Result<(), Fail> {
         move || serve_within(net, net.alloc(), listener, 100, 0, at.as_slice(), serving),
     );
     assert!(rt; peer.is_some());
-    let report = served.map_err(|_| "a report")?;
+    let report = a_report(served)?;
     assert_eq!(rt; report.history.len(), 5);
     let link = report.links.get(0).ok_or("a link")?;
     assert_eq!(rt; link.reader.peer(), at[0]);
     Ok(())
 }
 
-/// A client that sends a Ping, hears the Pong, and then waits for the end.
+/// A client that sends a Ping, hears the Pong, stops the run or not, and then waits for the end.
 fn stays<N: Net<Listener = TcpListener, Stream = TcpStream>>(
     net: &N,
     at: SocketAddr,
+    stop: &Stop,
+    stops: bool,
 ) -> io::Result<bool> {
     let mut peer = TcpStream::connect(net, at)?;
     peer.write_all(gn_shake::request())?;
     let mut good = hears(&mut peer, gn_shake::consent())?;
     peer.write_all(PING)?;
     good &= hears(&mut peer, OWN_PONG)?;
+    if stops {
+        stop.set();
+    }
     good &= hears_the_end(&mut peer)?;
     Ok(good)
 }
 
-/// Of four callers one comes, and doesn't end.
-#[test]
-fn a_run_is_stopped(rt: HostRuntime) -> Result<(), Fail> {
-    let listener = listen(&rt, 0).map_err(|_| "a listener")?;
-    let at = listener.local_addr()?;
+/// Of four callers of a run one comes, and doesn't end: the caller stops it, or not. What the caller says, and the run's answer.
+fn stopped<
+    's,
+    R: Threads + Wait + Net<Listener = TcpListener, Stream = TcpStream> + Sync + Abort + Clock,
+>(
+    rt: &R,
+    alloc: Global,
+    listener: &TcpListener,
+    at: SocketAddr,
+    stop: &'s Stop,
+    stops: bool,
+) -> (Option<bool>, Served<'s>) {
     let serving = Serving {
-        limit: Some(Duration::from_secs(3)),
+        stop: Some(stop),
         ..Serving::UNLIMITED
     };
-    let (net, listener, serving) = (&rt, &listener, &serving);
-    let (good, served) = thread::join(
-        net,
-        move || stays(net, at).ok(),
-        move || serve_within(net, net.alloc(), listener, 100, 4, &[], serving),
-    );
-    assert_eq!(rt; good, Some(true));
-    let report = served.map_err(|_| "a report")?;
-    assert_eq!(rt; report.history.len(), 5);
-    assert_eq!(rt; report.stats.closed, 1);
-    let stopped = (ReaderEnd::Bytes, WriterEnd::Drained);
-    assert_eq!(rt; ends_of(&report, 0), Some(stopped));
-    let missing = (ReaderEnd::GreetingCut, WriterEnd::NeverOpened);
-    for link in 1..4 {
-        assert_eq!(rt; ends_of(&report, link), Some(missing));
+    let serving = &serving;
+    thread::join(
+        rt,
+        move || stays(rt, at, stop, stops).ok(),
+        move || serve_within(rt, alloc, listener, 100, 4, &[], serving),
+    )
+}
+
+/// A time stops the run, or the caller.
+#[test]
+fn a_run_is_stopped(rt: HostRuntime) -> Result<(), Fail> {
+    let listener = a_listener(&rt)?;
+    let at = listener.local_addr()?;
+    let (net, listener) = (&rt, &listener);
+    for limit in [Some(Duration::from_secs(3)), None] {
+        let stop = Stop::new(limit, false);
+        let (good, served) = stopped(net, net.alloc(), listener, at, &stop, limit.is_none());
+        assert_eq!(rt; good, Some(true));
+        let report = a_report(served)?;
+        assert_eq!(rt; report.history.len(), 5);
+        assert_eq!(rt; report.stats.closed, 1);
+        let stopped = (ReaderEnd::Bytes, WriterEnd::Drained);
+        assert_eq!(rt; ends_of(&report, 0), Some(stopped));
+        let missing = (ReaderEnd::GreetingCut, WriterEnd::NeverOpened);
+        for link in 1..4 {
+            assert_eq!(rt; ends_of(&report, link), Some(missing));
+        }
     }
     Ok(())
+}
+
+/// What a run of one caller answers and writes, which ends the test where it isn't over within 20 seconds.
+fn written<
+    R: Threads + Wait + Net<Listener = TcpListener, Stream = TcpStream> + Sync + Abort + Clock,
+>(
+    rt: &R,
+    alloc: Global,
+    listener: &TcpListener,
+    config: &Config,
+    serving: &Serving<'_>,
+) -> (Option<ServeFault>, Vec<u8>) {
+    let is_over = AtomicBool::new(false);
+    let is_over = &is_over;
+    let (answer, ()) = thread::join(
+        rt,
+        move || {
+            let mut sink = WriterSink::new(Vec::new(alloc));
+            let served = serve_history::<TableRouter, _, _, _, _>(
+                rt,
+                alloc,
+                listener,
+                config,
+                1,
+                &[],
+                serving,
+                1,
+                &NoGate,
+                &mut sink,
+            );
+            is_over.store(true, Ordering::SeqCst);
+            (served.err(), sink.into_inner())
+        },
+        move || watch(rt, is_over, "a run that doesn't stop"),
+    );
+    answer
+}
+
+/// How many steps a history has that is legal.
+fn legal_steps(alloc: Global, text: &[u8]) -> Result<u32, Fail> {
+    let mut reader = ReaderSource::new(text);
+    let mut verdict = WriterSink::new(Vec::new(alloc));
+    let judged = audit::<_, TableRouter, _, _>(alloc, &mut reader, &mut verdict);
+    let verdict = verdict.into_inner();
+    let Some([steps @ .., b'\n']) = verdict.strip_prefix(b"legal ") else {
+        return Err(Fail::from("a legal history"));
+    };
+    match (judged, gn_text::number(steps)) {
+        (Ok(Legality::Legal), Some(steps)) => Ok(steps),
+        _ => Err(Fail::from("a legal history")),
+    }
 }
 
 /// A client that sends a Ping, and hears the end of a run whose history is full.
@@ -107,10 +189,10 @@ fn fills<N: Net<Listener = TcpListener, Stream = TcpStream>>(
     Ok(good)
 }
 
-/// The history of a run that stops at its third step: it has that many, is legal, and ends with `end`.
+/// The history of a run that stops at its third step.
 #[test]
 fn a_history_is_kept(rt: HostRuntime) -> Result<(), Fail> {
-    let listener = listen(&rt, 0).map_err(|_| "a listener")?;
+    let listener = a_listener(&rt)?;
     let at = listener.local_addr()?;
     let config = usual(3)?;
     let serving = Serving {
@@ -121,29 +203,52 @@ fn a_history_is_kept(rt: HostRuntime) -> Result<(), Fail> {
     let (good, (fault, text)) = thread::join(
         net,
         move || fills(net, at).ok(),
-        move || {
-            let mut sink = WriterSink::new(Vec::new(net.alloc()));
-            let served = serve_history::<TableRouter, _, _, _, _>(
-                net,
-                net.alloc(),
-                listener,
-                config,
-                1,
-                &[],
-                serving,
-                1,
-                &NoGate,
-                &mut sink,
-            );
-            (served.err(), sink.into_inner())
-        },
+        move || written(net, net.alloc(), listener, config, serving),
     );
     assert_eq!(rt; good, Some(true));
     assert_eq!(rt; fault, Some(ServeFault::Run(RunFault::HistoryFull)));
-    let mut reader = ReaderSource::new(text.as_slice());
-    let mut verdict = WriterSink::new(Vec::new(rt.alloc()));
-    let judged = audit::<_, TableRouter, _, _>(rt.alloc(), &mut reader, &mut verdict);
-    assert_eq!(rt; judged, Ok(Legality::Legal));
-    assert_eq!(rt; verdict.into_inner().as_slice(), b"legal 3\n".as_slice());
+    assert_eq!(rt; legal_steps(rt.alloc(), &text)?, 3);
+    Ok(())
+}
+
+/// How often the flooder sends at most.
+const FLOOD: u32 = 100_000;
+
+/// A client that sends the same Ping again and again, until it is refused.
+fn floods<N: Net<Listener = TcpListener, Stream = TcpStream>>(
+    net: &N,
+    at: SocketAddr,
+) -> io::Result<bool> {
+    let mut peer = TcpStream::connect(net, at)?;
+    peer.write_all(gn_shake::request())?;
+    let good = hears(&mut peer, gn_shake::consent())?;
+    for _ in 0..FLOOD {
+        if peer.write_all(PING).is_err() {
+            return Ok(good);
+        }
+    }
+    Ok(false)
+}
+
+/// A flooder doesn't fill the history: what is read once nine tenths of it are made is one piece at most.
+#[test]
+fn a_flood_is_stopped_early(rt: HostRuntime) -> Result<(), Fail> {
+    let listener = a_listener(&rt)?;
+    let at = listener.local_addr()?;
+    let config = usual(10_000)?;
+    let stop = Stop::new(None, true);
+    let serving = Serving {
+        stop: Some(&stop),
+        ..Serving::UNLIMITED
+    };
+    let (net, listener, config, serving) = (&rt, &listener, &config, &serving);
+    let (good, (fault, text)) = thread::join(
+        net,
+        move || floods(net, at).ok(),
+        move || written(net, net.alloc(), listener, config, serving),
+    );
+    assert_eq!(rt; (good, fault), (Some(true), None));
+    let steps = legal_steps(rt.alloc(), &text)?;
+    assert!(rt; 9_000 < steps && steps < 10_000, "{steps}");
     Ok(())
 }

@@ -1,7 +1,7 @@
 //! Runs over the loopback that wait for nobody: small packets go out at once, and a run that has failed lets its peers go.
 
 use crate::serves::serve;
-use gn_tcp::listen;
+use crate::wanted::a_listener;
 use gn_threads::RunFault;
 use std::io::{Read, Write};
 use std::net::{Net, SocketAddr, TcpListener, TcpStream};
@@ -64,7 +64,7 @@ fn in_turn<N: Net<Listener = TcpListener, Stream = TcpStream>>(
 
 #[test]
 fn no_packet_waits_for_another(rt: HostRuntime) -> Result<(), Fail> {
-    let listener = listen(&rt, 0).map_err(|_| "a listener")?;
+    let listener = a_listener(&rt)?;
     let at = listener.local_addr()?;
     let (listener, net) = (&listener, &rt);
     let mut in_time = false;
@@ -85,29 +85,28 @@ fn no_packet_waits_for_another(rt: HostRuntime) -> Result<(), Fail> {
     Ok(())
 }
 
-/// A caller that says nothing after its greeting, beside one that fills a history of three steps. Once that one has been let
-/// go another calls, so that the run looks whether it has failed before it waits for a fourth. All stay.
-fn silent_loud_and_late<N: Net<Listener = TcpListener, Stream = TcpStream>>(
+/// A caller that says nothing after its greeting, beside one that fills a history of three steps. Both stay, and nobody else
+/// calls.
+fn silent_and_loud<N: Net<Listener = TcpListener, Stream = TcpStream>>(
     net: &N,
     at: SocketAddr,
-) -> io::Result<[TcpStream; 3]> {
+) -> io::Result<[TcpStream; 2]> {
     let silent = greeted(net, at)?;
     let mut loud = greeted(net, at)?;
     loud.write_all(&ping(1))?;
     // it hears less than this, and then the end
     let _ = loud.read_exact(&mut [0u8; 1000]);
-    let late = TcpStream::connect(net, at)?;
-    Ok([silent, loud, late])
+    Ok([silent, loud])
 }
 
 #[test]
 fn a_full_history_waits_for_nobody(rt: HostRuntime) -> Result<(), Fail> {
-    let listener = listen(&rt, 0).map_err(|_| "a listener")?;
+    let listener = a_listener(&rt)?;
     let at = listener.local_addr()?;
     let (listener, net) = (&listener, &rt);
     let (peers, fault) = thread::join(
         net,
-        move || silent_loud_and_late(net, at).ok(),
+        move || silent_and_loud(net, at).ok(),
         move || serve(net, net.alloc(), listener, 3, 4, &[]).err(),
     );
     assert!(rt; peers.is_some());

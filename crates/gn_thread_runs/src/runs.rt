@@ -1,6 +1,7 @@
 //! Small runs of many threads over memory links.
 
 use crate::in_step::{Meeting, PacedLink};
+use crate::wanted::a_report;
 use bytes::Bytes;
 use gn_bodies::WriterEnd;
 use gn_fixtures::OWN;
@@ -32,7 +33,7 @@ fn pings(alloc: Global, link: u8, count: u8) -> Result<Vec<u8>, Fail> {
 }
 
 /// What a run over the table router gives, of at most 256 links.
-fn table_run<K: Link, G: Gate + Sync, R: Threads + Wait + Sync>(
+pub(crate) fn table_run<K: Link, G: Gate + Sync, R: Threads + Wait + Sync>(
     rt: &R,
     alloc: Global,
     links: Vec<K>,
@@ -73,7 +74,7 @@ fn two_workers_meet(rt: HostRuntime) -> Result<(), Fail> {
         let bytes = pings(rt.alloc(), number, 100)?;
         links.push(MemoryLink::new(Role::Plain, bytes, 4096))?;
     }
-    let report = table_run(&rt, rt.alloc(), links, 2, &meeting).map_err(|_| "a report")?;
+    let report = a_report(table_run(&rt, rt.alloc(), links, 2, &meeting))?;
     assert_eq!(rt; report.workers.len(), 2);
     for receipts in &report.workers {
         assert_eq!(rt; receipts.len(), 300);
@@ -91,7 +92,7 @@ fn writes_fail_on_their_own_link(rt: HostRuntime) -> Result<(), Fail> {
         let link = MemoryLink::new(Role::Plain, pings(rt.alloc(), number, 1)?, 4096);
         links.push(link.failing(None, write))?;
     }
-    let report = table_run(&rt, rt.alloc(), links, 1, &NoGate).map_err(|_| "a report")?;
+    let report = a_report(table_run(&rt, rt.alloc(), links, 1, &NoGate))?;
     assert_eq!(rt; report.links.len(), 2);
     for (k, link) in report.links.iter().enumerate() {
         // each link's own Pong is queued to it, whatever the schedule
@@ -126,7 +127,7 @@ fn paced_links<'a>(
 fn two_readers_meet(rt: HostRuntime) -> Result<(), Fail> {
     let meeting = Meeting::new();
     let links = paced_links(rt.alloc(), &meeting)?;
-    let report = table_run(&rt, rt.alloc(), links, 1, &NoGate).map_err(|_| "a report")?;
+    let report = a_report(table_run(&rt, rt.alloc(), links, 1, &NoGate))?;
     assert_eq!(rt; report.stats.routed, 20);
     // ten Pings of 23 bytes, and the read that finds no more, on both sides alike: nobody waits for one that has ended
     assert_eq!(rt; meeting.begun(), (231, 231));

@@ -1,13 +1,14 @@
 //! Runs over the loopback, with both ends in one process.
 
 use crate::in_time::watch;
+use crate::wanted::{a_listener, a_report};
 use gn_bodies::{ReaderEnd, WriterEnd};
 use gn_fixtures::{OWN_PONG, PING, usual};
 use gn_links::NoGate;
 use gn_router::TableRouter;
 use gn_run::Report;
 use gn_serve::{Serving, serve_on};
-use gn_tcp::{TcpReader, TcpWriter, listen};
+use gn_tcp::{TcpReader, TcpWriter};
 use gn_threads::RunFault;
 use std::alloc::Global;
 use std::io::{ErrorKind, Read, Write};
@@ -20,7 +21,7 @@ use std::thread::Threads;
 use std::time::{Clock, Duration};
 use std::{io, thread};
 
-pub(crate) type Served = Result<Report<TcpReader, TcpWriter>, RunFault>;
+pub(crate) type Served<'s> = Result<Report<TcpReader<'s>, TcpWriter>, RunFault>;
 
 /// The Ping forwarded: TTL 6 and Hops 1.
 const FORWARDED: [u8; 23] = [
@@ -29,15 +30,18 @@ const FORWARDED: [u8; 23] = [
 ];
 
 /// A run of at most so many steps over the table router with one worker, within these limits.
-fn run_within<R: Threads + Wait + Net<Listener = TcpListener, Stream = TcpStream> + Clock + Sync>(
+fn run_within<
+    's,
+    R: Threads + Wait + Net<Listener = TcpListener, Stream = TcpStream> + Clock + Sync,
+>(
     rt: &R,
     alloc: Global,
     listener: &TcpListener,
     steps: u32,
     accept: u32,
     peers: &[SocketAddr],
-    serving: &Serving,
-) -> Served {
+    serving: &Serving<'s>,
+) -> Served<'s> {
     let Ok(config) = usual(steps) else {
         return Err(RunFault::BadWorkers);
     };
@@ -56,6 +60,7 @@ const UNSERVED: &str =
 
 /// Such a run, which ends the test where it isn't over within 20 seconds.
 pub(crate) fn serve_within<
+    's,
     R: Threads + Wait + Net<Listener = TcpListener, Stream = TcpStream> + Sync + Abort + Clock,
 >(
     rt: &R,
@@ -64,8 +69,8 @@ pub(crate) fn serve_within<
     steps: u32,
     accept: u32,
     peers: &[SocketAddr],
-    serving: &Serving,
-) -> Served {
+    serving: &Serving<'s>,
+) -> Served<'s> {
     let is_over = AtomicBool::new(false);
     let is_over = &is_over;
     let (served, ()) = thread::join(
@@ -90,7 +95,7 @@ pub(crate) fn serve<
     steps: u32,
     accept: u32,
     peers: &[SocketAddr],
-) -> Served {
+) -> Served<'static> {
     serve_within(
         rt,
         alloc,
@@ -104,7 +109,7 @@ pub(crate) fn serve<
 
 /// How the two bodies of a link ended.
 pub(crate) fn ends_of(
-    report: &Report<TcpReader, TcpWriter>,
+    report: &Report<TcpReader<'_>, TcpWriter>,
     link: usize,
 ) -> Option<(ReaderEnd, WriterEnd)> {
     let link = report.links.get(link)?;
@@ -149,7 +154,7 @@ fn two_clients<N: Net<Listener = TcpListener, Stream = TcpStream>>(
 
 #[test]
 fn two_clients_are_served(rt: HostRuntime) -> Result<(), Fail> {
-    let listener = listen(&rt, 0).map_err(|_| "a listener")?;
+    let listener = a_listener(&rt)?;
     let at = listener.local_addr()?;
     let (net, listener) = (&rt, &listener);
     let (good, served) = thread::join(
@@ -158,7 +163,7 @@ fn two_clients_are_served(rt: HostRuntime) -> Result<(), Fail> {
         move || serve(net, net.alloc(), listener, 100, 2, &[]),
     );
     assert_eq!(rt; good, Some(true));
-    let report = served.map_err(|_| "a report")?;
+    let report = a_report(served)?;
     assert_eq!(rt; report.history.len(), 10);
     assert_eq!(rt; (report.stats.connected, report.stats.admitted), (2, 2));
     assert_eq!(rt; (report.stats.routed, report.stats.duplicate), (1, 1));
@@ -200,7 +205,7 @@ fn a_stranger_and_a_client<N: Net<Listener = TcpListener, Stream = TcpStream>>(
 
 #[test]
 fn a_stranger_is_let_go(rt: HostRuntime) -> Result<(), Fail> {
-    let listener = listen(&rt, 0).map_err(|_| "a listener")?;
+    let listener = a_listener(&rt)?;
     let at = listener.local_addr()?;
     let (net, listener) = (&rt, &listener);
     let (good, served) = thread::join(
@@ -209,7 +214,7 @@ fn a_stranger_is_let_go(rt: HostRuntime) -> Result<(), Fail> {
         move || serve(net, net.alloc(), listener, 100, 2, &[]),
     );
     assert_eq!(rt; good, Some(true));
-    let report = served.map_err(|_| "a report")?;
+    let report = a_report(served)?;
     assert_eq!(rt; report.history.len(), 2);
     assert_eq!(rt;
         ends_of(&report, 0),
@@ -239,8 +244,8 @@ pub(crate) fn is_called(listener: &TcpListener, consents: bool) -> io::Result<Op
 
 #[test]
 fn a_peer_is_called(rt: HostRuntime) -> Result<(), Fail> {
-    let listener = listen(&rt, 0).map_err(|_| "a listener")?;
-    let theirs = listen(&rt, 0).map_err(|_| "a listener")?;
+    let listener = a_listener(&rt)?;
+    let theirs = a_listener(&rt)?;
     let at = [theirs.local_addr()?];
     let (net, listener, theirs, at) = (&rt, &listener, &theirs, &at);
     let (peer, served) = thread::join(
@@ -249,7 +254,7 @@ fn a_peer_is_called(rt: HostRuntime) -> Result<(), Fail> {
         move || serve(net, net.alloc(), listener, 100, 0, at.as_slice()),
     );
     assert!(rt; peer.is_some());
-    let report = served.map_err(|_| "a report")?;
+    let report = a_report(served)?;
     assert_eq!(rt; report.history.len(), 5);
     assert_eq!(rt;
         ends_of(&report, 0),
@@ -260,9 +265,9 @@ fn a_peer_is_called(rt: HostRuntime) -> Result<(), Fail> {
 
 #[test]
 fn a_peer_that_is_not_there_ends_the_run(rt: HostRuntime) -> Result<(), Fail> {
-    let listener = listen(&rt, 0).map_err(|_| "a listener")?;
-    let theirs = listen(&rt, 0).map_err(|_| "a listener")?;
-    let nobody = listen(&rt, 0).map_err(|_| "a listener")?.local_addr()?;
+    let listener = a_listener(&rt)?;
+    let theirs = a_listener(&rt)?;
+    let nobody = a_listener(&rt)?.local_addr()?;
     let at = [theirs.local_addr()?, nobody];
     let (net, listener, theirs, at) = (&rt, &listener, &theirs, &at);
     let (peer, served) = thread::join(
@@ -277,7 +282,7 @@ fn a_peer_that_is_not_there_ends_the_run(rt: HostRuntime) -> Result<(), Fail> {
 
 #[test]
 fn a_listener_that_fails_ends_the_run(rt: HostRuntime) -> Result<(), Fail> {
-    let listener = listen(&rt, 0).map_err(|_| "a listener")?;
+    let listener = a_listener(&rt)?;
     // it doesn't wait, and nobody has called
     listener.set_nonblocking(true)?;
     let served = serve(&rt, rt.alloc(), &listener, 100, 1, &[]);

@@ -6,10 +6,6 @@ mod bodies;
 #[cfg(test)]
 mod hub;
 #[cfg(test)]
-mod report;
-#[cfg(test)]
 mod service;
 #[cfg(test)]
 mod stage;
-#[cfg(test)]
-mod tcp;

@@ -173,10 +173,18 @@ pub(crate) fn start_reader<
 }
 
 /// The body of a writer, from its start.
-fn write_link<W: LinkWriter, C: RouterCore<A> + Drop, L: Ledger, A: Allocator + Copy, R: Wait>(
+fn write_link<
+    W: LinkWriter,
+    C: RouterCore<A> + Drop,
+    L: Ledger,
+    G: Gate,
+    A: Allocator + Copy,
+    R: Wait,
+>(
     rt: &R,
     alloc: A,
     service: &Service<C, L, A>,
+    gate: &G,
     start: WriterStart<W, L, A>,
 ) -> WriterDone<W, L, A>
     ensures { WriterPromises (writes_of W.is_known W.bytes_written W.failures W.is_stuck W.is_finished) W.made_of
@@ -188,7 +196,7 @@ fn write_link<W: LinkWriter, C: RouterCore<A> + Drop, L: Ledger, A: Allocator + 
         role,
         writer,
     } = start;
-    writer_body(rt, alloc, service, actor, link, role, writer)
+    writer_body(rt, alloc, service, gate, actor, link, role, writer)
 }
 
 /// Starts a writer. False where no thread can be made.
@@ -198,6 +206,7 @@ pub(crate) fn start_writer<
     W: LinkWriter + Send + 's,
     C: RouterCore<A> + Drop + Send + 's,
     L: Ledger + Send + Sync + 's,
+    G: Gate + Sync + 's,
     A: Allocator + Copy + Send + Sync + 's,
     R: Threads + Wait + Sync + 's,
 >(
@@ -205,6 +214,7 @@ pub(crate) fn start_writer<
     alloc: A,
     scope: &'s Scope<'s, E>,
     service: &'s Service<C, L, A>,
+    gate: &'s G,
     start: WriterStart<W, L, A>,
     handles: &mut Vec<WriterHandle<W, L, A>, A>,
 ) -> bool
@@ -217,7 +227,7 @@ pub(crate) fn start_writer<
     let promise = Writes {
         start: Snapshot::of(&start),
     };
-    match scope.spawn_with(promise, move || write_link(rt, alloc, service, start)) {
+    match scope.spawn_with(promise, move || write_link(rt, alloc, service, gate, start)) {
         Ok(handle) => {
             handles.push_reserved(handle);
             true

@@ -77,7 +77,15 @@ fn start_link<
     ) {
         return Err(RunFault::NoMemory);
     }
-    if !start_writer(rt, alloc, scope, service, writing, &mut handles.writers) {
+    if !start_writer(
+        rt,
+        alloc,
+        scope,
+        service,
+        gate,
+        writing,
+        &mut handles.writers,
+    ) {
         return Err(RunFault::NoMemory);
     }
     Ok(())

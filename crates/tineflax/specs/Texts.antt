@@ -6,7 +6,7 @@ pub use Rattle.gn_text.specs.Faults
 pub use Rattle.gn_text.specs.Header
 pub use Rattle.gn_text.specs.Lines
 pub use Rattle.gn_text.specs.Links
-pub use Rattle.gn_text.specs.Numbers
+pub use Rattle.gn_numbers.specs.Numbers
 pub use Rattle.gn_text.specs.Parsed
 pub use Rattle.gn_text.specs.Refusals
 pub use Rattle.gn_text.specs.Settings

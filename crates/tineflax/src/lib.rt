@@ -82,8 +82,8 @@ pub mod service {
 /// Links over memory and over TCP.
 pub mod links {
     pub use gn_links::{
-        Gate, Link, LinkFault, LinkReader, LinkWriter, MemoryLink, MemoryReader, MemoryWriter,
-        NoGate, SplitFault, SplitLink, SplitLinks, split_all,
+        Gate, Half, Link, LinkFault, LinkReader, LinkWriter, Made, MemoryLink, MemoryReader,
+        MemoryWriter, NoGate, SplitFault, SplitLink, SplitLinks, split_all,
     };
     pub use gn_tcp::{TcpLink, TcpOrigin, TcpReader, TcpStopper, TcpWriter, listen};
 }
@@ -99,7 +99,7 @@ pub mod bodies {
 /// Runs of many threads, and their reports.
 pub mod run {
     pub use gn_run::{LinkReport, Report};
-    pub use gn_serve::{ServeFault, Serving, serve_history, serve_kept, serve_on};
+    pub use gn_serve::{ServeFault, Serving, Stop, serve_history, serve_kept, serve_on};
     pub use gn_threads::{Arrivals, RunFault, Stopped, run, run_arriving, run_arriving_kept};
 }
 

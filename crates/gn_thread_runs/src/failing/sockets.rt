@@ -1,6 +1,7 @@
 //! Runs over sockets whose peers reset, shut a half, send a byte at a time or never read, row by row.
 
 use super::{Left, READER, WRITER, left_of};
+use crate::wanted::{a_listener, a_report};
 use gn_bodies::{ReaderEnd, WriterEnd};
 use gn_fixtures::{OWN_PONG, PING, usual};
 use gn_links::NoGate;
@@ -9,7 +10,7 @@ use gn_rules::Config;
 use gn_run::Report;
 use gn_serve::{Serving, serve_on};
 use gn_shake::{Role, consent, request};
-use gn_tcp::{TcpReader, TcpWriter, listen};
+use gn_tcp::{TcpReader, TcpWriter};
 use gn_threads::RunFault;
 use std::alloc::{AllocError, Global};
 use std::io::{Read, Write};
@@ -20,7 +21,7 @@ use std::thread::Threads;
 use std::time::{Clock, Duration};
 use std::{io, thread};
 
-type Served = Result<Report<TcpReader, TcpWriter>, RunFault>;
+type Served = Result<Report<TcpReader<'static>, TcpWriter>, RunFault>;
 
 /// What a peer does, the first with its greeting, the others once they have sent it.
 #[derive(Clone, Copy)]
@@ -283,7 +284,7 @@ fn over<R: Threads + Wait + Clock + Net<Listener = TcpListener, Stream = TcpStre
     config: &Config,
     row: &Row,
 ) -> Result<Left, Fail> {
-    let listener = listen(rt, 0).map_err(|_| "a listener")?;
+    let listener = a_listener(rt)?;
     let at = listener.local_addr()?;
     let payload = payload(alloc)?;
     let (listener, payload) = (&listener, &payload);
@@ -296,7 +297,7 @@ fn over<R: Threads + Wait + Clock + Net<Listener = TcpListener, Stream = TcpStre
     if good != Some(true) {
         return Err(Fail::from("what a client heard"));
     }
-    let report = served.map_err(|_| "a report")?;
+    let report = a_report(served)?;
     let roles = [Role::Accepting; 2];
     let roles = roles.get(..clients as usize).ok_or("so many clients")?;
     Ok(left_of(alloc, config, roles, report)?.0)

@@ -1,8 +1,11 @@
 //! A job that was never admitted, before one that was.
 
-use super::{Setting, USUAL, one_ping};
+use super::{Setting, USUAL, run_link};
 use gn_bodies::BodyFault;
+use gn_fixtures::PING;
+use gn_links::MemoryLink;
 use gn_rules::{Step, Ticket};
+use gn_shake::Role;
 use std::test::Fail;
 
 /// How many steps are routes of this ticket by this actor.
@@ -17,8 +20,9 @@ fn a_forged_job_is_passed_over(rt: HostRuntime) -> Result<(), Fail> {
         forged: Some(7),
         ..USUAL
     };
-    let ran = one_ping(&rt, rt.alloc(), setting).ok_or("memory")?;
+    let link = MemoryLink::new(Role::Plain, PING.to_vec(rt.alloc())?, 4096);
+    let ran = run_link(&rt, rt.alloc(), setting, link).ok_or("memory")?;
     assert!(rt; ran.worked == Err(BodyFault::Refused) && !ran.has_failed && ran.is_closing);
-    assert!(rt; routes(ran.steps.history.as_slice(), 2, 0) == 1 && ran.steps.history.len() == 5);
+    assert!(rt; routes(ran.history.as_slice(), 2, 0) == 1 && ran.history.len() == 5);
     Ok(())
 }

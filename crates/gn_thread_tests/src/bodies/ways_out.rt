@@ -14,7 +14,7 @@ fn a_read_fails_in_the_greeting(rt: HostRuntime) -> Result<(), Fail> {
     let link = MemoryLink::new(Role::Accepting, bytes, 1).failing(Some(22), None);
     let ran = run_link(&rt, rt.alloc(), USUAL, link).ok_or("memory")?;
     assert!(rt; ran.read == Ok(ReaderEnd::ReadFailed) && ran.wrote == Ok(WriterEnd::NeverOpened));
-    assert!(rt; ran.steps.history.is_empty() && ran.door == Door::Shut && ran.is_closing);
+    assert!(rt; ran.history.is_empty() && ran.door == Door::Shut && ran.is_closing);
     Ok(())
 }
 

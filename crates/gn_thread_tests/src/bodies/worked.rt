@@ -55,9 +55,10 @@ fn a_link_of_one_ping(rt: HostRuntime) -> Result<(), Fail> {
                 OWN_PONG
             )
         );
-        let lines = lines_of(alloc, ran.steps.history.as_slice())?;
+        let lines = lines_of(alloc, ran.history.as_slice())?;
         assert_eq!(rt; lines.as_slice(), ONE_PING.as_bytes());
         assert!(rt; ran.passed == Some((WORKER, 0)) && ran.admitted == 1);
+        assert_eq!(rt; (ran.counted, ran.ended), (5, (true, true)));
     }
     Ok(())
 }
@@ -83,8 +84,9 @@ fn a_link_that_never_opens(rt: HostRuntime) -> Result<(), Fail> {
         let link = MemoryLink::new(role, bytes.to_vec(alloc)?, 4096);
         let ran = run_link(&rt, alloc, USUAL, link).ok_or("memory")?;
         assert!(rt; has_written(&ran, read, WriterEnd::NeverOpened, written, b""));
-        assert!(rt; ran.steps.history.is_empty() && ran.door == Door::Shut);
+        assert!(rt; ran.history.is_empty() && ran.door == Door::Shut);
         assert!(rt; ran.passed.is_none() && ran.admitted == 0);
+        assert_eq!(rt; (ran.counted, ran.ended), (0, (true, true)));
     }
     Ok(())
 }

@@ -1,7 +1,7 @@
 use Rattle.std.proofs.Common.{◌++◌, codes}
 use Rattle.gn_capture.specs.Histories.{steps_text}
 use Rattle.gn_text.specs.Header.{header_text}
-use Rattle.gn_text.specs.declared.version.Text.TheVariants.{History}
+use Rattle.gn_text.specs.declared.title.Text.TheVariants.{History}
 use Rattle.gn_load.proofs.PrintLemmas.{all_cut, all_written, none_written, on_err, part_of, parts_are}
 use Rattle.gn_load.proofs.printed.print_history.Goals as goal
 

@@ -12,6 +12,11 @@ returns-in_err-peers g c =
     unserved c.args.serving.now c.settings-config.result (g.W.Sink.state c.args.writer.now) c.from_residual.result NoMemory c.settings-config.ensures
     c.from_residual.ensures.1 tt
 
+pub returns-in_err-stop : goal.returns-in_err-stop
+returns-in_err-stop g c =
+    unserved c.args.serving.now c.settings-config.result (g.W.Sink.state c.args.writer.now) c.from_residual-in_err-stop.result NoMemory c.settings-config.ensures
+    c.from_residual-in_err-stop.ensures.1 tt
+
 pub returns-in_default : goal.returns-in_default
 returns-in_default g c = unserved c.args.serving.now c.settings-config.result (g.W.Sink.state c.args.writer.now) _ Listen c.settings-config.ensures refl refl
 
@@ -19,11 +24,11 @@ pub returns-in_err-report : goal.returns-in_err-report
 returns-in_err-report g c =
     let ran = c.in_err-report.ensures in
     let inside = c.serving.inside in
-    let many : length c.deref-2.result.now ≡ length inside.peers.items =
-    ap (λ xs. length xs) c.deref-2.ensures.value ∙ c.in_ok-peers.ensures.many ∙ ap (λ xs. length xs) c.deref.ensures.value in
+    let many : length c.deref-3.result.now ≡ length inside.peers.items =
+    ap (λ xs. length xs) c.deref-3.ensures.value ∙ c.in_ok-peers.ensures.many ∙ ap (λ xs. length xs) c.deref.ensures.value in
     let kept : c.limits-limits.result.is_kept ≡ inside.keeps = c.limits-limits.ensures ∙ ap (λ (s : AskedServe). s.keeps) (sym c.serving.view_is) in
     let stopped =
-    subst (λ (keeps : Bool). HasServeStopped Global keeps c.settings-config.result (length c.deref-2.result.now) inside.accept inside.workers c.in_err-report.field-0.0
+    subst (λ (keeps : Bool). HasServeStopped Global keeps c.settings-config.result (length c.deref-3.result.now) inside.accept inside.workers c.in_err-report.field-0.0
     (g.W.Sink.state c.args.writer.now).written (g.W.Sink.state c.serve_history.new.sink).written) kept ran.stopped
     in
     rw (← c.serving.view_is) (failed (record {
@@ -37,11 +42,13 @@ returns-in_err-report g c =
       crowd = inside.crowd;
       retry = inside.retry;
       seconds = inside.seconds;
+      early = inside.early;
+      until_eof = inside.until_eof;
       steps = inside.steps;
       keeps = inside.keeps;
       report = inside.report;
       progress = inside.progress;
-    }) c.settings-config.result (length c.deref-2.result.now) (g.W.Sink.state c.args.writer.now) (g.W.Sink.state c.serve_history.new.sink) c.from_residual-in_err-report.result
+    }) c.settings-config.result (length c.deref-3.result.now) (g.W.Sink.state c.args.writer.now) (g.W.Sink.state c.serve_history.new.sink) c.from_residual-in_err-report.result
     c.in_err-report.field-0.0 (subst (λ s. IsServing s c.settings-config.result) (sym c.serving.view_is) c.settings-config.ensures) many c.serving.invariant.0
     c.from_residual-in_err-report.ensures.1 stopped ran.fault)
 
@@ -49,8 +56,8 @@ pub returns : goal.returns
 returns g c =
     let ran = c.in_ok-report.ensures in
     let inside = c.serving.inside in
-    let many : length c.deref-2.result.now ≡ length inside.peers.items =
-    ap (λ xs. length xs) c.deref-2.ensures.value ∙ c.in_ok-peers.ensures.many ∙ ap (λ xs. length xs) c.deref.ensures.value in
+    let many : length c.deref-3.result.now ≡ length inside.peers.items =
+    ap (λ xs. length xs) c.deref-3.ensures.value ∙ c.in_ok-peers.ensures.many ∙ ap (λ xs. length xs) c.deref.ensures.value in
     rw (← c.serving.view_is) (answered (record {
       port = inside.port;
       accept = inside.accept;
@@ -62,9 +69,11 @@ returns g c =
       crowd = inside.crowd;
       retry = inside.retry;
       seconds = inside.seconds;
+      early = inside.early;
+      until_eof = inside.until_eof;
       steps = inside.steps;
       keeps = inside.keeps;
       report = inside.report;
       progress = inside.progress;
-    }) c.settings-config.result (length c.deref-2.result.now) (g.W.Sink.state c.args.writer.now) (g.W.Sink.state c.serve_history.new.sink) (Ok tt)
+    }) c.settings-config.result (length c.deref-3.result.now) (g.W.Sink.state c.args.writer.now) (g.W.Sink.state c.serve_history.new.sink) (Ok tt)
     (subst (λ s. IsServing s c.settings-config.result) (sym c.serving.view_is) c.settings-config.ensures) many c.serving.invariant.0 ran.unfailed ran.written tt tt)

@@ -1,6 +1,6 @@
 use Rattle.std.proofs.Common.{length, inr, subst}
 use Rattle.gn_load.specs.Printed.{IsPrintFault}
-use Rattle.gn_serve.proofs.HistoryLemmas.{held, written, written_part}
+use Rattle.gn_serve.proofs.HistoryLemmas.{held, kept_written, written, written_part}
 use Rattle.gn_serve.proofs.histories.serve_history.Goals as goal
 
 pub returns-in-Ok-print_history-clause-written : goal.returns-in-Ok-print_history-clause-written
@@ -12,6 +12,11 @@ returns-in-Ok-print_history-clause-written g c =
     written config calls c.args.accept report c.args.workers
     (held config calls c.args.accept report ran.legal ran.counted ran.own ran.each.0 ran.links ran.others ran.routed ran.stats) ran.each.1 c.deref.result.now
     (g.W.Sink.state c.args.sink.now).written (g.W.Sink.state c.print_history.new.sink).written c.deref.ensures.value c.in-Ok-print_history.ensures.ok
+
+pub returns-in-Err-clause-stopped : goal.returns-in-Err-clause-stopped
+returns-in-Err-clause-stopped g c =
+    kept_written g.row.A.Denot c.args.serving.now.is_kept c.args.config.now (length c.args.peers.now) c.args.accept c.args.workers c.in-Err.field-0.fault
+    (g.W.Sink.state c.args.sink.now).written (g.W.Sink.state c.keep.new.sink).written c.keep.ensures
 
 pub returns-in-Err-Write-clause-fault : goal.returns-in-Err-Write-clause-fault
 returns-in-Err-Write-clause-fault g c = λ crew.

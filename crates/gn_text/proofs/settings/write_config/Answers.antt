@@ -1,6 +1,6 @@
 use Rattle.std.proofs.Common.{codes}
 use Rattle.gn_text.specs.Settings.{six_text}
-use Rattle.gn_text.specs.Versions.{later_text, version_for}
+use Rattle.gn_numbers.specs.Versions.{later_text, version_for}
 use Rattle.gn_text.proofs.KeptLemmas.{whole_text}
 use Rattle.gn_text.proofs.settings.write_config.Goals as goal
 

@@ -71,40 +71,6 @@ pub fn growths<A: Allocator + Copy, T: Turns<A>>(
     Err("a call with no end of growths".into())
 }
 
-/// The first number at which the call meets no refusal, where the later growths are refused too or not.
-fn first_answered<A: Allocator + Copy, T: Turns<A>>(
-    heap: &Heap,
-    alloc: A,
-    call: &T,
-    with_later: bool,
-) -> Result<u64, Fail> {
-    for number in 0..10_000 {
-        let refused = if with_later {
-            Refused::From(number)
-        } else {
-            Refused::Only(number)
-        };
-        match call.turn(heap, alloc, refused)? {
-            Turn::Refused => {}
-            Turn::Answered => return Ok(number),
-            Turn::Wrong => return Err(Fail::new(format_args!("{refused:?}: wrong"))),
-        }
-    }
-    Err("a call with no end of growths".into())
-}
-
-/// How many growths of a call are refused, each alone, and each with all later ones, until a call meets none. Where threads
-/// draw the numbers, the two may differ. An `Err` says at which of them the call went wrong. `alloc` is the heap.
-pub fn refusals<A: Allocator + Copy, T: Turns<A>>(
-    heap: &Heap,
-    alloc: A,
-    call: &T,
-) -> Result<(u64, u64), Fail> {
-    let alone = first_answered(heap, alloc, call, false)?;
-    let with_later = first_answered(heap, alloc, call, true)?;
-    Ok((alone, with_later))
-}
-
 /// A call whose subject, which it is made on, is a value.
 pub trait Call<A: Allocator> {
     type Subject: Drop;
@@ -125,7 +91,7 @@ pub trait Call<A: Allocator> {
 }
 
 /// Makes a call once, and where it met a refusal once more.
-pub fn turn_of<A: Allocator + Copy, T: Call<A>>(
+fn turn_of<A: Allocator + Copy, T: Call<A>>(
     call: &T,
     heap: &Heap,
     alloc: A,
@@ -156,4 +122,25 @@ pub fn turn_of<A: Allocator + Copy, T: Call<A>>(
     } else {
         Ok(Turn::Wrong)
     }
+}
+
+/// A call whose subject is a value, made on a new one.
+#[derive(Drop)]
+struct OnNew<'a, T> {
+    call: &'a T,
+}
+
+impl<'a, A: Allocator + Copy, T: Call<A>> Turns<A> for OnNew<'a, T> {
+    fn turn(&self, heap: &Heap, alloc: A, refused: Refused) -> Result<Turn, Fail> {
+        turn_of(self.call, heap, alloc, refused)
+    }
+}
+
+/// As `growths`, of a call whose subject is a value.
+pub fn growths_of_call<A: Allocator + Copy, T: Call<A>>(
+    heap: &Heap,
+    alloc: A,
+    call: &T,
+) -> Result<u64, Fail> {
+    growths(heap, alloc, &OnNew { call })
 }

@@ -2,14 +2,44 @@
 
 ghost use Rattle.std.specs.Prelude.{◌≡◌, length, IfOk};
 
-use crate::bodies::{Steps, USUAL, one_ping};
+use crate::runs::table_run;
+use crate::wanted::a_report;
 use gn_bodies::{ReaderEnd, WriterEnd};
-use gn_fixtures::ping;
+use gn_fixtures::{PING, ping};
+use gn_links::{MemoryLink, NoGate};
 use gn_rules::{Event, Receipt, Reply, Stats, Step};
 use gn_run::*;
 use gn_shake::Role;
 use std::alloc::Global;
+use std::sync::Wait;
 use std::test::Fail;
+use std::thread::Threads;
+
+/// What the actors of a run of one link and one worker did, step by step.
+#[derive(Drop)]
+struct Steps {
+    history: Vec<Step>,
+    reader: Vec<Receipt>,
+    writer: Vec<Receipt>,
+    worker: Vec<Receipt>,
+}
+
+/// The steps of a run of a link that sends one Ping.
+fn worked<R: Threads + Wait + Sync>(rt: &R, alloc: Global) -> Result<Steps, Fail> {
+    let link = MemoryLink::new(Role::Plain, PING.to_vec(alloc)?, 4096);
+    let ran = table_run(rt, alloc, vec![in alloc; link]?, 1, &NoGate);
+    let report = a_report(ran)?;
+    let (mut links, mut workers) = (report.links, report.workers);
+    let (Some(link), Some(worker)) = (links.pop(), workers.pop()) else {
+        return Err("one link and one worker".into());
+    };
+    Ok(Steps {
+        history: report.history,
+        reader: link.reader_receipts,
+        writer: link.writer_receipts,
+        worker,
+    })
+}
 
 /// A step of an actor, and its receipt.
 fn step(
@@ -59,7 +89,7 @@ fn a_changed_part_of_the_worked_run_names_its_actor(rt: HostRuntime) -> Result<(
         (false, ReaderEnd::NotLive, WriterEnd::Drained, Some(0)),
     ];
     for (is_emptied, read, wrote, actor) in rows {
-        let mut steps = one_ping(&rt, alloc, USUAL).ok_or("a run")?.steps;
+        let mut steps = worked(&rt, alloc)?;
         if is_emptied {
             steps.worker.clear();
         }
@@ -71,7 +101,7 @@ fn a_changed_part_of_the_worked_run_names_its_actor(rt: HostRuntime) -> Result<(
 
 #[test]
 fn the_house_is_named_for_a_stranger(rt: HostRuntime) -> Result<(), Fail> {
-    let mut steps = one_ping(&rt, rt.alloc(), USUAL).ok_or("a run")?.steps;
+    let mut steps = worked(&rt, rt.alloc())?;
     let (stranger, _) = step(rt.alloc(), 5, 4, Event::Connect, Reply::Connected(2))?;
     steps.history.push(stranger)?;
     let strange = report(rt.alloc(), steps, ReaderEnd::Bytes, WriterEnd::Drained)?;

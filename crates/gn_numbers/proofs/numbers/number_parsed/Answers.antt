@@ -2,8 +2,8 @@ use Rattle.std.proofs.Common.{arith, ◌∙◌, ◌≡◌, ◌<◌, ◌≤◌, l
 use Rattle.std.proofs.lemmas.Grind.{common_steps}
 use Rattle.std.specs.Char.{is_ascii_digit}
 use Rattle.std.specs.List.{list_all}
-use Rattle.gn_text.proofs.NumberLemmas.{number_read, numeral_is, digits_are_text}
-use Rattle.gn_text.proofs.numbers.number_parsed.Goals as goal
+use Rattle.gn_numbers.proofs.NumberLemmas.{number_read, numeral_is, digits_are_text}
+use Rattle.gn_numbers.proofs.numbers.number_parsed.Goals as goal
 
 pub returns-in-Ok : goal.returns-in-Ok
 returns-in-Ok c =

@@ -1,5 +1,6 @@
 //! Both ends of a link in one process.
 
+use crate::wanted::a_listener;
 use gn_links::{Link, LinkFault, LinkReader, LinkWriter};
 use gn_shake::Role;
 use gn_tcp::{TcpLink, TcpReader, TcpWriter, listen};
@@ -13,8 +14,8 @@ use std::time::Duration;
 fn accepted<N: Net<Listener = TcpListener, Stream = TcpStream>>(
     net: &N,
     idle: Option<Duration>,
-) -> Result<(TcpReader, TcpWriter, TcpStream), Fail> {
-    let listener = listen(net, 0).map_err(|_| "a listener")?;
+) -> Result<(TcpReader<'static>, TcpWriter, TcpStream), Fail> {
+    let listener = a_listener(net)?;
     let peer = TcpStream::connect(net, listener.local_addr()?)?;
     peer.set_write_timeout(Some(Duration::from_millis(200)))?;
     let link = TcpLink::accept(&listener).map_err(|_| "a peer")?;
@@ -24,7 +25,7 @@ fn accepted<N: Net<Listener = TcpListener, Stream = TcpStream>>(
 
 #[test]
 fn a_called_link_and_an_accepted_one(rt: HostRuntime) -> Result<(), Fail> {
-    let listener = listen(&rt, 0).map_err(|_| "a listener")?;
+    let listener = a_listener(&rt)?;
     let called = TcpLink::call(&rt, listener.local_addr()?).map_err(|_| "a call")?;
     let accepted = TcpLink::accept(&listener).map_err(|_| "a peer")?;
     assert_eq!(rt;
@@ -91,7 +92,7 @@ fn a_silent_peer_is_waited_for_up_to_a_limit(rt: HostRuntime) -> Result<(), Fail
 
 #[test]
 fn a_peer_that_is_not_there(rt: HostRuntime) -> Result<(), Fail> {
-    let listener = listen(&rt, 0).map_err(|_| "a listener")?;
+    let listener = a_listener(&rt)?;
     let there = listener.local_addr()?;
     assert!(rt; listen(&rt, there.port()).is_err());
     drop(listener);

@@ -2,7 +2,13 @@
 use Rattle.std.specs.Prelude.{◌^◌, ℕ, Bool, ◌&&◌, nat_le, nat_lt, if◌then◌else◌, List, length, Option, Some, None}
 use Rattle.std.specs.List.{list_all}
 use Rattle.std.specs.Char.{is_ascii_digit}
+use Rattle.std.specs.Option.{option_and_then}
 use Rattle.std.specs.Str.Parse.{digits_value}
+
+-- the next step, where there is a value
+infixl 10 ◌>>=◌
+abbrev pub ◌>>=◌ : {X Y : Type 0} → Option X → (X → Option Y) → Option Y
+o >>= f = option_and_then f o
 
 -- one to ten decimal digits
 abbrev pub is_numeral : List ℕ → Bool

@@ -1,0 +1,251 @@
+//! The gate of a run that says how far the run is.
+
+use crate::counts::{Counts, Seen};
+use gn_links::{Gate, Half, Made};
+use std::alloc::{AllocError, Allocator};
+use std::io::{IsTerminal, Stderr, Write};
+use std::net::SocketAddr;
+use std::sync::Wait;
+use std::sync::atomic::{AtomicBool, AtomicU32, AtomicU64, Ordering};
+use std::time::{Clock, Instant};
+
+/// The clock is read at each so many jobs of a load, and steps of a serve.
+const LOOK: u32 = 64;
+
+/// A run's gate that holds nobody and counts who passes. Who finds that a second has gone by writes the line of that second: on
+/// a terminal over the line before, else below it. Of a serve it also writes each link that comes and each end.
+#[derive(Drop)]
+pub struct Progress<'r, R> {
+    rt: &'r R,
+    out: Stderr,
+    start: Option<Instant>,
+    counts: Counts,
+    /// The most steps of a serve's history; 0: it is a load.
+    most: AtomicU32,
+    /// When the next line is due, in seconds from the start.
+    due: AtomicU64,
+    /// Whether the last line is to be written over.
+    is_open: AtomicBool,
+}
+
+/// Writes a number with a comma before each three digits.
+fn write_grouped<A: Allocator>(text: &mut String<A>, number: u64) -> Result<(), AllocError> {
+    let (thousands, ones) = (number / 1_000, number % 1_000);
+    if thousands == 0 {
+        return write!(text, "{ones}");
+    }
+    let (millions, thousands) = (thousands / 1_000, thousands % 1_000);
+    if millions == 0 {
+        return write!(text, "{thousands},{ones:03}");
+    }
+    write!(text, "{millions},{thousands:03},{ones:03}")
+}
+
+/// Writes how far a run is; of a serve also how many steps are left of so many.
+fn write_seen<A: Allocator>(
+    text: &mut String<A>,
+    seen: &Seen,
+    most: u32,
+) -> Result<(), AllocError> {
+    text.push_str("routed ")?;
+    write_grouped(text, u64::from(seen.routed))?;
+    text.push_str(" of ")?;
+    write_grouped(text, u64::from(seen.admitted))?;
+    text.push_str(" admitted, ")?;
+    write_grouped(text, seen.links)?;
+    text.push_str(" links")?;
+    if most != 0 {
+        text.push_str(", ")?;
+        write_grouped(text, u64::from(seen.busy))?;
+        text.push_str(" busy, ")?;
+        write_grouped(text, u64::from(most.saturating_sub(seen.steps)))?;
+        text.push_str(" steps left")?;
+    }
+    Ok(())
+}
+
+fn half_word(half: Half) -> &'static str {
+    match half {
+        Half::Reader => "reader",
+        Half::Writer => "writer",
+    }
+}
+
+impl<'r, R: Clock + AllocGlobal> Progress<'r, R> {
+    /// Nothing has passed yet, and the first line is due in a second.
+    pub fn new(rt: &'r R, out: Stderr) -> Self {
+        Progress {
+            rt,
+            out,
+            start: Instant::now(rt).ok(),
+            counts: Counts::new(),
+            most: AtomicU32::new(0),
+            due: AtomicU64::new(1),
+            is_open: AtomicBool::new(false),
+        }
+    }
+
+    /// So many links are loaded.
+    pub fn begin(&self, links: usize) {
+        self.counts.set_links(links);
+        self.look();
+    }
+
+    /// A router serves, whose history has at most so many steps.
+    pub fn open(&self, steps: u32) {
+        self.most.store(steps, Ordering::SeqCst);
+    }
+
+    /// A link of a serve has come.
+    pub fn came(&self, link: u32, peer: SocketAddr) {
+        self.counts.add_link();
+        self.write_text(self.came_line(link, peer));
+    }
+
+    /// The run has ended: on a terminal the last line is left.
+    pub fn end(&self) {
+        if self.is_open.swap(false, Ordering::SeqCst) {
+            let _ = (&self.out).write_all(b"\n");
+        }
+    }
+
+    /// Writes a text, where there was memory for it. That it can't be written changes nothing.
+    fn write_text(&self, text: Result<String, AllocError>) {
+        if let Ok(text) = text {
+            let _ = (&self.out).write_all(text.as_bytes());
+        }
+    }
+
+    /// The beginning of a line that stays: below the last one.
+    fn below(&self) -> Result<String, AllocError> {
+        let mut text = String::new(self.rt.alloc());
+        if self.is_open.swap(false, Ordering::SeqCst) {
+            text.push('\n')?;
+        }
+        Ok(text)
+    }
+
+    fn came_line(&self, link: u32, peer: SocketAddr) -> Result<String, AllocError> {
+        let mut text = self.below()?;
+        writeln!(text, "link {link} {peer} came")?;
+        Ok(text)
+    }
+
+    fn ended_line(&self, link: u32, half: Half) -> Result<String, AllocError> {
+        let mut text = self.below()?;
+        let half = half_word(half);
+        writeln!(text, "link {link} {half} ended")?;
+        Ok(text)
+    }
+
+    /// The line of the link that has offered most once such a part of the steps is made.
+    fn loudest_line(&self, part: &str) -> Result<String, AllocError> {
+        let mut text = self.below()?;
+        let (link, offered) = self.counts.loudest();
+        write!(text, "{part} of the steps: link {link} offered most, ")?;
+        write_grouped(&mut text, u64::from(offered))?;
+        text.push('\n')?;
+        Ok(text)
+    }
+
+    /// The line of a second.
+    fn line(&self) -> Result<String, AllocError> {
+        let mut text = String::new(self.rt.alloc());
+        let is_over = self.out.is_terminal();
+        if is_over {
+            text.push('\r')?;
+        }
+        let most = self.most.load(Ordering::SeqCst);
+        write_seen(&mut text, &self.counts.seen(), most)?;
+        if !is_over {
+            text.push('\n')?;
+        }
+        self.is_open.store(is_over, Ordering::SeqCst);
+        Ok(text)
+    }
+
+    /// Whole seconds since it was made; 0 where the clock can't be read.
+    fn elapsed(&self) -> u64 {
+        match &self.start {
+            Some(start) => match start.elapsed(self.rt) {
+                Ok(time) => time.as_secs(),
+                Err(_) => 0,
+            },
+            None => 0,
+        }
+    }
+
+    /// Writes the line where it is due, and no other thread writes it.
+    fn look(&self) {
+        let now = self.elapsed();
+        let due = self.due.load(Ordering::SeqCst);
+        let next = now.saturating_add(1);
+        if now >= due
+            && self
+                .due
+                .compare_exchange(due, next, Ordering::SeqCst, Ordering::SeqCst)
+                .is_ok()
+        {
+            self.write_text(self.line());
+        }
+    }
+
+    /// A step of a serve was made.
+    fn step(&self, most: u32) {
+        let made = self.counts.add_step();
+        if made == most / 2 {
+            self.write_text(self.loudest_line("half"));
+        }
+        if made == most / 10 * 9 {
+            self.write_text(self.loudest_line("nine tenths"));
+        }
+        if made % LOOK == 0 {
+            self.look();
+        }
+    }
+
+    /// A link of a serve offered a descriptor.
+    fn offer(&self, link: u32, most: u32) {
+        if most != 0 {
+            self.counts.add_offer(link);
+        }
+    }
+}
+
+impl<'r, R: Clock + AllocGlobal> Gate for Progress<'r, R> {
+    fn enter<W: Wait>(&self, _rt: &W, _worker: u32, _ticket: u32) {
+        let routed = self.counts.add_routed();
+        match self.most.load(Ordering::SeqCst) {
+            0 if routed % LOOK == 0 => self.look(),
+            0 => {}
+            most => self.step(most),
+        }
+    }
+
+    fn made(&self, link: u32, step: Made) {
+        let most = self.most.load(Ordering::SeqCst);
+        match step {
+            Made::Admitted(_) => {
+                self.counts.add_admitted();
+                self.offer(link, most);
+            }
+            Made::Busy => {
+                self.counts.add_busy();
+                self.offer(link, most);
+            }
+            Made::Routed => {
+                self.counts.add_routed();
+            }
+            _ => {}
+        }
+        if most != 0 {
+            self.step(most);
+        }
+    }
+
+    fn ended(&self, link: u32, half: Half) {
+        if self.most.load(Ordering::SeqCst) != 0 {
+            self.write_text(self.ended_line(link, half));
+        }
+    }
+}
