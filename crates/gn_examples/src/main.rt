@@ -1,40 +1,32 @@
-//! Each example and each case, as `command` answers it, compared with the files that have what is wanted.
+//! Each case of a table, as `command` answers it, compared with the files that have what is wanted.
 #![tactic(auto)]
 
+mod faults;
+mod streams;
+
 use gn_io::{ReaderSource, WriterSink};
-use gn_program::command;
-use std::io::StdinLock;
-use std::net::{Net, TcpListener, TcpStream};
-use std::process::ExitCode;
+use gn_program::{command, refuse_words};
+use std::io::{ErrorKind, StdinLock};
+use std::net::{Ipv4Addr, Net, SocketAddr, TcpListener, TcpStream};
 use std::rt::Files;
 use std::sync::Wait;
 use std::thread::Threads;
 use std::time::Clock;
 use std::{fs, io};
+use streams::{Given, Taken};
 
-/// The captures, each beside what `replay` prints of it.
-const CAPTURES: [&str; 15] = [
-    "busy_and_full_output",
-    "close_and_rejoin",
-    "crowded",
-    "cut_descriptors",
-    "expired_ping",
-    "first_ping",
-    "forgotten_servents",
-    "framing_faults",
-    "greetings",
-    "life_limit",
-    "originated",
-    "pongs_go_back",
-    "query_hit_push",
-    "remembered_and_forgotten",
-    "unknown_and_malformed",
-];
-
-/// The captures whose links are run by four workers.
-const LOADS: [&str; 1] = ["six_links"];
+/// A port that is taken while a serve asks for it.
+const TAKEN: u16 = 26_349;
 
 /// What a command answers: its status, what it prints, and the faults that it writes.
+#[derive(Drop)]
+struct Answered {
+    status: u8,
+    printed: Vec<u8>,
+    faults: Vec<u8>,
+}
+
+/// What a command answers that reads this input, and writes to streams of which either may fail.
 fn answer<
     R: Threads
         + Wait
@@ -43,121 +35,41 @@ fn answer<
         + Input<Reader = StdinLock<'static>>
         + Sync
         + AllocGlobal,
->(rt: &R, words: &[&str], input: &[u8]) -> (u8, Vec<u8>, Vec<u8>) {
+>(rt: &R, words: &[&str], input: Given<'_>, fails: (bool, bool)) -> Answered {
     let mut reader = ReaderSource::new(input);
-    let mut writer = WriterSink::new(Vec::new(rt.alloc()));
-    let mut faults = WriterSink::new(Vec::new(rt.alloc()));
+    let mut writer = WriterSink::new(Taken::new(rt.alloc(), fails.0));
+    let mut faults = WriterSink::new(Taken::new(rt.alloc(), fails.1));
     let status = command(rt, rt.alloc(), words, &mut reader, &mut writer, &mut faults);
-    (status, writer.into_inner(), faults.into_inner())
-}
-
-/// What a command printed, where it ended with this status and wrote no fault.
-fn printed<
-    R: Threads
-        + Wait
-        + Net<Listener = TcpListener, Stream = TcpStream>
-        + Clock
-        + Input<Reader = StdinLock<'static>>
-        + Sync
-        + AllocGlobal,
->(rt: &R, words: &[&str], input: &[u8], status: u8) -> Option<Vec<u8>> {
-    let (ended, text, faults) = answer(rt, words, input);
-    if ended == status && faults.is_empty() {
-        Some(text)
-    } else {
-        None
+    Answered {
+        status,
+        printed: writer.into_inner().text,
+        faults: faults.into_inner().text,
     }
 }
 
-/// Whether a command prints what is wanted, stated in words.
-fn compared<
-    R: Threads
-        + Wait
-        + Net<Listener = TcpListener, Stream = TcpStream>
-        + Clock
-        + Input<Reader = StdinLock<'static>>
-        + Sync
-        + AllocGlobal,
->(rt: &R, words: &[&str], input: &[u8], status: u8, wanted: &[u8]) -> &'static str {
-    match printed(rt, words, input, status) {
-        Some(text) if text.as_slice() == wanted => "as in",
-        _ => "not as in",
-    }
-}
+/// The largest input, and a byte more.
+const TOO_LARGE: usize = 67_108_865;
 
-/// Whether the history that a command prints of a capture is legal, stated in words.
-fn judged<
-    R: Threads
-        + Wait
-        + Net<Listener = TcpListener, Stream = TcpStream>
-        + Clock
-        + Input<Reader = StdinLock<'static>>
-        + Sync
-        + AllocGlobal,
->(rt: &R, words: &[&str], capture: &[u8]) -> &'static str {
-    let legality = match printed(rt, words, capture, 0) {
-        Some(history) => printed(rt, &["gn", "audit"], &history, 0),
-        None => None,
-    };
-    if legality.is_some() {
-        "legal"
-    } else {
-        "not legal"
-    }
-}
-
-fn replay_all<
-    R: Threads
-        + Wait
-        + Net<Listener = TcpListener, Stream = TcpStream>
-        + Clock
-        + Input<Reader = StdinLock<'static>>
-        + Sync
-        + Files
-        + Print
-        + AllocGlobal,
->(rt: &R) -> io::Result<()> {
-    let alloc = rt.alloc();
-    for name in CAPTURES {
-        let capture = fs::read(rt, &format!(in alloc; "{name}.capture")?)?;
-        let wanted = fs::read(rt, &format!(in alloc; "{name}.replay")?)?;
-        let same = compared(rt, &["gn", "replay"], &capture, 0, &wanted);
-        let legal = judged(rt, &["gn", "replay", "--history"], &capture);
-        println!(rt; "{name}.capture: replayed {same} {name}.replay, its history is {legal}")?;
-    }
-    Ok(())
-}
-
-fn load_all<
-    R: Threads
-        + Wait
-        + Net<Listener = TcpListener, Stream = TcpStream>
-        + Clock
-        + Input<Reader = StdinLock<'static>>
-        + Sync
-        + Files
-        + Print
-        + AllocGlobal,
->(rt: &R) -> io::Result<()> {
-    for name in LOADS {
-        let capture = fs::read(rt, &format!(in rt.alloc(); "{name}.capture")?)?;
-        let legal = judged(rt, &["gn", "load", "--workers", "4"], &capture);
-        println!(rt; "{name}.capture: loaded, its history is {legal}")?;
-    }
-    Ok(())
-}
-
-/// The text of a file; `-` stands for the empty one.
+/// The text of an input: `-` is the empty one, `large` one that is a byte too large, and else a file's.
 fn text_of<R: Files + AllocGlobal>(rt: &R, name: &str) -> io::Result<Vec<u8>> {
-    if name == "-" {
-        Ok(Vec::new(rt.alloc()))
-    } else {
-        fs::read(rt, name)
+    match name {
+        "-" | "fails" => Ok(Vec::new(rt.alloc())),
+        "large" => Ok(vec![in rt.alloc(); b'#'; TOO_LARGE]?),
+        _ => fs::read(rt, name),
     }
 }
 
-/// Whether a command answers as a case says: by its status, the files of its input, of what is printed and of the faults,
-/// and its words.
+/// Whether a text is as stated: empty at `-` and where its stream fails, at `begins:FILE` it begins as the file, and else it
+/// is the file's.
+fn is_as<R: Files + AllocGlobal>(rt: &R, text: &[u8], stated: &str) -> io::Result<bool> {
+    Ok(match stated.strip_prefix("begins:") {
+        Some(name) => text.starts_with(text_of(rt, name)?.as_slice()),
+        None => text == text_of(rt, stated)?.as_slice(),
+    })
+}
+
+/// Whether a command answers as a case says: by its status, its input, what is printed, the faults, and its words. Each of
+/// the three streams `fails`, or is as stated for its text; at `audit:..` the verdict of what is printed is.
 fn is_as_wanted<
     R: Threads
         + Wait
@@ -172,40 +84,61 @@ fn is_as_wanted<
     let [status, input, printed, faults, words @ ..] = fields.as_slice() else {
         return Ok(false);
     };
-    let (ended, text, faulted) = answer(rt, words, text_of(rt, input)?.as_slice());
-    Ok(
-        status.parse::<u8>() == Ok(ended)
-            && text.as_slice() == text_of(rt, printed)?.as_slice()
-            && faulted.as_slice() == text_of(rt, faults)?.as_slice(),
-    )
+    let given = text_of(rt, input)?;
+    let given = Given::new(given.as_slice(), *input == "fails");
+    let fails = (*printed == "fails", *faults == "fails");
+    let Answered {
+        status: ended,
+        printed: text,
+        faults: faulted,
+    } = answer(rt, words, given, fails);
+    let is_printed = match printed.strip_prefix("audit:") {
+        Some(verdict) => {
+            let history = Given::new(text.as_slice(), false);
+            let audited = answer(rt, &["gn", "audit"], history, (false, false));
+            is_as(rt, audited.printed.as_slice(), verdict)?
+        }
+        None => is_as(rt, text.as_slice(), printed)?,
+    };
+    let is_faulted = is_as(rt, faulted.as_slice(), faults)?;
+    Ok(status.parse::<u8>() == Ok(ended) && is_printed && is_faulted)
 }
 
-/// Each case of the table, one a line.
-fn answer_all<
-    R: Threads
-        + Wait
-        + Net<Listener = TcpListener, Stream = TcpStream>
-        + Clock
-        + Input<Reader = StdinLock<'static>>
-        + Sync
-        + Files
-        + Print
-        + AllocGlobal,
->(rt: &R) -> io::Result<()> {
-    let cases = fs::read_to_string(rt, "cases/table")?;
-    for case in cases.lines() {
-        let stated = if is_as_wanted(rt, case)? {
-            "as wanted"
-        } else {
-            "not as wanted"
-        };
-        println!(rt; "{case}: {stated}")?;
-    }
-    Ok(())
+/// Whether words that can't be had for this reason are refused with this status and the fault of this file.
+fn are_refused<R: Files + AllocGlobal>(
+    rt: &R,
+    kind: ErrorKind,
+    status: u8,
+    fault: &str,
+) -> io::Result<bool> {
+    let mut faults = WriterSink::new(Taken::new(rt.alloc(), false));
+    let found = refuse_words(&io::Error::from(kind), &mut faults);
+    Ok(found == status && is_as(rt, faults.into_inner().text.as_slice(), fault)?)
+}
+
+/// Prints of a case whether it is as wanted.
+fn print<R: Print>(rt: &R, case: &str, is_right: bool) -> io::Result<()> {
+    let stated = if is_right {
+        "as wanted"
+    } else {
+        "not as wanted"
+    };
+    println!(rt; "{case}: {stated}")
 }
 
 fn main(rt: HostRuntime) -> io::Result<()> {
-    replay_all(&rt)?;
-    load_all(&rt)?;
-    answer_all(&rt)
+    let _taken = rt.bind(SocketAddr::from((Ipv4Addr::LOCALHOST, TAKEN)))?;
+    let cases = fs::read_to_string(&rt, "cases/table")?;
+    for case in cases.lines() {
+        print(&rt, case, is_as_wanted(&rt, case)?)?;
+    }
+    for (kind, status, fault) in [
+        (ErrorKind::OutOfMemory, 1, "cases/no_memory.fault"),
+        (ErrorKind::InvalidData, 2, "cases/no_text.fault"),
+    ] {
+        let are_refused = are_refused(&rt, kind, status, fault)?;
+        print(&rt, fault, are_refused)?;
+    }
+    let are_written = faults::are_written(&rt)?;
+    print(&rt, "each fault has its line", are_written)
 }

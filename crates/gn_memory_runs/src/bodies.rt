@@ -1,6 +1,6 @@
 //! The bodies of one link, called in turn on one thread.
 
-ghost use Rattle.std.specs.Prelude.{◌≡◌, [], true, IfOk};
+ghost use Rattle.std.specs.Prelude.{◌≡◌, [], true, IfSome};
 ghost use Rattle.gn_links.specs.Halves.{IsNewReader, IsNewWriter};
 
 use gn_bodies::{BodyFault, ReaderEnd, WriterEnd, reader_body, worker_body, writer_body};
@@ -26,21 +26,15 @@ fn is_new<L: Ledger, A: Allocator>(actor: &Actor<L, A>, number: u32) -> bool
     actor.number() == number && actor.receipts().is_empty()
 }
 
-/// The last of these actors, where it has this number and no receipts.
-fn last_new<L: Ledger, A: Allocator>(
-    actors: &mut Vec<Actor<L, A>, A>,
-    number: u32,
-) -> Result<Actor<L, A>, Fail>
-    ensures number { IfOk result (λ actor. actor.number ≡ number) }
-    ensures none { IfOk result (λ actor. actor.receipts ≡ []) }
+/// This actor, where it has this number and no receipts.
+fn new_one<L: Ledger, A: Allocator>(actor: Option<Actor<L, A>>, number: u32) -> Option<Actor<L, A>>
+    ensures { IfSome result (λ actor. (actor.number ≡ number) × (actor.receipts ≡ [])) }
 {
-    let Some(actor) = actors.pop() else {
-        return Err("an actor".into());
-    };
+    let actor = actor?;
     if is_new(&actor, number) {
-        Ok(actor)
+        Some(actor)
     } else {
-        Err("a new actor".into())
+        None
     }
 }
 
@@ -109,50 +103,171 @@ impl<B: Allocator + Copy> Left<MemoryWriter<B>> {
     }
 }
 
+/// The reader of the link: how it ends, and how many steps it makes. An actor that isn't new is a fault that no turn has.
+fn read_all<A, C, L: Ledger, S: Site, Rd: LinkReader, R: Wait>(
+    rt: &R,
+    alloc: A,
+    service: &Service<C, L, A>,
+    actor: Option<Actor<L, A>>,
+    source: Rd,
+    intake: Intake<S, A>,
+) -> (Result<ReaderEnd, BodyFault>, usize)
+where
+    A: Allocator + Copy,
+    C: RouterCore<A> + Drop,
+    requires reader { IsNewReader (Rd.bytes_read source) (Rd.failures source) (Rd.pieces source) (Rd.has_ended source) }
+{
+    let Some(me) = new_one(actor, 0) else {
+        return (Err(BodyFault::HistoryFull), 0);
+    };
+    let done = reader_body(
+        rt,
+        alloc,
+        service,
+        &NoGate,
+        me,
+        0,
+        Role::Accepting,
+        source,
+        intake,
+    );
+    (done.end, done.actor.receipts().len())
+}
+
+/// The worker, in the same way.
+fn work_all<A, C, L: Ledger, S: Site, R: Wait>(
+    rt: &R,
+    service: &Service<C, L, A>,
+    actor: Option<Actor<L, A>>,
+    outlet: Outlet<S, A>,
+) -> (Result<(), BodyFault>, usize)
+where
+    A: Allocator + Copy,
+    C: RouterCore<A> + Drop,
+{
+    let Some(me) = new_one(actor, 2) else {
+        return (Err(BodyFault::HistoryFull), 0);
+    };
+    let done = worker_body(rt, service, me, 0, &NoGate, outlet);
+    (done.end, done.actor.receipts().len())
+}
+
+/// The writer of the link, in the same way, and what it wrote to.
+fn write_all<A, C, L: Ledger, W: LinkWriter, R: Wait>(
+    rt: &R,
+    alloc: A,
+    service: &Service<C, L, A>,
+    actor: Option<Actor<L, A>>,
+    sink: W,
+) -> (Result<WriterEnd, BodyFault>, usize, W)
+where
+    A: Allocator + Copy,
+    C: RouterCore<A> + Drop,
+    requires writer { IsNewWriter (W.bytes_written sink) (W.failures sink) (W.is_stuck sink) (W.is_finished sink) }
+{
+    let Some(me) = new_one(actor, 1) else {
+        return (Err(BodyFault::HistoryFull), 0, sink);
+    };
+    let done = writer_body(rt, alloc, service, &NoGate, me, 0, Role::Accepting, sink);
+    (done.end, done.actor.receipts().len(), done.writer)
+}
+
+/// Whether the history is legal and has so many steps, and whether the run has failed.
+fn outcome<A: Allocator + Copy, C: RouterCore<A> + Drop, L: Ledger>(
+    service: Service<C, L, A>,
+    steps: usize,
+) -> (bool, bool) {
+    let hub = service.into_hub();
+    let history = hub.router().history();
+    let is_legal = legal(hub.router().config(), history) == Legality::Legal;
+    (is_legal && history.len() == steps, hub.failed())
+}
+
+/// What the bodies of one link are called with.
+#[derive(Drop)]
+struct Ready<A: Allocator + Copy, C: RouterCore<A> + Drop, L: Ledger, S: Site> {
+    service: Service<C, L, A>,
+    actors: Vec<Actor<L, A>, A>,
+    intake: Intake<S, A>,
+    outlet: Outlet<S, A>,
+}
+
 /// The reader, the worker and the writer of one link, one after the other, where these growths are refused.
 fn in_turn<A, C, L: Ledger, S: Site, Rd: LinkReader, W: LinkWriter, R: Wait>(
     rt: &R,
     heap: &Heap,
     alloc: A,
-    service: Service<C, L, A>,
-    actors: Vec<Actor<L, A>, A>,
-    intake: Intake<S, A>,
-    outlet: Outlet<S, A>,
+    ready: Ready<A, C, L, S>,
     source: Rd,
     sink: W,
     refused: Refused,
-) -> Result<Left<W>, Fail>
+) -> Left<W>
 where
     A: Allocator + Copy,
     C: RouterCore<A> + Drop,
     requires reader { IsNewReader (Rd.bytes_read source) (Rd.failures source) (Rd.pieces source) (Rd.has_ended source) }
     requires writer { IsNewWriter (W.bytes_written sink) (W.failures sink) (W.is_stuck sink) (W.is_finished sink) }
 {
-    let (config, role) = (usual(100)?, Role::Accepting);
-    let mut actors = actors;
+    let Ready {
+        service,
+        mut actors,
+        intake,
+        outlet,
+    } = ready;
     let _house = actors.pop();
-    let (worker, writer) = (last_new(&mut actors, 2)?, last_new(&mut actors, 1)?);
-    let reader = last_new(&mut actors, 0)?;
+    let (worker, writer, reader) = (actors.pop(), actors.pop(), actors.pop());
     refused.begin(heap);
-    let read = reader_body(
-        rt, alloc, &service, &NoGate, reader, 0, role, source, intake,
-    );
-    let worked = worker_body(rt, &service, worker, 0, &NoGate, outlet);
-    let wrote = writer_body(rt, alloc, &service, &NoGate, writer, 0, role, sink);
+    let read = read_all(rt, alloc, &service, reader, source, intake);
+    let worked = work_all(rt, &service, worker, outlet);
+    let wrote = write_all(rt, alloc, &service, writer, sink);
     let has_refused = heap.has_refused();
     heap.refuse_none();
-    let hub = service.into_hub();
-    let history = hub.router().history();
-    let receipts = [read.actor.receipts().len(), worked.actor.receipts().len()];
-    let receipts = receipts[0].wrapping_add(receipts[1]);
-    let receipts = receipts.wrapping_add(wrote.actor.receipts().len());
-    Ok(Left {
-        is_whole: legal(&config, history) == Legality::Legal && history.len() == receipts,
-        ends: (read.end, worked.end, wrote.end),
-        writer: wrote.writer,
-        has_failed: hub.failed(),
+    let steps = read.1.wrapping_add(worked.1).wrapping_add(wrote.1);
+    let (is_whole, has_failed) = outcome(service, steps);
+    Left {
+        ends: (read.0, worked.0, wrote.0),
+        writer: wrote.2,
+        is_whole,
+        has_failed,
         has_refused,
-    })
+    }
+}
+
+/// One intake and one outlet of a stage.
+fn both_ends<A: Allocator + Copy, S: Site>(
+    alloc: A,
+    stage: Stage<A>,
+) -> Result<(Intake<S, A>, Outlet<S, A>), Fail>
+    requires { stage ≡ S.stage }
+{
+    let (mut ins, mut outs, _desk) = stage.ends::<S>(alloc, 1, 1)?;
+    match (ins.pop(), outs.pop()) {
+        (Some(intake), Some(outlet)) => Ok((intake, outlet)),
+        _ => Err("both ends".into()),
+    }
+}
+
+/// The ends of this stage, and a service of one link and one worker.
+fn made_ready<A: Allocator + Copy, C: RouterCore<A> + Drop, L: Ledger, S: Site>(
+    alloc: A,
+    blank: Blank,
+    stage: Stage<A>,
+) -> Result<Ready<A, C, L, S>, Fail>
+    requires name { blank.name ≡ L.name }
+    requires parts { (blank.parts ≡ L.parts) × (blank.parts ≡ 4) }
+    requires stage { stage ≡ S.stage }
+{
+    let (intake, outlet) = both_ends(alloc, stage)?;
+    let config = usual(100)?;
+    match Service::<C, L, A>::new(alloc, blank, &config, &[Role::Accepting], 1) {
+        Ok((service, actors)) => Ok(Ready {
+            service,
+            actors,
+            intake,
+            outlet,
+        }),
+        Err(_) => Err("a service".into()),
+    }
 }
 
 /// The bodies of one link in turn, with the ends of this stage and the actors of a service of their own.
@@ -175,15 +290,8 @@ where
     requires reader { IsNewReader (Rd.bytes_read source) (Rd.failures source) (Rd.pieces source) (Rd.has_ended source) }
     requires writer { IsNewWriter (W.bytes_written sink) (W.failures sink) (W.is_stuck sink) (W.is_finished sink) }
 {
-    let made = Service::<C, L, A>::new(alloc, blank, &usual(100)?, &[Role::Accepting], 1);
-    let (service, actors) = made.map_err(|_| "a service")?;
-    let (mut ins, mut outs, _desk) = stage.ends::<S>(alloc, 1, 1)?;
-    let (Some(intake), Some(outlet)) = (ins.pop(), outs.pop()) else {
-        return Err("both ends".into());
-    };
-    in_turn(
-        rt, heap, alloc, service, actors, intake, outlet, source, sink, refused,
-    )
+    let ready = made_ready::<A, C, L, S>(alloc, blank, stage)?;
+    Ok(in_turn(rt, heap, alloc, ready, source, sink, refused))
 }
 
 /// Calls the bodies of a link over a memory of its own.

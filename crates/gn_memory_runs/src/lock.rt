@@ -8,7 +8,7 @@ use gn_fixtures::{Heap, Refused, Turn, Turns, growths, ping, usual};
 use gn_payload::Checked;
 use gn_plain::PlainRouter;
 use gn_router::TableRouter;
-use gn_rules::{Event, Refusal, RouterCore, is_step_of};
+use gn_rules::{Event, Refusal, RouterCore, Step, is_step_of};
 use gn_service::{Actor, Hub, Next, Role, Service, ServiceFault};
 use std::alloc::{Allocator, Global};
 use std::marker::{Brand, PhantomData};
@@ -115,22 +115,37 @@ impl<'r, 's, A: Allocator + Copy, C: RouterCore<A> + Drop, L: Ledger, R: Wait> P
     }
 }
 
-/// Makes the call of this number.
+/// Makes the call of this number. `NotLive` where there is no such actor.
 fn make<A: Allocator + Copy, L: Ledger, P: Place<L, A>>(
     place: &mut P,
     actors: &mut [Actor<L, A>],
     number: usize,
-) -> Result<Result<(), Refusal>, Fail> {
+) -> Result<(), Refusal> {
     let (who, made) = CALLS[number.min(4)];
-    let Some(me) = actors.get_mut(who) else {
-        return Err("an actor".into());
+    let (Some(me), Ok(first)) = (actors.get_mut(who), ping(0xa1, 7, 0)) else {
+        return Err(Refusal::NotLive);
     };
-    Ok(match made {
+    match made {
         Made::Connects(link) => place.connect(me, link),
-        Made::Admits => place.call(me, &Event::Admit(1, ping(0xa1, 7, 0)?)),
-        Made::Routes => place.route(me, &Checked::new(ping(0xa1, 7, 0)?)),
+        Made::Admits => place.call(me, &Event::Admit(1, first)),
+        Made::Routes => place.route(me, &Checked::new(first)),
         Made::Takes => place.take(me),
-    })
+    }
+}
+
+/// Makes the calls of these numbers: whether each is answered.
+fn are_made<A: Allocator + Copy, L: Ledger, P: Place<L, A>>(
+    place: &mut P,
+    actors: &mut [Actor<L, A>],
+    from: usize,
+    to: usize,
+) -> bool {
+    for number in from..to {
+        if make(place, actors, number).is_err() {
+            return false;
+        }
+    }
+    true
 }
 
 /// How many receipts all actors have.
@@ -149,26 +164,40 @@ fn turn_at<A: Allocator + Copy, L: Ledger, P: Place<L, A>>(
     actors: &mut [Actor<L, A>],
     number: usize,
     refused: Refused,
-) -> Result<Turn, Fail> {
-    for before in 0..number {
-        make(place, actors, before)?.map_err(|_| "a call before")?;
+) -> Turn {
+    if !are_made(place, actors, 0, number) {
+        return Turn::Wrong;
     }
     refused.begin(heap);
     let answer = make(place, actors, number);
     let has_refused = heap.has_refused();
     heap.refuse_none();
-    let turn = match answer? {
+    let turn = match answer {
         Ok(()) if !has_refused => Turn::Answered,
         Err(Refusal::NoMemory) if has_refused && receipts_of(actors) == number => {
-            make(place, actors, number)?.map_err(|_| "the same call again")?;
-            Turn::Refused
+            match make(place, actors, number) {
+                Ok(()) => Turn::Refused,
+                Err(_) => return Turn::Wrong,
+            }
         }
-        _ => return Ok(Turn::Wrong),
+        _ => return Turn::Wrong,
     };
-    for after in number.saturating_add(1)..CALLS.len() {
-        make(place, actors, after)?.map_err(|_| "a call after")?;
+    if are_made(place, actors, number.saturating_add(1), CALLS.len()) {
+        turn
+    } else {
+        Turn::Wrong
     }
-    Ok(turn)
+}
+
+/// Whether each receipt of this actor is of a step of its own.
+fn are_own<A: Allocator, L: Ledger>(me: &Actor<L, A>, steps: &[Step<A>]) -> bool {
+    for receipt in me.receipts() {
+        match steps.get(receipt.index as usize) {
+            Some(step) if is_step_of(step, me.number(), receipt) => {}
+            _ => return false,
+        }
+    }
+    true
 }
 
 /// Whether the calls left their history, and each actor the receipts of its own steps.
@@ -177,20 +206,32 @@ fn is_whole<A: Allocator + Copy, C: RouterCore<A>, L: Ledger>(
     hub: &Hub<C, L, A>,
     actors: &[Actor<L, A>],
 ) -> Result<bool, Fail> {
-    let (_, wanted) = read_history(alloc, HISTORY.as_bytes()).map_err(|_| "a history")?;
-    let history = hub.router().history();
-    let are_own = actors.iter().all(|me| {
-        me.receipts().iter().all(|receipt| match wanted.get(receipt.index as usize) {
-            Some(step) => is_step_of(step, me.number(), receipt),
-            None => false,
-        })
-    });
+    let (_, wanted) = read_history(alloc, HISTORY.as_bytes())?;
+    let steps = wanted.as_slice();
+    for me in actors {
+        if !are_own(me, steps) {
+            return Ok(false);
+        }
+    }
     Ok(
-        are_same(history, wanted.as_slice())
-            && are_own
-            && receipts_of(actors) == wanted.len()
+        are_same(hub.router().history(), steps)
+            && receipts_of(actors) == steps.len()
             && hub.book() == 5,
     )
+}
+
+/// Makes a service of two links and one worker.
+fn a_service<A: Allocator + Copy, C: RouterCore<A> + Drop, L: Ledger>(
+    alloc: A,
+    blank: Blank,
+) -> Result<(Service<C, L, A>, Vec<Actor<L, A>, A>), ServiceFault>
+    requires name { blank.name ≡ L.name }
+    requires parts { (blank.parts ≡ L.parts) × (blank.parts ≡ 6) }
+{
+    let Ok(config) = usual(100) else {
+        return Err(ServiceFault::BadWorkers);
+    };
+    Service::<C, L, A>::new(alloc, blank, &config, &[Role::Plain, Role::Plain], 1)
 }
 
 /// Makes all calls at the lock.
@@ -201,7 +242,7 @@ fn turn_locked<'r, 's, A: Allocator + Copy, C: RouterCore<A> + Drop, L: Ledger, 
     actors: &mut [Actor<L, A>],
     number: usize,
     refused: Refused,
-) -> Result<Turn, Fail> {
+) -> Turn {
     let mut place = Locked { rt, service };
     turn_at(heap, &mut place, actors, number, refused)
 }
@@ -219,25 +260,18 @@ fn turn_of<A: Allocator + Copy, C: RouterCore<A> + Drop, L: Ledger, R: Wait>(
     requires parts { (blank.parts ≡ L.parts) × (blank.parts ≡ 6) }
 {
     heap.refuse_none();
-    let roles = [Role::Plain, Role::Plain];
-    let made = Service::<C, L, A>::new(alloc, blank, &usual(100)?, &roles, 1);
-    let (service, mut actors) = made.map_err(|_| "a service")?;
+    let (service, mut actors) = a_service::<A, C, L>(alloc, blank)?;
     let (number, is_locked) = call;
     let (turn, hub) = if is_locked {
-        let turn = turn_locked(rt, heap, &service, actors.as_mut_slice(), number, refused)?;
+        let turn = turn_locked(rt, heap, &service, actors.as_mut_slice(), number, refused);
         (turn, service.into_hub())
     } else {
         let mut hub = service.into_hub();
-        (
-            turn_at(heap, &mut hub, actors.as_mut_slice(), number, refused)?,
-            hub,
-        )
+        let turn = turn_at(heap, &mut hub, actors.as_mut_slice(), number, refused);
+        (turn, hub)
     };
-    Ok(match turn {
-        Turn::Wrong => Turn::Wrong,
-        _ if is_whole(alloc, &hub, actors.as_slice())? => turn,
-        _ => Turn::Wrong,
-    })
+    let is_whole = is_whole(alloc, &hub, actors.as_slice())?;
+    Ok(if is_whole { turn } else { Turn::Wrong })
 }
 
 /// The call of this number, at the lock or on what lies under it.
@@ -264,11 +298,7 @@ fn actors_of<A: Allocator + Copy, C: RouterCore<A> + Drop, L: Ledger>(
     requires name { blank.name ≡ L.name }
     requires parts { (blank.parts ≡ L.parts) × (blank.parts ≡ 6) }
 {
-    let Ok(config) = usual(100) else {
-        return Err(ServiceFault::BadWorkers);
-    };
-    let roles = [Role::Plain, Role::Plain];
-    let (_, actors) = Service::<C, L, A>::new(alloc, blank, &config, &roles, 1)?;
+    let (_, actors) = a_service::<A, C, L>(alloc, blank)?;
     Ok(actors.len())
 }
 
@@ -332,12 +362,25 @@ const TABLE: [u64; 11] = [7, 3, 2, 8, 11, 2, 3, 2, 8, 11, 2];
 /// At the router that searches its history.
 const PLAIN: [u64; 11] = [3, 3, 1, 0, 6, 2, 3, 1, 0, 6, 2];
 
+/// Whether the calls meet these growths.
+fn meets_all<A: Allocator + Copy, C: RouterCore<A> + Drop, R: Wait>(
+    rt: &R,
+    out: Global,
+    heap: &Heap,
+    alloc: A,
+    wanted: &[u64],
+) -> Result<(), Fail> {
+    let met = all_growths::<A, C, R>(rt, out, heap, alloc)?;
+    if met.as_slice() == wanted {
+        Ok(())
+    } else {
+        Err(Fail::new(format_args!("{met:?}")))
+    }
+}
+
 #[test]
 fn calls_under_the_lock(rt: HostRuntime) -> Result<(), Fail> {
     let heap = Heap::new(rt.alloc());
-    let table = all_growths::<_, TableRouter<_>, _>(&rt, rt.alloc(), &heap, &heap)?;
-    let plain = all_growths::<_, PlainRouter<_>, _>(&rt, rt.alloc(), &heap, &heap)?;
-    assert_eq!(rt; table.as_slice(), TABLE.as_slice());
-    assert_eq!(rt; plain.as_slice(), PLAIN.as_slice());
-    Ok(())
+    meets_all::<_, TableRouter<_>, _>(&rt, rt.alloc(), &heap, &heap, &TABLE)?;
+    meets_all::<_, PlainRouter<_>, _>(&rt, rt.alloc(), &heap, &heap, &PLAIN)
 }

@@ -3,7 +3,9 @@
 ghost use Rattle.std.specs.Prelude.{◌≡◌};
 
 use gn_fixtures::{Heap, Refused, Turn, Turns, growths, ping};
-use gn_stage::{Job, Settled, Site, Stage, StageFault, Unsettled};
+use gn_stage::{
+    Intake, IntakeHome, Job, Outlet, OutletHome, Settled, Site, Stage, StageFault, Unsettled,
+};
 use std::alloc::{AllocError, Allocator};
 use std::marker::Brand;
 use std::sync::Wait;
@@ -23,6 +25,57 @@ fn is_right<A: Allocator>(settled: &Settled<A>) -> bool {
     (settled.put, settled.taken, left) == (2, 1, true)
 }
 
+/// The intake of a stage, where two jobs were put.
+fn put_two<A: Allocator + Copy, S: Site, R: Wait>(
+    rt: &R,
+    alloc: A,
+    ins: Vec<Intake<S, A>, A>,
+) -> Result<Vec<IntakeHome<S, A>, A>, Fail> {
+    let (mut ins, mut homes) = (ins, Vec::new(alloc));
+    let (first, second) = (job(0)?, job(1)?);
+    let Some(mut intake) = ins.pop() else {
+        return Err("an intake".into());
+    };
+    let is_first = intake.put(rt, first).is_ok();
+    let is_second = intake.put(rt, second).is_ok();
+    homes.push(intake.finish())?;
+    if is_first && is_second {
+        return Ok(homes);
+    }
+    Err("room for two jobs".into())
+}
+
+/// The outlet of a stage, where the first job was taken.
+fn take_one<A: Allocator + Copy, S: Site, R: Wait>(
+    rt: &R,
+    alloc: A,
+    outs: Vec<Outlet<S, A>, A>,
+) -> Result<Vec<OutletHome<S, A>, A>, Fail> {
+    let (mut outs, mut homes) = (outs, Vec::new(alloc));
+    if let Some(mut outlet) = outs.pop() {
+        let taken = outlet.take(rt).map(|job| job.ticket);
+        homes.push(outlet.finish())?;
+        if taken == Some(0) {
+            return Ok(homes);
+        }
+    }
+    Err("the first job".into())
+}
+
+/// Settles again what was out of memory.
+fn settle_again<A: Allocator + Copy, S: Site, R: Wait>(
+    rt: &R,
+    alloc: A,
+    left: Unsettled<S, A>,
+    has_refused: bool,
+) -> Turn {
+    let is_amiss = left.fault != StageFault::NoMemory || !has_refused;
+    match left.desk.settle(rt, alloc, left.intakes, left.outlets) {
+        Ok(settled) => answered(&settled, is_amiss, Turn::Refused),
+        Err(_) => Turn::Wrong,
+    }
+}
+
 /// Settles a stage after two jobs were put and one was taken. After out of memory it is settled again.
 fn settles_of<A: Allocator + Copy, S: Site, R: Wait>(
     rt: &R,
@@ -33,40 +86,16 @@ fn settles_of<A: Allocator + Copy, S: Site, R: Wait>(
 ) -> Result<Turn, Fail>
     requires { stage ≡ S.stage }
 {
-    let (mut ins, mut outs, desk) = stage.ends::<S>(alloc, 1, 1)?;
-    let (Some(mut intake), Some(mut outlet)) = (ins.pop(), outs.pop()) else {
-        return Err("both ends".into());
-    };
-    for ticket in 0..2 {
-        if intake.put(rt, job(ticket)?).is_err() {
-            return Err("room for a job".into());
-        }
-    }
-    if outlet.take(rt).map(|job| job.ticket) != Some(0) {
-        return Err("the first job".into());
-    }
-    let (mut intakes, mut outlets) = (Vec::new(alloc), Vec::new(alloc));
-    intakes.push(intake.finish())?;
-    outlets.push(outlet.finish())?;
+    let (ins, outs, desk) = stage.ends::<S>(alloc, 1, 1)?;
+    let intakes = put_two(rt, alloc, ins)?;
+    let outlets = take_one(rt, alloc, outs)?;
     refused.begin(heap);
     let answer = desk.settle(rt, alloc, intakes, outlets);
     let has_refused = heap.has_refused();
     heap.refuse_none();
     Ok(match answer {
         Ok(settled) => answered(&settled, has_refused, Turn::Answered),
-        Err(
-            Unsettled {
-                fault,
-                desk,
-                intakes,
-                outlets,
-            },
-        ) => match desk.settle(rt, alloc, intakes, outlets) {
-            Ok(settled) if fault == StageFault::NoMemory => {
-                answered(&settled, !has_refused, Turn::Refused)
-            }
-            _ => Turn::Wrong,
-        },
+        Err(left) => settle_again(rt, alloc, left, has_refused),
     })
 }
 

@@ -254,6 +254,33 @@ fn with_rest<A: Allocator + Copy>(
     Ok(steps)
 }
 
+/// The history, where so many steps are read.
+fn opened_at<A: Allocator + Copy>(
+    alloc: A,
+    number: usize,
+) -> Result<HistorySteps<'static, A>, Fail> {
+    let (_, mut left) = open_history(alloc, FIRST_PING.as_bytes())?;
+    for _ in 0..number {
+        left.next_step()?;
+    }
+    Ok(left)
+}
+
+/// Whether this step and those that are left are the history's from this number on.
+fn is_rest<A: Allocator + Copy>(
+    alloc: A,
+    number: usize,
+    step: Option<Step<A>>,
+    left: &mut HistorySteps<A>,
+) -> Result<bool, Fail> {
+    let steps = with_rest(alloc, step, left)?;
+    let (_, wanted) = read_history(alloc, FIRST_PING.as_bytes())?;
+    Ok(match wanted.get(number..) {
+        Some(rest) => are_same(steps.as_slice(), rest),
+        None => false,
+    })
+}
+
 /// Reads the step of this number after those before it, and then the rest: a refusal leaves its line to be read again.
 #[derive(Clone, Copy)]
 struct ReadsStep(usize);
@@ -261,11 +288,7 @@ struct ReadsStep(usize);
 impl<A: Allocator + Copy> Turns<A> for ReadsStep {
     fn turn(&self, heap: &Heap, alloc: A, refused: Refused) -> Result<Turn, Fail> {
         heap.refuse_none();
-        let (_, wanted) = read_history(alloc, FIRST_PING.as_bytes())?;
-        let (_, mut left) = open_history(alloc, FIRST_PING.as_bytes())?;
-        for _ in 0..self.0 {
-            left.next_step()?;
-        }
+        let mut left = opened_at(alloc, self.0)?;
         refused.begin(heap);
         let first = left.next_step();
         let has_refused = heap.has_refused();
@@ -275,11 +298,8 @@ impl<A: Allocator + Copy> Turns<A> for ReadsStep {
             Err(CaptureRefusal::NoMemory) if has_refused => (left.next_step()?, Turn::Refused),
             _ => return Ok(Turn::Wrong),
         };
-        let steps = with_rest(alloc, step, &mut left)?;
-        Ok(match wanted.get(self.0..) {
-            Some(rest) if are_same(steps.as_slice(), rest) => turn,
-            _ => Turn::Wrong,
-        })
+        let is_right = is_rest(alloc, self.0, step, &mut left)?;
+        Ok(if is_right { turn } else { Turn::Wrong })
     }
 }
 

@@ -212,25 +212,26 @@ fn between(from: usize, to: usize) -> &'static [u8] {
 impl<A: Allocator + Copy> Call<A> for Feeds {
     type Subject = Feeding<A>;
 
-    type Answer = Vec<Descriptor<A>, A>;
+    /// The descriptors, and how many bytes are left, which is asked for beside them and takes no memory.
+    type Answer = (Vec<Descriptor<A>, A>, usize);
 
     fn subject(&self, alloc: A) -> Result<Feeding<A>, Fail> {
         let mut frames = Reassembler::new(alloc)?;
         let mut start = 0;
         for (end, _, _) in PIECES {
             if end <= self.before.0 {
-                frames
-                    .feed(between(start, end))
-                    .map_err(|_| "the pieces before")?;
+                if frames.feed(between(start, end)).is_err() {
+                    return Err("the pieces before".into());
+                }
                 start = end;
             }
         }
         Ok(Feeding { alloc, frames })
     }
 
-    fn make(&self, feeding: &mut Feeding<A>) -> Result<Vec<Descriptor<A>, A>, Failure> {
+    fn make(&self, feeding: &mut Feeding<A>) -> Result<(Vec<Descriptor<A>, A>, usize), Failure> {
         match feeding.frames.feed(between(self.before.0, self.piece.0)) {
-            Ok(fed) if fed.fault.is_none() => Ok(fed.descriptors),
+            Ok(fed) if fed.fault.is_none() => Ok((fed.descriptors, feeding.frames.pending())),
             Err(FeedRefusal::NoMemory) => Err(Failure::NoMemory),
             _ => Err(Failure::Other),
         }
@@ -240,15 +241,15 @@ impl<A: Allocator + Copy> Call<A> for Feeds {
         feeding.frames.pending() == other.frames.pending()
     }
 
-    fn is_right(&self, feeding: &mut Feeding<A>, fed: &Vec<Descriptor<A>, A>) -> bool {
+    fn is_right(&self, feeding: &mut Feeding<A>, fed: &(Vec<Descriptor<A>, A>, usize)) -> bool {
         let mut encoded = Vec::new(feeding.alloc);
-        for descriptor in fed {
+        for descriptor in &fed.0 {
             if descriptor.write_to(&mut encoded).is_err() {
                 return false;
             }
         }
         encoded.as_slice() == between(self.before.1, self.piece.1)
-            && feeding.frames.pending() == self.piece.0.wrapping_sub(self.piece.1)
+            && fed.1 == self.piece.0.wrapping_sub(self.piece.1)
     }
 }
 

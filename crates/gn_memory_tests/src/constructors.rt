@@ -6,7 +6,8 @@ use gn_plain::PlainRouter;
 use gn_router::TableRouter;
 use gn_rules::RouterCore;
 use gn_tables::{Flights, Neighbours, SeenTable, ServentTable};
-use std::alloc::Allocator;
+use gn_wire::{Guid, Kind};
+use std::alloc::{AllocError, Allocator};
 use std::test::Fail;
 
 /// What is made: nothing stands of it where it isn't.
@@ -35,37 +36,33 @@ const MADE: [(Made, u64); 7] = [
 #[derive(Clone, Copy)]
 struct Makes(Made);
 
+/// An ID that no table has.
+const NOBODY: Guid = Guid([0; 16]);
+
+/// Whether a router that is made has no history.
+fn is_new<A: Allocator + Copy, C: RouterCore<A> + Drop>(alloc: A) -> Result<bool, AllocError> {
+    match usual(100) {
+        Ok(config) => Ok(C::make(alloc, &config)?.history().is_empty()),
+        Err(_) => Ok(false),
+    }
+}
+
 impl Makes {
     /// Whether what is made is empty.
-    fn is_empty<A: Allocator + Copy>(&self, alloc: A) -> Result<bool, Failure> {
-        let config = usual(100).map_err(|_| Failure::Other)?;
-        Ok(match self.0 {
-            Made::Reassembler => match Reassembler::new(alloc) {
-                Ok(frames) => frames.pending() == 0,
-                Err(_) => return Err(Failure::NoMemory),
-            },
-            Made::TableRouter => match TableRouter::make(alloc, &config) {
-                Ok(core) => core.history().is_empty(),
-                Err(_) => return Err(Failure::NoMemory),
-            },
-            Made::PlainRouter => match PlainRouter::make(alloc, &config) {
-                Ok(core) => core.history().is_empty(),
-                Err(_) => return Err(Failure::NoMemory),
-            },
-            Made::SeenTable => match SeenTable::new(alloc, 64) {
-                Ok(_) => true,
-                Err(_) => return Err(Failure::NoMemory),
-            },
-            Made::ServentTable => match ServentTable::new(alloc, 64) {
-                Ok(_) => true,
-                Err(_) => return Err(Failure::NoMemory),
-            },
-            Made::Neighbours => match Neighbours::new(alloc, 4, 8) {
-                Ok(neighbours) => neighbours.len() == 0,
-                Err(_) => return Err(Failure::NoMemory),
-            },
-            Made::Flights => Flights::new(alloc, 8).len() == 0,
-        })
+    fn is_empty<A: Allocator + Copy>(&self, alloc: A) -> Result<bool, AllocError> {
+        match self.0 {
+            Made::Reassembler => Ok(Reassembler::new(alloc)?.pending() == 0),
+            Made::TableRouter => is_new::<A, TableRouter<A>>(alloc),
+            Made::PlainRouter => is_new::<A, PlainRouter<A>>(alloc),
+            Made::SeenTable => Ok(
+                SeenTable::new(alloc, 64)?
+                    .source(Kind::Ping, &NOBODY)
+                    .is_none(),
+            ),
+            Made::ServentTable => Ok(ServentTable::new(alloc, 64)?.route(&NOBODY).is_none()),
+            Made::Neighbours => Ok(Neighbours::new(alloc, 4, 8)?.len() == 0),
+            Made::Flights => Ok(Flights::new(alloc, 8).len() == 0),
+        }
     }
 }
 
@@ -79,7 +76,10 @@ impl<A: Allocator + Copy> Call<A> for Makes {
     }
 
     fn make(&self, alloc: &mut A) -> Result<bool, Failure> {
-        self.is_empty(*alloc)
+        match self.is_empty(*alloc) {
+            Ok(is_empty) => Ok(is_empty),
+            Err(_) => Err(Failure::NoMemory),
+        }
     }
 
     fn is_unchanged(&self, _alloc: &A, _other: &A) -> bool {

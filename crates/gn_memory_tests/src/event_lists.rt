@@ -34,6 +34,22 @@ fn events_of<A: Allocator + Copy>(
     Ok(events)
 }
 
+/// Whether a router gives this answer to the event.
+fn is_answer<A: Allocator + Copy, C: RouterCore<A>>(
+    other: &mut C,
+    event: &Event<A>,
+    answer: &Answer<A>,
+) -> bool {
+    match (other.apply(0, event), answer) {
+        (Err(right), Err(refusal)) => right == *refusal,
+        (Ok(_), Ok(receipt)) => match other.history().last() {
+            Some(step) => is_step_of(step, 0, receipt),
+            None => false,
+        },
+        _ => false,
+    }
+}
+
 /// Whether each answer is that of a router which was given no other events than those that weren't out of memory; how many
 /// were.
 fn refused_of<A: Allocator + Copy, C: RouterCore<A>>(
@@ -43,18 +59,10 @@ fn refused_of<A: Allocator + Copy, C: RouterCore<A>>(
 ) -> Option<u64> {
     let mut refused = 0u64;
     for (event, answer) in events.iter().zip(answers) {
-        match answer {
-            Err(Refusal::NoMemory) => refused = refused.saturating_add(1),
-            Err(refusal) => match other.apply(0, event) {
-                Err(right) if right == *refusal => {}
-                _ => return None,
-            },
-            Ok(receipt) => {
-                other.apply(0, event).ok()?;
-                if !is_step_of(other.history().last()?, 0, receipt) {
-                    return None;
-                }
-            }
+        if let Err(Refusal::NoMemory) = answer {
+            refused = refused.saturating_add(1);
+        } else if !is_answer(other, event, answer) {
+            return None;
         }
     }
     Some(refused)
@@ -62,17 +70,19 @@ fn refused_of<A: Allocator + Copy, C: RouterCore<A>>(
 
 /// Whether all answers are those of the history, and the refusals that are wanted after it.
 fn are_right<A: Allocator>(steps: &[Step<A>], further: &[Refusal], answers: &[Answer<A>]) -> bool {
-    let (first, last) = answers.split_at(steps.len().min(answers.len()));
-    first.len() == steps.len()
-        && first.iter().zip(steps).all(|(answer, step)| match answer {
-            Ok(receipt) => is_step_of(step, 0, receipt),
-            Err(_) => false,
-        })
-        && last.len() == further.len()
-        && last
-            .iter()
-            .zip(further)
-            .all(|(answer, refusal)| answer.as_ref().err() == Some(refusal))
+    for (number, answer) in answers.iter().enumerate() {
+        let is_right = match (answer, steps.get(number)) {
+            (Ok(receipt), Some(step)) => is_step_of(step, 0, receipt),
+            (Err(refusal), None) => {
+                further.get(number.wrapping_sub(steps.len())) == Some(refusal)
+            }
+            _ => false,
+        };
+        if !is_right {
+            return false;
+        }
+    }
+    answers.len() == steps.len().wrapping_add(further.len())
 }
 
 /// Whether the events went on after those that were out of memory, of which there is one where one growth was refused.
@@ -91,33 +101,62 @@ fn went_on<A: Allocator + Copy, C: RouterCore<A>>(
     as_many && are_same(core.history(), other.history())
 }
 
+/// Two routers, and the steps and the events of a list.
+#[derive(Drop)]
+struct Given<A: Allocator + Copy, C> {
+    core: C,
+    other: C,
+    steps: Vec<Step<A>, A>,
+    events: Vec<Event<A>, A>,
+}
+
+/// Makes what a list is run with.
+fn made_given<A: Allocator + Copy, C: RouterCore<A> + Drop>(
+    alloc: A,
+    history: &str,
+    further: usize,
+) -> Result<Given<A, C>, Fail> {
+    let (config, steps) = read(alloc, history)?;
+    let events = events_of(alloc, steps, further)?;
+    let (_, steps) = read(alloc, history)?;
+    Ok(Given {
+        core: C::make(alloc, &config)?,
+        other: C::make(alloc, &config)?,
+        steps,
+        events,
+    })
+}
+
 impl<A: Allocator + Copy, C: RouterCore<A> + Drop> Turns<A> for Runs<C> {
     fn turn(&self, heap: &Heap, alloc: A, refused: Refused) -> Result<Turn, Fail> {
         heap.refuse_none();
-        let (config, steps) = read(alloc, self.history)?;
-        let events = events_of(alloc, steps, self.further.len())?;
-        let (mut core, mut other) = (C::make(alloc, &config)?, C::make(alloc, &config)?);
+        let list: Given<A, C> = made_given(alloc, self.history, self.further.len())?;
+        let Given {
+            mut core,
+            mut other,
+            steps,
+            events,
+        } = list;
         refused.begin(heap);
         let answers = run_events(alloc, &mut core, &events);
         let has_refused = heap.has_refused();
         heap.refuse_none();
-        let (_, steps) = read(alloc, self.history)?;
-        let (answers, turn) = match answers {
-            Ok(answers) if !has_refused => (answers, Turn::Answered),
-            Ok(answers) => {
-                let went_on = went_on(&core, &mut other, &events, &answers, refused);
-                return Ok(if went_on { Turn::Refused } else { Turn::Wrong });
+        let (is_right, turn) = match answers {
+            Ok(answers) if !has_refused => {
+                (are_right(&steps, self.further, &answers), Turn::Answered)
             }
-            Err(_) if has_refused && core.history().is_empty() => {
-                (run_events(alloc, &mut core, &events)?, Turn::Refused)
+            Ok(answers) => (
+                went_on(&core, &mut other, &events, &answers, refused),
+                Turn::Refused,
+            ),
+            Err(_) => {
+                let is_new = has_refused && core.history().is_empty();
+                let answers = run_events(alloc, &mut core, &events)?;
+                let are_right = are_right(&steps, self.further, &answers);
+                (is_new && are_right, Turn::Refused)
             }
-            Err(_) => return Ok(Turn::Wrong),
         };
-        Ok(if are_right(&steps, self.further, &answers) {
-            turn
-        } else {
-            Turn::Wrong
-        })
+        Ok(if is_right { turn } else { Turn::Wrong })
     }
 }
 

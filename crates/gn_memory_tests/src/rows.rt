@@ -6,7 +6,8 @@ use crate::steps::{Asked, growths_of};
 use gn_fixtures::Heap;
 use gn_plain::PlainRouter;
 use gn_router::TableRouter;
-use gn_rules::Refusal;
+use gn_rules::{Refusal, RouterCore};
+use std::alloc::{Allocator, Global};
 use std::test::Fail;
 
 /// How a step is made, in which history, and the growths that each of its steps meets.
@@ -62,28 +63,38 @@ const IN_HISTORY: [Row; 9] = [
     (Asked::Add, ORIGINATED, &[2, 0, 0, 0, 1]),
 ];
 
+/// Whether each row meets its growths. An `Err` names the first that doesn't.
+fn meet_all<A: Allocator + Copy, C: RouterCore<A> + Drop>(
+    out: Global,
+    heap: &Heap,
+    alloc: A,
+    rows: &[Row],
+) -> Result<(), Fail> {
+    for (asked, history, wanted) in rows {
+        let met = growths_of::<A, C>(out, heap, alloc, *asked, history)?;
+        if met.as_slice() != *wanted {
+            return Err(Fail::new(format_args!("{asked:?} {history}: {met:?}")));
+        }
+    }
+    Ok(())
+}
+
 #[test]
 fn steps_with_tables(rt: HostRuntime) -> Result<(), Fail> {
     let heap = Heap::new(rt.alloc());
-    for (asked, history, wanted) in WITH_TABLES {
-        let growths = growths_of::<_, TableRouter<_>>(rt.alloc(), &heap, &heap, asked, history)?;
-        assert_eq!(rt; growths.as_slice(), wanted, "{asked:?} {history}");
-    }
-    Ok(())
+    meet_all::<_, TableRouter<_>>(rt.alloc(), &heap, &heap, &WITH_TABLES)
 }
 
 #[test]
 fn steps_in_history(rt: HostRuntime) -> Result<(), Fail> {
     let heap = Heap::new(rt.alloc());
-    for (asked, history, wanted) in IN_HISTORY {
-        let growths = growths_of::<_, PlainRouter<_>>(rt.alloc(), &heap, &heap, asked, history)?;
-        assert_eq!(rt; growths.as_slice(), wanted, "{asked:?} {history}");
-    }
-    Ok(())
+    meet_all::<_, PlainRouter<_>>(rt.alloc(), &heap, &heap, &IN_HISTORY)
 }
 
 /// Runs as lists of events, what two events after them are refused, and the growths that all meet at both routers.
-const LISTS: [(&str, &[Refusal], u64, u64); 7] = [
+type List = (&'static str, &'static [Refusal], u64, u64);
+
+const LISTS: [List; 7] = [
     (FIRST_PING, &[], 22, 8),
     (EXPIRED_PING, &[], 24, 9),
     (TTL_AND_HOPS_LIMITS, &[], 30, 15),
@@ -98,13 +109,21 @@ const LISTS: [(&str, &[Refusal], u64, u64); 7] = [
     ),
 ];
 
-#[test]
-fn lists_of_events(rt: HostRuntime) -> Result<(), Fail> {
-    let heap = Heap::new(rt.alloc());
-    for (history, further, table, plain) in LISTS {
-        let with_tables = growths_of_list::<_, TableRouter<_>>(&heap, &heap, history, further)?;
-        let in_history = growths_of_list::<_, PlainRouter<_>>(&heap, &heap, history, further)?;
-        assert_eq!(rt; (with_tables, in_history), (table, plain), "{history}");
+/// Whether each list meets its growths at both routers. An `Err` names the first that doesn't.
+fn lists_meet_all(heap: &Heap, lists: &[List]) -> Result<(), Fail> {
+    for (history, further, table, plain) in lists {
+        let met = (
+            growths_of_list::<_, TableRouter<_>>(heap, heap, history, further)?,
+            growths_of_list::<_, PlainRouter<_>>(heap, heap, history, further)?,
+        );
+        if met != (*table, *plain) {
+            return Err(Fail::new(format_args!("{history}: {met:?}")));
+        }
     }
     Ok(())
+}
+
+#[test]
+fn lists_of_events(rt: HostRuntime) -> Result<(), Fail> {
+    lists_meet_all(&Heap::new(rt.alloc()), &LISTS)
 }

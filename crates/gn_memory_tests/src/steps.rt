@@ -58,22 +58,52 @@ fn admitted<A: Allocator + Copy>(
     Ok(None)
 }
 
+/// The descriptor that this event routes, where it does.
+fn routed<A: Allocator + Copy>(
+    steps: &[Step<A>],
+    event: &Event<A>,
+) -> Result<Option<Checked<A>>, AllocError> {
+    match event {
+        Event::Route(ticket) => admitted(steps, *ticket),
+        _ => Ok(None),
+    }
+}
+
+fn copy_of<A: Allocator + Copy>(alloc: A, step: &Step<A>) -> Result<Step<A>, AllocError> {
+    Ok(Step {
+        actor: step.actor,
+        event: step.event.copy()?,
+        reply: step.reply.copy(alloc)?,
+    })
+}
+
 /// A router, all steps of the history, the one that it is to make, and the descriptor that this one routes.
 #[derive(Drop)]
-struct Subject<A: Allocator + Copy, C> {
-    core: C,
+pub(crate) struct Subject<A: Allocator + Copy, C> {
+    pub(crate) core: C,
     steps: Vec<Step<A>, A>,
-    step: Step<A>,
+    pub(crate) step: Step<A>,
     checked: Option<Checked<A>>,
 }
 
 /// Makes the step of this number, after those before it.
 #[derive(Drop)]
-struct Makes<C> {
+pub(crate) struct Makes<C> {
     asked: Asked,
     history: &'static str,
     number: usize,
     core: PhantomData<C>,
+}
+
+impl<C> Makes<C> {
+    pub(crate) fn new(asked: Asked, history: &'static str, number: usize) -> Self {
+        Makes {
+            asked,
+            history,
+            number,
+            core: PhantomData,
+        }
+    }
 }
 
 fn failure(refusal: Refusal) -> Failure {
@@ -99,6 +129,20 @@ fn goes_on<A: Allocator + Copy, C: RouterCore<A>>(core: &mut C, steps: &[Step<A>
     true
 }
 
+/// A router that has made these steps.
+fn after<A: Allocator + Copy, C: RouterCore<A> + Drop>(
+    alloc: A,
+    config: &Config,
+    steps: &[Step<A>],
+) -> Result<C, Fail> {
+    let mut core = C::make(alloc, config)?;
+    if goes_on(&mut core, steps) {
+        Ok(core)
+    } else {
+        Err("the steps before".into())
+    }
+}
+
 impl<A: Allocator + Copy, C: RouterCore<A> + Drop> Call<A> for Makes<C> {
     type Subject = Subject<A, C>;
 
@@ -106,22 +150,12 @@ impl<A: Allocator + Copy, C: RouterCore<A> + Drop> Call<A> for Makes<C> {
 
     fn subject(&self, alloc: A) -> Result<Subject<A, C>, Fail> {
         let (config, steps) = read(alloc, self.history)?;
+        let core = after(alloc, &config, before(&steps, self.number))?;
         let Some(wanted) = steps.get(self.number) else {
             return Err("a step of the history".into());
         };
-        let step = Step {
-            actor: wanted.actor,
-            event: wanted.event.copy()?,
-            reply: wanted.reply.copy(alloc)?,
-        };
-        let checked = match wanted.event {
-            Event::Route(ticket) => admitted(&steps, ticket)?,
-            _ => None,
-        };
-        let mut core = C::make(alloc, &config)?;
-        if !goes_on(&mut core, before(&steps, self.number)) {
-            return Err("the steps before".into());
-        }
+        let step = copy_of(alloc, wanted)?;
+        let checked = routed(&steps, &step.event)?;
         Ok(Subject {
             core,
             steps,

@@ -5,7 +5,7 @@ ghost use Rattle.std.specs.FinMap as map;
 
 use gn_fixtures::{Call, Failure, Heap, Refused, Turn, Turns, growths, growths_of_call, ping};
 use gn_tables::{Flights, Neighbours, SeenTable, ServentTable};
-use gn_wire::{Guid, Kind};
+use gn_wire::{Descriptor, Guid, Kind};
 use std::alloc::Allocator;
 use std::test::Fail;
 
@@ -24,8 +24,10 @@ enum Kept {
 /// meets.
 type Entry = (Kept, u8, u32, [Option<u32>; 3], u64);
 
+const ENTRY_COUNT: usize = 8;
+
 /// Where two are remembered, the third makes the first forgotten. A servent that was known comes first again.
-const ENTRIES: [Entry; 8] = [
+const ENTRIES: [Entry; ENTRY_COUNT] = [
     (Kept::Ping, 0xa1, 1, [Some(1), None, None], 4),
     (Kept::Ping, 0xa2, 2, [Some(1), Some(2), None], 0),
     (Kept::Ping, 0xa3, 1, [None, Some(2), Some(1)], 0),
@@ -35,6 +37,11 @@ const ENTRIES: [Entry; 8] = [
     (Kept::Servent, 0xa1, 3, [Some(3), Some(2), None], 0),
     (Kept::Servent, 0xa3, 2, [Some(3), None, Some(2)], 0),
 ];
+
+/// The entry of this number, counted from 0.
+fn entry_at(number: usize) -> Option<Entry> {
+    ENTRIES.get(number).copied()
+}
 
 /// Both tables, each with room for two.
 #[derive(Drop)]
@@ -59,46 +66,61 @@ impl<A: Allocator + Copy> Both<A> {
         ]
     }
 
-    fn remember(&mut self, kept: Kept, byte: u8, from: u32) -> Result<(), Failure> {
+    /// Remembers an entry: the sources then.
+    fn remember(&mut self, entry: Entry) -> Result<[Option<u32>; 3], Failure> {
+        let (kept, byte, from, _, _) = entry;
         let id = id(byte);
-        match kept {
-            Kept::Servent => self.servents.learn(id, from).map_err(|_| Failure::NoMemory),
+        let kept_now = match kept {
+            Kept::Servent => self.servents.learn(id, from),
             Kept::Ping => match self.seen.source(Kind::Ping, &id) {
-                None => self
-                    .seen
-                    .keep(Kind::Ping, id, from)
-                    .map_err(|_| Failure::NoMemory),
-                Some(_) => Err(Failure::Other),
+                None => self.seen.keep(Kind::Ping, id, from),
+                Some(_) => return Err(Failure::Other),
             },
+        };
+        match kept_now {
+            Ok(()) => Ok(self.sources(kept)),
+            Err(_) => Err(Failure::NoMemory),
         }
+    }
+
+    /// Whether the entries of these numbers are remembered, each with the sources that it names.
+    fn goes_on(&mut self, from: usize, to: usize) -> bool {
+        for number in from..to {
+            match entry_at(number) {
+                Some(entry) if self.remember(entry) == Ok(entry.3) => {}
+                _ => return false,
+            }
+        }
+        true
     }
 }
 
-/// Remembers one entry, after those before it.
+/// Remembers the entry of this number, after those before it. The sources are asked for beside it, which takes no memory.
 #[derive(Clone, Copy)]
-struct Remembers {
-    number: usize,
-    entry: Entry,
-}
+struct Remembers(usize);
 
 impl<A: Allocator + Copy> Call<A> for Remembers {
     type Subject = Both<A>;
 
-    type Answer = ();
+    type Answer = [Option<u32>; 3];
 
     fn subject(&self, alloc: A) -> Result<Both<A>, Fail> {
         let mut both = Both {
             seen: SeenTable::new(alloc, 2)?,
             servents: ServentTable::new(alloc, 2)?,
         };
-        for (kept, byte, from, _, _) in ENTRIES.iter().copied().take(self.number) {
-            both.remember(kept, byte, from)?;
+        if both.goes_on(0, self.0) {
+            Ok(both)
+        } else {
+            Err("the entries before".into())
         }
-        Ok(both)
     }
 
-    fn make(&self, both: &mut Both<A>) -> Result<(), Failure> {
-        both.remember(self.entry.0, self.entry.1, self.entry.2)
+    fn make(&self, both: &mut Both<A>) -> Result<[Option<u32>; 3], Failure> {
+        match entry_at(self.0) {
+            Some(entry) => both.remember(entry),
+            None => Err(Failure::Other),
+        }
     }
 
     fn is_unchanged(&self, both: &Both<A>, other: &Both<A>) -> bool {
@@ -107,34 +129,30 @@ impl<A: Allocator + Copy> Call<A> for Remembers {
     }
 
     /// The entries after it follow, so that one which was half kept before a refusal shows.
-    fn is_right(&self, both: &mut Both<A>, _answer: &()) -> bool {
-        if both.sources(self.entry.0) != self.entry.3 {
-            return false;
-        }
-        for (kept, byte, from, wanted, _) in ENTRIES
-            .iter()
-            .copied()
-            .skip(self.number.saturating_add(1))
-        {
-            if both.remember(kept, byte, from).is_err() || both.sources(kept) != wanted {
-                return false;
+    fn is_right(&self, both: &mut Both<A>, answer: &[Option<u32>; 3]) -> bool {
+        match entry_at(self.0) {
+            Some(entry) => {
+                *answer == entry.3 && both.goes_on(self.0.saturating_add(1), ENTRY_COUNT)
             }
+            None => false,
         }
-        true
     }
 }
 
 #[test]
 fn what_is_remembered(rt: HostRuntime) -> Result<(), Fail> {
     let heap = Heap::new(rt.alloc());
-    for (number, entry) in ENTRIES.iter().copied().enumerate() {
-        assert_eq!(rt;
-            growths_of_call(&heap, &heap, &Remembers { number, entry })?,
-            entry.4,
-            "entry {number}"
-        );
+    for number in 0..ENTRY_COUNT {
+        let met = growths_of_call(&heap, &heap, &Remembers(number))?;
+        let wanted = entry_at(number).map(|entry| entry.4);
+        assert_eq!(rt; Some(met), wanted, "entry {number}");
     }
     Ok(())
+}
+
+/// This turn, where all is right.
+fn turn_if(is_right: bool, turn: Turn) -> Turn {
+    if is_right { turn } else { Turn::Wrong }
 }
 
 /// Adds a second neighbour to one for whom a packet waits.
@@ -145,31 +163,25 @@ impl<A: Allocator + Copy> Turns<A> for AddsNeighbour {
         heap.refuse_none();
         let mut neighbours = Neighbours::new(alloc, 4, 1)?;
         neighbours.add(1)?;
-        if neighbours.push(1, ping(0xa1, 7, 0)?).is_err() {
-            return Err("room for a packet".into());
-        }
+        let is_pushed = neighbours.push(1, ping(0xa1, 7, 0)?).is_ok();
         refused.begin(heap);
         let added = neighbours.add(2);
         let has_refused = heap.has_refused();
         heap.refuse_none();
         let turn = match added {
-            Ok(()) if !has_refused => Turn::Answered,
-            Err(_) if has_refused && neighbours.len() == 1 && neighbours.waiting(2).is_none() => {
+            Ok(()) => turn_if(!has_refused, Turn::Answered),
+            Err(_) => {
+                let left = (neighbours.len(), neighbours.waiting(2));
                 neighbours.add(2)?;
-                Turn::Refused
+                turn_if(has_refused && left == (1, None), Turn::Refused)
             }
-            _ => return Ok(Turn::Wrong),
         };
         let left = (
             neighbours.len(),
             neighbours.waiting(1),
             neighbours.waiting(2),
         );
-        Ok(if left == (2, Some(1), Some(0)) {
-            turn
-        } else {
-            Turn::Wrong
-        })
+        Ok(turn_if(is_pushed && left == (2, Some(1), Some(0)), turn))
     }
 }
 
@@ -181,15 +193,39 @@ pub(crate) fn none_in_flight<A: Allocator + Copy>(alloc: A) -> Flights<A>
     Flights::new(alloc, 1)
 }
 
-/// Whether the first flight is there, and no other.
-fn flies_alone<A: Allocator + Copy>(flights: &Flights<A>) -> Result<bool, Fail> {
-    let wanted = ping(0xa1, 7, 0)?;
-    Ok(match flights.get(0) {
+/// Whether the flight of this Ping is there, and no other.
+fn flies_alone<A: Allocator + Copy>(flights: &Flights<A>, wanted: &Descriptor<A>) -> bool {
+    match flights.get(0) {
         Some(flight) => {
-            flights.len() == 1 && flight.from == 1 && flight.descriptor.is_same(&wanted)
+            flights.len() == 1 && flight.from == 1 && flight.descriptor.is_same(wanted)
         }
         None => false,
-    })
+    }
+}
+
+/// Adds a first flight. After out of memory it is added again.
+fn add_flight<A: Allocator + Copy>(
+    heap: &Heap,
+    flights: &mut Flights<A>,
+    first: Descriptor<A>,
+    again: Descriptor<A>,
+    refused: Refused,
+) -> Turn
+    requires few { map.len flights.old.flights < flights.old.most }
+    requires fresh { map.get flights.old.flights 0 ≡ None }
+{
+    refused.begin(heap);
+    let added = flights.add(0, 1, first);
+    let has_refused = heap.has_refused();
+    heap.refuse_none();
+    match added {
+        Ok(()) => turn_if(!has_refused, Turn::Answered),
+        Err(_) => {
+            let is_unchanged = flights.len() == 0 && flights.get(0).is_none();
+            let is_added = flights.add(0, 1, again).is_ok();
+            turn_if(has_refused && is_unchanged && is_added, Turn::Refused)
+        }
+    }
 }
 
 /// Adds a first flight.
@@ -199,24 +235,9 @@ impl<A: Allocator + Copy> Turns<A> for AddsFlight {
     fn turn(&self, heap: &Heap, alloc: A, refused: Refused) -> Result<Turn, Fail> {
         heap.refuse_none();
         let mut flights = none_in_flight(alloc);
-        let (first, again) = (ping(0xa1, 7, 0)?, ping(0xa1, 7, 0)?);
-        refused.begin(heap);
-        let added = flights.add(0, 1, first);
-        let has_refused = heap.has_refused();
-        heap.refuse_none();
-        let turn = match added {
-            Ok(()) if !has_refused => Turn::Answered,
-            Err(_) if has_refused && flights.len() == 0 && flights.get(0).is_none() => {
-                flights.add(0, 1, again)?;
-                Turn::Refused
-            }
-            _ => return Ok(Turn::Wrong),
-        };
-        Ok(if flies_alone(&flights)? {
-            turn
-        } else {
-            Turn::Wrong
-        })
+        let wanted = ping(0xa1, 7, 0)?;
+        let turn = add_flight(heap, &mut flights, wanted.copy()?, wanted.copy()?, refused);
+        Ok(turn_if(flies_alone(&flights, &wanted), turn))
     }
 }
 

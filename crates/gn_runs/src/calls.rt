@@ -1,7 +1,7 @@
 //! What only calls can ask of a router.
 
 use bytes::Bytes;
-use gn_fixtures::{OWN, ping};
+use gn_fixtures::{OWN, ping, usual};
 use gn_payload::Checked;
 use gn_plain::PlainRouter;
 use gn_router::TableRouter;
@@ -21,13 +21,12 @@ fn pong(alloc: Global) -> Result<Descriptor, Fail> {
 /// a Ping that has made a hop.
 fn refuses<C: RouterCore<Global> + Drop, R: Abort + AllocGlobal>(rt: &R) -> Result<(), Fail> {
     let alloc = rt.alloc();
-    let config = Config::new(4, 8, 4, 8, 8, 100, 0, 0, OWN).map_err(|_| "a configuration")?;
-    let mut core = C::make(alloc, &config)?;
-    core.apply(0, &Event::Connect).map_err(|_| "a connection")?;
-    core.apply(0, &Event::Admit(1, ping(0xa1, 7, 0)?))
-        .map_err(|_| "an admission")?;
-    for other in [ping(0xa2, 7, 0)?, ping(0xa1, 6, 0)?] {
-        let strange = core.route(0, 0, &Checked::new(other));
+    let mut core = C::make(alloc, &usual(100)?)?;
+    for event in [Event::Connect, Event::Admit(1, ping(0xa1, 7, 0)?)] {
+        assert!(rt; core.apply(0, &event).is_ok());
+    }
+    for (byte, ttl) in [(0xa2, 7), (0xa1, 6)] {
+        let strange = core.route(0, 0, &Checked::new(ping(byte, ttl, 0)?));
         assert!(rt; matches!(strange, Err(Refusal::Strange)));
     }
     for packet in [pong(alloc)?, ping(0xd1, 5, 1)?] {
@@ -44,27 +43,49 @@ fn refusals_by_call(rt: HostRuntime) -> Result<(), Fail> {
     refuses::<PlainRouter, _>(&rt)
 }
 
+/// An event. A Ping is named by the byte that its ID repeats.
+#[derive(Clone, Copy)]
+enum Ask {
+    Connect,
+    Admit(u32, u8),
+    Close(u32),
+    Route(u32),
+}
+
+fn event_of(ask: Ask) -> Result<Event, Fail> {
+    Ok(match ask {
+        Ask::Connect => Event::Connect,
+        Ask::Admit(c, byte) => Event::Admit(c, ping(byte, 7, 0)?),
+        Ask::Close(c) => Event::Close(c),
+        Ask::Route(ticket) => Event::Route(ticket),
+    })
+}
+
+/// Events, and what is in flight of the first connection and of the second after each.
+const ASKS: [(Ask, (u32, u32)); 10] = [
+    (Ask::Connect, (0, 0)),
+    (Ask::Connect, (0, 0)),
+    (Ask::Admit(1, 0xa1), (1, 0)),
+    (Ask::Admit(2, 0xa2), (1, 1)),
+    (Ask::Admit(1, 0xa3), (2, 1)),
+    (Ask::Admit(1, 0xa4), (2, 1)),
+    (Ask::Close(1), (2, 1)),
+    (Ask::Route(0), (1, 1)),
+    (Ask::Route(1), (1, 0)),
+    (Ask::Route(2), (0, 0)),
+];
+
 /// What is in flight of a connection is counted after it closes too, and no other's is.
 fn counts_flights<C: RouterCore<Global> + Drop, R: Abort + AllocGlobal>(
     rt: &R,
 ) -> Result<(), Fail> {
-    let config = Config::new(4, 8, 4, 8, 8, 100, 0, 2, OWN).map_err(|_| "a configuration")?;
+    let Ok(config) = Config::new(4, 8, 4, 8, 8, 100, 0, 2, OWN) else {
+        return Err(Fail::from("a configuration"));
+    };
     let mut core = C::make(rt.alloc(), &config)?;
-    let asks = [
-        (Event::Connect, (0, 0)),
-        (Event::Connect, (0, 0)),
-        (Event::Admit(1, ping(0xa1, 7, 0)?), (1, 0)),
-        (Event::Admit(2, ping(0xa2, 7, 0)?), (1, 1)),
-        (Event::Admit(1, ping(0xa3, 7, 0)?), (2, 1)),
-        (Event::Admit(1, ping(0xa4, 7, 0)?), (2, 1)),
-        (Event::Close(1), (2, 1)),
-        (Event::Route(0), (1, 1)),
-        (Event::Route(1), (1, 0)),
-        (Event::Route(2), (0, 0)),
-    ];
-    for (event, counts) in &asks {
-        core.apply(0, event).map_err(|_| "an answer")?;
-        assert_eq!(rt; (core.flights_of(1), core.flights_of(2)), *counts);
+    for (ask, counts) in ASKS {
+        assert!(rt; core.apply(0, &event_of(ask)?).is_ok());
+        assert!(rt; (core.flights_of(1), core.flights_of(2)) == counts);
     }
     assert!(rt; core.stats().crowded == 1 && core.flights_of(9) == 0);
     Ok(())

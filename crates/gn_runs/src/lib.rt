@@ -1,15 +1,11 @@
-//! The worked runs: captures, what they print, and what is stated of their histories; the command line; and a whole program
-//! over the one library. Tests alone.
+//! The worked runs: captures, what they print, and what is stated of their histories; and a whole program over the one library.
+//! Tests alone.
 #![tactic(auto)]
 
 #[cfg(test)]
 mod answer_runs;
 #[cfg(test)]
-mod broken;
-#[cfg(test)]
 mod calls;
-#[cfg(test)]
-mod command_line;
 #[cfg(test)]
 mod compare;
 #[cfg(test)]
@@ -18,8 +14,6 @@ mod cuts;
 mod encoding;
 #[cfg(test)]
 mod event_lists;
-#[cfg(test)]
-mod fault_lines;
 #[cfg(test)]
 mod link_runs;
 #[cfg(test)]

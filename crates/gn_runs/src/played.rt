@@ -17,27 +17,48 @@ use std::alloc::Global;
 use std::process::Abort;
 use std::test::Fail;
 
+/// Compares what a history is read back as, and gives the number of its steps, which are legal.
+fn steps_of<R: Abort + AllocGlobal>(
+    rt: &R,
+    name: &'static str,
+    written: &[u8],
+) -> Result<usize, Fail> {
+    let Ok((config, steps)) = read_history(rt.alloc(), written) else {
+        return Err(Fail::from(name));
+    };
+    let mut again = Vec::new(rt.alloc());
+    write_history(&config, &steps, &mut again)?;
+    same(rt, name, &again, written);
+    assert!(rt; legal(&config, &steps) == Legality::Legal, "{name}");
+    Ok(steps.len())
+}
+
+/// Compares what is stated of a history of so many steps.
+fn is_audited<C: RouterCore<Global> + Drop, R: Abort + AllocGlobal>(
+    rt: &R,
+    name: &'static str,
+    written: &[u8],
+    steps: usize,
+) -> Result<(), Fail> {
+    let mut source = ReaderSource::new(written);
+    let mut sink = WriterSink::new(Vec::new(rt.alloc()));
+    let known = audit::<Global, C, _, _>(rt.alloc(), &mut source, &mut sink);
+    assert!(rt; known == Ok(Legality::Legal), "{name}");
+    let line = format!(in rt.alloc(); "legal {steps}\n")?;
+    same(rt, name, &sink.into_inner(), line.as_bytes());
+    Ok(())
+}
+
 /// Compares what a router's history is read back as, and what is stated of it.
 fn history_is_kept<C: RouterCore<Global> + Drop, R: Abort + AllocGlobal>(
     rt: &R,
     name: &'static str,
     core: &C,
 ) -> Result<(), Fail> {
-    let alloc = rt.alloc();
-    let mut written = Vec::new(alloc);
+    let mut written = Vec::new(rt.alloc());
     write_history(core.config(), core.history(), &mut written)?;
-    let (config, steps) = read_history(alloc, &written).map_err(|_| name)?;
-    let mut again = Vec::new(alloc);
-    write_history(&config, &steps, &mut again)?;
-    same(rt, name, &again, &written);
-    assert!(rt; legal(&config, &steps) == Legality::Legal, "{name}");
-    let mut source = ReaderSource::new(written.as_slice());
-    let mut sink = WriterSink::new(Vec::new(alloc));
-    let known = audit::<Global, C, _, _>(alloc, &mut source, &mut sink);
-    assert!(rt; known == Ok(Legality::Legal), "{name}");
-    let line = format!(in alloc; "legal {}\n", steps.len())?;
-    same(rt, name, &sink.into_inner(), line.as_bytes());
-    Ok(())
+    let steps = steps_of(rt, name, &written)?;
+    is_audited::<C, R>(rt, name, &written, steps)
 }
 
 fn plays<C: RouterCore<Global> + Drop, R: Abort + AllocGlobal>(
