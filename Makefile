@@ -42,14 +42,13 @@ examples: build
 test:
 	rt ci
 
-# What a call of each table and a job through the stage queue takes; then, three times in a process of its own, what a step through
-# the lock takes, and the flaw of a report: these go to standard error. Then tables of what the
-# program gn takes: replays and audits of mixed captures, and loads of 1, 2, 4 and 16 workers beside replays.
+# What a call of each table takes; then, three times in a process of its own, what a job through the stage queue takes, and what a step
+# through the lock of 1, 4 and 16 threads: these go to standard error. Then tables of what the program gn takes: replays and audits of
+# mixed captures, and loads of 1, 2, 4 and 16 workers beside replays.
 bench: build
 	scripts/build gn_bench
-	crates/gn_bench/out/gn_bench tables 1000000
-	for run in 1 2 3; do for load in 'stage 1000000' 'hub 1 100000' 'hub 4 100000' 'hub 16 100000' 'flaw 1000000'; do \
-		crates/gn_bench/out/gn_bench $$load || exit 1; done; done
+	crates/gn_bench/out/gn_bench tables
+	for run in 1 2 3; do for part in stage hub; do crates/gn_bench/out/gn_bench $$part || exit 1; done; done
 	scripts/bench_replay crates/gn/out/gn
 	scripts/bench_load crates/gn/out/gn
 

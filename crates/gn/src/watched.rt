@@ -3,6 +3,7 @@
 use gn_links::{Gate, Half, Made};
 use gn_load::Watch;
 use gn_progress::Progress;
+use std::mem::ManuallyDrop;
 use std::net::SocketAddr;
 use std::sync::Wait;
 use std::time::Clock;
@@ -40,5 +41,10 @@ impl<'r, R: Clock + AllocGlobal> Watch for Watched<'r, R> {
 
     fn end(&self) {
         self.0.end();
+    }
+
+    /// The process ends then, and the system takes all its memory back at once.
+    fn leave<T: Drop>(&self, rest: T) {
+        let _left = ManuallyDrop::new(rest);
     }
 }

@@ -2,12 +2,13 @@
 
 ghost use Rattle.std.specs.Prelude.{◌≡◌};
 
-use crate::setup::{each, ping};
+use crate::setup::{ping, tell};
 use gn_stage::{Intake, Job, Outlet, Site, Stage};
 use std::alloc::{AllocError, Global};
 use std::marker::Brand;
 use std::rt::Runtime;
 use std::sync::Wait;
+use std::sync::atomic::{AtomicU64, Ordering};
 use std::thread::Threads;
 use std::time::Instant;
 use std::{io, thread};
@@ -26,8 +27,8 @@ fn put_all<S: Site, R: Wait>(rt: &R, mut intake: Intake<S>, jobs: u32) {
     let _ = intake.finish();
 }
 
-/// How many jobs came.
-fn take_all<S: Site, R: Wait>(rt: &R, mut outlet: Outlet<S>) -> u64 {
+/// Adds how many jobs came.
+fn take_all<S: Site, R: Wait>(rt: &R, mut outlet: Outlet<S>, all: &AtomicU64) {
     let mut taken = 0u64;
     for _ in rt.forever() {
         if outlet.take(rt).is_none() {
@@ -36,7 +37,7 @@ fn take_all<S: Site, R: Wait>(rt: &R, mut outlet: Outlet<S>) -> u64 {
         taken = taken.wrapping_add(1);
     }
     let _ = outlet.finish();
-    taken
+    all.fetch_add(taken, Ordering::SeqCst);
 }
 
 /// How many jobs came out of the stage, each of two threads having put so many.
@@ -49,24 +50,16 @@ fn pass_on<S: Site + Send, R: Threads + Wait + Sync>(
     requires { stage ≡ S.stage }
 {
     let (ins, outs, _desk) = stage.ends::<S>(alloc, 2, 2)?;
-    thread::scope(
-        thread::scope_env(),
-        rt,
-        |scope| -> Result<u64, AllocError> {
-            for intake in ins {
-                scope.spawn(move || put_all(rt, intake, jobs))?;
-            }
-            let mut taking = Vec::new(alloc);
-            for outlet in outs {
-                taking.push(scope.spawn(move || take_all(rt, outlet))?)?;
-            }
-            let mut taken = 0u64;
-            for thread in taking {
-                taken = taken.wrapping_add(thread.join(rt));
-            }
-            Ok(taken)
-        },
-    )
+    let taken = AtomicU64::new(0);
+    thread::scope(thread::scope_env(), rt, |scope| {
+        for intake in ins {
+            let _ = scope.spawn(move || put_all(rt, intake, jobs));
+        }
+        for outlet in outs {
+            let _ = scope.spawn(|| take_all(rt, outlet, &taken));
+        }
+    });
+    Ok(taken.load(Ordering::SeqCst))
 }
 
 /// So many jobs through a stage of capacity 1,024, and what each took.
@@ -75,9 +68,10 @@ pub(crate) fn measure_stage<R: Runtime + Threads + Wait + Sync>(
     alloc: Global,
     jobs: u32,
 ) -> io::Result<()> {
+    let stage = Stage::new(alloc, CAPACITY)?;
     let start = Instant::now(rt)?;
-    let taken = pass_on::<Brand, R>(rt, alloc, Stage::new(alloc, CAPACITY)?, jobs / 2)?;
-    let time = each(rt, taken, &start)?;
-    println!(rt; "stage: {taken} jobs")?;
-    eprintln!(rt; "stage: {time} ns a job")
+    let jobs = pass_on::<Brand, R>(rt, alloc, stage, jobs / 2)?;
+    let taken = start.elapsed(rt)?;
+    println!(rt; "stage: {jobs} jobs")?;
+    tell(rt, "stage, a job of two threads to", 2, taken, jobs)
 }

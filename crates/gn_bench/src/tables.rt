@@ -1,50 +1,81 @@
 //! What a call of each table takes, with few entries and with many: it doesn't grow with their number.
 
-ghost use Rattle.std.specs.Prelude.{◌<◌, ◌≤◌};
+ghost use Rattle.std.specs.Prelude.{◌≡◌, ◌<◌, ◌≤◌};
 
-use crate::setup::{each, numbered, ping};
+use crate::setup::{numbered, ping, tell};
 use gn_tables::{Flights, Neighbours, SeenTable, ServentTable};
 use gn_wire::Kind;
 use std::alloc::Global;
 use std::io;
 use std::rt::Runtime;
-use std::time::{Clock, Instant};
+use std::time::Instant;
 
-/// Keys that are new, each kept in a full table.
-fn time_seen<R: Clock>(rt: &R, alloc: Global, size: u32, calls: u32) -> io::Result<u128>
-    requires { (0 < size) × (size ≤ 65536) }
-{
-    let mut seen = SeenTable::new(alloc, size)?;
-    let mut start = Instant::now(rt)?;
-    for number in 0..size.saturating_add(calls) {
-        if number == size {
-            start = Instant::now(rt)?;
-        }
+/// A table as it is measured.
+trait Measured {
+    /// The calls that one more entry takes, of this number.
+    fn turn(&mut self, number: u32) -> io::Result<()>;
+}
+
+/// Each ID is new, and is kept.
+impl Measured for SeenTable {
+    fn turn(&mut self, number: u32) -> io::Result<()> {
         let id = numbered(number);
-        if seen.source(Kind::Ping, &id).is_none() {
-            seen.keep(Kind::Ping, id, number)?;
+        if self.source(Kind::Ping, &id).is_none() {
+            self.keep(Kind::Ping, id, number)?;
         }
+        Ok(())
     }
-    each(rt, u64::from(calls), &start)
 }
 
-/// Servents that are new, each learned in a full table.
-fn time_servents<R: Clock>(rt: &R, alloc: Global, size: u32, calls: u32) -> io::Result<u128>
-    requires { (0 < size) × (size ≤ 65536) }
-{
-    let mut servents = ServentTable::new(alloc, size)?;
-    let mut start = Instant::now(rt)?;
-    for number in 0..size.saturating_add(calls) {
-        if number == size {
-            start = Instant::now(rt)?;
-        }
-        servents.learn(numbered(number), 1)?;
+/// Each servent is new, and is learned.
+impl Measured for ServentTable {
+    fn turn(&mut self, number: u32) -> io::Result<()> {
+        self.learn(numbered(number), 1)?;
+        Ok(())
     }
-    each(rt, u64::from(calls), &start)
 }
 
-/// The first packet of a full ring, put after the others again.
-fn time_packets<R: Clock>(rt: &R, alloc: Global, size: u32, calls: u32) -> io::Result<u128>
+/// The first packet of an output queue is put after the others again.
+impl Measured for Neighbours {
+    fn turn(&mut self, _number: u32) -> io::Result<()> {
+        if let Some(packet) = self.pop(1) {
+            let _ = self.push(1, packet);
+        }
+        Ok(())
+    }
+}
+
+/// What so many calls of a table with so many entries take.
+fn time<T: Measured + Drop, R: Runtime>(
+    rt: &R,
+    what: &str,
+    mut table: T,
+    size: u32,
+    calls: u32,
+) -> io::Result<()> {
+    let start = Instant::now(rt)?;
+    for call in 0..calls {
+        table.turn(size.wrapping_add(call))?;
+    }
+    tell(rt, what, size, start.elapsed(rt)?, u64::from(calls))
+}
+
+/// The same of a table that is filled first.
+fn time_filled<T: Measured + Drop, R: Runtime>(
+    rt: &R,
+    what: &str,
+    mut table: T,
+    size: u32,
+    calls: u32,
+) -> io::Result<()> {
+    for number in 0..size {
+        table.turn(number)?;
+    }
+    time(rt, what, table, size, calls)
+}
+
+/// An output queue that is full.
+fn full_output(alloc: Global, size: u32) -> io::Result<Neighbours>
     requires { (0 < size) × (size ≤ 4096) }
 {
     let mut neighbours = Neighbours::new(alloc, 1, size)?;
@@ -52,31 +83,33 @@ fn time_packets<R: Clock>(rt: &R, alloc: Global, size: u32, calls: u32) -> io::R
     for number in 0..size {
         let _ = neighbours.push(1, ping(number)?);
     }
-    let start = Instant::now(rt)?;
-    for _ in 0..calls {
-        if let Some(packet) = neighbours.pop(1) {
-            let _ = neighbours.push(1, packet);
-        }
-    }
-    each(rt, u64::from(calls), &start)
+    Ok(neighbours)
 }
 
-/// The oldest flight of a full table, and one more under a new ticket.
-fn time_flights<R: Clock>(rt: &R, alloc: Global, size: u32, calls: u32) -> io::Result<u128>
-    requires { (0 < size) × (size ≤ 4096) }
+/// So many flights, from this ticket on, each in the place of the one that came so many before it.
+fn next_flights(flights: &mut Flights, size: u32, first: u32, count: u32) -> io::Result<()>
+    requires { flights.old.most ≡ size }
+    ensures { flights.new.most ≡ size }
 {
-    let mut flights = Flights::new(alloc, size);
-    let mut start = Instant::now(rt)?;
-    for ticket in 0..size.saturating_add(calls) {
-        if ticket == size {
-            start = Instant::now(rt)?;
-        }
+    for ticket in first..first.saturating_add(count) {
         let _ = flights.finish(ticket.wrapping_sub(size));
         if flights.len() < size && flights.get(ticket).is_none() {
             flights.add(ticket, 1, ping(ticket)?)?;
         }
     }
-    each(rt, u64::from(calls), &start)
+    Ok(())
+}
+
+/// The oldest flight of a full table, and one more under a new ticket.
+fn time_flights<R: Runtime>(rt: &R, alloc: Global, size: u32, calls: u32) -> io::Result<()>
+    requires { (0 < size) × (size ≤ 4096) }
+{
+    let mut flights = Flights::new(alloc, size);
+    next_flights(&mut flights, size, 0, size)?;
+    let start = Instant::now(rt)?;
+    next_flights(&mut flights, size, size, calls)?;
+    let taken = start.elapsed(rt)?;
+    tell(rt, "finish, get, add of", size, taken, u64::from(calls))
 }
 
 /// So many calls of each table, with so many keys or so many packets in it.
@@ -90,12 +123,13 @@ fn time_tables<R: Runtime>(
     requires keys { (0 < keys) × (keys ≤ 65536) }
     requires packets { (0 < packets) × (packets ≤ 4096) }
 {
-    let seen = time_seen(rt, alloc, keys, calls)?;
-    let servents = time_servents(rt, alloc, keys, calls)?;
-    let outputs = time_packets(rt, alloc, packets, calls)?;
-    let flights = time_flights(rt, alloc, packets, calls)?;
-    eprintln!(rt; "{keys} entries: source, keep {seen} ns; learn {servents} ns")?;
-    eprintln!(rt; "{packets} entries: pop, push {outputs} ns; finish, get, add {flights} ns")
+    let seen = SeenTable::new(alloc, keys)?;
+    time_filled(rt, "source, keep of", seen, keys, calls)?;
+    let servents = ServentTable::new(alloc, keys)?;
+    time_filled(rt, "learn of", servents, keys, calls)?;
+    let output = full_output(alloc, packets)?;
+    time(rt, "pop, push of", output, packets, calls)?;
+    time_flights(rt, alloc, packets, calls)
 }
 
 /// Each table with few entries and with many, and so many calls on it.

@@ -1,6 +1,6 @@
 //! The body of a writer.
 
-ghost use Rattle.std.specs.Prelude.{◌≡◌, ◌<◌, ◌∷◌, ◌++◌, [], ℕ, List, true, false, length, take, IfOk};
+ghost use Rattle.std.specs.Prelude.{◌≡◌, ◌<◌, ◌∷◌, ◌++◌, [], ℕ, List, true, false, length, take, IfOk, OnOk};
 ghost use Rattle.std.specs.List.{concat};
 ghost use Rattle.gn_wire.specs.Packet.{Packet};
 ghost use Rattle.gn_wire.specs.Encoding.{bytes_of};
@@ -21,6 +21,7 @@ use gn_links::{Gate, Half, LinkWriter, Made};
 use gn_rules::{ConnId, Refusal, Reply, RouterCore};
 use gn_service::{Actor, Service};
 use gn_shake::Role;
+use gn_wire::HEADER_BYTES;
 use std::alloc::{AllocError, Allocator, Global};
 use std::sync::Wait;
 use std::sync::ledger::Ledger;
@@ -99,21 +100,22 @@ fn take_next<G: Gate, C: RouterCore<A> + Drop, L: Ledger, A: Allocator + Copy, R
     }
 }
 
-/// The encoding of the packet that was taken last.
-fn encode_last<L: Ledger, A: Allocator + Copy>(
-    alloc: A,
+/// Puts the encoding of the packet that was taken last in place of a text. An `Err` is out of memory.
+fn encode_last<L: Ledger, A: Allocator>(
     me: &Actor<L, A>,
-) -> Result<Vec<u8, A>, AllocError>
+    text: &mut Vec<u8, A>,
+) -> Result<(), AllocError>
     requires { 0 < length me.now.receipts }
-    ensures { IfOk result (λ text. (rs : List (Receipt A)) (index c : ℕ) (p : Packet)
+    ensures { OnOk result ((rs : List (Receipt A)) (index c : ℕ) (p : Packet)
         → me.now.receipts ≡ rs ++ receipt index (Take c) (Taken p) ∷ []
-        → text.items ≡ bytes_of p) }
+        → text.new.items ≡ bytes_of p) }
 {
-    let mut text = Vec::new(alloc);
-    if let Reply::Taken(packet) = me.last_reply() {
-        packet.write_to(&mut text)?;
-    }
-    Ok(text)
+    text.clear();
+    let Reply::Taken(packet) = me.last_reply() else {
+        return Ok(());
+    };
+    text.reserve(HEADER_BYTES + packet.payload().len())?;
+    packet.write_to(text)
 }
 
 /// Takes, encodes and writes each packet.
@@ -145,10 +147,11 @@ fn write_packets<
     ensures hurt { IfOk result (λ end. end ≡ ends.WriteFailed
         → IsHurt (W.failures writer.new) (W.is_stuck writer.new)) }
 {
+    let mut text = Vec::new(alloc);
     for _ in rt.forever() {
         match take_next(rt, service, gate, me, link, c)? {
             Out::Packet => {
-                let Ok(text) = encode_last(alloc, me) else {
+                let Ok(()) = encode_last(me, &mut text) else {
                     return Err(BodyFault::NoMemory);
                 };
                 if !write_all(rt, writer, text.as_slice()) {

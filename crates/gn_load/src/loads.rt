@@ -13,15 +13,16 @@ use crate::printed::{PrintFault, print_history};
 use crate::watch::Watch;
 use gn_capture::{Capture, read_capture};
 use gn_io::{Sink, Source, read_input};
-use gn_links::NoGate;
+use gn_links::{MemoryReader, MemoryWriter, NoGate};
 use gn_replay::ReplayFault;
-use gn_rules::{Config, RouterCore, Step};
+use gn_rules::{Config, RouterCore};
+use gn_run::Report;
 use gn_threads::run;
 use std::alloc::Allocator;
 use std::sync::Wait;
 use std::thread::Threads;
 
-/// How a router is set up that so many workers run over the links that a capture makes, and the steps of its history. Of the
+/// How a router is set up that so many workers run over the links that a capture makes, and the report of the run. Of the
 /// capture only what its links hold lasts through the run.
 fn run_links<
     A: Allocator + Copy + Send + Sync,
@@ -34,8 +35,8 @@ fn run_links<
     workers: u32,
     watch: &G,
     text: Vec<u8, A>,
-) -> Result<(Config, Vec<Step<A>, A>), LoadFault>
-    ensures history { IfOk result (λ ran. IsLoadText A workers text.items (history_text ran.0 ran.1.items)) }
+) -> Result<(Config, Report<MemoryReader<A>, MemoryWriter<A>, A>), LoadFault>
+    ensures history { IfOk result (λ ran. IsLoadText A workers text.items (history_text ran.0 ran.1.history.items)) }
     ensures fault { IfErr result (λ fault. IsRunLoadFault workers fault (load_of A text.items)) }
 {
     let capture = read_capture(alloc, &text)?;
@@ -45,7 +46,7 @@ fn run_links<
     drop(lines);
     watch.begin(links.len());
     let report = run::<C, _, _, A, R>(rt, alloc, &config, links, workers, watch)?;
-    Ok((config, report.history))
+    Ok((config, report))
 }
 
 /// Reads a capture of `join`, `open` and `data` lines whole, runs its links with so many workers, 1 to 64, until each link's
@@ -98,8 +99,10 @@ pub fn load_watched<
     let text = read_input(alloc, source)?;
     let answer = run_links::<A, C, R, G>(rt, alloc, workers, watch, text);
     watch.end();
-    let (config, steps) = answer?;
-    match print_history(alloc, &config, &steps, sink) {
+    let (config, report) = answer?;
+    let printed = print_history(alloc, &config, &report.history, sink);
+    watch.leave(report);
+    match printed {
         Ok(()) => Ok(()),
         Err(PrintFault::Write) => Err(LoadFault::Text(ReplayFault::Write)),
         Err(PrintFault::NoMemory) => Err(LoadFault::Text(ReplayFault::NoMemory)),

@@ -3,7 +3,7 @@
 use gn_links::{Gate, NoGate};
 use std::net::SocketAddr;
 
-/// A gate that learns when the run of a load begins, or that of a serve, and when it has ended.
+/// A gate that learns when the run of a load begins, or that of a serve, and when it has ended; it is left what a load made.
 pub trait Watch: Gate {
     /// So many links are loaded next.
     fn begin(&self, links: usize);
@@ -16,6 +16,9 @@ pub trait Watch: Gate {
 
     /// The run has ended, well or not, or there is none.
     fn end(&self);
+
+    /// Lets go of what a load has made once its history is written.
+    fn leave<T: Drop>(&self, rest: T);
 }
 
 impl Watch for NoGate {
@@ -26,4 +29,8 @@ impl Watch for NoGate {
     fn came(&self, _link: u32, _peer: SocketAddr) {}
 
     fn end(&self) {}
+
+    fn leave<T: Drop>(&self, rest: T) {
+        drop(rest);
+    }
 }

@@ -9,7 +9,7 @@ use gn_legal::legal;
 use gn_payload::{Checked, Verdict};
 use gn_plain::PlainRouter;
 use gn_router::TableRouter;
-use gn_rules::{Counter, Legality, RouterCore, Step};
+use gn_rules::{Counter, Legality, Reply, RouterCore, Sending, Sends, Step, is_same_reply};
 use gn_tables::Neighbours;
 use gn_wire::{Descriptor, FrameFault, Guid, Kind};
 use std::alloc::Allocator;
@@ -92,6 +92,19 @@ fn of_a_descriptor<A: Allocator + Copy>(heap: &Heap, alloc: A) -> Result<(bool, 
     Ok((is_right, heap.asked()))
 }
 
+/// A reply that sends nothing beside one that sends a Ping: neither is the other.
+fn of_replies<A: Allocator + Copy>(heap: &Heap, alloc: A) -> Result<(bool, u64), Fail> {
+    heap.refuse_none();
+    let (to, queued, packet) = (2, true, ping(0xa1, 6, 1)?);
+    let (none, mut one) = (Sends::new(alloc), Sends::new(alloc));
+    one.push(Sending { to, queued, packet })?;
+    let (none, one) = (Reply::Sent(none), Reply::Sent(one));
+    heap.refuse_from(0);
+    let are_same = (is_same_reply(&none, &one), is_same_reply(&one, &none));
+    let is_itself = is_same_reply(&one, &one);
+    Ok((are_same == (false, false) && is_itself, heap.asked()))
+}
+
 #[test]
 fn nothing_is_asked_for(rt: HostRuntime) -> Result<(), Fail> {
     let heap = Heap::new(rt.alloc());
@@ -101,7 +114,8 @@ fn nothing_is_asked_for(rt: HostRuntime) -> Result<(), Fail> {
         of_neighbours(&heap, &heap)?,
         of_flights(&heap, &heap)?,
         of_a_descriptor(&heap, &heap)?,
+        of_replies(&heap, &heap)?,
     ];
-    assert_eq!(rt; all, [(true, 0); 5]);
+    assert_eq!(rt; all, [(true, 0); 6]);
     Ok(())
 }

@@ -16,12 +16,13 @@ use crate::fault::Fault;
 use crate::request::Request;
 use crate::serves::serve;
 use crate::text::write_text;
+use crate::unwatched::Unwatched;
 use crate::words::read_words;
 use clap::Error;
 use clap::error::ErrorKind;
 use gn_io::{Sink, Source};
 use gn_links::NoGate;
-use gn_load::{LoadFault, Watch, load, load_watched};
+use gn_load::{LoadFault, Watch, load_watched};
 use gn_replay::{Exit, ReplayFault, audit, audit_explained, replay, replay_history};
 use gn_router::TableRouter;
 use gn_rules::{Legality, RouterCore};
@@ -148,7 +149,14 @@ fn obey<
         }
         Request::Show(view) => end_show(faults, show(alloc, view, reader, writer)),
         Request::Load(workers) => {
-            let answer = load::<Global, TableRouter, R, S, W>(rt, alloc, workers, reader, writer);
+            let answer = load_watched::<Global, TableRouter, R, Unwatched<G>, S, W>(
+                rt,
+                alloc,
+                workers,
+                &Unwatched(watch),
+                reader,
+                writer,
+            );
             end_load(faults, answer)
         }
         Request::Watched(workers) => {
@@ -219,7 +227,8 @@ pub fn command<
 }
 
 /// Does the same, with a replay's and an audit's router of type C, which give back all memory that such a router gives back
-/// when it is dropped; and a load or a serve with `--progress` is watched by `watch`, where `command` says nothing.
+/// when it is dropped; and a load or a serve with `--progress` is watched by `watch`, where `command` says nothing. Each load
+/// leaves what it made to `watch`.
 pub fn command_with<
     C: RouterCore<Global> + Drop,
     R: Threads

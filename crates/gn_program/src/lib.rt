@@ -12,6 +12,7 @@ mod serves;
 mod shown;
 mod text;
 mod unread;
+mod unwatched;
 mod words;
 
 pub use commands::{command, command_with, refuse_words};

@@ -1,5 +1,6 @@
 -- Lines that are played and written one by one.
-use Rattle.std.proofs.Common.{◌≡◌, ◌++◌, ℕ, List, [], ◌∷◌, length, Option, Result, Ok, Err, OnErr, refl, sym, ap, ◌∙◌, subst, append-nil, arith}
+use Rattle.std.proofs.Common.{◌≡◌, ◌++◌, ℕ, List, [], ◌∷◌, length, Option, Result, Ok, Err, OnErr, refl, sym, ap, ◌∙◌, subst, append-nil, arith, reverse}
+use Rattle.std.proofs.lemmas.List.{reverse-append}
 use Rattle.std.specs.Io.KnownBytes.{Appends}
 use Rattle.gn_io.specs.Parts.{LeavesToWrite, AppendsPart, WaitsPart}
 use Rattle.gn_io.proofs.StreamLemmas.{leaves_all, leaves_rest, leaves_text, leaves_waits, rest_cut, waits_text}
@@ -56,6 +57,10 @@ still_waits old waited waiting text same = rw same (text, leaves_all old (waited
 -- nothing was written yet
 pub none_written : (old : Option (List ℕ)) (text : List ℕ) → AppendsPart old old text
 none_written old text = (text, leaves_all old text)
+
+-- the last of a list is the first of the same turned round
+pub turned : {X : Type 0} (now rest : List X) (x : X) → now ≡ rest ++ x ∷ [] → reverse now ≡ x ∷ reverse rest
+turned now rest x is = ap reverse is ∙ reverse-append rest (x ∷ [])
 
 -- a loop over all lines, where those of `left` are still to come
 pub record IsRunning {A : Type 0} (s : Config) (now : Playing A) (first last : Option (List ℕ)) (waiting : List ℕ) (left all : List (ℕ × Line A)) : Type 0 where

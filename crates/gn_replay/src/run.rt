@@ -1,6 +1,6 @@
 //! The lines of a capture, played on a router one after the other.
 
-ghost use Rattle.std.specs.Prelude.{◌≡◌, ◌++◌, [], List, reverse, IfOk, IfErr, OnOk, OnErr};
+ghost use Rattle.std.specs.Prelude.{◌≡◌, ◌++◌, ◌∷◌, [], List, reverse, IfOk, IfErr, MatchOption, OnOk, OnErr};
 ghost use Rattle.gn_io.specs.Parts.{AppendsPart, WaitsPart};
 ghost use Rattle.gn_io.specs.Streams.{NoWriteFailed};
 ghost use Rattle.gn_replay.specs.Links.{AreLinks, LinkState};
@@ -21,6 +21,28 @@ pub struct Replayed<C> {
     pub core: C,
     /// How many events it refused, up to the last u64.
     pub refusals: u64,
+}
+
+/// After so many lines the room of those that are gone is given back.
+const GIVEN_BACK: usize = 32_768;
+
+/// Gives back the room of lines that were taken, many at a time.
+fn give_back<A: Allocator>(lines: &mut Vec<(u64, Line<A>), A>)
+    ensures { lines.new.items ≡ lines.old.items }
+{
+    if lines.len() % GIVEN_BACK == 0 {
+        lines.shrink_to_fit();
+    }
+}
+
+/// Takes the last line.
+fn take_last<A: Allocator>(lines: &mut Vec<(u64, Line<A>), A>) -> Option<(u64, Line<A>)>
+    ensures { MatchOption result (lines.old.items ≡ [])
+        (λ line. lines.old.items ≡ lines.new.items ++ line ∷ []) }
+{
+    let line = lines.pop()?;
+    give_back(lines);
+    Some(line)
 }
 
 impl<A: Allocator + Copy, C: RouterCore<A>> Play<A, C> {
@@ -70,7 +92,9 @@ impl<A: Allocator + Copy, C: RouterCore<A>> Play<A, C> {
         ensures cause { IfErr result (λ fault. IsPlayFault fault (W.state sink.old) (W.state sink.new)) }
         ensures writes { OnOk result (NoWriteFailed (W.state sink.old) (W.state sink.new)) }
     {
-        for numbered in lines {
+        let mut lines = lines;
+        lines.reverse();
+        while let Some(numbered) = take_last(&mut lines) {
             self.write_line(&numbered.1, block, sink)?;
         }
         Ok(())

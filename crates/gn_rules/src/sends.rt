@@ -11,8 +11,8 @@ use std::marker::Model;
 #[derive(Debug, Drop)]
 pub struct Sending<A: Allocator = Global> {
     pub to: ConnId,
-    pub packet: Descriptor<A>,
     pub queued: bool,
+    pub packet: Descriptor<A>,
 }
 
 /// The packets that a reply sends, in order.

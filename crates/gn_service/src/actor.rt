@@ -5,9 +5,15 @@ ghost use Rattle.gn_rules.specs.declared.receipt.Receipt.{Receipt};
 ghost use Rattle.gn_service.specs.ActorState.{new_actor};
 
 use gn_rules::{Receipt, Reply};
-use std::alloc::{Allocator, Global};
+use std::alloc::{AllocError, Allocator, Global};
 use std::marker::Model;
 use std::sync::ledger::{Ledger, Share};
+
+/// For how many receipts room is made at first.
+const FEW: usize = 64;
+
+/// For how many receipts room is made at once at least, after the first.
+const ROOM: usize = 2048;
 
 /// One of the callers of a router, with the receipts of its calls. Its share of the ledger is their number.
 ///
@@ -64,6 +70,19 @@ impl<L: Ledger, A: Allocator> Actor<L, A> {
         ensures { (rs : List (Receipt A)) (r : Receipt A) → self.now.receipts ≡ rs ++ r ∷ [] → result.now ≡ r.reply }
     {
         &self.receipts[self.receipts.len() - 1].reply
+    }
+
+    /// Makes room for the next receipt, where there is none, and for many more: it is called before the lock is taken. An `Err`
+    /// is out of memory.
+    pub(crate) fn make_room(&mut self) -> Result<(), AllocError>
+        ensures { self.new ≡ self.old }
+    {
+        let len = self.receipts.len();
+        if len < self.receipts.capacity() {
+            return Ok(());
+        }
+        let more = if len < FEW { FEW } else { len.max(ROOM) };
+        self.receipts.reserve(more)
     }
 
     /// Its share of the ledger: how many receipts it has.

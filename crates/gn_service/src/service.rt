@@ -59,6 +59,7 @@ impl<C: RouterCore<A> + Drop, L: Ledger, A: Allocator + Copy> Service<C, L, A> {
             (λ _. HasReceipt event.now me.old me.new)
             (λ refusal. (refuses event.now refusal ≡ true) × (me.new ≡ me.old)) }
     {
+        me.make_room()?;
         let Answered { answer, wakes } = self.lock(rt).call_answered(me, event);
         self.wake(wakes);
         answer
@@ -76,6 +77,7 @@ impl<C: RouterCore<A> + Drop, L: Ledger, A: Allocator + Copy> Service<C, L, A> {
             (λ _. HasReceipt (Route ticket) me.old me.new)
             (λ refusal. (refuses {A = A} (Route ticket) refusal ≡ true) × (me.new ≡ me.old)) }
     {
+        me.make_room()?;
         let Answered { answer, wakes } = self.lock(rt).route_answered(me, ticket, checked);
         self.wake(wakes);
         answer
@@ -88,6 +90,7 @@ impl<C: RouterCore<A> + Drop, L: Ledger, A: Allocator + Copy> Service<C, L, A> {
             (λ _. HasReceipt Connect me.old me.new)
             (λ refusal. (refuses {A = A} Connect refusal ≡ true) × (me.new ≡ me.old)) }
     {
+        me.make_room()?;
         let Answered { answer, wakes } = self.lock(rt).connect_answered(me, link);
         self.wake(wakes);
         answer
@@ -107,6 +110,7 @@ impl<C: RouterCore<A> + Drop, L: Ledger, A: Allocator + Copy> Service<C, L, A> {
     {
         let mut has_yielded = false;
         for _ in rt.forever() {
+            me.make_room()?;
             let mut hub = self.lock(rt);
             let Answered { answer, wakes } = hub.next_answered(me, c);
             self.wake(wakes);

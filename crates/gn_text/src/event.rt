@@ -1,12 +1,39 @@
 //! Events.
+#![tactic(auto, using(crate::proofs::KeptLemmas::kept))]
 
-ghost use Rattle.std.specs.Prelude.{◌≡◌, ◌++◌, OnOk, OnErr};
+ghost use Rattle.std.specs.Prelude.{◌≡◌, ◌++◌, length, take, OnOk, OnErr};
 ghost use Rattle.gn_text.specs.Steps.{event_text};
 
-use crate::packet::push_with_packet;
-use crate::part::{Part, push_parts};
+use crate::packet::push_packet;
+use crate::push::push_named;
 use gn_rules::Event;
+use gn_wire::whole_or_none;
 use std::alloc::{AllocError, Allocator};
+
+/// Appends an event. An `Err` is out of memory, and leaves what stood there before as it was.
+fn write_event<A: Allocator, B: Allocator>(
+    out: &mut Vec<u8, B>,
+    event: &Event<A>,
+) -> Result<(), AllocError>
+    ensures ok { OnOk result (out.new.items ≡ out.old.items ++ event_text event.now) }
+    ensures err { OnErr result (take (length out.old.items) out.new.items ≡ out.old.items) }
+{
+    match event {
+        Event::Connect => out.extend_from_slice(b"connect"),
+        Event::Close(c) => push_named(out, b"close ", *c),
+        Event::Admit(c, packet) => {
+            push_named(out, b"admit ", *c)?;
+            out.extend_from_slice(b" ")?;
+            push_packet(out, packet)
+        }
+        Event::Route(ticket) => push_named(out, b"route ", *ticket),
+        Event::Take(c) => push_named(out, b"take ", *c),
+        Event::Originate(packet) => {
+            out.extend_from_slice(b"originate ")?;
+            push_packet(out, packet)
+        }
+    }
+}
 
 /// Appends an event as it stands before the `=` of a step's line. An `Err` is out of memory, and changes nothing.
 pub(crate) fn push_event<A: Allocator, B: Allocator>(
@@ -16,16 +43,7 @@ pub(crate) fn push_event<A: Allocator, B: Allocator>(
     ensures ok { OnOk result (out.new.items ≡ out.old.items ++ event_text event.now) }
     ensures err { OnErr result (out.new.items ≡ out.old.items) }
 {
-    match event {
-        Event::Connect => push_parts(out, &[Part::Word(b"connect")]),
-        Event::Close(c) => push_parts(out, &[Part::Word(b"close "), Part::Number(*c)]),
-        Event::Admit(c, packet) => push_with_packet(
-            out,
-            &[Part::Word(b"admit "), Part::Number(*c), Part::Word(b" ")],
-            packet,
-        ),
-        Event::Route(ticket) => push_parts(out, &[Part::Word(b"route "), Part::Number(*ticket)]),
-        Event::Take(c) => push_parts(out, &[Part::Word(b"take "), Part::Number(*c)]),
-        Event::Originate(packet) => push_with_packet(out, &[Part::Word(b"originate ")], packet),
-    }
+    let start = out.len();
+    let written = write_event(out, event);
+    whole_or_none(out, start, written)
 }

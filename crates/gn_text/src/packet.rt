@@ -2,42 +2,25 @@
 #![tactic(auto, using(crate::proofs::KeptLemmas::kept))]
 
 ghost use Rattle.std.specs.Prelude.{◌≡◌, ◌+◌, ◌-◌, ◌≤◌, ◌++◌, codes, decimal, length, slice_range, take, IfSome, OnOk, OnErr};
-ghost use Rattle.gn_text.specs.Parts.{parts_text};
 ghost use Rattle.gn_text.specs.Steps.{mark_text, packet_text, sends_text};
 
-use crate::part::{Part, push_parts};
+use crate::push::{push_hex, push_named};
 use gn_rules::Sending;
 use gn_wire::{Descriptor, whole_or_none, write_header};
 use std::alloc::{AllocError, Allocator};
 
-/// Appends a descriptor's header and then its payload. An `Err` is out of memory, and changes nothing.
-#[tactic(auto, using(crate::proofs::HexLemmas::joined))]
-fn push_packet<A: Allocator, B: Allocator>(
+/// Appends a descriptor's header and then its payload, in hex digits. An `Err` is out of memory, and changes nothing.
+#[tactic(auto, using(crate::proofs::HexLemmas::joined, crate::proofs::KeptLemmas::kept))]
+pub(crate) fn push_packet<A: Allocator, B: Allocator>(
     out: &mut Vec<u8, B>,
     packet: &Descriptor<A>,
 ) -> Result<(), AllocError>
     ensures ok { OnOk result (out.new.items ≡ out.old.items ++ packet_text packet.now) }
     ensures err { OnErr result (out.new.items ≡ out.old.items) }
 {
-    let header = write_header(&packet.header());
-    push_parts(
-        out,
-        &[Part::Hex(&header), Part::Hex(packet.payload().as_slice())],
-    )
-}
-
-/// Appends some parts and then a descriptor. An `Err` is out of memory, and changes nothing.
-pub(crate) fn push_with_packet<A: Allocator, B: Allocator>(
-    out: &mut Vec<u8, B>,
-    parts: &[Part],
-    packet: &Descriptor<A>,
-) -> Result<(), AllocError>
-    ensures ok { OnOk result (out.new.items ≡ out.old.items ++ (parts_text parts.now ++ packet_text packet.now)) }
-    ensures err { OnErr result (out.new.items ≡ out.old.items) }
-{
     let start = out.len();
-    push_parts(out, parts)?;
-    let written = push_packet(out, packet);
+    push_hex(out, &write_header(&packet.header()))?;
+    let written = push_hex(out, packet.payload().as_slice());
     whole_or_none(out, start, written)
 }
 
@@ -90,6 +73,12 @@ fn write_next<A: Allocator, B: Allocator>(
     }
 }
 
+fn mark_name(queued: bool) -> &'static [u8]
+    ensures { result.now ≡ mark_text queued }
+{
+    if queued { b"+" } else { b"-" }
+}
+
 /// Appends the connection and the mark of a send. An `Err` is out of memory, and changes nothing.
 fn push_target<A: Allocator, B: Allocator>(
     out: &mut Vec<u8, B>,
@@ -98,18 +87,14 @@ fn push_target<A: Allocator, B: Allocator>(
     ensures ok { OnOk result (out.new.items ≡ out.old.items ++ (codes " " ++ decimal sending.now.to ++ mark_text sending.now.queued)) }
     ensures err { OnErr result (out.new.items ≡ out.old.items) }
 {
-    push_parts(
-        out,
-        &[
-            Part::Word(b" "),
-            Part::Number(sending.to),
-            Part::Word(if sending.queued { b"+" } else { b"-" }),
-        ],
-    )
+    let start = out.len();
+    push_named(out, b" ", sending.to)?;
+    let written = out.extend_from_slice(mark_name(sending.queued));
+    whole_or_none(out, start, written)
 }
 
 /// Appends the sends. An `Err` is out of memory, and leaves what stood there before as it was.
-fn write_sends<A: Allocator, B: Allocator>(
+pub(crate) fn write_sends<A: Allocator, B: Allocator>(
     out: &mut Vec<u8, B>,
     sends: &[Sending<A>],
 ) -> Result<(), AllocError>
@@ -126,31 +111,4 @@ fn write_sends<A: Allocator, B: Allocator>(
         place = (start, out.len());
     }
     Ok(())
-}
-
-fn push_sends<A: Allocator, B: Allocator>(
-    out: &mut Vec<u8, B>,
-    sends: &[Sending<A>],
-) -> Result<(), AllocError>
-    ensures ok { OnOk result (out.new.items ≡ out.old.items ++ sends_text sends.now) }
-    ensures err { OnErr result (out.new.items ≡ out.old.items) }
-{
-    let start = out.len();
-    let written = write_sends(out, sends);
-    whole_or_none(out, start, written)
-}
-
-/// Appends some parts and then the sends. An `Err` is out of memory, and changes nothing.
-pub(crate) fn push_with_sends<A: Allocator, B: Allocator>(
-    out: &mut Vec<u8, B>,
-    parts: &[Part],
-    sends: &[Sending<A>],
-) -> Result<(), AllocError>
-    ensures ok { OnOk result (out.new.items ≡ out.old.items ++ (parts_text parts.now ++ sends_text sends.now)) }
-    ensures err { OnErr result (out.new.items ≡ out.old.items) }
-{
-    let start = out.len();
-    push_parts(out, parts)?;
-    let written = push_sends(out, sends);
-    whole_or_none(out, start, written)
 }

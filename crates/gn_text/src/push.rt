@@ -3,6 +3,7 @@
 ghost use Rattle.std.specs.Prelude.{◌≡◌, ◌<◌, ◌*◌, ◌++◌, decimal, length, slice_index, OnErr, OnOk};
 ghost use Rattle.hex.specs.Hex.{encode_lower, lower_digits};
 
+use gn_wire::whole_or_none;
 use itoa::Buffer;
 use std::alloc::{AllocError, Allocator};
 
@@ -18,6 +19,25 @@ pub fn push_number<B: Allocator>(out: &mut Vec<u8, B>, number: u32) -> Result<()
     }
     let mut buffer = Buffer::new();
     out.extend_from_slice(buffer.format(number).as_bytes())
+}
+
+/// Appends letters as they stand and then a number. An `Err` is out of memory, and changes nothing.
+///
+/// It is inlined, so that letters which are known where it is called are written without a call.
+#[inline(always)]
+#[tactic(auto, using(crate::proofs::KeptLemmas::kept))]
+pub(crate) fn push_named<B: Allocator>(
+    out: &mut Vec<u8, B>,
+    name: &[u8],
+    number: u32,
+) -> Result<(), AllocError>
+    ensures ok { OnOk result (out.new.items ≡ out.old.items ++ (name.now ++ decimal number)) }
+    ensures err { OnErr result (out.new.items ≡ out.old.items) }
+{
+    let start = out.len();
+    out.extend_from_slice(name)?;
+    let written = push_number(out, number);
+    whole_or_none(out, start, written)
 }
 
 /// The hex digit of lower case that says a number below 16.

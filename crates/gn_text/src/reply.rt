@@ -1,12 +1,14 @@
 //! Replies.
+#![tactic(auto, using(crate::proofs::KeptLemmas::kept))]
 
-ghost use Rattle.std.specs.Prelude.{◌≡◌, ◌++◌, OnOk, OnErr};
+ghost use Rattle.std.specs.Prelude.{◌≡◌, ◌++◌, codes, length, take, OnOk, OnErr};
 ghost use Rattle.gn_text.specs.Steps.{place_text, reason_text, reply_text};
 
-use crate::packet::{push_with_packet, push_with_sends};
-use crate::part::{Part, push_parts};
+use crate::packet::{push_packet, write_sends};
+use crate::push::push_named;
 use crate::statistics::counter_name;
 use gn_rules::{Counter, DropReason, Reply};
+use gn_wire::whole_or_none;
 use std::alloc::{AllocError, Allocator};
 
 fn reason_name(reason: DropReason) -> &'static [u8]
@@ -15,10 +17,48 @@ fn reason_name(reason: DropReason) -> &'static [u8]
     counter_name(Counter::of_drop(reason))
 }
 
-fn place_name(local: bool) -> &'static [u8]
-    ensures { result.now ≡ place_text local }
+fn routed_name(local: bool) -> &'static [u8]
+    ensures { result.now ≡ codes "routed " ++ place_text local }
 {
-    if local { b"local" } else { b"away" }
+    if local {
+        b"routed local"
+    } else {
+        b"routed away"
+    }
+}
+
+/// Appends a reply. An `Err` is out of memory, and leaves what stood there before as it was.
+fn write_reply<A: Allocator, B: Allocator>(
+    out: &mut Vec<u8, B>,
+    reply: &Reply<A>,
+) -> Result<(), AllocError>
+    ensures ok { OnOk result (out.new.items ≡ out.old.items ++ reply_text reply.now) }
+    ensures err { OnErr result (take (length out.old.items) out.new.items ≡ out.old.items) }
+{
+    match reply {
+        Reply::Connected(c) => push_named(out, b"connected ", *c),
+        Reply::TooMany => out.extend_from_slice(b"toomany"),
+        Reply::Closed(count) => push_named(out, b"closed ", *count),
+        Reply::Admitted(t) => push_named(out, b"admitted ", *t),
+        Reply::Busy => out.extend_from_slice(b"busy"),
+        Reply::Crowded => out.extend_from_slice(b"crowded"),
+        Reply::Routed { sends, local } => {
+            out.extend_from_slice(routed_name(*local))?;
+            write_sends(out, sends.as_slice())
+        }
+        Reply::Dropped(reason) => {
+            out.extend_from_slice(b"dropped ")?;
+            out.extend_from_slice(reason_name(*reason))
+        }
+        Reply::Taken(packet) => {
+            out.extend_from_slice(b"taken ")?;
+            push_packet(out, packet)
+        }
+        Reply::Sent(sends) => {
+            out.extend_from_slice(b"sent")?;
+            write_sends(out, sends.as_slice())
+        }
+    }
 }
 
 /// Appends a reply as it stands after the `=` of a step's line. An `Err` is out of memory, and changes nothing.
@@ -29,23 +69,7 @@ pub fn push_reply<A: Allocator, B: Allocator>(
     ensures ok { OnOk result (out.new.items ≡ out.old.items ++ reply_text reply.now) }
     ensures err { OnErr result (out.new.items ≡ out.old.items) }
 {
-    match reply {
-        Reply::Connected(c) => push_parts(out, &[Part::Word(b"connected "), Part::Number(*c)]),
-        Reply::TooMany => push_parts(out, &[Part::Word(b"toomany")]),
-        Reply::Closed(count) => push_parts(out, &[Part::Word(b"closed "), Part::Number(*count)]),
-        Reply::Admitted(t) => push_parts(out, &[Part::Word(b"admitted "), Part::Number(*t)]),
-        Reply::Busy => push_parts(out, &[Part::Word(b"busy")]),
-        Reply::Crowded => push_parts(out, &[Part::Word(b"crowded")]),
-        Reply::Routed { sends, local } => push_with_sends(
-            out,
-            &[Part::Word(b"routed "), Part::Word(place_name(*local))],
-            sends.as_slice(),
-        ),
-        Reply::Dropped(reason) => push_parts(
-            out,
-            &[Part::Word(b"dropped "), Part::Word(reason_name(*reason))],
-        ),
-        Reply::Taken(packet) => push_with_packet(out, &[Part::Word(b"taken ")], packet),
-        Reply::Sent(sends) => push_with_sends(out, &[Part::Word(b"sent")], sends.as_slice()),
-    }
+    let start = out.len();
+    let written = write_reply(out, reply);
+    whole_or_none(out, start, written)
 }

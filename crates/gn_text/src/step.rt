@@ -6,7 +6,7 @@ ghost use Rattle.gn_rules.specs.declared.receipt.Step.{Step};
 ghost use Rattle.gn_text.specs.Steps.{step_text};
 
 use crate::event::push_event;
-use crate::part::{Part, push_parts};
+use crate::push::push_number;
 use crate::reply::push_reply;
 use gn_rules::{Event, Reply, Step};
 use gn_wire::whole_or_none;
@@ -22,7 +22,8 @@ fn write_step<A: Allocator, B: Allocator>(
         OnOk result (out.new.items ≡ out.old.items ++ step_text step) }
     ensures err { OnErr result (take (length out.old.items) out.new.items ≡ out.old.items) }
 {
-    push_parts(out, &[Part::Number(actor), Part::Word(b" ")])?;
+    push_number(out, actor)?;
+    out.extend_from_slice(b" ")?;
     push_event(out, event)?;
     out.extend_from_slice(b" = ")?;
     push_reply(out, reply)?;

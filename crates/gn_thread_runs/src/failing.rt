@@ -37,46 +37,47 @@ struct Left {
     is_right: bool,
 }
 
-/// How many of these steps are Admit events.
-fn admits(history: &[Step]) -> usize {
-    let is_admission = |step: &&Step| matches!(&step.event, Event::Admit(_, _));
-    history.iter().filter(is_admission).count()
-}
-
-/// Who made each Close event, in order.
-fn closers(alloc: Global, history: &[Step]) -> Result<Vec<u32>, Fail> {
-    let mut actors = Vec::new(alloc);
+/// How many of these steps are Admit events, and who made each Close event, in order.
+fn admits_and_closers(alloc: Global, history: &[Step]) -> Result<(usize, Vec<u32>), Fail> {
+    let mut admits = 0usize;
+    let mut closers = Vec::new(alloc);
     for step in history {
-        if let Event::Close(_) = &step.event {
-            actors.push(step.actor)?;
+        match &step.event {
+            Event::Admit(..) => admits = admits.wrapping_add(1),
+            Event::Close(_) => closers.push(step.actor)?,
+            _ => {}
         }
     }
-    Ok(actors)
+    Ok((admits, closers))
 }
 
-/// A router that has made these steps, where they are legal.
-fn replayed<C: RouterCore<Global> + Drop>(
-    alloc: Global,
-    config: &Config,
-    history: Vec<Step>,
-) -> Result<Option<C>, Fail> {
-    let mut core = C::make(alloc, config)?;
+/// Whether a router answers these steps, and makes them.
+fn is_replayed<C: RouterCore<Global>>(core: &mut C, history: Vec<Step>) -> Result<bool, Fail> {
     for step in history {
         let mut step = step;
         if !core.is_answered(&step) {
-            return Ok(None);
+            return Ok(false);
         }
         core.add(&mut step)?;
     }
-    Ok(Some(core))
+    Ok(true)
+}
+
+/// Whether one of the first so many connections is live.
+fn is_any_live<C: RouterCore<Global>>(core: &C, links: u32) -> bool {
+    for c in 1..=links {
+        if core.is_live(c) {
+            return true;
+        }
+    }
+    false
 }
 
 /// Whether these steps are legal, and none of the first so many connections is live after them.
 fn is_over(alloc: Global, config: &Config, history: Vec<Step>, links: u32) -> Result<bool, Fail> {
-    Ok(match replayed::<TableRouter>(alloc, config, history)? {
-        Some(core) => !(1..=links).any(|c| core.is_live(c)),
-        None => false,
-    })
+    let mut core = TableRouter::make(alloc, config)?;
+    let is_legal = is_replayed(&mut core, history)?;
+    Ok(is_legal && !is_any_live(&core, links))
 }
 
 /// What a run over links of these roles left, and the writer of the first.
@@ -94,10 +95,11 @@ fn left_of<Rd: Drop, W: Drop>(
     let count = links.len() as u32;
     links.truncate(1);
     let link = links.pop().ok_or("a link")?;
+    let (admits, closers) = admits_and_closers(alloc, history.as_slice())?;
     let left = Left {
         ends: (link.reader_end, link.writer_end),
-        admits: admits(history.as_slice()),
-        closers: closers(alloc, history.as_slice())?,
+        admits,
+        closers,
         is_right: is_over(alloc, config, history, count)? && !has_flaw,
     };
     Ok((left, link.writer))

@@ -63,24 +63,31 @@ fn count(kinds: &mut Kinds, step: &Step) {
     *kind = kind.saturating_add(1);
 }
 
-/// The kinds of the steps of a load by so many workers, whose history is legal.
-fn kinds_of_load<R: Threads + Wait + Sync + Abort + AllocGlobal>(
+/// The history that a load by so many workers writes.
+fn history_of<R: Threads + Wait + Sync>(
     rt: &R,
+    alloc: Global,
     head: &str,
     workers: u32,
-) -> Result<Kinds, Fail> {
-    let text = six_links(rt.alloc(), head)?;
+) -> Result<Vec<u8>, Fail> {
+    let text = six_links(alloc, head)?;
     let mut source = ReaderSource::new(text.as_bytes());
-    let mut sink = WriterSink::new(Vec::new(rt.alloc()));
-    load::<Global, TableRouter, _, _, _>(rt, rt.alloc(), workers, &mut source, &mut sink)?;
-    let history = sink.into_inner();
-    let mut source = ReaderSource::new(history.as_slice());
-    let mut sink = WriterSink::new(Vec::new(rt.alloc()));
-    let legality = audit::<Global, TableRouter, _, _>(rt.alloc(), &mut source, &mut sink)?;
-    assert_eq!(rt; legality, Legality::Legal);
-    let (_, steps) = read_history(rt.alloc(), &history)?;
-    let judged = format!(in rt.alloc(); "legal {}\n", steps.len())?;
-    assert_eq!(rt; sink.into_inner().as_slice(), judged.as_bytes());
+    let mut sink = WriterSink::new(Vec::new(alloc));
+    load::<Global, TableRouter, _, _, _>(rt, alloc, workers, &mut source, &mut sink)?;
+    Ok(sink.into_inner())
+}
+
+/// Whether an audit finds a history legal, and writes that it has so many steps.
+fn is_legal(alloc: Global, history: &[u8], steps: usize) -> Result<bool, Fail> {
+    let mut source = ReaderSource::new(history);
+    let mut sink = WriterSink::new(Vec::new(alloc));
+    let legality = audit::<Global, TableRouter, _, _>(alloc, &mut source, &mut sink)?;
+    let judged = format!(in alloc; "legal {steps}\n")?;
+    Ok(legality == Legality::Legal && sink.into_inner().as_slice() == judged.as_bytes())
+}
+
+/// How many of these steps are of each kind.
+fn kinds_of(steps: &[Step]) -> Kinds {
     let mut kinds = Kinds {
         connected: 0,
         admitted: 0,
@@ -90,17 +97,30 @@ fn kinds_of_load<R: Threads + Wait + Sync + Abort + AllocGlobal>(
         taken: 0,
         others: 0,
     };
-    for step in &steps {
+    for step in steps {
         count(&mut kinds, step);
     }
-    Ok(kinds)
+    kinds
+}
+
+/// The kinds of the steps of a load by so many workers, whose history is legal.
+fn kinds_of_load<R: Threads + Wait + Sync + Abort>(
+    rt: &R,
+    alloc: Global,
+    head: &str,
+    workers: u32,
+) -> Result<Kinds, Fail> {
+    let history = history_of(rt, alloc, head, workers)?;
+    let (_, steps) = read_history(alloc, history.as_slice())?;
+    assert!(rt; is_legal(alloc, history.as_slice(), steps.len())?);
+    Ok(kinds_of(steps.as_slice()))
 }
 
 #[test]
 fn six_links_of_a_hundred_pings(rt: HostRuntime) -> Result<(), Fail> {
     let head = "gnutella-capture 1\nconfig 8 1024 64 1024 1024 100000\n";
     for workers in [4, 64] {
-        let kinds = kinds_of_load(&rt, head, workers)?;
+        let kinds = kinds_of_load(&rt, rt.alloc(), head, workers)?;
         assert!(rt; kinds.taken >= 600 && kinds.taken <= 3600);
         let wanted = Kinds {
             connected: 6,
@@ -119,7 +139,7 @@ fn six_links_of_a_hundred_pings(rt: HostRuntime) -> Result<(), Fail> {
 #[test]
 fn six_links_of_which_none_crowds(rt: HostRuntime) -> Result<(), Fail> {
     let head = "gnutella-capture 3\nconfig 8 1024 64 1024 1024 100000 0 1\n";
-    let kinds = kinds_of_load(&rt, head, 64)?;
+    let kinds = kinds_of_load(&rt, rt.alloc(), head, 64)?;
     let wanted = Kinds {
         connected: 6,
         crowded: 600u32.saturating_sub(kinds.admitted),

@@ -41,15 +41,39 @@ fn worked<R: Threads + Wait + Sync>(rt: &R, alloc: Global) -> Result<Steps, Fail
     })
 }
 
-/// A step of an actor, and its receipt.
-fn step(
+/// Adds a step of an actor to a history, and gives its receipt.
+fn add(
     alloc: Global,
+    history: &mut Vec<Step>,
     index: u32,
     actor: u32,
     event: Event,
     reply: Reply,
-) -> Result<(Step, Receipt), Fail> {
-    Ok(Step::with_receipt(alloc, index, actor, &event, reply)?)
+) -> Result<Receipt, Fail> {
+    let (step, receipt) = Step::with_receipt(alloc, index, actor, &event, reply)?;
+    history.push(step)?;
+    Ok(receipt)
+}
+
+/// Adds a step of the reader, and its receipt.
+fn read(
+    alloc: Global,
+    steps: &mut Steps,
+    index: u32,
+    event: Event,
+    reply: Reply,
+) -> Result<(), Fail> {
+    let receipt = add(alloc, &mut steps.history, index, 0, event, reply)?;
+    steps.reader.push(receipt)?;
+    Ok(())
+}
+
+/// The reader connects, admits a Ping and closes.
+fn read_a_ping(alloc: Global, steps: &mut Steps) -> Result<(), Fail> {
+    let admit = Event::Admit(1, ping(0xa1, 7, 0)?);
+    read(alloc, steps, 0, Event::Connect, Reply::Connected(1))?;
+    read(alloc, steps, 1, admit, Reply::Admitted(0))?;
+    read(alloc, steps, 2, Event::Close(1), Reply::Closed(0))
 }
 
 /// The report of these steps, with these ends.
@@ -102,8 +126,15 @@ fn a_changed_part_of_the_worked_run_names_its_actor(rt: HostRuntime) -> Result<(
 #[test]
 fn the_house_is_named_for_a_stranger(rt: HostRuntime) -> Result<(), Fail> {
     let mut steps = worked(&rt, rt.alloc())?;
-    let (stranger, _) = step(rt.alloc(), 5, 4, Event::Connect, Reply::Connected(2))?;
-    steps.history.push(stranger)?;
+    let history = &mut steps.history;
+    add(
+        rt.alloc(),
+        history,
+        5,
+        4,
+        Event::Connect,
+        Reply::Connected(2),
+    )?;
     let strange = report(rt.alloc(), steps, ReaderEnd::Bytes, WriterEnd::Drained)?;
     assert_eq!(rt; strange.flaw(&[Role::Plain]), Some(3));
     Ok(())
@@ -112,21 +143,13 @@ fn the_house_is_named_for_a_stranger(rt: HostRuntime) -> Result<(), Fail> {
 #[test]
 fn the_house_is_named_for_a_ticket(rt: HostRuntime) -> Result<(), Fail> {
     let alloc = rt.alloc();
-    let connect = step(alloc, 0, 0, Event::Connect, Reply::Connected(1))?;
-    let admit = step(
-        alloc,
-        1,
-        0,
-        Event::Admit(1, ping(0xa1, 7, 0)?),
-        Reply::Admitted(0),
-    )?;
-    let close = step(alloc, 2, 0, Event::Close(1), Reply::Closed(0))?;
-    let steps = Steps {
-        history: vec![in alloc; connect.0, admit.0, close.0]?,
-        reader: vec![in alloc; connect.1, admit.1, close.1]?,
+    let mut steps = Steps {
+        history: Vec::new(alloc),
+        reader: Vec::new(alloc),
         writer: Vec::new(alloc),
         worker: Vec::new(alloc),
     };
+    read_a_ping(alloc, &mut steps)?;
     let unrouted = report(alloc, steps, ReaderEnd::ReadFailed, WriterEnd::Closed)?;
     assert_eq!(rt; unrouted.flaw(&[Role::Plain]), Some(3));
     Ok(())

@@ -33,6 +33,25 @@ fn pings(alloc: Global, link: u8, count: u8) -> Result<Vec<u8>, Fail> {
 }
 
 /// What a run over the table router gives, of at most 256 links.
+pub(crate) fn run_of<K: Link, G: Gate + Sync, R: Threads + Wait + Sync>(
+    rt: &R,
+    alloc: Global,
+    config: &Config,
+    links: Vec<K>,
+    workers: u32,
+    gate: &G,
+) -> Result<Report<K::Reader, K::Writer>, RunFault>
+where
+    K::Reader: Send,
+    K::Writer: Send,
+{
+    if links.len() > 256 {
+        return Err(RunFault::NoMemory);
+    }
+    run::<TableRouter, _, _, _, _>(rt, alloc, config, links, workers, gate)
+}
+
+/// The same with a history of at most 100,000 steps.
 pub(crate) fn table_run<K: Link, G: Gate + Sync, R: Threads + Wait + Sync>(
     rt: &R,
     alloc: Global,
@@ -47,10 +66,7 @@ where
     let Ok(config) = Config::new(8, 1024, 64, 1024, 1024, 100_000, 0, 0, OWN) else {
         return Err(RunFault::NoMemory);
     };
-    if links.len() > 256 {
-        return Err(RunFault::NoMemory);
-    }
-    run::<TableRouter, _, _, _, _>(rt, alloc, &config, links, workers, gate)
+    run_of(rt, alloc, &config, links, workers, gate)
 }
 
 /// How many receipts all actors of a run have.
@@ -66,19 +82,32 @@ fn receipts_of<Rd, W>(report: &Report<Rd, W>) -> usize {
     count
 }
 
+/// Six links of a hundred Pings each.
+fn six_links(alloc: Global) -> Result<Vec<MemoryLink>, Fail> {
+    let mut links = Vec::new(alloc);
+    for number in 0..6u8 {
+        let bytes = pings(alloc, number, 100)?;
+        links.push(MemoryLink::new(Role::Plain, bytes, 4096))?;
+    }
+    Ok(links)
+}
+
+/// Whether a run has two workers of 300 receipts each.
+fn are_even<Rd, W>(report: &Report<Rd, W>) -> bool {
+    for receipts in &report.workers {
+        if receipts.len() != 300 {
+            return false;
+        }
+    }
+    report.workers.len() == 2
+}
+
 #[test]
 fn two_workers_meet(rt: HostRuntime) -> Result<(), Fail> {
     let meeting = Meeting::new();
-    let mut links = Vec::new(rt.alloc());
-    for number in 0..6u8 {
-        let bytes = pings(rt.alloc(), number, 100)?;
-        links.push(MemoryLink::new(Role::Plain, bytes, 4096))?;
-    }
+    let links = six_links(rt.alloc())?;
     let report = a_report(table_run(&rt, rt.alloc(), links, 2, &meeting))?;
-    assert_eq!(rt; report.workers.len(), 2);
-    for receipts in &report.workers {
-        assert_eq!(rt; receipts.len(), 300);
-    }
+    assert!(rt; are_even(&report));
     assert_eq!(rt; receipts_of(&report), report.history.len());
     assert_eq!(rt; meeting.begun(), (300, 300));
     assert!(rt; !meeting.is_missed.load(Ordering::SeqCst));
@@ -106,17 +135,18 @@ fn writes_fail_on_their_own_link(rt: HostRuntime) -> Result<(), Fail> {
     Ok(())
 }
 
-/// Two links of ten Pings each, read byte by byte, whose readers meet.
+/// Two links of so many Pings each, read byte by byte, whose readers meet; or that can't be split, where they have no meeting.
 fn paced_links<'a>(
     alloc: Global,
-    meeting: &'a Meeting,
+    pings_of_each: u8,
+    meetings: [Option<&'a Meeting>; 2],
 ) -> Result<Vec<PacedLink<'a, MemoryLink>>, Fail> {
     let mut links = Vec::new(alloc);
-    for number in [0u8, 1] {
-        let link = MemoryLink::new(Role::Plain, pings(alloc, number, 10)?, 1);
+    for (number, meeting) in (0u8..).zip(meetings) {
+        let link = MemoryLink::new(Role::Plain, pings(alloc, number, pings_of_each)?, 1);
         links.push(PacedLink {
             link,
-            meeting: Some(meeting),
+            meeting,
             is_first: number == 0,
         })?;
     }
@@ -126,7 +156,7 @@ fn paced_links<'a>(
 #[test]
 fn two_readers_meet(rt: HostRuntime) -> Result<(), Fail> {
     let meeting = Meeting::new();
-    let links = paced_links(rt.alloc(), &meeting)?;
+    let links = paced_links(rt.alloc(), 10, [Some(&meeting); 2])?;
     let report = a_report(table_run(&rt, rt.alloc(), links, 1, &NoGate))?;
     assert_eq!(rt; report.stats.routed, 20);
     // ten Pings of 23 bytes, and the read that finds no more, on both sides alike: nobody waits for one that has ended
@@ -138,16 +168,7 @@ fn two_readers_meet(rt: HostRuntime) -> Result<(), Fail> {
 #[test]
 fn a_link_that_cannot_be_split_is_named(rt: HostRuntime) -> Result<(), Fail> {
     let meeting = Meeting::new();
-    let mut links = Vec::new(rt.alloc());
-    for meeting in [Some(&meeting), None] {
-        let link = MemoryLink::new(Role::Plain, Vec::new(rt.alloc()), 1);
-        let is_first = meeting.is_some();
-        links.push(PacedLink {
-            link,
-            meeting,
-            is_first,
-        })?;
-    }
+    let links = paced_links(rt.alloc(), 0, [Some(&meeting), None])?;
     let ran = table_run(&rt, rt.alloc(), links, 1, &NoGate);
     assert_eq!(rt; ran.err(), Some(RunFault::Link(1)));
     Ok(())

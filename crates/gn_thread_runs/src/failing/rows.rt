@@ -3,13 +3,13 @@
 use super::endless::EndlessLink;
 use super::slow::SlowLink;
 use super::{Left, READER, WRITER, run_over};
+use crate::runs::run_of;
 use gn_bodies::{ReaderEnd, WriterEnd};
 use gn_fixtures::{OWN_PONG, PING, usual};
 use gn_links::{MemoryLink, NoGate};
-use gn_router::TableRouter;
 use gn_rules::Config;
 use gn_shake::{Role, consent, request};
-use gn_threads::{RunFault, run};
+use gn_threads::RunFault;
 use std::alloc::{AllocError, Global};
 use std::sync::Wait;
 use std::test::Fail;
@@ -248,18 +248,21 @@ fn a_link_without_end_is_closed(rt: HostRuntime) -> Result<(), Fail> {
     Ok(())
 }
 
-/// A plain link of these bytes.
-fn plain(alloc: Global, bytes: &[u8]) -> Result<MemoryLink, AllocError> {
-    Ok(MemoryLink::new(Role::Plain, bytes.to_vec(alloc)?, 1))
+/// Whether a run of two plain links of these bytes, of three steps at most, finds its history full.
+fn is_full<R: Threads + Wait + Sync>(rt: &R, alloc: Global, bytes: &[u8]) -> Result<bool, Fail> {
+    let config = usual(3)?;
+    let mut links = Vec::new(alloc);
+    for _ in 0..2 {
+        links.push(MemoryLink::new(Role::Plain, bytes.to_vec(alloc)?, 1))?;
+    }
+    let ran = run_of(rt, alloc, &config, links, 1, &NoGate);
+    Ok(matches!(ran, Err(RunFault::HistoryFull)))
 }
 
 #[test]
 fn two_links_need_more_than_three_steps(rt: HostRuntime) -> Result<(), Fail> {
-    let (alloc, config) = (rt.alloc(), usual(3)?);
     for bytes in [b"".as_slice(), PING] {
-        let links = vec![in alloc; plain(alloc, bytes)?, plain(alloc, bytes)?]?;
-        let ran = run::<TableRouter, _, _, _, _>(&rt, alloc, &config, links, 1, &NoGate);
-        assert!(rt; matches!(ran, Err(RunFault::HistoryFull)));
+        assert!(rt; is_full(&rt, rt.alloc(), bytes)?);
     }
     Ok(())
 }

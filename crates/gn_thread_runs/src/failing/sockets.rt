@@ -1,17 +1,13 @@
 //! Runs over sockets whose peers reset, shut a half, send a byte at a time or never read, row by row.
 
 use super::{Left, READER, WRITER, left_of};
+use crate::serves::{hears, run_within};
 use crate::wanted::{a_listener, a_report};
 use gn_bodies::{ReaderEnd, WriterEnd};
 use gn_fixtures::{OWN_PONG, PING, usual};
-use gn_links::NoGate;
-use gn_router::TableRouter;
 use gn_rules::Config;
-use gn_run::Report;
-use gn_serve::{Serving, serve_on};
+use gn_serve::Serving;
 use gn_shake::{Role, consent, request};
-use gn_tcp::{TcpReader, TcpWriter};
-use gn_threads::RunFault;
 use std::alloc::{AllocError, Global};
 use std::io::{Read, Write};
 use std::net::{Net, Shutdown, SocketAddr, TcpListener, TcpStream};
@@ -20,8 +16,6 @@ use std::test::Fail;
 use std::thread::Threads;
 use std::time::{Clock, Duration};
 use std::{io, thread};
-
-type Served = Result<Report<TcpReader<'static>, TcpWriter>, RunFault>;
 
 /// What a peer does, the first with its greeting, the others once they have sent it.
 #[derive(Clone, Copy)]
@@ -104,6 +98,9 @@ const ROWS: [Row; 5] = [
     },
 ];
 
+/// The most steps of each run.
+const STEPS_OF_ALL: u32 = 100_000;
+
 /// A client that has greeted, and has heard that it may come in; but it hasn't read that yet.
 fn greeted<N: Net<Listener = TcpListener, Stream = TcpStream>>(
     net: &N,
@@ -114,14 +111,6 @@ fn greeted<N: Net<Listener = TcpListener, Stream = TcpStream>>(
     client.write_all(request())?;
     client.peek(&mut [0u8; 1])?;
     Ok(client)
-}
-
-/// Whether exactly these bytes come next.
-fn hears(client: &mut TcpStream, bytes: &[u8]) -> io::Result<bool> {
-    let mut heard = [0u8; 64];
-    let n = bytes.len().min(64);
-    client.read_exact(&mut heard[..n])?;
-    Ok(&heard[..n] == bytes)
 }
 
 /// Sends its greeting so slowly that it is refused before that is whole.
@@ -248,35 +237,6 @@ fn play<N: Clock + Net<Listener = TcpListener, Stream = TcpStream>>(
     }
 }
 
-/// A run over the table router with one worker and at most two clients.
-fn serve<R: Threads + Wait + Net<Listener = TcpListener, Stream = TcpStream> + Clock + Sync>(
-    rt: &R,
-    alloc: Global,
-    listener: &TcpListener,
-    config: &Config,
-    accept: u32,
-    idle: Option<u64>,
-) -> Served {
-    if accept > 2 {
-        return Err(RunFault::BadWorkers);
-    }
-    let serving = Serving {
-        idle: idle.map(Duration::from_secs),
-        ..Serving::UNLIMITED
-    };
-    serve_on::<TableRouter, _, _, _>(
-        rt,
-        alloc,
-        listener,
-        config,
-        accept,
-        &[],
-        &serving,
-        1,
-        &NoGate,
-    )
-}
-
 /// What the run of a row left, where its clients heard what they had to.
 fn over<R: Threads + Wait + Clock + Net<Listener = TcpListener, Stream = TcpStream> + Sync>(
     rt: &R,
@@ -288,11 +248,16 @@ fn over<R: Threads + Wait + Clock + Net<Listener = TcpListener, Stream = TcpStre
     let at = listener.local_addr()?;
     let payload = payload(alloc)?;
     let (listener, payload) = (&listener, &payload);
-    let (peer, clients, idle) = (row.peer, row.clients, row.idle);
+    let (peer, clients) = (row.peer, row.clients);
+    let serving = Serving {
+        idle: row.idle.map(Duration::from_secs),
+        ..Serving::UNLIMITED
+    };
+    let serving = &serving;
     let (good, served) = thread::join(
         rt,
         move || play(rt, at, peer, payload.as_slice()).ok(),
-        move || serve(rt, alloc, listener, config, clients, idle),
+        move || run_within(rt, alloc, listener, STEPS_OF_ALL, clients, &[], serving),
     );
     if good != Some(true) {
         return Err(Fail::from("what a client heard"));
@@ -315,7 +280,7 @@ fn is_found(left: &Left, row: &Row) -> bool {
 
 #[test]
 fn each_peer_leaves_what_it_must(rt: HostRuntime) -> Result<(), Fail> {
-    let config = usual(100_000)?;
+    let config = usual(STEPS_OF_ALL)?;
     for (number, row) in ROWS.iter().enumerate() {
         let left = over(&rt, rt.alloc(), &config, row)?;
         assert!(rt; is_found(&left, row), "row {number}");

@@ -1,13 +1,13 @@
-use Rattle.std.proofs.Common.{◌∙◌, arith, refl}
-use Rattle.std.specs.Vec.Iter.{into_iter_items}
-use Rattle.gn_replay.proofs.RunLemmas.{on_err, running_done, running_more, running_part, running_start}
+use Rattle.std.proofs.Common.{◌∙◌, ap, length, refl, reverse}
+use Rattle.std.proofs.lemmas.List.{reverse-reverse}
+use Rattle.gn_replay.proofs.RunLemmas.{on_err, running_done, running_more, running_part, running_start, turned}
 use Rattle.gn_replay.proofs.playing.Play.pass_lines.Goals as goal
 
 pub loop-numbered-init : goal.loop-numbered-init
 loop-numbered-init g c = record {
   running =
       running_start c.args.self.now (g.W.Sink.state c.args.sink.now).written c.args.block.now c.args.lines.items
-      (into_iter_items c.into_iter-numbered-iterator.result) c.into_iter-numbered-iterator.ensures.into_iter_gives.0
+      (reverse c.reverse.new.self.items) (rw c.reverse.ensures.items (reverse-reverse c.args.lines.items))
       (record { past = c.requires.new.past; links = c.requires.new.links; refusals = c.requires.new.refusals }) c.requires.empty;
   unfailed = (refl, refl);
 }
@@ -17,7 +17,7 @@ returns-in_err-write_line-clause-err g c =
     on_err c.from_residual.result
     (running_part c.args.self.now.settings c.loop-numbered.self (g.W.Sink.state c.args.sink.now).written (g.W.Sink.state c.loop-numbered.sink).written (g.W.Sink.state c.write_line.new.sink).written
     c.loop-numbered.block c.write_line.new.block
-    c.in-Some.numbered.0 c.in-Some.numbered.1 (into_iter_items c.next.new.self) c.args.lines.items (rw c.in-Some.ensures.steps.0 at c.loop-numbered.invariant.running)
+    c.in-Some.numbered.0 c.in-Some.numbered.1 (reverse c.take_last.new.lines.items) c.args.lines.items (rw (turned c.loop-numbered.lines.items c.take_last.new.lines.items c.in-Some.numbered c.in-Some.ensures) at c.loop-numbered.invariant.running)
     c.in_err-write_line.ensures.err)
 
 pub loop-numbered-preserved-in_ok-write_line : goal.loop-numbered-preserved-in_ok-write_line
@@ -25,7 +25,7 @@ loop-numbered-preserved-in_ok-write_line g c = record {
   running =
       running_more c.args.self.now.settings c.loop-numbered.self c.write_line.new.self (g.W.Sink.state c.args.sink.now).written (g.W.Sink.state c.loop-numbered.sink).written (g.W.Sink.state c.write_line.new.sink).written
       c.loop-numbered.block c.write_line.new.block
-      c.in-Some.numbered.0 c.in-Some.numbered.1 (into_iter_items c.next.new.self) c.args.lines.items (rw c.in-Some.ensures.steps.0 at c.loop-numbered.invariant.running)
+      c.in-Some.numbered.0 c.in-Some.numbered.1 (reverse c.take_last.new.lines.items) c.args.lines.items (rw (turned c.loop-numbered.lines.items c.take_last.new.lines.items c.in-Some.numbered c.in-Some.ensures) at c.loop-numbered.invariant.running)
       c.in_ok-write_line.ensures.ok;
   unfailed =
       (c.in_ok-write_line.ensures.writes.0 ∙ c.loop-numbered.invariant.unfailed.0, c.in_ok-write_line.ensures.writes.1 ∙ c.loop-numbered.invariant.unfailed.1);
@@ -36,7 +36,7 @@ loop-numbered-preserved-in_ok-write_line-2 g c = record {
   running =
       running_more c.args.self.now.settings c.loop-numbered.self c.write_line.new.self (g.W.Sink.state c.args.sink.now).written (g.W.Sink.state c.loop-numbered.sink).written (g.W.Sink.state c.write_line.new.sink).written
       c.loop-numbered.block c.write_line.new.block
-      c.in-Some.numbered.0 c.in-Some.numbered.1 (into_iter_items c.next.new.self) c.args.lines.items (rw c.in-Some.ensures.steps.0 at c.loop-numbered.invariant.running)
+      c.in-Some.numbered.0 c.in-Some.numbered.1 (reverse c.take_last.new.lines.items) c.args.lines.items (rw (turned c.loop-numbered.lines.items c.take_last.new.lines.items c.in-Some.numbered c.in-Some.ensures) at c.loop-numbered.invariant.running)
       c.in_ok-write_line.ensures.ok;
   unfailed =
       (c.in_ok-write_line.ensures.writes.0 ∙ c.loop-numbered.invariant.unfailed.0, c.in_ok-write_line.ensures.writes.1 ∙ c.loop-numbered.invariant.unfailed.1);
@@ -47,7 +47,7 @@ loop-numbered-preserved g c = record {
   running =
       running_more c.args.self.now.settings c.loop-numbered.self c.write_line.new.self (g.W.Sink.state c.args.sink.now).written (g.W.Sink.state c.loop-numbered.sink).written (g.W.Sink.state c.write_line.new.sink).written
       c.loop-numbered.block c.write_line.new.block
-      c.in-Some.numbered.0 c.in-Some.numbered.1 (into_iter_items c.next.new.self) c.args.lines.items (rw c.in-Some.ensures.steps.0 at c.loop-numbered.invariant.running)
+      c.in-Some.numbered.0 c.in-Some.numbered.1 (reverse c.take_last.new.lines.items) c.args.lines.items (rw (turned c.loop-numbered.lines.items c.take_last.new.lines.items c.in-Some.numbered c.in-Some.ensures) at c.loop-numbered.invariant.running)
       c.in_ok-write_line.ensures.ok;
   unfailed =
       (c.in_ok-write_line.ensures.writes.0 ∙ c.loop-numbered.invariant.unfailed.0, c.in_ok-write_line.ensures.writes.1 ∙ c.loop-numbered.invariant.unfailed.1);
@@ -56,5 +56,5 @@ loop-numbered-preserved g c = record {
 pub returns-clause-ok : goal.returns-clause-ok
 returns-clause-ok g c =
     running_done c.args.self.now.settings c.loop-numbered.self (g.W.Sink.state c.args.sink.now).written (g.W.Sink.state c.loop-numbered.sink).written c.loop-numbered.block
-    (into_iter_items c.loop-numbered.numbered-iterator) c.args.lines.items (omega (arith, c.loop-numbered.numbered-iterator.rest.ok, c.in-None.ensures.steps))
+    (reverse c.loop-numbered.lines.items) c.args.lines.items (ap (λ xs. length (reverse xs)) c.in_default.ensures)
     c.loop-numbered.invariant.running

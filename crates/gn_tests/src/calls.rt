@@ -1,0 +1,144 @@
+//! What only calls can ask of a router.
+
+use bytes::Bytes;
+use gn_fixtures::{OWN, ping, usual};
+use gn_payload::Checked;
+use gn_plain::PlainRouter;
+use gn_router::TableRouter;
+use gn_rules::{Config, Event, Refusal, RouterCore};
+use gn_wire::{Descriptor, Guid, Kind};
+use std::alloc::Global;
+use std::process::Abort;
+use std::test::Fail;
+
+fn pong(alloc: Global) -> Result<Descriptor, Fail> {
+    let payload = Bytes::copy_from_slice(alloc, &[1; 14])?;
+    let pong = Descriptor::new(Guid([0xd1; 16]), Kind::Pong, 5, 0, payload);
+    Ok(pong.map_err(|_| "a Pong")?)
+}
+
+/// Whether the router answers an event with a step.
+fn is_made<C: RouterCore<Global>>(core: &mut C, event: &Event) -> bool {
+    core.apply(0, event).is_ok()
+}
+
+/// Whether the first ticket isn't routed with this Ping, as it is another than was admitted.
+fn is_strange<C: RouterCore<Global>>(core: &mut C, packet: Descriptor) -> bool {
+    matches!(
+        core.route(0, 0, &Checked::new(packet)),
+        Err(Refusal::Strange)
+    )
+}
+
+/// Whether this packet isn't originated.
+fn is_bad_origin<C: RouterCore<Global>>(core: &mut C, packet: Descriptor) -> bool {
+    matches!(
+        core.apply(0, &Event::Originate(packet)),
+        Err(Refusal::BadOrigin)
+    )
+}
+
+/// Whether a connection is made, and a Ping admitted.
+fn are_made<C: RouterCore<Global>>(core: &mut C) -> Result<bool, Fail> {
+    let admit = Event::Admit(1, ping(0xa1, 7, 0)?);
+    Ok(is_made(core, &Event::Connect) && is_made(core, &admit))
+}
+
+/// Whether a ticket isn't routed with another descriptor than was admitted, one with the same ID among them.
+fn are_strange<C: RouterCore<Global>>(core: &mut C) -> Result<bool, Fail> {
+    let other_id = is_strange(core, ping(0xa2, 7, 0)?);
+    let other_ttl = is_strange(core, ping(0xa1, 6, 0)?);
+    Ok(other_id && other_ttl)
+}
+
+/// Whether neither a Pong is originated, nor a Ping that has made a hop.
+fn are_bad_origins<C: RouterCore<Global>>(alloc: Global, core: &mut C) -> Result<bool, Fail> {
+    let pong = is_bad_origin(core, pong(alloc)?);
+    let late = is_bad_origin(core, ping(0xd1, 5, 1)?);
+    Ok(pong && late)
+}
+
+/// A router refuses those after its first two steps, and they leave none.
+fn refuses<C: RouterCore<Global> + Drop, R: Abort + AllocGlobal>(rt: &R) -> Result<(), Fail> {
+    let alloc = rt.alloc();
+    let mut core = C::make(alloc, &usual(100)?)?;
+    assert!(rt; are_made(&mut core)?);
+    assert!(rt; are_strange(&mut core)?);
+    assert!(rt; are_bad_origins(alloc, &mut core)?);
+    assert!(rt; core.history().len() == 2);
+    Ok(())
+}
+
+#[test]
+fn refusals_by_call(rt: HostRuntime) -> Result<(), Fail> {
+    refuses::<TableRouter, _>(&rt)?;
+    refuses::<PlainRouter, _>(&rt)
+}
+
+/// An event. A Ping is named by the byte that its ID repeats.
+#[derive(Clone, Copy)]
+enum Ask {
+    Connect,
+    Admit(u32, u8),
+    Close(u32),
+    Route(u32),
+}
+
+/// Whether the router admits a Ping of this byte.
+fn admits<C: RouterCore<Global>>(core: &mut C, c: u32, byte: u8) -> Result<bool, Fail> {
+    let admit = Event::Admit(c, ping(byte, 7, 0)?);
+    Ok(is_made(core, &admit))
+}
+
+/// Whether the router answers what is asked with a step.
+fn is_met<C: RouterCore<Global>>(core: &mut C, ask: Ask) -> Result<bool, Fail> {
+    match ask {
+        Ask::Connect => Ok(is_made(core, &Event::Connect)),
+        Ask::Admit(c, byte) => admits(core, c, byte),
+        Ask::Close(c) => Ok(is_made(core, &Event::Close(c))),
+        Ask::Route(ticket) => Ok(is_made(core, &Event::Route(ticket))),
+    }
+}
+
+/// Events, and what is in flight of the first connection and of the second after each.
+const ASKS: [(Ask, (u32, u32)); 10] = [
+    (Ask::Connect, (0, 0)),
+    (Ask::Connect, (0, 0)),
+    (Ask::Admit(1, 0xa1), (1, 0)),
+    (Ask::Admit(2, 0xa2), (1, 1)),
+    (Ask::Admit(1, 0xa3), (2, 1)),
+    (Ask::Admit(1, 0xa4), (2, 1)),
+    (Ask::Close(1), (2, 1)),
+    (Ask::Route(0), (1, 1)),
+    (Ask::Route(1), (1, 0)),
+    (Ask::Route(2), (0, 0)),
+];
+
+/// Whether the router makes each of those events, and has so much in flight then.
+fn are_counted<C: RouterCore<Global>>(core: &mut C) -> Result<bool, Fail> {
+    for (ask, counts) in &ASKS {
+        if !is_met(core, *ask)? || (core.flights_of(1), core.flights_of(2)) != *counts {
+            return Ok(false);
+        }
+    }
+    Ok(true)
+}
+
+/// What is in flight of a connection is counted after it closes too, and no other's is.
+fn counts_flights<C: RouterCore<Global> + Drop, R: Abort + AllocGlobal>(
+    rt: &R,
+) -> Result<(), Fail> {
+    let Ok(config) = Config::new(4, 8, 4, 8, 8, 100, 0, 2, OWN) else {
+        return Err(Fail::from("a configuration"));
+    };
+    let mut core = C::make(rt.alloc(), &config)?;
+    assert!(rt; are_counted(&mut core)?);
+    assert!(rt; core.stats().crowded == 1 && core.flights_of(9) == 0);
+    Ok(())
+}
+
+#[test]
+fn flights_of_each_connection(rt: HostRuntime) -> Result<(), Fail> {
+    counts_flights::<TableRouter, _>(&rt)?;
+    counts_flights::<PlainRouter, _>(&rt)
+}

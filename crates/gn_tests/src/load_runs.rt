@@ -1,0 +1,124 @@
+//! The links of the worked runs, run by many threads.
+
+use crate::answer_runs::ANSWER_RUNS;
+use crate::link_runs::LINK_RUNS;
+use crate::request_runs::REQUEST_RUNS;
+use crate::run::{Run, capture_text};
+use gn_capture::{Capture, Line, read_capture};
+use gn_legal::legal;
+use gn_links::{MemoryLink, NoGate};
+use gn_router::TableRouter;
+use gn_rules::{Config, Legality};
+use gn_shake::Role;
+use gn_threads::run;
+use std::alloc::{AllocError, Global};
+use std::process::Abort;
+use std::sync::Wait;
+use std::test::Fail;
+use std::thread::Threads;
+
+/// The bytes that the lines give to a link.
+fn bytes_of(alloc: Global, lines: &[(u64, Line)], number: u32) -> Result<Vec<u8>, AllocError> {
+    let mut all = Vec::new(alloc);
+    for (_, line) in lines {
+        if let Line::Piece { link, bytes } = line {
+            if *link == number {
+                all.extend_from_slice(bytes.as_slice())?;
+            }
+        }
+    }
+    Ok(all)
+}
+
+/// The links that the lines make, each with all its bytes, 4,096 at a time, or one by one.
+fn links_of(
+    alloc: Global,
+    lines: &[(u64, Line)],
+    is_cut: bool,
+) -> Result<Vec<MemoryLink>, AllocError> {
+    let mut links = Vec::new(alloc);
+    let mut number = 0u32;
+    for (_, line) in lines {
+        let role = match line {
+            Line::Join => Role::Plain,
+            Line::Greeted => Role::Accepting,
+            _ => continue,
+        };
+        number = number.saturating_add(1);
+        let bytes = bytes_of(alloc, lines, number)?;
+        let piece = if is_cut { 1 } else { 4096 };
+        links.push(MemoryLink::new(role, bytes, piece))?;
+    }
+    Ok(links)
+}
+
+/// The capture of a run.
+fn capture_of(alloc: Global, row: &Run) -> Result<Capture, Fail> {
+    let text = capture_text(alloc, row.numbers, row.capture)?;
+    match read_capture(alloc, text.as_bytes()) {
+        Ok(capture) => Ok(capture),
+        Err(_) => Err(Fail::from(row.name)),
+    }
+}
+
+/// Whether so many links have a report, with a legal history.
+fn is_legal_run<R: Threads + Wait + Sync>(
+    rt: &R,
+    alloc: Global,
+    config: &Config,
+    links: Vec<MemoryLink>,
+    workers: u32,
+) -> bool {
+    if links.len() > 256 {
+        return false;
+    }
+    match run::<TableRouter, _, _, _, _>(rt, alloc, config, links, workers, &NoGate) {
+        Ok(report) => legal(config, report.history.as_slice()) == Legality::Legal,
+        Err(_) => false,
+    }
+}
+
+/// Whether the links of a run have a report, with a legal history.
+fn is_run<R: Threads + Wait + Sync>(
+    rt: &R,
+    alloc: Global,
+    row: &Run,
+    workers: u32,
+    is_cut: bool,
+) -> Result<bool, Fail> {
+    let capture = capture_of(alloc, row)?;
+    let links = links_of(alloc, capture.lines.as_slice(), is_cut)?;
+    Ok(is_legal_run(rt, alloc, &capture.config, links, workers))
+}
+
+/// A run with few and with many workers, and its bytes one by one.
+fn all_run<R: Threads + Wait + Sync + Abort>(
+    rt: &R,
+    alloc: Global,
+    rows: &[Run],
+) -> Result<(), Fail> {
+    for row in rows {
+        // three connects alone fill that history
+        if row.name == "history_full" {
+            continue;
+        }
+        for (workers, is_cut) in [
+            (1, false),
+            (1, true),
+            (2, false),
+            (2, true),
+            (16, false),
+            (16, true),
+        ] {
+            assert!(rt; is_run(rt, alloc, row, workers, is_cut)?, "{}", row.name);
+        }
+    }
+    Ok(())
+}
+
+#[test]
+fn rows_run(rt: HostRuntime) -> Result<(), Fail> {
+    all_run(&rt, rt.alloc(), &REQUEST_RUNS)?;
+    all_run(&rt, rt.alloc(), &LINK_RUNS)?;
+    all_run(&rt, rt.alloc(), &ANSWER_RUNS)
+}

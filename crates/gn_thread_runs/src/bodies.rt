@@ -1,0 +1,228 @@
+//! The bodies of one link, called in turn on one thread.
+
+ghost use Rattle.std.specs.Prelude.{◌≡◌, [], IfSome};
+ghost use Rattle.gn_links.specs.Halves.{IsNewReader, IsNewWriter};
+
+mod fakes;
+mod jobs;
+mod ways_out;
+mod worked;
+
+use fakes::Doorman;
+use gn_bodies::{
+    BodyFault, ReaderEnd, WriterDone, WriterEnd, reader_body, worker_body, writer_body,
+};
+use gn_fixtures::{ping, usual};
+use gn_links::{Link, LinkReader, LinkWriter, MemoryLink, MemoryWriter};
+use gn_router::TableRouter;
+use gn_rules::{RouterCore, Step};
+use gn_service::{Actor, Door, Hub, Service};
+use gn_shake::Role;
+use gn_stage::{Intake, Job, Outlet, Site, Stage};
+use std::alloc::Global;
+use std::marker::Brand;
+use std::sync::Wait;
+use std::sync::ledger::{Blank, Ledger};
+
+/// The number by which the worker passes the gate.
+const WORKER: u32 = 5;
+
+/// The last of these actors, where it has this number and no receipts.
+fn last_actor<L: Ledger>(actors: &mut Vec<Actor<L>>, number: u32) -> Option<Actor<L>>
+    ensures { IfSome result (λ actor. (actor.number ≡ number) × (actor.receipts ≡ [])) }
+{
+    let actor = actors.pop()?;
+    if actor.number() == number && actor.receipts().is_empty() {
+        Some(actor)
+    } else {
+        None
+    }
+}
+
+/// The actors of a run of one link and one worker.
+#[derive(Drop)]
+struct Actors<L: Ledger> {
+    reader: Actor<L>,
+    writer: Actor<L>,
+    worker: Actor<L>,
+}
+
+/// The reader, the writer, the worker and the house, but for the last of them, where they have these numbers and no receipts.
+fn actors_of<L: Ledger>(actors: Vec<Actor<L>>) -> Option<Actors<L>>
+    ensures reader { IfSome result (λ all. (all.reader.number ≡ 0) × (all.reader.receipts ≡ [])) }
+    ensures writer { IfSome result (λ all. (all.writer.number ≡ 1) × (all.writer.receipts ≡ [])) }
+    ensures worker { IfSome result (λ all. (all.worker.number ≡ 2) × (all.worker.receipts ≡ [])) }
+{
+    let mut actors = actors;
+    let _house = actors.pop();
+    let worker = last_actor(&mut actors, 2)?;
+    let writer = last_actor(&mut actors, 1)?;
+    let reader = last_actor(&mut actors, 0)?;
+    Some(Actors {
+        reader,
+        writer,
+        worker,
+    })
+}
+
+/// What the bodies of one link gave back, who passed the gate last with which ticket, how many admissions and steps and which
+/// ends the gate learned of, and what they left of the run.
+#[derive(Drop)]
+struct Ran<W: LinkWriter> {
+    read: Result<ReaderEnd, BodyFault>,
+    worked: Result<(), BodyFault>,
+    passed: Option<(u32, u32)>,
+    admitted: u32,
+    counted: u32,
+    ended: (bool, bool),
+    wrote: Result<WriterEnd, BodyFault>,
+    writer: W,
+    history: Vec<Step>,
+    door: Door,
+    is_closing: bool,
+    has_failed: bool,
+}
+
+/// What a run of one link is like: the most steps of its history, and the ticket of a job that waits in its queue and that
+/// nobody admitted.
+#[derive(Clone, Copy)]
+struct Setting {
+    steps: u32,
+    forged: Option<u32>,
+}
+
+const USUAL: Setting = Setting {
+    steps: 100,
+    forged: None,
+};
+
+/// What a gate and a hub know once all bodies have returned, with what those gave back.
+fn what_ran<C, L: Ledger, W: LinkWriter>(
+    gate: &Doorman,
+    hub: Hub<C, L>,
+    read: Result<ReaderEnd, BodyFault>,
+    worked: Result<(), BodyFault>,
+    wrote: WriterDone<W, L>,
+) -> Ran<W>
+where
+    C: RouterCore<Global> + Drop,
+{
+    Ran {
+        read,
+        worked,
+        passed: gate.last.get(),
+        admitted: gate.admitted.get(),
+        counted: gate.steps.get(),
+        ended: gate.ended.get(),
+        wrote: wrote.end,
+        writer: wrote.writer,
+        door: hub.door(0),
+        is_closing: hub.closing(),
+        has_failed: hub.failed(),
+        history: hub.into_router().into_history(),
+    }
+}
+
+/// The reader, the worker and the writer of one link, one after the other.
+fn in_turn<C, S: Site, L: Ledger, Rd: LinkReader, W: LinkWriter, R: Wait>(
+    rt: &R,
+    alloc: Global,
+    service: Service<C, L>,
+    actors: Actors<L>,
+    intake: Intake<S>,
+    outlet: Outlet<S>,
+    role: Role,
+    reader: Rd,
+    writer: W,
+) -> Ran<W>
+where
+    C: RouterCore<Global> + Drop,
+    requires reading { (actors.reader.number ≡ 0) × (actors.reader.receipts ≡ []) }
+    requires writing { (actors.writer.number ≡ 1) × (actors.writer.receipts ≡ []) }
+    requires working { (actors.worker.number ≡ 2) × (actors.worker.receipts ≡ []) }
+    requires reader { IsNewReader (Rd.bytes_read reader) (Rd.failures reader) (Rd.pieces reader) (Rd.has_ended reader) }
+    requires writer { IsNewWriter (W.bytes_written writer) (W.failures writer) (W.is_stuck writer)
+        (W.is_finished writer) }
+{
+    let Actors {
+        reader: a,
+        writer: w,
+        worker: k,
+    } = actors;
+    let gate = Doorman::new();
+    let read = reader_body(rt, alloc, &service, &gate, a, 0, role, reader, intake).end;
+    let worked = worker_body(rt, &service, k, WORKER, &gate, outlet).end;
+    let wrote = writer_body(rt, alloc, &service, &gate, w, 0, role, writer);
+    what_ran(&gate, service.into_hub(), read, worked, wrote)
+}
+
+/// Puts a job of a Ping that nobody admitted, where the setting has one.
+fn forge<S: Site, R: Wait>(rt: &R, intake: &mut Intake<S>, forged: Option<u32>) {
+    if let (Some(ticket), Ok(descriptor)) = (forged, ping(0xa1, 7, 0)) {
+        let _ = intake.put(rt, Job { ticket, descriptor });
+    }
+}
+
+/// The only intake and the only outlet of a stage.
+fn ends_of<S: Site>(alloc: Global, stage: Stage) -> Option<(Intake<S>, Outlet<S>)>
+    requires { stage ≡ S.stage }
+{
+    let (mut ins, mut outs, _desk) = stage.ends::<S>(alloc, 1, 1).ok()?;
+    ins.pop().zip(outs.pop())
+}
+
+/// A service of one link and one worker that makes at most so many steps, with its actors.
+fn service_of<C, L: Ledger>(
+    alloc: Global,
+    blank: Blank,
+    steps: u32,
+    role: Role,
+) -> Option<(Service<C, L>, Actors<L>)>
+where
+    C: RouterCore<Global> + Drop,
+    requires name { blank.name ≡ L.name }
+    requires parts { (blank.parts ≡ L.parts) × (blank.parts ≡ 4) }
+    ensures reader { IfSome result (λ r. (r.1.reader.number ≡ 0) × (r.1.reader.receipts ≡ [])) }
+    ensures writer { IfSome result (λ r. (r.1.writer.number ≡ 1) × (r.1.writer.receipts ≡ [])) }
+    ensures worker { IfSome result (λ r. (r.1.worker.number ≡ 2) × (r.1.worker.receipts ≡ [])) }
+{
+    let config = usual(steps).ok()?;
+    let (service, actors) = Service::<C, L>::new(alloc, blank, &config, &[role], 1).ok()?;
+    Some((service, actors_of(actors)?))
+}
+
+/// The bodies of one memory link in turn, with the ends of a stage and the actors of a service of their own.
+fn in_stage<C, S: Site, L: Ledger, R: Wait>(
+    rt: &R,
+    alloc: Global,
+    blank: Blank,
+    stage: Stage,
+    setting: Setting,
+    link: MemoryLink,
+) -> Option<Ran<MemoryWriter>>
+where
+    C: RouterCore<Global> + Drop,
+    requires name { blank.name ≡ L.name }
+    requires parts { (blank.parts ≡ L.parts) × (blank.parts ≡ 4) }
+    requires stage { stage ≡ S.stage }
+{
+    let role = link.role();
+    let (mut intake, outlet) = ends_of::<S>(alloc, stage)?;
+    forge(rt, &mut intake, setting.forged);
+    let (service, actors) = service_of::<C, L>(alloc, blank, setting.steps, role)?;
+    let (reader, writer) = link.split().ok()?;
+    Some(in_turn(
+        rt, alloc, service, actors, intake, outlet, role, reader, writer,
+    ))
+}
+
+/// The bodies of one memory link in turn, over the table router.
+fn run_link<R: Wait>(
+    rt: &R,
+    alloc: Global,
+    setting: Setting,
+    link: MemoryLink,
+) -> Option<Ran<MemoryWriter>> {
+    let stage = Stage::new(alloc, 8).ok()?;
+    in_stage::<TableRouter, Brand, Brand, R>(rt, alloc, Blank::new(4), stage, setting, link)
+}

@@ -1,0 +1,61 @@
+//! Exits of a body that leave no step: what is shut, and what fails the run. Those that close have their rows with whole runs.
+
+use super::{Setting, USUAL, run_link};
+use gn_bodies::{BodyFault, ReaderEnd, WriterEnd};
+use gn_fixtures::PING;
+use gn_links::MemoryLink;
+use gn_service::Door;
+use gn_shake::{Role, request};
+use std::alloc::Global;
+use std::sync::Wait;
+use std::test::Fail;
+
+#[test]
+fn a_read_fails_in_the_greeting(rt: HostRuntime) -> Result<(), Fail> {
+    let bytes = request().to_vec(rt.alloc())?;
+    let link = MemoryLink::new(Role::Accepting, bytes, 1).failing(Some(22), None);
+    let ran = run_link(&rt, rt.alloc(), USUAL, link).ok_or("memory")?;
+    assert!(rt; ran.read == Ok(ReaderEnd::ReadFailed) && ran.wrote == Ok(WriterEnd::NeverOpened));
+    assert!(rt; ran.history.is_empty() && ran.door == Door::Shut && ran.is_closing);
+    Ok(())
+}
+
+/// How the reader, the worker and the writer end.
+type Ends = (
+    Result<ReaderEnd, BodyFault>,
+    Result<(), BodyFault>,
+    Result<WriterEnd, BodyFault>,
+);
+
+/// How the bodies of a link of one Ping end in a run of at most so many steps.
+fn ends_at(steps: u32) -> Ends {
+    let full = BodyFault::HistoryFull;
+    match steps {
+        1 => (Err(full), Ok(()), Ok(WriterEnd::Closed)),
+        2 => (Ok(ReaderEnd::Bytes), Err(full), Ok(WriterEnd::Closed)),
+        3 | 4 => (Ok(ReaderEnd::Bytes), Ok(()), Err(full)),
+        _ => (Ok(ReaderEnd::Bytes), Ok(()), Ok(WriterEnd::Drained)),
+    }
+}
+
+/// How they do end, whether the run has failed, and whether it closes.
+fn found_at<R: Wait>(rt: &R, alloc: Global, steps: u32) -> Result<(Ends, bool, bool), Fail> {
+    let link = MemoryLink::new(Role::Plain, PING.to_vec(alloc)?, 4096);
+    match run_link(rt, alloc, Setting { steps, ..USUAL }, link) {
+        Some(ran) => {
+            let ends = (ran.read, ran.worked, ran.wrote);
+            Ok((ends, ran.has_failed, ran.is_closing))
+        }
+        None => Err(Fail::from("memory")),
+    }
+}
+
+#[test]
+fn a_full_history_fails_the_run(rt: HostRuntime) -> Result<(), Fail> {
+    for steps in 1..6 {
+        let found = found_at(&rt, rt.alloc(), steps)?;
+        let wanted = (ends_at(steps), steps < 5, steps != 2);
+        assert!(rt; found == wanted, "at most {steps}");
+    }
+    Ok(())
+}

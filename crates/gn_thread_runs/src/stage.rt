@@ -1,0 +1,318 @@
+//! Runs of whole stages.
+
+ghost use Rattle.std.specs.Prelude.{◌≡◌, ◌<◌, ◌≤◌};
+
+use gn_fixtures::ping;
+use gn_stage::*;
+use std::alloc::{AllocError, Allocator, Global};
+use std::marker::Brand;
+use std::sync::Wait;
+use std::test::Fail;
+use std::thread;
+use std::thread::{JoinHandle, Threads};
+use std::time::{Clock, Duration};
+
+/// A Ping with this ticket.
+fn job<A: Allocator>(ticket: u32) -> Result<Job<A>, AllocError> {
+    match ping(0xa1, 7, 0) {
+        Ok(descriptor) => Ok(Job { ticket, descriptor }),
+        Err(_) => Err(AllocError),
+    }
+}
+
+/// What a settled stage says: how many jobs were put and taken, and the tickets that were drained.
+fn summary_of<A: Allocator>(
+    alloc: Global,
+    settled: &Settled<A>,
+) -> Result<(u64, u64, Vec<u32>), AllocError> {
+    let mut tickets = Vec::new(alloc);
+    for job in &settled.drained {
+        tickets.push(job.ticket)?;
+    }
+    Ok((settled.put, settled.taken, tickets))
+}
+
+/// Puts so many jobs, until one can't be.
+fn put_some<S: Site, R: Wait>(rt: &R, intake: &mut Intake<S>, first: u32, count: u32) {
+    for i in 0..count {
+        let Ok(job) = job(first.wrapping_add(i)) else {
+            return;
+        };
+        if intake.put(rt, job).is_err() {
+            return;
+        }
+    }
+}
+
+/// What is handed back of a stage that isn't settled by these ends.
+fn unsettled<S: Site, R: Wait>(
+    rt: &R,
+    alloc: Global,
+    desk: Desk<S>,
+    intake: IntakeHome<S>,
+    outlet: OutletHome<S>,
+) -> Result<Unsettled<S>, AllocError> {
+    let ins = vec![in alloc; intake]?;
+    let outs = vec![in alloc; outlet]?;
+    match desk.settle(rt, alloc, ins, outs) {
+        Ok(_) => Err(AllocError),
+        Err(back) => Ok(back),
+    }
+}
+
+/// What is settled of it once another intake has come home.
+fn settled_late<S: Site, R: Wait>(
+    rt: &R,
+    alloc: Global,
+    back: Unsettled<S>,
+    late: IntakeHome<S>,
+) -> Result<Settled, AllocError> {
+    let Unsettled {
+        fault: _,
+        desk,
+        mut intakes,
+        outlets,
+    } = back;
+    intakes.push(late)?;
+    match desk.settle(rt, alloc, intakes, outlets) {
+        Ok(settled) => Ok(settled),
+        Err(_) => Err(AllocError),
+    }
+}
+
+/// The ticket of a job, where there is one.
+fn ticket_of(job: Option<Job>) -> Option<u32> {
+    Some(job?.ticket)
+}
+
+/// Two jobs are put and one is taken. The second intake comes home late: the fault before it does, and what is settled then.
+fn one_thread<S: Site, R: Wait>(
+    rt: &R,
+    alloc: Global,
+    stage: Stage,
+) -> Result<(Option<u32>, StageFault, Settled), AllocError>
+    requires { stage ≡ S.stage }
+{
+    let (mut ins, mut outs, desk) = stage.ends::<S>(alloc, 2, 1)?;
+    let Some(((late, mut intake), mut outlet)) = ins.pop().zip(ins.pop()).zip(outs.pop()) else {
+        return Err(AllocError);
+    };
+    put_some(rt, &mut intake, 0, 2);
+    let first = ticket_of(outlet.take(rt));
+    let back = unsettled(rt, alloc, desk, intake.finish(), outlet.finish())?;
+    let fault = back.fault;
+    let settled = settled_late(rt, alloc, back, late.finish())?;
+    Ok((first, fault, settled))
+}
+
+fn in_one_thread<R: Wait>(
+    rt: &R,
+    alloc: Global,
+) -> Result<(Option<u32>, StageFault, Settled), AllocError> {
+    one_thread::<Brand, R>(rt, alloc, Stage::new(alloc, 2)?)
+}
+
+#[test]
+fn stage_settles(rt: HostRuntime) -> Result<(), Fail> {
+    let (first, fault, settled) = in_one_thread(&rt, rt.alloc())?;
+    let (put, taken, drained) = summary_of(rt.alloc(), &settled)?;
+    assert_eq!(rt; (first, fault), (Some(0), StageFault::Missing));
+    assert_eq!(rt; (put, taken), (2, 1));
+    assert_eq!(rt; drained.as_slice(), [1].as_slice());
+    Ok(())
+}
+
+fn put_all<S: Site, R: Wait>(
+    rt: &R,
+    mut intake: Intake<S>,
+    first: u32,
+    count: u32,
+) -> IntakeHome<S> {
+    put_some(rt, &mut intake, first, count);
+    intake.finish()
+}
+
+fn take_all<S: Site, R: Wait>(
+    rt: &R,
+    alloc: Global,
+    mut outlet: Outlet<S>,
+) -> (OutletHome<S>, Vec<u32>) {
+    let mut tickets = Vec::new(alloc);
+    for _ in rt.forever() {
+        let Some(job) = outlet.take(rt) else {
+            break;
+        };
+        if tickets.push(job.ticket).is_err() {
+            break;
+        }
+    }
+    (outlet.finish(), tickets)
+}
+
+/// What these threads give, in order.
+fn joined<T: Drop, R: Threads>(
+    rt: &R,
+    alloc: Global,
+    threads: Vec<JoinHandle<T>>,
+) -> Result<Vec<T>, AllocError> {
+    let mut all = Vec::new(alloc);
+    for thread in threads {
+        all.push(thread.join(rt))?;
+    }
+    Ok(all)
+}
+
+/// The outlets that came home, and all that they took.
+fn all_taken<S: Site>(
+    alloc: Global,
+    homes: Vec<(OutletHome<S>, Vec<u32>)>,
+) -> Result<(Vec<OutletHome<S>>, Vec<u32>), AllocError> {
+    let (mut outs, mut tickets) = (Vec::new(alloc), Vec::new(alloc));
+    for (home, taken) in homes {
+        tickets.extend_from_slice(taken.as_slice())?;
+        outs.push(home)?;
+    }
+    Ok((outs, tickets))
+}
+
+/// Settles a stage whose ends are these, where nothing is missing.
+fn settled<S: Site, R: Wait>(
+    rt: &R,
+    alloc: Global,
+    desk: Desk<S>,
+    ins: Vec<IntakeHome<S>>,
+    outs: Vec<OutletHome<S>>,
+) -> Result<Settled, AllocError> {
+    match desk.settle(rt, alloc, ins, outs) {
+        Ok(settled) => Ok(settled),
+        Err(_) => Err(AllocError),
+    }
+}
+
+/// The ends of a stage that came home, with what each outlet took.
+type Homes<S> = (Vec<IntakeHome<S>>, Vec<(OutletHome<S>, Vec<u32>)>);
+
+/// A thread for each end: each intake puts so many jobs, each outlet takes until there are no more. It gives what was
+/// taken, too.
+fn many_threads<S: Site + Send, R: Threads + Wait + Sync>(
+    rt: &R,
+    alloc: Global,
+    stage: Stage,
+    intakes: u32,
+    outlets: u32,
+    count: u32,
+) -> Result<(Vec<u32>, Settled), AllocError>
+    requires { stage ≡ S.stage }
+{
+    let (ins, outs, desk) = stage.ends::<S>(alloc, intakes, outlets)?;
+    let (ins, outs) = thread::scope(
+        thread::scope_env(),
+        rt,
+        |scope| -> Result<Homes<S>, AllocError> {
+            let mut taking = Vec::new(alloc);
+            for outlet in outs {
+                taking.push(scope.spawn(move || take_all(rt, alloc, outlet))?)?;
+            }
+            let mut putting = Vec::new(alloc);
+            let mut first = 0u32;
+            for intake in ins {
+                putting.push(scope.spawn(move || put_all(rt, intake, first, count))?)?;
+                first = first.wrapping_add(count);
+            }
+            Ok((joined(rt, alloc, putting)?, joined(rt, alloc, taking)?))
+        },
+    )?;
+    let (outs, tickets) = all_taken(alloc, outs)?;
+    Ok((tickets, settled(rt, alloc, desk, ins, outs)?))
+}
+
+/// How many jobs were put, taken and drained, and whether each ticket from 0 on is there once.
+fn counted<R: Threads + Wait + Sync>(
+    rt: &R,
+    alloc: Global,
+    capacity: usize,
+    intakes: u32,
+    outlets: u32,
+    count: u32,
+) -> Result<((u64, u64, usize), bool), AllocError>
+    requires { (0 < capacity) × (capacity ≤ 4096) }
+{
+    let stage = Stage::new(alloc, capacity)?;
+    let (mut tickets, settled) = many_threads::<Brand, R>(
+        rt, alloc, stage, intakes, outlets, count,
+    )?;
+    let (put, taken, drained) = summary_of(alloc, &settled)?;
+    tickets.extend_from_slice(drained.as_slice())?;
+    tickets.sort()?;
+    let are_in_order = tickets
+        .iter()
+        .enumerate()
+        .all(|(i, ticket)| *ticket as usize == i);
+    Ok(((put, taken, drained.len()), are_in_order))
+}
+
+#[test]
+fn each_job_is_there_once(rt: HostRuntime) -> Result<(), Fail> {
+    for (times, capacity, intakes, outlets, count, want) in [
+        (1, 2, 2, 2, 100, (200, 200, 0)),
+        (1, 1, 1, 1, 100, (100, 100, 0)),
+        (1, 4096, 0, 2, 100, (0, 0, 0)),
+        (1, 4096, 2, 0, 100, (0, 0, 0)),
+        (1, 4096, 0, 0, 100, (0, 0, 0)),
+        (100, 1, 7, 5, 10, (70, 70, 0)),
+    ] {
+        for _ in 0..times {
+            assert_eq!(rt;
+                counted(&rt, rt.alloc(), capacity, intakes, outlets, count)?,
+                (want, true)
+            );
+        }
+    }
+    Ok(())
+}
+
+/// Puts a job, and gives the ticket of the one that comes back.
+fn put_back<S: Site, R: Wait>(rt: &R, mut intake: Intake<S>) -> Option<u32> {
+    let second = job(1).ok()?;
+    ticket_of(intake.put(rt, second).err())
+}
+
+/// Finishes an outlet after a while.
+fn finish_late<S: Site, R: Clock>(rt: &R, outlet: Outlet<S>) -> OutletHome<S> {
+    thread::sleep(rt, Duration::from_millis(100));
+    outlet.finish()
+}
+
+/// A thread waits at a full queue of one while the only outlet finishes. It gives the ticket that came back.
+fn outlet_leaves<S: Site + Send, R: Threads + Wait + Sync + Clock>(
+    rt: &R,
+    alloc: Global,
+    stage: Stage,
+) -> Result<Option<u32>, AllocError>
+    requires { stage ≡ S.stage }
+{
+    let (mut ins, mut outs, _desk) = stage.ends::<S>(alloc, 1, 1)?;
+    let Some((mut intake, outlet)) = ins.pop().zip(outs.pop()) else {
+        return Err(AllocError);
+    };
+    put_some(rt, &mut intake, 0, 1);
+    let (back, _) = thread::join(
+        rt,
+        move || put_back(rt, intake),
+        move || finish_late(rt, outlet),
+    );
+    Ok(back)
+}
+
+fn left<R: Threads + Wait + Sync + Clock>(
+    rt: &R,
+    alloc: Global,
+) -> Result<Option<u32>, AllocError> {
+    outlet_leaves::<Brand, R>(rt, alloc, Stage::new(alloc, 1)?)
+}
+
+#[test]
+fn a_put_that_waits_gets_its_job_back(rt: HostRuntime) -> Result<(), Fail> {
+    assert_eq!(rt; left(&rt, rt.alloc())?, Some(1));
+    Ok(())
+}

@@ -1,4 +1,0 @@
-use Rattle.gn_thread_tests.proofs.hub.work_plain.Given as goal
-
-abbrev pub ghosts-work : goal.ghosts-work
-ghosts-work a = record { name = a.blank.name; parts = a.blank.parts }

@@ -1,4 +1,0 @@
-use Rattle.gn_thread_tests.proofs.service.hundred_plain.Given as goal
-
-abbrev pub ghosts-hundred : goal.ghosts-hundred
-ghosts-hundred g a = record { name = a.blank.name; parts = a.blank.parts }

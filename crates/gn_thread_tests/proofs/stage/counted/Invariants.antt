@@ -1,4 +1,0 @@
-use Rattle.gn_thread_tests.proofs.stage.counted.Given as goal
-
-abbrev pub ghosts-many_threads : goal.ghosts-many_threads
-ghosts-many_threads g a = record { stage = a.stage }

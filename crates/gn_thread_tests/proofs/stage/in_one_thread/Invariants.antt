@@ -1,4 +1,0 @@
-use Rattle.gn_thread_tests.proofs.stage.in_one_thread.Given as goal
-
-abbrev pub ghosts-one_thread : goal.ghosts-one_thread
-ghosts-one_thread g a = record { stage = a.stage }

@@ -1,4 +1,0 @@
-use Rattle.gn_thread_tests.proofs.stage.left.Given as goal
-
-abbrev pub ghosts-outlet_leaves : goal.ghosts-outlet_leaves
-ghosts-outlet_leaves g a = record { stage = a.stage }
