@@ -217,8 +217,8 @@ fn a_history_is_kept(rt: HostRuntime) -> Result<(), Fail> {
     Ok(())
 }
 
-/// How often the flooder sends at most.
-const FLOOD: u32 = 100_000;
+/// How often the flooder sends at most: far more than the buffers between it and the run take.
+const FLOOD: u32 = 1_000_000_000;
 
 /// A client that sends the same Ping again and again, until it is refused.
 fn floods<N: Net<Listener = TcpListener, Stream = TcpStream>>(
