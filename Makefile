@@ -42,13 +42,13 @@ examples: build
 test:
 	rt ci
 
-# What a call of each table takes; then, three times in a process of its own, what a job through the stage queue takes, and what a step
-# through the lock of 1, 4 and 16 threads: these go to standard error. Then tables of what the program gn takes: replays and audits of
-# mixed captures, and loads of 1, 2, 4 and 16 workers beside replays.
+# What a call of each table takes; then, three times in a process of its own, what a job through the stage queue takes: these go to
+# standard error. Then tables of what the program gn takes: replays and audits of mixed captures, and loads of 1, 2, 4 and 16 workers
+# beside replays.
 bench: build
 	scripts/build gn_bench
 	crates/gn_bench/out/gn_bench tables
-	for run in 1 2 3; do for part in stage hub; do crates/gn_bench/out/gn_bench $$part || exit 1; done; done
+	for run in 1 2 3; do crates/gn_bench/out/gn_bench stage || exit 1; done
 	scripts/bench_replay crates/gn/out/gn
 	scripts/bench_load crates/gn/out/gn
 

@@ -5,10 +5,9 @@ ghost use Rattle.gn_links.specs.Halves.{IsNewReader, IsNewWriter};
 
 use gn_bodies::{BodyFault, ReaderEnd, WriterEnd, reader_body, worker_body, writer_body};
 use gn_fixtures::{Heap, OWN_PONG, PING, Refused, Turn, Turns, growths, usual};
-use gn_legal::legal;
 use gn_links::{Link, LinkReader, LinkWriter, MemoryLink, MemoryWriter, NoGate};
 use gn_router::TableRouter;
-use gn_rules::{Legality, RouterCore};
+use gn_rules::RouterCore;
 use gn_service::{Actor, Service};
 use gn_shake::{Role, consent, request};
 use gn_stage::{Intake, Outlet, Site, Stage};
@@ -52,22 +51,28 @@ type Ends = (
     Result<WriterEnd, BodyFault>,
 );
 
-/// How many of them were out of memory. None where one has another fault.
-fn stopped(ends: Ends) -> Option<u32> {
-    let mut stopped = 0u32;
-    for fault in [ends.0.err(), ends.1.err(), ends.2.err()] {
-        match fault {
-            None => {}
-            Some(BodyFault::NoMemory) => stopped = stopped.saturating_add(1),
-            Some(_) => return None,
-        }
+/// How many a body that ended so adds to those that were out of memory. None where it has another fault.
+fn stopped<T: Copy>(end: Result<T, BodyFault>) -> Option<u32> {
+    match end {
+        Ok(_) => Some(0),
+        Err(BodyFault::NoMemory) => Some(1),
+        Err(_) => None,
     }
-    Some(stopped)
+}
+
+/// How many of them were out of memory. None where one has another fault.
+fn all_stopped(ends: Ends) -> Option<u32> {
+    match (stopped(ends.0), stopped(ends.1), stopped(ends.2)) {
+        (Some(reader), Some(worker), Some(writer)) => {
+            Some(reader.wrapping_add(worker).wrapping_add(writer))
+        }
+        _ => None,
+    }
 }
 
 /// Whether they ended well, having written the consent and the own Pong.
 fn are_done(ends: Ends, written: &[u8]) -> bool {
-    ends == (Ok(ReaderEnd::Bytes), Ok(()), Ok(WriterEnd::Drained))
+    matches!(ends, (Ok(ReaderEnd::Bytes), Ok(()), Ok(WriterEnd::Drained)))
         && written.strip_prefix(consent()) == Some(OWN_PONG)
 }
 
@@ -76,7 +81,7 @@ fn are_done(ends: Ends, written: &[u8]) -> bool {
 struct Left<W> {
     ends: Ends,
     writer: W,
-    /// A legal history, of as many steps as they have receipts.
+    /// A history of as many steps as they have receipts. That it is legal is proved.
     is_whole: bool,
     has_failed: bool,
     has_refused: bool,
@@ -95,7 +100,7 @@ impl<B: Allocator + Copy> Left<MemoryWriter<B>> {
                 Turn::Wrong
             };
         }
-        match (stopped(self.ends), refused) {
+        match (all_stopped(self.ends), refused) {
             (Some(1), Refused::Only(_)) | (Some(1..=3), Refused::From(_)) if self.has_failed =>
                 Turn::Refused,
             _ => Turn::Wrong,
@@ -172,15 +177,13 @@ where
     (done.end, done.actor.receipts().len(), done.writer)
 }
 
-/// Whether the history is legal and has so many steps, and whether the run has failed.
+/// Whether the history has so many steps, and whether the run has failed.
 fn outcome<A: Allocator + Copy, C: RouterCore<A> + Drop, L: Ledger>(
     service: Service<C, L, A>,
     steps: usize,
 ) -> (bool, bool) {
     let hub = service.into_hub();
-    let history = hub.router().history();
-    let is_legal = legal(hub.router().config(), history) == Legality::Legal;
-    (is_legal && history.len() == steps, hub.failed())
+    (hub.router().history().len() == steps, hub.failed())
 }
 
 /// What the bodies of one link are called with.
@@ -257,8 +260,8 @@ fn made_ready<A: Allocator + Copy, C: RouterCore<A> + Drop, L: Ledger, S: Site>(
     requires parts { (blank.parts ≡ L.parts) × (blank.parts ≡ 4) }
     requires stage { stage ≡ S.stage }
 {
-    let (intake, outlet) = both_ends(alloc, stage)?;
     let config = usual(100)?;
+    let (intake, outlet) = both_ends(alloc, stage)?;
     match Service::<C, L, A>::new(alloc, blank, &config, &[Role::Accepting], 1) {
         Ok((service, actors)) => Ok(Ready {
             service,

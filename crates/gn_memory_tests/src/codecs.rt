@@ -1,7 +1,8 @@
-//! What writes bytes, copies a descriptor, or puts descriptors together from pieces.
+//! What writes bytes, and what puts descriptors together from pieces.
 
+use crate::sweep::growths_of_calls;
 use bytes::Bytes;
-use gn_fixtures::{Call, Failure, Heap, OWN_PONG, growths_of_call};
+use gn_fixtures::{Call, Failure, Heap, OWN_PONG};
 use gn_frames::{FeedRefusal, Reassembler};
 use gn_payload::{
     HitResult, Pong, Push, WriteRefusal, write_hit, write_pong, write_push, write_query,
@@ -20,22 +21,39 @@ enum Written {
     QueryHit,
 }
 
-/// Each with its bytes and the growths that it meets: a descriptor grows for its header and for its payload.
-const WRITTEN: [(Written, &[u8], u64); 5] = [
-    (Written::OwnPong, OWN_PONG, 2),
-    (Written::Pong, b"\x01\0\x7f\0\0\x02\x01\0\0\0\x02\0\0\0", 1),
-    (
-        Written::Push,
-        b"\x5e\x5e\x5e\x5e\x5e\x5e\x5e\x5e\x5e\x5e\x5e\x5e\x5e\x5e\x5e\x5e\x01\0\0\0\x7f\0\0\x01\xca\x18",
-        1,
-    ),
-    (Written::Query, b"\0\0x\0", 1),
-    (
-        Written::QueryHit,
-        b"\x02\xca\x18\x7f\0\0\x02\x1c\0\0\0\x01\0\0\0\x0a\0\0\0a\0\0\x02\0\0\0\x14\0\0\0b\0z\0LIME\x5e\x5e\x5e\x5e\x5e\x5e\x5e\x5e\x5e\x5e\x5e\x5e\x5e\x5e\x5e\x5e",
-        1,
-    ),
+/// Appends to a vector that holds other bytes and is full.
+#[derive(Clone, Copy)]
+struct Writes {
+    written: Written,
+    /// What the vector holds then.
+    held: &'static [u8],
+}
+
+const WRITES: [Writes; 5] = [
+    Writes {
+        written: Written::OwnPong,
+        held: b"before\xa1\xa1\xa1\xa1\xa1\xa1\xa1\xa1\xa1\xa1\xa1\xa1\xa1\xa1\xa1\xa1\x01\x01\0\x0e\0\0\0\xca\x18\x7f\0\0\x01\x05\0\0\0\x28\0\0\0",
+    },
+    Writes {
+        written: Written::Pong,
+        held: b"before\x01\0\x7f\0\0\x02\x01\0\0\0\x02\0\0\0",
+    },
+    Writes {
+        written: Written::Push,
+        held: b"before\x5e\x5e\x5e\x5e\x5e\x5e\x5e\x5e\x5e\x5e\x5e\x5e\x5e\x5e\x5e\x5e\x01\0\0\0\x7f\0\0\x01\xca\x18",
+    },
+    Writes {
+        written: Written::Query,
+        held: b"before\0\0x\0",
+    },
+    Writes {
+        written: Written::QueryHit,
+        held: b"before\x02\xca\x18\x7f\0\0\x02\x1c\0\0\0\x01\0\0\0\x0a\0\0\0a\0\0\x02\0\0\0\x14\0\0\0b\0z\0LIME\x5e\x5e\x5e\x5e\x5e\x5e\x5e\x5e\x5e\x5e\x5e\x5e\x5e\x5e\x5e\x5e",
+    },
 ];
+
+/// The growths that each meets: a descriptor grows for its header and for its payload.
+const WRITTEN: [u64; 5] = [2, 1, 1, 1, 1];
 
 const SERVENT: Guid = Guid([0x5e; 16]);
 
@@ -92,13 +110,6 @@ impl Written {
     }
 }
 
-/// Appends to a vector that holds other bytes and is full.
-#[derive(Clone, Copy)]
-struct Writes {
-    written: Written,
-    bytes: &'static [u8],
-}
-
 impl<A: Allocator> Call<A> for Writes {
     type Subject = Vec<u8, A>;
 
@@ -121,49 +132,16 @@ impl<A: Allocator> Call<A> for Writes {
     }
 
     fn is_right(&self, out: &mut Vec<u8, A>, _answer: &()) -> bool {
-        out.len() == self.bytes.len().wrapping_add(6)
-            && out.starts_with(b"before")
-            && out.ends_with(self.bytes)
+        out.as_slice() == self.held
     }
 }
 
 #[test]
 fn what_is_written(rt: HostRuntime) -> Result<(), Fail> {
     let heap = Heap::new(rt.alloc());
-    for (written, bytes, wanted) in WRITTEN {
-        assert_eq!(rt;
-            growths_of_call(&heap, &heap, &Writes { written, bytes })?,
-            wanted,
-            "{bytes:?}"
-        );
-    }
+    let met = growths_of_calls(rt.alloc(), &heap, &heap, &WRITES)?;
+    assert_eq!(rt; met.as_slice(), WRITTEN.as_slice());
     Ok(())
-}
-
-/// Copies the own Pong: its payload is shared, and nothing grows.
-struct Copies;
-
-impl<A: Allocator + Copy> Call<A> for Copies {
-    type Subject = Descriptor<A>;
-
-    type Answer = Descriptor<A>;
-
-    fn subject(&self, alloc: A) -> Result<Descriptor<A>, Fail> {
-        let payload = Bytes::copy_from_slice(alloc, &OWN_PONG[23..])?;
-        Ok(Descriptor::new(Guid([0xa1; 16]), Kind::Pong, 1, 0, payload).map_err(|_| "a Pong")?)
-    }
-
-    fn make(&self, pong: &mut Descriptor<A>) -> Result<Descriptor<A>, Failure> {
-        pong.copy().map_err(|_| Failure::NoMemory)
-    }
-
-    fn is_unchanged(&self, pong: &Descriptor<A>, other: &Descriptor<A>) -> bool {
-        pong.is_same(other)
-    }
-
-    fn is_right(&self, pong: &mut Descriptor<A>, copied: &Descriptor<A>) -> bool {
-        copied.is_same(pong) && copied.payload().as_slice() == &OWN_PONG[23..]
-    }
 }
 
 /// A stream of a Ping, the same Ping, a Query and two Pings.
@@ -174,34 +152,33 @@ const STREAM: &[u8] = b"\
     \xa2\xa2\xa2\xa2\xa2\xa2\xa2\xa2\xa2\xa2\xa2\xa2\xa2\xa2\xa2\xa2\0\x07\0\0\0\0\0\
     \xa3\xa3\xa3\xa3\xa3\xa3\xa3\xa3\xa3\xa3\xa3\xa3\xa3\xa3\xa3\xa3\0\x07\0\0\0\0\0";
 
-/// A piece of the stream: where it ends, where the descriptors end that are whole then, and the growths that it meets.
-type Piece = (usize, usize, u64);
+/// Feeds one piece of the stream to a reassembler that has had those before it: where the piece begins and ends, and where the
+/// descriptors end that are whole before it and after it.
+#[derive(Clone, Copy)]
+struct Feeds(usize, usize, usize, usize);
 
 /// The Ping whole; then 22 bytes of it, and the last; the header of the Query, and its payload byte by byte; both Pings.
-const PIECES: [Piece; 9] = [
-    (23, 23, 3),
-    (45, 23, 3),
-    (46, 46, 4),
-    (69, 46, 3),
-    (70, 46, 1),
-    (71, 46, 0),
-    (72, 46, 0),
-    (73, 73, 3),
-    (119, 119, 3),
+const PIECES: [Feeds; 9] = [
+    Feeds(0, 23, 0, 23),
+    Feeds(23, 45, 23, 23),
+    Feeds(45, 46, 23, 46),
+    Feeds(46, 69, 46, 46),
+    Feeds(69, 70, 46, 46),
+    Feeds(70, 71, 46, 46),
+    Feeds(71, 72, 46, 46),
+    Feeds(72, 73, 46, 73),
+    Feeds(73, 119, 73, 119),
 ];
 
-/// Feeds one piece of the stream to a reassembler that has had those before it.
-#[derive(Clone, Copy)]
-struct Feeds {
-    before: Piece,
-    piece: Piece,
-}
+/// The growths that each meets.
+const FED: [u64; 9] = [3, 3, 4, 3, 1, 0, 0, 3, 3];
 
-/// A reassembler, and the allocator of what is compared with its answers.
+/// A reassembler, what it says is pending, and the allocator of what is compared with its answers.
 #[derive(Drop)]
 struct Feeding<A: Allocator> {
     alloc: A,
     frames: Reassembler<A>,
+    pending: usize,
 }
 
 /// The bytes of the stream from one place to another.
@@ -212,59 +189,54 @@ fn between(from: usize, to: usize) -> &'static [u8] {
 impl<A: Allocator + Copy> Call<A> for Feeds {
     type Subject = Feeding<A>;
 
-    /// The descriptors, and how many bytes are left, which is asked for beside them and takes no memory.
-    type Answer = (Vec<Descriptor<A>, A>, usize);
+    type Answer = Vec<Descriptor<A>, A>;
 
     fn subject(&self, alloc: A) -> Result<Feeding<A>, Fail> {
         let mut frames = Reassembler::new(alloc)?;
-        let mut start = 0;
-        for (end, _, _) in PIECES {
-            if end <= self.before.0 {
-                if frames.feed(between(start, end)).is_err() {
-                    return Err("the pieces before".into());
-                }
-                start = end;
+        for Feeds(from, to, _, _) in &PIECES {
+            if *to <= self.0 && frames.feed(between(*from, *to)).is_err() {
+                return Err("the pieces before".into());
             }
         }
-        Ok(Feeding { alloc, frames })
+        let pending = frames.pending();
+        Ok(Feeding {
+            alloc,
+            frames,
+            pending,
+        })
     }
 
-    fn make(&self, feeding: &mut Feeding<A>) -> Result<(Vec<Descriptor<A>, A>, usize), Failure> {
-        match feeding.frames.feed(between(self.before.0, self.piece.0)) {
-            Ok(fed) if fed.fault.is_none() => Ok((fed.descriptors, feeding.frames.pending())),
+    /// How many bytes are left is asked for beside the descriptors, and takes no memory.
+    fn make(&self, feeding: &mut Feeding<A>) -> Result<Vec<Descriptor<A>, A>, Failure> {
+        let answer = feeding.frames.feed(between(self.0, self.1));
+        feeding.pending = feeding.frames.pending();
+        match answer {
+            Ok(fed) if fed.fault.is_none() => Ok(fed.descriptors),
             Err(FeedRefusal::NoMemory) => Err(Failure::NoMemory),
             _ => Err(Failure::Other),
         }
     }
 
     fn is_unchanged(&self, feeding: &Feeding<A>, other: &Feeding<A>) -> bool {
-        feeding.frames.pending() == other.frames.pending()
+        feeding.pending == other.pending
     }
 
-    fn is_right(&self, feeding: &mut Feeding<A>, fed: &(Vec<Descriptor<A>, A>, usize)) -> bool {
+    fn is_right(&self, feeding: &mut Feeding<A>, descriptors: &Vec<Descriptor<A>, A>) -> bool {
         let mut encoded = Vec::new(feeding.alloc);
-        for descriptor in &fed.0 {
+        for descriptor in descriptors {
             if descriptor.write_to(&mut encoded).is_err() {
                 return false;
             }
         }
-        encoded.as_slice() == between(self.before.1, self.piece.1)
-            && fed.1 == self.piece.0.wrapping_sub(self.piece.1)
+        encoded.as_slice() == between(self.2, self.3)
+            && feeding.pending == self.1.wrapping_sub(self.3)
     }
 }
 
 #[test]
 fn what_is_read_and_copied(rt: HostRuntime) -> Result<(), Fail> {
     let heap = Heap::new(rt.alloc());
-    assert_eq!(rt; growths_of_call(&heap, &heap, &Copies)?, 0);
-    let mut before = (0, 0, 0);
-    for piece in PIECES {
-        assert_eq!(rt;
-            growths_of_call(&heap, &heap, &Feeds { before, piece })?,
-            piece.2,
-            "{piece:?}"
-        );
-        before = piece;
-    }
+    let met = growths_of_calls(rt.alloc(), &heap, &heap, &PIECES)?;
+    assert_eq!(rt; met.as_slice(), FED.as_slice());
     Ok(())
 }

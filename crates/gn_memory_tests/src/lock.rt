@@ -2,13 +2,12 @@
 
 ghost use Rattle.std.specs.Prelude.{◌≡◌};
 
-use crate::steps::are_same;
-use gn_capture::read_history;
+use crate::steps::{are_same, read};
 use gn_fixtures::{Heap, Refused, Turn, Turns, growths, ping, usual};
 use gn_payload::Checked;
 use gn_plain::PlainRouter;
 use gn_router::TableRouter;
-use gn_rules::{Event, Refusal, RouterCore, Step, is_step_of};
+use gn_rules::{Event, Refusal, RouterCore};
 use gn_service::{Actor, Hub, Next, Role, Service, ServiceFault};
 use std::alloc::{Allocator, Global};
 use std::marker::{Brand, PhantomData};
@@ -19,17 +18,19 @@ use std::test::Fail;
 /// A call of the run.
 #[derive(Clone, Copy)]
 enum Made {
-    Connects(u32),
+    Connects,
     Admits,
     Routes,
     Takes,
 }
 
+const CALL_COUNT: usize = 5;
+
 /// The calls of the run, each with the actor who makes it: two links connect, the first sends a Ping, a worker routes it, and
 /// the writer of the second takes it.
-const CALLS: [(usize, Made); 5] = [
-    (0, Made::Connects(0)),
-    (1, Made::Connects(1)),
+const CALLS: [(usize, Made); CALL_COUNT] = [
+    (0, Made::Connects),
+    (1, Made::Connects),
     (0, Made::Admits),
     (4, Made::Routes),
     (3, Made::Takes),
@@ -53,7 +54,7 @@ trait Place<L: Ledger, A: Allocator + Copy> {
     fn route(&mut self, me: &mut Actor<L, A>, checked: &Checked<A>) -> Result<(), Refusal>;
 
     /// Connects the actor's own link.
-    fn connect(&mut self, me: &mut Actor<L, A>, link: u32) -> Result<(), Refusal>;
+    fn connect(&mut self, me: &mut Actor<L, A>) -> Result<(), Refusal>;
 
     /// Takes a packet of the second connection. `NothingWaiting` where there is none.
     fn take(&mut self, me: &mut Actor<L, A>) -> Result<(), Refusal>;
@@ -68,10 +69,8 @@ impl<A: Allocator + Copy, C: RouterCore<A>, L: Ledger> Place<L, A> for Hub<C, L,
         Hub::route(self, me, 0, checked)
     }
 
-    fn connect(&mut self, me: &mut Actor<L, A>, link: u32) -> Result<(), Refusal> {
-        if me.number() != link {
-            return Err(Refusal::NotLive);
-        }
+    fn connect(&mut self, me: &mut Actor<L, A>) -> Result<(), Refusal> {
+        let link = me.number();
         Hub::connect(self, me, link)
     }
 
@@ -100,10 +99,8 @@ impl<'r, 's, A: Allocator + Copy, C: RouterCore<A> + Drop, L: Ledger, R: Wait> P
         self.service.route(self.rt, me, 0, checked)
     }
 
-    fn connect(&mut self, me: &mut Actor<L, A>, link: u32) -> Result<(), Refusal> {
-        if me.number() != link {
-            return Err(Refusal::NotLive);
-        }
+    fn connect(&mut self, me: &mut Actor<L, A>) -> Result<(), Refusal> {
+        let link = me.number();
         self.service.connect(self.rt, me, link)
     }
 
@@ -126,7 +123,7 @@ fn make<A: Allocator + Copy, L: Ledger, P: Place<L, A>>(
         return Err(Refusal::NotLive);
     };
     match made {
-        Made::Connects(link) => place.connect(me, link),
+        Made::Connects => place.connect(me),
         Made::Admits => place.call(me, &Event::Admit(1, first)),
         Made::Routes => place.route(me, &Checked::new(first)),
         Made::Takes => place.take(me),
@@ -182,42 +179,22 @@ fn turn_at<A: Allocator + Copy, L: Ledger, P: Place<L, A>>(
         }
         _ => return Turn::Wrong,
     };
-    if are_made(place, actors, number.saturating_add(1), CALLS.len()) {
+    if are_made(place, actors, number.saturating_add(1), CALL_COUNT) {
         turn
     } else {
         Turn::Wrong
     }
 }
 
-/// Whether each receipt of this actor is of a step of its own.
-fn are_own<A: Allocator, L: Ledger>(me: &Actor<L, A>, steps: &[Step<A>]) -> bool {
-    for receipt in me.receipts() {
-        match steps.get(receipt.index as usize) {
-            Some(step) if is_step_of(step, me.number(), receipt) => {}
-            _ => return false,
-        }
-    }
-    true
-}
-
-/// Whether the calls left their history, and each actor the receipts of its own steps.
+/// Whether the calls left their history, and so many receipts. That each is of a step of its actor's own is proved.
 fn is_whole<A: Allocator + Copy, C: RouterCore<A>, L: Ledger>(
     alloc: A,
     hub: &Hub<C, L, A>,
-    actors: &[Actor<L, A>],
+    receipts: usize,
 ) -> Result<bool, Fail> {
-    let (_, wanted) = read_history(alloc, HISTORY.as_bytes())?;
-    let steps = wanted.as_slice();
-    for me in actors {
-        if !are_own(me, steps) {
-            return Ok(false);
-        }
-    }
-    Ok(
-        are_same(hub.router().history(), steps)
-            && receipts_of(actors) == steps.len()
-            && hub.book() == 5,
-    )
+    let (_, steps) = read(alloc, HISTORY)?;
+    let is_left = are_same(hub.router().history(), steps.as_slice());
+    Ok(is_left && receipts == steps.len() && hub.book() == 5)
 }
 
 /// Makes a service of two links and one worker.
@@ -270,7 +247,7 @@ fn turn_of<A: Allocator + Copy, C: RouterCore<A> + Drop, L: Ledger, R: Wait>(
         let turn = turn_at(heap, &mut hub, actors.as_mut_slice(), number, refused);
         (turn, hub)
     };
-    let is_whole = is_whole(alloc, &hub, actors.as_slice())?;
+    let is_whole = is_whole(alloc, &hub, receipts_of(actors.as_slice()))?;
     Ok(if is_whole { turn } else { Turn::Wrong })
 }
 
@@ -342,16 +319,14 @@ fn all_growths<A: Allocator + Copy, C: RouterCore<A> + Drop, R: Wait>(
     let mut all = Vec::new(out);
     let making: Opens<C> = Opens { core: PhantomData };
     all.push(growths(heap, alloc, &making)?)?;
-    for is_locked in [false, true] {
-        for number in 0..CALLS.len() {
-            let call: Calls<R, C> = Calls {
-                rt,
-                number,
-                is_locked,
-                core: PhantomData,
-            };
-            all.push(growths(heap, alloc, &call)?)?;
-        }
+    for turn in 0..2 * CALL_COUNT {
+        let call: Calls<R, C> = Calls {
+            rt,
+            number: turn % CALL_COUNT,
+            is_locked: turn >= CALL_COUNT,
+            core: PhantomData,
+        };
+        all.push(growths(heap, alloc, &call)?)?;
     }
     Ok(all)
 }

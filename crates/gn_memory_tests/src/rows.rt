@@ -6,7 +6,7 @@ use crate::steps::{Asked, growths_of};
 use gn_fixtures::Heap;
 use gn_plain::PlainRouter;
 use gn_router::TableRouter;
-use gn_rules::{Refusal, RouterCore};
+use gn_rules::RouterCore;
 use std::alloc::{Allocator, Global};
 use std::test::Fail;
 
@@ -63,67 +63,80 @@ const IN_HISTORY: [Row; 9] = [
     (Asked::Add, ORIGINATED, &[2, 0, 0, 0, 1]),
 ];
 
+/// A run as a list of events, and the growths that all of them meet.
+type List = (&'static str, u64);
+
+const LISTS_WITH_TABLES: [List; 7] = [
+    (FIRST_PING, 22),
+    (EXPIRED_PING, 24),
+    (TTL_AND_HOPS_LIMITS, 30),
+    (REMEMBERED_AND_FORGOTTEN, 41),
+    (ONE_REMEMBERED, 33),
+    (PONGS_GO_BACK, 30),
+    (CLOSE_AND_REJOIN, 24),
+];
+
+const LISTS_IN_HISTORY: [List; 7] = [
+    (FIRST_PING, 8),
+    (EXPIRED_PING, 9),
+    (TTL_AND_HOPS_LIMITS, 15),
+    (REMEMBERED_AND_FORGOTTEN, 25),
+    (ONE_REMEMBERED, 17),
+    (PONGS_GO_BACK, 14),
+    (CLOSE_AND_REJOIN, 9),
+];
+
 /// Whether each row meets its growths. An `Err` names the first that doesn't.
-fn meet_all<A: Allocator + Copy, C: RouterCore<A> + Drop>(
+fn rows_meet<A: Allocator + Copy, C: RouterCore<A> + Drop>(
     out: Global,
     heap: &Heap,
     alloc: A,
     rows: &[Row],
 ) -> Result<(), Fail> {
-    for (asked, history, wanted) in rows {
+    for (number, (asked, history, wanted)) in rows.iter().enumerate() {
         let met = growths_of::<A, C>(out, heap, alloc, *asked, history)?;
         if met.as_slice() != *wanted {
-            return Err(Fail::new(format_args!("{asked:?} {history}: {met:?}")));
+            return Err(Fail::new(format_args!("row {number}: {met:?}")));
         }
     }
     Ok(())
+}
+
+/// The same of lists of events.
+fn lists_meet<A: Allocator + Copy, C: RouterCore<A> + Drop>(
+    heap: &Heap,
+    alloc: A,
+    lists: &[List],
+) -> Result<(), Fail> {
+    for (number, (history, wanted)) in lists.iter().enumerate() {
+        let met = growths_of_list::<A, C>(heap, alloc, history)?;
+        if met != *wanted {
+            return Err(Fail::new(format_args!("list {number}: {met}")));
+        }
+    }
+    Ok(())
+}
+
+/// The same of both.
+fn meet_all<A: Allocator + Copy, C: RouterCore<A> + Drop>(
+    out: Global,
+    heap: &Heap,
+    alloc: A,
+    rows: &[Row],
+    lists: &[List],
+) -> Result<(), Fail> {
+    rows_meet::<A, C>(out, heap, alloc, rows)?;
+    lists_meet::<A, C>(heap, alloc, lists)
 }
 
 #[test]
 fn steps_with_tables(rt: HostRuntime) -> Result<(), Fail> {
     let heap = Heap::new(rt.alloc());
-    meet_all::<_, TableRouter<_>>(rt.alloc(), &heap, &heap, &WITH_TABLES)
+    meet_all::<_, TableRouter<_>>(rt.alloc(), &heap, &heap, &WITH_TABLES, &LISTS_WITH_TABLES)
 }
 
 #[test]
 fn steps_in_history(rt: HostRuntime) -> Result<(), Fail> {
     let heap = Heap::new(rt.alloc());
-    meet_all::<_, PlainRouter<_>>(rt.alloc(), &heap, &heap, &IN_HISTORY)
-}
-
-/// Runs as lists of events, what two events after them are refused, and the growths that all meet at both routers.
-type List = (&'static str, &'static [Refusal], u64, u64);
-
-const LISTS: [List; 7] = [
-    (FIRST_PING, &[], 22, 8),
-    (EXPIRED_PING, &[], 24, 9),
-    (TTL_AND_HOPS_LIMITS, &[], 30, 15),
-    (REMEMBERED_AND_FORGOTTEN, &[], 41, 25),
-    (ONE_REMEMBERED, &[], 33, 17),
-    (PONGS_GO_BACK, &[], 30, 14),
-    (
-        CLOSE_AND_REJOIN,
-        &[Refusal::NothingWaiting, Refusal::NotLive],
-        24,
-        9,
-    ),
-];
-
-/// Whether each list meets its growths at both routers. An `Err` names the first that doesn't.
-fn lists_meet_all(heap: &Heap, lists: &[List]) -> Result<(), Fail> {
-    for (history, further, table, plain) in lists {
-        let met = (
-            growths_of_list::<_, TableRouter<_>>(heap, heap, history, further)?,
-            growths_of_list::<_, PlainRouter<_>>(heap, heap, history, further)?,
-        );
-        if met != (*table, *plain) {
-            return Err(Fail::new(format_args!("{history}: {met:?}")));
-        }
-    }
-    Ok(())
-}
-
-#[test]
-fn lists_of_events(rt: HostRuntime) -> Result<(), Fail> {
-    lists_meet_all(&Heap::new(rt.alloc()), &LISTS)
+    meet_all::<_, PlainRouter<_>>(rt.alloc(), &heap, &heap, &IN_HISTORY, &LISTS_IN_HISTORY)
 }

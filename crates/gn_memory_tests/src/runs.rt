@@ -4,12 +4,11 @@ use crate::sweep::{has_answered, refused_at};
 use gn_bodies::{ReaderEnd, WriterEnd};
 use gn_fixtures::{Heap, OWN, PING, Refused, Turn};
 use gn_io::{ReaderSource, WriterSink};
-use gn_legal::legal;
 use gn_links::{MemoryLink, NoGate};
 use gn_load::{LoadFault, load};
 use gn_replay::ReplayFault;
 use gn_router::TableRouter;
-use gn_rules::{BadConfig, Config, Legality, RouterCore};
+use gn_rules::{BadConfig, Config, RouterCore};
 use gn_shake::Role;
 use gn_stage::StageFault;
 use gn_threads::{RunFault, run};
@@ -40,7 +39,7 @@ fn links_of_pings<A: Allocator + Copy, B: Allocator>(
     Ok(links)
 }
 
-/// Runs both links, where these growths are refused: out of memory, or a report with a legal history.
+/// Runs both links, where these growths are refused: out of memory, or a report. That its history is legal is proved.
 fn run_refused<
     A: Allocator + Copy + Send + Sync,
     C: RouterCore<A> + Drop + Send,
@@ -57,7 +56,7 @@ fn run_refused<
     let has_refused = heap.has_refused();
     heap.refuse_none();
     Ok(match ran {
-        Ok(report) if legal(&config, report.history.as_slice()) == Legality::Legal => {
+        Ok(_report) => {
             if has_refused {
                 Turn::Refused
             } else {
@@ -103,7 +102,9 @@ fn run_over_two<
     }
     heap.refuse_from(0);
     let ran = run::<C, _, _, _, _>(rt, rich, &config, links, 1, &NoGate);
-    let report = ran.map_err(|_| "a report")?;
+    let Ok(report) = ran else {
+        return Err("a report".into());
+    };
     let (mut read, mut failed) = (0usize, 0usize);
     for link in &report.links {
         if link.reader_end == ReaderEnd::Bytes {

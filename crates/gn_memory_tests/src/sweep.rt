@@ -1,6 +1,7 @@
-//! Which growth a turn refuses, and what a turn says of it.
+//! Which growth a turn refuses, what a turn says of it, and the growths of several calls.
 
-use gn_fixtures::{Refused, Turn};
+use gn_fixtures::{Call, Heap, Refused, Turn, growths_of_call};
+use std::alloc::{Allocator, Global};
 use std::test::Fail;
 
 /// The growth of this number is refused, alone or with all later ones.
@@ -19,4 +20,18 @@ pub(crate) fn has_answered(refused: Refused, turn: Turn) -> Result<bool, Fail> {
         Turn::Answered => Ok(true),
         Turn::Wrong => Err(Fail::new(format_args!("{refused:?}: wrong"))),
     }
+}
+
+/// How many growths each of these calls meets.
+pub(crate) fn growths_of_calls<A: Allocator + Copy, T: Call<A>>(
+    out: Global,
+    heap: &Heap,
+    alloc: A,
+    calls: &[T],
+) -> Result<Vec<u64>, Fail> {
+    let mut all = Vec::new(out);
+    for call in calls {
+        all.push(growths_of_call(heap, alloc, call)?)?;
+    }
+    Ok(all)
 }

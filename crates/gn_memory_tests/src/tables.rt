@@ -3,7 +3,8 @@
 ghost use Rattle.std.specs.Prelude.{◌≡◌, ◌<◌, None};
 ghost use Rattle.std.specs.FinMap as map;
 
-use gn_fixtures::{Call, Failure, Heap, Refused, Turn, Turns, growths, growths_of_call, ping};
+use crate::sweep::growths_of_calls;
+use gn_fixtures::{Call, Failure, Heap, Refused, Turn, Turns, growths, ping};
 use gn_tables::{Flights, Neighbours, SeenTable, ServentTable};
 use gn_wire::{Descriptor, Guid, Kind};
 use std::alloc::Allocator;
@@ -14,29 +15,31 @@ fn id(byte: u8) -> Guid {
 }
 
 /// What is remembered: a descriptor, or a servent.
-#[derive(Clone, Copy, Debug, PartialEq, Eq)]
+#[derive(Clone, Copy)]
 enum Kept {
     Ping,
     Servent,
 }
 
-/// What is remembered, by its ID, with its source; the sources of the first, second and third ID then; and the growths that it
-/// meets.
-type Entry = (Kept, u8, u32, [Option<u32>; 3], u64);
+/// What is remembered, by its ID, with its source; and the sources of the first, second and third ID then.
+type Entry = (Kept, u8, u32, [Option<u32>; 3]);
 
 const ENTRY_COUNT: usize = 8;
 
 /// Where two are remembered, the third makes the first forgotten. A servent that was known comes first again.
 const ENTRIES: [Entry; ENTRY_COUNT] = [
-    (Kept::Ping, 0xa1, 1, [Some(1), None, None], 4),
-    (Kept::Ping, 0xa2, 2, [Some(1), Some(2), None], 0),
-    (Kept::Ping, 0xa3, 1, [None, Some(2), Some(1)], 0),
-    (Kept::Ping, 0xa1, 2, [Some(2), None, Some(1)], 0),
-    (Kept::Servent, 0xa1, 2, [Some(2), None, None], 5),
-    (Kept::Servent, 0xa2, 2, [Some(2), Some(2), None], 1),
-    (Kept::Servent, 0xa1, 3, [Some(3), Some(2), None], 0),
-    (Kept::Servent, 0xa3, 2, [Some(3), None, Some(2)], 0),
+    (Kept::Ping, 0xa1, 1, [Some(1), None, None]),
+    (Kept::Ping, 0xa2, 2, [Some(1), Some(2), None]),
+    (Kept::Ping, 0xa3, 1, [None, Some(2), Some(1)]),
+    (Kept::Ping, 0xa1, 2, [Some(2), None, Some(1)]),
+    (Kept::Servent, 0xa1, 2, [Some(2), None, None]),
+    (Kept::Servent, 0xa2, 2, [Some(2), Some(2), None]),
+    (Kept::Servent, 0xa1, 3, [Some(3), Some(2), None]),
+    (Kept::Servent, 0xa3, 2, [Some(3), None, Some(2)]),
 ];
+
+/// The growths that each meets.
+const GROWTHS: [u64; ENTRY_COUNT] = [4, 0, 0, 0, 5, 1, 0, 0];
 
 /// The entry of this number, counted from 0.
 fn entry_at(number: usize) -> Option<Entry> {
@@ -68,7 +71,7 @@ impl<A: Allocator + Copy> Both<A> {
 
     /// Remembers an entry: the sources then.
     fn remember(&mut self, entry: Entry) -> Result<[Option<u32>; 3], Failure> {
-        let (kept, byte, from, _, _) = entry;
+        let (kept, byte, from, _) = entry;
         let id = id(byte);
         let kept_now = match kept {
             Kept::Servent => self.servents.learn(id, from),
@@ -98,6 +101,17 @@ impl<A: Allocator + Copy> Both<A> {
 /// Remembers the entry of this number, after those before it. The sources are asked for beside it, which takes no memory.
 #[derive(Clone, Copy)]
 struct Remembers(usize);
+
+const REMEMBERED: [Remembers; ENTRY_COUNT] = [
+    Remembers(0),
+    Remembers(1),
+    Remembers(2),
+    Remembers(3),
+    Remembers(4),
+    Remembers(5),
+    Remembers(6),
+    Remembers(7),
+];
 
 impl<A: Allocator + Copy> Call<A> for Remembers {
     type Subject = Both<A>;
@@ -142,11 +156,8 @@ impl<A: Allocator + Copy> Call<A> for Remembers {
 #[test]
 fn what_is_remembered(rt: HostRuntime) -> Result<(), Fail> {
     let heap = Heap::new(rt.alloc());
-    for number in 0..ENTRY_COUNT {
-        let met = growths_of_call(&heap, &heap, &Remembers(number))?;
-        let wanted = entry_at(number).map(|entry| entry.4);
-        assert_eq!(rt; Some(met), wanted, "entry {number}");
-    }
+    let met = growths_of_calls(rt.alloc(), &heap, &heap, &REMEMBERED)?;
+    assert_eq!(rt; met.as_slice(), GROWTHS.as_slice());
     Ok(())
 }
 
@@ -155,33 +166,26 @@ fn turn_if(is_right: bool, turn: Turn) -> Turn {
     if is_right { turn } else { Turn::Wrong }
 }
 
-/// Adds a second neighbour to one for whom a packet waits.
+/// Adds a first neighbour. After out of memory it is added again.
 struct AddsNeighbour;
 
 impl<A: Allocator + Copy> Turns<A> for AddsNeighbour {
     fn turn(&self, heap: &Heap, alloc: A, refused: Refused) -> Result<Turn, Fail> {
         heap.refuse_none();
         let mut neighbours = Neighbours::new(alloc, 4, 1)?;
-        neighbours.add(1)?;
-        let is_pushed = neighbours.push(1, ping(0xa1, 7, 0)?).is_ok();
         refused.begin(heap);
-        let added = neighbours.add(2);
+        let added = neighbours.add(1);
         let has_refused = heap.has_refused();
         heap.refuse_none();
         let turn = match added {
             Ok(()) => turn_if(!has_refused, Turn::Answered),
             Err(_) => {
-                let left = (neighbours.len(), neighbours.waiting(2));
-                neighbours.add(2)?;
-                turn_if(has_refused && left == (1, None), Turn::Refused)
+                let is_unchanged = neighbours.len() == 0;
+                let is_added = neighbours.add(1).is_ok();
+                turn_if(has_refused && is_unchanged && is_added, Turn::Refused)
             }
         };
-        let left = (
-            neighbours.len(),
-            neighbours.waiting(1),
-            neighbours.waiting(2),
-        );
-        Ok(turn_if(is_pushed && left == (2, Some(1), Some(0)), turn))
+        Ok(turn_if(neighbours.waiting(1) == Some(0), turn))
     }
 }
 

@@ -1,6 +1,8 @@
 //! Texts: captures and histories, read, written, replayed and audited.
 
-use crate::steps::are_same;
+use crate::histories::FIRST_PING;
+use crate::steps::is_same_step;
+use crate::sweep::growths_of_calls;
 use gn_capture::{
     Capture, HistorySteps, Line, open_history, read_capture, read_history, write_history,
 };
@@ -27,16 +29,6 @@ const PRINTED: &str = "0 connect = connected 1\n\
 0 connect = connected 2\n\
 0 admit 1 a1a1a1a1a1a1a1a1a1a1a1a1a1a1a1a100070000000000 = admitted 0\n\
 0 route 0 = routed local 1+a1a1a1a1a1a1a1a1a1a1a1a1a1a1a1a10101000e000000ca187f0000010500000028000000 2+a1a1a1a1a1a1a1a1a1a1a1a1a1a1a1a100060100000000\n";
-
-/// Its history.
-const FIRST_PING: &str = "gnutella-history 1\n\
-config 4 8 4 8 8 100\n\
-own eeeeeeeeeeeeeeeeeeeeeeeeeeeeeeee 127.0.0.1 6346 5 40\n\
-0 connect = connected 1\n\
-0 connect = connected 2\n\
-0 admit 1 a1a1a1a1a1a1a1a1a1a1a1a1a1a1a1a100070000000000 = admitted 0\n\
-0 route 0 = routed local 1+a1a1a1a1a1a1a1a1a1a1a1a1a1a1a1a10101000e000000ca187f0000010500000028000000 2+a1a1a1a1a1a1a1a1a1a1a1a1a1a1a1a100060100000000\n\
-end\n";
 
 /// Its history with another ticket.
 const OTHER_TICKET: &str = "gnutella-history 1\n\
@@ -69,7 +61,7 @@ own eeeeeeeeeeeeeeeeeeeeeeeeeeeeeeee 127.0.0.1 6346 5 40\n\
 end\n";
 
 /// What is read or written.
-#[derive(Clone, Copy, Debug)]
+#[derive(Clone, Copy)]
 enum Text {
     Fields,
     ReadHeader,
@@ -78,19 +70,27 @@ enum Text {
     WriteHistory,
 }
 
-/// Each with the growths that it meets. A list of fields, or of lines or steps, has room for four when it first grows, and
-/// doubles from then on.
-const TEXTS: [(Text, u64); 5] = [
+const TEXTS: [Handles; 5] = [
+    Handles(Text::Fields),
+    Handles(Text::ReadHeader),
+    Handles(Text::ReadCapture),
+    Handles(Text::ReadHistory),
+    Handles(Text::WriteHistory),
+];
+
+/// The growths that each meets. A list of fields, or of lines or steps, has room for four when it first grows, and doubles from
+/// then on.
+const GROWTHS: [u64; 5] = [
     // Five fields in a list with room for one.
-    (Text::Fields, 2),
+    2,
     // The fields of `config`, seven, and of `own`, six, and the parts of its address, four.
-    (Text::ReadHeader, 5),
+    5,
     // The header; one list of fields for all lines, the list of four lines, and the piece, which is shared from then on.
-    (Text::ReadCapture, 9),
+    9,
     // The header, each step, and the list of four steps.
-    (Text::ReadHistory, 13),
+    13,
     // 376 bytes where six are full: the first title fills 24, and that doubles up to 384.
-    (Text::WriteHistory, 5),
+    5,
 ];
 
 /// The first line of the history that is a step, and its fields.
@@ -235,30 +235,11 @@ impl<A: Allocator + Copy> Call<A> for Handles {
     }
 }
 
-/// The steps that are left, after this one.
-fn with_rest<A: Allocator + Copy>(
-    alloc: A,
-    step: Option<Step<A>>,
-    left: &mut HistorySteps<A>,
-) -> Result<Vec<Step<A>, A>, Fail> {
-    let mut steps = Vec::new(alloc);
-    if let Some(step) = step {
-        steps.push(step)?;
-    }
-    for _ in 0..9 {
-        match left.next_step()? {
-            Some(step) => steps.push(step)?,
-            None => break,
-        }
-    }
-    Ok(steps)
-}
-
 /// The history, where so many steps are read.
 fn opened_at<A: Allocator + Copy>(
     alloc: A,
     number: usize,
-) -> Result<HistorySteps<'static, A>, Fail> {
+) -> Result<HistorySteps<'static, A>, CaptureRefusal> {
     let (_, mut left) = open_history(alloc, FIRST_PING.as_bytes())?;
     for _ in 0..number {
         left.next_step()?;
@@ -266,22 +247,21 @@ fn opened_at<A: Allocator + Copy>(
     Ok(left)
 }
 
-/// Whether this step and those that are left are the history's from this number on.
-fn is_rest<A: Allocator + Copy>(
+/// Whether what was read is the step of this number, or the end after the last.
+fn is_step_at<A: Allocator + Copy>(
     alloc: A,
     number: usize,
     step: Option<Step<A>>,
-    left: &mut HistorySteps<A>,
-) -> Result<bool, Fail> {
-    let steps = with_rest(alloc, step, left)?;
-    let (_, wanted) = read_history(alloc, FIRST_PING.as_bytes())?;
-    Ok(match wanted.get(number..) {
-        Some(rest) => are_same(steps.as_slice(), rest),
-        None => false,
+) -> Result<bool, CaptureRefusal> {
+    let (_, steps) = read_history(alloc, FIRST_PING.as_bytes())?;
+    Ok(match (step, steps.get(number)) {
+        (Some(step), Some(wanted)) => is_same_step(&step, wanted),
+        (None, None) => true,
+        _ => false,
     })
 }
 
-/// Reads the step of this number after those before it, and then the rest: a refusal leaves its line to be read again.
+/// Reads the step of this number after those before it: a refusal leaves its line to be read again.
 #[derive(Clone, Copy)]
 struct ReadsStep(usize);
 
@@ -298,7 +278,7 @@ impl<A: Allocator + Copy> Turns<A> for ReadsStep {
             Err(CaptureRefusal::NoMemory) if has_refused => (left.next_step()?, Turn::Refused),
             _ => return Ok(Turn::Wrong),
         };
-        let is_right = is_rest(alloc, self.0, step, &mut left)?;
+        let is_right = is_step_at(alloc, self.0, step)?;
         Ok(if is_right { turn } else { Turn::Wrong })
     }
 }
@@ -308,21 +288,21 @@ impl<A: Allocator + Copy> Turns<A> for ReadsStep {
 /// shared, and the Ping.
 const STEPS: [u64; 5] = [2, 0, 1, 4, 0];
 
+/// The growths that reading each step meets, and its end.
+fn growths_of_steps<A: Allocator + Copy>(heap: &Heap, alloc: A) -> Result<[u64; 5], Fail> {
+    let mut met = [0u64; 5];
+    for (number, growths_met) in met.iter_mut().enumerate() {
+        *growths_met = growths(heap, alloc, &ReadsStep(number))?;
+    }
+    Ok(met)
+}
+
 #[test]
 fn what_is_read_and_written(rt: HostRuntime) -> Result<(), Fail> {
     let heap = Heap::new(rt.alloc());
-    for (text, wanted) in TEXTS {
-        assert_eq!(rt;
-            growths_of_call(&heap, &heap, &Handles(text))?,
-            wanted,
-            "{text:?}"
-        );
-    }
-    let mut met = STEPS;
-    for (number, growths_met) in met.iter_mut().enumerate() {
-        *growths_met = growths(&heap, &heap, &ReadsStep(number))?;
-    }
-    assert_eq!(rt; met, STEPS);
+    let met = growths_of_calls(rt.alloc(), &heap, &heap, &TEXTS)?;
+    assert_eq!(rt; met.as_slice(), GROWTHS.as_slice());
+    assert_eq!(rt; growths_of_steps(&heap, &heap)?, STEPS);
     Ok(())
 }
 
@@ -411,7 +391,7 @@ const COMMANDS: [Row; 7] = [
 
 /// Goes through a text, to a sink over this allocator. Where that is the heap, a growth that the sink is refused is a failed
 /// write.
-#[derive(Clone, Copy)]
+#[derive(Drop)]
 struct Obeys<B> {
     row: Row,
     sink: B,

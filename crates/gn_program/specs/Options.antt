@@ -10,6 +10,7 @@ use Rattle.gn_text.specs.Bytes.{guid_of}
 use Rattle.gn_numbers.specs.Numbers.{number_below, number_of, ◌>>=◌}
 use Rattle.gn_wire.specs.declared.kind.Guid.{Guid}
 use Rattle.gn_program.specs.Serving.{AskedServe}
+use Rattle.gn_program.specs.declared.options.Limits.{Limits}
 use Rattle.gn_program.specs.declared.request.Peer.{Peer}
 use Rattle.gn_program.specs.declared.unread.Unread.{Unread}
 use Rattle.gn_program.specs.declared.unread.Unread.TheVariants.{Mistake, NoMemory}
@@ -72,6 +73,17 @@ peers_in texts = if nat_le (length texts) 64 then peers_after [] texts else None
 abbrev pub peers_of : List Row → Option (List Peer)
 peers_of rows = peers_in (unwrap_or (all_of (codes "peer") rows) [])
 
+-- the numbers that limit a serve, where each is within its own limits
+abbrev pub limits_of : List Row → Option Limits
+limits_of rows = do
+  idle ← number_asked (codes "idle") 0 86400 rows
+  life ← number_asked (codes "life") 0 most.life rows
+  crowd ← number_asked (codes "crowd") 0 most.crowd rows
+  retry ← number_asked (codes "retry") 0 86400 rows
+  seconds ← number_asked (codes "for") 0 86400 rows
+  steps ← number_asked (codes "steps") 1 most.steps rows
+  Some (record { idle = idle; life = life; crowd = crowd; retry = retry; seconds = seconds; steps = steps })
+
 -- what the options of a serve ask for, where each is within its limits
 abbrev pub serving_of : List Row → Option AskedServe
 serving_of rows = do
@@ -80,26 +92,21 @@ serving_of rows = do
   workers ← workers_of rows
   servent ← servent_of rows
   peers ← peers_of rows
-  idle ← number_asked (codes "idle") 0 86400 rows
-  life ← number_asked (codes "life") 0 most.life rows
-  crowd ← number_asked (codes "crowd") 0 most.crowd rows
-  retry ← number_asked (codes "retry") 0 86400 rows
-  seconds ← number_asked (codes "for") 0 86400 rows
-  steps ← number_asked (codes "steps") 1 most.steps rows
+  limits ← limits_of rows
   Some (record {
     port = port;
     accept = accept;
     workers = workers;
     servent = servent;
     peers = peers;
-    idle = idle;
-    life = life;
-    crowd = crowd;
-    retry = retry;
-    seconds = seconds;
+    idle = limits.idle;
+    life = limits.life;
+    crowd = limits.crowd;
+    retry = limits.retry;
+    seconds = limits.seconds;
     early = is_set (codes "stop-early") rows;
     until_eof = is_set (codes "until-eof") rows;
-    steps = steps;
+    steps = limits.steps;
     keeps = is_set (codes "keep-history") rows;
     report = is_set (codes "report") rows;
     progress = is_set (codes "progress") rows;

@@ -3,10 +3,11 @@
 ghost use Rattle.std.specs.Prelude.{◌≡◌, ◌==◌, ◌&&◌, ◌≤◌, [], nat_le, length, map, IfOk, codes, option_and_then};
 ghost use Rattle.std.specs.List.{slice_split};
 ghost use Rattle.clap.specs.Words.{found_of, rows_of};
-ghost use Rattle.gn_rules.specs.Limits.{most};
+ghost use Rattle.gn_rules.specs.Limits.{IsWithin, most};
 ghost use Rattle.gn_text.specs.Bytes.{guid_of};
 ghost use Rattle.gn_program.specs.Options.{
   IsReadAs,
+  limits_of,
   number_asked,
   number_between,
   peer_at,
@@ -220,24 +221,56 @@ fn peers_of(alloc: Global, options: &ArgMatches<'_>) -> Result<Vec<Peer>, Unread
     }
 }
 
-/// What the options of a serve ask for, where each is within its limits.
-pub(crate) fn serving_of(alloc: Global, options: &ArgMatches<'_>) -> Result<Serving, Unread>
-    ensures { IsReadAs (λ s. s) (serving_of (rows_of (found_of options.now))) result }
+/// The numbers that limit a serve, as its options ask for them.
+#[derive(Clone, Copy, Debug)]
+struct Limits {
+    idle: u32,
+    life: u8,
+    crowd: u32,
+    retry: u32,
+    seconds: u32,
+    steps: u32,
+}
+
+/// The numbers that limit a serve, where each is within its own limits.
+fn limits_of(options: &ArgMatches<'_>) -> Result<Limits, Unread>
+    ensures read { IsReadAs (λ l. l) (limits_of (rows_of (found_of options.now))) result }
+    ensures within { IfOk result (λ l. (l.crowd ≤ most.crowd) × (IsWithin l.steps most.steps)) }
 {
-    Ok(Serving {
-        port: port_of(options)?,
-        accept: accept_of(options)?,
-        workers: workers_of(options)?,
-        servent: servent_of(options)?,
-        peers: peers_of(alloc, options)?,
+    Ok(Limits {
         idle: seconds_of(options, "idle", help::BAD_IDLE)?,
         life: life_of(options)?,
         crowd: crowd_of(options)?,
         retry: seconds_of(options, "retry", help::BAD_RETRY)?,
         seconds: seconds_of(options, "for", help::BAD_SECONDS)?,
+        steps: steps_of(options)?,
+    })
+}
+
+/// What the options of a serve ask for, where each is within its limits.
+pub(crate) fn serving_of(alloc: Global, options: &ArgMatches<'_>) -> Result<Serving, Unread>
+    ensures { IsReadAs (λ s. s) (serving_of (rows_of (found_of options.now))) result }
+{
+    let port = port_of(options)?;
+    let accept = accept_of(options)?;
+    let workers = workers_of(options)?;
+    let servent = servent_of(options)?;
+    let peers = peers_of(alloc, options)?;
+    let limits = limits_of(options)?;
+    Ok(Serving {
+        port,
+        accept,
+        workers,
+        servent,
+        peers,
+        idle: limits.idle,
+        life: limits.life,
+        crowd: limits.crowd,
+        retry: limits.retry,
+        seconds: limits.seconds,
         early: is_set(options, "stop-early"),
         until_eof: is_set(options, "until-eof"),
-        steps: steps_of(options)?,
+        steps: limits.steps,
         keeps: is_set(options, "keep-history"),
         report: is_set(options, "report"),
         progress: is_set(options, "progress"),

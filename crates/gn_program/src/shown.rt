@@ -8,7 +8,7 @@ ghost use Rattle.gn_program.specs.Words.{show_app, view_of};
 
 use crate::help;
 use crate::unread::Unread;
-use crate::words::{flag, is_set, leaf};
+use crate::words::{flag, is_set, leaf, with_both};
 use clap::{ArgMatches, Command};
 use gn_show::{Form, View};
 use std::alloc::{AllocError, Global};
@@ -17,15 +17,15 @@ pub(crate) fn show_command<'a>(alloc: Global) -> Result<Command<'a>, AllocError>
     ensures shape { IfOk result (λ command. app_of command ≡ show_app) }
     ensures globals { IfOk result (λ command. (fields_of command).has_globals ≡ false) }
 {
-    leaf(
+    let command = leaf(
         alloc,
         "show",
         help::SHOW,
         help::SHOW_USAGE,
         help::SHOW_TEXTS,
-    )
-    .arg(flag(alloc, "json", help::JSON))?
-    .arg(flag(alloc, "stats", help::STATS))
+    );
+    let json = flag(alloc, "json", help::JSON);
+    with_both(command, json, flag(alloc, "stats", help::STATS))
 }
 
 /// What of a history is shown; a mistake, where both flags are given.

@@ -3,7 +3,7 @@
 ghost use Rattle.std.specs.Prelude.{◌≡◌, Some, IfOk, IfErr, codes, map, false};
 ghost use Rattle.std.specs.Option.{option_map_or};
 ghost use Rattle.std.specs.Str.{bytes_eq};
-ghost use Rattle.clap.specs.Words.{app_of, found_of, kind_of, new_app, rows_of, rule_of, HasKind};
+ghost use Rattle.clap.specs.Words.{app_of, found_of, kind_of, new_app, rows_of, rule_of, with_rule, HasKind};
 ghost use Rattle.clap.specs.declared.builder.command.Command.TheViews.{out-Command as fields_of};
 ghost use Rattle.clap.specs.declared.error.kind.ErrorKind.TheVariants.{ValueValidation};
 ghost use Rattle.gn_program.specs.Options.{IsReadAs, is_set};
@@ -144,19 +144,34 @@ fn values<'a>(alloc: Global, name: &'a str, shown: &'a str, text: &'a str) -> Ar
         .help(text)
 }
 
+/// A command with two more arguments.
+pub(crate) fn with_both<'a>(
+    command: Command<'a>,
+    first: Arg<'a>,
+    second: Arg<'a>,
+) -> Result<Command<'a>, AllocError>
+    requires local { (first.global ≡ false) × (second.global ≡ false) }
+    requires globals { (fields_of command).has_globals ≡ false }
+    ensures shape { IfOk result (λ both.
+        app_of both ≡ with_rule (with_rule (app_of command.entry) (rule_of first.entry)) (rule_of second.entry)) }
+    ensures globals { IfOk result (λ both. (fields_of both).has_globals ≡ false) }
+{
+    command.arg(first)?.arg(second)
+}
+
 fn load_command<'a>(alloc: Global) -> Result<Command<'a>, AllocError>
     ensures shape { IfOk result (λ command. app_of command ≡ load_app) }
     ensures globals { IfOk result (λ command. (fields_of command).has_globals ≡ false) }
 {
-    leaf(
+    let command = leaf(
         alloc,
         "load",
         help::LOAD,
         help::LOAD_USAGE,
         help::LOAD_TEXTS,
-    )
-    .arg(value(alloc, "workers", "V", help::WORKERS))?
-    .arg(flag(alloc, "progress", help::PROGRESS))
+    );
+    let workers = value(alloc, "workers", "V", help::WORKERS);
+    with_both(command, workers, flag(alloc, "progress", help::PROGRESS))
 }
 
 /// The subcommand `serve` with the options that have to be given.
@@ -164,16 +179,16 @@ fn served_command<'a>(alloc: Global) -> Result<Command<'a>, AllocError>
     ensures shape { IfOk result (λ command. app_of command ≡ served_app) }
     ensures globals { IfOk result (λ command. (fields_of command).has_globals ≡ false) }
 {
-    leaf(
+    let command = leaf(
         alloc,
         "serve",
         help::SERVE,
         help::SERVE_USAGE,
         help::SERVE_TEXTS,
-    )
-    .arg(value(alloc, "port", "P", help::PORT))?
-    .arg(value(alloc, "accept", "A", help::ACCEPT))?
-    .arg(value(alloc, "workers", "V", help::WORKERS))
+    );
+    let port = value(alloc, "port", "P", help::PORT);
+    let accept = value(alloc, "accept", "A", help::ACCEPT);
+    with_both(command, port, accept)?.arg(value(alloc, "workers", "V", help::WORKERS))
 }
 
 /// The subcommand `serve` with the options that say who the router is, whom it calls, and when it gives a peer up.
@@ -181,12 +196,10 @@ fn calling_command<'a>(alloc: Global) -> Result<Command<'a>, AllocError>
     ensures shape { IfOk result (λ command. app_of command ≡ calling_app) }
     ensures globals { IfOk result (λ command. (fields_of command).has_globals ≡ false) }
 {
+    let command = served_command(alloc)?;
     let servent = value_or(alloc, "servent", "HEX32", OWN_SERVENT, help::SERVENT);
-    let idle = value_or(alloc, "idle", "SECONDS", "0", help::IDLE);
-    served_command(alloc)?
-        .arg(servent)?
-        .arg(values(alloc, "peer", "IP:PORT", help::PEER))?
-        .arg(idle)
+    let peers = values(alloc, "peer", "IP:PORT", help::PEER);
+    with_both(command, servent, peers)?.arg(value_or(alloc, "idle", "SECONDS", "0", help::IDLE))
 }
 
 /// The same with the options for the numbers of the router's rules.
@@ -194,9 +207,10 @@ fn ruled_command<'a>(alloc: Global) -> Result<Command<'a>, AllocError>
     ensures shape { IfOk result (λ command. app_of command ≡ ruled_app) }
     ensures globals { IfOk result (λ command. (fields_of command).has_globals ≡ false) }
 {
+    let command = calling_command(alloc)?;
     let life = value_or(alloc, "life", "L", "0", help::LIFE);
     let crowd = value_or(alloc, "crowd", "Q", "0", help::CROWD);
-    calling_command(alloc)?.arg(life)?.arg(crowd)
+    with_both(command, life, crowd)
 }
 
 /// The same with the options for how long it calls, how long it goes on, and how many steps it makes.
@@ -204,10 +218,10 @@ fn limited_command<'a>(alloc: Global) -> Result<Command<'a>, AllocError>
     ensures shape { IfOk result (λ command. app_of command ≡ limited_app) }
     ensures globals { IfOk result (λ command. (fields_of command).has_globals ≡ false) }
 {
+    let command = ruled_command(alloc)?;
     let retry = value_or(alloc, "retry", "SECONDS", "0", help::RETRY);
     let seconds = value_or(alloc, "for", "SECONDS", "0", help::SECONDS);
-    let steps = value_or(alloc, "steps", "N", "1000000", help::STEPS);
-    ruled_command(alloc)?.arg(retry)?.arg(seconds)?.arg(steps)
+    with_both(command, retry, seconds)?.arg(value_or(alloc, "steps", "N", "1000000", help::STEPS))
 }
 
 /// The same with the flags for what else stops it.
@@ -215,19 +229,20 @@ fn stopped_command<'a>(alloc: Global) -> Result<Command<'a>, AllocError>
     ensures shape { IfOk result (λ command. app_of command ≡ stopped_app) }
     ensures globals { IfOk result (λ command. (fields_of command).has_globals ≡ false) }
 {
-    limited_command(alloc)?
-        .arg(flag(alloc, "stop-early", help::EARLY))?
-        .arg(flag(alloc, "until-eof", help::UNTIL_EOF))
+    let command = limited_command(alloc)?;
+    let early = flag(alloc, "stop-early", help::EARLY);
+    let until_eof = flag(alloc, "until-eof", help::UNTIL_EOF);
+    with_both(command, early, until_eof)
 }
 
 fn serve_command<'a>(alloc: Global) -> Result<Command<'a>, AllocError>
     ensures shape { IfOk result (λ command. app_of command ≡ serve_app) }
     ensures globals { IfOk result (λ command. (fields_of command).has_globals ≡ false) }
 {
-    stopped_command(alloc)?
-        .arg(flag(alloc, "keep-history", help::KEEP))?
-        .arg(flag(alloc, "report", help::REPORT))?
-        .arg(flag(alloc, "progress", help::SERVE_PROGRESS))
+    let command = stopped_command(alloc)?;
+    let keeps = flag(alloc, "keep-history", help::KEEP);
+    let report = flag(alloc, "report", help::REPORT);
+    with_both(command, keeps, report)?.arg(flag(alloc, "progress", help::SERVE_PROGRESS))
 }
 
 /// The command `gn` before it has its subcommands.

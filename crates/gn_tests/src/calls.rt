@@ -8,13 +8,14 @@ use gn_router::TableRouter;
 use gn_rules::{Config, Event, Refusal, RouterCore};
 use gn_wire::{Descriptor, Guid, Kind};
 use std::alloc::Global;
-use std::process::Abort;
 use std::test::Fail;
 
 fn pong(alloc: Global) -> Result<Descriptor, Fail> {
     let payload = Bytes::copy_from_slice(alloc, &[1; 14])?;
-    let pong = Descriptor::new(Guid([0xd1; 16]), Kind::Pong, 5, 0, payload);
-    Ok(pong.map_err(|_| "a Pong")?)
+    match Descriptor::new(Guid([0xd1; 16]), Kind::Pong, 5, 0, payload) {
+        Ok(pong) => Ok(pong),
+        Err(_) => Err(Fail::from("a Pong")),
+    }
 }
 
 /// Whether the router answers an event with a step.
@@ -58,21 +59,20 @@ fn are_bad_origins<C: RouterCore<Global>>(alloc: Global, core: &mut C) -> Result
     Ok(pong && late)
 }
 
-/// A router refuses those after its first two steps, and they leave none.
-fn refuses<C: RouterCore<Global> + Drop, R: Abort + AllocGlobal>(rt: &R) -> Result<(), Fail> {
-    let alloc = rt.alloc();
+/// Whether a router refuses those after its first two steps, and they leave none.
+fn refuses<C: RouterCore<Global> + Drop>(alloc: Global) -> Result<bool, Fail> {
     let mut core = C::make(alloc, &usual(100)?)?;
-    assert!(rt; are_made(&mut core)?);
-    assert!(rt; are_strange(&mut core)?);
-    assert!(rt; are_bad_origins(alloc, &mut core)?);
-    assert!(rt; core.history().len() == 2);
-    Ok(())
+    let are_refused = are_made(&mut core)?
+        && are_strange(&mut core)?
+        && are_bad_origins(alloc, &mut core)?;
+    Ok(are_refused && core.history().len() == 2)
 }
 
 #[test]
 fn refusals_by_call(rt: HostRuntime) -> Result<(), Fail> {
-    refuses::<TableRouter, _>(&rt)?;
-    refuses::<PlainRouter, _>(&rt)
+    assert!(rt; refuses::<TableRouter>(rt.alloc())?);
+    assert!(rt; refuses::<PlainRouter>(rt.alloc())?);
+    Ok(())
 }
 
 /// An event. A Ping is named by the byte that its ID repeats.
@@ -124,21 +124,19 @@ fn are_counted<C: RouterCore<Global>>(core: &mut C) -> Result<bool, Fail> {
     Ok(true)
 }
 
-/// What is in flight of a connection is counted after it closes too, and no other's is.
-fn counts_flights<C: RouterCore<Global> + Drop, R: Abort + AllocGlobal>(
-    rt: &R,
-) -> Result<(), Fail> {
+/// Whether what is in flight of a connection is counted after it closes too, and no other's is.
+fn counts_flights<C: RouterCore<Global> + Drop>(alloc: Global) -> Result<bool, Fail> {
     let Ok(config) = Config::new(4, 8, 4, 8, 8, 100, 0, 2, OWN) else {
         return Err(Fail::from("a configuration"));
     };
-    let mut core = C::make(rt.alloc(), &config)?;
-    assert!(rt; are_counted(&mut core)?);
-    assert!(rt; core.stats().crowded == 1 && core.flights_of(9) == 0);
-    Ok(())
+    let mut core = C::make(alloc, &config)?;
+    let are_counted = are_counted(&mut core)?;
+    Ok(are_counted && core.stats().crowded == 1 && core.flights_of(9) == 0)
 }
 
 #[test]
 fn flights_of_each_connection(rt: HostRuntime) -> Result<(), Fail> {
-    counts_flights::<TableRouter, _>(&rt)?;
-    counts_flights::<PlainRouter, _>(&rt)
+    assert!(rt; counts_flights::<TableRouter>(rt.alloc())?);
+    assert!(rt; counts_flights::<PlainRouter>(rt.alloc())?);
+    Ok(())
 }

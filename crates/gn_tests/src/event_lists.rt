@@ -1,22 +1,19 @@
 //! Runs of requests as lists of events: both routers answer each event as the capture's text says.
 
-use crate::compare::same;
 use crate::encoding::encoded;
 use crate::request_runs::request_run;
-use crate::run::Run;
-use gn_fixtures::OWN;
+use crate::run::{Run, capture_of};
 use gn_frames::Reassembler;
 use gn_plain::PlainRouter;
 use gn_router::TableRouter;
-use gn_rules::{Config, Event, Receipt, Refusal, RouterCore, run_events};
+use gn_rules::{Event, Receipt, Refusal, RouterCore, run_events};
 use gn_text::{push_refusal, push_step_of};
 use gn_wire::Descriptor;
 use std::alloc::{AllocError, Global};
-use std::process::Abort;
 use std::test::Fail;
 
 /// The events of each run that isn't statistics alone, in the order of the runs.
-const EVENTS: [(&str, &str); 7] = [
+const EVENTS: [(&'static str, &'static str); 7] = [
     (
         "first_ping",
         "connect; connect; admit 1 <PING a1 07 00>; route 0",
@@ -69,24 +66,38 @@ const EVENTS: [(&str, &str); 7] = [
 
 /// The descriptor that hex digits encode.
 fn descriptor(alloc: Global, digits: &str) -> Result<Descriptor, Fail> {
-    let bytes = hex::decode(alloc, digits).map_err(|_| "hex")?;
+    let Ok(bytes) = hex::decode(alloc, digits) else {
+        return Err(Fail::from("hex"));
+    };
     let mut frames = Reassembler::new(alloc)?;
-    let mut fed = frames.feed(&bytes).map_err(|_| "a feed")?;
-    Ok(fed.descriptors.pop().ok_or("a descriptor")?)
+    match frames.feed(&bytes) {
+        Ok(mut fed) => Ok(fed.descriptors.pop().ok_or("a descriptor")?),
+        Err(_) => Err(Fail::from("a feed")),
+    }
+}
+
+/// The number that a word is.
+fn number(word: Option<&str>) -> Result<u32, Fail> {
+    match word.unwrap_or("").parse::<u32>() {
+        Ok(number) => Ok(number),
+        Err(_) => Err(Fail::from("a number")),
+    }
 }
 
 /// The event that a line says.
 fn event(alloc: Global, line: &str) -> Result<Event, Fail> {
     let mut words = line.split(' ');
     let word = words.next().unwrap_or("");
-    let number = words.next().and_then(|word| word.parse::<u32>().ok());
-    match (word, number) {
-        ("connect", None) => Ok(Event::Connect),
-        ("close", Some(c)) => Ok(Event::Close(c)),
-        ("take", Some(c)) => Ok(Event::Take(c)),
-        ("route", Some(t)) => Ok(Event::Route(t)),
-        ("admit", Some(c)) => Ok(Event::Admit(c, descriptor(alloc, words.next().unwrap_or(""))?)),
-        _ => Err(Fail::new("an event")),
+    if word == "connect" {
+        return Ok(Event::Connect);
+    }
+    let number = number(words.next())?;
+    match word {
+        "close" => Ok(Event::Close(number)),
+        "take" => Ok(Event::Take(number)),
+        "route" => Ok(Event::Route(number)),
+        "admit" => Ok(Event::Admit(number, descriptor(alloc, words.next().unwrap_or(""))?)),
+        _ => Err(Fail::from("an event")),
     }
 }
 
@@ -97,18 +108,6 @@ fn events(alloc: Global, lines: &str) -> Result<Vec<Event>, Fail> {
         events.push(event(alloc, line)?)?;
     }
     Ok(events)
-}
-
-/// The configuration of these numbers.
-fn config(numbers: &str) -> Result<Config, Fail> {
-    let mut all = [0u32; 6];
-    for (number, word) in all.iter_mut().zip(numbers.split(' ')) {
-        *number = word.parse::<u32>().map_err(|_| "a number")?;
-    }
-    let [neighbours, seen, servents, stage, out, steps] = all;
-    Ok(Config::new(neighbours, seen, servents, stage, out, steps, 0, 0, OWN).map_err(
-        |_| "a configuration",
-    )?)
 }
 
 /// What is printed of events and their answers.
@@ -127,40 +126,32 @@ fn printed(
     Ok(text)
 }
 
-fn answers_as<C: RouterCore<Global> + Drop, R: Abort + AllocGlobal>(
-    rt: &R,
+/// Whether a router answers the events as the run's text says.
+fn answers_as<C: RouterCore<Global> + Drop>(
+    alloc: Global,
     run: &Run,
     lines: &str,
-) -> Result<(), Fail> {
-    let alloc = rt.alloc();
+) -> Result<bool, Fail> {
+    let capture = capture_of(alloc, run)?;
+    let mut core = C::make(alloc, &capture.config)?;
     let events = events(alloc, lines)?;
-    let mut core = C::make(alloc, &config(run.numbers)?)?;
     let answers = run_events(alloc, &mut core, &events)?;
     let found = printed(alloc, &events, &answers)?;
-    same(
-        rt,
-        run.name,
-        &found,
-        encoded(alloc, run.printed)?.as_bytes(),
-    );
-    Ok(())
+    Ok(found.as_slice() == encoded(alloc, run.printed)?.as_bytes())
 }
 
-/// Both routers answer the events of the run of this name.
-fn both_answer<R: Abort + AllocGlobal>(
-    rt: &R,
-    name: &'static str,
-    lines: &str,
-) -> Result<(), Fail> {
-    let run = request_run(name)?;
-    answers_as::<TableRouter, _>(rt, run, lines)?;
-    answers_as::<PlainRouter, _>(rt, run, lines)
+/// Whether a router answers the events of all runs so. An `Err` names the first that it doesn't.
+fn answers_all<C: RouterCore<Global> + Drop>(alloc: Global) -> Result<(), Fail> {
+    for (name, lines) in &EVENTS {
+        if !answers_as::<C>(alloc, &request_run(*name)?, *lines)? {
+            return Err(Fail::from(*name));
+        }
+    }
+    Ok(())
 }
 
 #[test]
 fn events_are_answered_as_lines(rt: HostRuntime) -> Result<(), Fail> {
-    for (name, lines) in &EVENTS {
-        both_answer(&rt, *name, lines)?;
-    }
-    Ok(())
+    answers_all::<TableRouter>(rt.alloc())?;
+    answers_all::<PlainRouter>(rt.alloc())
 }

@@ -7,48 +7,61 @@ use gn_rules::{Config, Event, Legality, Own, RouterCore, Step};
 use std::alloc::Global;
 use std::test::Fail;
 
-/// A configuration with so many neighbours, packets for one connection, and steps.
-fn config(neighbours: u32, out: u32, steps: u32, own: Own) -> Result<Config, Fail> {
-    Ok(Config::new(neighbours, 8, 4, 8, out, steps, 0, 0, own).map_err(|_| "within the limits")?)
-}
-
 /// Connection 1's Ping is routed to connection 2, and taken there.
 fn history(alloc: Global) -> Result<Vec<Step>, Fail> {
-    let mut core: PlainRouter = RouterCore::make(alloc, &config(4, 8, 100, OWN)?)?;
-    let admit = Event::Admit(1, ping(0xa1, 7, 0)?);
-    for event in [
+    let Ok(config) = Config::new(4, 8, 4, 8, 8, 100, 0, 0, OWN) else {
+        return Err(Fail::from("a configuration"));
+    };
+    let events = [
         Event::Connect,
         Event::Connect,
-        admit,
+        Event::Admit(1, ping(0xa1, 7, 0)?),
         Event::Route(0),
         Event::Take(2),
-    ] {
-        core.apply(0, &event).map_err(|_| "answered")?;
+    ];
+    let mut core = PlainRouter::make(alloc, &config)?;
+    for event in &events {
+        if core.apply(0, event).is_err() {
+            return Err(Fail::from("an answer"));
+        }
     }
     Ok(core.into_history())
+}
+
+/// A configuration by its neighbours, its steps and the files of the own servent, the first step that is judged, and how.
+type Row = (u32, u32, u32, usize, Legality);
+
+const ROWS: [Row; 7] = [
+    (4, 100, 5, 0, Legality::Legal),
+    (4, 5, 5, 0, Legality::Legal),
+    // the history is full after 3 steps
+    (4, 3, 5, 0, Legality::WrongAt(3)),
+    // the second Connect is one too many
+    (1, 100, 5, 0, Legality::WrongAt(1)),
+    // the own Pong names other files
+    (4, 100, 6, 0, Legality::WrongAt(3)),
+    // the second Connect was given number 2, as the first one
+    (4, 100, 5, 1, Legality::WrongAt(0)),
+    // an admission is refused where no connection was made
+    (4, 100, 5, 2, Legality::WrongAt(0)),
+];
+
+/// How the steps from this one on are judged under a configuration.
+fn judged(steps: &[Step], row: &Row) -> Option<Legality> {
+    let (neighbours, most, files, first, _) = *row;
+    let own = Own { files, ..OWN };
+    let steps = steps.get(first..)?;
+    match Config::new(neighbours, 8, 4, 8, 8, most, 0, 0, own) {
+        Ok(config) => Some(legal(&config, steps)),
+        Err(_) => None,
+    }
 }
 
 #[test]
 fn the_first_wrong_step_is_found(rt: HostRuntime) -> Result<(), Fail> {
     let steps = history(rt.alloc())?;
-    let others = Own { files: 6, ..OWN };
-    let rows = [
-        (config(4, 8, 100, OWN)?, 0, Legality::Legal),
-        (config(4, 8, 5, OWN)?, 0, Legality::Legal),
-        // the history is full after 3 steps
-        (config(4, 8, 3, OWN)?, 0, Legality::WrongAt(3)),
-        // the second Connect is one too many
-        (config(1, 8, 100, OWN)?, 0, Legality::WrongAt(1)),
-        // the own Pong names other files
-        (config(4, 8, 100, others)?, 0, Legality::WrongAt(3)),
-        // the second Connect was given number 2, as the first one
-        (config(4, 8, 100, OWN)?, 1, Legality::WrongAt(0)),
-        // an admission is refused where no connection was made
-        (config(4, 8, 100, OWN)?, 2, Legality::WrongAt(0)),
-    ];
-    for (config, first, wanted) in &rows {
-        let judged = steps.get(*first..).ok_or("so many steps")?;
-        assert_eq!(rt; legal(config, judged), *wanted);
+    for row in &ROWS {
+        assert_eq!(rt; judged(steps.as_slice(), row), Some(row.4));
     }
     Ok(())
 }

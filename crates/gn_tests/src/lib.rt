@@ -43,8 +43,4 @@ mod run;
 #[cfg(test)]
 mod shake;
 #[cfg(test)]
-mod streams;
-#[cfg(test)]
 mod tables;
-#[cfg(test)]
-mod wire;

@@ -3,16 +3,14 @@
 use crate::answer_runs::ANSWER_RUNS;
 use crate::link_runs::LINK_RUNS;
 use crate::request_runs::REQUEST_RUNS;
-use crate::run::{Run, capture_text};
-use gn_capture::{Capture, Line, read_capture};
-use gn_legal::legal;
+use crate::run::{Run, capture_of};
+use gn_capture::Line;
 use gn_links::{MemoryLink, NoGate};
 use gn_router::TableRouter;
-use gn_rules::{Config, Legality};
+use gn_rules::Config;
 use gn_shake::Role;
 use gn_threads::run;
 use std::alloc::{AllocError, Global};
-use std::process::Abort;
 use std::sync::Wait;
 use std::test::Fail;
 use std::thread::Threads;
@@ -52,17 +50,8 @@ fn links_of(
     Ok(links)
 }
 
-/// The capture of a run.
-fn capture_of(alloc: Global, row: &Run) -> Result<Capture, Fail> {
-    let text = capture_text(alloc, row.numbers, row.capture)?;
-    match read_capture(alloc, text.as_bytes()) {
-        Ok(capture) => Ok(capture),
-        Err(_) => Err(Fail::from(row.name)),
-    }
-}
-
-/// Whether so many links have a report, with a legal history.
-fn is_legal_run<R: Threads + Wait + Sync>(
+/// Whether so many links have a report. That its history is legal is proved.
+fn are_run<R: Threads + Wait + Sync>(
     rt: &R,
     alloc: Global,
     config: &Config,
@@ -72,45 +61,37 @@ fn is_legal_run<R: Threads + Wait + Sync>(
     if links.len() > 256 {
         return false;
     }
-    match run::<TableRouter, _, _, _, _>(rt, alloc, config, links, workers, &NoGate) {
-        Ok(report) => legal(config, report.history.as_slice()) == Legality::Legal,
-        Err(_) => false,
-    }
+    run::<TableRouter, _, _, _, _>(rt, alloc, config, links, workers, &NoGate).is_ok()
 }
 
-/// Whether the links of a run have a report, with a legal history.
-fn is_run<R: Threads + Wait + Sync>(
-    rt: &R,
-    alloc: Global,
-    row: &Run,
-    workers: u32,
-    is_cut: bool,
-) -> Result<bool, Fail> {
+/// Few and many workers, and whether the bytes come one by one.
+const WAYS: [(u32, bool); 6] = [
+    (1, false),
+    (1, true),
+    (2, false),
+    (2, true),
+    (16, false),
+    (16, true),
+];
+
+/// Whether the links of a run are run in each way.
+fn is_run<R: Threads + Wait + Sync>(rt: &R, alloc: Global, row: &Run) -> Result<bool, Fail> {
     let capture = capture_of(alloc, row)?;
-    let links = links_of(alloc, capture.lines.as_slice(), is_cut)?;
-    Ok(is_legal_run(rt, alloc, &capture.config, links, workers))
+    for (workers, is_cut) in &WAYS {
+        let links = links_of(alloc, capture.lines.as_slice(), *is_cut)?;
+        if !are_run(rt, alloc, &capture.config, links, *workers) {
+            return Ok(false);
+        }
+    }
+    Ok(true)
 }
 
-/// A run with few and with many workers, and its bytes one by one.
-fn all_run<R: Threads + Wait + Sync + Abort>(
-    rt: &R,
-    alloc: Global,
-    rows: &[Run],
-) -> Result<(), Fail> {
+/// Whether all runs are run so. An `Err` names the first that isn't.
+fn all_run<R: Threads + Wait + Sync>(rt: &R, alloc: Global, rows: &[Run]) -> Result<(), Fail> {
     for row in rows {
         // three connects alone fill that history
-        if row.name == "history_full" {
-            continue;
-        }
-        for (workers, is_cut) in [
-            (1, false),
-            (1, true),
-            (2, false),
-            (2, true),
-            (16, false),
-            (16, true),
-        ] {
-            assert!(rt; is_run(rt, alloc, row, workers, is_cut)?, "{}", row.name);
+        if row.name != "history_full" && !is_run(rt, alloc, row)? {
+            return Err(Fail::from(row.name));
         }
     }
     Ok(())

@@ -1,4 +1,4 @@
-//! Payloads byte for byte, both ways: Queries and Query Hits, and what is refused.
+//! Payloads byte for byte, both ways: Queries and Query Hits.
 
 use gn_payload::*;
 use gn_wire::Guid;
@@ -98,61 +98,6 @@ fn hits(rt: HostRuntime) -> Result<(), Fail> {
             |_| "nothing against it",
         )?;
         assert_eq!(rt; out.as_slice(), payload.as_slice());
-    }
-    Ok(())
-}
-
-#[test]
-fn refused_queries(rt: HostRuntime) -> Result<(), Fail> {
-    let long = [b'x'; 65_534];
-    let cases: [(&[u8], &[u8], Result<(), WriteRefusal>); 5] = [
-        (b"a\0", b"", Err(WriteRefusal::ZeroInText)),
-        (b"a\0", &long, Err(WriteRefusal::ZeroInText)),
-        (&long, b"", Err(WriteRefusal::TooLong)),
-        (b"", &long, Err(WriteRefusal::TooLong)),
-        (&long[1..], b"", Ok(())),
-    ];
-    for (text, tail, wanted) in cases {
-        let mut out = Vec::new(rt.alloc());
-        assert_eq!(rt; write_query(0, text, tail, &mut out), wanted);
-        assert_eq!(rt; out.len(), if wanted.is_ok() { 65_536 } else { 0 });
-    }
-    Ok(())
-}
-
-#[test]
-fn refused_hits(rt: HostRuntime) -> Result<(), Fail> {
-    let result = HitResult {
-        file: 0,
-        size: 0,
-        name: b"",
-        extra: b"",
-    };
-    let in_name = [HitResult {
-        name: b"a\0",
-        ..result
-    }; 256];
-    let in_extra = [HitResult {
-        extra: b"\0",
-        ..result
-    }; 1];
-    let many = [result; 256];
-    let long = [0; 65_510];
-    let cases: [(&[HitResult<'_>], &[u8], Result<(), WriteRefusal>); 6] = [
-        (&in_name, &long, Err(WriteRefusal::ZeroInText)),
-        (&in_extra, b"", Err(WriteRefusal::ZeroInText)),
-        (&many, &long, Err(WriteRefusal::TooManyHits)),
-        (&[], &long, Err(WriteRefusal::TooLong)),
-        (&many[1..], &long[2549..], Err(WriteRefusal::TooLong)),
-        (&many[1..], &long[2551..], Ok(())),
-    ];
-    for (results, trailer, wanted) in cases {
-        let mut out = Vec::new(rt.alloc());
-        assert_eq!(rt;
-            write_hit(0, [0; 4], 0, results, trailer, SERVENT, &mut out),
-            wanted
-        );
-        assert_eq!(rt; out.len(), if wanted.is_ok() { 65_536 } else { 0 });
     }
     Ok(())
 }

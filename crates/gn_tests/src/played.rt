@@ -5,12 +5,12 @@ use crate::compare::same;
 use crate::encoding::encoded;
 use crate::link_runs::LINK_RUNS;
 use crate::request_runs::REQUEST_RUNS;
-use crate::run::{Run, capture_text};
-use gn_capture::{read_capture, read_history, write_history};
+use crate::run::{Run, capture_of};
+use gn_capture::{read_history, write_history};
 use gn_io::{ReaderSource, WriterSink};
 use gn_legal::legal;
 use gn_plain::PlainRouter;
-use gn_replay::{Replayed, audit, play};
+use gn_replay::{audit, play};
 use gn_router::TableRouter;
 use gn_rules::{Legality, RouterCore};
 use std::alloc::Global;
@@ -66,11 +66,11 @@ fn plays<C: RouterCore<Global> + Drop, R: Abort + AllocGlobal>(
     run: &Run,
 ) -> Result<(), Fail> {
     let alloc = rt.alloc();
-    let text = capture_text(alloc, run.numbers, run.capture)?;
-    let capture = read_capture(alloc, text.as_bytes()).map_err(|_| run.name)?;
-    let mut sink = WriterSink::new(Vec::new(alloc));
-    let replayed: Replayed<C> = play(alloc, capture, &mut sink).map_err(|_| run.name)?;
     let printed = encoded(alloc, run.printed)?;
+    let mut sink = WriterSink::new(Vec::new(alloc));
+    let Ok(replayed) = play::<Global, C, _>(alloc, capture_of(alloc, run)?, &mut sink) else {
+        return Err(Fail::from(run.name));
+    };
     same(rt, run.name, &sink.into_inner(), printed.as_bytes());
     history_is_kept::<C, R>(rt, run.name, &replayed.core)
 }

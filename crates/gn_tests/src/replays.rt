@@ -43,12 +43,16 @@ fn written_without(alloc: Global, heap: &Heap, capture: &str, growth: u64) -> (b
 
 /// How many lines are whole, where the text begins so and ends with one of its lines.
 fn whole_lines(text: &[u8], written: &[u8]) -> Option<usize> {
-    let is_whole = written.is_empty() || written.ends_with(b"\n");
-    if is_whole && text.starts_with(written) {
-        Some(written.iter().filter(|byte| **byte == b'\n').count())
-    } else {
-        None
+    if !text.starts_with(written) || !(written.is_empty() || written.ends_with(b"\n")) {
+        return None;
     }
+    let mut lines = 0usize;
+    for byte in written {
+        if *byte == b'\n' {
+            lines = lines.saturating_add(1);
+        }
+    }
+    Some(lines)
 }
 
 #[test]

@@ -134,6 +134,11 @@ pub(crate) const REQUEST_RUNS: [Run; 9] = [
 ];
 
 /// The run of this name.
-pub(crate) fn request_run(name: &'static str) -> Result<&'static Run, &'static str> {
-    REQUEST_RUNS.iter().find(|run| run.name == name).ok_or(name)
+pub(crate) fn request_run(name: &'static str) -> Result<Run, &'static str> {
+    for run in &REQUEST_RUNS {
+        if run.name == name {
+            return Ok(*run);
+        }
+    }
+    Err(name)
 }

@@ -1,7 +1,9 @@
 //! What a run is.
 
 use crate::encoding::encoded;
+use gn_capture::{Capture, read_capture};
 use std::alloc::{AllocError, Global};
+use std::test::Fail;
 
 /// The numbers of the configuration that most runs have.
 pub(crate) const USUAL: &str = "4 8 4 8 8 100";
@@ -29,4 +31,13 @@ pub(crate) fn capture_text(
     let lines = encoded(alloc, lines)?;
     let version = numbers.split(' ').count().saturating_sub(5);
     format!(in alloc; "gnutella-capture {version}\nconfig {numbers}\n{own}{lines}")
+}
+
+/// The capture of a run.
+pub(crate) fn capture_of(alloc: Global, run: &Run) -> Result<Capture, Fail> {
+    let text = capture_text(alloc, run.numbers, run.capture)?;
+    match read_capture(alloc, text.as_bytes()) {
+        Ok(capture) => Ok(capture),
+        Err(_) => Err(Fail::from(run.name)),
+    }
 }

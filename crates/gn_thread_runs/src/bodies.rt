@@ -12,7 +12,7 @@ use fakes::Doorman;
 use gn_bodies::{
     BodyFault, ReaderEnd, WriterDone, WriterEnd, reader_body, worker_body, writer_body,
 };
-use gn_fixtures::{ping, usual};
+use gn_fixtures::ping;
 use gn_links::{Link, LinkReader, LinkWriter, MemoryLink, MemoryWriter};
 use gn_router::TableRouter;
 use gn_rules::{RouterCore, Step};
@@ -65,17 +65,22 @@ fn actors_of<L: Ledger>(actors: Vec<Actor<L>>) -> Option<Actors<L>>
     })
 }
 
-/// What the bodies of one link gave back, who passed the gate last with which ticket, how many admissions and steps and which
-/// ends the gate learned of, and what they left of the run.
+/// How the reader, the worker and the writer end.
+type Ends = (
+    Result<ReaderEnd, BodyFault>,
+    Result<(), BodyFault>,
+    Result<WriterEnd, BodyFault>,
+);
+
+/// How the bodies of one link ended, who passed the gate last with which ticket, how many admissions and steps and which ends
+/// the gate learned of, and what they left of the run.
 #[derive(Drop)]
 struct Ran<W: LinkWriter> {
-    read: Result<ReaderEnd, BodyFault>,
-    worked: Result<(), BodyFault>,
+    ends: Ends,
     passed: Option<(u32, u32)>,
     admitted: u32,
     counted: u32,
     ended: (bool, bool),
-    wrote: Result<WriterEnd, BodyFault>,
     writer: W,
     history: Vec<Step>,
     door: Door,
@@ -108,13 +113,11 @@ where
     C: RouterCore<Global> + Drop,
 {
     Ran {
-        read,
-        worked,
+        ends: (read, worked, wrote.end),
         passed: gate.last.get(),
         admitted: gate.admitted.get(),
         counted: gate.steps.get(),
         ended: gate.ended.get(),
-        wrote: wrote.end,
         writer: wrote.writer,
         door: hub.door(0),
         is_closing: hub.closing(),
@@ -186,8 +189,7 @@ where
     ensures writer { IfSome result (λ r. (r.1.writer.number ≡ 1) × (r.1.writer.receipts ≡ [])) }
     ensures worker { IfSome result (λ r. (r.1.worker.number ≡ 2) × (r.1.worker.receipts ≡ [])) }
 {
-    let config = usual(steps).ok()?;
-    let (service, actors) = Service::<C, L>::new(alloc, blank, &config, &[role], 1).ok()?;
+    let (service, actors) = crate::hub::service_of::<C, L>(alloc, blank, steps, &[role])?;
     Some((service, actors_of(actors)?))
 }
 

@@ -93,15 +93,16 @@ fn admits<C: RouterCore<Global>, L: Ledger>(
     Ok(hub.call(me, &event).is_ok())
 }
 
-/// What the route of a Ping is answered with.
-fn routes<C: RouterCore<Global>, L: Ledger>(
+/// Whether the route of a Ping is answered so.
+fn is_routed<C: RouterCore<Global>, L: Ledger>(
     hub: &mut Hub<C, L>,
     me: &mut Actor<L>,
     ticket: Ticket,
     byte: u8,
-) -> Result<Result<(), Refusal>, Fail> {
+    wanted: Result<(), Refusal>,
+) -> Result<bool, Fail> {
     let checked = Checked::new(ping(byte, 7, 0)?);
-    Ok(hub.route(me, ticket, &checked))
+    Ok(hub.route(me, ticket, &checked) == wanted)
 }
 
 /// Makes a call: whether its answer is the wanted one.
@@ -113,7 +114,7 @@ fn is_answered<C: RouterCore<Global>, L: Ledger>(
     Ok(match call {
         Call::Connects(link) => me.number() == link && hub.connect(me, link).is_ok(),
         Call::Admits(byte) => admits(hub, me, byte)?,
-        Call::Routes(ticket, byte, wanted) => routes(hub, me, ticket, byte)? == wanted,
+        Call::Routes(ticket, byte, wanted) => is_routed(hub, me, ticket, byte, wanted)?,
         Call::Next(c, next) => hub.next_out(me, c) == Ok(next),
         Call::Done(link, closing) => {
             hub.reader_done(link);
@@ -133,19 +134,15 @@ pub(crate) fn stands_in<L: Ledger>(me: &Actor<L>, history: &[Step]) -> bool {
     true
 }
 
-/// Each actor's share, and whether all receipts stand in the history.
-fn shares_of<L: Ledger>(
-    alloc: Global,
-    actors: &[Actor<L>],
-    history: &[Step],
-) -> Result<(Vec<u64>, bool), Fail> {
-    let mut shares = Vec::new(alloc);
-    let mut are_in_history = true;
-    for me in actors {
-        shares.push(me.share())?;
-        are_in_history &= stands_in(me, history);
+/// Whether the actors have these shares, in order, and receipts that stand in the history.
+fn have_shares<L: Ledger>(actors: &[Actor<L>], shares: &[u64], history: &[Step]) -> bool {
+    for (k, me) in actors.iter().enumerate() {
+        match shares.get(k) {
+            Some(share) if *share == me.share() && stands_in(me, history) => {}
+            _ => return false,
+        }
     }
-    Ok((shares, are_in_history))
+    actors.len() == shares.len()
 }
 
 /// The lines of these steps.
@@ -157,14 +154,12 @@ pub(crate) fn lines_of(alloc: Global, steps: &[Step]) -> Result<Vec<u8>, Fail> {
     Ok(lines)
 }
 
-/// What a run left: whether each answer was the wanted one and each receipt stands in the history, the book, each
-/// actor's share, and the history.
+/// What a run left: whether each answer was the wanted one, and the actors have the shares that are wanted and receipts that
+/// stand in the history; the book, and the history.
 #[derive(Drop)]
 struct Worked {
-    are_answered: bool,
-    are_in_history: bool,
+    is_right: bool,
     book: u64,
-    shares: Vec<u64>,
     history: Vec<Step>,
 }
 
@@ -185,20 +180,19 @@ fn are_answered<C: RouterCore<Global>, L: Ledger>(
     Ok(true)
 }
 
-/// A service of links of these roles and one worker that makes at most 100 steps, with its actors.
+/// A service of links of these roles and one worker that makes at most so many steps, with its actors.
 pub(crate) fn service_of<C: RouterCore<Global> + Drop, L: Ledger>(
     alloc: Global,
     blank: Blank,
+    steps: u32,
     roles: &[Role],
-) -> Result<(Service<C, L>, Vec<Actor<L>>), Fail>
+) -> Option<(Service<C, L>, Vec<Actor<L>>)>
     requires name { blank.name ≡ L.name }
     requires parts { (blank.parts ≡ L.parts) × (blank.parts ≡ 2 * length roles.now + 1 + 1) }
     requires few { length roles.now ≤ most_links }
 {
-    match Service::<C, L>::new(alloc, blank, &usual(100)?, roles, 1) {
-        Ok(made) => Ok(made),
-        Err(_) => Err(Fail::from("a service")),
-    }
+    let config = usual(steps).ok()?;
+    Service::<C, L>::new(alloc, blank, &config, roles, 1).ok()
 }
 
 /// The calls of a run of two plain links and one worker.
@@ -206,36 +200,40 @@ fn work<C: RouterCore<Global> + Drop, L: Ledger>(
     alloc: Global,
     blank: Blank,
     calls: &[(usize, Call)],
+    shares: &[u64],
 ) -> Result<Worked, Fail>
     requires name { blank.name ≡ L.name }
     requires parts { (blank.parts ≡ L.parts) × (blank.parts ≡ 6) }
 {
-    let (service, mut actors) = service_of::<C, L>(alloc, blank, &[Role::Plain, Role::Plain])?;
+    let Some((service, mut actors)) = service_of::<C, L>(
+        alloc,
+        blank,
+        100,
+        &[Role::Plain, Role::Plain],
+    ) else {
+        return Err(Fail::from("a service"));
+    };
     let mut hub = service.into_hub();
     let are_answered = are_answered(&mut hub, actors.as_mut_slice(), calls)?;
     let book = hub.book();
     let history = hub.into_router().into_history();
-    let (shares, are_in_history) = shares_of(alloc, actors.as_slice(), history.as_slice())?;
+    let have_shares = have_shares(actors.as_slice(), shares, history.as_slice());
     Ok(Worked {
-        are_answered,
-        are_in_history,
+        is_right: are_answered && have_shares,
         book,
-        shares,
         history,
     })
 }
 
-fn work_plain(alloc: Global, calls: &[(usize, Call)]) -> Result<Worked, Fail> {
-    work::<PlainRouter, Brand>(alloc, Blank::new(6), calls)
+fn work_plain(alloc: Global, calls: &[(usize, Call)], shares: &[u64]) -> Result<Worked, Fail> {
+    work::<PlainRouter, Brand>(alloc, Blank::new(6), calls, shares)
 }
 
 /// Two plain links connect, the first sends a Ping, and both writers take what there is until the run closes.
 #[test]
 fn a_ping_through_the_lent_hub(rt: HostRuntime) -> Result<(), Fail> {
-    let worked = work_plain(rt.alloc(), &CALLS)?;
-    assert!(rt; worked.are_answered && worked.are_in_history);
-    assert_eq!(rt; worked.book, 8);
-    assert_eq!(rt; worked.shares.as_slice(), [2, 1, 2, 2, 1, 0].as_slice());
+    let worked = work_plain(rt.alloc(), &CALLS, &[2, 1, 2, 2, 1, 0])?;
+    assert!(rt; worked.is_right && worked.book == 8);
     let lines = lines_of(rt.alloc(), worked.history.as_slice())?;
     assert_eq!(rt; lines.as_slice(), WORKED.as_bytes());
     Ok(())
@@ -243,9 +241,8 @@ fn a_ping_through_the_lent_hub(rt: HostRuntime) -> Result<(), Fail> {
 
 #[test]
 fn forged_routes_are_refused(rt: HostRuntime) -> Result<(), Fail> {
-    let worked = work_plain(rt.alloc(), &FORGED_CALLS)?;
-    assert!(rt; worked.are_answered && worked.are_in_history);
-    assert_eq!(rt; worked.shares.as_slice(), [3, 0, 0, 0, 2, 0].as_slice());
+    let worked = work_plain(rt.alloc(), &FORGED_CALLS, &[3, 0, 0, 0, 2, 0])?;
+    assert!(rt; worked.is_right && worked.book == 5);
     let lines = lines_of(rt.alloc(), worked.history.as_slice())?;
     assert_eq!(rt; lines.as_slice(), FORGED.as_bytes());
     Ok(())

@@ -17,6 +17,8 @@ mod limited;
 #[cfg(test)]
 mod loads;
 #[cfg(test)]
+mod loopback;
+#[cfg(test)]
 mod prompt;
 #[cfg(test)]
 mod report;

@@ -7,7 +7,6 @@ use gn_replay::audit;
 use gn_router::TableRouter;
 use gn_rules::{Event, Legality, Reply, Step};
 use std::alloc::Global;
-use std::process::Abort;
 use std::sync::Wait;
 use std::test::Fail;
 use std::thread::Threads;
@@ -38,7 +37,7 @@ join
 }
 
 /// How many of these steps are of each kind.
-#[derive(Clone, Copy, Debug, PartialEq, Eq)]
+#[derive(Clone, Copy)]
 struct Kinds {
     connected: u32,
     admitted: u32,
@@ -63,6 +62,16 @@ fn count(kinds: &mut Kinds, step: &Step) {
     *kind = kind.saturating_add(1);
 }
 
+/// Whether six links connected and closed, with nothing left, each of their 600 Pings was admitted or crowded, and each that
+/// was admitted was routed; and no step is of another kind.
+fn are_all_of_six(kinds: &Kinds) -> bool {
+    kinds.connected == 6
+        && kinds.closed_empty == 6
+        && kinds.admitted.saturating_add(kinds.crowded) == 600
+        && kinds.routed_local == kinds.admitted
+        && kinds.others == 0
+}
+
 /// The history that a load by so many workers writes.
 fn history_of<R: Threads + Wait + Sync>(
     rt: &R,
@@ -78,7 +87,7 @@ fn history_of<R: Threads + Wait + Sync>(
 }
 
 /// Whether an audit finds a history legal, and writes that it has so many steps.
-fn is_legal(alloc: Global, history: &[u8], steps: usize) -> Result<bool, Fail> {
+pub(crate) fn is_legal(alloc: Global, history: &[u8], steps: usize) -> Result<bool, Fail> {
     let mut source = ReaderSource::new(history);
     let mut sink = WriterSink::new(Vec::new(alloc));
     let legality = audit::<Global, TableRouter, _, _>(alloc, &mut source, &mut sink)?;
@@ -104,7 +113,7 @@ fn kinds_of(steps: &[Step]) -> Kinds {
 }
 
 /// The kinds of the steps of a load by so many workers, whose history is legal.
-fn kinds_of_load<R: Threads + Wait + Sync + Abort>(
+fn kinds_of_load<R: Threads + Wait + Sync>(
     rt: &R,
     alloc: Global,
     head: &str,
@@ -112,7 +121,9 @@ fn kinds_of_load<R: Threads + Wait + Sync + Abort>(
 ) -> Result<Kinds, Fail> {
     let history = history_of(rt, alloc, head, workers)?;
     let (_, steps) = read_history(alloc, history.as_slice())?;
-    assert!(rt; is_legal(alloc, history.as_slice(), steps.len())?);
+    if !is_legal(alloc, history.as_slice(), steps.len())? {
+        return Err("a legal history".into());
+    }
     Ok(kinds_of(steps.as_slice()))
 }
 
@@ -121,34 +132,17 @@ fn six_links_of_a_hundred_pings(rt: HostRuntime) -> Result<(), Fail> {
     let head = "gnutella-capture 1\nconfig 8 1024 64 1024 1024 100000\n";
     for workers in [4, 64] {
         let kinds = kinds_of_load(&rt, rt.alloc(), head, workers)?;
+        assert!(rt; are_all_of_six(&kinds) && kinds.crowded == 0);
         assert!(rt; kinds.taken >= 600 && kinds.taken <= 3600);
-        let wanted = Kinds {
-            connected: 6,
-            admitted: 600,
-            crowded: 0,
-            routed_local: 600,
-            closed_empty: 6,
-            taken: kinds.taken,
-            others: 0,
-        };
-        assert_eq!(rt; kinds, wanted);
     }
     Ok(())
 }
 
+/// Of each link a Ping is admitted at least.
 #[test]
 fn six_links_of_which_none_crowds(rt: HostRuntime) -> Result<(), Fail> {
     let head = "gnutella-capture 3\nconfig 8 1024 64 1024 1024 100000 0 1\n";
     let kinds = kinds_of_load(&rt, rt.alloc(), head, 64)?;
-    let wanted = Kinds {
-        connected: 6,
-        crowded: 600u32.saturating_sub(kinds.admitted),
-        routed_local: kinds.admitted,
-        closed_empty: 6,
-        others: 0,
-        ..kinds
-    };
-    assert!(rt; kinds.admitted >= 6 && kinds.admitted <= 600);
-    assert_eq!(rt; kinds, wanted);
+    assert!(rt; are_all_of_six(&kinds) && kinds.admitted >= 6);
     Ok(())
 }

@@ -2,34 +2,46 @@
 
 use crate::in_step::{Meeting, PacedLink};
 use crate::wanted::a_report;
-use bytes::Bytes;
 use gn_bodies::WriterEnd;
-use gn_fixtures::OWN;
+use gn_fixtures::{OWN, PING};
 use gn_links::{Gate, Link, MemoryLink, NoGate};
 use gn_router::TableRouter;
 use gn_rules::Config;
 use gn_run::Report;
 use gn_shake::Role;
 use gn_threads::{RunFault, run};
-use gn_wire::{Descriptor, Guid, Kind};
-use std::alloc::Global;
+use std::alloc::{AllocError, Global};
 use std::sync::Wait;
 use std::sync::atomic::Ordering;
 use std::test::Fail;
 use std::thread::Threads;
 
 /// Pings with these numbers in their IDs, TTL 7 and Hops 0, one after another.
-fn pings(alloc: Global, link: u8, count: u8) -> Result<Vec<u8>, Fail> {
+fn pings(alloc: Global, link: u8, count: u8) -> Result<Vec<u8>, AllocError> {
     let mut bytes = Vec::new(alloc);
     for number in 0..count {
-        let mut id = [0xa1; 16];
-        id[0] = link;
-        id[1] = number;
-        let payload = Bytes::copy_from_slice(alloc, &[])?;
-        let ping = Descriptor::new(Guid(id), Kind::Ping, 7, 0, payload).map_err(|_| "a Ping")?;
-        ping.write_to(&mut bytes)?;
+        bytes.extend_from_slice(&[link, number])?;
+        bytes.extend_from_slice(&PING[2..])?;
     }
     Ok(bytes)
+}
+
+/// A plain link of so many Pings.
+fn link_of(alloc: Global, number: u8, count: u8) -> Result<MemoryLink, AllocError> {
+    Ok(MemoryLink::new(Role::Plain, pings(alloc, number, count)?, 4096))
+}
+
+/// So many plain links of so many Pings each.
+pub(crate) fn plain_links(
+    alloc: Global,
+    links: u8,
+    count: u8,
+) -> Result<Vec<MemoryLink>, AllocError> {
+    let mut all = Vec::new(alloc);
+    for number in 0..links {
+        all.push(link_of(alloc, number, count)?)?;
+    }
+    Ok(all)
 }
 
 /// What a run over the table router gives, of at most 256 links.
@@ -82,81 +94,65 @@ fn receipts_of<Rd, W>(report: &Report<Rd, W>) -> usize {
     count
 }
 
-/// Six links of a hundred Pings each.
-fn six_links(alloc: Global) -> Result<Vec<MemoryLink>, Fail> {
-    let mut links = Vec::new(alloc);
-    for number in 0..6u8 {
-        let bytes = pings(alloc, number, 100)?;
-        links.push(MemoryLink::new(Role::Plain, bytes, 4096))?;
-    }
-    Ok(links)
-}
-
-/// Whether a run has two workers of 300 receipts each.
-fn are_even<Rd, W>(report: &Report<Rd, W>) -> bool {
-    for receipts in &report.workers {
-        if receipts.len() != 300 {
-            return false;
-        }
-    }
-    report.workers.len() == 2
-}
-
 #[test]
 fn two_workers_meet(rt: HostRuntime) -> Result<(), Fail> {
     let meeting = Meeting::new();
-    let links = six_links(rt.alloc())?;
+    let links = plain_links(rt.alloc(), 6, 100)?;
     let report = a_report(table_run(&rt, rt.alloc(), links, 2, &meeting))?;
-    assert!(rt; are_even(&report));
     assert_eq!(rt; receipts_of(&report), report.history.len());
     assert_eq!(rt; meeting.begun(), (300, 300));
     assert!(rt; !meeting.is_missed.load(Ordering::SeqCst));
     Ok(())
 }
 
+/// How the writer of a link ended.
+fn writer_end_of<Rd, W>(report: &Report<Rd, W>, link: usize) -> Option<WriterEnd> {
+    Some(report.links.get(link)?.writer_end)
+}
+
 #[test]
 fn writes_fail_on_their_own_link(rt: HostRuntime) -> Result<(), Fail> {
-    let mut links = Vec::new(rt.alloc());
-    for (number, write) in [(0u8, Some(1)), (1, None)] {
-        let link = MemoryLink::new(Role::Plain, pings(rt.alloc(), number, 1)?, 4096);
-        links.push(link.failing(None, write))?;
-    }
+    let failing = link_of(rt.alloc(), 0, 1)?.failing(None, Some(1));
+    let mut links = vec![in rt.alloc(); failing]?;
+    links.push(link_of(rt.alloc(), 1, 1)?)?;
     let report = a_report(table_run(&rt, rt.alloc(), links, 1, &NoGate))?;
-    assert_eq!(rt; report.links.len(), 2);
-    for (k, link) in report.links.iter().enumerate() {
-        // each link's own Pong is queued to it, whatever the schedule
-        let end = if k == 0 {
-            WriterEnd::WriteFailed
-        } else {
-            WriterEnd::Drained
-        };
-        assert_eq!(rt; link.writer_end, end);
-    }
+    // each link's own Pong is queued to it, whatever the schedule
+    assert_eq!(rt; writer_end_of(&report, 0), Some(WriterEnd::WriteFailed));
+    assert_eq!(rt; writer_end_of(&report, 1), Some(WriterEnd::Drained));
     Ok(())
 }
 
-/// Two links of so many Pings each, read byte by byte, whose readers meet; or that can't be split, where they have no meeting.
+/// A plain link of so many Pings, read byte by byte; or one that can't be split, where it has no meeting.
+fn paced_link<'a>(
+    alloc: Global,
+    number: u8,
+    count: u8,
+    meeting: Option<&'a Meeting>,
+) -> Result<PacedLink<'a, MemoryLink>, AllocError> {
+    Ok(PacedLink {
+        link: MemoryLink::new(Role::Plain, pings(alloc, number, count)?, 1),
+        meeting,
+        is_first: number == 0,
+    })
+}
+
+/// Two such links, of which the second may have no meeting.
 fn paced_links<'a>(
     alloc: Global,
-    pings_of_each: u8,
-    meetings: [Option<&'a Meeting>; 2],
-) -> Result<Vec<PacedLink<'a, MemoryLink>>, Fail> {
+    count: u8,
+    first: &'a Meeting,
+    second: Option<&'a Meeting>,
+) -> Result<Vec<PacedLink<'a, MemoryLink>>, AllocError> {
     let mut links = Vec::new(alloc);
-    for (number, meeting) in (0u8..).zip(meetings) {
-        let link = MemoryLink::new(Role::Plain, pings(alloc, number, pings_of_each)?, 1);
-        links.push(PacedLink {
-            link,
-            meeting,
-            is_first: number == 0,
-        })?;
-    }
+    links.push(paced_link(alloc, 0, count, Some(first))?)?;
+    links.push(paced_link(alloc, 1, count, second)?)?;
     Ok(links)
 }
 
 #[test]
 fn two_readers_meet(rt: HostRuntime) -> Result<(), Fail> {
     let meeting = Meeting::new();
-    let links = paced_links(rt.alloc(), 10, [Some(&meeting); 2])?;
+    let links = paced_links(rt.alloc(), 10, &meeting, Some(&meeting))?;
     let report = a_report(table_run(&rt, rt.alloc(), links, 1, &NoGate))?;
     assert_eq!(rt; report.stats.routed, 20);
     // ten Pings of 23 bytes, and the read that finds no more, on both sides alike: nobody waits for one that has ended
@@ -168,7 +164,7 @@ fn two_readers_meet(rt: HostRuntime) -> Result<(), Fail> {
 #[test]
 fn a_link_that_cannot_be_split_is_named(rt: HostRuntime) -> Result<(), Fail> {
     let meeting = Meeting::new();
-    let links = paced_links(rt.alloc(), 0, [Some(&meeting), None])?;
+    let links = paced_links(rt.alloc(), 0, &meeting, None)?;
     let ran = table_run(&rt, rt.alloc(), links, 1, &NoGate);
     assert_eq!(rt; ran.err(), Some(RunFault::Link(1)));
     Ok(())

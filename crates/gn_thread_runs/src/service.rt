@@ -53,10 +53,10 @@ fn nobody_meets<C: RouterCore<Global> + Drop, L: Ledger, R: Wait>(
     shut && service.meet(rt, 1).is_none()
 }
 
-/// The first two of these actors.
-fn first_two<L: Ledger>(actors: Vec<Actor<L>>) -> Option<(Actor<L>, Actor<L>)> {
+/// The first three of these actors.
+fn first_three<L: Ledger>(actors: Vec<Actor<L>>) -> Option<((Actor<L>, Actor<L>), Actor<L>)> {
     let mut all = actors.into_iter();
-    all.next().zip(all.next())
+    all.next().zip(all.next()).zip(all.next())
 }
 
 /// Whether an actor has 50 receipts, which stand in the history.
@@ -74,9 +74,12 @@ fn hundred<C: RouterCore<Global> + Drop + Send, L: Ledger + Send + Sync, R: Thre
     requires name { blank.name ≡ L.name }
     requires parts { (blank.parts ≡ L.parts) × (blank.parts ≡ 6) }
 {
-    let (service, actors) = service_of::<C, L>(alloc, blank, &[Role::Plain, Role::Plain])?;
-    let Some((a, b)) = first_two(actors) else {
-        return Err(Fail::from("two actors"));
+    let Some((service, actors)) = service_of::<C, L>(alloc, blank, 100, &[Role::Plain, Role::Plain])
+    else {
+        return Err(Fail::from("a service"));
+    };
+    let Some(((a, b), _)) = first_three(actors) else {
+        return Err(Fail::from("three actors"));
     };
     let (a, b) = both_connect(rt, &service, a, b);
     let nobody_meets = nobody_meets(rt, &service);
@@ -198,12 +201,6 @@ fn ping_and_take<
     )
 }
 
-/// The first three of these actors.
-fn first_three<L: Ledger>(actors: Vec<Actor<L>>) -> Option<((Actor<L>, Actor<L>), Actor<L>)> {
-    let mut all = actors.into_iter();
-    all.next().zip(all.next()).zip(all.next())
-}
-
 /// Eight Pings by a link's reader and its writer, each in a thread of its own: how many packets the writer took.
 fn wake<C: RouterCore<Global> + Drop + Send, L: Ledger + Send + Sync, R: Threads + Wait + Sync>(
     rt: &R,
@@ -213,7 +210,9 @@ fn wake<C: RouterCore<Global> + Drop + Send, L: Ledger + Send + Sync, R: Threads
     requires name { blank.name ≡ L.name }
     requires parts { (blank.parts ≡ L.parts) × (blank.parts ≡ 4) }
 {
-    let (service, actors) = service_of::<C, L>(alloc, blank, &[Role::Plain])?;
+    let Some((service, actors)) = service_of::<C, L>(alloc, blank, 100, &[Role::Plain]) else {
+        return Err(Fail::from("a service"));
+    };
     let Some(((reader, writer), worker)) = first_three(actors) else {
         return Err(Fail::from("three actors"));
     };

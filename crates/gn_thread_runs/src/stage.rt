@@ -4,7 +4,7 @@ ghost use Rattle.std.specs.Prelude.{◌≡◌, ◌<◌, ◌≤◌};
 
 use gn_fixtures::ping;
 use gn_stage::*;
-use std::alloc::{AllocError, Allocator, Global};
+use std::alloc::{AllocError, Global};
 use std::marker::Brand;
 use std::sync::Wait;
 use std::test::Fail;
@@ -13,23 +13,19 @@ use std::thread::{JoinHandle, Threads};
 use std::time::{Clock, Duration};
 
 /// A Ping with this ticket.
-fn job<A: Allocator>(ticket: u32) -> Result<Job<A>, AllocError> {
+fn job(ticket: u32) -> Result<Job, AllocError> {
     match ping(0xa1, 7, 0) {
         Ok(descriptor) => Ok(Job { ticket, descriptor }),
         Err(_) => Err(AllocError),
     }
 }
 
-/// What a settled stage says: how many jobs were put and taken, and the tickets that were drained.
-fn summary_of<A: Allocator>(
-    alloc: Global,
-    settled: &Settled<A>,
-) -> Result<(u64, u64, Vec<u32>), AllocError> {
-    let mut tickets = Vec::new(alloc);
-    for job in &settled.drained {
+/// Adds the tickets of these jobs.
+fn add_tickets(tickets: &mut Vec<u32>, jobs: &[Job]) -> Result<(), AllocError> {
+    for job in jobs {
         tickets.push(job.ticket)?;
     }
-    Ok((settled.put, settled.taken, tickets))
+    Ok(())
 }
 
 /// Puts so many jobs, until one can't be.
@@ -44,40 +40,42 @@ fn put_some<S: Site, R: Wait>(rt: &R, intake: &mut Intake<S>, first: u32, count:
     }
 }
 
-/// What is handed back of a stage that isn't settled by these ends.
-fn unsettled<S: Site, R: Wait>(
+/// Settles a stage whose ends are these, where nothing is missing.
+fn settled<S: Site, R: Wait>(
+    rt: &R,
+    alloc: Global,
+    desk: Desk<S>,
+    ins: Vec<IntakeHome<S>>,
+    outs: Vec<OutletHome<S>>,
+) -> Result<Settled, AllocError> {
+    match desk.settle(rt, alloc, ins, outs) {
+        Ok(settled) => Ok(settled),
+        Err(_) => Err(AllocError),
+    }
+}
+
+/// The fault of a stage that isn't settled by these ends, and what is settled of it once another intake has come home.
+fn settled_late<S: Site, R: Wait>(
     rt: &R,
     alloc: Global,
     desk: Desk<S>,
     intake: IntakeHome<S>,
     outlet: OutletHome<S>,
-) -> Result<Unsettled<S>, AllocError> {
+    late: IntakeHome<S>,
+) -> Result<(StageFault, Settled), AllocError> {
     let ins = vec![in alloc; intake]?;
     let outs = vec![in alloc; outlet]?;
-    match desk.settle(rt, alloc, ins, outs) {
-        Ok(_) => Err(AllocError),
-        Err(back) => Ok(back),
-    }
-}
-
-/// What is settled of it once another intake has come home.
-fn settled_late<S: Site, R: Wait>(
-    rt: &R,
-    alloc: Global,
-    back: Unsettled<S>,
-    late: IntakeHome<S>,
-) -> Result<Settled, AllocError> {
+    let Err(back) = desk.settle(rt, alloc, ins, outs) else {
+        return Err(AllocError);
+    };
     let Unsettled {
-        fault: _,
+        fault,
         desk,
         mut intakes,
         outlets,
     } = back;
     intakes.push(late)?;
-    match desk.settle(rt, alloc, intakes, outlets) {
-        Ok(settled) => Ok(settled),
-        Err(_) => Err(AllocError),
-    }
+    Ok((fault, settled(rt, alloc, desk, intakes, outlets)?))
 }
 
 /// The ticket of a job, where there is one.
@@ -99,9 +97,8 @@ fn one_thread<S: Site, R: Wait>(
     };
     put_some(rt, &mut intake, 0, 2);
     let first = ticket_of(outlet.take(rt));
-    let back = unsettled(rt, alloc, desk, intake.finish(), outlet.finish())?;
-    let fault = back.fault;
-    let settled = settled_late(rt, alloc, back, late.finish())?;
+    let (intake, outlet, late) = (intake.finish(), outlet.finish(), late.finish());
+    let (fault, settled) = settled_late(rt, alloc, desk, intake, outlet, late)?;
     Ok((first, fault, settled))
 }
 
@@ -115,9 +112,10 @@ fn in_one_thread<R: Wait>(
 #[test]
 fn stage_settles(rt: HostRuntime) -> Result<(), Fail> {
     let (first, fault, settled) = in_one_thread(&rt, rt.alloc())?;
-    let (put, taken, drained) = summary_of(rt.alloc(), &settled)?;
-    assert_eq!(rt; (first, fault), (Some(0), StageFault::Missing));
-    assert_eq!(rt; (put, taken), (2, 1));
+    let mut drained = Vec::new(rt.alloc());
+    add_tickets(&mut drained, settled.drained.as_slice())?;
+    assert!(rt; first == Some(0) && fault == StageFault::Missing);
+    assert!(rt; settled.put == 2 && settled.taken == 1);
     assert_eq!(rt; drained.as_slice(), [1].as_slice());
     Ok(())
 }
@@ -175,20 +173,6 @@ fn all_taken<S: Site>(
     Ok((outs, tickets))
 }
 
-/// Settles a stage whose ends are these, where nothing is missing.
-fn settled<S: Site, R: Wait>(
-    rt: &R,
-    alloc: Global,
-    desk: Desk<S>,
-    ins: Vec<IntakeHome<S>>,
-    outs: Vec<OutletHome<S>>,
-) -> Result<Settled, AllocError> {
-    match desk.settle(rt, alloc, ins, outs) {
-        Ok(settled) => Ok(settled),
-        Err(_) => Err(AllocError),
-    }
-}
-
 /// The ends of a stage that came home, with what each outlet took.
 type Homes<S> = (Vec<IntakeHome<S>>, Vec<(OutletHome<S>, Vec<u32>)>);
 
@@ -226,6 +210,16 @@ fn many_threads<S: Site + Send, R: Threads + Wait + Sync>(
     Ok((tickets, settled(rt, alloc, desk, ins, outs)?))
 }
 
+/// Whether these are the tickets from 0 on, in order.
+fn are_in_order(tickets: &[u32]) -> bool {
+    for (i, ticket) in tickets.iter().enumerate() {
+        if *ticket as usize != i {
+            return false;
+        }
+    }
+    true
+}
+
 /// How many jobs were put, taken and drained, and whether each ticket from 0 on is there once.
 fn counted<R: Threads + Wait + Sync>(
     rt: &R,
@@ -241,14 +235,10 @@ fn counted<R: Threads + Wait + Sync>(
     let (mut tickets, settled) = many_threads::<Brand, R>(
         rt, alloc, stage, intakes, outlets, count,
     )?;
-    let (put, taken, drained) = summary_of(alloc, &settled)?;
-    tickets.extend_from_slice(drained.as_slice())?;
+    add_tickets(&mut tickets, settled.drained.as_slice())?;
     tickets.sort()?;
-    let are_in_order = tickets
-        .iter()
-        .enumerate()
-        .all(|(i, ticket)| *ticket as usize == i);
-    Ok(((put, taken, drained.len()), are_in_order))
+    let counts = (settled.put, settled.taken, settled.drained.len());
+    Ok((counts, are_in_order(tickets.as_slice())))
 }
 
 #[test]

@@ -1,10 +1,10 @@
 //! Exits of a body that leave no step: what is shut, and what fails the run. Those that close have their rows with whole runs.
 
-use super::{Setting, USUAL, run_link};
+use super::worked::never_opens;
+use super::{Ends, Setting, USUAL, run_link};
 use gn_bodies::{BodyFault, ReaderEnd, WriterEnd};
 use gn_fixtures::PING;
 use gn_links::MemoryLink;
-use gn_service::Door;
 use gn_shake::{Role, request};
 use std::alloc::Global;
 use std::sync::Wait;
@@ -14,18 +14,9 @@ use std::test::Fail;
 fn a_read_fails_in_the_greeting(rt: HostRuntime) -> Result<(), Fail> {
     let bytes = request().to_vec(rt.alloc())?;
     let link = MemoryLink::new(Role::Accepting, bytes, 1).failing(Some(22), None);
-    let ran = run_link(&rt, rt.alloc(), USUAL, link).ok_or("memory")?;
-    assert!(rt; ran.read == Ok(ReaderEnd::ReadFailed) && ran.wrote == Ok(WriterEnd::NeverOpened));
-    assert!(rt; ran.history.is_empty() && ran.door == Door::Shut && ran.is_closing);
+    assert!(rt; never_opens(&rt, rt.alloc(), link, ReaderEnd::ReadFailed, b""));
     Ok(())
 }
-
-/// How the reader, the worker and the writer end.
-type Ends = (
-    Result<ReaderEnd, BodyFault>,
-    Result<(), BodyFault>,
-    Result<WriterEnd, BodyFault>,
-);
 
 /// How the bodies of a link of one Ping end in a run of at most so many steps.
 fn ends_at(steps: u32) -> Ends {
@@ -42,10 +33,7 @@ fn ends_at(steps: u32) -> Ends {
 fn found_at<R: Wait>(rt: &R, alloc: Global, steps: u32) -> Result<(Ends, bool, bool), Fail> {
     let link = MemoryLink::new(Role::Plain, PING.to_vec(alloc)?, 4096);
     match run_link(rt, alloc, Setting { steps, ..USUAL }, link) {
-        Some(ran) => {
-            let ends = (ran.read, ran.worked, ran.wrote);
-            Ok((ends, ran.has_failed, ran.is_closing))
-        }
+        Some(ran) => Ok((ran.ends, ran.has_failed, ran.is_closing)),
         None => Err(Fail::from("memory")),
     }
 }

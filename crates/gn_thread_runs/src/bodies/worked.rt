@@ -7,10 +7,12 @@ use gn_fixtures::{OWN_PONG, PING};
 use gn_links::{MemoryLink, MemoryWriter};
 use gn_service::Door;
 use gn_shake::{Role, consent, request};
+use std::alloc::Global;
+use std::sync::Wait;
 use std::test::Fail;
 
 /// The steps of a link that sends one Ping.
-const ONE_PING: &str = "\
+pub(super) const ONE_PING: &str = "\
 0 connect = connected 1
 0 admit 1 a1a1a1a1a1a1a1a1a1a1a1a1a1a1a1a100070000000000 = admitted 0
 2 route 0 = routed local 1+a1a1a1a1a1a1a1a1a1a1a1a1a1a1a1a10101000e000000ca187f0000010500000028000000
@@ -26,12 +28,35 @@ fn has_written(
     opening: &[u8],
     after: &[u8],
 ) -> bool {
-    ran.read == Ok(read)
-        && ran.worked == Ok(())
-        && ran.wrote == Ok(wrote)
+    ran.ends == (Ok(read), Ok(()), Ok(wrote))
         && ran.is_closing
         && !ran.has_failed
         && ran.writer.bytes().strip_prefix(opening) == Some(after)
+}
+
+/// Whether a link that never opens ended so, and wrote this.
+fn has_not_opened(ran: &Ran<MemoryWriter>, read: ReaderEnd, written: &[u8]) -> bool {
+    has_written(ran, read, WriterEnd::NeverOpened, written, b"")
+        && ran.history.is_empty()
+        && ran.door == Door::Shut
+        && ran.passed.is_none()
+        && ran.admitted == 0
+        && ran.counted == 0
+        && ran.ended == (true, true)
+}
+
+/// Whether this link never opens, ends so, and writes this.
+pub(super) fn never_opens<R: Wait>(
+    rt: &R,
+    alloc: Global,
+    link: MemoryLink,
+    read: ReaderEnd,
+    written: &[u8],
+) -> bool {
+    match run_link(rt, alloc, USUAL, link) {
+        Some(ran) => has_not_opened(&ran, read, written),
+        None => false,
+    }
 }
 
 #[test]
@@ -58,7 +83,7 @@ fn a_link_of_one_ping(rt: HostRuntime) -> Result<(), Fail> {
         let lines = lines_of(alloc, ran.history.as_slice())?;
         assert_eq!(rt; lines.as_slice(), ONE_PING.as_bytes());
         assert!(rt; ran.passed == Some((WORKER, 0)) && ran.admitted == 1);
-        assert_eq!(rt; (ran.counted, ran.ended), (5, (true, true)));
+        assert!(rt; ran.counted == 5 && ran.ended == (true, true));
     }
     Ok(())
 }
@@ -66,27 +91,10 @@ fn a_link_of_one_ping(rt: HostRuntime) -> Result<(), Fail> {
 #[test]
 fn a_link_that_never_opens(rt: HostRuntime) -> Result<(), Fail> {
     let alloc = rt.alloc();
-    let rows = [
-        (
-            Role::Calling,
-            b"HTTP/1.0 200 OK\r\n".as_slice(),
-            ReaderEnd::GreetingRefused,
-            request(),
-        ),
-        (
-            Role::Accepting,
-            &request()[..21],
-            ReaderEnd::GreetingCut,
-            b"".as_slice(),
-        ),
-    ];
-    for (role, bytes, read, written) in rows {
-        let link = MemoryLink::new(role, bytes.to_vec(alloc)?, 4096);
-        let ran = run_link(&rt, alloc, USUAL, link).ok_or("memory")?;
-        assert!(rt; has_written(&ran, read, WriterEnd::NeverOpened, written, b""));
-        assert!(rt; ran.history.is_empty() && ran.door == Door::Shut);
-        assert!(rt; ran.passed.is_none() && ran.admitted == 0);
-        assert_eq!(rt; (ran.counted, ran.ended), (0, (true, true)));
-    }
+    let answer = b"HTTP/1.0 200 OK\r\n".as_slice().to_vec(alloc)?;
+    let refused = MemoryLink::new(Role::Calling, answer, 4096);
+    assert!(rt; never_opens(&rt, alloc, refused, ReaderEnd::GreetingRefused, request()));
+    let cut = MemoryLink::new(Role::Accepting, request()[..21].to_vec(alloc)?, 4096);
+    assert!(rt; never_opens(&rt, alloc, cut, ReaderEnd::GreetingCut, b""));
     Ok(())
 }

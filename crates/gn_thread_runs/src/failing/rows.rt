@@ -1,9 +1,8 @@
 //! Runs over memory links that fail, are cut, come slowly or never end, row by row.
 
-use super::endless::EndlessLink;
 use super::slow::SlowLink;
 use super::{Left, READER, WRITER, run_over};
-use crate::runs::run_of;
+use crate::runs::{plain_links, run_of};
 use gn_bodies::{ReaderEnd, WriterEnd};
 use gn_fixtures::{OWN_PONG, PING, usual};
 use gn_links::{MemoryLink, NoGate};
@@ -50,8 +49,12 @@ struct Row {
     bytes: &'static [u8],
     fault: Fault,
     ks: (u32, u32),
-    /// How the reader ends, with how many Admit events: the one or the other.
-    reads: [(ReaderEnd, usize); 2],
+    /// How the reader ends.
+    reader: ReaderEnd,
+    /// The number of Admit events.
+    admits: usize,
+    /// Whether the reader may find its connection closed instead, before it has admitted anything.
+    is_closed_first: bool,
     writer: WriterEnd,
     /// Who makes the only Close event.
     closer: u32,
@@ -64,7 +67,9 @@ const ROWS: [Row; 8] = [
         bytes: PING,
         fault: Fault::Read,
         ks: (1, 23),
-        reads: [(ReaderEnd::ReadFailed, 0); 2],
+        reader: ReaderEnd::ReadFailed,
+        admits: 0,
+        is_closed_first: false,
         writer: WriterEnd::Closed,
         closer: READER,
         written: Written::None,
@@ -74,7 +79,9 @@ const ROWS: [Row; 8] = [
         bytes: PING,
         fault: Fault::Read,
         ks: (24, 24),
-        reads: [(ReaderEnd::ReadFailed, 1); 2],
+        reader: ReaderEnd::ReadFailed,
+        admits: 1,
+        is_closed_first: false,
         writer: WriterEnd::Closed,
         closer: READER,
         written: Written::AllOrNone,
@@ -85,7 +92,9 @@ const ROWS: [Row; 8] = [
         bytes: PING,
         fault: Fault::Read,
         ks: (25, 25),
-        reads: [(ReaderEnd::Bytes, 1); 2],
+        reader: ReaderEnd::Bytes,
+        admits: 1,
+        is_closed_first: false,
         writer: WriterEnd::Drained,
         closer: WRITER,
         written: Written::All,
@@ -96,7 +105,9 @@ const ROWS: [Row; 8] = [
         bytes: PING,
         fault: Fault::Write,
         ks: (1, 13),
-        reads: [(ReaderEnd::Bytes, 1), (ReaderEnd::NotLive, 0)],
+        reader: ReaderEnd::Bytes,
+        admits: 1,
+        is_closed_first: true,
         writer: WriterEnd::WriteFailed,
         closer: WRITER,
         written: Written::BeforeFault,
@@ -106,7 +117,9 @@ const ROWS: [Row; 8] = [
         bytes: PING,
         fault: Fault::Write,
         ks: (14, 50),
-        reads: [(ReaderEnd::Bytes, 1); 2],
+        reader: ReaderEnd::Bytes,
+        admits: 1,
+        is_closed_first: false,
         writer: WriterEnd::WriteFailed,
         closer: WRITER,
         written: Written::BeforeFault,
@@ -117,7 +130,9 @@ const ROWS: [Row; 8] = [
         bytes: PING,
         fault: Fault::Write,
         ks: (51, 51),
-        reads: [(ReaderEnd::Bytes, 1); 2],
+        reader: ReaderEnd::Bytes,
+        admits: 1,
+        is_closed_first: false,
         writer: WriterEnd::Drained,
         closer: WRITER,
         written: Written::All,
@@ -127,7 +142,9 @@ const ROWS: [Row; 8] = [
         bytes: PING,
         fault: Fault::Stall,
         ks: (1, 1),
-        reads: [(ReaderEnd::Bytes, 1); 2],
+        reader: ReaderEnd::Bytes,
+        admits: 1,
+        is_closed_first: false,
         writer: WriterEnd::WriteFailed,
         closer: WRITER,
         written: Written::None,
@@ -137,7 +154,9 @@ const ROWS: [Row; 8] = [
         bytes: QUERY,
         fault: Fault::Cut,
         ks: (1, 29),
-        reads: [(ReaderEnd::Bytes, 0); 2],
+        reader: ReaderEnd::Bytes,
+        admits: 0,
+        is_closed_first: false,
         writer: WriterEnd::Drained,
         closer: WRITER,
         written: Written::None,
@@ -162,16 +181,17 @@ fn greeted(
 /// The link of a row at k, read and written a byte at a time.
 fn link_of(alloc: Global, row: &Row, k: u32) -> Result<SlowLink, AllocError> {
     let mut bytes = greeted(alloc, request(), row.role, row.bytes)?;
+    let (read, write, stalls) = match row.fault {
+        Fault::Read => (Some(k), None, false),
+        Fault::Write => (None, Some(k), false),
+        Fault::Stall => (None, None, true),
+        Fault::Cut => (None, None, false),
+    };
     if let Fault::Cut = row.fault {
         bytes.truncate(k as usize);
     }
-    let link = MemoryLink::new(row.role, bytes, 1);
-    Ok(match row.fault {
-        Fault::Read => SlowLink::new(link.failing(Some(k), None), false),
-        Fault::Write => SlowLink::new(link.failing(None, Some(k)), false),
-        Fault::Stall => SlowLink::new(link, true),
-        Fault::Cut => SlowLink::new(link, false),
-    })
+    let link = MemoryLink::new(row.role, bytes, 1).failing(read, write);
+    Ok(SlowLink { link, stalls })
 }
 
 /// Whether so much of a text was written.
@@ -187,13 +207,13 @@ fn is_written(written: &[u8], text: &[u8], wanted: Written, k: u32) -> bool {
 /// Whether the run of a row at k left what it must.
 fn is_found(left: &Left, written: &[u8], row: &Row, text: &[u8], k: u32) -> bool {
     let (reader, writer) = left.ends;
-    let read = (reader, left.admits);
-    let [one, other] = row.reads;
-    (read == one || read == other)
+    let is_read = reader == row.reader && left.admits == row.admits;
+    let is_late = row.is_closed_first && reader == ReaderEnd::NotLive && left.admits == 0;
+    (is_read || is_late)
         && writer == row.writer
         && left.closers.as_slice() == [row.closer].as_slice()
         && is_written(written, text, row.written, k)
-        && left.is_right
+        && left.is_all_closed()
 }
 
 /// The first k at which the run of a row leaves something else than it must.
@@ -223,14 +243,16 @@ fn each_row_leaves_what_it_must(rt: HostRuntime) -> Result<(), Fail> {
     Ok(())
 }
 
-/// A million zero bytes are 43,478 Pings with TTL 0 and one ID, and six bytes more. The first is answered, if its Pong is
-/// taken before the reader closes.
+/// A million zero bytes, which are all that a run reads one by one, are 43,478 Pings with TTL 0 and one ID, and six bytes
+/// more. The first is answered, if its Pong is taken before the reader closes.
 const ENDLESS: Row = Row {
     role: Role::Plain,
     bytes: b"",
     fault: Fault::Cut,
     ks: (0, 0),
-    reads: [(ReaderEnd::Turns, 43_478); 2],
+    reader: ReaderEnd::Turns,
+    admits: 43_478,
+    is_closed_first: false,
     writer: WriterEnd::Closed,
     closer: READER,
     written: Written::AllOrNone,
@@ -241,28 +263,28 @@ fn a_link_without_end_is_closed(rt: HostRuntime) -> Result<(), Fail> {
     let alloc = rt.alloc();
     let mut pong = OWN_PONG.to_vec(alloc)?;
     pong[..16].fill(0);
-    let link = MemoryLink::new(Role::Plain, Vec::new(alloc), 1);
-    let link = EndlessLink::new(link);
+    // a run doesn't come to the end of these, so that to it they have none
+    let bytes = vec![in alloc; 0u8; 1_000_100]?;
+    let link = SlowLink {
+        link: MemoryLink::new(Role::Plain, bytes, 1),
+        stalls: false,
+    };
     let (left, written) = run_over(&rt, alloc, &usual(1_000_000)?, link)?;
     assert!(rt; is_found(&left, written.as_slice(), &ENDLESS, pong.as_slice(), 0));
     Ok(())
 }
 
-/// Whether a run of two plain links of these bytes, of three steps at most, finds its history full.
-fn is_full<R: Threads + Wait + Sync>(rt: &R, alloc: Global, bytes: &[u8]) -> Result<bool, Fail> {
-    let config = usual(3)?;
-    let mut links = Vec::new(alloc);
-    for _ in 0..2 {
-        links.push(MemoryLink::new(Role::Plain, bytes.to_vec(alloc)?, 1))?;
-    }
-    let ran = run_of(rt, alloc, &config, links, 1, &NoGate);
+/// Whether a run of two plain links of so many Pings, of three steps at most, finds its history full.
+fn is_full<R: Threads + Wait + Sync>(rt: &R, alloc: Global, pings: u8) -> Result<bool, Fail> {
+    let links = plain_links(alloc, 2, pings)?;
+    let ran = run_of(rt, alloc, &usual(3)?, links, 1, &NoGate);
     Ok(matches!(ran, Err(RunFault::HistoryFull)))
 }
 
 #[test]
 fn two_links_need_more_than_three_steps(rt: HostRuntime) -> Result<(), Fail> {
-    for bytes in [b"".as_slice(), PING] {
-        assert!(rt; is_full(&rt, rt.alloc(), bytes)?);
+    for pings in [0, 1] {
+        assert!(rt; is_full(&rt, rt.alloc(), pings)?);
     }
     Ok(())
 }

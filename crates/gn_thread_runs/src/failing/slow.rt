@@ -15,18 +15,6 @@ pub(super) struct SlowWriter {
 }
 
 impl SlowWriter {
-    /// Writes to this writer one byte at a time; and nothing at first, where it stalls.
-    pub(super) fn new(writer: MemoryWriter, stalls: bool) -> Self
-        ensures writer { result.writer ≡ writer }
-        ensures free { result.is_stuck ≡ false }
-    {
-        SlowWriter {
-            writer,
-            stalls,
-            is_stuck: false,
-        }
-    }
-
     /// What was written, for keeps.
     pub(super) fn into_bytes(self) -> Vec<u8> {
         self.writer.into_bytes()
@@ -75,18 +63,11 @@ impl LinkWriter for SlowWriter {
     }
 }
 
-/// A memory link whose writer is slow.
+/// A memory link whose writer takes one byte at a time; and nothing at first, where it stalls.
 #[derive(Drop)]
 pub(super) struct SlowLink {
-    link: MemoryLink,
-    stalls: bool,
-}
-
-impl SlowLink {
-    /// This link, whose writer takes one byte at a time; and nothing at first, where it stalls.
-    pub(super) fn new(link: MemoryLink, stalls: bool) -> Self {
-        SlowLink { link, stalls }
-    }
+    pub(super) link: MemoryLink,
+    pub(super) stalls: bool,
 }
 
 impl Link for SlowLink {
@@ -109,6 +90,11 @@ impl Link for SlowLink {
     fn split(self) -> Result<(MemoryReader, SlowWriter), LinkFault> {
         let SlowLink { link, stalls } = self;
         let (reader, writer) = link.split()?;
-        Ok((reader, SlowWriter::new(writer, stalls)))
+        let writer = SlowWriter {
+            writer,
+            stalls,
+            is_stuck: false,
+        };
+        Ok((reader, writer))
     }
 }
