@@ -1,41 +1,49 @@
 -- One receipt more.
-use Rattle.std.proofs.Common.{◌≡◌, ◌⊎◌, inl, inr, ℕ, ◌<◌, true, List, [], ◌∷◌, ◌++◌, length, Option, Some, None, refl, ap, ◌∙◌, sym, append_assoc, append-nil, arith}
-use Rattle.std.proofs.lemmas.List.{length_push, map-append}
+use Rattle.std.proofs.Common.{◌≡◌, ◌⊎◌, inl, inr, ℕ, true, List, [], ◌∷◌, ◌++◌, Option, Some, None, refl, ap, ◌∙◌, sym, append_assoc, append-nil}
+use Rattle.std.proofs.lemmas.List.{map-append}
 use Rattle.gn_wire.specs.Packet.{Packet}
 use Rattle.gn_rules.specs.declared.event.Event.TheVariants.{Admit, Close, Connect, Route}
 use Rattle.gn_rules.specs.declared.receipt.Receipt.{Receipt}
 use Rattle.gn_rules.specs.declared.reply.Reply.{Reply}
 use Rattle.gn_rules.specs.declared.reply.Reply.TheVariants.{Connected, TooMany, Closed, Admitted, Busy, Crowded, Routed, Dropped, Taken, Sent}
-use Rattle.gn_rules.specs.History.{admitted_of, connected_of}
+use Rattle.std.specs.Option.{option_or}
+use Rattle.std.proofs.lemmas.List.Elements.{filter_map-append}
+use Rattle.gn_rules.specs.History.{admitted_of, connected_of, taken_of}
+use Rattle.gn_laws.specs.Owners.{known_conn}
+use Rattle.gn_laws.specs.Owners as laws
 use Rattle.gn_stage.specs.Jobs.{Queued}
 use Rattle.gn_service.specs.ActorState.{ActorState, receipt, with_receipt}
 use Rattle.gn_rules.specs.Fits.{replies}
-use Rattle.gn_service.specs.Receipts.{HasReceipt, MayHaveClosed}
+use Rattle.gn_service.specs.Receipts.{HasDrained, HasReceipt}
 use Rattle.gn_bodies.specs.Admitting.{HasAdmitted, KeepsConnection}
-use Rattle.gn_bodies.specs.Events.{events_of, link_event, link_events, link_events_in, connection_of, connection_from, connection_after, packets_of, packets_in, packet_of, HasDrained, MayClose}
+use Rattle.gn_bodies.specs.Events.{events_of, link_event, link_events, link_events_in, connection_of, packets_of, MayClose}
 use Rattle.gn_bodies.specs.ReaderRows.{WithClose}
 
 link_events-push : {A : Type 0} (rs : List (Receipt A)) (r : Receipt A) → link_events_in (rs ++ r ∷ []) ≡ link_events_in rs ++ link_event r.event
 link_events-push [] r = append-nil (link_event r.event)
 link_events-push (x ∷ rs) r = ap (λ w. link_event x.event ++ w) (link_events-push rs r) ∙ sym (append_assoc (link_event x.event) (link_events_in rs) (link_event r.event))
 
-connection-push : {A : Type 0} (made : Option ℕ) (rs : List (Receipt A)) (r : Receipt A) → connection_from made (rs ++ r ∷ []) ≡ connection_after (connection_from made rs) r.reply
-connection-push made [] r = refl
-connection-push made (x ∷ rs) r = connection-push (connection_after made x.reply) rs r
+or-none : (o : Option ℕ) → option_or o None ≡ o
+or-none None = refl
+or-none (Some c) = refl
 
-packets-push : {A : Type 0} (rs : List (Receipt A)) (r : Receipt A) → packets_in (rs ++ r ∷ []) ≡ packets_in rs ++ packet_of r.reply
-packets-push [] r = append-nil (packet_of r.reply)
-packets-push (x ∷ rs) r = ap (λ w. packet_of x.reply ++ w) (packets-push rs r) ∙ sym (append_assoc (packet_of x.reply) (packets_in rs) (packet_of r.reply))
+or-assoc : (o p q : Option ℕ) → option_or o (option_or p q) ≡ option_or (option_or o p) q
+or-assoc None p q = refl
+or-assoc (Some c) p q = refl
+
+connection-push : {A : Type 0} (rs : List (Receipt A)) (r : Receipt A) → known_conn (rs ++ r ∷ []) ≡ option_or (known_conn rs) (connected_of r.reply)
+connection-push [] r = or-none (connected_of r.reply)
+connection-push (x ∷ rs) r = ap (λ o. option_or (connected_of x.reply) o) (connection-push rs r) ∙ or-assoc (connected_of x.reply) (known_conn rs) (connected_of r.reply)
 
 -- what one receipt does to the events, the connection and the packets
 pub link_events-receipt : {A : Type 0} (me us : ActorState A) (r : Receipt A) → us ≡ with_receipt me r → link_events us ≡ link_events me ++ link_event r.event
 link_events-receipt me us r got = ap link_events got ∙ link_events-push me.receipts r
 
 pub connection-receipt : {A : Type 0} (me us : ActorState A) (r : Receipt A) → us ≡ with_receipt me r → KeepsConnection me us
-connection-receipt me us r got c was = ap connection_of got ∙ connection-push None me.receipts r ∙ ap (λ made. connection_after made r.reply) was
+connection-receipt me us r got c was = ap connection_of got ∙ connection-push me.receipts r ∙ ap (λ made. option_or made (connected_of r.reply)) was
 
-pub packets-receipt : {A : Type 0} (me us : ActorState A) (r : Receipt A) → us ≡ with_receipt me r → packets_of us ≡ packets_of me ++ packet_of r.reply
-packets-receipt me us r got = ap packets_of got ∙ packets-push me.receipts r
+pub packets-receipt : {A : Type 0} (me us : ActorState A) (r : Receipt A) → us ≡ with_receipt me r → packets_of us ≡ packets_of me ++ laws.packets_of (r ∷ [])
+packets-receipt me us r got = ap packets_of got ∙ filter_map-append (λ x. taken_of x.reply) me.receipts (r ∷ [])
 
 pub events-receipt : {A : Type 0} (me us : ActorState A) (r : Receipt A) → us ≡ with_receipt me r → events_of us ≡ events_of me ++ r.event ∷ []
 events-receipt me us r got = ap events_of got ∙ map-append (λ x. x.event) me.receipts (r ∷ [])
@@ -153,23 +161,12 @@ close_packets c me us (inr (index, count, got)) = packets-receipt me us (receipt
 pub drained_packets : {A : Type 0} (c : ℕ) (me us : ActorState A) → HasDrained c me us → packets_of us ≡ packets_of me
 drained_packets c me us (index, got) = packets-receipt me us (receipt index (Close c) (Closed 0)) got ∙ append-nil (packets_of me)
 
--- an actor that got no receipt, or one of a close, by how many it has
-pub drained_more : {A : Type 0} (c : ℕ) (me us : ActorState A) → MayHaveClosed c me us → length me.receipts < length us.receipts → HasDrained c me us
-drained_more c me us (inl same) more = let e = ap (λ w. length w.receipts) same in absurd (omega arith)
-drained_more c me us (inr got) more = got
-
-pub drained_no_more : {A : Type 0} (c : ℕ) (me us : ActorState A) → MayHaveClosed c me us → ¬ (length me.receipts < length us.receipts) → us ≡ me
-drained_no_more c me us (inl same) more = same
-drained_no_more c me us (inr (index, got)) more =
-    let e = ap (λ w. length w.receipts) got ∙ length_push me.receipts (receipt index (Close c) (Closed 0)) in
-    absurd (more (omega arith))
-
 -- the first receipt of a reader
 pub first_connection : {A : Type 0} (me us : ActorState A) (last : Reply A) → HasReceipt Connect me us → me.receipts ≡ [] → IsLast last us → connection_of us ≡ connected_of last
 first_connection me us last (index, reply, fits, got) none is =
     let r = receipt index Connect reply in
     let same : last ≡ reply = is me.receipts r (ap (λ w. w.receipts) got) in
-    ap connection_of got ∙ connection-push None me.receipts r ∙ ap (λ w. connection_after (connection_from None w) reply) none ∙ ap connected_of (sym same)
+    ap connection_of got ∙ connection-push me.receipts r ∙ ap (λ w. option_or (known_conn w) (connected_of reply)) none ∙ ap connected_of (sym same)
 
 pub first_events : {A : Type 0} (me us : ActorState A) → HasReceipt Connect me us → me.receipts ≡ [] → link_events us ≡ Connect ∷ []
 first_events me us (index, reply, fits, got) none =

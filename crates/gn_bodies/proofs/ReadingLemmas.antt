@@ -1,5 +1,5 @@
 -- A reader's bytes so far.
-use Rattle.std.proofs.Common.{◌≡◌, ℕ, ◌<◌, All, Bool, true, false, cond, List, [], ◌∷◌, ◌++◌, length, take, drop, Option, Some, None, refl, sym, ap, ◌∙◌, subst, append_assoc}
+use Rattle.std.proofs.Common.{◌≡◌, ℕ, ◌<◌, All, true, false, cond, List, [], ◌∷◌, ◌++◌, length, take, drop, Option, Some, None, refl, sym, ap, ◌∙◌, subst, append_assoc}
 use Rattle.std.proofs.lemmas.List.{drop_at}
 use Rattle.std.proofs.lemmas.List.Elements.{All-nil}
 use Rattle.gn_wire.specs.declared.header.FrameFault.{FrameFault}
@@ -9,18 +9,24 @@ use Rattle.gn_shake.specs.declared.shake.ShakeState.{ShakeState}
 use Rattle.gn_shake.specs.declared.shake.ShakeState.TheVariants.{More, Done}
 use Rattle.gn_shake.specs.Greeting.{GreetingIsKnown, greeting_state}
 use Rattle.gn_shake.specs.Shaking.{Shaking, answer_of, fed, used_of, shake_of, PiecesAreOneStream}
+use Rattle.std.specs.Prelude.{IfOk, OnOk, Result}
 use Rattle.gn_rules.specs.declared.event.Event.{Event}
+use Rattle.gn_rules.specs.declared.receipt.Receipt.{Receipt}
+use Rattle.gn_bodies.specs.declared.ends.BodyFault.{BodyFault}
+use Rattle.gn_bodies.specs.Admitting.{Admitting, KeepsConnection}
+use Rattle.gn_bodies.specs.Done.{Half, IsReaderDone, ReaderKeeps, ReadsAs}
 use Rattle.gn_bodies.specs.declared.ends.ReaderEnd.{ReaderEnd}
 use Rattle.gn_bodies.specs.declared.ends.ReaderEnd.TheVariants.{Bytes, Fault, ReadFailed, Turns, GreetingRefused, GreetingCut, TooMany, NotLive}
 use Rattle.gn_shake.specs.declared.role.Role.{Role}
 use Rattle.gn_bodies.specs.declared.piece.Reading.{Reading}
 use Rattle.gn_bodies.specs.declared.piece.Reading.TheVariants as reading
 use Rattle.gn_service.specs.ActorState.{ActorState}
-use Rattle.gn_bodies.specs.Events.{link_events, link_events_in, connection_of, offered_events}
+use Rattle.gn_bodies.specs.Events.{events_of, link_events, link_events_in, connection_of, offered_events}
 use Rattle.gn_shake.specs.Roles.{greeting_of}
-use Rattle.gn_links.specs.Halves.{IsNewReader, IsReadOf}
+use Rattle.gn_links.specs.Halves.{Source}
+use Rattle.gn_links.specs.Views.{IsNewReader, IsReadFrom, ReadHalf}
 use Rattle.gn_bodies.specs.Offers.{frames_after, is_done}
-use Rattle.gn_bodies.specs.ReaderRows.{ConnectedRow, SourceRow, WithClose}
+use Rattle.gn_bodies.specs.ReaderRows.{ConnectedRow, ReaderRow, SourceRow, WithClose}
 use Rattle.gn_bodies.specs.Reading.{HasConnection, IsOffering, IsReading, ReadRow, OpenRow, reading_connection, end_of_bytes, is_of_bytes, closes}
 
 -- a stream that begins with the greeting has it accepted
@@ -106,16 +112,16 @@ pub conn_of_reading : {A : Type 0} (r : Reading A) (me : ActorState A) → HasCo
 conn_of_reading (reading.Greeting shake) me none = ap (λ w. connection_of (record { number = me.number; receipts = w })) none
 conn_of_reading (reading.Joined c frames) me is = is
 
--- an end that bytes bring says nothing of the link
-pub bytes_source : (end : ReaderEnd) (failures gave : ℕ) (ended : Bool) → is_of_bytes end ≡ true → SourceRow end failures gave ended
-bytes_source Bytes failures gave ended is = absurd (cc)
-bytes_source (Fault f) failures gave ended is = tt
-bytes_source ReadFailed failures gave ended is = absurd (cc)
-bytes_source Turns failures gave ended is = absurd (cc)
-bytes_source GreetingRefused failures gave ended is = tt
-bytes_source GreetingCut failures gave ended is = absurd (cc)
-bytes_source TooMany failures gave ended is = tt
-bytes_source NotLive failures gave ended is = tt
+-- an end that bytes bring says nothing of the half
+pub bytes_source : (end : ReaderEnd) (half : ReadHalf) → is_of_bytes end ≡ true → SourceRow end half
+bytes_source Bytes half is = absurd (cc)
+bytes_source (Fault f) half is = tt
+bytes_source ReadFailed half is = absurd (cc)
+bytes_source Turns half is = absurd (cc)
+bytes_source GreetingRefused half is = tt
+bytes_source GreetingCut half is = absurd (cc)
+bytes_source TooMany half is = tt
+bytes_source NotLive half is = tt
 
 -- nor that a read failed
 pub bytes_not_failed : {X : Type 0} (end : ReaderEnd) → is_of_bytes end ≡ true → end ≡ ReadFailed → X
@@ -149,12 +155,65 @@ open_row role TooMany c es b is row = absurd row
 open_row role NotLive c es b is row = row
 
 -- of a new reader nothing was read
-pub nothing_read : (all bytes : List ℕ) (failures pieces : ℕ) (ended : Bool) → IsNewReader bytes failures pieces ended
-    → IsReadOf all bytes ended
-nothing_read all bytes failures pieces ended (none, _, _, goes) =
+pub nothing_read : (source : Source) (half : ReadHalf) → IsNewReader half → IsReadFrom source half
+nothing_read source half new =
+    λ _. let goes = new.goes_on in
     record {
-      octets = subst (λ b. All (λ n. n < 256) b) (sym none) (All-nil (λ n. n < 256));
-      rest = all;
-      whole = ap (λ b. b ++ all) (sym none);
+      octets = subst (λ b. All (λ n. n < 256) b) (sym new.none) (All-nil (λ n. n < 256));
+      rest = source.bytes;
+      whole = ap (λ b. b ++ source.bytes) (sym new.none);
       ended = λ e. absurd (cc);
     }
+
+-- what a reader's row is once it has closed what it closes at this end: nothing where it has no connection
+pub unconnected_row : {A : Type 0} (role : Role) (end : ReaderEnd) (made : Option ℕ) (es : List (Event A)) (b : List ℕ) → made ≡ None → ReadRow role end made es b → ReaderRow role end made es b
+unconnected_row role end None es b is row = row
+unconnected_row role end (Some c) es b is row = absurd (cc)
+
+pub connected_row : {A : Type 0} (role : Role) (end : ReaderEnd) (made : Option ℕ) (c : ℕ) (es before : List (Event A)) (b : List ℕ) → made ≡ Some c
+    → (OpenRow role end c before b → ConnectedRow role end c es b) → ReadRow role end made before b → ReaderRow role end made es b
+connected_row {A} role end made c es before b is closes row =
+    let here : (greeting_state (greeting_of role) b ≡ Done) × OpenRow role end c before b = subst (λ (o : Option ℕ). ReadRow role end o before b) is row in
+    subst (λ (o : Option ℕ). ReaderRow role end o es b) (sym is) (here.0, closes here.1)
+
+-- what a reader promises of its half, by what it read
+pub reading_done : {A Rd O : Type 0} (state : Rd → ReadHalf) (made_of : Rd → O) (gives : O → Source) (link : Half Rd) (me : ActorState A) (half : Rd) (end : Result ReaderEnd BodyFault)
+    → made_of half ≡ made_of link.half → IsReadFrom (gives (made_of half)) (state half)
+    → IfOk end (λ e. ReadsAs link.role e (connection_of me) (link_events me) (state half))
+    → OnOk end (connection_of me ≡ None → events_of me ≡ link_events me)
+    → IfOk end (λ e. e ≡ ReadFailed → (gives (made_of half)).may_fail ≡ true)
+    → IsReaderDone state made_of gives link (record { receipts = me.receipts; half = half; end = end })
+reading_done {A} {Rd} {O} state made_of gives link me half end made own kept alone failed =
+    record {
+      kept = kept;
+      alone = alone;
+      made = made;
+      own = subst (λ (o : O). IsReadFrom (gives o) (state half)) made own;
+      failed = subst (λ (o : O). IfOk end (λ e. e ≡ ReadFailed → (gives o).may_fail ≡ true)) made failed;
+    }
+
+-- a half that was finished is done as it was
+pub finished_done : {A Rd O : Type 0} (state : Rd → ReadHalf) (made_of : Rd → O) (gives : O → Source) (link : Half Rd) (receipts : List (Receipt A)) (before after : Rd) (end : Result ReaderEnd BodyFault)
+    → made_of after ≡ made_of before → state after ≡ state before
+    → IsReaderDone state made_of gives link (record { receipts = receipts; half = before; end = end }) → IsReaderDone state made_of gives link (record { receipts = receipts; half = after; end = end })
+finished_done {A} state made_of gives link receipts before after end made same was =
+    record {
+      kept = subst (λ (h : ReadHalf). ReaderKeeps {A = A} link.role (record { receipts = receipts; half = h; end = end })) (sym same) was.kept;
+      alone = was.alone;
+      made = made ∙ was.made;
+      own = subst (λ (h : ReadHalf). IsReadFrom (gives (made_of link.half)) h) (sym same) was.own;
+      failed = was.failed;
+    }
+
+-- its connection, once it has closed what it closes
+pub closed_connection : {A : Type 0} (made : Option ℕ) (before after : Admitting A) → connection_of before.actor ≡ made → (made ≡ None → after ≡ before) → KeepsConnection before.actor after.actor
+    → connection_of after.actor ≡ made
+closed_connection {A} None before after was none keeps = ap (λ (h : Admitting A). connection_of h.actor) (none refl) ∙ was
+closed_connection (Some c) before after was none keeps = keeps c was
+
+-- it routed nothing where it has none
+pub closed_alone : {A : Type 0} (made : Option ℕ) (before after : Admitting A) → connection_of after.actor ≡ made → (made ≡ None → events_of before.actor ≡ link_events before.actor)
+    → (made ≡ None → after ≡ before) → connection_of after.actor ≡ None → events_of after.actor ≡ link_events after.actor
+closed_alone {A} made before after is alone none now =
+    let no : made ≡ None = sym is ∙ now in
+    subst (λ (h : Admitting A). events_of h.actor ≡ link_events h.actor) (sym (none no)) (alone no)

@@ -1,13 +1,13 @@
 -- What a reader admits, and what it does with the jobs.
 use Rattle.std.specs.Prelude.{◌≡◌, ◌⊎◌, ℕ, Bool, false, List, [], ◌∷◌, ◌++◌, Option, Some, None}
-use Rattle.gn_rules.specs.declared.event.Event.TheVariants.{Admit}
+use Rattle.gn_rules.specs.declared.event.Event.TheVariants.{Admit, Connect}
 use Rattle.gn_rules.specs.declared.receipt.Receipt.{Receipt}
 use Rattle.gn_rules.specs.declared.reply.Reply.TheVariants.{Admitted, Busy, Crowded}
 use Rattle.gn_stage.specs.Ends.{End}
 use Rattle.gn_stage.specs.Jobs.{Queued}
 use Rattle.gn_wire.specs.Packet.{Packet}
 use Rattle.gn_service.specs.ActorState.{ActorState, receipt, with_receipt}
-use Rattle.gn_bodies.specs.Events.{connection_of}
+use Rattle.gn_bodies.specs.Events.{connection_of, events_of, link_events}
 use Rattle.gn_bodies.specs.Jobs.{jobs_left}
 
 -- a reader's actor, its intake, and whether a job that was handed back was refused its route
@@ -31,6 +31,20 @@ IsSettled before me = me.is_refused ≡ false → me.intake.jobs ≡ before ++ j
 -- what was settled stays settled
 abbrev pub StaysSettled : {A : Type 0} → Admitting A → Admitting A → Type 0
 StaysSettled before after = (jobs : List Queued) → IsSettled jobs before → IsSettled jobs after
+
+-- a reader after a step of its body: its actor and its intake are those of before, its connection, where it had one, is the same,
+-- and what was settled stays settled
+pub record GoesOn {A : Type 0} (before after : Admitting A) : Type 0 where
+  pub numbers : HasSameNumbers before after
+  pub connection : KeepsConnection before.actor after.actor
+  pub settled : StaysSettled before after
+
+-- all that an actor did is that it connected, as this or not
+pub record HasOnlyConnected {A : Type 0} (made : Option ℕ) (me : ActorState A) : Type 0 where
+  pub connection : connection_of me ≡ made
+  pub events : link_events me ≡ Connect ∷ []
+  pub alone : events_of me ≡ link_events me
+  pub none_left : jobs_left me.receipts ≡ []
 
 -- an actor got the receipt of an admission: a job with the ticket, or none at a threshold, that of all connections or its own
 abbrev pub HasAdmitted : {A : Type 0} → ℕ → Packet → Option Queued → ActorState A → ActorState A → Type 0

@@ -1,12 +1,12 @@
 -- What the receipts of an actor say of its events.
-use Rattle.std.specs.Prelude.{◌≡◌, ◌⊎◌, ℕ, List, [], ◌∷◌, ◌++◌, map, Option, Some, None}
+use Rattle.std.specs.Prelude.{◌≡◌, ◌⊎◌, ℕ, List, [], ◌∷◌, ◌++◌, map, Option}
 use Rattle.gn_wire.specs.Packet.{Packet}
 use Rattle.gn_rules.specs.declared.event.Event.{Event}
 use Rattle.gn_rules.specs.declared.event.Event.TheVariants.{Connect, Close, Admit, Route, Take, Originate}
 use Rattle.gn_rules.specs.declared.receipt.Receipt.{Receipt}
-use Rattle.gn_rules.specs.declared.reply.Reply.{Reply}
-use Rattle.gn_rules.specs.declared.reply.Reply.TheVariants.{Closed, Taken}
-use Rattle.gn_rules.specs.History.{connected_of}
+use Rattle.gn_rules.specs.declared.reply.Reply.TheVariants.{Closed}
+use Rattle.gn_laws.specs.Owners.{known_conn}
+use Rattle.gn_laws.specs.Owners as laws
 use Rattle.gn_service.specs.ActorState.{ActorState, receipt, with_receipt}
 
 -- an actor's events, in order
@@ -31,40 +31,17 @@ link_events_in (r ∷ rs) = link_event r.event ++ link_events_in rs
 abbrev pub link_events : {A : Type 0} → ActorState A → List (Event A)
 link_events me = link_events_in me.receipts
 
--- the connection that was made so far, or else by this reply
-abbrev pub connection_after : {A : Type 0} → Option ℕ → Reply A → Option ℕ
-connection_after (Some c) reply = Some c
-connection_after None reply = connected_of reply
-
-abbrev pub connection_from : {A : Type 0} → Option ℕ → List (Receipt A) → Option ℕ
-connection_from made [] = made
-connection_from made (r ∷ rs) = connection_from (connection_after made r.reply) rs
-
 -- the first connection that an actor's receipts made
 abbrev pub connection_of : {A : Type 0} → ActorState A → Option ℕ
-connection_of me = connection_from None me.receipts
+connection_of me = known_conn me.receipts
 
 -- the events of a reader that connected as c and admitted these descriptors, in order
 abbrev pub offered_events : {A : Type 0} → ℕ → List Packet → List (Event A)
 offered_events c ds = Connect ∷ map (Admit c) ds
 
--- the packet that a reply took
-abbrev pub packet_of : {A : Type 0} → Reply A → List Packet
-packet_of (Taken packet) = packet ∷ []
-packet_of reply = []
-
--- the packets that these receipts took, in order
-abbrev pub packets_in : {A : Type 0} → List (Receipt A) → List Packet
-packets_in [] = []
-packets_in (r ∷ rs) = packet_of r.reply ++ packets_in rs
-
 -- the packets that an actor took, in order
 abbrev pub packets_of : {A : Type 0} → ActorState A → List Packet
-packets_of me = packets_in me.receipts
-
--- an actor got a receipt of a close that discarded nothing
-abbrev pub HasDrained : {A : Type 0} → ℕ → ActorState A → ActorState A → Type 0
-HasDrained {A} c me us = (index : ℕ) × (us ≡ with_receipt me (receipt index (Close c) (Closed 0)))
+packets_of me = laws.packets_of me.receipts
 
 -- an actor got no receipt, or one of a close
 abbrev pub MayClose : {A : Type 0} → ℕ → ActorState A → ActorState A → Type 0

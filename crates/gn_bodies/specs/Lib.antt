@@ -1,8 +1,9 @@
 pub mod Admitting
-pub mod Ends
+pub mod Done
 pub mod Events
 pub mod Jobs
 pub mod Offers
 pub mod ReaderRows
 pub mod Reading
+pub mod Stops
 pub mod Written

@@ -1,11 +1,12 @@
 -- What the end of a reader says of its events, of the bytes that it read, and of its link.
-use Rattle.std.specs.Prelude.{◌≡◌, ◌<◌, ◌⊎◌, ℕ, Bool, true, List, [], ◌∷◌, ◌++◌, length, take, Option, Some, None, ⊤}
+use Rattle.std.specs.Prelude.{◌≡◌, ◌<◌, ◌⊎◌, ℕ, true, List, [], ◌∷◌, ◌++◌, length, take, Option, Some, None, ⊤}
 use Rattle.gn_rules.specs.declared.event.Event.{Event}
 use Rattle.gn_rules.specs.declared.event.Event.TheVariants.{Connect, Close}
 use Rattle.gn_shake.specs.declared.role.Role.{Role}
 use Rattle.gn_shake.specs.declared.shake.ShakeState.TheVariants.{More, Done, Refused}
 use Rattle.gn_shake.specs.Greeting.{greeting_state}
 use Rattle.gn_shake.specs.Roles.{greeting_of}
+use Rattle.gn_links.specs.Views.{ReadHalf}
 use Rattle.gn_bodies.specs.declared.ends.ReaderEnd.{ReaderEnd}
 use Rattle.gn_bodies.specs.declared.ends.ReaderEnd.TheVariants.{Bytes, Fault, ReadFailed, Turns, GreetingRefused, GreetingCut, TooMany, NotLive}
 use Rattle.gn_bodies.specs.Events.{offered_events}
@@ -39,10 +40,10 @@ abbrev pub ReaderRow : {A : Type 0} → Role → ReaderEnd → Option ℕ → Li
 ReaderRow role end (Some c) es b = (greeting_state (greeting_of role) b ≡ Done) × ConnectedRow role end c es b
 ReaderRow role end None es b = UnconnectedRow role end es b
 
--- what the end says of the link, which was new: its failures, its reads that gave bytes, whether it ended
-abbrev pub SourceRow : ReaderEnd → ℕ → ℕ → Bool → Type 0
-SourceRow Bytes failures pieces has_ended = has_ended ≡ true
-SourceRow GreetingCut failures pieces has_ended = has_ended ≡ true
-SourceRow ReadFailed failures pieces has_ended = 0 < failures
-SourceRow Turns failures pieces has_ended = pieces ≡ 1000000
-SourceRow end failures pieces has_ended = ⊤
+-- what the end says of the half, which was new: it ended, a read failed, or so many reads gave bytes
+abbrev pub SourceRow : ReaderEnd → ReadHalf → Type 0
+SourceRow Bytes half = half.has_ended ≡ true
+SourceRow GreetingCut half = half.has_ended ≡ true
+SourceRow ReadFailed half = 0 < half.failures
+SourceRow Turns half = half.pieces ≡ 1000000
+SourceRow end half = ⊤

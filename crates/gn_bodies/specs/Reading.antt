@@ -8,6 +8,7 @@ use Rattle.gn_shake.specs.declared.shake.ShakeState.TheVariants.{More, Done}
 use Rattle.gn_shake.specs.Greeting.{greeting_state}
 use Rattle.gn_shake.specs.Roles.{greeting_of}
 use Rattle.gn_shake.specs.Shaking.{shake_of}
+use Rattle.gn_links.specs.Views.{ReadHalf}
 use Rattle.gn_service.specs.ActorState.{ActorState}
 use Rattle.gn_bodies.specs.declared.ends.ReaderEnd.{ReaderEnd}
 use Rattle.gn_bodies.specs.declared.ends.ReaderEnd.TheVariants.{Bytes, Fault, ReadFailed, Turns, GreetingCut, NotLive}
@@ -17,9 +18,10 @@ use Rattle.gn_bodies.specs.declared.piece.Piece.{Piece}
 use Rattle.gn_bodies.specs.declared.piece.Piece.TheVariants as piece
 use Rattle.gn_bodies.specs.declared.piece.Reading.{Reading}
 use Rattle.gn_bodies.specs.declared.piece.Reading.TheVariants as reading
+use Rattle.gn_bodies.specs.Admitting.{Admitting, HasSameNumbers, StaysSettled}
 use Rattle.gn_bodies.specs.Events.{events_of, link_events, connection_of, offered_events}
 use Rattle.gn_bodies.specs.Offers.{offers, fault}
-use Rattle.gn_bodies.specs.ReaderRows.{UnconnectedRow}
+use Rattle.gn_bodies.specs.ReaderRows.{SourceRow, UnconnectedRow}
 
 -- a reader that connected as c: its row, before it closes what it closes
 abbrev pub OpenRow : {A : Type 0} → Role → ReaderEnd → ℕ → List (Event A) → List ℕ → Type 0
@@ -73,6 +75,16 @@ abbrev pub reading_connection : {A : Type 0} → Reading A → Option ℕ
 reading_connection (reading.Greeting shake) = None
 reading_connection (reading.Joined c frames) = Some c
 
+-- what a reader's end says before it closes what it closes: of its connection and its events, of the half that was read, and
+-- that a read of the link may fail
+pub record EndsReading {A : Type 0} (role : Role) (end : ReaderEnd) (made : Option ℕ) (me : ActorState A) (half : ReadHalf)
+    (may_fail : Bool) : Type 0 where
+  pub connection : connection_of me ≡ made
+  pub alone : made ≡ None → events_of me ≡ link_events me
+  pub row : half.is_known ≡ true → ReadRow role end made (link_events me) half.bytes
+  pub counts : SourceRow end half
+  pub failed : end ≡ ReadFailed → may_fail ≡ true
+
 -- how a reader ends where its bytes do
 abbrev pub end_of_bytes : {A : Type 0} → Reading A → ReaderEnd
 end_of_bytes (reading.Greeting shake) = GreetingCut
@@ -108,6 +120,15 @@ abbrev pub EndsByBytes : {A : Type 0} → Piece A → Type 0
 EndsByBytes (piece.More r) = ⊤
 EndsByBytes (piece.End made end) = is_of_bytes end ≡ true
 EndsByBytes (piece.Stop f) = ⊤
+
+-- what a piece did to a reader: its actor and its intake are those of before, and what was settled stays settled; it has its
+-- connection; where the piece ends it, bytes brought the end, and it routed nothing where it didn't connect
+pub record HasTakenPiece {A : Type 0} (piece : Piece A) (before after : Admitting A) : Type 0 where
+  pub numbers : HasSameNumbers before after
+  pub settled : StaysSettled before after
+  pub connection : HasConnectionAfter piece after.actor
+  pub ends : EndsByBytes piece
+  pub alone : RoutesNoneAlone piece after.actor
 
 -- what a piece did, with the bytes so far
 abbrev pub IsTaken : {A : Type 0} → Role → Piece A → List ℕ → ActorState A → Type 0

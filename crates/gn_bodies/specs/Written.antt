@@ -1,5 +1,5 @@
 -- What a writer's end says of its receipts, of the packets that it took, and of the bytes that it wrote.
-use Rattle.std.specs.Prelude.{◌≡◌, ◌<◌, ◌⊎◌, ℕ, Bool, true, List, [], ◌∷◌, ◌++◌, take, map}
+use Rattle.std.specs.Prelude.{◌≡◌, ◌<◌, ◌⊎◌, ℕ, Bool, true, false, List, [], ◌∷◌, ◌++◌, take, map}
 use Rattle.std.specs.List.{concat}
 use Rattle.gn_wire.specs.Packet.{Packet}
 use Rattle.gn_wire.specs.Encoding.{bytes_of}
@@ -7,10 +7,12 @@ use Rattle.gn_rules.specs.declared.event.Event.TheVariants.{Take}
 use Rattle.gn_shake.specs.declared.role.Role.{Role}
 use Rattle.gn_shake.specs.declared.role.Role.TheVariants.{Accepting, Calling, Plain}
 use Rattle.gn_shake.specs.Texts.{request_text, consent_text}
+use Rattle.gn_links.specs.Views.{WrittenHalf}
 use Rattle.gn_service.specs.ActorState.{ActorState}
+use Rattle.gn_service.specs.Receipts.{HasDrained}
 use Rattle.gn_bodies.specs.declared.ends.WriterEnd.{WriterEnd}
 use Rattle.gn_bodies.specs.declared.ends.WriterEnd.TheVariants.{Drained, WriteFailed, Closed, NeverOpened}
-use Rattle.gn_bodies.specs.Events.{events_of, packets_of, HasDrained, MayClose}
+use Rattle.gn_bodies.specs.Events.{events_of, packets_of, MayClose}
 
 -- the texts before the packets, once connected
 abbrev pub opening_texts : Role → List (List ℕ)
@@ -36,13 +38,6 @@ pub record Breaks (all : List (List ℕ)) (written : List ℕ) : Type 0 where
   pub split : all ≡ done ++ last ∷ []
   pub prefix : written ≡ concat done ++ take part last
 
--- what the end says of what was written, once the link is open
-abbrev pub PacketRow : WriterEnd → Role → List Packet → List ℕ → Type 0
-PacketRow Drained role ds written = written ≡ concat (texts role ds)
-PacketRow Closed role ds written = written ≡ concat (texts role ds)
-PacketRow WriteFailed role ds written = Breaks (texts role ds) written
-PacketRow NeverOpened role ds written = ⊥
-
 -- what the end says of the packets that were taken, and of what was written
 abbrev pub WriterRow : WriterEnd → Role → List Packet → List ℕ → Type 0
 WriterRow Drained role ds written = written ≡ concat (texts role ds)
@@ -51,8 +46,15 @@ WriterRow WriteFailed role ds written = Breaks (texts role ds) written
 WriterRow NeverOpened role ds written = written ≡ concat (call_texts role)
 
 -- a write failed, or took nothing of a nonempty piece
-abbrev pub IsHurt : ℕ → Bool → Type 0
-IsHurt failures is_stuck = (0 < failures) ⊎ (is_stuck ≡ true)
+abbrev pub IsHurt : WrittenHalf → Type 0
+IsHurt half = (0 < half.failures) ⊎ (half.is_stuck ≡ true)
+
+-- what was written of a text: all of it; or a prefix, where a write failed or took nothing
+pub record HasWrittenText (is_all : Bool) (text : List ℕ) (before after : WrittenHalf) : Type 0 where
+  pub known : after.is_known ≡ before.is_known
+  pub all : is_all ≡ true → before.is_known ≡ true → after.bytes ≡ before.bytes ++ text
+  pub part : is_all ≡ false → before.is_known ≡ true → (n : ℕ) × (after.bytes ≡ before.bytes ++ take n text)
+  pub hurt : is_all ≡ false → IsHurt after
 
 -- an actor took packets of connection c, and did nothing else
 abbrev pub AreTakes : {A : Type 0} → ℕ → ActorState A → Type 0

@@ -1,13 +1,12 @@
 //! The calls on the service that the bodies make, by what they do to the actor.
 
-ghost use Rattle.std.specs.Prelude.{◌≡◌, ◌∷◌, [], ℕ, Some, true, IfErr, IfOk, MatchResult, OnErr, OnOk};
-ghost use Rattle.gn_rules.specs.declared.event.Event.TheVariants.{Admit, Connect, Route};
+ghost use Rattle.std.specs.Prelude.{◌≡◌, [], ℕ, Some, true, IfErr, IfOk, MatchResult, OnErr};
+ghost use Rattle.gn_rules.specs.declared.event.Event.TheVariants.{Admit, Route};
 ghost use Rattle.gn_wire.specs.Packet.{Packet};
 ghost use Rattle.gn_rules.specs.Fits.{refuses};
 ghost use Rattle.gn_service.specs.Receipts.{HasReceipt};
-ghost use Rattle.gn_bodies.specs.Admitting.{HasAdmitted};
-ghost use Rattle.gn_bodies.specs.Events.{connection_of, events_of, link_events, packets_of, MayClose};
-ghost use Rattle.gn_bodies.specs.Jobs.{jobs_left};
+ghost use Rattle.gn_bodies.specs.Admitting.{HasAdmitted, HasOnlyConnected};
+ghost use Rattle.gn_bodies.specs.Events.{packets_of, MayClose};
 
 use crate::ends::BodyFault;
 use gn_links::{Gate, Made};
@@ -62,9 +61,7 @@ pub(crate) fn route<C: RouterCore<A> + Drop, L: Ledger, A: Allocator + Copy, R: 
 {
     match service.route(rt, me, ticket, checked) {
         Ok(()) => Ok(()),
-        Err(Refusal::HistoryFull) => Err(BodyFault::HistoryFull),
-        Err(Refusal::NoMemory) => Err(BodyFault::NoMemory),
-        Err(_) => Err(BodyFault::Refused),
+        Err(refusal) => Err(BodyFault::from(refusal)),
     }
 }
 
@@ -76,32 +73,26 @@ fn made_by(connection: Option<ConnId>) -> Made {
     }
 }
 
-/// Connects a link, whose reader has no receipts yet. The connection, or none where too many are live.
+/// Connects the link of a reader that has no receipts yet. The connection, or none where too many are live.
 pub(crate) fn connect<G: Gate, C: RouterCore<A> + Drop, L: Ledger, A: Allocator + Copy, R: Wait>(
     rt: &R,
     service: &Service<C, L, A>,
     gate: &G,
     me: &mut Actor<L, A>,
-    link: u32,
 ) -> Result<Option<ConnId>, BodyFault>
-    requires number { me.old.number ≡ link }
     requires none { me.old.receipts ≡ [] }
     ensures number { me.new.number ≡ me.old.number }
-    ensures connection { IfOk result (λ made. connection_of me.new ≡ made) }
-    ensures events { OnOk result (link_events me.new ≡ Connect ∷ []) }
-    ensures alone { OnOk result (events_of me.new ≡ link_events me.new) }
-    ensures jobs { OnOk result (jobs_left me.new.receipts ≡ []) }
+    ensures connected { IfOk result (λ made. HasOnlyConnected made me.new) }
     ensures err { OnErr result (me.new ≡ me.old) }
 {
+    let link = me.number();
     match service.connect(rt, me, link) {
         Ok(()) => {
             let connection = me.last_reply().connected();
             gate.made(link, made_by(connection));
             Ok(connection)
         }
-        Err(Refusal::HistoryFull) => Err(BodyFault::HistoryFull),
-        Err(Refusal::NoMemory) => Err(BodyFault::NoMemory),
-        Err(_) => unreachable!(),
+        Err(refusal) => Err(BodyFault::from(refusal)),
     }
 }
 
@@ -123,8 +114,6 @@ pub(crate) fn close<G: Gate, C: RouterCore<A> + Drop, L: Ledger, A: Allocator + 
             Ok(())
         }
         Err(Refusal::NotLive) => Ok(()),
-        Err(Refusal::HistoryFull) => Err(BodyFault::HistoryFull),
-        Err(Refusal::NoMemory) => Err(BodyFault::NoMemory),
-        Err(_) => unreachable!(),
+        Err(refusal) => Err(BodyFault::from(refusal)),
     }
 }

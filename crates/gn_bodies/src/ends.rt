@@ -1,5 +1,6 @@
 //! How the bodies end.
 
+use gn_rules::Refusal;
 use gn_wire::FrameFault;
 
 /// How the body of a reader ended.
@@ -47,9 +48,24 @@ pub enum BodyFault {
     Refused,
 }
 
+impl From<Refusal> for BodyFault {
+    ghost use Rattle.std.specs.Prelude.{◌≡◌};
+    ghost use Rattle.gn_bodies.specs.Stops.{fault_of};
+
+    ghost from_gives = { λ refusal fault. fault ≡ fault_of refusal };
+
+    fn from(refusal: Refusal) -> BodyFault {
+        match refusal {
+            Refusal::HistoryFull => BodyFault::HistoryFull,
+            Refusal::NoMemory => BodyFault::NoMemory,
+            _ => BodyFault::Refused,
+        }
+    }
+}
+
 impl BodyFault {
     ghost use Rattle.std.specs.Prelude.{◌≡◌};
-    ghost use Rattle.gn_bodies.specs.Ends.{is_stop};
+    ghost use Rattle.gn_bodies.specs.Stops.{is_stop};
 
     /// Whether it stops the body at once, and with it the run.
     pub fn is_stop(self) -> bool

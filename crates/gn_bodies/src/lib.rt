@@ -4,9 +4,9 @@
 //! it gives back: the tests show these calls.
 #![tactic(auto)]
 
-mod admitter;
 mod asking;
 mod ends;
+mod handler;
 mod piece;
 mod reader;
 mod reading;

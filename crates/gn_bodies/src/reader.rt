@@ -1,18 +1,18 @@
 //! The body of a reader.
 
-ghost use Rattle.std.specs.Prelude.{◌≡◌, ◌++◌, [], List, None, ℕ, false, true, IfOk, OnOk};
-ghost use Rattle.gn_links.specs.Halves.{IsNewReader, IsReadOf};
-ghost use Rattle.gn_bodies.specs.declared.ends.ReaderEnd.TheVariants.{ReadFailed};
-ghost use Rattle.gn_bodies.specs.Admitting.{HasSameNumbers, StaysSettled};
-ghost use Rattle.gn_bodies.specs.Events.{connection_of, events_of, link_events};
+ghost use Rattle.std.specs.Prelude.{◌≡◌, ◌++◌, [], ℕ, List, None, false, true, IfOk, OnOk};
+ghost use Rattle.gn_shake.specs.declared.role.Role.{Role};
+ghost use Rattle.gn_links.specs.Views.{IsNewReader, IsReadFrom};
+ghost use Rattle.gn_bodies.specs.Admitting.{GoesOn, HasSameNumbers, StaysSettled};
+ghost use Rattle.gn_bodies.specs.Done.{IsReaderDone, half_of, reader_ended};
+ghost use Rattle.gn_bodies.specs.Events.{link_events};
 ghost use Rattle.gn_bodies.specs.Jobs.{jobs_left};
-ghost use Rattle.gn_bodies.specs.ReaderRows.{ReaderRow, SourceRow};
-ghost use Rattle.gn_bodies.specs.Reading.{EndsByBytes, HasConnectionAfter, IsTaken, ReadRow, RoutesNoneAlone, closes};
+ghost use Rattle.gn_bodies.specs.ReaderRows.{ReaderRow};
+ghost use Rattle.gn_bodies.specs.Reading.{EndsReading, HasTakenPiece, IsTaken, ReadRow, closes};
 
-use crate::admitter::Admitter;
 use crate::ends::{BodyFault, ReaderEnd};
+use crate::handler::ReaderHandler;
 use crate::piece::{Piece, Reading};
-use crate::reading::{open, take_piece};
 use gn_links::{Gate, Half, LinkReader};
 use gn_rules::{ConnId, RouterCore};
 use gn_service::{Actor, Service};
@@ -22,99 +22,121 @@ use std::alloc::{Allocator, Global};
 use std::sync::Wait;
 use std::sync::ledger::Ledger;
 
-/// What the body of a reader gives back.
+/// What the body of a reader gives back. `B` stands for the run, and names its ledger and its stage.
 #[derive(Drop)]
-pub struct ReaderDone<Rd, S: Site, L: Ledger, A: Allocator = Global> {
-    pub actor: Actor<L, A>,
+pub struct ReaderDone<Rd, B: Site + Ledger, A: Allocator = Global> {
+    pub actor: Actor<B, A>,
     pub role: Role,
     pub reader: Rd,
-    pub home: IntakeHome<S, A>,
+    pub home: IntakeHome<B, A>,
     pub end: Result<ReaderEnd, BodyFault>,
 }
 
 /// The most reads of a link that give bytes.
 const TURNS: u32 = 1_000_000;
 
-/// A link that has no bytes yet: a plain one is connected at once.
-fn begin<G: Gate, S: Site, C: RouterCore<A> + Drop, L: Ledger, A: Allocator + Copy, R: Wait>(
-    rt: &R,
-    alloc: A,
-    service: &Service<C, L, A>,
-    me: &mut Admitter<'_, G, S, L, A>,
-    link: u32,
-    role: Role,
-) -> Piece<A>
-    requires number { me.old.actor.number ≡ link }
-    requires none { me.old.actor.receipts ≡ [] }
-    ensures numbers { HasSameNumbers me.old me.new }
-    ensures connection { HasConnectionAfter result me.new.actor }
-    ensures ends { EndsByBytes result }
-    ensures alone { RoutesNoneAlone result me.new.actor }
-    ensures taken { IsTaken role result [] me.new.actor }
-    ensures settled { StaysSettled me.old me.new }
-{
-    match role {
-        Role::Accepting => Piece::More(Reading::Greeting(Shake::accepting())),
-        Role::Calling => Piece::More(Reading::Greeting(Shake::calling())),
-        Role::Plain => open(rt, alloc, service, me, link, &[]),
-    }
-}
-
-/// Reads to the end, and closes nothing.
-#[tactic(auto, using(crate::proofs::ReadingLemmas::nothing_read))]
-fn read_all<
-    Rd: LinkReader,
-    G: Gate,
-    S: Site,
-    C: RouterCore<A> + Drop,
-    L: Ledger,
-    A: Allocator + Copy,
-    R: Wait,
->(
-    rt: &R,
-    alloc: A,
-    service: &Service<C, L, A>,
-    me: &mut Admitter<'_, G, S, L, A>,
-    reader: &mut Rd,
-    link: u32,
-    role: Role,
-) -> Result<(Option<ConnId>, ReaderEnd), BodyFault>
-    requires new { IsNewReader (Rd.bytes_read reader.old) (Rd.failures reader.old) (Rd.pieces reader.old)
-        (Rd.has_ended reader.old) }
-    requires number { me.old.actor.number ≡ link }
-    requires none { me.old.actor.receipts ≡ [] }
-    ensures numbers { HasSameNumbers me.old me.new }
-    ensures connection { IfOk result (λ r. connection_of me.new.actor ≡ r.0) }
-    ensures alone { IfOk result (λ r. r.0 ≡ None → events_of me.new.actor ≡ link_events me.new.actor) }
-    ensures row { IfOk result (λ r. Rd.is_known ≡ true
-        → ReadRow role r.1 r.0 (link_events me.new.actor) (Rd.bytes_read reader.new)) }
-    ensures made { Rd.made_of reader.new ≡ Rd.made_of reader.old }
-    ensures prefix { (Rd.gives (Rd.made_of reader.new)).is_foretold ≡ true
-        → IsReadOf (Rd.gives (Rd.made_of reader.new)).bytes (Rd.bytes_read reader.new) (Rd.has_ended reader.new) }
-    ensures failed { IfOk result (λ r. r.1 ≡ ReadFailed → (Rd.gives (Rd.made_of reader.new)).may_fail ≡ true) }
-    ensures source { IfOk result (λ r. SourceRow r.1 (Rd.failures reader.new) (Rd.pieces reader.new)
-        (Rd.has_ended reader.new)) }
-    ensures settled { StaysSettled me.old me.new }
-{
-    gn_shake::greeting_is_known();
-    let mut reading = match begin(rt, alloc, service, me, link, role) {
-        Piece::More(reading) => reading,
-        Piece::End { connection, end } => return Ok((connection, end)),
-        Piece::Stop(why) => return Err(why),
-    };
-    let mut buffer = [0u8; 4096];
-    for _ in 0..TURNS {
-        match reader.read(rt, &mut buffer) {
-            Err(_) => return Ok((reading.connection(), ReaderEnd::ReadFailed)),
-            Ok(0) => return Ok((reading.connection(), reading.end_of_bytes())),
-            Ok(n) => match take_piece(rt, alloc, service, me, link, reading, &buffer[..n]) {
-                Piece::More(later) => reading = later,
-                Piece::End { connection, end } => return Ok((connection, end)),
-                Piece::Stop(why) => return Err(why),
-            },
+impl<'s, G: Gate, B: Site + Ledger, C: RouterCore<A> + Drop, A: Allocator + Copy> ReaderHandler<
+    's,
+    G,
+    B,
+    C,
+    A,
+> {
+    /// A link that has no bytes yet: a plain one is connected at once.
+    fn begin<R: Wait>(&mut self, rt: &R, role: Role) -> Piece<A>
+        requires none { self.old.actor.receipts ≡ [] }
+        ensures piece { HasTakenPiece result self.old self.new }
+        ensures taken { IsTaken role result [] self.new.actor }
+    {
+        match role {
+            Role::Accepting => Piece::More(Reading::Greeting(Shake::accepting())),
+            Role::Calling => Piece::More(Reading::Greeting(Shake::calling())),
+            Role::Plain => self.connect_and_take(rt, &[]),
         }
     }
-    Ok((reading.connection(), ReaderEnd::Turns))
+
+    /// Reads to the end, and closes nothing.
+    #[tactic(auto, using(crate::proofs::ReadingLemmas::nothing_read))]
+    fn read_all<Rd: LinkReader, R: Wait>(
+        &mut self,
+        rt: &R,
+        reader: &mut Rd,
+        role: Role,
+    ) -> Result<(Option<ConnId>, ReaderEnd), BodyFault>
+        requires new { IsNewReader (Rd.state reader.old) }
+        requires none { self.old.actor.receipts ≡ [] }
+        ensures numbers { HasSameNumbers self.old self.new }
+        ensures settled { StaysSettled self.old self.new }
+        ensures made { Rd.made_of reader.new ≡ Rd.made_of reader.old }
+        ensures own { IsReadFrom (Rd.gives (Rd.made_of reader.new)) (Rd.state reader.new) }
+        ensures read { IfOk result (λ r. EndsReading role r.1 r.0 self.new.actor (Rd.state reader.new)
+            (Rd.gives (Rd.made_of reader.new)).may_fail) }
+    {
+        gn_shake::greeting_is_known();
+        let mut reading = match self.begin(rt, role) {
+            Piece::More(reading) => reading,
+            Piece::End { connection, end } => return Ok((connection, end)),
+            Piece::Stop(why) => return Err(why),
+        };
+        let mut buffer = [0u8; 4096];
+        for _ in 0..TURNS {
+            match reader.read(rt, &mut buffer) {
+                Err(_) => return Ok((reading.connection(), ReaderEnd::ReadFailed)),
+                Ok(0) => return Ok((reading.connection(), reading.end_of_bytes())),
+                Ok(n) => match self.take_bytes(rt, reading, &buffer[..n]) {
+                    Piece::More(later) => reading = later,
+                    Piece::End { connection, end } => return Ok((connection, end)),
+                    Piece::Stop(why) => return Err(why),
+                },
+            }
+        }
+        Ok((reading.connection(), ReaderEnd::Turns))
+    }
+
+    /// Closes the connection at an end that closes it, and shuts the door where there is none.
+    fn close_at<R: Wait>(
+        &mut self,
+        rt: &R,
+        connection: Option<ConnId>,
+        end: ReaderEnd,
+    ) -> Result<(), BodyFault>
+        ensures goes_on { GoesOn self.old self.new }
+        ensures none { connection ≡ None → self.new ≡ self.old }
+        ensures row { (role : Role) (b : List ℕ) → ReadRow role end connection (link_events self.old.actor) b
+            → ReaderRow role end connection (link_events self.new.actor) b }
+    {
+        match connection {
+            None => {
+                self.service.shut(rt, self.actor.number());
+                Ok(())
+            }
+            Some(c) if closes(end) => self.close(rt, c),
+            Some(_) => Ok(()),
+        }
+    }
+
+    /// Reads to the end, and closes the connection or shuts the door.
+    fn read_link<Rd: LinkReader, R: Wait>(
+        &mut self,
+        rt: &R,
+        reader: &mut Rd,
+        role: Role,
+    ) -> Result<ReaderEnd, BodyFault>
+        requires new { IsNewReader (Rd.state reader.old) }
+        requires none { self.old.actor.receipts ≡ [] }
+        ensures numbers { HasSameNumbers self.old self.new }
+        ensures done { IsReaderDone Rd.state Rd.made_of Rd.gives (half_of role reader.old)
+            (record { receipts = self.new.actor.receipts; half = reader.new; end = result }) }
+        ensures put { OnOk result (self.old.is_refused ≡ false
+            → self.new.intake.jobs ≡ self.old.intake.jobs ++ jobs_left self.new.actor.receipts) }
+    {
+        let (connection, end) = self.read_all(rt, reader, role)?;
+        self.close_at(rt, connection, end)?;
+        if self.is_refused {
+            return Err(BodyFault::Refused);
+        }
+        Ok(end)
+    }
 }
 
 /// Whether a connected reader closes its connection at this end.
@@ -127,57 +149,6 @@ fn closes(end: ReaderEnd) -> bool
     )
 }
 
-/// Reads to the end, and closes the connection or shuts the door.
-fn read_link<
-    Rd: LinkReader,
-    G: Gate,
-    S: Site,
-    C: RouterCore<A> + Drop,
-    L: Ledger,
-    A: Allocator + Copy,
-    R: Wait,
->(
-    rt: &R,
-    alloc: A,
-    service: &Service<C, L, A>,
-    me: &mut Admitter<'_, G, S, L, A>,
-    reader: &mut Rd,
-    link: u32,
-    role: Role,
-) -> Result<ReaderEnd, BodyFault>
-    requires new { IsNewReader (Rd.bytes_read reader.old) (Rd.failures reader.old) (Rd.pieces reader.old)
-        (Rd.has_ended reader.old) }
-    requires number { me.old.actor.number ≡ link }
-    requires none { me.old.actor.receipts ≡ [] }
-    ensures numbers { HasSameNumbers me.old me.new }
-    ensures alone { OnOk result (connection_of me.new.actor ≡ None
-        → events_of me.new.actor ≡ link_events me.new.actor) }
-    ensures row { IfOk result (λ end. Rd.is_known ≡ true
-        → ReaderRow role end (connection_of me.new.actor) (link_events me.new.actor) (Rd.bytes_read reader.new)) }
-    ensures made { Rd.made_of reader.new ≡ Rd.made_of reader.old }
-    ensures prefix { (Rd.gives (Rd.made_of reader.new)).is_foretold ≡ true
-        → IsReadOf (Rd.gives (Rd.made_of reader.new)).bytes (Rd.bytes_read reader.new) (Rd.has_ended reader.new) }
-    ensures failed { IfOk result (λ end. end ≡ ReadFailed → (Rd.gives (Rd.made_of reader.new)).may_fail ≡ true) }
-    ensures source { IfOk result (λ end. SourceRow end (Rd.failures reader.new) (Rd.pieces reader.new)
-        (Rd.has_ended reader.new)) }
-    ensures put { IfOk result (λ _. me.old.is_refused ≡ false
-        → me.new.intake.jobs ≡ me.old.intake.jobs ++ jobs_left me.new.actor.receipts) }
-{
-    let (connection, end) = read_all(rt, alloc, service, me, reader, link, role)?;
-    match connection {
-        None => service.shut(rt, link),
-        Some(c) => {
-            if closes(end) {
-                me.close(rt, service, c)?;
-            }
-        }
-    }
-    if me.is_refused {
-        return Err(BodyFault::Refused);
-    }
-    Ok(end)
-}
-
 /// The body of a reader: it awaits the greeting, connects, and admits what its bytes offer, in order. The job of each admitted
 /// descriptor is put, or routed by the reader itself where the intake hands it back. The gate learns of each step.
 ///
@@ -186,50 +157,39 @@ fn read_link<
 pub fn reader_body<
     Rd: LinkReader,
     G: Gate,
-    S: Site,
+    B: Site + Ledger,
     C: RouterCore<A> + Drop,
-    L: Ledger,
     A: Allocator + Copy,
     R: Wait,
 >(
     rt: &R,
     alloc: A,
-    service: &Service<C, L, A>,
+    service: &Service<C, B, A>,
     gate: &G,
-    actor: Actor<L, A>,
+    actor: Actor<B, A>,
     link: u32,
     role: Role,
     reader: Rd,
-    intake: Intake<S, A>,
-) -> ReaderDone<Rd, S, L, A>
-    requires new { IsNewReader (Rd.bytes_read reader) (Rd.failures reader) (Rd.pieces reader) (Rd.has_ended reader) }
+    intake: Intake<B, A>,
+) -> ReaderDone<Rd, B, A>
+    requires new { IsNewReader (Rd.state reader) }
     requires number { actor.number ≡ link }
     requires none { actor.receipts ≡ [] }
-    ensures number { result.actor.number ≡ link }
-    ensures role { result.role ≡ role }
-    ensures home { result.home.number ≡ intake.number }
-    ensures alone { OnOk result.end (connection_of result.actor ≡ None
-        → events_of result.actor ≡ link_events result.actor) }
-    ensures row { IfOk result.end (λ end. Rd.is_known ≡ true
-        → ReaderRow role end (connection_of result.actor) (link_events result.actor) (Rd.bytes_read result.reader)) }
-    ensures made { Rd.made_of result.reader ≡ Rd.made_of reader }
-    ensures prefix { (Rd.gives (Rd.made_of result.reader)).is_foretold ≡ true
-        → IsReadOf (Rd.gives (Rd.made_of result.reader)).bytes (Rd.bytes_read result.reader) (Rd.has_ended result.reader) }
-    ensures failed { IfOk result.end (λ end. end ≡ ReadFailed
-        → (Rd.gives (Rd.made_of result.reader)).may_fail ≡ true) }
-    ensures source { IfOk result.end (λ end. SourceRow end (Rd.failures result.reader) (Rd.pieces result.reader)
-        (Rd.has_ended result.reader)) }
+    ensures same { (result.actor.number ≡ link) × (result.role ≡ role) × (result.home.number ≡ intake.number) }
+    ensures done { IsReaderDone Rd.state Rd.made_of Rd.gives (half_of role reader) (reader_ended result) }
     ensures put { OnOk result.end (result.home.jobs ≡ intake.jobs ++ jobs_left result.actor.receipts) }
     ensures finished { Rd.is_finished result.reader ≡ true }
 {
     let mut reader = reader;
-    let mut me = Admitter {
+    let mut me = ReaderHandler {
+        service,
         gate,
+        alloc,
         actor,
         intake,
         is_refused: false,
     };
-    let end = read_link(rt, alloc, service, &mut me, &mut reader, link, role);
+    let end = me.read_link(rt, &mut reader, role);
     if let Err(BodyFault::HistoryFull | BodyFault::NoMemory) = end {
         service.fail(rt);
         gate.failed();
@@ -237,7 +197,7 @@ pub fn reader_body<
     service.reader_done(rt, link);
     reader.finish(rt);
     gate.ended(link, Half::Reader);
-    let Admitter { actor, intake, .. } = me;
+    let ReaderHandler { actor, intake, .. } = me;
     ReaderDone {
         actor,
         role,

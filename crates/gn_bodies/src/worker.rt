@@ -17,11 +17,11 @@ use std::alloc::{Allocator, Global};
 use std::sync::Wait;
 use std::sync::ledger::Ledger;
 
-/// What the body of a worker gives back.
+/// What the body of a worker gives back. `B` stands for the run, and names its ledger and its stage.
 #[derive(Drop)]
-pub struct WorkerDone<S: Site, L: Ledger, A: Allocator = Global> {
-    pub actor: Actor<L, A>,
-    pub home: OutletHome<S, A>,
+pub struct WorkerDone<B: Site + Ledger, A: Allocator = Global> {
+    pub actor: Actor<B, A>,
+    pub home: OutletHome<B, A>,
     pub end: Result<(), BodyFault>,
 }
 
@@ -43,13 +43,13 @@ fn route_job<G: Gate, C: RouterCore<A> + Drop, L: Ledger, A: Allocator + Copy, R
 }
 
 /// Routes the jobs to their end.
-fn route_all<G: Gate, S: Site, C: RouterCore<A> + Drop, L: Ledger, A: Allocator + Copy, R: Wait>(
+fn route_all<G: Gate, B: Site + Ledger, C: RouterCore<A> + Drop, A: Allocator + Copy, R: Wait>(
     rt: &R,
-    service: &Service<C, L, A>,
-    me: &mut Actor<L, A>,
+    service: &Service<C, B, A>,
+    me: &mut Actor<B, A>,
     worker: u32,
     gate: &G,
-    outlet: &mut Outlet<S, A>,
+    outlet: &mut Outlet<B, A>,
 ) -> Result<(), BodyFault>
     requires none { me.old.receipts ≡ [] }
     ensures number { me.new.number ≡ me.old.number }
@@ -82,19 +82,18 @@ fn route_all<G: Gate, S: Site, C: RouterCore<A> + Drop, L: Ledger, A: Allocator 
 /// A stop fails the run. In any case its outlet is finished. That it went on until there was no job, no clause says.
 pub fn worker_body<
     G: Gate,
-    S: Site,
+    B: Site + Ledger,
     C: RouterCore<A> + Drop,
-    L: Ledger,
     A: Allocator + Copy,
     R: Wait,
 >(
     rt: &R,
-    service: &Service<C, L, A>,
-    actor: Actor<L, A>,
+    service: &Service<C, B, A>,
+    actor: Actor<B, A>,
     worker: u32,
     gate: &G,
-    outlet: Outlet<S, A>,
-) -> WorkerDone<S, L, A>
+    outlet: Outlet<B, A>,
+) -> WorkerDone<B, A>
     requires none { actor.receipts ≡ [] }
     ensures number { result.actor.number ≡ actor.number }
     ensures home { result.home.number ≡ outlet.number }

@@ -1,27 +1,22 @@
 //! The body of a writer.
 
-ghost use Rattle.std.specs.Prelude.{◌≡◌, ◌<◌, ◌∷◌, ◌++◌, [], ℕ, List, true, false, length, take, IfOk, OnOk};
+ghost use Rattle.std.specs.Prelude.{◌≡◌, [], ℕ, true, IfOk, OnOk};
 ghost use Rattle.std.specs.List.{concat};
-ghost use Rattle.gn_wire.specs.Packet.{Packet};
 ghost use Rattle.gn_wire.specs.Encoding.{bytes_of};
-ghost use Rattle.gn_rules.specs.declared.event.Event.TheVariants.{Take};
-ghost use Rattle.gn_rules.specs.declared.receipt.Receipt.{Receipt};
-ghost use Rattle.gn_rules.specs.declared.reply.Reply.TheVariants.{Taken};
-ghost use Rattle.gn_links.specs.Halves.{IsNewWriter};
-ghost use Rattle.gn_service.specs.ActorState.{receipt};
-ghost use Rattle.gn_service.specs.Receipts.{HasTaken};
-ghost use Rattle.gn_bodies.specs.declared.ends.WriterEnd.TheVariants as ends;
-ghost use Rattle.gn_bodies.specs.declared.writer.Out.TheVariants as out;
-ghost use Rattle.gn_bodies.specs.Events.{HasDrained, packets_of};
-ghost use Rattle.gn_bodies.specs.Written.{IsHurt, PacketRow, PacketSteps, WriterRow, WriterSteps, opening_texts};
+ghost use Rattle.gn_links.specs.Views.{IsNewWriter};
+ghost use Rattle.gn_service.specs.Receipts.{HasDrained, HasTaken};
+ghost use Rattle.gn_service.specs.declared.next.Outgoing.TheVariants.{Packet, Drained, Closed};
+ghost use Rattle.gn_bodies.specs.Done.{IsWriterDone, WritesAs, half_of, writer_ended};
+ghost use Rattle.gn_bodies.specs.Events.{packets_of};
+ghost use Rattle.gn_bodies.specs.Written.{HasWrittenText, PacketSteps, WriterSteps, opening_texts};
 
 use crate::asking::close;
 use crate::ends::{BodyFault, WriterEnd};
 use gn_links::{Gate, Half, LinkWriter, Made};
-use gn_rules::{ConnId, Refusal, Reply, RouterCore};
-use gn_service::{Actor, Service};
+use gn_rules::{ConnId, RouterCore};
+use gn_service::{Actor, Outgoing, Service};
 use gn_shake::Role;
-use gn_wire::HEADER_BYTES;
+use gn_wire::{Descriptor, HEADER_BYTES};
 use std::alloc::{AllocError, Allocator, Global};
 use std::sync::Wait;
 use std::sync::ledger::Ledger;
@@ -35,25 +30,10 @@ pub struct WriterDone<W, L: Ledger, A: Allocator = Global> {
     pub end: Result<WriterEnd, BodyFault>,
 }
 
-/// What is next for a writer.
-#[derive(Clone, Copy)]
-enum Out {
-    /// A packet was taken.
-    Packet,
-    /// All was taken, and the writer closed the connection.
-    Drained,
-    /// Another closed it, or the run failed.
-    Closed,
-}
-
 /// Writes all of a text. False where a write failed, or took nothing.
-fn write_all<W: LinkWriter, R: Wait>(rt: &R, writer: &mut W, text: &[u8]) -> bool
+fn write_text<W: LinkWriter, R: Wait>(rt: &R, writer: &mut W, text: &[u8]) -> bool
     ensures made { W.made_of writer.new ≡ W.made_of writer.old }
-    ensures yes { result ≡ true → W.is_known ≡ true
-        → W.bytes_written writer.new ≡ W.bytes_written writer.old ++ text.now }
-    ensures no { result ≡ false → W.is_known ≡ true → (n : ℕ)
-        × (W.bytes_written writer.new ≡ W.bytes_written writer.old ++ take n text.now) }
-    ensures hurt { result ≡ false → IsHurt (W.failures writer.new) (W.is_stuck writer.new) }
+    ensures state { HasWrittenText result text.now (W.state writer.old) (W.state writer.new) }
 {
     let mut at: usize = 0;
     while at < text.len() {
@@ -66,6 +46,15 @@ fn write_all<W: LinkWriter, R: Wait>(rt: &R, writer: &mut W, text: &[u8]) -> boo
     true
 }
 
+/// Tells the gate what a writer's last call did.
+fn tell<G: Gate>(gate: &G, link: u32, next: Outgoing) {
+    match next {
+        Outgoing::Packet => gate.made(link, Made::Taken),
+        Outgoing::Drained => gate.made(link, Made::Closed),
+        Outgoing::Closed => {}
+    }
+}
+
 /// Takes the link's next packet, or finds out how its connection is over.
 fn take_next<G: Gate, C: RouterCore<A> + Drop, L: Ledger, A: Allocator + Copy, R: Wait>(
     rt: &R,
@@ -74,46 +63,29 @@ fn take_next<G: Gate, C: RouterCore<A> + Drop, L: Ledger, A: Allocator + Copy, R
     me: &mut Actor<L, A>,
     link: u32,
     c: ConnId,
-) -> Result<Out, BodyFault>
+) -> Result<Outgoing, BodyFault>
     ensures number { me.new.number ≡ me.old.number }
-    ensures packet { IfOk result (λ next. next ≡ out.Packet → HasTaken c me.old me.new) }
-    ensures drained { IfOk result (λ next. next ≡ out.Drained → HasDrained c me.old me.new) }
-    ensures closed { IfOk result (λ next. next ≡ out.Closed → me.new ≡ me.old) }
+    ensures packet { IfOk result (λ next. next ≡ Packet → HasTaken c me.old me.new) }
+    ensures drained { IfOk result (λ next. next ≡ Drained → HasDrained c me.old me.new) }
+    ensures closed { IfOk result (λ next. next ≡ Closed → me.new ≡ me.old) }
 {
-    let before = me.receipts().len();
     match service.next_out(rt, me, c) {
-        Ok(true) => {
-            gate.made(link, Made::Taken);
-            Ok(Out::Packet)
+        Ok(next) => {
+            tell(gate, link, next);
+            Ok(next)
         }
-        Ok(false) => {
-            if me.receipts().len() > before {
-                gate.made(link, Made::Closed);
-                Ok(Out::Drained)
-            } else {
-                Ok(Out::Closed)
-            }
-        }
-        Err(Refusal::HistoryFull) => Err(BodyFault::HistoryFull),
-        Err(Refusal::NoMemory) => Err(BodyFault::NoMemory),
-        Err(_) => unreachable!(),
+        Err(refusal) => Err(BodyFault::from(refusal)),
     }
 }
 
-/// Puts the encoding of the packet that was taken last in place of a text. An `Err` is out of memory.
-fn encode_last<L: Ledger, A: Allocator>(
-    me: &Actor<L, A>,
+/// Puts the encoding of a packet in place of a text. An `Err` is out of memory.
+fn encode_into<A: Allocator>(
+    packet: &Descriptor<A>,
     text: &mut Vec<u8, A>,
 ) -> Result<(), AllocError>
-    requires { 0 < length me.now.receipts }
-    ensures { OnOk result ((rs : List (Receipt A)) (index c : ℕ) (p : Packet)
-        → me.now.receipts ≡ rs ++ receipt index (Take c) (Taken p) ∷ []
-        → text.new.items ≡ bytes_of p) }
+    ensures { OnOk result (text.new.items ≡ bytes_of packet.now) }
 {
     text.clear();
-    let Reply::Taken(packet) = me.last_reply() else {
-        return Ok(());
-    };
     text.reserve(HEADER_BYTES + packet.payload().len())?;
     packet.write_to(text)
 }
@@ -138,28 +110,26 @@ fn write_packets<
     c: ConnId,
 ) -> Result<WriterEnd, BodyFault>
     requires none { me.old.receipts ≡ [] }
-    requires opened { W.is_known ≡ true → W.bytes_written writer.old ≡ concat (opening_texts role) }
+    requires opened { (W.state writer.old).is_known ≡ true
+        → (W.state writer.old).bytes ≡ concat (opening_texts role) }
     ensures number { me.new.number ≡ me.old.number }
     ensures made { W.made_of writer.new ≡ W.made_of writer.old }
-    ensures row { IfOk result (λ end. W.is_known ≡ true
-        → PacketRow end role (packets_of me.new) (W.bytes_written writer.new)) }
+    ensures written { IfOk result (λ end. WritesAs role end (packets_of me.new) (W.state writer.new)) }
     ensures steps { IfOk result (λ end. PacketSteps end c me.new) }
-    ensures hurt { IfOk result (λ end. end ≡ ends.WriteFailed
-        → IsHurt (W.failures writer.new) (W.is_stuck writer.new)) }
 {
     let mut text = Vec::new(alloc);
     for _ in rt.forever() {
         match take_next(rt, service, gate, me, link, c)? {
-            Out::Packet => {
-                let Ok(()) = encode_last(me, &mut text) else {
+            Outgoing::Packet => {
+                let Ok(()) = encode_into(me.last_taken(), &mut text) else {
                     return Err(BodyFault::NoMemory);
                 };
-                if !write_all(rt, writer, text.as_slice()) {
+                if !write_text(rt, writer, text.as_slice()) {
                     return Ok(WriterEnd::WriteFailed);
                 }
             }
-            Out::Drained => return Ok(WriterEnd::Drained),
-            Out::Closed => return Ok(WriterEnd::Closed),
+            Outgoing::Drained => return Ok(WriterEnd::Drained),
+            Outgoing::Closed => return Ok(WriterEnd::Closed),
         }
     }
     unreachable!()
@@ -184,17 +154,14 @@ fn write_link<
     writer: &mut W,
 ) -> Result<WriterEnd, BodyFault>
     requires none { me.old.receipts ≡ [] }
-    requires new { W.bytes_written writer.old ≡ [] }
+    requires new { (W.state writer.old).bytes ≡ [] }
     ensures number { me.new.number ≡ me.old.number }
     ensures made { W.made_of writer.new ≡ W.made_of writer.old }
-    ensures row { IfOk result (λ end. W.is_known ≡ true
-        → WriterRow end role (packets_of me.new) (W.bytes_written writer.new)) }
+    ensures written { IfOk result (λ end. WritesAs role end (packets_of me.new) (W.state writer.new)) }
     ensures steps { IfOk result (λ end. (c : ℕ) × WriterSteps end c me.new) }
-    ensures hurt { IfOk result (λ end. end ≡ ends.WriteFailed
-        → IsHurt (W.failures writer.new) (W.is_stuck writer.new)) }
 {
     if let Role::Calling = role {
-        if !write_all(rt, writer, gn_shake::request()) {
+        if !write_text(rt, writer, gn_shake::request()) {
             return Ok(WriterEnd::WriteFailed);
         }
     }
@@ -202,7 +169,7 @@ fn write_link<
         return Ok(WriterEnd::NeverOpened);
     };
     if let Role::Accepting = role {
-        if !write_all(rt, writer, gn_shake::consent()) {
+        if !write_text(rt, writer, gn_shake::consent()) {
             close(rt, service, gate, me, link, c)?;
             return Ok(WriterEnd::WriteFailed);
         }
@@ -237,16 +204,10 @@ pub fn writer_body<
     writer: W,
 ) -> WriterDone<W, L, A>
     requires none { actor.receipts ≡ [] }
-    requires new { IsNewWriter (W.bytes_written writer) (W.failures writer) (W.is_stuck writer) (W.is_finished writer) }
-    ensures number { result.actor.number ≡ actor.number }
-    ensures role { result.role ≡ role }
-    ensures made { W.made_of result.writer ≡ W.made_of writer }
-    ensures row { IfOk result.end (λ end. W.is_known ≡ true
-        → WriterRow end role (packets_of result.actor) (W.bytes_written result.writer)) }
+    requires new { IsNewWriter (W.state writer) }
+    ensures same { (result.actor.number ≡ actor.number) × (result.role ≡ role) }
+    ensures done { IsWriterDone W.state W.made_of (half_of role writer) (writer_ended result) }
     ensures steps { IfOk result.end (λ end. (c : ℕ) × WriterSteps end c result.actor) }
-    ensures hurt { IfOk result.end (λ end. end ≡ ends.WriteFailed
-        → IsHurt (W.failures result.writer) (W.is_stuck result.writer)) }
-    ensures finished { W.is_finished result.writer ≡ true }
 {
     let (mut actor, mut writer) = (actor, writer);
     let end = write_link(

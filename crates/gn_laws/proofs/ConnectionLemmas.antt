@@ -2,7 +2,6 @@
 use Rattle.std.proofs.Common.{◌≡◌, ◌≤◌, ◌+◌, ◌==◌, ℕ, Bool, true, false, ◌&&◌, ◌||◌, not, cond, nat_lt, List, [], ◌∷◌, ◌++◌, length, filter, Option, Some, None, Ok, ◌⊎◌, inl, inr, refl, sym, ap, ◌∙◌, arith, add-zero, length-append}
 use Rattle.std.specs.List.{list_any}
 use Rattle.std.specs.Option.{option_to_list}
-use Rattle.std.proofs.lemmas.Bool.{and_parts, false_from_ne_true, or_parts}
 use Rattle.std.proofs.lemmas.Grind.{common_steps}
 use Rattle.std.proofs.lemmas.List.{append-nil}
 use Rattle.std.proofs.lemmas.List.Folds.{list_any-append}
@@ -36,7 +35,7 @@ use Rattle.gn_rules.specs.Servents.{servent_route}
 use Rattle.gn_rules.specs.SeenEntries.{is_remembered, source}
 use Rattle.gn_rules.proofs.LiveLemmas.{connections_counted, connects_next}
 use Rattle.gn_rules.proofs.SendLemmas.{fanout_to, queued_append, queued_none}
-use Rattle.gn_laws.specs.Connections.{connects, closes, is_closed, is_connected, NothingSince, ClosedStaysClosed, ConnectionsCount, LiveIsOpen, NothingAfterClose, PacketsGoToLive}
+use Rattle.gn_laws.specs.Connections.{connects, closes, is_closed, NothingSince, ClosedStaysClosed, ConnectionsCount, NothingAfterClose, PacketsGoToLive}
 use Rattle.gn_rules.proofs.AnswerLemmas.{answered}
 use Rattle.gn_laws.proofs.CountLemmas.{tally, count-cons, count_none}
 
@@ -81,10 +80,6 @@ record IsPlaced {A : Type 0} (past : List (Step A)) (c : ℕ) : Type 0 where
   live_known : live past c ≡ true → c ≤ length (connections past)
   closed_known : is_closed past c ≡ true → c ≤ length (connections past)
   closed_dead : is_closed past c ≡ true → live past c ≡ false
-
-either_false : (a b : Bool) → a ≡ false → (a || b) ≡ b
-either_false true b e = cc
-either_false false b e = refl
 
 -- a step that leaves all connections as they are
 placed_kept : {A : Type 0} (past : List (Step A)) (step : Step A) (c : ℕ) → is_at c (connected_of step.reply) ≡ false → is_close c step.event ≡ false → IsPlaced past c → IsPlaced (step ∷ past) c
@@ -335,36 +330,3 @@ nothing_after_close A s (last ∷ later) step earlier c legal closing =
     or_true : (b : Bool) → (b || true) ≡ true
     or_true true = refl
     or_true false = refl
-
--- one that is live was connected
-live_connected : {A : Type 0} (past : List (Step A)) (c : ℕ) → live past c ≡ true → is_connected past c ≡ true
-live_connected [] c h = cc
-live_connected (step ∷ past) c h =
-    elim (is_at c (connected_of step.reply)) as (λ b. (b || (not (is_close c step.event) && live past c)) ≡ true → (b || is_connected past c) ≡ true) [
-      | true ↦ λ e. refl
-      | false ↦ λ e. live_connected past c ((and_parts (not (is_close c step.event)) (live past c) e).1)
-    ] h
-
--- one that was connected and isn't closed is live
-open_live : {A : Type 0} (past : List (Step A)) (c : ℕ) → is_connected past c ≡ true → is_closed past c ≡ false → live past c ≡ true
-open_live [] c h still = cc
-open_live (step ∷ past) c h still =
-    let parts = or_parts (is_close c step.event) (is_closed past c) still in
-    elim (is_at c (connected_of step.reply)) as (λ b. (b || is_connected past c) ≡ true → (b || (not (is_close c step.event) && live past c)) ≡ true) [
-      | true ↦ λ e. refl
-      | false ↦ λ e. rw parts.0 (open_live past c e parts.1)
-    ] h
-
-pub live_is_open : (A : Type 0) → LiveIsOpen A
-live_is_open A s past c legal =
-    elim (is_closed past c) as (λ b. is_closed past c ≡ b → live past c ≡ (is_connected past c && not b)) [
-      | true ↦ λ e. (placed s past c legal).closed_dead e ∙ never (is_connected past c)
-      | false ↦ λ e. elim (is_connected past c) as (λ b. is_connected past c ≡ b → live past c ≡ (b && true)) [
-        | true ↦ λ f. open_live past c f e
-        | false ↦ λ f. false_from_ne_true (live past c) (λ alive. let was = live_connected past c alive in cc)
-      ] refl
-    ] refl
-  where
-    never : (b : Bool) → false ≡ (b && false)
-    never true = refl
-    never false = refl

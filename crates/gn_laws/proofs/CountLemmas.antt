@@ -1,8 +1,7 @@
 -- Counts of the items of a list that pass a test, and lists that count up.
-use Rattle.std.proofs.Common.{◌≡◌, ◌≤◌, ◌<◌, ◌+◌, ◌==◌, ℕ, zero, suc, Bool, true, false, cond, List, [], ◌∷◌, length, get_or, reverse, take, refl, sym, ap, ◌∙◌, arith}
+use Rattle.std.proofs.Common.{◌≡◌, ◌≤◌, ◌<◌, ◌+◌, ◌==◌, ℕ, Bool, true, false, cond, List, [], ◌∷◌, length, get_or, reverse, take, refl, sym, ap, ◌∙◌, arith}
 use Rattle.std.specs.List.{count_by, list_any}
 use Rattle.std.proofs.lemmas.Grind.{common_steps}
-use Rattle.std.proofs.lemmas.List.Folds.{list_any_at}
 use Rattle.std.proofs.lemmas.List.Sums.{sum_by-cons, sum_by_more}
 use Rattle.std.proofs.lemmas.List.Sorted.{sum_by-IsPermutation, IsPermutation-reverse}
 
@@ -38,14 +37,3 @@ same_in_both a b = grind (arith, common_steps)
 -- a count one item further
 pub count_step : {X : Type 0} (p : X → Bool) (xs : List X) (i : ℕ) (x : X) → i < length xs → x ≡ get_or xs i x → count_by p (take (i + 1) xs) ≡ count_by p (take i xs) + tally (p x)
 count_step p xs i x below is = sum_by_more (λ x. tally (p x)) xs i x below ∙ ap (λ y. count_by p (take i xs) + tally (p y)) (sym is)
-
--- where at most one item passes, two places whose items pass are one
-pub one_place : {X : Type 0} (p : X → Bool) (xs : List X) (i j : ℕ) (d : X) → count_by p xs ≤ 1 → i < length xs → j < length xs → p (get_or xs i d) ≡ true → p (get_or xs j d) ≡ true → i ≡ j
-one_place p [] i j d once within there at_i at_j = absurd (omega (arith, within))
-one_place p (x ∷ xs) zero zero d once within there at_i at_j = refl
-one_place p (x ∷ xs) zero (suc j) d once within there at_i at_j =
-    absurd (omega (arith, once, count-cons p x xs, ap tally at_i, count_some p xs (list_any_at p xs j d (omega (arith, there)) at_j)))
-one_place p (x ∷ xs) (suc i) zero d once within there at_i at_j =
-    absurd (omega (arith, once, count-cons p x xs, ap tally at_j, count_some p xs (list_any_at p xs i d (omega (arith, within)) at_i)))
-one_place p (x ∷ xs) (suc i) (suc j) d once within there at_i at_j =
-    ap suc (one_place p xs i j d (omega (arith, once, count-cons p x xs)) (omega (arith, within)) (omega (arith, there)) at_i at_j)

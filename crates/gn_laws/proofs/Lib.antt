@@ -5,5 +5,4 @@ pub mod OwnerLemmas
 pub mod PacketLemmas
 pub mod ReceiptLemmas
 pub mod RunLemmas
-pub mod StatsLemmas
 pub mod TicketLemmas

@@ -21,9 +21,9 @@ use Rattle.gn_rules.specs.History.{closed_of, connected_of, is_at, is_close, is_
 use Rattle.gn_rules.specs.Legal.{IsLegal}
 use Rattle.gn_rules.specs.Mine.{mine, mine_from}
 use Rattle.gn_rules.specs.Output.{taken, took}
-use Rattle.gn_laws.specs.Owners.{known_conn, receipts_below, packets_of, offered_on, is_readers, is_writers, AreCompared, ClosedByOne, ConnectedToOne, LinksAgree, ReceiptsAddUp}
+use Rattle.gn_laws.specs.Owners.{known_conn, receipts_below, packets_of, offered_on, is_readers, is_writers, AreCompared, ConnectedToOne, LinksAgree, ReceiptsAddUp}
 use Rattle.gn_rules.proofs.AnswerLemmas.{answered}
-use Rattle.gn_laws.proofs.ConnectionLemmas.{closed_stays_closed, connections_count}
+use Rattle.gn_laws.proofs.ConnectionLemmas.{connections_count}
 use Rattle.gn_laws.proofs.CountLemmas.{tally, count-cons, count_some, count-reverse, same_in_both}
 use Rattle.gn_laws.proofs.PacketLemmas.{drained_took_all}
 
@@ -107,20 +107,6 @@ connected_to_one A s steps c j k legal known_j known_k =
           let first = count_some (λ (r : Receipt A). q r.event r.reply) (mine steps j) known_j in
           let second = count_some (λ (r : Receipt A). q r.event r.reply) (mine steps k) known_k in
           let once = (connections_count A s (reverse steps) legal).once c in
-          let same = count-reverse (λ (x : Step A). q x.event x.reply) steps in
-          absurd (omega (arith, both, first, second, once, same))
-    ]
-
-pub closed_by_one : (A : Type 0) → ClosedByOne A
-closed_by_one A s steps c j k legal known_j known_k =
-    elim (cases_eq j k) as (λ x. j ≡ k) [
-      | inl same ↦ same
-      | inr apart ↦
-          let q : Event A → Reply A → Bool = λ event reply. is_close c event in
-          let both = two_actors q j k apart 0 steps in
-          let first = count_some (λ (r : Receipt A). q r.event r.reply) (mine steps j) known_j in
-          let second = count_some (λ (r : Receipt A). q r.event r.reply) (mine steps k) known_k in
-          let once = (closed_stays_closed A s (reverse steps) c legal).once in
           let same = count-reverse (λ (x : Step A). q x.event x.reply) steps in
           absurd (omega (arith, both, first, second, once, same))
     ]

@@ -14,9 +14,8 @@ use Rattle.gn_rules.specs.declared.receipt.Step.{Step}
 use Rattle.gn_rules.specs.Flight.{flying, is_route}
 use Rattle.gn_rules.specs.History.{admitted_of, is_at, ticket_of}
 use Rattle.gn_rules.specs.Legal.{IsLegal}
-use Rattle.gn_rules.proofs.LegalLemmas.{legal_take}
 use Rattle.gn_laws.specs.Tickets.{admitted, is_route_reply, routed}
-use Rattle.gn_laws.specs.Runs.{is_admitted, EachIsRouted, RoutesAll, settled_from, CountsAgree, CountsGiveFlight, EqualCountsRouteAll, PrefixesAreLegal, NoneFlies, SettledAgrees}
+use Rattle.gn_laws.specs.Runs.{is_admitted, EachIsRouted, RoutesAll, settled_from, CountsAgree, EqualCountsRouteAll, NoneFlies}
 use Rattle.gn_laws.proofs.CountLemmas.{count_some, count-reverse, tally}
 use Rattle.gn_laws.proofs.TicketLemmas.{admitted_once, each_routed, flights_balance, none_flies as none_left, route_replied, routed_once}
 
@@ -82,18 +81,6 @@ equal_counts_route_all A s steps legal same =
     IsPermutation-back : {X : Type 0} (xs : List X) → IsPermutation (reverse xs) xs
     IsPermutation-back xs = rw reverse-reverse at (IsPermutation-reverse (reverse xs))
 
-pub prefixes_are_legal : (A : Type 0) → PrefixesAreLegal A
-prefixes_are_legal A s steps k legal = legal_take s steps k legal
-
-pub counts_give_flight : (A : Type 0) → CountsGiveFlight A
-counts_give_flight A s steps k legal =
-    let even = balance s (take k steps) (prefixes_are_legal A s steps k legal) in
-    ((λ same. empty (flying (reverse (take k steps))) (omega (arith, even, same))), (λ none. omega (arith, even, ap length none)))
-  where
-    empty : (ts : List ℕ) → length ts ≡ 0 → ts ≡ []
-    empty [] h = refl
-    empty (t ∷ ts) h = absurd (omega (arith, h))
-
 -- one pass with two counts, from the middle of a history: `before` are the steps that it has come over
 settles : {A : Type 0} (asked : Step A → Bool) (before steps : List (Step A))
     → (settled_from asked (admitted before) (routed before) steps ≡ true)
@@ -130,13 +117,6 @@ settles {A} asked before (step ∷ steps) =
         let equal : (admitted before == routed before) ≡ true = ap (λ b. not b || (admitted before == routed before)) (sym is) ∙ now in
         rw (append-nil before) (eqb-true (admitted before) (routed before) equal)
     at (suc k) d below is now later = rw (append_assoc before (step ∷ []) (take k steps)) at (later k d (omega (arith, below)) is)
-
-pub settled_agrees : (A : Type 0) → SettledAgrees A
-settled_agrees A s steps asked legal =
-    let both = settles asked [] steps in (
-      (λ e k d below is. (counts_give_flight A s steps k legal).0 (both.0 e k d below is)),
-      (λ each. both.1 (λ k d below is. (counts_give_flight A s steps k legal).1 (each k d below is))),
-    )
 
 pub none_flies : (A : Type 0) → NoneFlies A
 none_flies A steps =

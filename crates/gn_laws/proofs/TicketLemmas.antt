@@ -5,7 +5,6 @@ use Rattle.std.specs.Option.{option_to_list}
 use Rattle.std.proofs.lemmas.Grind.{common_steps}
 use Rattle.std.proofs.lemmas.List.Elements.{All-head, filter_agree, filter_passes}
 use Rattle.std.proofs.lemmas.List.Filters.{length-filter_both}
-use Rattle.std.proofs.lemmas.List.Kept.{IsStrictlyIncreasing-filter}
 use Rattle.std.proofs.lemmas.List.Sums.{count_by-le-length, length-filter, sum_by-append}
 use Rattle.std.proofs.lemmas.Map.Views.{exact_unsigned_eq}
 use Rattle.gn_rules.specs.declared.config.Config.{Config}
@@ -23,17 +22,12 @@ use Rattle.gn_rules.specs.Legal.{IsLegal}
 use Rattle.gn_rules.proofs.AnswerLemmas.{answered}
 use Rattle.gn_rules.proofs.FlightLemmas.{flying_more, gives_next, moves_tickets, route_is, tickets_counted}
 use Rattle.gn_rules.proofs.StepLemmas.{filter_both}
-use Rattle.gn_laws.specs.Tickets.{admissions, routes, is_route_reply, AdmittedOnce, FlightsBalance, FlyingAscend, RoutedOnce, RoutesAreReplied, TicketsCount}
+use Rattle.gn_laws.specs.Tickets.{admissions, routes, is_route_reply, AdmittedOnce, FlightsBalance, RoutedOnce, RoutesAreReplied, TicketsCount}
 use Rattle.gn_laws.specs.Runs.{EachIsRouted}
 use Rattle.gn_laws.proofs.CountLemmas.{tally, count-cons, count_none, count_some, any_from_count, same_in_both}
 
 pub tickets_count : (A : Type 0) → TicketsCount A
 tickets_count A s past k legal within = tickets_counted s past legal k within ∙ omega arith
-
-pub flying_ascend : (A : Type 0) → FlyingAscend A
-flying_ascend A s past legal =
-    let counted = tickets_counted s past legal in
-    IsStrictlyIncreasing-filter (λ t. not (is_routed past t)) (tickets past) (λ k within. omega (arith, within, counted k (omega (arith, within)), counted (k + 1) within))
 
 -- a ticket was given where it is below the next one
 given_more : (o : Option ℕ) (t n a : ℕ) → (o ≡ None) ⊎ (o ≡ Some n) → a ≡ tally (nat_lt t n) → tally (is_at t o) + a ≡ tally (nat_lt t (n + length (option_to_list o)))

@@ -1,7 +1,7 @@
 -- Laws of connections: each number is given once, and one that is closed stays closed.
 --
 -- In each law `past` is a history with its newest step first, as in the definitions of the rules.
-use Rattle.std.specs.Prelude.{◌≡◌, ◌≤◌, ◌<◌, ◌+◌, ◌&&◌, ℕ, Bool, true, false, not, List, [], ◌∷◌, ◌++◌, length, slice_index_or, count_by, Ok}
+use Rattle.std.specs.Prelude.{◌≡◌, ◌≤◌, ◌<◌, ◌+◌, ℕ, Bool, true, false, List, [], ◌∷◌, ◌++◌, length, slice_index_or, count_by, Ok}
 use Rattle.std.specs.List.{list_any}
 use Rattle.gn_rules.specs.declared.config.Config.{Config}
 use Rattle.gn_rules.specs.declared.event.Event.{Event}
@@ -25,10 +25,6 @@ closes past c = count_by (λ step. is_close c step.event) past
 abbrev pub is_closed : {A : Type 0} → List (Step A) → ℕ → Bool
 is_closed past c = list_any (λ step. is_close c step.event) past
 
--- a step is replied Connected(c)
-abbrev pub is_connected : {A : Type 0} → List (Step A) → ℕ → Bool
-is_connected past c = list_any (λ step. is_at c (connected_of step.reply)) past
-
 -- the numbers of a history's connections
 pub record AreNumbered {A : Type 0} (past : List (Step A)) : Type 0 where
   -- from the first on they are 1, 2, 3 and so on
@@ -49,12 +45,6 @@ pub record StaysClosed {A : Type 0} (past : List (Step A)) (c : ℕ) : Type 0 wh
 
 abbrev pub ClosedStaysClosed : Type 0 → Type 0
 ClosedStaysClosed A = (s : Config) (past : List (Step A)) (c : ℕ) → IsLegal s past → StaysClosed past c
-
--- in a legal history c is live exactly where a step is replied Connected(c) and no step is Close(c), in whatever order
-abbrev pub LiveIsOpen : Type 0 → Type 0
-LiveIsOpen A =
-    (s : Config) (past : List (Step A)) (c : ℕ) → IsLegal s past
-    → live past c ≡ (is_connected past c && not (is_closed past c))
 
 -- an answered event queues nothing to a connection that isn't live
 abbrev pub PacketsGoToLive : Type 0 → Type 0

@@ -104,14 +104,6 @@ ConnectedToOne A =
     → list_any (λ r. is_at c (connected_of r.reply)) (mine steps k) ≡ true
     → j ≡ k
 
--- nor have two actors a receipt of a Close(c)
-abbrev pub ClosedByOne : Type 0 → Type 0
-ClosedByOne A =
-    (s : Config) (steps : List (Step A)) (c j k : ℕ) → IsLegal s (reverse steps)
-    → list_any (λ r. is_close c r.event) (mine steps j) ≡ true
-    → list_any (λ r. is_close c r.event) (mine steps k) ≡ true
-    → j ≡ k
-
 -- what a link's two actors have receipts of, about its connection c
 pub record LinkAgrees {A : Type 0} (steps : List (Step A)) (reader writer c : ℕ) : Type 0 where
   -- the descriptors that the reader's receipts offer are all that the history offers on c, in order
@@ -129,13 +121,6 @@ LinksAgree A =
     (s : Config) (steps : List (Step A)) (conns : List (Option ℕ)) (k c : ℕ)
     → IsLegal s (reverse steps) → AreCompared steps conns → k < length conns → slice_index_or conns k None ≡ Some c
     → LinkAgrees steps k (length conns + k) c
-
--- all receipts of an actor have an index below k exactly where all its steps stand before place k
-abbrev pub IndicesAgree : Type 0 → Type 0
-IndicesAgree A =
-    (steps : List (Step A)) (a k : ℕ)
-    → (list_all (λ r. nat_lt r.index k) (mine steps a) ≡ true)
-    ↔ ((p : ℕ) (d : Step A) → p < length steps → (slice_index_or steps p d).actor ≡ a → p < k)
 
 -- lists of receipts, one for each actor, that fit them and are as many in all as the history has steps: these are the
 -- actors' own steps, and no step is of another actor. So each receipt is looked up once, and no history is searched

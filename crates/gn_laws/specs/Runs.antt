@@ -2,7 +2,7 @@
 --
 -- Here `steps` is a history in order, the oldest step first, and `reverse steps` the past that the definitions of the rules
 -- are given. Counts are the same of both.
-use Rattle.std.specs.Prelude.{◌≡◌, ◌<◌, ◌+◌, ◌↔◌, ◌==◌, ◌&&◌, ◌||◌, ℕ, Bool, true, not, if◌then◌else◌, List, [], ◌∷◌, length, reverse, take, is_some, slice_index_or}
+use Rattle.std.specs.Prelude.{◌≡◌, ◌<◌, ◌+◌, ◌↔◌, ◌==◌, ◌&&◌, ◌||◌, ℕ, Bool, true, not, if◌then◌else◌, List, [], ◌∷◌, length, reverse, is_some, slice_index_or}
 use Rattle.std.specs.List.{list_any}
 use Rattle.gn_rules.specs.declared.config.Config.{Config}
 use Rattle.gn_rules.specs.declared.receipt.Step.{Step}
@@ -45,18 +45,6 @@ EqualCountsRouteAll A =
     (s : Config) (steps : List (Step A)) → IsLegal s (reverse steps) → admitted steps ≡ routed steps
     → RoutesAll steps
 
--- the first k steps of a legal history are a legal history
-abbrev pub PrefixesAreLegal : Type 0 → Type 0
-PrefixesAreLegal A =
-    (s : Config) (steps : List (Step A)) (k : ℕ) → IsLegal s (reverse steps) → IsLegal s (reverse (take k steps))
-
--- in a legal history nothing is in flight after the first k steps exactly where as many of these are replied Admitted as
--- are a Route
-abbrev pub CountsGiveFlight : Type 0 → Type 0
-CountsGiveFlight A =
-    (s : Config) (steps : List (Step A)) (k : ℕ) → IsLegal s (reverse steps)
-    → (admitted (take k steps) ≡ routed (take k steps)) ↔ (flying (reverse (take k steps)) ≡ [])
-
 -- at each step that `asked` names, as many of the steps before it are replied Admitted as are a Route: `admissions` and
 -- `routes` count those of the steps before
 abbrev pub settled_from : {A : Type 0} → (Step A → Bool) → ℕ → ℕ → List (Step A) → Bool
@@ -67,12 +55,3 @@ settled_from asked admissions routes (step ∷ steps) =
     (admissions + (if is_some (admitted_of step.reply) then 1 else 0))
     (routes + (if is_some (ticket_of step.event) then 1 else 0))
     steps
-
--- in a legal history nothing is in flight before each step that `asked` names exactly where one pass with two counts says
--- so
-abbrev pub SettledAgrees : Type 0 → Type 0
-SettledAgrees A =
-    (s : Config) (steps : List (Step A)) (asked : Step A → Bool) → IsLegal s (reverse steps)
-    → (settled_from asked 0 0 steps ≡ true)
-    ↔ ((k : ℕ) (d : Step A) → k < length steps → asked (slice_index_or steps k d) ≡ true
-    → flying (reverse (take k steps)) ≡ [])

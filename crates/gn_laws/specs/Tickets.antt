@@ -2,15 +2,12 @@
 --
 -- In each law `past` is a history with its newest step first, as in the definitions of the rules.
 use Rattle.std.specs.Prelude.{◌≡◌, ◌≤◌, ◌<◌, ◌+◌, ◌||◌, ℕ, Bool, true, List, ◌∷◌, length, is_some, slice_index_or, count_by}
-use Rattle.std.specs.List.Sorted.{IsStrictlyIncreasing}
 use Rattle.gn_rules.specs.declared.config.Config.{Config}
 use Rattle.gn_rules.specs.declared.receipt.Step.{Step}
 use Rattle.gn_rules.specs.declared.reply.Reply.{Reply}
 use Rattle.gn_rules.specs.Flight.{flying, is_route, tickets}
 use Rattle.gn_rules.specs.History.{admitted_of, dropped_of, is_at, is_routed_reply, ticket_of}
 use Rattle.gn_rules.specs.Legal.{IsLegal}
-use Rattle.gn_rules.specs.declared.statistics.Stats.{Stats}
-use Rattle.gn_rules.specs.Statistics.{stats_of}
 
 -- how many steps are replied Admitted(t)
 abbrev pub admissions : {A : Type 0} → List (Step A) → ℕ → ℕ
@@ -53,22 +50,7 @@ RoutesAreReplied A =
     (s : Config) (past : List (Step A)) (step : Step A) → IsLegal s (step ∷ past)
     → is_some (ticket_of step.event) ≡ true → is_route_reply step.reply ≡ true
 
--- in a legal history the tickets in flight ascend: each is below the next
-abbrev pub FlyingAscend : Type 0 → Type 0
-FlyingAscend A = (s : Config) (past : List (Step A)) → IsLegal s past → IsStrictlyIncreasing (flying past)
-
 -- in a legal history as many steps are replied Admitted as are a Route, and one more for each ticket in flight
 abbrev pub FlightsBalance : Type 0 → Type 0
 FlightsBalance A =
     (s : Config) (past : List (Step A)) → IsLegal s past → admitted past ≡ routed past + length (flying past)
-
--- how many routes statistics count: those that were routed, and those that were dropped for each reason
-abbrev pub routes_counted : Stats → ℕ
-routes_counted n =
-    n.routed + n.unknownkind + n.malformed + n.duplicate + n.noroute + n.routegone + n.backtosender + n.expired
-
--- the statistics of a legal history count as many admissions as routes, and one more for each ticket in flight
-abbrev pub StatsBalance : Type 0 → Type 0
-StatsBalance A =
-    (s : Config) (past : List (Step A)) → IsLegal s past
-    → (stats_of past).admitted ≡ routes_counted (stats_of past) + length (flying past)

@@ -1,6 +1,6 @@
 //! Laws of tickets.
 
-ghost use Rattle.gn_laws.specs.Tickets.{AdmittedOnce, FlightsBalance, FlyingAscend, RoutedOnce, RoutesAreReplied, StatsBalance, TicketsCount};
+ghost use Rattle.gn_laws.specs.Tickets.{AdmittedOnce, RoutedOnce, RoutesAreReplied, TicketsCount};
 
 use std::alloc::Allocator;
 
@@ -22,19 +22,4 @@ pub fn routed_once<A: Allocator>()
 /// The law that a step Route is replied Routed or Dropped.
 pub fn routes_are_replied<A: Allocator>()
     ensures { RoutesAreReplied A }
-{}
-
-/// The law that the tickets in flight ascend, so that no two are equal.
-pub fn flying_ascend<A: Allocator>()
-    ensures { FlyingAscend A }
-{}
-
-/// The law that what was admitted is what was routed and what is in flight, in numbers.
-pub fn flights_balance<A: Allocator>()
-    ensures { FlightsBalance A }
-{}
-
-/// The law that the statistics have as many admissions as routes and tickets in flight.
-pub fn stats_balance<A: Allocator>()
-    ensures { StatsBalance A }
 {}

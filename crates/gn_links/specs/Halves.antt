@@ -1,4 +1,4 @@
--- What the two halves of a link give and count, and when they are new.
+-- What the two halves of a link give and count.
 use Rattle.std.specs.Prelude.{◌≡◌, ◌+◌, ◌-◌, ◌^◌, ◌<◌, ◌==◌, ◌&&◌, not, ℕ, All, Bool, true, false, if◌then◌else◌, min, List, [], ◌++◌, take, Result, Ok, Err}
 
 -- a count after what may have happened; at the last u64 it stays
@@ -30,10 +30,6 @@ abbrev pub is_stall : {E : Type 0} → Result ℕ E → ℕ → Bool
 is_stall (Ok n) length = (n == 0) && not (length == 0)
 is_stall (Err fault) length = false
 
--- a reader that read nothing yet: its bytes, its failures, its reads that gave bytes, whether it ended
-abbrev pub IsNewReader : List ℕ → ℕ → ℕ → Bool → Type 0
-IsNewReader bytes failures pieces has_ended = (bytes ≡ []) × (failures ≡ 0) × (pieces ≡ 0) × (has_ended ≡ false)
-
 -- what a reader is to give: whether all its bytes are known beforehand, and then these bytes; and whether a read may fail
 pub record Source : Type 0 where
   pub is_foretold : Bool
@@ -46,8 +42,3 @@ pub record IsReadOf (all read : List ℕ) (has_ended : Bool) : Type 0 where
   pub rest : List ℕ
   pub whole : all ≡ read ++ rest
   pub ended : has_ended ≡ true → rest ≡ []
-
--- a writer that wrote nothing yet: its bytes, its failures, whether it is stuck, whether it is finished
-abbrev pub IsNewWriter : List ℕ → ℕ → Bool → Bool → Type 0
-IsNewWriter bytes failures is_stuck is_finished =
-    (bytes ≡ []) × (failures ≡ 0) × (is_stuck ≡ false) × (is_finished ≡ false)

@@ -1,7 +1,8 @@
 -- A link over memory and its halves.
-use Rattle.std.specs.Prelude.{◌≡◌, ◌+◌, ◌-◌, ◌^◌, ◌<◌, ◌≤◌, ℕ, All, Bool, true, false, is_some, nat_le, min, List, [], length, Option, Some, None}
+use Rattle.std.specs.Prelude.{◌≡◌, ◌+◌, ◌-◌, ◌^◌, ◌<◌, ◌≤◌, ℕ, All, Bool, true, false, is_some, nat_le, min, List, [], length, take, Option, Some, None}
 use Rattle.gn_shake.specs.declared.role.Role.{Role}
 use Rattle.gn_links.specs.Halves.{Source}
+use Rattle.gn_links.specs.Views.{ReadHalf, WrittenHalf}
 
 -- a link over memory: its role, the bytes that it gives, the most of them at a time, and from which read and which write
 -- on it fails
@@ -27,6 +28,17 @@ pub record MemoryReading : Type 0 where
   pub has_ended : Bool
   pub is_finished : Bool
 
+-- what it says of itself: its bytes are known
+abbrev pub half_read : MemoryReading → ReadHalf
+half_read half =
+    record {
+      is_known = true;
+      bytes = take half.given half.link.bytes;
+      failures = half.failures;
+      pieces = half.pieces;
+      has_ended = half.has_ended;
+    }
+
 -- so many of these bytes were given: no more than there are, and all of them where the reader ended; each is below 256
 pub record IsGiving (bytes : List ℕ) (given : ℕ) (has_ended : Bool) : Type 0 where
   pub octets : All (λ b. b < 256) bytes
@@ -49,6 +61,17 @@ pub record MemoryWriting : Type 0 where
   pub calls : ℕ
   pub failures : ℕ
   pub is_finished : Bool
+
+-- what it says of itself: its bytes are known, and it is never stuck
+abbrev pub half_written : MemoryWriting → WrittenHalf
+half_written half =
+    record {
+      is_known = true;
+      bytes = half.bytes;
+      failures = half.failures;
+      is_stuck = false;
+      is_finished = half.is_finished;
+    }
 
 -- the number of a call after so many, from 1 on; it stays at the last u32
 abbrev pub next_call : ℕ → ℕ

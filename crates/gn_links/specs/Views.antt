@@ -1,6 +1,6 @@
--- What a half of a link says of itself, as one record.
-use Rattle.std.specs.Prelude.{◌≡◌, ℕ, Bool, true, List}
-use Rattle.gn_links.specs.Halves.{IsReadOf, Source}
+-- What a half of a link says of itself, as one record; when it is new, and what a call does to it.
+use Rattle.std.specs.Prelude.{◌≡◌, ◌++◌, ◌||◌, ℕ, Bool, true, false, List, [], length, Result, is_err}
+use Rattle.gn_links.specs.Halves.{counted, gave_bytes, is_end, is_stall, read_by, written_by, IsReadOf, Source}
 
 -- a half that was read: whether its bytes are known, and then these bytes, how many reads failed, how many gave bytes, and
 -- whether it ended
@@ -20,29 +20,36 @@ pub record WrittenHalf : Type 0 where
   pub is_stuck : Bool
   pub is_finished : Bool
 
--- what a reading half of this type says
-abbrev pub reads_of :
-    {Rd : Type 0} → Bool → (Rd → List ℕ) → (Rd → ℕ) → (Rd → ℕ) → (Rd → Bool) → Rd → ReadHalf
-reads_of known bytes failures pieces ended half =
-    record {
-      is_known = known;
-      bytes = bytes half;
-      failures = failures half;
-      pieces = pieces half;
-      has_ended = ended half;
-    }
+-- a half that read nothing yet
+pub record IsNewReader (half : ReadHalf) : Type 0 where
+  pub none : half.bytes ≡ []
+  pub unfailed : half.failures ≡ 0
+  pub unread : half.pieces ≡ 0
+  pub goes_on : half.has_ended ≡ false
 
--- what a writing half of this type says
-abbrev pub writes_of :
-    {W : Type 0} → Bool → (W → List ℕ) → (W → ℕ) → (W → Bool) → (W → Bool) → W → WrittenHalf
-writes_of known bytes failures stuck finished half =
-    record {
-      is_known = known;
-      bytes = bytes half;
-      failures = failures half;
-      is_stuck = stuck half;
-      is_finished = finished half;
-    }
+-- a half that wrote nothing yet
+pub record IsNewWriter (half : WrittenHalf) : Type 0 where
+  pub none : half.bytes ≡ []
+  pub unfailed : half.failures ≡ 0
+  pub free : half.is_stuck ≡ false
+  pub goes_on : half.is_finished ≡ false
+
+-- what a read did to a half, with this answer and this in the buffer: the bytes that it gave, where they are known, are its
+-- next ones, and it is counted
+pub record HasRead {E : Type 0} (answer : Result ℕ E) (buffer : List ℕ) (before after : ReadHalf) : Type 0 where
+  pub known : after.is_known ≡ before.is_known
+  pub bytes : before.is_known ≡ true → after.bytes ≡ before.bytes ++ read_by answer buffer
+  pub failures : after.failures ≡ counted (is_err answer) before.failures
+  pub pieces : after.pieces ≡ counted (gave_bytes answer) before.pieces
+  pub ended : after.has_ended ≡ (before.has_ended || is_end answer (length buffer))
+
+-- what a write of this piece did to a half, with this answer: the bytes that it took, where they are known, are its next
+-- ones, and it is counted
+pub record HasWritten {E : Type 0} (answer : Result ℕ E) (piece : List ℕ) (before after : WrittenHalf) : Type 0 where
+  pub known : after.is_known ≡ before.is_known
+  pub bytes : before.is_known ≡ true → after.bytes ≡ before.bytes ++ written_by answer piece
+  pub failures : after.failures ≡ counted (is_err answer) before.failures
+  pub stuck : after.is_stuck ≡ (before.is_stuck || is_stall answer (length piece))
 
 -- what was read of a link that is to give this, where all its bytes are known beforehand: numbers below 256, the first of the
 -- bytes, in order, and all of them where a read gave no more

@@ -1,18 +1,16 @@
 //! A link and its two halves.
 
-ghost use Rattle.std.specs.Prelude.{◌≡◌, ◌++◌, ◌||◌, ◌≤◌, [], ℕ, Bool, List, false, length, true, IfOk, OnErr, is_err};
+ghost use Rattle.std.specs.Prelude.{◌≡◌, ◌≤◌, Bool, false, length, true, IfOk, OnErr};
 ghost use Rattle.gn_shake.specs.declared.role.Role.{Role};
-ghost use Rattle.gn_links.specs.Halves.{
-  counted,
-  gave_bytes,
-  is_end,
-  is_stall,
-  read_by,
-  written_by,
+ghost use Rattle.gn_links.specs.Halves.{Source};
+ghost use Rattle.gn_links.specs.Views.{
+  HasRead,
+  HasWritten,
   IsNewReader,
   IsNewWriter,
-  IsReadOf,
-  Source,
+  IsReadFrom,
+  ReadHalf,
+  WrittenHalf,
 };
 
 use gn_shake::Role;
@@ -27,26 +25,15 @@ pub trait LinkReader: Drop {
     /// What it says of the link that it was split from.
     type Origin;
 
-    /// Whether the bytes that it read are known.
-    ghost is_known: { Bool };
-
     /// The link that it was split from.
     ghost made_of: { Self → Self.Origin };
 
     /// What the reader of such a link is to give. A link whose reader knows only what it has read isn't foretold.
     ghost gives: { Self.Origin → Source };
 
-    /// The bytes that its reads gave so far, where they are known.
-    ghost bytes_read: { Self → List ℕ };
-
-    /// How many reads failed.
-    ghost failures: { Self → ℕ };
-
-    /// How many reads gave bytes.
-    ghost pieces: { Self → ℕ };
-
-    /// Whether a read into a nonempty buffer gave none.
-    ghost has_ended: { Self → Bool };
+    /// The bytes that its reads gave so far, where they are known; how many reads failed, how many gave bytes, and whether
+    /// one into a nonempty buffer gave none.
+    ghost state: { Self → ReadHalf };
 
     /// Whether it was finished.
     ghost is_finished: { Self → Bool };
@@ -56,21 +43,15 @@ pub trait LinkReader: Drop {
     fn read<R: Wait>(&mut self, rt: &R, buffer: &mut [u8]) -> Result<usize, LinkFault>
         ensures within { IfOk result (λ n. n ≤ length buffer.old) }
         ensures made { made_of self.new ≡ made_of self.old }
-        ensures bytes { is_known ≡ true → bytes_read self.new ≡ bytes_read self.old ++ read_by result buffer.new }
-        ensures prefix { (gives (made_of self.new)).is_foretold ≡ true
-            → IsReadOf (gives (made_of self.new)).bytes (bytes_read self.new) (has_ended self.new) }
-        ensures allowed { OnErr result ((gives (made_of self.new)).may_fail ≡ true) }
-        ensures failures { failures self.new ≡ counted (is_err result) (failures self.old) }
-        ensures pieces { pieces self.new ≡ counted (gave_bytes result) (pieces self.old) }
-        ensures has_ended { has_ended self.new ≡ (has_ended self.old || is_end result (length buffer.old)) };
+        ensures state { HasRead result buffer.new (state self.old) (state self.new) }
+        ensures prefix { IsReadFrom (gives (made_of self.new)) (state self.new) }
+        ensures allowed { OnErr result ((gives (made_of self.new)).may_fail ≡ true) };
 
     /// There is nothing more to read.
     fn finish<R: Wait>(&mut self, rt: &R)
         ensures is_finished { is_finished self.new ≡ true }
         ensures made { made_of self.new ≡ made_of self.old }
-        ensures bytes { bytes_read self.new ≡ bytes_read self.old }
-        ensures counts { (failures self.new ≡ failures self.old) × (pieces self.new ≡ pieces self.old) }
-        ensures has_ended { has_ended self.new ≡ has_ended self.old };
+        ensures state { state self.new ≡ state self.old };
 }
 
 /// The half of a link that takes the bytes for its other side. Its count goes up to the last u64 and stays there.
@@ -78,39 +59,23 @@ pub trait LinkWriter: Drop {
     /// What it says of the link that it was split from.
     type Origin;
 
-    /// Whether its bytes are known.
-    ghost is_known: { Bool };
-
     /// The link that it was split from.
     ghost made_of: { Self → Self.Origin };
 
-    /// The bytes that it took so far, where they are known.
-    ghost bytes_written: { Self → List ℕ };
-
-    /// How many writes failed.
-    ghost failures: { Self → ℕ };
-
-    /// Whether a write of a nonempty piece took nothing.
-    ghost is_stuck: { Self → Bool };
-
-    /// Whether it was finished.
-    ghost is_finished: { Self → Bool };
+    /// The bytes that it took so far, where they are known; how many writes failed, whether one of a nonempty piece took
+    /// nothing, and whether it was finished.
+    ghost state: { Self → WrittenHalf };
 
     /// Takes the first bytes of the piece, and gives their number.
     fn write<R: Wait>(&mut self, rt: &R, piece: &[u8]) -> Result<usize, LinkFault>
         ensures within { IfOk result (λ n. n ≤ length piece.now) }
         ensures made { made_of self.new ≡ made_of self.old }
-        ensures bytes { is_known ≡ true
-            → bytes_written self.new ≡ bytes_written self.old ++ written_by result piece.now }
-        ensures failures { failures self.new ≡ counted (is_err result) (failures self.old) }
-        ensures is_stuck { is_stuck self.new ≡ (is_stuck self.old || is_stall result (length piece.now)) };
+        ensures state { HasWritten result piece.now (state self.old) (state self.new) };
 
     /// There is nothing more to write.
     fn finish<R: Wait>(&mut self, rt: &R)
-        ensures is_finished { is_finished self.new ≡ true }
         ensures made { made_of self.new ≡ made_of self.old }
-        ensures bytes { bytes_written self.new ≡ bytes_written self.old }
-        ensures counts { (failures self.new ≡ failures self.old) × (is_stuck self.new ≡ is_stuck self.old) };
+        ensures state { state self.new ≡ record (state self.old) { is_finished = true } };
 }
 
 /// What a run reads from and writes to.
@@ -139,12 +104,10 @@ pub trait Link: Drop {
     fn split(self) -> Result<(Self::Reader, Self::Writer), LinkFault>
     where
         Self: Sized,
-        ensures reader { IfOk result (λ h. IsNewReader (Self.Reader.bytes_read h.0) (Self.Reader.failures h.0)
-            (Self.Reader.pieces h.0) (Self.Reader.has_ended h.0)) }
-        ensures allowed { OnErr result (may_not_split self ≡ true) }
+        ensures reader { IfOk result (λ h. IsNewReader (Self.Reader.state h.0)) }
+        ensures writer { IfOk result (λ h. IsNewWriter (Self.Writer.state h.1)) }
+        ensures open { IfOk result (λ h. Self.Reader.is_finished h.0 ≡ false) }
         ensures made { IfOk result (λ h. (Self.Reader.made_of h.0 ≡ origin_of self)
             × (Self.Writer.made_of h.1 ≡ origin_of self)) }
-        ensures open { IfOk result (λ h. Self.Reader.is_finished h.0 ≡ false) }
-        ensures writer { IfOk result (λ h. IsNewWriter (Self.Writer.bytes_written h.1) (Self.Writer.failures h.1)
-            (Self.Writer.is_stuck h.1) (Self.Writer.is_finished h.1)) };
+        ensures allowed { OnErr result (may_not_split self ≡ true) };
 }

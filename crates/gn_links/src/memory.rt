@@ -1,8 +1,8 @@
 //! A link over memory.
 
-ghost use Rattle.std.specs.Prelude.{◌≡◌, ◌<◌, ◌≤◌, None, false, take, IfOk, IsOk};
-ghost use Rattle.gn_links.specs.Halves.{IsNewReader, IsNewWriter};
-ghost use Rattle.gn_links.specs.Memory.{new_reading, new_writing};
+ghost use Rattle.std.specs.Prelude.{◌≡◌, ◌<◌, ◌≤◌, None, false, IfOk, IsOk};
+ghost use Rattle.gn_links.specs.Memory.{half_read, half_written, new_reading, new_writing};
+ghost use Rattle.gn_links.specs.Views.{IsNewReader, IsNewWriter};
 
 use crate::link::{Link, LinkFault};
 use crate::memory_reader::MemoryReader;
@@ -96,10 +96,9 @@ impl<A: Allocator + Copy> Link for MemoryLink<A> {
     fn split(self) -> Result<(MemoryReader<A>, MemoryWriter<A>), LinkFault>
         ensures ok { IsOk result }
         ensures halves { IfOk result (λ h. (h.0 ≡ new_reading self) × (h.1 ≡ new_writing self)) }
-        ensures reader { IfOk result (λ h. IsNewReader (take h.0.given h.0.link.bytes) h.0.failures h.0.pieces
-            h.0.has_ended) }
+        ensures reader { IfOk result (λ h. IsNewReader (half_read h.0)) }
+        ensures writer { IfOk result (λ h. IsNewWriter (half_written h.1)) }
         ensures made { IfOk result (λ h. (h.0.link ≡ self) × (h.1.link ≡ self)) }
-        ensures writer { IfOk result (λ h. IsNewWriter h.1.bytes h.1.failures false h.1.is_finished) }
     {
         let (reading, writing) = (Snapshot::of(&self), Snapshot::of(&self));
         let alloc = *self.bytes.allocator();

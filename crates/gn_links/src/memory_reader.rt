@@ -1,8 +1,9 @@
 //! The reading half of a link over memory.
 
-ghost use Rattle.std.specs.Prelude.{◌≡◌, ◌++◌, ◌||◌, ◌<◌, ◌≤◌, length, take, true, IfOk, OnErr, is_err, is_some};
-ghost use Rattle.gn_links.specs.Halves.{counted, gave_bytes, is_end, read_by, IsReadOf};
-ghost use Rattle.gn_links.specs.Memory.{is_failing, new_reading, next_call, source_of, IsReaderOf};
+ghost use Rattle.std.specs.Prelude.{◌≡◌, ◌++◌, ◌<◌, ◌≤◌, length, take, true, IfOk, OnErr, is_err, is_some};
+ghost use Rattle.gn_links.specs.Halves.{IsReadOf};
+ghost use Rattle.gn_links.specs.Memory.{half_read, is_failing, new_reading, next_call, source_of, IsReaderOf};
+ghost use Rattle.gn_links.specs.Views.{HasRead};
 
 use crate::link::{LinkFault, LinkReader};
 use crate::memory::MemoryLink;
@@ -89,35 +90,23 @@ impl<A: Allocator + Copy> MemoryReader<A> {
 impl<A: Allocator + Copy> LinkReader for MemoryReader<A> {
     type Origin = MemoryLink<A>;
 
-    ghost is_known = { true };
-
     ghost made_of = { λ r. r.link };
 
     ghost gives = { source_of };
 
-    ghost bytes_read = { λ r. take r.given r.link.bytes };
-
-    ghost failures = { λ r. r.failures };
-
-    ghost pieces = { λ r. r.pieces };
-
-    ghost has_ended = { λ r. r.has_ended };
+    ghost state = { half_read };
 
     ghost is_finished = { λ r. r.is_finished };
 
     fn read<R: Wait>(&mut self, _rt: &R, buffer: &mut [u8]) -> Result<usize, LinkFault>
         ensures within { IfOk result (λ n. (n ≤ length buffer.old) × (n ≤ self.old.link.piece)) }
-        ensures bytes { take self.new.given self.new.link.bytes
-            ≡ take self.old.given self.old.link.bytes ++ read_by result buffer.new }
+        ensures state { HasRead result buffer.new (half_read self.old) (half_read self.new) }
         ensures prefix { IsReadOf self.new.link.bytes (take self.new.given self.new.link.bytes) self.new.has_ended }
         ensures end { IfOk result (λ n. n ≡ 0 → 0 < length buffer.old
             → self.old.given ≡ length self.old.link.bytes) }
         ensures fails { is_err result ≡ is_failing self.old.link.read (next_call self.old.calls) }
         ensures allowed { OnErr result (is_some self.new.link.read ≡ true) }
         ensures calls { self.new.calls ≡ next_call self.old.calls }
-        ensures failures { self.new.failures ≡ counted (is_err result) self.old.failures }
-        ensures pieces { self.new.pieces ≡ counted (gave_bytes result) self.old.pieces }
-        ensures has_ended { self.new.has_ended ≡ (self.old.has_ended || is_end result (length buffer.old)) }
         ensures same { (self.new.link ≡ self.old.link) × (self.new.is_finished ≡ self.old.is_finished) }
     {
         self.calls = self.calls.saturating_add(1);

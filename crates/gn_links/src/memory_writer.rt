@@ -1,8 +1,8 @@
 //! The writing half of a link over memory.
 
-ghost use Rattle.std.specs.Prelude.{◌≡◌, ◌+◌, ◌++◌, ◌⊎◌, ◌<◌, ◌≤◌, false, length, true, IfOk, OnErr, OnOk, is_err};
-ghost use Rattle.gn_links.specs.Halves.{counted, is_stall, written_by};
-ghost use Rattle.gn_links.specs.Memory.{is_failing, new_writing, next_call};
+ghost use Rattle.std.specs.Prelude.{◌≡◌, ◌+◌, ◌⊎◌, ◌<◌, ◌≤◌, length, true, false, IfOk, OnErr, OnOk};
+ghost use Rattle.gn_links.specs.Memory.{half_written, is_failing, new_writing, next_call};
+ghost use Rattle.gn_links.specs.Views.{HasWritten};
 
 use crate::link::{LinkFault, LinkWriter};
 use crate::memory::MemoryLink;
@@ -74,29 +74,19 @@ impl<A: Allocator + Copy> MemoryWriter<A> {
 impl<A: Allocator + Copy> LinkWriter for MemoryWriter<A> {
     type Origin = MemoryLink<A>;
 
-    ghost is_known = { true };
-
     ghost made_of = { λ w. w.link };
 
-    ghost bytes_written = { λ w. w.bytes };
-
-    ghost failures = { λ w. w.failures };
-
-    ghost is_stuck = { λ _. false };
-
-    ghost is_finished = { λ w. w.is_finished };
+    ghost state = { half_written };
 
     /// Takes all of the piece. Fails from the write on that was named, and where memory is refused.
     fn write<R: Wait>(&mut self, _rt: &R, piece: &[u8]) -> Result<usize, LinkFault>
         ensures all { IfOk result (λ n. n ≡ length piece.now) }
         ensures within { IfOk result (λ n. n ≤ length piece.now) }
-        ensures bytes { self.new.bytes ≡ self.old.bytes ++ written_by result piece.now }
+        ensures state { HasWritten result piece.now (half_written self.old) (half_written self.new) }
         ensures ok { OnOk result (is_failing self.old.link.write (next_call self.old.calls) ≡ false) }
         ensures err { OnErr result ((is_failing self.old.link.write (next_call self.old.calls) ≡ true)
             ⊎ (self.old.room < length self.old.bytes + length piece.now)) }
         ensures calls { self.new.calls ≡ next_call self.old.calls }
-        ensures failures { self.new.failures ≡ counted (is_err result) self.old.failures }
-        ensures is_stuck { false ≡ is_stall result (length piece.now) }
         ensures same { (self.new.link ≡ self.old.link) × (self.new.is_finished ≡ self.old.is_finished) }
     {
         self.calls = self.calls.saturating_add(1);

@@ -1,8 +1,8 @@
 //! The links of a run, taken apart.
 
 ghost use Rattle.std.specs.Prelude.{◌≡◌, ◌<◌, ◌^◌, length, map, IfErr, IfOk};
-ghost use Rattle.gn_links.specs.Halves.{IsNewReader, IsNewWriter};
 ghost use Rattle.gn_links.specs.Split.{IsSplitFault};
+ghost use Rattle.gn_links.specs.Views.{IsNewReader, IsNewWriter};
 
 use crate::link::{Link, LinkReader, LinkWriter};
 use gn_shake::Role;
@@ -33,10 +33,8 @@ impl<T: Drop> From<AllocFailed<T>> for SplitFault {
 pub struct SplitLink<K: Link> {
     pub reader: K::Reader,
     pub writer: K::Writer,
-    pub ghost new_reader: { IsNewReader (K.Reader.bytes_read reader) (K.Reader.failures reader) (K.Reader.pieces reader)
-        (K.Reader.has_ended reader) },
-    pub ghost new_writer: { IsNewWriter (K.Writer.bytes_written writer) (K.Writer.failures writer)
-        (K.Writer.is_stuck writer) (K.Writer.is_finished writer) },
+    pub ghost new_reader: { IsNewReader (K.Reader.state reader) },
+    pub ghost new_writer: { IsNewWriter (K.Writer.state writer) },
     pub ghost one: { ∥ K.Writer.made_of writer ≡ K.Reader.made_of reader ∥₁ },
 }
 

@@ -1,13 +1,12 @@
 -- What a load reads of its input, and why it stops.
-use Rattle.std.proofs.Common.{◌≡◌, ◌↔◌, ℕ, Bool, true, false, List, [], ◌++◌, length, map, IfErr, Option, Some, None, Result, Ok, Err, refl, sym, ap, ◌∙◌, subst}
+use Rattle.std.proofs.Common.{◌≡◌, ◌↔◌, ℕ, true, false, List, [], length, map, IfErr, Option, Some, None, Result, Ok, Err, refl, sym, ap, ◌∙◌, subst}
 use Rattle.std.proofs.lemmas.List.{length-map, map-id}
 use Rattle.std.proofs.lemmas.Option.{slice_get-map}
 use Rattle.std.specs.List.{slice_get}
 use Rattle.std.specs.Option.{option_map}
 use Rattle.std.specs.Prelude.{IfSome, IsOk}
 use Rattle.std.specs.Result.{IsErrAnd, IsOkAnd}
-use Rattle.gn_links.specs.Memory.{Memory, MemoryReading, MemoryWriting, source_of}
-use Rattle.gn_rules.specs.declared.config.Config.{Config}
+use Rattle.gn_links.specs.Memory.{Memory, MemoryReading, MemoryWriting, half_read, half_written, source_of}
 use Rattle.gn_rules.specs.declared.config.Own.{Own}
 use Rattle.gn_rules.specs.Limits.{IsCrew}
 use Rattle.gn_text.specs.declared.fault.CaptureFault.{CaptureFault}
@@ -17,15 +16,15 @@ use Rattle.gn_capture.specs.declared.capture.Capture.{Capture}
 use Rattle.gn_capture.specs.declared.line.Line.{Line}
 use Rattle.gn_capture.specs.Captures.{capture_of, capture_seen}
 use Rattle.gn_capture.specs.Histories.{history_text}
-use Rattle.gn_run.specs.declared.report.Report.{Report}
+use Rattle.gn_report.specs.declared.report.Report.{Report}
 use Rattle.gn_threads.specs.declared.fault.RunFault.{RunFault}
 use Rattle.gn_threads.specs.declared.fault.RunFault.TheVariants.{BadWorkers, Listen, Call, Link, HistoryFull, NoMemory, Stage, Audit}
 use Rattle.gn_threads.specs.Faults.{IsFaultOf, IsWholeFault}
-use Rattle.gn_threads.specs.Headline.{AreMadeOf, HasCountedSteps, HasLegalHistory, HasOwnStats, HasOwnSteps, Holds, LinksHold, LinksReadOwn, OthersRoute, RoutesEachOnce}
+use Rattle.gn_threads.specs.Headline.{AreMadeOf, Holds, LinksReadOwn}
 use Rattle.gn_load.specs.declared.fault.LoadFault.TheVariants.{Run}
 use Rattle.gn_load.specs.Faults.{IsRunFault, IsRunLoadFault}
 use Rattle.gn_load.specs.Links.{links_from}
-use Rattle.gn_load.specs.Loads.{IsLoadText, half_read, half_written, load_of}
+use Rattle.gn_load.specs.Loads.{IsLoadText, load_of}
 use Rattle.gn_load.proofs.UnfailedLemmas.{none_failed}
 
 -- an error that was handed on
@@ -49,26 +48,9 @@ made_of lent lines made same is = ap (links_from []) (sym same) ∙ is
 
 -- the halves of a report were split from these links
 pub halves_made : {A : Type 0} (links : List Memory) (report : Report MemoryReading MemoryWriting A)
-    → AreMadeOf (λ (half : MemoryReading). half.link) (λ (half : MemoryWriting). half.link) (map (λ (l : Memory). l) links) (map (λ (l : Memory). l) links) report
-    → AreMadeOf (λ (half : MemoryReading). half.link) (λ (half : MemoryWriting). half.link) links links report
+    → AreMadeOf (λ (half : MemoryReading). half.link) (λ (half : MemoryWriting). half.link) (map (λ (l : Memory). l) links) report
+    → AreMadeOf (λ (half : MemoryReading). half.link) (λ (half : MemoryWriting). half.link) links report
 halves_made links report made = record { readers = made.readers ∙ map-id links; writers = made.writers ∙ map-id links }
-
--- all of the headline, of a run over these links
-pub held : {A : Type 0} (s : Config) (links : List Memory) (report : Report MemoryReading MemoryWriting A) → HasLegalHistory s report
-    → HasCountedSteps report → HasOwnSteps report → length report.links.items ≡ length links
-    → LinksHold half_read half_written (map (λ link. link.role) links) report → OthersRoute report → RoutesEachOnce report → HasOwnStats report
-    → Holds half_read half_written s (map (λ link. link.role) links) report
-held s links report legal counted own each hold others routed stats =
-    record {
-      legal = legal;
-      counted = counted;
-      own = own;
-      each = each ∙ sym (length-map links (λ link. link.role));
-      links = hold;
-      others = others;
-      routed = routed;
-      stats = stats;
-    }
 
 -- no link over memory is one whose split may fail
 never_split : (o : Option Memory) → option_map (λ l. false) o ≡ Some true → ⊥
@@ -104,12 +86,11 @@ module _ {A : Type 0} (text : List ℕ) (capture : Capture A) where
   -- the history of a run that has one
   pub history_printed : (workers : ℕ) (links : List Memory) (report : Report MemoryReading MemoryWriting A)
       → capture_of text ≡ Ok (capture_seen capture) → links_from [] capture.lines.items ≡ Ok links
-      → Holds half_read half_written capture.config (map (λ link. link.role) links) report
+      → Holds half_read half_written capture.config (map (λ link. link.role) links) workers report
       → LinksReadOwn half_read (map source_of links) report
-      → AreMadeOf (λ (half : MemoryReading). half.link) (λ (half : MemoryWriting). half.link) links links report → IsCrew workers
-      → length report.workers.items ≡ workers
+      → AreMadeOf (λ (half : MemoryReading). half.link) (λ (half : MemoryWriting). half.link) links report → IsCrew workers
       → IsLoadText A workers text (history_text capture.config report.history.items)
-  history_printed workers links report read made holds bytes halves within many =
+  history_printed workers links report read made holds bytes halves within =
       record {
         settings = capture.config;
         links = links;
@@ -118,8 +99,7 @@ module _ {A : Type 0} (text : List ℕ) (capture : Capture A) where
         holds = holds;
         bytes = bytes;
         made = halves;
-        unfailed = none_failed capture.lines.items links report made (holds.each ∙ length-map links (λ link. link.role)) bytes;
+        unfailed = none_failed capture.lines.items links report made (holds.each.0 ∙ length-map links (λ link. link.role)) bytes;
         within = within;
-        many = many;
         printed = refl;
       }

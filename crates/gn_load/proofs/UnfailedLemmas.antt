@@ -3,14 +3,14 @@ use Rattle.std.proofs.Common.{◌≡◌, ◌<◌, ◌++◌, ℕ, zero, suc, true
 use Rattle.std.specs.Prelude.{is_some, set}
 use Rattle.std.proofs.lemmas.List.{get_or-map}
 use Rattle.gn_links.specs.Halves.{Source}
-use Rattle.gn_links.specs.Memory.{Memory, MemoryReading, MemoryWriting, source_of}
+use Rattle.gn_links.specs.Memory.{Memory, MemoryReading, MemoryWriting, half_read, source_of}
 use Rattle.gn_shake.specs.declared.role.Role.TheVariants.{Plain}
 use Rattle.gn_capture.specs.declared.line.Line.{Line}
 use Rattle.gn_capture.specs.declared.line.Line.TheVariants.{Join, Greeted, Piece, Route, Take, Close, Originate, Stats}
-use Rattle.gn_run.specs.declared.report.Report.{Report}
+use Rattle.gn_report.specs.declared.report.Report.{Report}
 use Rattle.gn_threads.specs.Headline.{LinksReadOwn}
 use Rattle.gn_load.specs.Links.{given, line_taken, link_of, links_from}
-use Rattle.gn_load.specs.Loads.{NoReadFailed, half_read}
+use Rattle.gn_load.specs.Loads.{NoReadFailed}
 use Rattle.gn_load.proofs.FewLemmas.{joined_with}
 
 -- no read of these links fails

@@ -1,14 +1,13 @@
 -- What a load makes of its input, and what it writes.
-use Rattle.std.specs.Prelude.{◌≡◌, ◌⊎◌, ◌<◌, ℕ, true, false, List, [], length, map, slice_index_or, take, Option, IfSome, Result, Ok}
+use Rattle.std.specs.Prelude.{◌≡◌, ◌⊎◌, ◌<◌, ℕ, List, [], length, map, slice_index_or, Option, IfSome, Result, Ok}
 use Rattle.std.specs.Io.KnownBytes.{Appends, Keeps}
 use Rattle.gn_rules.specs.declared.config.Config.{Config}
 use Rattle.gn_rules.specs.declared.config.Own.{Own}
 use Rattle.gn_rules.specs.Limits.{IsCrew}
-use Rattle.gn_links.specs.Memory.{Memory, MemoryReading, MemoryWriting, source_of}
+use Rattle.gn_links.specs.Memory.{Memory, MemoryReading, MemoryWriting, half_read, half_written, source_of}
 use Rattle.gn_bodies.specs.declared.ends.ReaderEnd.TheVariants.{ReadFailed}
-use Rattle.gn_run.specs.declared.report.LinkReport.{LinkReport}
-use Rattle.gn_run.specs.declared.report.Report.{Report}
-use Rattle.gn_links.specs.Views.{ReadHalf, WrittenHalf}
+use Rattle.gn_report.specs.declared.report.LinkReport.{LinkReport}
+use Rattle.gn_report.specs.declared.report.Report.{Report}
 use Rattle.gn_threads.specs.Headline.{AreMadeOf, Holds, LinksReadOwn}
 use Rattle.gn_text.specs.declared.fault.CaptureFault.{CaptureFault}
 use Rattle.gn_text.specs.Faults.{◌>>=◌}
@@ -29,28 +28,6 @@ load_of A input = do
   parsed ← capture_of {A = A} input
   map_result (λ links. ((parsed.numbers, parsed.own), links)) (links_from [] parsed.lines)
 
--- what the reading half of a link over memory says
-abbrev pub half_read : MemoryReading → ReadHalf
-half_read half =
-    record {
-      is_known = true;
-      bytes = take half.given half.link.bytes;
-      failures = half.failures;
-      pieces = half.pieces;
-      has_ended = half.has_ended;
-    }
-
--- what its writing half says
-abbrev pub half_written : MemoryWriting → WrittenHalf
-half_written half =
-    record {
-      is_known = true;
-      bytes = half.bytes;
-      failures = half.failures;
-      is_stuck = false;
-      is_finished = half.is_finished;
-    }
-
 -- no reader ended because a read failed
 abbrev pub NoReadFailed : {Rd W A : Type 0} → Report Rd W A → Type 0
 NoReadFailed {Rd} {W} {A} report =
@@ -64,13 +41,12 @@ pub record IsLoadText (A : Type 0) (workers : ℕ) (input text : List ℕ) : Typ
   pub links : List Memory
   pub report : Report MemoryReading MemoryWriting A
   pub read : load_of A input ≡ Ok (settings_of settings, links)
-  pub holds : Holds half_read half_written settings (map (λ link. link.role) links) report
+  pub holds : Holds half_read half_written settings (map (λ link. link.role) links) workers report
   pub bytes : LinksReadOwn half_read (map source_of links) report
   -- both halves of each link were split from that very link of the input
-  pub made : AreMadeOf (λ (half : MemoryReading). half.link) (λ (half : MemoryWriting). half.link) links links report
+  pub made : AreMadeOf (λ (half : MemoryReading). half.link) (λ (half : MemoryWriting). half.link) links report
   pub unfailed : NoReadFailed report
   pub within : IsCrew workers
-  pub many : length report.workers.items ≡ workers
   pub printed : text ≡ history_text settings report.history.items
 
 -- known bytes grew by the text of such a history

@@ -1,7 +1,7 @@
 //! The bodies of one link, called in turn on one thread.
 
 ghost use Rattle.std.specs.Prelude.{◌≡◌, [], true, IfSome};
-ghost use Rattle.gn_links.specs.Halves.{IsNewReader, IsNewWriter};
+ghost use Rattle.gn_links.specs.Views.{IsNewReader, IsNewWriter};
 
 use gn_bodies::{BodyFault, ReaderEnd, WriterEnd, reader_body, worker_body, writer_body};
 use gn_fixtures::{Heap, OWN_PONG, PING, Refused, Turn, Turns, growths, usual};
@@ -109,18 +109,18 @@ impl<B: Allocator + Copy> Left<MemoryWriter<B>> {
 }
 
 /// The reader of the link: how it ends, and how many steps it makes. An actor that isn't new is a fault that no turn has.
-fn read_all<A, C, L: Ledger, S: Site, Rd: LinkReader, R: Wait>(
+fn read_all<A, C, S: Site + Ledger, Rd: LinkReader, R: Wait>(
     rt: &R,
     alloc: A,
-    service: &Service<C, L, A>,
-    actor: Option<Actor<L, A>>,
+    service: &Service<C, S, A>,
+    actor: Option<Actor<S, A>>,
     source: Rd,
     intake: Intake<S, A>,
 ) -> (Result<ReaderEnd, BodyFault>, usize)
 where
     A: Allocator + Copy,
     C: RouterCore<A> + Drop,
-    requires reader { IsNewReader (Rd.bytes_read source) (Rd.failures source) (Rd.pieces source) (Rd.has_ended source) }
+    requires reader { IsNewReader (Rd.state source) }
 {
     let Some(me) = new_one(actor, 0) else {
         return (Err(BodyFault::HistoryFull), 0);
@@ -140,10 +140,10 @@ where
 }
 
 /// The worker, in the same way.
-fn work_all<A, C, L: Ledger, S: Site, R: Wait>(
+fn work_all<A, C, S: Site + Ledger, R: Wait>(
     rt: &R,
-    service: &Service<C, L, A>,
-    actor: Option<Actor<L, A>>,
+    service: &Service<C, S, A>,
+    actor: Option<Actor<S, A>>,
     outlet: Outlet<S, A>,
 ) -> (Result<(), BodyFault>, usize)
 where
@@ -168,7 +168,7 @@ fn write_all<A, C, L: Ledger, W: LinkWriter, R: Wait>(
 where
     A: Allocator + Copy,
     C: RouterCore<A> + Drop,
-    requires writer { IsNewWriter (W.bytes_written sink) (W.failures sink) (W.is_stuck sink) (W.is_finished sink) }
+    requires writer { IsNewWriter (W.state sink) }
 {
     let Some(me) = new_one(actor, 1) else {
         return (Err(BodyFault::HistoryFull), 0, sink);
@@ -188,19 +188,19 @@ fn outcome<A: Allocator + Copy, C: RouterCore<A> + Drop, L: Ledger>(
 
 /// What the bodies of one link are called with.
 #[derive(Drop)]
-struct Ready<A: Allocator + Copy, C: RouterCore<A> + Drop, L: Ledger, S: Site> {
-    service: Service<C, L, A>,
-    actors: Vec<Actor<L, A>, A>,
+struct Ready<A: Allocator + Copy, C: RouterCore<A> + Drop, S: Site + Ledger> {
+    service: Service<C, S, A>,
+    actors: Vec<Actor<S, A>, A>,
     intake: Intake<S, A>,
     outlet: Outlet<S, A>,
 }
 
 /// The reader, the worker and the writer of one link, one after the other, where these growths are refused.
-fn in_turn<A, C, L: Ledger, S: Site, Rd: LinkReader, W: LinkWriter, R: Wait>(
+fn in_turn<A, C, S: Site + Ledger, Rd: LinkReader, W: LinkWriter, R: Wait>(
     rt: &R,
     heap: &Heap,
     alloc: A,
-    ready: Ready<A, C, L, S>,
+    ready: Ready<A, C, S>,
     source: Rd,
     sink: W,
     refused: Refused,
@@ -208,8 +208,8 @@ fn in_turn<A, C, L: Ledger, S: Site, Rd: LinkReader, W: LinkWriter, R: Wait>(
 where
     A: Allocator + Copy,
     C: RouterCore<A> + Drop,
-    requires reader { IsNewReader (Rd.bytes_read source) (Rd.failures source) (Rd.pieces source) (Rd.has_ended source) }
-    requires writer { IsNewWriter (W.bytes_written sink) (W.failures sink) (W.is_stuck sink) (W.is_finished sink) }
+    requires reader { IsNewReader (Rd.state source) }
+    requires writer { IsNewWriter (W.state sink) }
 {
     let Ready {
         service,
@@ -251,18 +251,18 @@ fn both_ends<A: Allocator + Copy, S: Site>(
 }
 
 /// The ends of this stage, and a service of one link and one worker.
-fn made_ready<A: Allocator + Copy, C: RouterCore<A> + Drop, L: Ledger, S: Site>(
+fn made_ready<A: Allocator + Copy, C: RouterCore<A> + Drop, S: Site + Ledger>(
     alloc: A,
     blank: Blank,
     stage: Stage<A>,
-) -> Result<Ready<A, C, L, S>, Fail>
-    requires name { blank.name ≡ L.name }
-    requires parts { (blank.parts ≡ L.parts) × (blank.parts ≡ 4) }
+) -> Result<Ready<A, C, S>, Fail>
+    requires name { blank.name ≡ S.name }
+    requires parts { (blank.parts ≡ S.parts) × (blank.parts ≡ 4) }
     requires stage { stage ≡ S.stage }
 {
     let config = usual(100)?;
     let (intake, outlet) = both_ends(alloc, stage)?;
-    match Service::<C, L, A>::new(alloc, blank, &config, &[Role::Accepting], 1) {
+    match Service::<C, S, A>::new(alloc, blank, &config, &[Role::Accepting], 1) {
         Ok((service, actors)) => Ok(Ready {
             service,
             actors,
@@ -274,7 +274,7 @@ fn made_ready<A: Allocator + Copy, C: RouterCore<A> + Drop, L: Ledger, S: Site>(
 }
 
 /// The bodies of one link in turn, with the ends of this stage and the actors of a service of their own.
-fn in_stage<A, C, L: Ledger, S: Site, Rd: LinkReader, W: LinkWriter, R: Wait>(
+fn in_stage<A, C, S: Site + Ledger, Rd: LinkReader, W: LinkWriter, R: Wait>(
     rt: &R,
     heap: &Heap,
     alloc: A,
@@ -287,13 +287,13 @@ fn in_stage<A, C, L: Ledger, S: Site, Rd: LinkReader, W: LinkWriter, R: Wait>(
 where
     A: Allocator + Copy,
     C: RouterCore<A> + Drop,
-    requires name { blank.name ≡ L.name }
-    requires parts { (blank.parts ≡ L.parts) × (blank.parts ≡ 4) }
+    requires name { blank.name ≡ S.name }
+    requires parts { (blank.parts ≡ S.parts) × (blank.parts ≡ 4) }
     requires stage { stage ≡ S.stage }
-    requires reader { IsNewReader (Rd.bytes_read source) (Rd.failures source) (Rd.pieces source) (Rd.has_ended source) }
-    requires writer { IsNewWriter (W.bytes_written sink) (W.failures sink) (W.is_stuck sink) (W.is_finished sink) }
+    requires reader { IsNewReader (Rd.state source) }
+    requires writer { IsNewWriter (W.state sink) }
 {
-    let ready = made_ready::<A, C, L, S>(alloc, blank, stage)?;
+    let ready = made_ready::<A, C, S>(alloc, blank, stage)?;
     Ok(in_turn(rt, heap, alloc, ready, source, sink, refused))
 }
 
@@ -313,7 +313,7 @@ impl<'a, A: Allocator + Copy, B: Allocator + Copy, C: RouterCore<A> + Drop, R: W
         let Ok((source, sink)) = one_ping(self.rich)?.split() else {
             return Err("both halves".into());
         };
-        let left = in_stage::<A, C, Brand, Brand, _, _, R>(
+        let left = in_stage::<A, C, Brand, _, _, R>(
             self.rt, heap, alloc, blank, stage, source, sink, refused,
         )?;
         Ok(left.turn(refused))

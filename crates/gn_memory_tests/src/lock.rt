@@ -8,7 +8,7 @@ use gn_payload::Checked;
 use gn_plain::PlainRouter;
 use gn_router::TableRouter;
 use gn_rules::{Event, Refusal, RouterCore};
-use gn_service::{Actor, Hub, Next, Role, Service, ServiceFault};
+use gn_service::{Actor, Hub, Next, Outgoing, Role, Service, ServiceFault};
 use std::alloc::{Allocator, Global};
 use std::marker::{Brand, PhantomData};
 use std::sync::Wait;
@@ -106,8 +106,8 @@ impl<'r, 's, A: Allocator + Copy, C: RouterCore<A> + Drop, L: Ledger, R: Wait> P
 
     fn take(&mut self, me: &mut Actor<L, A>) -> Result<(), Refusal> {
         match self.service.next_out(self.rt, me, 2)? {
-            true => Ok(()),
-            false => Err(Refusal::NothingWaiting),
+            Outgoing::Packet => Ok(()),
+            Outgoing::Drained | Outgoing::Closed => Err(Refusal::NothingWaiting),
         }
     }
 }

@@ -3,9 +3,9 @@
 use crate::sweep::{has_answered, refused_at};
 use gn_fixtures::{Heap, Refused, Turn, usual};
 use gn_links::NoGate;
+use gn_report::Report;
 use gn_router::TableRouter;
 use gn_rules::RouterCore;
-use gn_run::Report;
 use gn_serve::{Serving, serve_on};
 use gn_stage::StageFault;
 use gn_tcp::{TcpReader, TcpWriter, listen};

@@ -3,8 +3,8 @@
 use crate::text::write_text;
 use gn_bodies::{ReaderEnd, WriterEnd};
 use gn_io::{Sink, write_all};
+use gn_report::{LinkReport, Report};
 use gn_rules::{ConnId, Receipt, Reply};
-use gn_run::{LinkReport, Report};
 use gn_tcp::{TcpReader, TcpWriter};
 use gn_text::push_stats;
 use std::alloc::Global;

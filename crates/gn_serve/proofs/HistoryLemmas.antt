@@ -1,16 +1,14 @@
 -- The history of a run over TCP.
-use Rattle.std.proofs.Common.{◌≡◌, ◌<◌, ◌+◌, ◌-◌, ◌++◌, ℕ, Bool, true, List, [], length, reverse, replicate, ap, sym, refl, subst, inl, inr, Option, Some, None, OnOk, OnErr, IfErr, Result, Ok, Err, ◌∙◌, arith, append-nil}
-use Rattle.std.proofs.lemmas.List.{length-append, length-replicate}
-use Rattle.gn_shake.specs.declared.role.Role.TheVariants.{Accepting, Calling}
+use Rattle.std.proofs.Common.{◌≡◌, ◌<◌, ◌+◌, ◌-◌, ℕ, Bool, true, List, [], reverse, sym, refl, subst, inl, inr, Option, Some, None, OnOk, OnErr, IfErr, Result, Ok, Err, append-nil}
 use Rattle.gn_io.specs.Parts.{AppendsPart}
 use Rattle.gn_load.specs.declared.printed.PrintFault.{PrintFault}
 use Rattle.gn_rules.specs.Legal.{IsLegal}
 use Rattle.gn_rules.specs.declared.config.Config.{Config}
 use Rattle.gn_rules.specs.declared.receipt.Step.{Step}
-use Rattle.gn_tcp.specs.Tcp.{TcpReading, TcpWriting}
-use Rattle.gn_run.specs.declared.report.Report.{Report}
+use Rattle.gn_tcp.specs.Tcp.{TcpReading, TcpWriting, half_read, half_written}
+use Rattle.gn_report.specs.declared.report.Report.{Report}
 use Rattle.gn_capture.specs.Histories.{history_text}
-use Rattle.gn_threads.specs.Headline.{HasCountedSteps, HasLegalHistory, HasOwnStats, HasOwnSteps, Holds, LinksHold, OthersRoute, RoutesEachOnce}
+use Rattle.gn_threads.specs.Headline.{Holds}
 use Rattle.gn_threads.specs.Faults.{IsArrivingFault}
 use Rattle.gn_threads.specs.declared.fault.RunFault.{RunFault}
 use Rattle.std.specs.Result.{IsErrAnd}
@@ -18,15 +16,7 @@ use Rattle.gn_threads.specs.declared.fault.RunFault.TheVariants.{Audit, BadWorke
 use Rattle.std.specs.Io.KnownBytes.{Appends, Keeps}
 use Rattle.gn_serve.specs.Histories.{AppendsServed, AppendsServedPart, HasKept, HasServeStopped, IsServedText}
 use Rattle.gn_serve.specs.declared.fault.ServeFault.TheVariants.{Run}
-use Rattle.gn_serve.specs.Links.{roles_of, tcp_reads, tcp_writes}
-
--- there is a role of each link
-many_roles : (calls accept : ℕ) → length (roles_of calls (calls + accept)) ≡ calls + accept
-many_roles calls accept =
-    let rest : (calls + accept) - calls ≡ accept = omega arith in
-    length-append (replicate calls Calling) (replicate ((calls + accept) - calls) Accepting)
-    ∙ ap (λ n. n + length (replicate ((calls + accept) - calls) Accepting)) (length-replicate calls Calling)
-    ∙ ap (λ n. calls + n) (length-replicate ((calls + accept) - calls) Accepting ∙ rest)
+use Rattle.gn_serve.specs.Links.{roles_of}
 
 -- bytes that stay are kept
 pub kept : (old : Option (List ℕ)) → Keeps old old
@@ -34,40 +24,23 @@ kept None = _
 kept (Some xs) = refl
 
 module _ {A : Type 0} (s : Config) (calls accept : ℕ) (report : Report TcpReading TcpWriting A) where
-  -- all of the headline
-  pub held : HasLegalHistory s report → HasCountedSteps report → HasOwnSteps report → length report.links.items ≡ calls + accept
-      → LinksHold tcp_reads tcp_writes (roles_of calls (calls + accept)) report → OthersRoute report → RoutesEachOnce report → HasOwnStats report
-      → Holds tcp_reads tcp_writes s (roles_of calls (calls + accept)) report
-  held legal counted own each links others routed stats =
-      record {
-        legal = legal;
-        counted = counted;
-        own = own;
-        each = each ∙ sym (many_roles calls accept);
-        links = links;
-        others = others;
-        routed = routed;
-        stats = stats;
-      }
-
   -- the text of its history
-  pub served : (workers : ℕ) → Holds tcp_reads tcp_writes s (roles_of calls (calls + accept)) report
-      → length report.workers.items ≡ workers → IsServedText A s calls accept workers (history_text s report.history.items)
-  served workers holds many = record { report = report; holds = holds; many = many; printed = refl }
+  pub served : (workers : ℕ) → Holds half_read half_written s (roles_of calls (calls + accept)) workers report → IsServedText A s calls accept workers (history_text s report.history.items)
+  served workers holds = record { report = report; holds = holds; printed = refl }
 
   -- it was written
-  pub written : (workers : ℕ) → Holds tcp_reads tcp_writes s (roles_of calls (calls + accept)) report → length report.workers.items ≡ workers
+  pub written : (workers : ℕ) → Holds half_read half_written s (roles_of calls (calls + accept)) workers report
       → (steps : List (Step A)) (old new : Option (List ℕ)) → steps ≡ report.history.items → Appends old new (history_text s steps)
       → AppendsServed A s calls accept workers old new
-  written workers holds many steps old new same whole =
-      (history_text s report.history.items, served workers holds many, subst (λ (xs : List (Step A)). Appends old new (history_text s xs)) same whole)
+  written workers holds steps old new same whole =
+      (history_text s report.history.items, served workers holds, subst (λ (xs : List (Step A)). Appends old new (history_text s xs)) same whole)
 
   -- a prefix of it was
-  pub written_part : (workers : ℕ) → Holds tcp_reads tcp_writes s (roles_of calls (calls + accept)) report → length report.workers.items ≡ workers
+  pub written_part : (workers : ℕ) → Holds half_read half_written s (roles_of calls (calls + accept)) workers report
       → (steps : List (Step A)) (old new : Option (List ℕ)) → steps ≡ report.history.items → AppendsPart old new (history_text s steps)
       → AppendsServedPart A s calls accept workers old new
-  written_part workers holds many steps old new same part =
-      (history_text s report.history.items, served workers holds many, subst (λ (xs : List (Step A)). AppendsPart old new (history_text s xs)) same part)
+  written_part workers holds steps old new same part =
+      (history_text s report.history.items, served workers holds, subst (λ (xs : List (Step A)). AppendsPart old new (history_text s xs)) same part)
 
 -- a history that is kept was written, whole or up to where that failed
 pub kept_part : {A : Type 0} (s : Config) (is_kept : Bool) (steps : List (Step A)) (old new : Option (List ℕ)) (r : Result (Unit {0}) PrintFault)

@@ -1,18 +1,18 @@
 -- The history of a run over TCP, as it is written.
-use Rattle.std.specs.Prelude.{◌≡◌, ◌⊎◌, ◌+◌, ℕ, Bool, true, List, length, reverse, Option}
+use Rattle.std.specs.Prelude.{◌≡◌, ◌⊎◌, ◌+◌, ℕ, Bool, true, List, reverse, Option}
 use Rattle.std.specs.Io.KnownBytes.{Appends, Keeps}
 use Rattle.gn_rules.specs.declared.config.Config.{Config}
 use Rattle.gn_rules.specs.declared.receipt.Step.{Step}
 use Rattle.gn_rules.specs.Legal.{IsLegal}
-use Rattle.gn_run.specs.declared.report.Report.{Report}
-use Rattle.gn_tcp.specs.Tcp.{TcpReading, TcpWriting}
+use Rattle.gn_report.specs.declared.report.Report.{Report}
+use Rattle.gn_tcp.specs.Tcp.{TcpReading, TcpWriting, half_read, half_written}
 use Rattle.gn_threads.specs.Faults.{IsArrivingFault}
 use Rattle.gn_threads.specs.declared.fault.RunFault.TheVariants.{NoMemory}
 use Rattle.gn_threads.specs.Headline.{Holds}
 use Rattle.gn_capture.specs.Histories.{history_text}
 use Rattle.gn_io.specs.Parts.{AppendsPart}
 use Rattle.gn_io.specs.Streams.{SinkState, HasWriteFailed}
-use Rattle.gn_serve.specs.Links.{roles_of, tcp_reads, tcp_writes}
+use Rattle.gn_serve.specs.Links.{roles_of}
 use Rattle.gn_serve.specs.declared.fault.ServeFault.{ServeFault}
 use Rattle.gn_serve.specs.declared.fault.ServeFault.TheVariants.{Run, Write}
 
@@ -21,8 +21,7 @@ use Rattle.gn_serve.specs.declared.fault.ServeFault.TheVariants.{Run, Write}
 -- history
 pub record IsServedText (A : Type 0) (s : Config) (calls accept workers : ℕ) (text : List ℕ) : Type 0 where
   pub report : Report TcpReading TcpWriting A
-  pub holds : Holds tcp_reads tcp_writes s (roles_of calls (calls + accept)) report
-  pub many : length report.workers.items ≡ workers
+  pub holds : Holds half_read half_written s (roles_of calls (calls + accept)) workers report
   pub printed : text ≡ history_text s report.history.items
 
 -- known bytes grew by the text of such a history

@@ -5,17 +5,9 @@ ghost use Rattle.gn_rules.specs.Legal.{IsLegal};
 ghost use Rattle.gn_rules.specs.Limits.{IsCrew, most_links};
 ghost use Rattle.gn_threads.specs.declared.fault.RunFault.TheVariants.{BadWorkers};
 ghost use Rattle.gn_threads.specs.Faults.{IsArrivingFault};
-ghost use Rattle.gn_threads.specs.Headline.{
-  AreMadeOf,
-  HasCountedSteps,
-  HasLegalHistory,
-  HasOwnStats,
-  HasOwnSteps,
-  LinksHold,
-  OthersRoute,
-  RoutesEachOnce,
-};
-ghost use Rattle.gn_serve.specs.Links.{origins_of, roles_of, tcp_reads, tcp_writes};
+ghost use Rattle.gn_threads.specs.Headline.{AreMadeOf, Holds};
+ghost use Rattle.gn_serve.specs.Links.{origins_of, roles_of};
+ghost use Rattle.gn_tcp.specs.Tcp.{half_read, half_written};
 ghost use Rattle.gn_serve.specs.Serves.{IsServed};
 
 use crate::counted::Counted;
@@ -24,8 +16,8 @@ use crate::serving::Serving;
 use crate::stop::Stop;
 use crate::stops::Stops;
 use gn_load::Watch;
+use gn_report::Report;
 use gn_rules::{Config, RouterCore};
-use gn_run::Report;
 use gn_tcp::{TcpReader, TcpWriter};
 use gn_threads::{RunFault, Stopped, run_arriving_kept};
 use std::alloc::Allocator;
@@ -64,18 +56,10 @@ pub fn serve_on<
     ensures bad_workers { IfErr result (λ fault. (fault ≡ BadWorkers) ↔ (¬ IsCrew workers)) }
     ensures fault { IfErr result (λ fault. IsCrew workers
         → IsArrivingFault true (length peers.now + accept) workers fault) }
-    ensures legal { IfOk result (λ report. HasLegalHistory config.now report) }
-    ensures counted { IfOk result (λ report. HasCountedSteps report) }
-    ensures own { IfOk result (λ report. HasOwnSteps report) }
-    ensures each { IfOk result (λ report. (length report.links.items ≡ length peers.now + accept)
-        × (length report.workers.items ≡ workers)) }
-    ensures links { IfOk result (λ report. LinksHold tcp_reads tcp_writes
-        (roles_of (length peers.now) (length peers.now + accept)) report) }
+    ensures holds { IfOk result (λ report. Holds half_read half_written config.now
+        (roles_of (length peers.now) (length peers.now + accept)) workers report) }
     ensures made { IfOk result (λ report. AreMadeOf (λ half. half.origin) (λ half. half.origin)
-        (origins_of peers.now (length peers.now + accept)) (origins_of peers.now (length peers.now + accept)) report) }
-    ensures others { IfOk result (λ report. OthersRoute report) }
-    ensures routed { IfOk result (λ report. RoutesEachOnce report) }
-    ensures stats { IfOk result (λ report. HasOwnStats report) }
+        (origins_of peers.now (length peers.now + accept)) report) }
 {
     match serve_kept::<C, G, A, R>(
         rt, alloc, listener, config, accept, peers, serving, workers, watch,
@@ -110,18 +94,10 @@ pub fn serve_kept<
         → IsArrivingFault true (length peers.now + accept) workers stopped.fault) }
     ensures kept { IfErr result (λ stopped. IfSome stopped.history (λ history.
         IsLegal config.now (reverse history.items))) }
-    ensures legal { IfOk result (λ report. HasLegalHistory config.now report) }
-    ensures counted { IfOk result (λ report. HasCountedSteps report) }
-    ensures own { IfOk result (λ report. HasOwnSteps report) }
-    ensures each { IfOk result (λ report. (length report.links.items ≡ length peers.now + accept)
-        × (length report.workers.items ≡ workers)) }
-    ensures links { IfOk result (λ report. LinksHold tcp_reads tcp_writes
-        (roles_of (length peers.now) (length peers.now + accept)) report) }
+    ensures holds { IfOk result (λ report. Holds half_read half_written config.now
+        (roles_of (length peers.now) (length peers.now + accept)) workers report) }
     ensures made { IfOk result (λ report. AreMadeOf (λ half. half.origin) (λ half. half.origin)
-        (origins_of peers.now (length peers.now + accept)) (origins_of peers.now (length peers.now + accept)) report) }
-    ensures others { IfOk result (λ report. OthersRoute report) }
-    ensures routed { IfOk result (λ report. RoutesEachOnce report) }
-    ensures stats { IfOk result (λ report. HasOwnStats report) }
+        (origins_of peers.now (length peers.now + accept)) report) }
 {
     let own = Stop::new(None, false);
     let stop = match serving.stop {
@@ -171,18 +147,10 @@ fn run_links<
         → IsArrivingFault true (length peers.now + accept) workers stopped.fault) }
     ensures kept { IfErr result (λ stopped. IfSome stopped.history (λ history.
         IsLegal config.now (reverse history.items))) }
-    ensures legal { IfOk result (λ report. HasLegalHistory config.now report) }
-    ensures counted { IfOk result (λ report. HasCountedSteps report) }
-    ensures own { IfOk result (λ report. HasOwnSteps report) }
-    ensures each { IfOk result (λ report. (length report.links.items ≡ length peers.now + accept)
-        × (length report.workers.items ≡ workers)) }
-    ensures links { IfOk result (λ report. LinksHold tcp_reads tcp_writes
-        (roles_of (length peers.now) (length peers.now + accept)) report) }
+    ensures holds { IfOk result (λ report. Holds half_read half_written config.now
+        (roles_of (length peers.now) (length peers.now + accept)) workers report) }
     ensures made { IfOk result (λ report. AreMadeOf (λ half. half.origin) (λ half. half.origin)
-        (origins_of peers.now (length peers.now + accept)) (origins_of peers.now (length peers.now + accept)) report) }
-    ensures others { IfOk result (λ report. OthersRoute report) }
-    ensures routed { IfOk result (λ report. RoutesEachOnce report) }
-    ensures stats { IfOk result (λ report. HasOwnStats report) }
+        (origins_of peers.now (length peers.now + accept)) report) }
 {
     let links = peers.len() + accept as usize;
     let all = roles_of(peers.len(), links);
@@ -200,5 +168,5 @@ fn run_links<
         stops,
         watch,
     };
-    run_arriving_kept::<C, _, _, _, _, _, _>(rt, alloc, config, roles, arrivals, workers, &gate)
+    run_arriving_kept::<C, _, _, _, _>(rt, alloc, config, roles, arrivals, workers, &gate)
 }

@@ -1,5 +1,5 @@
 -- What the calls under the lock do to the hub and to the actor that calls.
-use Rattle.std.specs.Prelude.{◌≡◌, ℕ, Bool, true, false, ◌==◌, ◌||◌, not, if◌then◌else◌, length, ⊤, Result, Ok, Err}
+use Rattle.std.specs.Prelude.{◌≡◌, ℕ, Bool, true, false, ◌==◌, ◌||◌, not, if◌then◌else◌, length, ⊤, Option, Some, None, Result, Ok, Err}
 use Rattle.gn_rules.specs.declared.event.Event.{Event}
 use Rattle.gn_rules.specs.declared.event.Event.TheVariants.{Connect, Close, Take}
 use Rattle.gn_rules.specs.declared.refusal.Refusal.{Refusal}
@@ -11,6 +11,8 @@ use Rattle.gn_rules.specs.Live.{live}
 use Rattle.gn_rules.specs.Output.{waiting}
 use Rattle.gn_service.specs.declared.next.Next.{Next}
 use Rattle.gn_service.specs.declared.next.Next.TheVariants.{Packet, Later, Over}
+use Rattle.gn_service.specs.declared.next.Outgoing.{Outgoing}
+use Rattle.gn_service.specs.declared.next.Outgoing.TheVariants as outgoing
 use Rattle.gn_service.specs.ActorState.{ActorState, receipt, with_receipt}
 use Rattle.gn_service.specs.HubState.{HubState, past_of, with_step, with_door, door_by, is_closing}
 
@@ -63,6 +65,24 @@ IsNext close next c before me after us =
     (next ≡ Over) × (answer_now before (Close c) ≡ Ok (Closed 0))
     × HasStepped (answer_now before (Close c)) (Close c) before me after us
 IsNext later next c before me after us = (next ≡ Later) × (after ≡ before) × (us ≡ me)
+
+-- the same by what a writer is answered that waits while it is none: over is Closed, and where the run closes Drained
+abbrev pub IsOutgoing :
+    {A : Type 0} → Due → Option Outgoing → ℕ → HubState A → ActorState A → HubState A → ActorState A → Type 0
+IsOutgoing over answer c before me after us = (answer ≡ Some outgoing.Closed) × (after ≡ before) × (us ≡ me)
+IsOutgoing take answer c before me after us =
+    (answer ≡ Some outgoing.Packet) × HasStepped (answer_now before (Take c)) (Take c) before me after us
+IsOutgoing close answer c before me after us =
+    (answer ≡ Some outgoing.Drained) × (answer_now before (Close c) ≡ Ok (Closed 0))
+    × HasStepped (answer_now before (Close c)) (Close c) before me after us
+IsOutgoing later answer c before me after us = (answer ≡ None) × (after ≡ before) × (us ≡ me)
+
+-- what is next, by what such a writer is answered
+abbrev pub next_of : Option Outgoing → Next
+next_of (Some outgoing.Packet) = Packet
+next_of (Some outgoing.Drained) = Over
+next_of (Some outgoing.Closed) = Over
+next_of None = Later
 
 -- whether a step is due
 abbrev pub is_step : Due → Bool

@@ -2,9 +2,12 @@
 
 ghost use Rattle.std.specs.Prelude.{◌≡◌, ◌<◌, ◌∷◌, ◌++◌, [], List, length};
 ghost use Rattle.gn_rules.specs.declared.receipt.Receipt.{Receipt};
+ghost use Rattle.gn_wire.specs.Packet.{Packet};
 ghost use Rattle.gn_service.specs.ActorState.{new_actor};
+ghost use Rattle.gn_service.specs.Receipts.{HasTakenLast};
 
 use gn_rules::{Receipt, Reply};
+use gn_wire::Descriptor;
 use std::alloc::{AllocError, Allocator, Global};
 use std::marker::Model;
 use std::sync::ledger::{Ledger, Share};
@@ -70,6 +73,17 @@ impl<L: Ledger, A: Allocator> Actor<L, A> {
         ensures { (rs : List (Receipt A)) (r : Receipt A) → self.now.receipts ≡ rs ++ r ∷ [] → result.now ≡ r.reply }
     {
         &self.receipts[self.receipts.len() - 1].reply
+    }
+
+    /// The packet of its last receipt, which is of a Take.
+    pub fn last_taken(&self) -> &Descriptor<A>
+        requires { (packet : Packet) × HasTakenLast packet self.now }
+        ensures { (packet : Packet) → HasTakenLast packet self.now → result.now ≡ packet }
+    {
+        match self.last_reply() {
+            Reply::Taken(packet) => packet,
+            _ => unreachable!(),
+        }
     }
 
     /// Makes room for the next receipt, where there is none, and for many more: it is called before the lock is taken. An `Err`

@@ -1,18 +1,18 @@
 //! The calls on the hub by what they do to the actor, and whether they may have brought what a thread waits for.
 
-ghost use Rattle.std.specs.Prelude.{◌≡◌, ◌<◌, ◌∷◌, ◌++◌, [], List, length, true, false, Ok, Err, IfErr, IfOk, MatchResult};
+ghost use Rattle.std.specs.Prelude.{◌≡◌, ◌<◌, ◌∷◌, ◌++◌, [], List, length, true, false, Some, None, Ok, Err, IfErr, IfOk, MatchResult};
 ghost use Rattle.gn_rules.specs.declared.receipt.Receipt.{Receipt};
 ghost use Rattle.gn_rules.specs.declared.event.Event.TheVariants.{Connect, Route};
 ghost use Rattle.std.specs.List.{list_any};
 ghost use Rattle.gn_rules.specs.Fits.{refuses};
 ghost use Rattle.gn_rules.specs.History.{sends_of};
-ghost use Rattle.gn_service.specs.Receipts.{HasReceipt, HasTaken, MayHaveClosed, is_stop};
+ghost use Rattle.gn_service.specs.Receipts.{HasDrained, HasReceipt, HasTaken, is_stop};
 ghost use Rattle.gn_service.specs.Waking.{LeavesWaiting, closes, may_wake};
-ghost use Rattle.gn_service.specs.declared.next.Next.TheVariants.{Packet, Later, Over};
+ghost use Rattle.gn_service.specs.declared.next.Outgoing.TheVariants.{Packet, Drained, Closed};
 
 use crate::actor::Actor;
 use crate::hub::Hub;
-use crate::next::Next;
+use crate::next::Outgoing;
 use gn_payload::Checked;
 use gn_rules::{
     ConnId, Event, Refusal, Reply, RouterCore, Ticket, answers_fit, checked_answers_fit,
@@ -87,23 +87,30 @@ impl<C: RouterCore<A>, L: Ledger, A: Allocator + Copy> Hub<C, L, A> {
         Answered { answer, wakes }
     }
 
-    /// `next_out`, for the lock. Where the connection is over, this call may have closed it.
-    pub(crate) fn next_answered(&mut self, me: &mut Actor<L, A>, c: ConnId) -> Answered<Next>
-        ensures packet { IfOk result.answer (λ next. next ≡ Packet → HasTaken c me.old me.new) }
-        ensures over { IfOk result.answer (λ next. next ≡ Over → MayHaveClosed c me.old me.new) }
-        ensures later { IfOk result.answer (λ next. next ≡ Later → me.new ≡ me.old) }
+    /// `outgoing`, for the lock. Where the connection is over, this call may have closed it.
+    pub(crate) fn outgoing_answered(
+        &mut self,
+        me: &mut Actor<L, A>,
+        c: ConnId,
+    ) -> Answered<Option<Outgoing>>
+        ensures packet { IfOk result.answer (λ next. next ≡ Some Packet → HasTaken c me.old me.new) }
+        ensures drained { IfOk result.answer (λ next. next ≡ Some Drained → HasDrained c me.old me.new) }
+        ensures closed { IfOk result.answer (λ next. next ≡ Some Closed → me.new ≡ me.old) }
+        ensures later { IfOk result.answer (λ next. next ≡ None → me.new ≡ me.old) }
         ensures refused { IfErr result.answer (λ refusal. (is_stop refusal ≡ true) × (me.new ≡ me.old)) }
         ensures quiet { result.wakes ≡ false → LeavesWaiting self.old self.new }
     {
         answers_fit::<A>();
-        match self.next_out(me, c) {
-            Ok(Next::Packet) => self.stepped(Next::Packet, &Event::Take(c), me),
-            Ok(Next::Over) => Answered {
-                answer: Ok(Next::Over),
+        match self.outgoing(me, c) {
+            Ok(Some(Outgoing::Packet)) => {
+                self.stepped(Some(Outgoing::Packet), &Event::Take(c), me)
+            }
+            Ok(Some(over)) => Answered {
+                answer: Ok(Some(over)),
                 wakes: true,
             },
-            Ok(Next::Later) => Answered {
-                answer: Ok(Next::Later),
+            Ok(None) => Answered {
+                answer: Ok(None),
                 wakes: false,
             },
             Err(refusal) => Answered::refused(refusal),

@@ -7,11 +7,11 @@ ghost use Rattle.gn_rules.specs.Flight.{flying};
 ghost use Rattle.gn_rules.specs.declared.event.Event.TheVariants.{Connect, Route};
 ghost use Rattle.gn_service.specs.declared.mark.Door.TheVariants.{Shut};
 ghost use Rattle.gn_service.specs.HubState.{are_read, do_all_call, door_by, door_of, is_awaited_no_more, is_closing, past_of, with_door, with_reader_done};
-ghost use Rattle.gn_service.specs.Calls.{HasConnected, HasStepped, IsNext, IsRefusal, IsStop, answer_now, due, is_step};
+ghost use Rattle.gn_service.specs.Calls.{HasConnected, HasStepped, IsNext, IsOutgoing, IsRefusal, IsStop, answer_now, due, is_step};
 
 use crate::actor::Actor;
 use crate::mark::{Door, Mark};
-use crate::next::Next;
+use crate::next::{Next, Outgoing, next_of};
 use gn_payload::Checked;
 use gn_rules::{ConnId, Event, Refusal, Reply, RouterCore, Ticket};
 use std::alloc::{Allocator, Global};
@@ -125,18 +125,33 @@ impl<C: RouterCore<A>, L: Ledger, A: Allocator + Copy> Hub<C, L, A> {
             (λ refusal. (is_step (due self.old c) ≡ true) × IsStop refusal self.old
             × (self.new ≡ self.old) × (me.new ≡ me.old)) }
     {
+        let answer = self.outgoing(me, c)?;
+        Ok(next_of(answer))
+    }
+
+    /// `next_out`, by what a writer is answered that waits while it is none.
+    pub(crate) fn outgoing(
+        &mut self,
+        me: &mut Actor<L, A>,
+        c: ConnId,
+    ) -> Result<Option<Outgoing>, Refusal>
+        ensures { MatchResult result
+            (λ answer. IsOutgoing (due self.old c) answer c self.old me.old self.new me.new)
+            (λ refusal. (is_step (due self.old c) ≡ true) × IsStop refusal self.old
+            × (self.new ≡ self.old) × (me.new ≡ me.old)) }
+    {
         if !self.core.is_live(c) || self.failed {
-            return Ok(Next::Over);
+            return Ok(Some(Outgoing::Closed));
         }
         if self.core.waiting(c) != 0 {
             self.call(me, &Event::Take(c))?;
-            return Ok(Next::Packet);
+            return Ok(Some(Outgoing::Packet));
         }
         if self.closing() {
             self.call(me, &Event::Close(c))?;
-            return Ok(Next::Over);
+            return Ok(Some(Outgoing::Drained));
         }
-        Ok(Next::Later)
+        Ok(None)
     }
 
     /// The link won't connect: its door is shut. Changes nothing where the run has no such link.

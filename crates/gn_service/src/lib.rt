@@ -13,6 +13,6 @@ pub use actor::Actor;
 pub use gn_shake::Role;
 pub use hub::Hub;
 pub use mark::{Door, Mark};
-pub use next::Next;
+pub use next::{Next, Outgoing};
 pub use opening::ServiceFault;
 pub use service::Service;

@@ -3,13 +3,14 @@
 ghost use Rattle.std.specs.Prelude.{◌≡◌, true, false, IfOk, IfErr, MatchResult};
 ghost use Rattle.gn_rules.specs.declared.event.Event.TheVariants.{Connect, Route};
 ghost use Rattle.gn_rules.specs.Fits.{refuses};
-ghost use Rattle.gn_service.specs.Receipts.{HasReceipt, HasTaken, MayHaveClosed, is_stop};
+ghost use Rattle.gn_service.specs.declared.next.Outgoing.TheVariants.{Packet, Drained, Closed};
+ghost use Rattle.gn_service.specs.Receipts.{HasDrained, HasReceipt, HasTaken, is_stop};
 
 use crate::actor::Actor;
 use crate::answered::Answered;
 use crate::hub::Hub;
 use crate::mark::Door;
-use crate::next::Next;
+use crate::next::Outgoing;
 use gn_payload::Checked;
 use gn_rules::{ConnId, Event, Refusal, RouterCore, Ticket};
 use std::alloc::{Allocator, Global};
@@ -96,33 +97,33 @@ impl<C: RouterCore<A> + Drop, L: Ledger, A: Allocator + Copy> Service<C, L, A> {
         answer
     }
 
-    /// Waits until the connection has a packet for its writer, or is over: true for a packet, which is in the last receipt,
-    /// false where it is over, also where this call closed it.
+    /// Waits until the connection has a packet for its writer, which is in the last receipt, or is over, also where this
+    /// call closed it.
     pub fn next_out<R: Wait>(
         &self,
         rt: &R,
         me: &mut Actor<L, A>,
         c: ConnId,
-    ) -> Result<bool, Refusal>
-        ensures packet { IfOk result (λ found. found ≡ true → HasTaken c me.old me.new) }
-        ensures over { IfOk result (λ found. found ≡ false → MayHaveClosed c me.old me.new) }
+    ) -> Result<Outgoing, Refusal>
+        ensures packet { IfOk result (λ next. next ≡ Packet → HasTaken c me.old me.new) }
+        ensures drained { IfOk result (λ next. next ≡ Drained → HasDrained c me.old me.new) }
+        ensures closed { IfOk result (λ next. next ≡ Closed → me.new ≡ me.old) }
         ensures refused { IfErr result (λ refusal. (is_stop refusal ≡ true) × (me.new ≡ me.old)) }
     {
         let mut has_yielded = false;
         for _ in rt.forever() {
             me.make_room()?;
             let mut hub = self.lock(rt);
-            let Answered { answer, wakes } = hub.next_answered(me, c);
+            let Answered { answer, wakes } = hub.outgoing_answered(me, c);
             self.wake(wakes);
             match answer? {
-                Next::Packet => return Ok(true),
-                Next::Over => return Ok(false),
+                Some(next) => return Ok(next),
                 // Letting others run costs less than to sleep and be woken, and often brings a packet.
-                Next::Later if !has_yielded => {
+                None if !has_yielded => {
                     drop(hub);
                     yield_now();
                 }
-                Next::Later => drop(self.changed.wait(rt, hub)),
+                None => drop(self.changed.wait(rt, hub)),
             }
             has_yielded = !has_yielded;
         }

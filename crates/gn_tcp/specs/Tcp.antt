@@ -1,9 +1,10 @@
 -- A link over TCP: its halves, and whom it calls.
-use Rattle.std.specs.Prelude.{ℕ, Bool}
+use Rattle.std.specs.Prelude.{ℕ, Bool, false, []}
 use Rattle.std.specs.declared.net.socket_addr.SocketAddr.{SocketAddr}
 use Rattle.std.specs.Net.Addr.{IsLoopbackV4, IsLoopbackV6, MatchIp}
 use Rattle.std.specs.Net.Socket.{socket_ip}
 use Rattle.gn_shake.specs.declared.role.Role.{Role}
+use Rattle.gn_links.specs.Views.{ReadHalf, WrittenHalf}
 use Rattle.gn_tcp.specs.declared.origin.TcpOrigin.{TcpOrigin}
 
 -- a link: the role in which it begins, and where it comes from
@@ -20,12 +21,34 @@ pub record TcpReading : Type 0 where
   pub pieces : ℕ
   pub has_ended : Bool
 
+-- what it says of itself: its bytes aren't known
+abbrev pub half_read : TcpReading → ReadHalf
+half_read half =
+    record {
+      is_known = false;
+      bytes = [];
+      failures = half.failures;
+      pieces = half.pieces;
+      has_ended = half.has_ended;
+    }
+
 -- the half that is written: where its link comes from, whether it was finished, how many writes failed, and whether one took nothing
 pub record TcpWriting : Type 0 where
   pub origin : TcpOrigin
   pub is_finished : Bool
   pub failures : ℕ
   pub is_stuck : Bool
+
+-- what it says of itself: its bytes aren't known
+abbrev pub half_written : TcpWriting → WrittenHalf
+half_written half =
+    record {
+      is_known = false;
+      bytes = [];
+      failures = half.failures;
+      is_stuck = half.is_stuck;
+      is_finished = half.is_finished;
+    }
 
 -- an address of this machine that no other machine can call
 abbrev pub IsLoopback : SocketAddr → Type 0

@@ -1,6 +1,7 @@
 //! The half of a link over TCP that is read.
 
 ghost use Rattle.std.specs.Prelude.{◌≡◌, ◌≤◌, [], false, not, true, length, IfOk};
+ghost use Rattle.gn_tcp.specs.Tcp.{half_read};
 
 use crate::origin::TcpOrigin;
 use crate::patience::Patience;
@@ -107,19 +108,11 @@ fn read_some<R: Wait>(rt: &R, stream: &mut TcpStream, buffer: &mut [u8]) -> Resu
 impl<'s> LinkReader for TcpReader<'s> {
     type Origin = TcpOrigin;
 
-    ghost is_known = { false };
-
     ghost made_of = { λ r. r.origin };
 
     ghost gives = { λ _. record { is_foretold = false; bytes = []; may_fail = true } };
 
-    ghost bytes_read = { λ _. [] };
-
-    ghost failures = { λ r. r.failures };
-
-    ghost pieces = { λ r. r.pieces };
-
-    ghost has_ended = { λ r. r.has_ended };
+    ghost state = { half_read };
 
     /// Also where its bytes ended or a read failed: it has given its handle up.
     ghost is_finished = { λ r. not r.is_open };

@@ -1,6 +1,7 @@
 //! The half of a link over TCP that is written.
 
-ghost use Rattle.std.specs.Prelude.{◌≡◌, ◌≤◌, [], false, true, length, IfOk};
+ghost use Rattle.std.specs.Prelude.{◌≡◌, ◌≤◌, false, length, IfOk};
+ghost use Rattle.gn_tcp.specs.Tcp.{half_written};
 
 use crate::origin::TcpOrigin;
 use gn_links::{LinkFault, LinkWriter};
@@ -63,17 +64,9 @@ fn write_some<R: Wait>(rt: &R, stream: &mut TcpStream, piece: &[u8]) -> Result<u
 impl LinkWriter for TcpWriter {
     type Origin = TcpOrigin;
 
-    ghost is_known = { false };
-
     ghost made_of = { λ w. w.origin };
 
-    ghost bytes_written = { λ _. [] };
-
-    ghost failures = { λ w. w.failures };
-
-    ghost is_stuck = { λ w. w.is_stuck };
-
-    ghost is_finished = { λ w. w.is_finished };
+    ghost state = { half_written };
 
     /// Fails too where it waits for longer than the link's time limit, and where it was finished.
     fn write<R: Wait>(&mut self, rt: &R, piece: &[u8]) -> Result<usize, LinkFault> {

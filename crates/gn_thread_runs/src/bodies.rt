@@ -1,7 +1,7 @@
 //! The bodies of one link, called in turn on one thread.
 
 ghost use Rattle.std.specs.Prelude.{◌≡◌, [], IfSome};
-ghost use Rattle.gn_links.specs.Halves.{IsNewReader, IsNewWriter};
+ghost use Rattle.gn_links.specs.Views.{IsNewReader, IsNewWriter};
 
 mod fakes;
 mod jobs;
@@ -127,13 +127,13 @@ where
 }
 
 /// The reader, the worker and the writer of one link, one after the other.
-fn in_turn<C, S: Site, L: Ledger, Rd: LinkReader, W: LinkWriter, R: Wait>(
+fn in_turn<C, B: Site + Ledger, Rd: LinkReader, W: LinkWriter, R: Wait>(
     rt: &R,
     alloc: Global,
-    service: Service<C, L>,
-    actors: Actors<L>,
-    intake: Intake<S>,
-    outlet: Outlet<S>,
+    service: Service<C, B>,
+    actors: Actors<B>,
+    intake: Intake<B>,
+    outlet: Outlet<B>,
     role: Role,
     reader: Rd,
     writer: W,
@@ -143,9 +143,8 @@ where
     requires reading { (actors.reader.number ≡ 0) × (actors.reader.receipts ≡ []) }
     requires writing { (actors.writer.number ≡ 1) × (actors.writer.receipts ≡ []) }
     requires working { (actors.worker.number ≡ 2) × (actors.worker.receipts ≡ []) }
-    requires reader { IsNewReader (Rd.bytes_read reader) (Rd.failures reader) (Rd.pieces reader) (Rd.has_ended reader) }
-    requires writer { IsNewWriter (W.bytes_written writer) (W.failures writer) (W.is_stuck writer)
-        (W.is_finished writer) }
+    requires reader { IsNewReader (Rd.state reader) }
+    requires writer { IsNewWriter (W.state writer) }
 {
     let Actors {
         reader: a,
@@ -194,7 +193,7 @@ where
 }
 
 /// The bodies of one memory link in turn, with the ends of a stage and the actors of a service of their own.
-fn in_stage<C, S: Site, L: Ledger, R: Wait>(
+fn in_stage<C, B: Site + Ledger, R: Wait>(
     rt: &R,
     alloc: Global,
     blank: Blank,
@@ -204,14 +203,14 @@ fn in_stage<C, S: Site, L: Ledger, R: Wait>(
 ) -> Option<Ran<MemoryWriter>>
 where
     C: RouterCore<Global> + Drop,
-    requires name { blank.name ≡ L.name }
-    requires parts { (blank.parts ≡ L.parts) × (blank.parts ≡ 4) }
-    requires stage { stage ≡ S.stage }
+    requires name { blank.name ≡ B.name }
+    requires parts { (blank.parts ≡ B.parts) × (blank.parts ≡ 4) }
+    requires stage { stage ≡ B.stage }
 {
     let role = link.role();
-    let (mut intake, outlet) = ends_of::<S>(alloc, stage)?;
+    let (mut intake, outlet) = ends_of::<B>(alloc, stage)?;
     forge(rt, &mut intake, setting.forged);
-    let (service, actors) = service_of::<C, L>(alloc, blank, setting.steps, role)?;
+    let (service, actors) = service_of::<C, B>(alloc, blank, setting.steps, role)?;
     let (reader, writer) = link.split().ok()?;
     Some(in_turn(
         rt, alloc, service, actors, intake, outlet, role, reader, writer,
@@ -226,5 +225,5 @@ fn run_link<R: Wait>(
     link: MemoryLink,
 ) -> Option<Ran<MemoryWriter>> {
     let stage = Stage::new(alloc, 8).ok()?;
-    in_stage::<TableRouter, Brand, Brand, R>(rt, alloc, Blank::new(4), stage, setting, link)
+    in_stage::<TableRouter, Brand, R>(rt, alloc, Blank::new(4), stage, setting, link)
 }

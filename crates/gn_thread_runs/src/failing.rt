@@ -1,5 +1,6 @@
 //! Links that fail, are cut, come slowly or never end: what a run over each of them leaves.
 
+mod endless;
 mod rows;
 mod slow;
 mod sockets;
@@ -7,10 +8,10 @@ mod sockets;
 use crate::runs::run_of;
 use crate::wanted::a_report;
 use gn_bodies::{ReaderEnd, WriterEnd};
-use gn_links::NoGate;
+use gn_links::{Link, MemoryLink, NoGate};
+use gn_report::Report;
 use gn_rules::{Config, Event, Step};
-use gn_run::Report;
-use slow::SlowLink;
+use slow::SlowWriter;
 use std::alloc::{AllocError, Global};
 use std::sync::Wait;
 use std::test::Fail;
@@ -70,13 +71,19 @@ fn left_of<Rd: Drop, W: Drop>(alloc: Global, report: Report<Rd, W>) -> Result<(L
 }
 
 /// What a run over this link leaves, with one worker, and what was written to the link.
-fn run_over<R: Threads + Wait + Sync>(
+fn run_over<K: Link<Origin = MemoryLink, Writer = SlowWriter>, R: Threads + Wait + Sync>(
     rt: &R,
     alloc: Global,
     config: &Config,
-    link: SlowLink,
-) -> Result<(Left, Vec<u8>), Fail> {
-    let links = vec![in alloc; link]?;
+    link: K,
+) -> Result<(Left, Vec<u8>), Fail>
+where
+    K::Reader: Send,
+{
+    let mut links = Vec::new(alloc);
+    if links.push(link).is_err() {
+        return Err(Fail::from("memory"));
+    }
     let report = a_report(run_of(rt, alloc, config, links, 1, &NoGate))?;
     let (left, writer) = left_of(alloc, report)?;
     Ok((left, writer.into_bytes()))

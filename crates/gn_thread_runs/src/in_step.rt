@@ -71,19 +71,11 @@ pub(crate) struct PacedReader<'a, Rd: LinkReader> {
 impl<'a, Rd: LinkReader> LinkReader for PacedReader<'a, Rd> {
     type Origin = Rd::Origin;
 
-    ghost is_known = { Rd.is_known };
-
     ghost made_of = { λ r. Rd.made_of r.reader };
 
     ghost gives = { Rd.gives };
 
-    ghost bytes_read = { λ r. Rd.bytes_read r.reader };
-
-    ghost failures = { λ r. Rd.failures r.reader };
-
-    ghost pieces = { λ r. Rd.pieces r.reader };
-
-    ghost has_ended = { λ r. Rd.has_ended r.reader };
+    ghost state = { λ r. Rd.state r.reader };
 
     ghost is_finished = { λ r. Rd.is_finished r.reader };
 

@@ -5,9 +5,9 @@ use crate::wanted::a_report;
 use gn_bodies::WriterEnd;
 use gn_fixtures::{OWN, PING};
 use gn_links::{Gate, Link, MemoryLink, NoGate};
+use gn_report::Report;
 use gn_router::TableRouter;
 use gn_rules::Config;
-use gn_run::Report;
 use gn_shake::Role;
 use gn_threads::{RunFault, run};
 use std::alloc::{AllocError, Global};
@@ -94,11 +94,22 @@ fn receipts_of<Rd, W>(report: &Report<Rd, W>) -> usize {
     count
 }
 
+/// Whether a run has two workers of 300 receipts each.
+fn are_even<Rd, W>(report: &Report<Rd, W>) -> bool {
+    for receipts in &report.workers {
+        if receipts.len() != 300 {
+            return false;
+        }
+    }
+    report.workers.len() == 2
+}
+
 #[test]
 fn two_workers_meet(rt: HostRuntime) -> Result<(), Fail> {
     let meeting = Meeting::new();
     let links = plain_links(rt.alloc(), 6, 100)?;
     let report = a_report(table_run(&rt, rt.alloc(), links, 2, &meeting))?;
+    assert!(rt; are_even(&report));
     assert_eq!(rt; receipts_of(&report), report.history.len());
     assert_eq!(rt; meeting.begun(), (300, 300));
     assert!(rt; !meeting.is_missed.load(Ordering::SeqCst));

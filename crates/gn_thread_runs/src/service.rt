@@ -8,7 +8,7 @@ use gn_legal::legal;
 use gn_payload::Checked;
 use gn_plain::PlainRouter;
 use gn_rules::{Event, Legality, RouterCore, Step};
-use gn_service::{Actor, Role, Service};
+use gn_service::{Actor, Outgoing, Role, Service};
 use std::alloc::Global;
 use std::marker::Brand;
 use std::sync::Wait;
@@ -112,10 +112,10 @@ fn takes<C: RouterCore<Global> + Drop, L: Ledger, R: Wait>(
     let c = service.meet(rt, 0)?;
     let mut taken = 0u32;
     for _ in rt.forever() {
-        if !service.next_out(rt, &mut me, c).ok()? {
-            break;
+        match service.next_out(rt, &mut me, c).ok()? {
+            Outgoing::Packet => taken = taken.saturating_add(1),
+            Outgoing::Drained | Outgoing::Closed => break,
         }
-        taken = taken.saturating_add(1);
     }
     Some(taken)
 }

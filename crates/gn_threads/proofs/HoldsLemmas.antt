@@ -1,6 +1,6 @@
 -- From what each body keeps and what is compared of a report to the headline.
 use Rattle.std.proofs.Common.{◌≡◌, ◌<◌, ◌+◌, ◌++◌, ℕ, Bool, true, List, length, map, get_or, reverse, take, Option, Some, None, refl, sym, ap, ◌∙◌, subst, arith}
-use Rattle.std.specs.Prelude.{IfOk, IfSome, Ok, Err, Result}
+use Rattle.std.specs.Prelude.{IfOk, IfSome, Ok}
 use Rattle.std.proofs.Math.Seq.{take-length}
 use Rattle.std.proofs.lemmas.Bool.{eqb-true}
 use Rattle.std.proofs.lemmas.List.{append-nil, get_or-map, length-map}
@@ -22,20 +22,20 @@ use Rattle.gn_laws.specs.Owners.{LinkAgrees, packets_of, known_conn}
 use Rattle.gn_rules.specs.Flight.{flying}
 use Rattle.gn_laws.proofs.OwnerLemmas.{links_agree}
 use Rattle.gn_laws.proofs.RunLemmas.{settled_routes_all}
-use Rattle.gn_run.specs.declared.report.LinkReport.{LinkReport}
-use Rattle.gn_run.specs.declared.report.Report.{Report}
-use Rattle.gn_run.specs.Actors.{actors}
-use Rattle.gn_run.specs.Ends.{is_settled}
-use Rattle.gn_run.specs.Flaw.{IsFlaw}
-use Rattle.gn_run.proofs.ConnLemmas.{conn_is_known}
-use Rattle.gn_run.proofs.ConfirmedLemmas.{compared, house_at, reader_at, took_all, worker_at, writer_at}
+use Rattle.gn_report.specs.declared.report.LinkReport.{LinkReport}
+use Rattle.gn_report.specs.declared.report.Report.{Report}
+use Rattle.gn_report.specs.Actors.{actors}
+use Rattle.gn_report.specs.Ends.{is_settled}
+use Rattle.gn_report.specs.Flaw.{IsFlaw}
+use Rattle.gn_report.proofs.ConnLemmas.{conn_is_known}
+use Rattle.gn_report.proofs.ConfirmedLemmas.{compared, house_at, reader_at, took_all, worker_at, writer_at}
 use Rattle.gn_links.specs.Views.{WrittenHalf, ReadHalf}
-use Rattle.gn_threads.specs.Halves.{Half, ReadsAs, WritesAs}
-use Rattle.gn_threads.specs.Headline.{AreMadeOf, HasOwnSteps, LinksHold, LinksReadOwn, OthersRoute, ReadsOwn, RoutesEachOnce}
-use Rattle.gn_threads.specs.Kept.{EachKeeps, Ended, ReaderKeeps, ReaderPromises, WriterKeeps, WriterPromises, reader_ended, halved, writer_ended}
-use Rattle.gn_threads.specs.Gathered.{reader_reported, writer_reported}
-use Rattle.gn_threads.proofs.KeptLemmas.{keeps_less, some_of, known_of}
-use Rattle.gn_threads.proofs.ReceiptLemmas.{connection_is_known, packets_are_known}
+use Rattle.gn_bodies.specs.Done.{Half, ReadsAs, WritesAs, Ended, ReaderKeeps, IsReaderDone, WriterKeeps, IsWriterDone, reader_ended, halved, writer_ended}
+use Rattle.gn_laws.specs.Runs.{RoutesAll}
+use Rattle.gn_threads.specs.Headline.{AreMadeOf, HasOwnSteps, LinksHold, LinksReadOwn, OthersRoute, ReadsOwn}
+use Rattle.gn_threads.specs.Joined.{EachKeeps}
+use Rattle.gn_threads.specs.Reported.{reader_reported, writer_reported}
+use Rattle.gn_threads.proofs.JoinedLemmas.{keeps_less, some_of, known_of}
 
 -- the actor of a flaw is one of the run's
 pub flaw_below : {Rd W A : Type 0} (settled : ℕ → Bool) (roles : List Role) (report : Report Rd W A) (flaw : Option ℕ) → IsFlaw settled roles report flaw → IfSome flaw (λ a. a < actors report)
@@ -63,7 +63,7 @@ others_route roles report all = record {
 
 -- each admitted ticket is routed once
 pub routes_each_once : {Rd W A : Type 0} (s : Config) (roles : List Role) (report : Report Rd W A) → IsLegal s (reverse report.history.items) → IsFlaw (is_settled report.history.items) roles report None
-    → RoutesEachOnce report
+    → RoutesAll report.history.items
 routes_each_once {Rd} {W} {A} s roles report legal all =
     let steps = report.history.items in
     let house = house_at (is_settled steps) roles report all in
@@ -79,20 +79,19 @@ read_holds {Rd} {W} {A} reads roles links kept k role link below conn =
     let agrees : LinkReport Rd W A → Ended A ReaderEnd ReadHalf = λ l. halved reads (reader_reported l) in
     let there = get_or-map agrees links k link (agrees link) below in
     let keeps : ReaderKeeps (get_or roles k role) (agrees it) = subst (λ body. ReaderKeeps (get_or roles k role) body) there (kept k role (agrees link) (omega (arith, below, length-map links agrees))) in
-    subst (λ o. ReadsAs (get_or roles k role) it.reader_end o (link_events_in it.reader_receipts.items) (reads it.reader)) (connection_is_known it.reader_receipts.items ∙ sym conn)
-    (record { row = keeps.0; counts = keeps.1 })
+    subst (λ o. ReadsAs (get_or roles k role) it.reader_end o (link_events_in it.reader_receipts.items) (reads it.reader)) (sym conn) keeps
 
 -- the same of its writer
 written_holds : {Rd W A : Type 0} (writes : W → WrittenHalf) (roles : List Role) (links : List (LinkReport Rd W A)) → EachKeeps WriterKeeps roles (map (λ l. halved writes (writer_reported l)) links)
     → (k : ℕ) (role : Role) (link : LinkReport Rd W A) → k < length links
     → WritesAs (get_or roles k role) (get_or links k link).writer_end (packets_of (get_or links k link).writer_receipts.items) (writes (get_or links k link).writer)
+    × ((writes (get_or links k link).writer).is_finished ≡ true)
 written_holds {Rd} {W} {A} writes roles links kept k role link below =
     let it = get_or links k link in
     let agrees : LinkReport Rd W A → Ended A WriterEnd WrittenHalf = λ l. halved writes (writer_reported l) in
     let there = get_or-map agrees links k link (agrees link) below in
     let keeps : WriterKeeps (get_or roles k role) (agrees it) = subst (λ body. WriterKeeps (get_or roles k role) body) there (kept k role (agrees link) (omega (arith, below, length-map links agrees))) in
-    subst (λ ps. WritesAs (get_or roles k role) it.writer_end ps (writes it.writer)) (packets_are_known it.writer_receipts.items)
-    (record { row = keeps.0; hurt = keeps.1; finished = keeps.2 })
+    (keeps.0, keeps.1)
 
 -- a link's two bodies have receipts of all that the history says of its connection
 link_agrees : {Rd W A : Type 0} (s : Config) (settled : ℕ → Bool) (roles : List Role) (report : Report Rd W A) → IsLegal s (reverse report.history.items) → IsFlaw settled roles report None
@@ -115,48 +114,51 @@ pub links_hold : {Rd W A : Type 0} (s : Config) (reads : Rd → ReadHalf) (write
 links_hold {Rd} {W} {A} s reads writes roles report legal all readers writers = λ k role link below.
     let settled = is_settled report.history.items in
     let reader = reader_at settled roles report all k role link below in
+    let writer = written_holds writes roles report.links.items writers k role link below in
     record {
       read = read_holds reads roles report.links.items readers k role link below (reader.conn ∙ conn_is_known s report.history.items k (get_or report.links.items k link).reader_receipts.items legal reader.own);
       reader = reader;
-      written = written_holds writes roles report.links.items writers k role link below;
+      written = writer.0;
+      finished = writer.1;
       writer = writer_at settled roles report all k role link below;
       agrees = λ c is. link_agrees s settled roles report legal all k link c below is;
       took = λ c drained is. took_all s settled roles report legal all k below link c drained is;
     }
 
 -- readers that keep what their threads promised keep what their bodies do
-pub readers_keep : {Rd S L A O : Type 0} (reads : Rd → ReadHalf) (made_of : Rd → O) (gives : O → Source) (links : List (Half Rd)) (roles : List Role) (done : List (ReaderDone Rd S L A))
-    → map (λ (h : Half Rd). h.role) links ≡ roles → length done ≡ length links → EachKeeps (ReaderPromises reads made_of gives) links (map reader_ended done)
+pub readers_keep : {Rd B A O : Type 0} (reads : Rd → ReadHalf) (made_of : Rd → O) (gives : O → Source) (links : List (Half Rd)) (roles : List Role) (done : List (ReaderDone Rd B A))
+    → map (λ (h : Half Rd). h.role) links ≡ roles → length done ≡ length links → EachKeeps (IsReaderDone reads made_of gives) links (map reader_ended done)
     → EachKeeps ReaderKeeps roles (map (λ d. halved reads (reader_ended d)) done)
-readers_keep {Rd} {S} {L} {A} reads made_of gives links roles done are many kept =
-    let ended : ReaderDone Rd S L A → Ended A ReaderEnd Rd = λ d. reader_ended d in
+readers_keep {Rd} {B} {A} reads made_of gives links roles done are many kept =
+    let ended : ReaderDone Rd B A → Ended A ReaderEnd Rd = λ d. reader_ended d in
     let view : Ended A ReaderEnd Rd → Ended A ReaderEnd ReadHalf = λ body. halved reads body in
-    let less = keeps_less (λ (h : Half Rd). h.role) view (ReaderPromises reads made_of gives) ReaderKeeps links (map ended done) (length-map done ended ∙ many) (λ link body promised. promised.kept) kept in
+    let less = keeps_less (λ (h : Half Rd). h.role) view (IsReaderDone reads made_of gives) ReaderKeeps links (map ended done) (length-map done ended ∙ many) (λ link body promised. promised.kept) kept in
     subst (λ (rs : List Role). EachKeeps ReaderKeeps rs (map (λ d. view (ended d)) done)) are
     (subst (λ (bs : List (Ended A ReaderEnd ReadHalf)). EachKeeps ReaderKeeps (map (λ (h : Half Rd). h.role) links) bs) (map-map view ended done) less)
 
 -- the same of writers
 pub writers_keep : {W L A O : Type 0} (writes : W → WrittenHalf) (made_of : W → O) (links : List (Half W)) (roles : List Role) (done : List (WriterDone W L A))
-    → map (λ (h : Half W). h.role) links ≡ roles → length done ≡ length links → EachKeeps (WriterPromises writes made_of) links (map writer_ended done)
+    → map (λ (h : Half W). h.role) links ≡ roles → length done ≡ length links → EachKeeps (IsWriterDone writes made_of) links (map writer_ended done)
     → EachKeeps WriterKeeps roles (map (λ d. halved writes (writer_ended d)) done)
 writers_keep {W} {L} {A} writes made_of links roles done are many kept =
     let ended : WriterDone W L A → Ended A WriterEnd W = λ d. writer_ended d in
     let view : Ended A WriterEnd W → Ended A WriterEnd WrittenHalf = λ body. halved writes body in
-    let less = keeps_less (λ (h : Half W). h.role) view (WriterPromises writes made_of) WriterKeeps links (map ended done) (length-map done ended ∙ many) (λ link body promised. promised.kept) kept in
+    let less = keeps_less (λ (h : Half W). h.role) view (IsWriterDone writes made_of) WriterKeeps links (map ended done) (length-map done ended ∙ many) (λ link body promised. promised.kept) kept in
     subst (λ (rs : List Role). EachKeeps WriterKeeps rs (map (λ d. view (ended d)) done)) are
     (subst (λ (bs : List (Ended A WriterEnd WrittenHalf)). EachKeeps WriterKeeps (map (λ (h : Half W). h.role) links) bs) (map-map view ended done) less)
 
 -- what one reader promised is what the headline says of its link
 read_own : {A Rd O : Type 0} (reads : Rd → ReadHalf) (made_of : Rd → O) (gives : O → Source) (link : Half Rd) (end : ReaderEnd) (body : Ended A ReaderEnd Rd) → body.end ≡ Ok end
-    → ReaderPromises reads made_of gives link body → ReadsOwn (gives (made_of link.half)) end (reads body.half)
+    → IsReaderDone reads made_of gives link body → ReadsOwn (gives (made_of link.half)) end (reads body.half)
 read_own reads made_of gives link end body is promised =
     let half = reads body.half in
-    let counts : SourceRow end half.failures half.pieces half.has_ended = subst (λ r. IfOk r (λ e. SourceRow e half.failures half.pieces half.has_ended)) is promised.kept.1 in
+    let reads_as : ReadsAs link.role end (known_conn body.receipts) (link_events_in body.receipts) half =
+    subst (λ r. IfOk r (λ e. ReadsAs link.role e (known_conn body.receipts) (link_events_in body.receipts) half)) is promised.kept in
     record {
       first = promised.own;
       whole = λ foretold ends.
           let read = promised.own foretold in
-          let none = read.ended (subst (λ e. SourceRow e half.failures half.pieces half.has_ended) ends counts) in
+          let none = read.ended (subst (λ e. SourceRow e half) ends reads_as.counts) in
           sym (read.whole ∙ ap (λ rest. half.bytes ++ rest) none ∙ append-nil half.bytes);
       failed = subst (λ r. IfOk r (λ e. e ≡ ReadFailed → (gives (made_of link.half)).may_fail ≡ true)) is promised.failed;
     }
@@ -164,7 +166,7 @@ read_own reads made_of gives link end body is promised =
 -- so of each link, where the report has these bodies, in order
 pub links_read_own : {Rd W A O : Type 0} (reads : Rd → ReadHalf) (made_of : Rd → O) (gives : O → Source) (links : List (Half Rd)) (sources : List Source) (bodies : List (Ended A ReaderEnd Rd))
     (report : Report Rd W A) → map (λ (h : Half Rd). gives (made_of h.half)) links ≡ sources → length bodies ≡ length links → map reader_reported report.links.items ≡ bodies
-    → EachKeeps (ReaderPromises reads made_of gives) links bodies → LinksReadOwn reads sources report
+    → EachKeeps (IsReaderDone reads made_of gives) links bodies → LinksReadOwn reads sources report
 links_read_own {Rd} {W} {A} reads made_of gives links sources bodies report own many is kept = λ k source link below.
     let reported : LinkReport Rd W A → Ended A ReaderEnd Rd = λ l. reader_reported l in
     let it = get_or report.links.items k link in
@@ -174,24 +176,19 @@ links_read_own {Rd} {W} {A} reads made_of gives links sources bodies report own 
     let there : get_or bodies k body ≡ reported it = ap (λ bs. get_or bs k body) (sym is) ∙ get_or-map reported report.links.items k link body below in
     let here : gives (made_of (get_or links k start).half) ≡ get_or sources k source =
     sym (get_or-map (λ (h : Half Rd). gives (made_of h.half)) links k start source (omega (arith, low, many))) ∙ ap (λ ss. get_or ss k source) own in
-    let promised : ReaderPromises reads made_of gives (get_or links k start) (reported it) = subst (λ b. ReaderPromises reads made_of gives (get_or links k start) b) there (kept k start body low) in
+    let promised : IsReaderDone reads made_of gives (get_or links k start) (reported it) = subst (λ b. IsReaderDone reads made_of gives (get_or links k start) b) there (kept k start body low) in
     subst (λ s. ReadsOwn s it.reader_end (reads it.reader)) here (read_own reads made_of gives (get_or links k start) it.reader_end (reported it) refl promised)
 
 -- the halves of a report were split from the links that those were split from with which the threads began
-pub are_made_of : {Rd W A O P : Type 0} (reads : Rd → ReadHalf) (reader_of : Rd → O) (gives : O → Source) (writes : W → WrittenHalf) (writer_of : W → P) (reading : List (Half Rd)) (writing : List (Half W))
-    (read : List (Ended A ReaderEnd Rd)) (written : List (Ended A WriterEnd W)) (readers : List O) (writers : List P) (report : Report Rd W A)
-    → map (λ (h : Half Rd). reader_of h.half) reading ≡ readers → map (λ (h : Half W). writer_of h.half) writing ≡ writers → length read ≡ length reading → length written ≡ length writing
-    → EachKeeps (ReaderPromises reads reader_of gives) reading read → EachKeeps (WriterPromises writes writer_of) writing written
-    → map reader_reported report.links.items ≡ read → map writer_reported report.links.items ≡ written → AreMadeOf reader_of writer_of readers writers report
-are_made_of {Rd} {W} {A} reads reader_of gives writes writer_of reading writing read written readers writers report own theirs many more kept held is are =
+pub are_made_of : {Rd W A O : Type 0} (reads : Rd → ReadHalf) (reader_of : Rd → O) (gives : O → Source) (writes : W → WrittenHalf) (writer_of : W → O) (reading : List (Half Rd)) (writing : List (Half W))
+    (read : List (Ended A ReaderEnd Rd)) (written : List (Ended A WriterEnd W)) (origins : List O) (report : Report Rd W A)
+    → map (λ (h : Half Rd). reader_of h.half) reading ≡ origins → map (λ (h : Half W). writer_of h.half) writing ≡ origins → length read ≡ length reading → length written ≡ length writing
+    → EachKeeps (IsReaderDone reads reader_of gives) reading read → EachKeeps (IsWriterDone writes writer_of) writing written
+    → map reader_reported report.links.items ≡ read → map writer_reported report.links.items ≡ written → AreMadeOf reader_of writer_of origins report
+are_made_of {Rd} {W} {A} reads reader_of gives writes writer_of reading writing read written origins report own theirs many more kept held is are =
     record {
-      readers = known_of (ReaderPromises reads reader_of gives) (λ (l : LinkReport Rd W A). reader_reported l) (λ (b : Ended A ReaderEnd Rd). reader_of b.half) (λ (h : Half Rd). reader_of h.half)
-          report.links.items reading read readers (λ link body promised. promised.made) many is kept own;
-      writers = known_of (WriterPromises writes writer_of) (λ (l : LinkReport Rd W A). writer_reported l) (λ (b : Ended A WriterEnd W). writer_of b.half) (λ (h : Half W). writer_of h.half)
-          report.links.items writing written writers (λ link body promised. promised.made) more are held theirs;
+      readers = known_of (IsReaderDone reads reader_of gives) (λ (l : LinkReport Rd W A). reader_reported l) (λ (b : Ended A ReaderEnd Rd). reader_of b.half) (λ (h : Half Rd). reader_of h.half)
+          report.links.items reading read origins (λ link body promised. promised.made) many is kept own;
+      writers = known_of (IsWriterDone writes writer_of) (λ (l : LinkReport Rd W A). writer_reported l) (λ (b : Ended A WriterEnd W). writer_of b.half) (λ (h : Half W). writer_of h.half)
+          report.links.items writing written origins (λ link body promised. promised.made) more are held theirs;
     }
-
--- what follows of two things that hold where there is a report
-pub both_ok : {T E : Type 0} (P Q R : T → Type 0) (r : Result T E) → ((x : T) → P x → Q x → R x) → IfOk r P → IfOk r Q → IfOk r R
-both_ok P Q R (Ok x) follows p q = follows x p q
-both_ok P Q R (Err e) follows p q = tt

@@ -1,6 +1,6 @@
 pub mod FaultLemmas
-pub mod WaitingLemmas
-pub mod KeptLemmas
+pub mod ActorLemmas
+pub mod JoinedLemmas
 pub mod ReceiptLemmas
 pub mod HoldsLemmas
-mod PlaceLemmas
+mod UnstartedLemmas

@@ -1,46 +1,10 @@
--- Two words for the connection and for the packets of receipts, and the receipts of all actors, counted.
-use Rattle.std.proofs.Common.{◌≡◌, ◌+◌, ◌++◌, ℕ, List, [], ◌∷◌, length, map, Vec, Option, Some, None, refl, ap, arith}
+-- The receipts of all actors, counted.
+use Rattle.std.proofs.Common.{◌≡◌, ◌+◌, ◌++◌, ℕ, List, [], ◌∷◌, length, map, Vec, refl, arith}
 use Rattle.std.specs.List.{sum_by}
-use Rattle.std.specs.Option.{option_or}
 use Rattle.std.proofs.lemmas.List.Sums.{sum_by-append, sum_by-cons}
 use Rattle.gn_rules.specs.declared.receipt.Receipt.{Receipt}
-use Rattle.gn_rules.specs.declared.reply.Reply.{Reply}
-use Rattle.gn_rules.specs.declared.reply.Reply.TheVariants.{Connected, TooMany, Closed, Admitted, Busy, Crowded, Routed, Dropped, Taken, Sent}
-use Rattle.gn_rules.specs.History.{connected_of}
-use Rattle.gn_bodies.specs.Events.{connection_from, packets_in}
-use Rattle.gn_laws.specs.Owners.{packets_of, known_conn}
-use Rattle.gn_run.specs.declared.report.LinkReport.{LinkReport}
-use Rattle.gn_threads.specs.Gathered.{link_receipts, worker_receipts}
-
-stays : {A : Type 0} (c : ℕ) (receipts : List (Receipt A)) → connection_from (Some c) receipts ≡ Some c
-stays c [] = refl
-stays c (r ∷ receipts) = stays c receipts
-
-made_or_later : {A : Type 0} (made : Option ℕ) (receipts : List (Receipt A)) → connection_from None receipts ≡ known_conn receipts → connection_from made receipts ≡ option_or made (known_conn receipts)
-made_or_later None receipts later = later
-made_or_later (Some c) receipts later = stays c receipts
-
--- the connection that the bodies speak of is the one that is compared
-pub connection_is_known : {A : Type 0} (receipts : List (Receipt A)) → connection_from None receipts ≡ known_conn receipts
-connection_is_known [] = refl
-connection_is_known (r ∷ receipts) = made_or_later (connected_of r.reply) receipts (connection_is_known receipts)
-
-taken_alone : {A : Type 0} (reply : Reply A) (receipts : List (Receipt A)) (r : Receipt A) → r.reply ≡ reply → packets_in receipts ≡ packets_of receipts → packets_in (r ∷ receipts) ≡ packets_of (r ∷ receipts)
-taken_alone (Connected c) receipts r is same = rw is same
-taken_alone TooMany receipts r is same = rw is same
-taken_alone (Closed n) receipts r is same = rw is same
-taken_alone (Admitted t) receipts r is same = rw is same
-taken_alone Busy receipts r is same = rw is same
-taken_alone Crowded receipts r is same = rw is same
-taken_alone (Routed sends local) receipts r is same = rw is same
-taken_alone (Dropped why) receipts r is same = rw is same
-taken_alone (Taken p) receipts r is same = rw is (ap (λ ps. p ∷ ps) same)
-taken_alone (Sent sends) receipts r is same = rw is same
-
--- the packets that the bodies speak of are those that are compared
-pub packets_are_known : {A : Type 0} (receipts : List (Receipt A)) → packets_in receipts ≡ packets_of receipts
-packets_are_known [] = refl
-packets_are_known (r ∷ receipts) = taken_alone r.reply receipts r refl (packets_are_known receipts)
+use Rattle.gn_report.specs.declared.report.LinkReport.{LinkReport}
+use Rattle.gn_threads.specs.Reported.{link_receipts, worker_receipts}
 
 sum_along : {X Y : Type 0} (f : Y → ℕ) (g : X → Y) (xs : List X) → sum_by f (map g xs) ≡ sum_by (λ x. f (g x)) xs
 sum_along f g [] = refl

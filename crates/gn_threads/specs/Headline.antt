@@ -18,22 +18,13 @@ use Rattle.gn_bodies.specs.declared.ends.WriterEnd.TheVariants.{Drained}
 use Rattle.gn_bodies.specs.Events.{link_events_in}
 use Rattle.gn_laws.specs.Owners.{LinkAgrees, packets_of}
 use Rattle.gn_laws.specs.Runs.{RoutesAll}
-use Rattle.gn_run.specs.declared.report.LinkReport.{LinkReport}
-use Rattle.gn_run.specs.declared.report.Report.{Report}
-use Rattle.gn_run.specs.Actors.{AreOwn, actors, receipts_of}
-use Rattle.gn_run.specs.Ends.{is_settled}
-use Rattle.gn_run.specs.Flaw.{HouseConfirmed, ReaderConfirmed, WorkerConfirmed, WriterConfirmed}
+use Rattle.gn_report.specs.declared.report.LinkReport.{LinkReport}
+use Rattle.gn_report.specs.declared.report.Report.{Report}
+use Rattle.gn_report.specs.Actors.{AreOwn, actors, receipts_of}
+use Rattle.gn_report.specs.Ends.{is_settled}
+use Rattle.gn_report.specs.Flaw.{HouseConfirmed, ReaderConfirmed, WorkerConfirmed, WriterConfirmed}
 use Rattle.gn_links.specs.Views.{IsReadFrom, ReadHalf, WrittenHalf}
-use Rattle.gn_threads.specs.Halves.{ReadsAs, WritesAs}
-
--- the history is legal: each reply is the one that the rules give after the steps before it
-abbrev pub HasLegalHistory : {Rd W A : Type 0} → Config → Report Rd W A → Type 0
-HasLegalHistory s report = IsLegal s (reverse report.history.items)
-
--- the history has as many steps as all actors have receipts
-abbrev pub HasCountedSteps : {Rd W A : Type 0} → Report Rd W A → Type 0
-HasCountedSteps {Rd} {W} {A} report =
-    sum_by (λ receipts. length receipts) (receipts_of report) ≡ length report.history.items
+use Rattle.gn_bodies.specs.Done.{ReadsAs, WritesAs}
 
 -- each actor's receipts are its own steps, each once and in order, and no step is of anybody else
 pub record HasOwnSteps {Rd W A : Type 0} (report : Report Rd W A) : Type 0 where
@@ -48,8 +39,9 @@ pub record LinkHolds {Rd W A : Type 0} (reads : Rd → ReadHalf) (writes : W →
   -- its receipts, its connection and the Close of it in the history
   pub reader :
       ReaderConfirmed report.history.items (list_all is_calling roles) k (length report.links.items + k) role link
-  -- what was written: the opening text and the packets that the writer took
+  -- what was written: the opening text and the packets that the writer took; and the half is finished
   pub written : WritesAs role link.writer_end (packets_of link.writer_receipts.items) (writes link.writer)
+  pub finished : (writes link.writer).is_finished ≡ true
   -- the table of ends, of the writer: its receipts, and the Close of its connection in the history
   pub writer :
       WriterConfirmed (is_settled report.history.items) roles report.history.items (length report.links.items + k) role
@@ -84,12 +76,12 @@ LinksReadOwn {Rd} {W} {A} reads sources report =
     → ReadsOwn (slice_index_or sources k source) (slice_index_or report.links.items k link).reader_end
     (reads (slice_index_or report.links.items k link).reader)
 
--- the two halves in each link's report were split from that very link: what the readers and the writers say of their link
--- is what their links say, in the links' order
-pub record AreMadeOf {Rd W A O P : Type 0} (reader_of : Rd → O) (writer_of : W → P) (reading : List O) (writing : List P)
+-- the two halves in each link's report were split from that very link: what both say of their link is what the links say, in
+-- their order
+pub record AreMadeOf {Rd W A O : Type 0} (reader_of : Rd → O) (writer_of : W → O) (origins : List O)
     (report : Report Rd W A) : Type 0 where
-  pub readers : map (λ (link : LinkReport Rd W A). reader_of link.reader) report.links.items ≡ reading
-  pub writers : map (λ (link : LinkReport Rd W A). writer_of link.writer) report.links.items ≡ writing
+  pub readers : map (λ (link : LinkReport Rd W A). reader_of link.reader) report.links.items ≡ origins
+  pub writers : map (λ (link : LinkReport Rd W A). writer_of link.writer) report.links.items ≡ origins
 
 -- workers and the house made no event but Route: their receipts are their own steps, and of Route alone; and once the house
 -- was done nothing was in flight
@@ -100,23 +92,19 @@ pub record OthersRoute {Rd W A : Type 0} (report : Report Rd W A) : Type 0 where
   pub house : HouseConfirmed (is_settled report.history.items) report.history.items
       (length report.links.items + length report.links.items + length report.workers.items) report.house.items
 
--- each admitted ticket is routed exactly once, and each route is replied Routed or Dropped
-abbrev pub RoutesEachOnce : {Rd W A : Type 0} → Report Rd W A → Type 0
-RoutesEachOnce report = RoutesAll report.history.items
-
--- the counters at the end are those of the history
-abbrev pub HasOwnStats : {Rd W A : Type 0} → Report Rd W A → Type 0
-HasOwnStats report = report.stats ≡ stats_of (reverse report.history.items)
-
--- all of it
+-- all of it, of a run of this configuration with so many workers over links of these roles
 pub record Holds {Rd W A : Type 0} (reads : Rd → ReadHalf) (writes : W → WrittenHalf) (s : Config) (roles : List Role)
-    (report : Report Rd W A) : Type 0 where
-  pub legal : HasLegalHistory s report
-  pub counted : HasCountedSteps report
+    (workers : ℕ) (report : Report Rd W A) : Type 0 where
+  -- the history is legal: each reply is the one that the rules give after the steps before it
+  pub legal : IsLegal s (reverse report.history.items)
+  -- the history has as many steps as all actors have receipts
+  pub counted : sum_by (λ receipts. length receipts) (receipts_of report) ≡ length report.history.items
   pub own : HasOwnSteps report
-  -- there is a report of each link, in their order
-  pub each : length report.links.items ≡ length roles
+  -- there is a report of each link, in their order, and a list of receipts for each worker
+  pub each : (length report.links.items ≡ length roles) × (length report.workers.items ≡ workers)
   pub links : LinksHold reads writes roles report
   pub others : OthersRoute report
-  pub routed : RoutesEachOnce report
-  pub stats : HasOwnStats report
+  -- each admitted ticket is routed exactly once, and each route is replied Routed or Dropped
+  pub routed : RoutesAll report.history.items
+  -- the counters at the end are those of the history
+  pub stats : report.stats ≡ stats_of (reverse report.history.items)

@@ -1,17 +1,29 @@
 -- What a run has of its threads once all are joined.
-use Rattle.std.specs.Prelude.{◌≡◌, ℕ, List, length, map, take, vec_len}
+use Rattle.std.specs.Prelude.{◌≡◌, ◌<◌, ℕ, List, length, map, slice_index_or, take, vec_len}
 use Rattle.gn_shake.specs.declared.role.Role.{Role}
 use Rattle.gn_bodies.specs.declared.ends.ReaderEnd.{ReaderEnd}
 use Rattle.gn_bodies.specs.declared.ends.WriterEnd.{WriterEnd}
 use Rattle.gn_threads.specs.declared.done.Done.{Done}
-use Rattle.gn_threads.specs.Halves.{Half}
-use Rattle.gn_threads.specs.Kept.{EachKeeps, Ended, reader_ended, writer_ended}
+use Rattle.gn_links.specs.Views.{ReadHalf, WrittenHalf}
+use Rattle.gn_bodies.specs.Done.{Half, Ended, ReaderKeeps, WriterKeeps, reader_ended, writer_ended}
+
+-- each body keeps what it promises of its link, which stands at the same place
+abbrev pub EachKeeps : {K B : Type 0} → (K → B → Type 0) → List K → List B → Type 0
+EachKeeps {K} {B} keeps links bodies =
+    (k : ℕ) (link : K) (body : B) → k < length bodies
+    → keeps (slice_index_or links k link) (slice_index_or bodies k body)
+
+-- the bodies of each link's reader and of each link's writer are as their ends say, where the links have these roles
+pub record KeepEnds {A : Type 0} (roles : List Role) (reading : List (Ended A ReaderEnd ReadHalf))
+    (writing : List (Ended A WriterEnd WrittenHalf)) : Type 0 where
+  pub readers : EachKeeps ReaderKeeps roles reading
+  pub writers : EachKeeps WriterKeeps roles writing
 
 -- the threads of the readers and of the writers that began with these halves, and of so many workers, are joined, and each
 -- kept its promise
-pub record AreJoined {Rd W S L A : Type 0} (reads : Half Rd → Ended A ReaderEnd Rd → Type 0)
+pub record AreJoined {Rd W B A : Type 0} (reads : Half Rd → Ended A ReaderEnd Rd → Type 0)
     (writes : Half W → Ended A WriterEnd W → Type 0) (reading : List (Half Rd)) (writing : List (Half W)) (workers : ℕ)
-    (done : Done Rd W S L A) : Type 0 where
+    (done : Done Rd W B A) : Type 0 where
   pub readers : EachKeeps reads reading (map reader_ended done.readers.items)
   pub writers : EachKeeps writes writing (map writer_ended done.writers.items)
   pub read : vec_len done.readers ≡ length reading
@@ -19,9 +31,9 @@ pub record AreJoined {Rd W S L A : Type 0} (reads : Half Rd → Ended A ReaderEn
   pub worked : vec_len done.workers ≡ workers
 
 -- the same of halves of which is known how their links begin, and that they were split from the first of the links that were to come
-pub record AreJoinedOf {Rd W S L A O : Type 0} (reads : Half Rd → Ended A ReaderEnd Rd → Type 0)
+pub record AreJoinedOf {Rd W B A O : Type 0} (reads : Half Rd → Ended A ReaderEnd Rd → Type 0)
     (writes : Half W → Ended A WriterEnd W → Type 0) (read_of : Rd → O) (written_of : W → O) (readers writers : List Role)
-    (coming : List O) (workers : ℕ) (done : Done Rd W S L A) : Type 0 where
+    (coming : List O) (workers : ℕ) (done : Done Rd W B A) : Type 0 where
   pub reading : List (Half Rd)
   pub writing : List (Half W)
   pub reading_roles : map (λ (h : Half Rd). h.role) reading ≡ readers

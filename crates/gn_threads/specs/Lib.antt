@@ -1,9 +1,7 @@
 pub mod Faults
-pub mod Halves
-pub mod Kept
 pub mod Joined
-pub mod Waiting
+pub mod Actors
 pub mod Shares
 pub mod House
-pub mod Gathered
+pub mod Reported
 pub mod Headline

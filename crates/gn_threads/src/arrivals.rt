@@ -1,7 +1,7 @@
 //! Where the links of a run come from.
 
 ghost use Rattle.std.specs.Prelude.{◌≡◌, ◌<◌, ◌∷◌, ℕ, Bool, List, map, IfErr, IfOk};
-ghost use Rattle.gn_links.specs.Halves.{IsNewReader, IsNewWriter};
+ghost use Rattle.gn_links.specs.Views.{IsNewReader, IsNewWriter};
 ghost use Rattle.gn_threads.specs.Faults.{IsArrivingFault};
 
 use crate::fault::RunFault;
@@ -27,10 +27,8 @@ pub trait Arrivals: Drop {
 
     /// Waits for the next link, which has this number, counted from 0, and shall begin in this role; and takes it apart.
     fn next(&mut self, link: u32, role: Role) -> Result<(Self::Reader, Self::Writer), RunFault>
-        ensures reader { IfOk result (λ h. IsNewReader (Self.Reader.bytes_read h.0) (Self.Reader.failures h.0)
-            (Self.Reader.pieces h.0) (Self.Reader.has_ended h.0)) }
-        ensures writer { IfOk result (λ h. IsNewWriter (Self.Writer.bytes_written h.1) (Self.Writer.failures h.1)
-            (Self.Writer.is_stuck h.1) (Self.Writer.is_finished h.1)) }
+        ensures reader { IfOk result (λ h. IsNewReader (Self.Reader.state h.0)) }
+        ensures writer { IfOk result (λ h. IsNewWriter (Self.Writer.state h.1)) }
         ensures made { IfOk result (λ h. (coming self.old ≡ Self.Reader.made_of h.0 ∷ coming self.new)
             × (Self.Writer.made_of h.1 ≡ Self.Reader.made_of h.0)) }
         ensures fault { IfErr result (λ fault. (links workers : ℕ) → link < links

@@ -1,35 +1,23 @@
 //! A run whose links come one after another.
 
-ghost use Rattle.std.specs.Prelude.{◌≡◌, ◌+◌, ◌*◌, ◌≤◌, ◌↔◌, None, length, map, reverse, take, vec_len, IfErr, IfOk, IfSome};
+ghost use Rattle.std.specs.Prelude.{◌≡◌, ◌+◌, ◌*◌, ◌≤◌, ◌↔◌, None, length, map, reverse, take, IfErr, IfOk, IfSome};
 ghost use Rattle.gn_rules.specs.Legal.{IsLegal};
 ghost use Rattle.gn_rules.specs.Limits.{IsCrew, most_links};
 ghost use Rattle.gn_threads.specs.declared.fault.RunFault.TheVariants.{BadWorkers};
 ghost use Rattle.gn_threads.specs.Faults.{IsArrivingFault};
-ghost use Rattle.gn_links.specs.Views.{reads_of, writes_of};
-ghost use Rattle.gn_threads.specs.Headline.{
-  AreMadeOf,
-  HasCountedSteps,
-  HasLegalHistory,
-  HasOwnStats,
-  HasOwnSteps,
-  Holds,
-  LinksHold,
-  LinksReadOwn,
-  OthersRoute,
-  RoutesEachOnce,
-};
+ghost use Rattle.gn_threads.specs.Headline.{AreMadeOf, Holds, LinksReadOwn};
 
 use crate::arrivals::Arrivals;
-use crate::confirming::kept;
+use crate::confirming::history_left;
 use crate::fault::RunFault;
 use crate::finishing::finish;
-use crate::opening::{Opening, open};
-use crate::places::places_of;
+use crate::opening::{Opening, open_run};
 use crate::starting::start_and_join;
 use crate::stopped::Stopped;
-use gn_links::{Gate, LinkReader, LinkWriter};
+use crate::unstarted::unstarted_of;
+use gn_links::Gate;
+use gn_report::Report;
 use gn_rules::{Config, MOST_WORKERS, RouterCore, Step};
-use gn_run::Report;
 use gn_shake::Role;
 use gn_stage::{Site, Stage};
 use std::alloc::Allocator;
@@ -42,9 +30,7 @@ use std::thread::Threads;
 /// one doesn't come, what has started is ended, and that fault is answered.
 pub fn run_arriving<
     C: RouterCore<A> + Drop + Send,
-    Rd: LinkReader + Send,
-    W: LinkWriter + Send,
-    V: Arrivals<Reader = Rd, Writer = W>,
+    V: Arrivals,
     G: Gate + Sync,
     A: Allocator + Copy + Send + Sync,
     R: Threads + Wait + Sync,
@@ -56,33 +42,22 @@ pub fn run_arriving<
     arrivals: V,
     workers: u32,
     gate: &G,
-) -> Result<Report<Rd, W, A>, RunFault>
+) -> Result<Report<V::Reader, V::Writer, A>, RunFault>
+where
+    V::Reader: Send,
+    V::Writer: Send,
     requires few { length roles.now ≤ most_links }
     ensures workers { IfOk result (λ _. IsCrew workers) }
     ensures bad_workers { IfErr result (λ fault. (fault ≡ BadWorkers) ↔ (¬ IsCrew workers)) }
     ensures fault { IfErr result (λ fault. IsCrew workers
         → IsArrivingFault V.has_peers (length roles.now) workers fault) }
-    ensures legal { IfOk result (λ report. HasLegalHistory config.now report) }
-    ensures counted { IfOk result (λ report. HasCountedSteps report) }
-    ensures own { IfOk result (λ report. HasOwnSteps report) }
-    ensures each { IfOk result (λ report. (length report.links.items ≡ length roles.now)
-        × (length report.workers.items ≡ workers)) }
-    ensures links { IfOk result (λ report. LinksHold
-        (reads_of Rd.is_known Rd.bytes_read Rd.failures Rd.pieces Rd.has_ended)
-        (writes_of W.is_known W.bytes_written W.failures W.is_stuck W.is_finished)
-        roles.now report) }
-    ensures bytes { IfOk result (λ report. LinksReadOwn
-        (reads_of Rd.is_known Rd.bytes_read Rd.failures Rd.pieces Rd.has_ended)
-        (map Rd.gives (take (length roles.now) (V.coming arrivals))) report) }
-    ensures made { IfOk result (λ report. AreMadeOf Rd.made_of W.made_of
-        (take (length roles.now) (V.coming arrivals)) (take (length roles.now) (V.coming arrivals)) report) }
-    ensures others { IfOk result (λ report. OthersRoute report) }
-    ensures routed { IfOk result (λ report. RoutesEachOnce report) }
-    ensures stats { IfOk result (λ report. HasOwnStats report) }
+    ensures holds { IfOk result (λ report. Holds V.Reader.state V.Writer.state config.now roles.now workers report) }
+    ensures bytes { IfOk result (λ report. LinksReadOwn V.Reader.state
+        (map V.Reader.gives (take (length roles.now) (V.coming arrivals))) report) }
+    ensures made { IfOk result (λ report. AreMadeOf V.Reader.made_of V.Writer.made_of
+        (take (length roles.now) (V.coming arrivals)) report) }
 {
-    match run_arriving_kept::<C, Rd, W, V, G, A, R>(
-        rt, alloc, config, roles, arrivals, workers, gate,
-    ) {
+    match run_arriving_kept::<C, V, G, A, R>(rt, alloc, config, roles, arrivals, workers, gate) {
         Ok(report) => Ok(report),
         Err(stopped) => Err(stopped.fault),
     }
@@ -91,9 +66,7 @@ pub fn run_arriving<
 /// Does the same, and a fault comes with what stands of the history, which is legal by the configuration of the call.
 pub fn run_arriving_kept<
     C: RouterCore<A> + Drop + Send,
-    Rd: LinkReader + Send,
-    W: LinkWriter + Send,
-    V: Arrivals<Reader = Rd, Writer = W>,
+    V: Arrivals,
     G: Gate + Sync,
     A: Allocator + Copy + Send + Sync,
     R: Threads + Wait + Sync,
@@ -105,7 +78,10 @@ pub fn run_arriving_kept<
     arrivals: V,
     workers: u32,
     gate: &G,
-) -> Result<Report<Rd, W, A>, Stopped<A>>
+) -> Result<Report<V::Reader, V::Writer, A>, Stopped<A>>
+where
+    V::Reader: Send,
+    V::Writer: Send,
     requires few { length roles.now ≤ most_links }
     ensures workers { IfOk result (λ _. IsCrew workers) }
     ensures bad_workers { IfErr result (λ stopped. (stopped.fault ≡ BadWorkers) ↔ (¬ IsCrew workers)) }
@@ -113,23 +89,11 @@ pub fn run_arriving_kept<
         → IsArrivingFault V.has_peers (length roles.now) workers stopped.fault) }
     ensures kept { IfErr result (λ stopped. IfSome stopped.history (λ history.
         IsLegal config.now (reverse history.items))) }
-    ensures legal { IfOk result (λ report. HasLegalHistory config.now report) }
-    ensures counted { IfOk result (λ report. HasCountedSteps report) }
-    ensures own { IfOk result (λ report. HasOwnSteps report) }
-    ensures each { IfOk result (λ report. (length report.links.items ≡ length roles.now)
-        × (length report.workers.items ≡ workers)) }
-    ensures links { IfOk result (λ report. LinksHold
-        (reads_of Rd.is_known Rd.bytes_read Rd.failures Rd.pieces Rd.has_ended)
-        (writes_of W.is_known W.bytes_written W.failures W.is_stuck W.is_finished)
-        roles.now report) }
-    ensures bytes { IfOk result (λ report. LinksReadOwn
-        (reads_of Rd.is_known Rd.bytes_read Rd.failures Rd.pieces Rd.has_ended)
-        (map Rd.gives (take (length roles.now) (V.coming arrivals))) report) }
-    ensures made { IfOk result (λ report. AreMadeOf Rd.made_of W.made_of
-        (take (length roles.now) (V.coming arrivals)) (take (length roles.now) (V.coming arrivals)) report) }
-    ensures others { IfOk result (λ report. OthersRoute report) }
-    ensures routed { IfOk result (λ report. RoutesEachOnce report) }
-    ensures stats { IfOk result (λ report. HasOwnStats report) }
+    ensures holds { IfOk result (λ report. Holds V.Reader.state V.Writer.state config.now roles.now workers report) }
+    ensures bytes { IfOk result (λ report. LinksReadOwn V.Reader.state
+        (map V.Reader.gives (take (length roles.now) (V.coming arrivals))) report) }
+    ensures made { IfOk result (λ report. AreMadeOf V.Reader.made_of V.Writer.made_of
+        (take (length roles.now) (V.coming arrivals)) report) }
 {
     if workers == 0 || workers > MOST_WORKERS {
         return Err(Stopped::before(RunFault::BadWorkers));
@@ -140,7 +104,7 @@ pub fn run_arriving_kept<
     let parts = 2 * roles.len() as u64 + workers as u64 + 1;
     let blank = Blank::new(parts);
     let mut history = None;
-    match run_arriving_in::<Brand, Brand, C, Rd, W, V, G, A, R>(
+    match run_arriving_in::<Brand, C, V, G, A, R>(
         rt,
         alloc,
         blank,
@@ -157,14 +121,11 @@ pub fn run_arriving_kept<
     }
 }
 
-/// A run with its ledger and its stage. Where it stops, what stands of the history is put into `history`.
+/// A run with its ledger and its stage, which `B` names. Where it stops, what stands of the history is put into `history`.
 fn run_arriving_in<
-    L: Ledger + Send + Sync,
-    S: Site + Send,
+    B: Site + Ledger + Send + Sync,
     C: RouterCore<A> + Drop + Send,
-    Rd: LinkReader + Send,
-    W: LinkWriter + Send,
-    V: Arrivals<Reader = Rd, Writer = W>,
+    V: Arrivals,
     G: Gate + Sync,
     A: Allocator + Copy + Send + Sync,
     R: Threads + Wait + Sync,
@@ -179,27 +140,23 @@ fn run_arriving_in<
     workers: u32,
     gate: &G,
     history: &mut Option<Vec<Step<A>, A>>,
-) -> Result<Report<Rd, W, A>, RunFault>
+) -> Result<Report<V::Reader, V::Writer, A>, RunFault>
+where
+    V::Reader: Send,
+    V::Writer: Send,
     requires none { history.old ≡ None }
-    requires name { blank.name ≡ L.name }
-    requires parts { (blank.parts ≡ L.parts) × (blank.parts ≡ 2 * length roles.now + workers + 1) }
-    requires stage { stage ≡ S.stage }
-    requires few { length roles.now ≤ most_links }
-    requires workers { IsCrew workers }
+    requires blank { (blank.name ≡ B.name) × (blank.parts ≡ B.parts)
+        × (blank.parts ≡ 2 * length roles.now + workers + 1) × (stage ≡ B.stage) }
+    requires few { (length roles.now ≤ most_links) × IsCrew workers }
     ensures fault { IfErr result (λ fault. IsArrivingFault V.has_peers (length roles.now) workers fault) }
-    ensures holds { IfOk result (λ report. Holds
-        (reads_of Rd.is_known Rd.bytes_read Rd.failures Rd.pieces Rd.has_ended)
-        (writes_of W.is_known W.bytes_written W.failures W.is_stuck W.is_finished)
-        config.now roles.now report) }
-    ensures bytes { IfOk result (λ report. LinksReadOwn
-        (reads_of Rd.is_known Rd.bytes_read Rd.failures Rd.pieces Rd.has_ended)
-        (map Rd.gives (take (length roles.now) (V.coming arrivals))) report) }
-    ensures made { IfOk result (λ report. AreMadeOf Rd.made_of W.made_of
-        (take (length roles.now) (V.coming arrivals)) (take (length roles.now) (V.coming arrivals)) report) }
-    ensures workers { IfOk result (λ report. vec_len report.workers ≡ workers) }
+    ensures holds { IfOk result (λ report. Holds V.Reader.state V.Writer.state config.now roles.now workers report) }
+    ensures bytes { IfOk result (λ report. LinksReadOwn V.Reader.state
+        (map V.Reader.gives (take (length roles.now) (V.coming arrivals))) report) }
+    ensures made { IfOk result (λ report. AreMadeOf V.Reader.made_of V.Writer.made_of
+        (take (length roles.now) (V.coming arrivals)) report) }
     ensures kept { IfSome history.new (λ steps. IsLegal config.now (reverse steps.items)) }
 {
-    let opening = open::<L, S, C, A>(alloc, blank, stage, config, roles, workers)?;
+    let opening = open_run::<B, C, A>(alloc, blank, stage, config, roles, workers)?;
     let Opening {
         service,
         actors,
@@ -207,13 +164,13 @@ fn run_arriving_in<
         outlets,
         desk,
     } = opening;
-    let (places, house) = places_of(alloc, roles, intakes, outlets, actors)?;
-    let joined = start_and_join(rt, alloc, &service, gate, arrivals, places);
+    let (unstarted, house) = unstarted_of(alloc, roles, intakes, outlets, actors)?;
+    let joined = start_and_join(rt, alloc, &service, gate, arrivals, unstarted);
     let hub = service.into_hub();
     match joined {
         Ok(done) => finish(rt, alloc, config, roles, hub, desk, done, house, history),
         Err(fault) => {
-            *history = kept(config, hub);
+            *history = history_left(config, hub);
             Err(fault)
         }
     }

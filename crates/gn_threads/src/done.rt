@@ -16,13 +16,13 @@ use std::sync::ledger::Ledger;
 
 /// What all bodies of a run gave back.
 #[derive(Drop)]
-pub(crate) struct Done<Rd, W, S: Site, L: Ledger, A: Allocator = Global> {
-    pub readers: Vec<ReaderDone<Rd, S, L, A>, A>,
-    pub writers: Vec<WriterDone<W, L, A>, A>,
-    pub workers: Vec<WorkerDone<S, L, A>, A>,
+pub(crate) struct Done<Rd, W, B: Site + Ledger, A: Allocator = Global> {
+    pub readers: Vec<ReaderDone<Rd, B, A>, A>,
+    pub writers: Vec<WriterDone<W, B, A>, A>,
+    pub workers: Vec<WorkerDone<B, A>, A>,
 }
 
-impl<Rd: LinkReader, W: LinkWriter, S: Site, L: Ledger, A: Allocator> Done<Rd, W, S, L, A> {
+impl<Rd: LinkReader, W: LinkWriter, B: Site + Ledger, A: Allocator> Done<Rd, W, B, A> {
     /// Whether a body ended because the history was full.
     fn has_full(&self) -> bool
         ensures { result ≡ (list_any (λ d. faults.is_full d.end) self.now.readers.items
@@ -66,17 +66,17 @@ impl<Rd: LinkReader, W: LinkWriter, S: Site, L: Ledger, A: Allocator> Done<Rd, W
 }
 
 /// The first of these workers that was refused a route, where the first worker is this actor.
-pub(crate) fn first_refused<S: Site, L: Ledger, A: Allocator>(
-    workers: &[WorkerDone<S, L, A>],
+pub(crate) fn first_refused<B: Site + Ledger, A: Allocator>(
+    workers: &[WorkerDone<B, A>],
     first: u32,
 ) -> Option<u32>
     requires few { (first ≤ 512) × (length workers.now ≤ most_workers) }
-    ensures none { result ≡ None → (k : ℕ) (d : WorkerDone S L A) → k < length workers.now
+    ensures none { result ≡ None → (k : ℕ) (d : WorkerDone B A) → k < length workers.now
         → IsOk (slice_index_or workers.now k d).end }
     ensures some { IfSome result (λ a. a < first + length workers.now) }
-    ensures refused { IfSome result (λ a. (k : ℕ) (d : WorkerDone S L A) → first + k ≡ a
+    ensures refused { IfSome result (λ a. (k : ℕ) (d : WorkerDone B A) → first + k ≡ a
         → is_err (slice_index_or workers.now k d).end ≡ true) }
-    ensures least { IfSome result (λ a. (k : ℕ) (d : WorkerDone S L A) → first + k < a
+    ensures least { IfSome result (λ a. (k : ℕ) (d : WorkerDone B A) → first + k < a
         → IsOk (slice_index_or workers.now k d).end) }
 {
     let mut actor = first;

@@ -41,7 +41,7 @@ pub(crate) trait Body: Drop {
         ensures { result ≡ found_no_memory self.now };
 }
 
-impl<Rd: LinkReader, S: Site, L: Ledger, A: Allocator> Body for ReaderDone<Rd, S, L, A> {
+impl<Rd: LinkReader, B: Site + Ledger, A: Allocator> Body for ReaderDone<Rd, B, A> {
     ghost use Rattle.gn_threads.specs.Faults.{is_full, is_out_of_memory};
 
     ghost found_full = { λ done. is_full done.end };
@@ -73,7 +73,7 @@ impl<W: LinkWriter, L: Ledger, A: Allocator> Body for WriterDone<W, L, A> {
     }
 }
 
-impl<S: Site, L: Ledger, A: Allocator> Body for WorkerDone<S, L, A> {
+impl<B: Site + Ledger, A: Allocator> Body for WorkerDone<B, A> {
     ghost use Rattle.gn_threads.specs.Faults.{is_full, is_out_of_memory};
 
     ghost found_full = { λ done. is_full done.end };

@@ -1,30 +1,18 @@
 //! The house: the caller of a run, who routes what the stage had left.
 
-ghost use Rattle.std.specs.Prelude.{◌≡◌, ◌∷◌, [], OnOk};
-ghost use Rattle.gn_threads.specs.House as house;
+ghost use Rattle.std.specs.Prelude.{◌∷◌, [], OnOk};
 ghost use Rattle.gn_threads.specs.House.{HasRouted};
 
 use gn_bodies::BodyFault;
 use gn_payload::Checked;
-use gn_rules::{Refusal, RouterCore, Ticket};
+use gn_rules::{RouterCore, Ticket};
 use gn_service::{Actor, Hub};
 use gn_stage::Job;
 use std::alloc::Allocator;
 use std::sync::ledger::Ledger;
 
-/// Why a job couldn't be routed.
-fn fault_of(refusal: Refusal) -> BodyFault
-    ensures { result ≡ house.fault_of refusal }
-{
-    match refusal {
-        Refusal::HistoryFull => BodyFault::HistoryFull,
-        Refusal::NoMemory => BodyFault::NoMemory,
-        _ => BodyFault::Refused,
-    }
-}
-
 /// Routes a job, as the house.
-fn route_job<C: RouterCore<A>, L: Ledger, A: Allocator + Copy>(
+fn route_left_job<C: RouterCore<A>, L: Ledger, A: Allocator + Copy>(
     hub: &mut Hub<C, L, A>,
     me: &mut Actor<L, A>,
     job: Job<A>,
@@ -35,13 +23,13 @@ fn route_job<C: RouterCore<A>, L: Ledger, A: Allocator + Copy>(
     let checked = Checked::new(descriptor);
     match hub.route(me, ticket, &checked) {
         Ok(()) => Ok(()),
-        Err(refusal) => Err(fault_of(refusal)),
+        Err(refusal) => Err(BodyFault::from(refusal)),
     }
 }
 
 /// Routes each of these jobs, in order. A job that is refused its route makes no step; the house goes on with the next one,
 /// and ends as Refused.
-pub(crate) fn route_all<C: RouterCore<A>, L: Ledger, A: Allocator + Copy>(
+pub(crate) fn route_left<C: RouterCore<A>, L: Ledger, A: Allocator + Copy>(
     hub: &mut Hub<C, L, A>,
     me: &mut Actor<L, A>,
     jobs: Vec<Job<A>, A>,
@@ -50,7 +38,7 @@ pub(crate) fn route_all<C: RouterCore<A>, L: Ledger, A: Allocator + Copy>(
 {
     let mut is_refused = false;
     for job in jobs {
-        if let Err(fault) = route_job(hub, me, job) {
+        if let Err(fault) = route_left_job(hub, me, job) {
             if fault.is_stop() {
                 return Err(fault);
             }

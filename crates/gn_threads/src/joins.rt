@@ -3,10 +3,8 @@
 ghost use Rattle.std.specs.Prelude.{◌≡◌, [], ℕ, map, vec_len, if◌then◌else◌, IfErr, IfOk};
 ghost use Rattle.gn_threads.specs.declared.fault.RunFault.TheVariants.{HistoryFull, NoMemory};
 ghost use Rattle.gn_threads.specs.Faults.{IsFaultOf};
-ghost use Rattle.gn_links.specs.Views.{reads_of, writes_of};
-ghost use Rattle.gn_threads.specs.Halves.{half_of};
-ghost use Rattle.gn_threads.specs.Joined.{AreJoined};
-ghost use Rattle.gn_threads.specs.Kept.{EachKeeps, ReaderPromises, WriterPromises, reader_ended, writer_ended};
+ghost use Rattle.gn_bodies.specs.Done.{half_of, IsReaderDone, IsWriterDone, reader_ended, writer_ended};
+ghost use Rattle.gn_threads.specs.Joined.{AreJoined, EachKeeps};
 
 use crate::done::Done;
 use crate::ended::{Body, any_full};
@@ -63,13 +61,13 @@ fn fault_of(found_full: bool) -> RunFault
 }
 
 /// Joins the readers, also where there is no memory for what they give back.
-fn join_readers<Rd: LinkReader, S: Site, L: Ledger, A: Allocator + Copy, R: Threads>(
+fn join_readers<Rd: LinkReader, B: Site + Ledger, A: Allocator + Copy, R: Threads>(
     rt: &R,
-    handles: Vec<ReaderHandle<Rd, S, L, A>, A>,
-) -> Result<Vec<ReaderDone<Rd, S, L, A>, A>, Lost>
+    handles: Vec<ReaderHandle<Rd, B, A>, A>,
+) -> Result<Vec<ReaderDone<Rd, B, A>, A>, Lost>
     ensures many { IfOk result (λ done. vec_len done ≡ vec_len handles) }
     ensures kept { IfOk result (λ done. EachKeeps
-        (ReaderPromises (reads_of Rd.is_known Rd.bytes_read Rd.failures Rd.pieces Rd.has_ended) Rd.made_of Rd.gives)
+        (IsReaderDone Rd.state Rd.made_of Rd.gives)
         (map (λ h. half_of h.promise.start.value.role h.promise.start.value.reader) handles.items)
         (map reader_ended done.items)) }
 {
@@ -86,7 +84,7 @@ fn join_writers<W: LinkWriter, L: Ledger, A: Allocator + Copy, R: Threads>(
 ) -> Result<Vec<WriterDone<W, L, A>, A>, Lost>
     ensures many { IfOk result (λ done. vec_len done ≡ vec_len handles) }
     ensures kept { IfOk result (λ done. EachKeeps
-        (WriterPromises (writes_of W.is_known W.bytes_written W.failures W.is_stuck W.is_finished) W.made_of)
+        (IsWriterDone W.state W.made_of)
         (map (λ h. half_of h.promise.start.value.role h.promise.start.value.writer) handles.items)
         (map writer_ended done.items)) }
 {
@@ -97,10 +95,10 @@ fn join_writers<W: LinkWriter, L: Ledger, A: Allocator + Copy, R: Threads>(
 }
 
 /// Joins the workers, also where there is no memory for what they give back.
-fn join_workers<S: Site, L: Ledger, A: Allocator + Copy, R: Threads>(
+fn join_workers<B: Site + Ledger, A: Allocator + Copy, R: Threads>(
     rt: &R,
-    handles: Vec<WorkerHandle<S, L, A>, A>,
-) -> Result<Vec<WorkerDone<S, L, A>, A>, Lost>
+    handles: Vec<WorkerHandle<B, A>, A>,
+) -> Result<Vec<WorkerDone<B, A>, A>, Lost>
     ensures many { IfOk result (λ done. vec_len done ≡ vec_len handles) }
 {
     match thread::join_promised(rt, handles) {
@@ -111,25 +109,13 @@ fn join_workers<S: Site, L: Ledger, A: Allocator + Copy, R: Threads>(
 
 /// The threads of a run that have started.
 #[derive(Drop)]
-pub(crate) struct Handles<
-    Rd: LinkReader,
-    W: LinkWriter,
-    S: Site,
-    L: Ledger,
-    A: Allocator = Global,
-> {
-    pub readers: Vec<ReaderHandle<Rd, S, L, A>, A>,
-    pub writers: Vec<WriterHandle<W, L, A>, A>,
-    pub workers: Vec<WorkerHandle<S, L, A>, A>,
+pub(crate) struct Handles<Rd: LinkReader, W: LinkWriter, B: Site + Ledger, A: Allocator = Global> {
+    pub readers: Vec<ReaderHandle<Rd, B, A>, A>,
+    pub writers: Vec<WriterHandle<W, B, A>, A>,
+    pub workers: Vec<WorkerHandle<B, A>, A>,
 }
 
-impl<Rd: LinkReader, W: LinkWriter, S: Site, L: Ledger, A: Allocator + Copy> Handles<
-    Rd,
-    W,
-    S,
-    L,
-    A,
-> {
+impl<Rd: LinkReader, W: LinkWriter, B: Site + Ledger, A: Allocator + Copy> Handles<Rd, W, B, A> {
     /// No threads.
     pub(crate) fn new(alloc: A) -> Self
         ensures { (result.readers.items ≡ []) × (result.writers.items ≡ []) × (result.workers.items ≡ []) }
@@ -145,7 +131,7 @@ impl<Rd: LinkReader, W: LinkWriter, S: Site, L: Ledger, A: Allocator + Copy> Han
     pub(crate) fn give_up<C: RouterCore<A> + Drop, R: Threads + Wait>(
         self,
         rt: &R,
-        service: &Service<C, L, A>,
+        service: &Service<C, B, A>,
     ) -> RunFault
         ensures { (links workers : ℕ) → IsFaultOf links workers result }
     {
@@ -163,10 +149,9 @@ impl<Rd: LinkReader, W: LinkWriter, S: Site, L: Ledger, A: Allocator + Copy> Han
 
     /// Joins all threads. Where there is no memory for what they give back, the fault is a full history that one of them found,
     /// or else memory.
-    pub(crate) fn join<R: Threads>(self, rt: &R) -> Result<Done<Rd, W, S, L, A>, RunFault>
+    pub(crate) fn join<R: Threads>(self, rt: &R) -> Result<Done<Rd, W, B, A>, RunFault>
         ensures joined { IfOk result (λ done. AreJoined
-            (ReaderPromises (reads_of Rd.is_known Rd.bytes_read Rd.failures Rd.pieces Rd.has_ended) Rd.made_of Rd.gives)
-            (WriterPromises (writes_of W.is_known W.bytes_written W.failures W.is_stuck W.is_finished) W.made_of)
+            (IsReaderDone Rd.state Rd.made_of Rd.gives) (IsWriterDone W.state W.made_of)
             (map (λ h. half_of h.promise.start.value.role h.promise.start.value.reader) self.readers.items)
             (map (λ h. half_of h.promise.start.value.role h.promise.start.value.writer) self.writers.items)
             (vec_len self.workers) done) }

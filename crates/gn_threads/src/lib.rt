@@ -1,6 +1,7 @@
 //! The run: a thread for the reader and the writer of each link and for each worker, until all links are done; and its report.
 #![tactic(auto)]
 
+mod actors;
 mod arrivals;
 mod arriving;
 mod confirming;
@@ -8,17 +9,16 @@ mod done;
 mod ended;
 mod fault;
 mod finishing;
-mod gather;
 mod house;
 mod joins;
 mod opening;
-mod places;
+mod reported;
 mod runs;
+mod shares;
 mod start;
 mod starting;
 mod stopped;
-mod tally;
-mod waiting;
+mod unstarted;
 
 pub use arrivals::Arrivals;
 pub use arriving::{run_arriving, run_arriving_kept};

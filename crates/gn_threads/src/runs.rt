@@ -2,27 +2,16 @@
 
 ghost use Rattle.std.specs.Prelude.{◌≡◌, ◌≤◌, ◌↔◌, length, map, IfErr, IfOk};
 ghost use Rattle.gn_rules.specs.Limits.{IsCrew, most_links};
-ghost use Rattle.gn_links.specs.Views.{reads_of, writes_of};
 ghost use Rattle.gn_threads.specs.declared.fault.RunFault.TheVariants.{BadWorkers};
 ghost use Rattle.gn_threads.specs.Faults.{IsWholeFault};
-ghost use Rattle.gn_threads.specs.Headline.{
-  AreMadeOf,
-  HasCountedSteps,
-  HasLegalHistory,
-  HasOwnStats,
-  HasOwnSteps,
-  LinksHold,
-  LinksReadOwn,
-  OthersRoute,
-  RoutesEachOnce,
-};
+ghost use Rattle.gn_threads.specs.Headline.{AreMadeOf, Holds, LinksReadOwn};
 
 use crate::arrivals::Arrived;
 use crate::arriving::run_arriving;
 use crate::fault::RunFault;
 use gn_links::{Gate, Link, SplitLinks, split_all};
+use gn_report::Report;
 use gn_rules::{Config, MOST_WORKERS, RouterCore};
-use gn_run::Report;
 use std::alloc::Allocator;
 use std::sync::Wait;
 use std::thread::Threads;
@@ -54,23 +43,12 @@ where
     ensures bad_workers { IfErr result (λ fault. (fault ≡ BadWorkers) ↔ (¬ IsCrew workers)) }
     ensures fault { IfErr result (λ fault. IsCrew workers
         → IsWholeFault (map K.may_not_split links.items) workers fault) }
-    ensures legal { IfOk result (λ report. HasLegalHistory config.now report) }
-    ensures counted { IfOk result (λ report. HasCountedSteps report) }
-    ensures own { IfOk result (λ report. HasOwnSteps report) }
-    ensures each { IfOk result (λ report. (length report.links.items ≡ length links.items)
-        × (length report.workers.items ≡ workers)) }
-    ensures links { IfOk result (λ report. LinksHold
-        (reads_of K.Reader.is_known K.Reader.bytes_read K.Reader.failures K.Reader.pieces K.Reader.has_ended)
-        (writes_of K.Writer.is_known K.Writer.bytes_written K.Writer.failures K.Writer.is_stuck K.Writer.is_finished)
-        (map K.role_of links.items) report) }
-    ensures bytes { IfOk result (λ report. LinksReadOwn
-        (reads_of K.Reader.is_known K.Reader.bytes_read K.Reader.failures K.Reader.pieces K.Reader.has_ended)
+    ensures holds { IfOk result (λ report. Holds K.Reader.state K.Writer.state config.now
+        (map K.role_of links.items) workers report) }
+    ensures bytes { IfOk result (λ report. LinksReadOwn K.Reader.state
         (map (λ link. K.Reader.gives (K.origin_of link)) links.items) report) }
     ensures made { IfOk result (λ report. AreMadeOf K.Reader.made_of K.Writer.made_of
-        (map K.origin_of links.items) (map K.origin_of links.items) report) }
-    ensures others { IfOk result (λ report. OthersRoute report) }
-    ensures routed { IfOk result (λ report. RoutesEachOnce report) }
-    ensures stats { IfOk result (λ report. HasOwnStats report) }
+        (map K.origin_of links.items) report) }
 {
     if workers == 0 || workers > MOST_WORKERS {
         return Err(RunFault::BadWorkers);
@@ -80,7 +58,7 @@ where
     let arrivals = Arrived {
         links: links.into_iter(),
     };
-    run_arriving::<C, K::Reader, K::Writer, Arrived<K, A>, G, A, R>(
+    run_arriving::<C, Arrived<K, A>, G, A, R>(
         rt,
         alloc,
         config,

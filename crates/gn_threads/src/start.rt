@@ -1,10 +1,8 @@
 //! How the threads of a run are started, and what each promises.
 
 ghost use Rattle.std.specs.Prelude.{◌≡◌, ◌+◌, ◌++◌, ◌∷◌, [], true, map, vec_len};
-ghost use Rattle.gn_links.specs.Halves.{IsNewReader, IsNewWriter};
-ghost use Rattle.gn_links.specs.Views.{reads_of, writes_of};
-ghost use Rattle.gn_threads.specs.Halves.{half_of};
-ghost use Rattle.gn_threads.specs.Kept.{ReaderPromises, WriterPromises, reader_ended, writer_ended};
+ghost use Rattle.gn_links.specs.Views.{IsNewReader, IsNewWriter};
+ghost use Rattle.gn_bodies.specs.Done.{half_of, IsReaderDone, IsWriterDone, reader_ended, writer_ended};
 
 use gn_bodies::{ReaderDone, WorkerDone, WriterDone, reader_body, worker_body, writer_body};
 use gn_links::{Gate, LinkReader, LinkWriter};
@@ -20,13 +18,13 @@ use std::thread::{Promise, PromisedHandle, Scope, Threads};
 
 /// What the body of a reader starts from.
 #[derive(Drop)]
-pub(crate) struct ReaderStart<Rd: LinkReader, S: Site, L: Ledger, A: Allocator = Global> {
-    pub actor: Actor<L, A>,
+pub(crate) struct ReaderStart<Rd: LinkReader, B: Site + Ledger, A: Allocator = Global> {
+    pub actor: Actor<B, A>,
     pub link: u32,
     pub role: Role,
     pub reader: Rd,
-    pub intake: Intake<S, A>,
-    pub ghost new: { IsNewReader (Rd.bytes_read reader) (Rd.failures reader) (Rd.pieces reader) (Rd.has_ended reader) },
+    pub intake: Intake<B, A>,
+    pub ghost new: { IsNewReader (Rd.state reader) },
     pub ghost number: { actor.number ≡ link },
     pub ghost none: { actor.receipts ≡ [] },
 }
@@ -38,34 +36,30 @@ pub(crate) struct WriterStart<W: LinkWriter, L: Ledger, A: Allocator = Global> {
     pub link: u32,
     pub role: Role,
     pub writer: W,
-    pub ghost new: { IsNewWriter (W.bytes_written writer) (W.failures writer) (W.is_stuck writer)
-        (W.is_finished writer) },
+    pub ghost new: { IsNewWriter (W.state writer) },
     pub ghost none: { actor.receipts ≡ [] },
 }
 
 /// What the body of a worker starts from.
 #[derive(Drop)]
-pub(crate) struct WorkerStart<S: Site, L: Ledger, A: Allocator = Global> {
-    pub actor: Actor<L, A>,
+pub(crate) struct WorkerStart<B: Site + Ledger, A: Allocator = Global> {
+    pub actor: Actor<B, A>,
     pub worker: u32,
-    pub outlet: Outlet<S, A>,
+    pub outlet: Outlet<B, A>,
     pub ghost none: { actor.receipts ≡ [] },
 }
 
 /// The promise of a reader's thread: what its body keeps, from this start.
 #[derive(Drop)]
-pub(crate) struct Reads<Rd: LinkReader, S: Site, L: Ledger, A: Allocator = Global> {
-    pub start: Snapshot<ReaderStart<Rd, S, L, A>>,
+pub(crate) struct Reads<Rd: LinkReader, B: Site + Ledger, A: Allocator = Global> {
+    pub start: Snapshot<ReaderStart<Rd, B, A>>,
 }
 
-impl<Rd: LinkReader, S: Site, L: Ledger, A: Allocator> Promise<ReaderDone<Rd, S, L, A>>
-    for Reads<Rd, S, L, A> {
-    ghost use Rattle.gn_links.specs.Views.{reads_of};
-    ghost use Rattle.gn_threads.specs.Halves.{half_of};
-    ghost use Rattle.gn_threads.specs.Kept.{ReaderPromises, reader_ended};
+impl<Rd: LinkReader, B: Site + Ledger, A: Allocator> Promise<ReaderDone<Rd, B, A>>
+    for Reads<Rd, B, A> {
+    ghost use Rattle.gn_bodies.specs.Done.{IsReaderDone, half_of, reader_ended};
 
-    ghost kept_by = { λ p r. ReaderPromises
-        (reads_of Rd.is_known Rd.bytes_read Rd.failures Rd.pieces Rd.has_ended) Rd.made_of Rd.gives
+    ghost kept_by = { λ p r. IsReaderDone Rd.state Rd.made_of Rd.gives
         (half_of p.start.value.role p.start.value.reader) (reader_ended r) };
 }
 
@@ -76,12 +70,9 @@ pub(crate) struct Writes<W: LinkWriter, L: Ledger, A: Allocator = Global> {
 }
 
 impl<W: LinkWriter, L: Ledger, A: Allocator> Promise<WriterDone<W, L, A>> for Writes<W, L, A> {
-    ghost use Rattle.gn_links.specs.Views.{writes_of};
-    ghost use Rattle.gn_threads.specs.Halves.{half_of};
-    ghost use Rattle.gn_threads.specs.Kept.{WriterPromises, writer_ended};
+    ghost use Rattle.gn_bodies.specs.Done.{IsWriterDone, half_of, writer_ended};
 
-    ghost kept_by = { λ p r. WriterPromises
-        (writes_of W.is_known W.bytes_written W.failures W.is_stuck W.is_finished) W.made_of
+    ghost kept_by = { λ p r. IsWriterDone W.state W.made_of
         (half_of p.start.value.role p.start.value.writer) (writer_ended r) };
 }
 
@@ -89,40 +80,35 @@ impl<W: LinkWriter, L: Ledger, A: Allocator> Promise<WriterDone<W, L, A>> for Wr
 #[derive(Clone, Copy)]
 pub(crate) struct Works;
 
-impl<S: Site, L: Ledger, A: Allocator> Promise<WorkerDone<S, L, A>> for Works {
+impl<B: Site + Ledger, A: Allocator> Promise<WorkerDone<B, A>> for Works {
     ghost use Rattle.std.specs.Prelude.{◌≡◌, []};
     ghost use Rattle.gn_bodies.specs.Events.{link_events};
 
     ghost kept_by = { λ p r. link_events r.actor ≡ [] };
 }
 
-pub(crate) type ReaderHandle<Rd, S, L, A> = PromisedHandle<
-    ReaderDone<Rd, S, L, A>,
-    Reads<Rd, S, L, A>,
->;
+pub(crate) type ReaderHandle<Rd, B, A> = PromisedHandle<ReaderDone<Rd, B, A>, Reads<Rd, B, A>>;
 
 pub(crate) type WriterHandle<W, L, A> = PromisedHandle<WriterDone<W, L, A>, Writes<W, L, A>>;
 
-pub(crate) type WorkerHandle<S, L, A> = PromisedHandle<WorkerDone<S, L, A>, Works>;
+pub(crate) type WorkerHandle<B, A> = PromisedHandle<WorkerDone<B, A>, Works>;
 
 /// The body of a reader, from its start.
-fn read_link<
+fn run_reader<
     Rd: LinkReader,
-    S: Site,
+    B: Site + Ledger,
     C: RouterCore<A> + Drop,
-    L: Ledger,
     G: Gate,
     A: Allocator + Copy,
     R: Wait,
 >(
     rt: &R,
     alloc: A,
-    service: &Service<C, L, A>,
+    service: &Service<C, B, A>,
     gate: &G,
-    start: ReaderStart<Rd, S, L, A>,
-) -> ReaderDone<Rd, S, L, A>
-    ensures { ReaderPromises (reads_of Rd.is_known Rd.bytes_read Rd.failures Rd.pieces Rd.has_ended) Rd.made_of Rd.gives
-        (half_of start.role start.reader) (reader_ended result) }
+    start: ReaderStart<Rd, B, A>,
+) -> ReaderDone<Rd, B, A>
+    ensures { IsReaderDone Rd.state Rd.made_of Rd.gives (half_of start.role start.reader) (reader_ended result) }
 {
     let ReaderStart {
         actor,
@@ -134,46 +120,8 @@ fn read_link<
     reader_body(rt, alloc, service, gate, actor, link, role, reader, intake)
 }
 
-/// Starts a reader. False where no thread can be made.
-pub(crate) fn start_reader<
-    's,
-    E: 's,
-    Rd: LinkReader + Send + 's,
-    S: Site + Send + 's,
-    C: RouterCore<A> + Drop + Send + 's,
-    L: Ledger + Send + Sync + 's,
-    G: Gate + Sync + 's,
-    A: Allocator + Copy + Send + Sync + 's,
-    R: Threads + Wait + Sync + 's,
->(
-    rt: &'s R,
-    alloc: A,
-    scope: &'s Scope<'s, E>,
-    service: &'s Service<C, L, A>,
-    gate: &'s G,
-    start: ReaderStart<Rd, S, L, A>,
-    handles: &mut Vec<ReaderHandle<Rd, S, L, A>, A>,
-) -> bool
-    ensures { result ≡ true → map (λ h. h.promise.start.value) handles.new.items
-        ≡ map (λ h. h.promise.start.value) handles.old.items ++ start ∷ [] }
-{
-    if handles.reserve(1).is_err() {
-        return false;
-    }
-    let promise = Reads {
-        start: Snapshot::of(&start),
-    };
-    match scope.spawn_with(promise, move || read_link(rt, alloc, service, gate, start)) {
-        Ok(handle) => {
-            handles.push_reserved(handle);
-            true
-        }
-        Err(_) => false,
-    }
-}
-
 /// The body of a writer, from its start.
-fn write_link<
+fn run_writer<
     W: LinkWriter,
     C: RouterCore<A> + Drop,
     L: Ledger,
@@ -187,8 +135,7 @@ fn write_link<
     gate: &G,
     start: WriterStart<W, L, A>,
 ) -> WriterDone<W, L, A>
-    ensures { WriterPromises (writes_of W.is_known W.bytes_written W.failures W.is_stuck W.is_finished) W.made_of
-        (half_of start.role start.writer) (writer_ended result) }
+    ensures { IsWriterDone W.state W.made_of (half_of start.role start.writer) (writer_ended result) }
 {
     let WriterStart {
         actor,
@@ -199,107 +146,117 @@ fn write_link<
     writer_body(rt, alloc, service, gate, actor, link, role, writer)
 }
 
-/// Starts a writer. False where no thread can be made.
-pub(crate) fn start_writer<
-    's,
-    E: 's,
-    W: LinkWriter + Send + 's,
-    C: RouterCore<A> + Drop + Send + 's,
-    L: Ledger + Send + Sync + 's,
-    G: Gate + Sync + 's,
-    A: Allocator + Copy + Send + Sync + 's,
-    R: Threads + Wait + Sync + 's,
->(
-    rt: &'s R,
-    alloc: A,
-    scope: &'s Scope<'s, E>,
-    service: &'s Service<C, L, A>,
-    gate: &'s G,
-    start: WriterStart<W, L, A>,
-    handles: &mut Vec<WriterHandle<W, L, A>, A>,
-) -> bool
-    ensures { result ≡ true → map (λ h. h.promise.start.value) handles.new.items
-        ≡ map (λ h. h.promise.start.value) handles.old.items ++ start ∷ [] }
-{
-    if handles.reserve(1).is_err() {
-        return false;
-    }
-    let promise = Writes {
-        start: Snapshot::of(&start),
-    };
-    match scope.spawn_with(promise, move || write_link(rt, alloc, service, gate, start)) {
-        Ok(handle) => {
-            handles.push_reserved(handle);
-            true
-        }
-        Err(_) => false,
-    }
+/// What each thread of a run is started with.
+#[derive(Drop)]
+pub(crate) struct Starter<'s, E, C: RouterCore<A> + Drop, B: Ledger, G, A: Allocator + Copy, R> {
+    pub rt: &'s R,
+    pub alloc: A,
+    pub scope: &'s Scope<'s, E>,
+    pub service: &'s Service<C, B, A>,
+    pub gate: &'s G,
 }
 
-/// Starts a worker. False where no thread can be made.
-fn start_worker<
+impl<
     's,
     E: 's,
-    S: Site + Send + 's,
     C: RouterCore<A> + Drop + Send + 's,
-    L: Ledger + Send + Sync + 's,
+    B: Site + Ledger + Send + Sync + 's,
     G: Gate + Sync + 's,
     A: Allocator + Copy + Send + Sync + 's,
     R: Threads + Wait + Sync + 's,
->(
-    rt: &'s R,
-    scope: &'s Scope<'s, E>,
-    service: &'s Service<C, L, A>,
-    gate: &'s G,
-    start: WorkerStart<S, L, A>,
-    handles: &mut Vec<WorkerHandle<S, L, A>, A>,
-) -> bool
-    ensures { result ≡ true → vec_len handles.new ≡ vec_len handles.old + 1 }
-{
-    if handles.reserve(1).is_err() {
-        return false;
-    }
-    let WorkerStart {
-        actor,
-        worker,
-        outlet,
-    } = start;
-    match scope.spawn_with(Works, move || {
-        worker_body(rt, service, actor, worker, gate, outlet)
-    }) {
-        Ok(handle) => {
-            handles.push_reserved(handle);
-            true
-        }
-        Err(_) => false,
-    }
-}
-
-/// Starts all workers, in order. False where a thread can't be made: then those before it have started.
-pub(crate) fn start_workers<
-    's,
-    E: 's,
-    S: Site + Send + 's,
-    C: RouterCore<A> + Drop + Send + 's,
-    L: Ledger + Send + Sync + 's,
-    G: Gate + Sync + 's,
-    A: Allocator + Copy + Send + Sync + 's,
-    R: Threads + Wait + Sync + 's,
->(
-    rt: &'s R,
-    scope: &'s Scope<'s, E>,
-    service: &'s Service<C, L, A>,
-    gate: &'s G,
-    starts: Vec<WorkerStart<S, L, A>, A>,
-    handles: &mut Vec<WorkerHandle<S, L, A>, A>,
-) -> bool
-    requires none { handles.old.items ≡ [] }
-    ensures { result ≡ true → vec_len handles.new ≡ vec_len starts }
-{
-    for start in starts {
-        if !start_worker(rt, scope, service, gate, start, handles) {
+> Starter<'s, E, C, B, G, A, R> {
+    /// Starts a reader. False where no thread can be made.
+    pub(crate) fn start_reader<Rd: LinkReader + Send + 's>(
+        &self,
+        start: ReaderStart<Rd, B, A>,
+        handles: &mut Vec<ReaderHandle<Rd, B, A>, A>,
+    ) -> bool
+        ensures { result ≡ true → map (λ h. h.promise.start.value) handles.new.items
+            ≡ map (λ h. h.promise.start.value) handles.old.items ++ start ∷ [] }
+    {
+        let (rt, alloc, service, gate) = (self.rt, self.alloc, self.service, self.gate);
+        if handles.reserve(1).is_err() {
             return false;
         }
+        let promise = Reads {
+            start: Snapshot::of(&start),
+        };
+        match self.scope.spawn_with(promise, move || run_reader(rt, alloc, service, gate, start)) {
+            Ok(handle) => {
+                handles.push_reserved(handle);
+                true
+            }
+            Err(_) => false,
+        }
     }
-    true
+
+    /// Starts a writer. False where no thread can be made.
+    pub(crate) fn start_writer<W: LinkWriter + Send + 's>(
+        &self,
+        start: WriterStart<W, B, A>,
+        handles: &mut Vec<WriterHandle<W, B, A>, A>,
+    ) -> bool
+        ensures { result ≡ true → map (λ h. h.promise.start.value) handles.new.items
+            ≡ map (λ h. h.promise.start.value) handles.old.items ++ start ∷ [] }
+    {
+        let (rt, alloc, service, gate) = (self.rt, self.alloc, self.service, self.gate);
+        if handles.reserve(1).is_err() {
+            return false;
+        }
+        let promise = Writes {
+            start: Snapshot::of(&start),
+        };
+        match self.scope.spawn_with(promise, move || run_writer(rt, alloc, service, gate, start)) {
+            Ok(handle) => {
+                handles.push_reserved(handle);
+                true
+            }
+            Err(_) => false,
+        }
+    }
+
+    /// Starts a worker. False where no thread can be made.
+    fn start_worker(
+        &self,
+        start: WorkerStart<B, A>,
+        handles: &mut Vec<WorkerHandle<B, A>, A>,
+    ) -> bool
+        ensures { result ≡ true → vec_len handles.new ≡ vec_len handles.old + 1 }
+    {
+        let (rt, service, gate) = (self.rt, self.service, self.gate);
+        if handles.reserve(1).is_err() {
+            return false;
+        }
+        let WorkerStart {
+            actor,
+            worker,
+            outlet,
+        } = start;
+        match self.scope.spawn_with(Works, move || {
+            worker_body(rt, service, actor, worker, gate, outlet)
+        }) {
+            Ok(handle) => {
+                handles.push_reserved(handle);
+                true
+            }
+            Err(_) => false,
+        }
+    }
+
+    /// Starts all workers, in order. False where a thread can't be made: then those before it have started.
+    pub(crate) fn start_workers(
+        &self,
+        starts: Vec<WorkerStart<B, A>, A>,
+        handles: &mut Vec<WorkerHandle<B, A>, A>,
+    ) -> bool
+        requires none { handles.old.items ≡ [] }
+        ensures { result ≡ true → vec_len handles.new ≡ vec_len starts }
+    {
+        for start in starts {
+            if !self.start_worker(start, handles) {
+                return false;
+            }
+        }
+        true
+    }
 }

@@ -76,7 +76,7 @@ pub mod stage {
 
 /// The router under its lock, and the actors that call it.
 pub mod service {
-    pub use gn_service::{Actor, Door, Hub, Mark, Next, Service, ServiceFault};
+    pub use gn_service::{Actor, Door, Hub, Mark, Next, Outgoing, Service, ServiceFault};
 }
 
 /// Links over memory and over TCP.
@@ -98,7 +98,7 @@ pub mod bodies {
 
 /// Runs of many threads, and their reports.
 pub mod run {
-    pub use gn_run::{LinkReport, Report};
+    pub use gn_report::{LinkReport, Report};
     pub use gn_serve::{ServeFault, Serving, Stop, serve_history, serve_kept, serve_on};
     pub use gn_threads::{Arrivals, RunFault, Stopped, run, run_arriving, run_arriving_kept};
 }

@@ -1,5 +1,6 @@
 //! Runs over memory links that fail, are cut, come slowly or never end, row by row.
 
+use super::endless::EndlessLink;
 use super::slow::SlowLink;
 use super::{Left, READER, WRITER, run_over};
 use crate::runs::{plain_links, run_of};
@@ -243,8 +244,8 @@ fn each_row_leaves_what_it_must(rt: HostRuntime) -> Result<(), Fail> {
     Ok(())
 }
 
-/// A million zero bytes, which are all that a run reads one by one, are 43,478 Pings with TTL 0 and one ID, and six bytes
-/// more. The first is answered, if its Pong is taken before the reader closes.
+/// A million zero bytes are 43,478 Pings with TTL 0 and one ID, and six bytes more. The first is answered, if its Pong is
+/// taken before the reader closes.
 const ENDLESS: Row = Row {
     role: Role::Plain,
     bytes: b"",
@@ -263,11 +264,8 @@ fn a_link_without_end_is_closed(rt: HostRuntime) -> Result<(), Fail> {
     let alloc = rt.alloc();
     let mut pong = OWN_PONG.to_vec(alloc)?;
     pong[..16].fill(0);
-    // a run doesn't come to the end of these, so that to it they have none
-    let bytes = vec![in alloc; 0u8; 1_000_100]?;
-    let link = SlowLink {
-        link: MemoryLink::new(Role::Plain, bytes, 1),
-        stalls: false,
+    let link = EndlessLink {
+        link: MemoryLink::new(Role::Plain, Vec::new(alloc), 1),
     };
     let (left, written) = run_over(&rt, alloc, &usual(1_000_000)?, link)?;
     assert!(rt; is_found(&left, written.as_slice(), &ENDLESS, pong.as_slice(), 0));

@@ -15,6 +15,17 @@ pub(super) struct SlowWriter {
 }
 
 impl SlowWriter {
+    /// Passes on to this writer what it is given, one byte of each piece.
+    pub(super) fn new(writer: MemoryWriter, stalls: bool) -> Self
+        ensures { result ≡ record { writer = writer; stalls = stalls; is_stuck = false } }
+    {
+        SlowWriter {
+            writer,
+            stalls,
+            is_stuck: false,
+        }
+    }
+
     /// What was written, for keeps.
     pub(super) fn into_bytes(self) -> Vec<u8> {
         self.writer.into_bytes()
@@ -33,17 +44,15 @@ impl LinkWriter for SlowWriter {
 
     ghost use Rattle.std.specs.Prelude.{true};
 
-    ghost is_known = { true };
-
     ghost made_of = { λ w. w.writer.link };
 
-    ghost bytes_written = { λ w. w.writer.bytes };
-
-    ghost failures = { λ w. w.writer.failures };
-
-    ghost is_stuck = { λ w. w.is_stuck };
-
-    ghost is_finished = { λ w. w.writer.is_finished };
+    ghost state = { λ w. record {
+      is_known = true;
+      bytes = w.writer.bytes;
+      failures = w.writer.failures;
+      is_stuck = w.is_stuck;
+      is_finished = w.writer.is_finished;
+    } };
 
     fn write<R: Wait>(&mut self, rt: &R, piece: &[u8]) -> Result<usize, LinkFault> {
         if self.stalls {
@@ -90,11 +99,6 @@ impl Link for SlowLink {
     fn split(self) -> Result<(MemoryReader, SlowWriter), LinkFault> {
         let SlowLink { link, stalls } = self;
         let (reader, writer) = link.split()?;
-        let writer = SlowWriter {
-            writer,
-            stalls,
-            is_stuck: false,
-        };
-        Ok((reader, writer))
+        Ok((reader, SlowWriter::new(writer, stalls)))
     }
 }

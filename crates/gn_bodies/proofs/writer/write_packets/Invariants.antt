@@ -9,5 +9,5 @@ invariant-loop g l = record {
   number : l.me.number ≡ l.initial.me.number;
   made : g.W.LinkWriter.made_of l.writer ≡ g.W.LinkWriter.made_of l.initial.writer;
   takes : AreTakes l.fn.c l.me;
-  bytes : g.W.LinkWriter.is_known ≡ true → g.W.LinkWriter.bytes_written l.writer ≡ concat (texts l.fn.role (packets_of l.me));
+  bytes : (g.W.LinkWriter.state l.writer).is_known ≡ true → (g.W.LinkWriter.state l.writer).bytes ≡ concat (texts l.fn.role (packets_of l.me));
 }

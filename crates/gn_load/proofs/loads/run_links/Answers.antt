@@ -7,7 +7,7 @@ use Rattle.gn_load.specs.declared.fault.LoadFault.TheVariants.{Run}
 use Rattle.gn_load.specs.Faults.{IsRunLoadFault}
 use Rattle.gn_load.specs.Loads.{IsLoadText, load_of}
 use Rattle.gn_load.proofs.FewLemmas.{few_links}
-use Rattle.gn_load.proofs.LoadLemmas.{halves_made, held, history_printed, made_of, none_split, on_err, refused_run}
+use Rattle.gn_load.proofs.LoadLemmas.{halves_made, history_printed, made_of, none_split, on_err, refused_run}
 use Rattle.gn_load.proofs.loads.run_links.Goals as goal
 
 pub run-requires-clause-few : goal.run-requires-clause-few
@@ -34,8 +34,7 @@ returns-clause-history g c =
     subst (λ text. IsLoadText g.row.A.Denot c.args.workers text (history_text config report.history.items)) c.deref.ensures.value
     (history_printed c.deref.result.now c.in_ok-capture.capture c.args.workers links report c.in_ok-capture.ensures.read
     (made_of c.deref-2.result.now c.in_ok-capture.capture.lines.items _ c.deref-2.ensures.value c.in_ok-links.ensures)
-    (held config links report ran.legal ran.counted ran.own ran.each.0 ran.links ran.others ran.routed ran.stats) ran.bytes (halves_made links report ran.made) ran.workers
-    ran.each.1)
+    ran.holds ran.bytes (halves_made links report ran.made) ran.workers)
 
 pub run-requires-send-K-Reader : goal.run-requires-send-K-Reader
 run-requires-send-K-Reader g c κs within = search (sendable, reader_send) depth 40

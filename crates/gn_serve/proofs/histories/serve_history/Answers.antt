@@ -1,6 +1,6 @@
 use Rattle.std.proofs.Common.{length, inr, subst}
 use Rattle.gn_load.specs.Printed.{IsPrintFault}
-use Rattle.gn_serve.proofs.HistoryLemmas.{held, kept_written, written, written_part}
+use Rattle.gn_serve.proofs.HistoryLemmas.{kept_written, written, written_part}
 use Rattle.gn_serve.proofs.histories.serve_history.Goals as goal
 
 pub returns-in-Ok-print_history-clause-written : goal.returns-in-Ok-print_history-clause-written
@@ -10,7 +10,7 @@ returns-in-Ok-print_history-clause-written g c =
     let calls = length c.args.peers.now in
     let report = c.in-Ok.report in
     written config calls c.args.accept report c.args.workers
-    (held config calls c.args.accept report ran.legal ran.counted ran.own ran.each.0 ran.links ran.others ran.routed ran.stats) ran.each.1 c.deref.result.now
+    ran.holds c.deref.result.now
     (g.W.Sink.state c.args.sink.now).written (g.W.Sink.state c.print_history.new.sink).written c.deref.ensures.value c.in-Ok-print_history.ensures.ok
 
 pub returns-in-Err-clause-stopped : goal.returns-in-Err-clause-stopped
@@ -29,7 +29,7 @@ returns-in-Err-Write-clause-stopped g c =
     let calls = length c.args.peers.now in
     let report = c.in-Ok.report in
     written_part config calls c.args.accept report c.args.workers
-    (held config calls c.args.accept report ran.legal ran.counted ran.own ran.each.0 ran.links ran.others ran.routed ran.stats) ran.each.1 c.deref.result.now
+    ran.holds c.deref.result.now
     (g.W.Sink.state c.args.sink.now).written (g.W.Sink.state c.print_history.new.sink).written c.deref.ensures.value c.in-Err-Write.ensures.err
 
 pub returns-clause-stopped : goal.returns-clause-stopped
@@ -39,5 +39,5 @@ returns-clause-stopped g c =
     let calls = length c.args.peers.now in
     let report = c.in-Ok.report in
     inr (written_part config calls c.args.accept report c.args.workers
-    (held config calls c.args.accept report ran.legal ran.counted ran.own ran.each.0 ran.links ran.others ran.routed ran.stats) ran.each.1 c.deref.result.now
+    ran.holds c.deref.result.now
     (g.W.Sink.state c.args.sink.now).written (g.W.Sink.state c.print_history.new.sink).written c.deref.ensures.value c.in-Err-NoMemory.ensures.err)

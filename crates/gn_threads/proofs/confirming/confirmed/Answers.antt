@@ -1,9 +1,8 @@
-use Rattle.std.proofs.Common.{◌≡◌, ◌<◌, ◌+◌, length, vec_len, sym, subst, arith}
+use Rattle.std.proofs.Common.{◌≡◌, ◌<◌, ◌+◌, length, vec_len, refl, sym, subst, arith}
 use Rattle.std.specs.Prelude.{IfSome}
-use Rattle.gn_run.specs.Actors.{actors}
-use Rattle.gn_run.specs.Ends.{is_settled}
-use Rattle.gn_run.specs.Flaw.{IsFlaw}
-use Rattle.gn_links.specs.Views.{reads_of, writes_of}
+use Rattle.gn_report.specs.Actors.{actors}
+use Rattle.gn_report.specs.Ends.{is_settled}
+use Rattle.gn_report.specs.Flaw.{IsFlaw}
 use Rattle.gn_threads.proofs.FaultLemmas.{least_below}
 use Rattle.gn_threads.proofs.HoldsLemmas.{flaw_below, links_hold, others_route, own_steps, routes_each_once}
 use Rattle.gn_threads.proofs.confirming.confirmed.Goals as goal
@@ -18,22 +17,22 @@ returns-in-None-clause-holds g c =
     let settled = subst (λ found. IsFlaw (is_settled it.history.items) roles it found) none.0 c.flaw-flaw.ensures.flaw in
     record {
       legal = legal;
-      counted = c.requires.counted;
+      counted = c.requires.counted.0;
       own = own_steps (is_settled it.history.items) roles it settled;
-      each = sym c.requires.roles;
-      links = links_hold s (reads_of g.Rd.LinkReader.is_known g.Rd.LinkReader.bytes_read g.Rd.LinkReader.failures g.Rd.LinkReader.pieces g.Rd.LinkReader.has_ended) (writes_of g.W.LinkWriter.is_known g.W.LinkWriter.bytes_written g.W.LinkWriter.failures g.W.LinkWriter.is_stuck g.W.LinkWriter.is_finished) roles it legal settled c.requires.readers c.requires.writers;
+      each = (sym c.requires.roles, omega (arith, it.workers.ok));
+      links = links_hold s g.Rd.LinkReader.state g.W.LinkWriter.state roles it legal settled c.requires.ends.readers c.requires.ends.writers;
       others = others_route roles it settled;
       routed = routes_each_once s roles it legal settled;
-      stats = c.requires.stats;
+      stats = c.requires.counted.1;
     }
 
-pub returns-in-None-clause-clean : goal.returns-in-None-clause-clean
-returns-in-None-clause-clean g c = (c.least.ensures.none c.in-None.is).1
+pub returns-in-None-clause-same : goal.returns-in-None-clause-same
+returns-in-None-clause-same g c = (refl, (c.least.ensures.none c.in-None.is).1)
 
 pub returns-in-Some-clause-fault : goal.returns-in-Some-clause-fault
 returns-in-Some-clause-fault g c =
     let it = c.args.report in
     let all : length c.args.roles.now + length c.args.roles.now + vec_len it.workers + 1 ≡ actors it = omega (arith, c.requires.roles) in
     let low = flaw_below (is_settled it.history.items) c.args.roles.now it c.flaw-flaw.result c.flaw-flaw.ensures.flaw in
-    let high = subst (λ n. IfSome c.args.suspect (λ a. a < n)) all c.requires.suspect in
-    subst (λ n. c.in-Some.actor < n) (sym all) (least_below c.flaw-flaw.result c.args.suspect c.in-Some.actor (actors it) low high c.in-Some.ensures.some)
+    let high = subst (λ n. IfSome c.args.unconfirmed (λ a. a < n)) all c.requires.unconfirmed in
+    subst (λ n. c.in-Some.actor < n) (sym all) (least_below c.flaw-flaw.result c.args.unconfirmed c.in-Some.actor (actors it) low high c.in-Some.ensures.some)

@@ -1,13 +1,12 @@
-use Rattle.std.proofs.Common.{◌≡◌, ℕ, List, length, map, take, ap, subst, sym, rules, ◌∙◌}
-use Rattle.std.specs.Prelude.{IfErr, IfOk}
+use Rattle.std.proofs.Common.{◌≡◌, length, map, ap, subst, sym, rules, ◌∙◌}
+use Rattle.std.specs.Prelude.{IfOk}
 use Rattle.std.specs.Vec.Iter.{into_iter_items}
 use Rattle.std.proofs.lemmas.List.{length-map}
 use Rattle.std.proofs.lemmas.Simd.{map-map}
 use Rattle.gn_rules.specs.Limits.{IsCrew}
-use Rattle.gn_links.specs.Views.{reads_of, writes_of}
-use Rattle.gn_threads.specs.Headline.{AreMadeOf, LinksHold, LinksReadOwn}
+use Rattle.gn_threads.specs.Headline.{AreMadeOf, Holds, LinksReadOwn}
 use Rattle.gn_threads.proofs.FaultLemmas.{err_without_peers, handed_on, not_bad_workers, split_is_fault}
-use Rattle.gn_threads.proofs.KeptLemmas.{all_come}
+use Rattle.gn_threads.proofs.JoinedLemmas.{all_come}
 use Rattle.gn_threads.proofs.runs.run.Goals as goal
 
 pub returns-in_err-split-clause-bad_workers : goal.returns-in_err-split-clause-bad_workers
@@ -23,11 +22,9 @@ returns-clause-fault g c =
     let many = length-map c.args.links.items g.K.Link.may_not_split ∙ sym (ap length (c.as_slice.ensures.value ∙ c.in_ok-split.ensures.roles) ∙ length-map c.args.links.items g.K.Link.role_of) in
     err_without_peers (map g.K.Link.may_not_split c.args.links.items) _ c.args.workers c.run_arriving.result many c.run_arriving.ensures.fault
 
-pub returns-clause-each : goal.returns-clause-each
-returns-clause-each g c = subst (λ n. IfOk c.run_arriving.result (λ report. (length report.links.items ≡ n) × (length report.workers.items ≡ c.args.workers))) (ap length (c.as_slice.ensures.value ∙ c.in_ok-split.ensures.roles) ∙ length-map c.args.links.items g.K.Link.role_of) c.run_arriving.ensures.each
-
-pub returns-clause-links : goal.returns-clause-links
-returns-clause-links g c = subst (λ roles. IfOk c.run_arriving.result (λ report. LinksHold (reads_of g.K.Reader.LinkReader.is_known g.K.Reader.LinkReader.bytes_read g.K.Reader.LinkReader.failures g.K.Reader.LinkReader.pieces g.K.Reader.LinkReader.has_ended) (writes_of g.K.Writer.LinkWriter.is_known g.K.Writer.LinkWriter.bytes_written g.K.Writer.LinkWriter.failures g.K.Writer.LinkWriter.is_stuck g.K.Writer.LinkWriter.is_finished) roles report)) (c.as_slice.ensures.value ∙ c.in_ok-split.ensures.roles) c.run_arriving.ensures.links
+pub returns-clause-holds : goal.returns-clause-holds
+returns-clause-holds g c =
+    subst (λ roles. IfOk c.run_arriving.result (λ report. Holds g.K.Reader.LinkReader.state g.K.Writer.LinkWriter.state c.args.config.now roles c.args.workers report)) (c.as_slice.ensures.value ∙ c.in_ok-split.ensures.roles) c.run_arriving.ensures.holds
 
 pub returns-clause-bytes : goal.returns-clause-bytes
 returns-clause-bytes g c =
@@ -35,7 +32,7 @@ returns-clause-bytes g c =
     let gives : into_iter_items c.into_iter.result ≡ c.in_ok-split.split.links.items = search rules in
     let many = ap length (c.as_slice.ensures.value ∙ c.in_ok-split.ensures.roles) ∙ length-map c.args.links.items g.K.Link.role_of in
     let first = all_come g.K.Link.origin_of c.args.links.items (map (λ link. g.K.Reader.LinkReader.made_of link.reader) (into_iter_items c.into_iter.result)) _ (ap (λ ls. map (λ link. g.K.Reader.LinkReader.made_of link.reader) ls) gives ∙ origins) many in
-    subst (λ sources. IfOk c.run_arriving.result (λ report. LinksReadOwn (reads_of g.K.Reader.LinkReader.is_known g.K.Reader.LinkReader.bytes_read g.K.Reader.LinkReader.failures g.K.Reader.LinkReader.pieces g.K.Reader.LinkReader.has_ended) sources report)) (ap (map g.K.Reader.LinkReader.gives) first ∙ map-map g.K.Reader.LinkReader.gives g.K.Link.origin_of c.args.links.items) c.run_arriving.ensures.bytes
+    subst (λ sources. IfOk c.run_arriving.result (λ report. LinksReadOwn g.K.Reader.LinkReader.state sources report)) (ap (map g.K.Reader.LinkReader.gives) first ∙ map-map g.K.Reader.LinkReader.gives g.K.Link.origin_of c.args.links.items) c.run_arriving.ensures.bytes
 
 pub returns-clause-made : goal.returns-clause-made
 returns-clause-made g c =
@@ -43,4 +40,4 @@ returns-clause-made g c =
     let gives : into_iter_items c.into_iter.result ≡ c.in_ok-split.split.links.items = search rules in
     let many = ap length (c.as_slice.ensures.value ∙ c.in_ok-split.ensures.roles) ∙ length-map c.args.links.items g.K.Link.role_of in
     let first = all_come g.K.Link.origin_of c.args.links.items (map (λ link. g.K.Reader.LinkReader.made_of link.reader) (into_iter_items c.into_iter.result)) _ (ap (λ ls. map (λ link. g.K.Reader.LinkReader.made_of link.reader) ls) gives ∙ origins) many in
-    subst (λ made. IfOk c.run_arriving.result (λ report. AreMadeOf g.K.Reader.LinkReader.made_of g.K.Writer.LinkWriter.made_of made made report)) first c.run_arriving.ensures.made
+    subst (λ made. IfOk c.run_arriving.result (λ report. AreMadeOf g.K.Reader.LinkReader.made_of g.K.Writer.LinkWriter.made_of made report)) first c.run_arriving.ensures.made

@@ -1,5 +1,0 @@
-use Rattle.std.proofs.Common.{[], refl}
-use Rattle.gn_bodies.proofs.reader.begin.Goals as goal
-
-pub returns-in-Plain-clause-taken : goal.returns-in-Plain-clause-taken
-returns-in-Plain-clause-taken g c = c.open.ensures.taken c.args.role [] (rw c.in-Plain.is refl)

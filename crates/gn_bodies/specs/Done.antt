@@ -1,0 +1,96 @@
+-- What the bodies of a link give back, and what they promise of it.
+use Rattle.std.specs.Prelude.{◌≡◌, ℕ, true, List, map, IfOk, OnOk, Option, None, Result}
+use Rattle.gn_wire.specs.Packet.{Packet}
+use Rattle.gn_rules.specs.declared.event.Event.{Event}
+use Rattle.gn_rules.specs.declared.receipt.Receipt.{Receipt}
+use Rattle.gn_shake.specs.declared.role.Role.{Role}
+use Rattle.gn_links.specs.Halves.{Source}
+use Rattle.gn_links.specs.Views.{IsReadFrom, ReadHalf, WrittenHalf}
+use Rattle.gn_bodies.specs.declared.ends.BodyFault.{BodyFault}
+use Rattle.gn_bodies.specs.declared.ends.ReaderEnd.{ReaderEnd}
+use Rattle.gn_bodies.specs.declared.ends.ReaderEnd.TheVariants.{ReadFailed}
+use Rattle.gn_bodies.specs.declared.ends.WriterEnd.{WriterEnd}
+use Rattle.gn_bodies.specs.declared.ends.WriterEnd.TheVariants.{WriteFailed}
+use Rattle.gn_bodies.specs.declared.reader.ReaderDone.{ReaderDone}
+use Rattle.gn_bodies.specs.declared.writer.WriterDone.{WriterDone}
+use Rattle.gn_bodies.specs.Events.{link_events_in}
+use Rattle.gn_laws.specs.Owners.{known_conn, packets_of}
+use Rattle.gn_bodies.specs.ReaderRows.{ReaderRow, SourceRow}
+use Rattle.gn_bodies.specs.Written.{IsHurt, WriterRow}
+
+-- a half of a link before its body began, and how the link begins
+pub record Half (H : Type 0) : Type 0 where
+  pub role : Role
+  pub half : H
+
+-- this half of a link of this role
+abbrev pub half_of : {H : Type 0} → Role → H → Half H
+half_of role half = record { role = role; half = half }
+
+-- a body as it ended: its receipts, its half or what the half says, and its end
+pub record Ended (A E H : Type 0) : Type 0 where
+  pub receipts : List (Receipt A)
+  pub half : H
+  pub end : Result E BodyFault
+
+-- the same body, with what its half says
+abbrev pub halved : {A E H T : Type 0} → (H → T) → Ended A E H → Ended A E T
+halved view body = record { receipts = body.receipts; half = view body.half; end = body.end }
+
+-- what a reader's end says of the connection, of the events except the routes, and of the half that was read
+pub record ReadsAs {A : Type 0} (role : Role) (end : ReaderEnd) (conn : Option ℕ) (events : List (Event A))
+    (half : ReadHalf) : Type 0 where
+  -- its events and its bytes are as the table of ends says, where the bytes are known
+  pub row : half.is_known ≡ true → ReaderRow role end conn events half.bytes
+  -- the half ended, failed, or gave bytes as often as may be, where the end says so
+  pub counts : SourceRow end half
+
+-- what a writer's end says of the packets that were taken, and of the half that was written
+pub record WritesAs (role : Role) (end : WriterEnd) (packets : List Packet) (half : WrittenHalf) : Type 0 where
+  -- what was written are the opening text and the packets, all or up to where a write failed, where the bytes are known
+  pub row : half.is_known ≡ true → WriterRow end role packets half.bytes
+  -- a write failed, or took nothing, where the end says so
+  pub hurt : end ≡ WriteFailed → IsHurt half
+
+-- a reader's receipts and its half are as its end says, where it has one
+abbrev pub ReaderKeeps : {A : Type 0} → Role → Ended A ReaderEnd ReadHalf → Type 0
+ReaderKeeps role body =
+    IfOk body.end (λ end.
+    ReadsAs role end (known_conn body.receipts) (link_events_in body.receipts) body.half)
+
+-- so are a writer's, and its half is finished
+abbrev pub WriterKeeps : {A : Type 0} → Role → Ended A WriterEnd WrittenHalf → Type 0
+WriterKeeps role body =
+    IfOk body.end (λ end. WritesAs role end (packets_of body.receipts) body.half) × (body.half.is_finished ≡ true)
+
+-- what the body of a reader promises of the half that it began with, where a half says this of itself and of the link that it
+-- was split from, and a reader of such a link is to give this
+pub record IsReaderDone {A Rd O : Type 0} (state : Rd → ReadHalf) (made_of : Rd → O) (gives : O → Source)
+    (link : Half Rd) (body : Ended A ReaderEnd Rd) : Type 0 where
+  -- its receipts and its half are as its end says
+  pub kept : ReaderKeeps link.role (halved state body)
+  -- it routed nothing where it didn't connect
+  pub alone : OnOk body.end (known_conn body.receipts ≡ None
+      → map (λ r. r.event) body.receipts ≡ link_events_in body.receipts)
+  -- the half that it gives back was split from the same link
+  pub made : made_of body.half ≡ made_of link.half
+  -- what was read are the bytes of that link, where they are known beforehand
+  pub own : IsReadFrom (gives (made_of link.half)) (state body.half)
+  -- a read failed only where one may
+  pub failed : IfOk body.end (λ end. end ≡ ReadFailed → (gives (made_of link.half)).may_fail ≡ true)
+
+-- what the body of a writer promises of the half that it began with
+pub record IsWriterDone {A W O : Type 0} (state : W → WrittenHalf) (made_of : W → O) (link : Half W)
+    (body : Ended A WriterEnd W) : Type 0 where
+  -- its receipts and its half are as its end says
+  pub kept : WriterKeeps link.role (halved state body)
+  -- the half that it gives back was split from the same link
+  pub made : made_of body.half ≡ made_of link.half
+
+-- a reader's body as it ended
+abbrev pub reader_ended : {Rd B A : Type 0} → ReaderDone Rd B A → Ended A ReaderEnd Rd
+reader_ended done = record { receipts = done.actor.receipts; half = done.reader; end = done.end }
+
+-- a writer's body as it ended
+abbrev pub writer_ended : {W L A : Type 0} → WriterDone W L A → Ended A WriterEnd W
+writer_ended done = record { receipts = done.actor.receipts; half = done.writer; end = done.end }

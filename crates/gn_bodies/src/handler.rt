@@ -1,0 +1,162 @@
+//! A reader at work: how it connects, admits descriptors, and puts their jobs.
+
+ghost use Rattle.std.specs.Prelude.{◌≡◌, ◌∷◌, ◌++◌, ◌<◌, [], ℕ, List, length, map, take, IfErr, IfOk, OnOk};
+ghost use Rattle.gn_rules.specs.declared.event.Event.TheVariants.{Admit};
+ghost use Rattle.gn_stage.specs.Jobs.{Queued};
+ghost use Rattle.gn_bodies.specs.declared.piece.Halt.TheVariants as halt;
+ghost use Rattle.gn_bodies.specs.Admitting.{
+  GoesOn,
+  HasOnlyConnected,
+  HasSameNumbers,
+  IsOwed,
+  IsSettled,
+  KeepsConnection,
+  StaysSettled,
+};
+ghost use Rattle.gn_bodies.specs.Events.{link_events};
+ghost use Rattle.gn_bodies.specs.ReaderRows.{WithClose};
+
+use crate::asking::{admit, close, connect, route};
+use crate::ends::BodyFault;
+use crate::piece::Halt;
+use gn_links::{Gate, Made};
+use gn_payload::Checked;
+use gn_rules::{ConnId, Refusal, RouterCore};
+use gn_service::{Actor, Service};
+use gn_stage::{Intake, Job, Site};
+use gn_wire::Descriptor;
+use std::alloc::{Allocator, Global};
+use std::marker::Model;
+use std::sync::Wait;
+use std::sync::ledger::Ledger;
+
+/// A reader at work: what it calls, its actor and its intake, and whether a job that was handed back was refused its route.
+#[derive(Drop)]
+pub(crate) struct ReaderHandler<
+    's,
+    G,
+    B: Site + Ledger,
+    C: RouterCore<A> + Drop,
+    A: Allocator + Copy = Global,
+> {
+    pub(crate) service: &'s Service<C, B, A>,
+    pub(crate) gate: &'s G,
+    pub(crate) alloc: A,
+    pub(crate) actor: Actor<B, A>,
+    pub(crate) intake: Intake<B, A>,
+    pub(crate) is_refused: bool,
+}
+
+impl<'s, G, B: Site + Ledger, C: RouterCore<A> + Drop, A: Allocator + Copy> Model
+    for ReaderHandler<'s, G, B, C, A> {
+    ghost use Rattle.gn_bodies.specs.Admitting.{Admitting};
+
+    ghost Value = { Admitting A };
+
+    ghost view = { λ h. record { actor = h.actor; intake = h.intake; is_refused = h.is_refused } };
+}
+
+impl<'s, G: Gate, B: Site + Ledger, C: RouterCore<A> + Drop, A: Allocator + Copy> ReaderHandler<
+    's,
+    G,
+    B,
+    C,
+    A,
+> {
+    /// Connects the link. The connection, or none where too many are live.
+    pub(crate) fn connect<R: Wait>(&mut self, rt: &R) -> Result<Option<ConnId>, BodyFault>
+        requires none { self.old.actor.receipts ≡ [] }
+        ensures numbers { HasSameNumbers self.old self.new }
+        ensures connected { IfOk result (λ made. HasOnlyConnected made self.new.actor) }
+        ensures settled { StaysSettled self.old self.new }
+    {
+        connect(rt, self.service, self.gate, &mut self.actor)
+    }
+
+    /// Admits a descriptor, and puts its job, or routes it where it is handed back.
+    fn admit<R: Wait>(&mut self, rt: &R, c: ConnId, descriptor: Descriptor<A>) -> Result<(), Halt>
+        ensures goes_on { GoesOn self.old self.new }
+        ensures ok { OnOk result (link_events self.new.actor ≡ link_events self.old.actor ++ Admit c descriptor ∷ []) }
+        ensures not_live { IfErr result (λ why. why ≡ halt.NotLive
+            → link_events self.new.actor ≡ link_events self.old.actor) }
+    {
+        match admit(rt, self.service, &mut self.actor, c, descriptor) {
+            Ok(Some(job)) => {
+                self.gate
+                    .made(self.actor.number(), Made::Admitted(job.ticket));
+                match self.put(rt, job) {
+                    Ok(()) => Ok(()),
+                    Err(fault) => Err(Halt::Stop(fault)),
+                }
+            }
+            Ok(None) => {
+                self.gate.made(self.actor.number(), Made::Busy);
+                Ok(())
+            }
+            Err(Refusal::NotLive) => Err(Halt::NotLive),
+            Err(refusal) => Err(Halt::Stop(BodyFault::from(refusal))),
+        }
+    }
+
+    /// Puts the job that was admitted last, or routes it where it is handed back. A route that is refused is marked.
+    fn put<R: Wait>(&mut self, rt: &R, job: Job<A>) -> Result<(), BodyFault>
+        ensures numbers { HasSameNumbers self.old self.new }
+        ensures connection { KeepsConnection self.old.actor self.new.actor }
+        ensures events { link_events self.new.actor ≡ link_events self.old.actor }
+        ensures settled { (before : List Queued) → IsOwed before job self.old → IsSettled before self.new }
+    {
+        let Err(back) = self.intake.put(rt, job) else {
+            return Ok(());
+        };
+        let Job { ticket, descriptor } = back;
+        match route(
+            rt,
+            self.service,
+            &mut self.actor,
+            ticket,
+            &Checked::new(descriptor),
+        ) {
+            Ok(()) => {
+                self.gate.made(self.actor.number(), Made::Routed);
+                Ok(())
+            }
+            Err(fault) => {
+                self.is_refused = true;
+                if fault.is_stop() {
+                    return Err(fault);
+                }
+                Ok(())
+            }
+        }
+    }
+
+    /// Admits these descriptors in order.
+    pub(crate) fn admit_all<R: Wait>(
+        &mut self,
+        rt: &R,
+        c: ConnId,
+        descriptors: Vec<Descriptor<A>, A>,
+    ) -> Result<(), Halt>
+        ensures goes_on { GoesOn self.old self.new }
+        ensures ok { OnOk result (link_events self.new.actor
+            ≡ link_events self.old.actor ++ map (Admit c) descriptors.items) }
+        ensures not_live { IfErr result (λ why. why ≡ halt.NotLive → (n : ℕ) × (n < length descriptors.items)
+            × (link_events self.new.actor ≡ link_events self.old.actor ++ map (Admit c) (take n descriptors.items))) }
+    {
+        for descriptor in descriptors {
+            if let Err(why) = self.admit(rt, c, descriptor) {
+                return Err(why);
+            }
+        }
+        Ok(())
+    }
+
+    /// Closes the connection, if it is still live.
+    pub(crate) fn close<R: Wait>(&mut self, rt: &R, c: ConnId) -> Result<(), BodyFault>
+        ensures goes_on { GoesOn self.old self.new }
+        ensures closed { WithClose c (link_events self.new.actor) (link_events self.old.actor) }
+    {
+        let link = self.actor.number();
+        close(rt, self.service, self.gate, &mut self.actor, link, c)
+    }
+}

@@ -1,0 +1,13 @@
+use Rattle.std.proofs.Common.{◌∙◌, Vec, ap, rules, sym}
+use Rattle.gn_rules.specs.declared.receipt.Receipt.{Receipt}
+use Rattle.gn_report.proofs.ReceiptLemmas.{at_house, at_worker}
+use Rattle.gn_report.proofs.report.Report.receipts_of.Goals as goal
+
+pub returns-then-place-n-3 : goal.returns-then-place-n-3
+returns-then-place-n-3 g c =
+    c.as_slice-then-place-n-3.ensures.value
+    ∙ ap (λ (v : Vec (Receipt _) _). v.items) c.index-then-place-n-3.ensures
+    ∙ sym (at_worker c.args.self.now _ c.args.actor _ (search rules) (search rules))
+
+pub returns-else-place-n-3 : goal.returns-else-place-n-3
+returns-else-place-n-3 g c = c.as_slice-else-place-n-3.ensures.value ∙ sym (at_house c.args.self.now c.args.actor (search rules))

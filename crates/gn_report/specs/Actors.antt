@@ -1,0 +1,45 @@
+-- The actors of a run of n links and V workers: actor k below n reads link k, actor n + k writes it, actor 2n + j is worker j, and actor
+-- 2n + V is the house, which started the run.
+use Rattle.std.specs.Prelude.{◌≡◌, ◌<◌, ◌+◌, ℕ, Bool, false, ◌||◌, not, List, [], ◌∷◌, ◌++◌, length, map, slice_index_or, Option, Some, None, Vec}
+use Rattle.std.specs.List.{list_all, slice_get}
+use Rattle.gn_rules.specs.declared.receipt.Receipt.{Receipt}
+use Rattle.gn_rules.specs.declared.receipt.Step.{Step}
+use Rattle.gn_shake.specs.declared.role.Role.{Role}
+use Rattle.gn_shake.specs.Roles.{is_calling}
+use Rattle.gn_rules.specs.Mine.{mine, step_of}
+use Rattle.gn_report.specs.declared.report.LinkReport.{LinkReport}
+use Rattle.gn_report.specs.declared.report.Report.{Report}
+
+-- how many actors a run has
+abbrev pub actors : {Rd W A : Type 0} → Report Rd W A → ℕ
+actors report = length report.links.items + length report.links.items + length report.workers.items + 1
+
+-- the receipts of each actor, in the order of the actors' numbers
+abbrev pub receipts_of : {Rd W A : Type 0} → Report Rd W A → List (List (Receipt A))
+receipts_of report =
+    map (λ link. link.reader_receipts.items) report.links.items ++ (
+    map (λ link. link.writer_receipts.items) report.links.items ++ (map (λ worker. worker.items) report.workers.items ++ report.house.items ∷ []))
+
+-- a receipt stands at its index: the step there is actor a's, with the receipt's event and reply
+pub record Stands {A : Type 0} (steps : List (Step A)) (a : ℕ) (r : Receipt A) : Type 0 where
+  pub within : r.index < length steps
+  pub is : (d : Step A) → slice_index_or steps r.index d ≡ step_of a r
+
+-- each actor's receipts are its own steps
+pub record AreOwn {Rd W A : Type 0} (report : Report Rd W A) : Type 0 where
+  pub reader : (k : ℕ) (d : LinkReport Rd W A) → k < length report.links.items
+      → (slice_index_or report.links.items k d).reader_receipts.items ≡ mine report.history.items k
+  pub writer : (k : ℕ) (d : LinkReport Rd W A) → k < length report.links.items
+      → (slice_index_or report.links.items k d).writer_receipts.items ≡ mine report.history.items (length report.links.items + k)
+  pub worker : (j : ℕ) (d : Vec (Receipt A) A) → j < length report.workers.items
+      → (slice_index_or report.workers.items j d).items ≡ mine report.history.items (length report.links.items + length report.links.items + j)
+  pub house : report.house.items ≡ mine report.history.items (length report.links.items + length report.links.items + length report.workers.items)
+
+-- whether a run waits for a reader before it ends: for those of links that don't call, or for each, where all links call
+abbrev pub waits_for : Bool → Option Role → Bool
+waits_for all_call (Some role) = all_call || not (is_calling role)
+waits_for all_call None = false
+
+-- whether actor a is a reader that the run waits for
+abbrev pub is_awaited : List Role → ℕ → Bool
+is_awaited roles a = waits_for (list_all is_calling roles) (slice_get roles a)

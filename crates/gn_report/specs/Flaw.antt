@@ -1,0 +1,83 @@
+-- What is compared of a report, actor by actor, and what is answered.
+use Rattle.std.specs.Prelude.{◌≡◌, ◌≤◌, ◌<◌, ◌+◌, ◌-◌, ℕ, Bool, true, nat_lt, List, length, reverse, slice_index_or, Option, Some, None, Vec, MatchBool, is_some}
+use Rattle.std.specs.List.{count_by, list_all}
+use Rattle.gn_rules.specs.declared.receipt.Receipt.{Receipt}
+use Rattle.gn_rules.specs.declared.receipt.Step.{Step}
+use Rattle.gn_rules.specs.History.{ticket_of}
+use Rattle.gn_rules.specs.Output.{queued}
+use Rattle.gn_shake.specs.declared.role.Role.{Role}
+use Rattle.gn_shake.specs.Roles.{is_calling}
+use Rattle.gn_bodies.specs.declared.ends.WriterEnd.TheVariants.{Drained}
+use Rattle.gn_rules.specs.Mine.{mine}
+use Rattle.gn_laws.specs.Owners.{is_readers, is_writers, packets_of}
+use Rattle.gn_report.specs.declared.report.LinkReport.{LinkReport}
+use Rattle.gn_report.specs.declared.report.Report.{Report}
+use Rattle.gn_report.specs.Actors.{actors}
+use Rattle.gn_report.specs.Ends.{conn_made, is_connect, is_reader_end, is_writer_end, may_close_first}
+
+-- what is compared of the reader of link k, whose writer is actor `writer`
+pub record ReaderConfirmed {Rd W A : Type 0} (steps : List (Step A)) (all_call : Bool) (k writer : ℕ) (role : Role) (link : LinkReport Rd W A) : Type 0 where
+  -- its receipts are its own steps
+  pub own : link.reader_receipts.items ≡ mine steps k
+  -- the link's connection is the one that its Connect made
+  pub conn : link.conn ≡ conn_made link.reader_receipts.items
+  -- its events are Connect, Admit and Close of the connection, and Route
+  pub events : list_all (λ r. is_readers link.conn r.event) link.reader_receipts.items ≡ true
+  -- it connected at most once
+  pub once : count_by (λ r. is_connect r.event) link.reader_receipts.items ≤ 1
+  -- its end goes with the connection, with the Close of it, and with the writer's end
+  pub end : is_reader_end steps writer (may_close_first all_call role link.writer_end) link.reader_receipts.items link.reader_end link.conn ≡ true
+
+-- what is compared of the writer of a link, which is actor a
+pub record WriterConfirmed {Rd W A : Type 0} (settled : ℕ → Bool) (roles : List Role) (steps : List (Step A)) (a : ℕ) (role : Role) (link : LinkReport Rd W A) : Type 0 where
+  -- its receipts are its own steps
+  pub own : link.writer_receipts.items ≡ mine steps a
+  -- its events are Take and Close of the connection
+  pub events : list_all (λ r. is_writers link.conn r.event) link.writer_receipts.items ≡ true
+  -- its end goes with the connection and with the Close of it
+  pub end : is_writer_end settled roles steps a role link.writer_receipts.items link.writer_end link.conn ≡ true
+
+-- what is compared of a worker, which is actor a
+pub record WorkerConfirmed {A : Type 0} (steps : List (Step A)) (a : ℕ) (receipts : List (Receipt A)) : Type 0 where
+  -- its receipts are its own steps
+  pub own : receipts ≡ mine steps a
+  -- its events are Route
+  pub events : list_all (λ r. is_some (ticket_of r.event)) receipts ≡ true
+
+-- what is compared of the house, which is the last actor, a: also what no other actor is named for
+pub record HouseConfirmed {A : Type 0} (settled : ℕ → Bool) (steps : List (Step A)) (a : ℕ) (receipts : List (Receipt A)) : Type 0 where
+  -- its receipts are its own steps
+  pub own : receipts ≡ mine steps a
+  -- its events are Route
+  pub events : list_all (λ r. is_some (ticket_of r.event)) receipts ≡ true
+  -- no step is of an actor that the run doesn't have
+  pub only : list_all (λ step. nat_lt step.actor (a + 1)) steps ≡ true
+  -- each admitted ticket is routed: nothing is in flight at the end
+  pub tickets : settled (length steps) ≡ true
+
+-- what is compared of actor a. `settled` says after how many steps nothing is in flight
+abbrev pub IsConfirmed : {Rd W A : Type 0} → (ℕ → Bool) → List Role → Report Rd W A → ℕ → Type 0
+IsConfirmed {Rd} {W} {A} settled roles report a =
+    let steps = report.history.items in
+    let links = report.links.items in
+    let workers = report.workers.items in
+    let n = length links in
+    MatchBool (nat_lt a n)
+    ((r : Role) (d : LinkReport Rd W A) → ReaderConfirmed steps (list_all is_calling roles) a (n + a) (slice_index_or roles a r) (slice_index_or links a d))
+    (MatchBool (nat_lt a (n + n))
+    ((r : Role) (d : LinkReport Rd W A) → WriterConfirmed settled roles steps a (slice_index_or roles (a - n) r) (slice_index_or links (a - n) d))
+    (MatchBool (nat_lt a (n + n + length workers))
+    ((d : Vec (Receipt A) A) → WorkerConfirmed steps a (slice_index_or workers (a - (n + n)) d).items)
+    (HouseConfirmed settled steps a report.house.items)))
+
+-- the answer to a report: none where all actors are confirmed, else the least one that isn't
+abbrev pub IsFlaw : {Rd W A : Type 0} → (ℕ → Bool) → List Role → Report Rd W A → Option ℕ → Type 0
+IsFlaw settled roles report None = (a : ℕ) → a < actors report → IsConfirmed settled roles report a
+IsFlaw settled roles report (Some a) =
+    (a < actors report) × (¬ (IsConfirmed settled roles report a)) × ((k : ℕ) → k < a → IsConfirmed settled roles report k)
+
+-- where the writer of link k ended Drained, it took all packets that were ever queued to the link's connection
+abbrev pub TookAll : {Rd W A : Type 0} → Report Rd W A → ℕ → Type 0
+TookAll {Rd} {W} {A} report k =
+    (d : LinkReport Rd W A) (c : ℕ) → (slice_index_or report.links.items k d).writer_end ≡ Drained → (slice_index_or report.links.items k d).conn ≡ Some c
+    → packets_of (slice_index_or report.links.items k d).writer_receipts.items ≡ queued (reverse report.history.items) c

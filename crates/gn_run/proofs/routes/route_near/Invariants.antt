@@ -1,5 +1,0 @@
-use Rattle.gn_run.specs.Routes.{RoutesNotNear}
-use Rattle.gn_run.proofs.routes.route_near.Given as goal
-
-abbrev pub invariant-loop-apart : goal.invariant-loop-apart
-invariant-loop-apart g l = RoutesNotNear l.t l.steps l.near l.apart

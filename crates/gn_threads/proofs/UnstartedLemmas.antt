@@ -1,0 +1,28 @@
+-- Unstarted, one for each role, and the threads that were started from them.
+use Rattle.std.proofs.Common.{◌≡◌, ◌<◌, ◌+◌, ◌++◌, ◌∷◌, ℕ, List, [], length, map, take, get_or, ap, sym, ◌∙◌}
+use Rattle.std.proofs.lemmas.List.{append_assoc, length-map, map-append, take_more}
+use Rattle.std.proofs.Math.Seq.{take-append_seam}
+use Rattle.std.proofs.lemmas.Simd.{map-map}
+
+-- with one more, they are those of one role more
+pub one_more_role : {P X : Type 0} (role : P → X) (before after : List P) (p : P) (roles : List X) (k : ℕ) (d : X) → after ≡ before ++ p ∷ []
+    → k < length roles → role p ≡ get_or roles k d → map role before ≡ take k roles → map role after ≡ take (k + 1) roles
+one_more_role role before after p roles k d is below here so =
+    ap (λ ps. map role ps) is ∙ map-append role before (p ∷ []) ∙ ap (λ rs. rs ++ role p ∷ []) so ∙ ap (λ r. take k roles ++ r ∷ []) here ∙ sym (take_more roles k d below)
+
+-- with one thread more, the roles are those of one start more
+pub one_more_start : {H S X : Type 0} (start : H → S) (role : S → X) (before after : List H) (s : S) (r : X) → map start after ≡ map start before ++ s ∷ [] → role s ≡ r
+    → map (λ h. role (start h)) after ≡ map (λ h. role (start h)) before ++ r ∷ []
+one_more_start start role before after s r one is =
+    sym (map-map role start after) ∙ ap (λ ss. map role ss) one ∙ map-append role (map start before) (s ∷ []) ∙ ap (λ rs. rs ++ role s ∷ []) (map-map role start before) ∙ ap (λ x. map (λ h. role (start h)) before ++ x ∷ []) is
+
+-- with one thread more, and one link fewer to come, the links are the same
+pub one_more_come : {H S O : Type 0} (start : H → S) (made : S → O) (before after : List H) (s : S) (o : O) (old new : List O) → map start after ≡ map start before ++ s ∷ [] → made s ≡ o
+    → old ≡ o ∷ new → map (λ h. made (start h)) after ++ new ≡ map (λ h. made (start h)) before ++ old
+one_more_come start made before after s o old new one is head =
+    ap (λ os. os ++ new) (one_more_start start made before after s o one is) ∙ append_assoc (map (λ h. made (start h)) before) (o ∷ []) new ∙ ap (λ os. map (λ h. made (start h)) before ++ os) (sym head)
+
+-- those that have come are the first of those that were to come
+pub first_come : {H O : Type 0} (made : H → O) (hs : List H) (left all : List O) (n : ℕ) → map made hs ++ left ≡ all → length hs ≡ n → map made hs ≡ take n all
+first_come made hs left all n whole many =
+    sym (take-append_seam (map made hs) left) ∙ ap (λ k. take k (map made hs ++ left)) (length-map hs made ∙ many) ∙ ap (take n) whole
