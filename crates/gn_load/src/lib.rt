@@ -6,10 +6,8 @@ mod gathered;
 mod links;
 mod loads;
 mod printed;
-mod watch;
 
 pub use fault::LoadFault;
 pub use links::links_of;
 pub use loads::{load, load_watched};
 pub use printed::{PrintFault, print_history};
-pub use watch::Watch;

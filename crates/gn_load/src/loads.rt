@@ -10,10 +10,9 @@ ghost use Rattle.gn_load.specs.Loads.{AppendsLoad, HasStopped, IsLoadText, load_
 use crate::fault::LoadFault;
 use crate::links::links_of;
 use crate::printed::{PrintFault, print_history};
-use crate::watch::Watch;
 use gn_capture::{Capture, read_capture};
 use gn_io::{Sink, Source, read_input};
-use gn_links::{MemoryReader, MemoryWriter, NoGate};
+use gn_links::{MemoryReader, MemoryWriter, NoGate, Watch};
 use gn_replay::ReplayFault;
 use gn_report::Report;
 use gn_rules::{Config, RouterCore};

@@ -10,7 +10,7 @@ use crate::reports::write_report;
 use crate::request::{Peer, Serving};
 use crate::text::write_text;
 use gn_io::Sink;
-use gn_load::Watch;
+use gn_links::Watch;
 use gn_router::TableRouter;
 use gn_rules::{Config, Numbers, Own};
 use gn_serve::{ServeFault, Stop, serve_history};

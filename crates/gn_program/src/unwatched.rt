@@ -1,8 +1,6 @@
 //! A load that nobody watches.
 
-use gn_links::Gate;
-use gn_load::Watch;
-use std::net::SocketAddr;
+use gn_links::{Gate, Watch};
 use std::sync::Wait;
 
 /// Tells a watch nothing of a run, and leaves it what the run made.
@@ -14,14 +12,6 @@ impl<'w, G> Gate for Unwatched<'w, G> {
 }
 
 impl<'w, G: Watch> Watch for Unwatched<'w, G> {
-    fn begin(&self, _links: usize) {}
-
-    fn open(&self, _steps: u32) {}
-
-    fn came(&self, _link: u32, _peer: SocketAddr) {}
-
-    fn end(&self) {}
-
     fn leave<T: Drop>(&self, rest: T) {
         self.0.leave(rest);
     }

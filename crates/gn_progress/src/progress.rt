@@ -1,9 +1,10 @@
 //! The gate of a run that says how far the run is.
 
 use crate::counts::{Counts, Seen};
-use gn_links::{Gate, Half, Made};
+use gn_links::{Gate, Half, Made, Watch};
 use std::alloc::{AllocError, Allocator};
 use std::io::{IsTerminal, Stderr, Write};
+use std::mem::ManuallyDrop;
 use std::net::SocketAddr;
 use std::sync::Wait;
 use std::sync::atomic::{AtomicBool, AtomicU32, AtomicU64, Ordering};
@@ -82,30 +83,6 @@ impl<'r, R: Clock + AllocGlobal> Progress<'r, R> {
             most: AtomicU32::new(0),
             due: AtomicU64::new(1),
             is_open: AtomicBool::new(false),
-        }
-    }
-
-    /// So many links are loaded.
-    pub fn begin(&self, links: usize) {
-        self.counts.set_links(links);
-        self.look();
-    }
-
-    /// A router serves, whose history has at most so many steps.
-    pub fn open(&self, steps: u32) {
-        self.most.store(steps, Ordering::SeqCst);
-    }
-
-    /// A link of a serve has come.
-    pub fn came(&self, link: u32, peer: SocketAddr) {
-        self.counts.add_link();
-        self.write_text(self.came_line(link, peer));
-    }
-
-    /// The run has ended: on a terminal the last line is left.
-    pub fn end(&self) {
-        if self.is_open.swap(false, Ordering::SeqCst) {
-            let _ = (&self.out).write_all(b"\n");
         }
     }
 
@@ -247,5 +224,33 @@ impl<'r, R: Clock + AllocGlobal> Gate for Progress<'r, R> {
         if self.most.load(Ordering::SeqCst) != 0 {
             self.write_text(self.ended_line(link, half));
         }
+    }
+}
+
+impl<'r, R: Clock + AllocGlobal> Watch for Progress<'r, R> {
+    fn begin(&self, links: usize) {
+        self.counts.set_links(links);
+        self.look();
+    }
+
+    fn open(&self, steps: u32) {
+        self.most.store(steps, Ordering::SeqCst);
+    }
+
+    fn came(&self, link: u32, peer: SocketAddr) {
+        self.counts.add_link();
+        self.write_text(self.came_line(link, peer));
+    }
+
+    /// On a terminal the last line is left.
+    fn end(&self) {
+        if self.is_open.swap(false, Ordering::SeqCst) {
+            let _ = (&self.out).write_all(b"\n");
+        }
+    }
+
+    /// The process ends then, and the system takes all its memory back at once.
+    fn leave<T: Drop>(&self, rest: T) {
+        let _left = ManuallyDrop::new(rest);
     }
 }

@@ -9,8 +9,7 @@ ghost use Rattle.gn_serve.specs.Links.{roles_of};
 
 use crate::serving::Serving;
 use crate::stops::{Stops, call_own};
-use gn_links::{Link, LinkFault};
-use gn_load::Watch;
+use gn_links::{Link, LinkFault, Watch};
 use gn_rules::MOST_LINKS;
 use gn_shake::Role;
 use gn_tcp::{TcpLink, TcpOrigin, TcpReader, TcpWriter};

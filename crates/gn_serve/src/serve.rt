@@ -15,7 +15,7 @@ use crate::peers::{Peers, roles_of};
 use crate::serving::Serving;
 use crate::stop::Stop;
 use crate::stops::Stops;
-use gn_load::Watch;
+use gn_links::Watch;
 use gn_report::Report;
 use gn_rules::{Config, RouterCore};
 use gn_tcp::{TcpReader, TcpWriter};

@@ -58,7 +58,7 @@ pub mod laws {
 pub mod router {
     pub use gn_legal::legal;
     pub use gn_plain::PlainRouter;
-    pub use gn_router::TableRouter;
+    pub use gn_router::{TableRouter, Unfreed};
 }
 
 /// The tables of a router.
@@ -133,7 +133,8 @@ pub mod show {
 
 /// The links of a capture, run by many threads.
 pub mod load {
-    pub use gn_load::{LoadFault, PrintFault, Watch, links_of, load, load_watched, print_history};
+    pub use gn_links::Watch;
+    pub use gn_load::{LoadFault, PrintFault, links_of, load, load_watched, print_history};
 }
 
 /// A whole command line of `gn`.

@@ -10,7 +10,7 @@ use std::mem::ManuallyDrop;
 /// A router that isn't taken apart when it is done with. The process ends then, and the system takes all its memory back at
 /// once; freeing a history step by step takes a good part of the time of making it.
 #[derive(Drop)]
-pub(crate) struct Unfreed<C> {
+pub struct Unfreed<C> {
     router: ManuallyDrop<C>,
 }
 

@@ -1,0 +1,26 @@
+//! Who watches a run while it goes on.
+
+use crate::gate::{Gate, NoGate};
+use std::net::SocketAddr;
+
+/// A gate that learns when the run of a load begins, or that of a serve, and when it has ended; it is left what a load made.
+pub trait Watch: Gate {
+    /// So many links are loaded next.
+    fn begin(&self, _links: usize) {}
+
+    /// A router serves next, whose links come one by one, and whose history has at most so many steps.
+    fn open(&self, _steps: u32) {}
+
+    /// A link of a serve has come: the peer at this address called, or was called.
+    fn came(&self, _link: u32, _peer: SocketAddr) {}
+
+    /// The run has ended, well or not, or there is none.
+    fn end(&self) {}
+
+    /// Lets go of what a load has made once its history is written.
+    fn leave<T: Drop>(&self, rest: T) {
+        drop(rest);
+    }
+}
+
+impl Watch for NoGate {}
