@@ -2,7 +2,7 @@
 #![tactic(auto)]
 
 mod fault;
-mod gathered;
+mod link_input;
 mod links;
 mod loads;
 mod printed;

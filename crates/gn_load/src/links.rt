@@ -4,7 +4,7 @@ ghost use Rattle.std.specs.Prelude.{◌≡◌, ◌++◌, ◌∷◌, [], MatchRes
 ghost use Rattle.gn_text.specs.Faults.{IsRead, IsRefused};
 ghost use Rattle.gn_load.specs.Links.{given, line_taken, links_from};
 
-use crate::gathered::Gathered;
+use crate::link_input::LinkInput;
 use gn_capture::Line;
 use gn_links::MemoryLink;
 use gn_shake::Role;
@@ -14,7 +14,7 @@ use std::alloc::{AllocError, Allocator};
 /// Gives link i, counted from 1, its next bytes. A link that isn't there is given nothing.
 #[tactic(auto, using(std::proofs::lemmas::List::set_past))]
 fn give<A: Allocator + Copy>(
-    links: &mut Vec<Gathered<A>, A>,
+    links: &mut Vec<LinkInput<A>, A>,
     i: u32,
     bytes: &[u8],
 ) -> Result<(), AllocError>
@@ -30,7 +30,7 @@ fn give<A: Allocator + Copy>(
 /// Does what a line says: it makes a link, or gives one its next bytes.
 fn take_line<A: Allocator + Copy>(
     alloc: A,
-    links: &mut Vec<Gathered<A>, A>,
+    links: &mut Vec<LinkInput<A>, A>,
     number: u64,
     line: &Line<A>,
 ) -> Result<(), CaptureRefusal>
@@ -38,8 +38,8 @@ fn take_line<A: Allocator + Copy>(
         (λ refusal. IsRefused refusal (line_taken links.old.items (number, line.now))) }
 {
     match line {
-        Line::Join => links.push(Gathered::new(alloc, Role::Plain))?,
-        Line::Greeted => links.push(Gathered::new(alloc, Role::Accepting))?,
+        Line::Join => links.push(LinkInput::new(alloc, Role::Plain))?,
+        Line::Greeted => links.push(LinkInput::new(alloc, Role::Accepting))?,
         Line::Piece { link, bytes } => give(links, *link, bytes.as_slice())?,
         _ => return Err(CaptureRefusal::at(number, Cause::Load)),
     }
@@ -47,10 +47,10 @@ fn take_line<A: Allocator + Copy>(
 }
 
 /// The links that lines make, each with all its bytes.
-fn gather<A: Allocator + Copy>(
+fn read_links<A: Allocator + Copy>(
     alloc: A,
     lines: &[(u64, Line<A>)],
-) -> Result<Vec<Gathered<A>, A>, CaptureRefusal>
+) -> Result<Vec<LinkInput<A>, A>, CaptureRefusal>
     ensures { IsRead (λ v. v.items) result (links_from [] lines.now) }
 {
     let mut links = Vec::new(alloc);
@@ -70,8 +70,8 @@ pub fn links_of<A: Allocator + Copy>(
     ensures { IsRead (λ v. v.items) result (links_from [] lines.now) }
 {
     let mut links = Vec::new(alloc);
-    for gathered in gather(alloc, lines)? {
-        links.push(gathered.into_link())?;
+    for link_input in read_links(alloc, lines)? {
+        links.push(link_input.into_link())?;
     }
     Ok(links)
 }

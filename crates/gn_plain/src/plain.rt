@@ -2,7 +2,7 @@
 
 ghost use Rattle.std.specs.Prelude.{◌≡◌, ◌≤◌, ◌++◌, ◌∷◌, [], Ok, length, reverse, IfOk, OnErr, OnOk};
 ghost use Rattle.gn_rules.specs.declared.config.Config.{Config};
-ghost use Rattle.gn_plain.specs.Kept.{IsKept};
+ghost use Rattle.gn_plain.specs.Invariant.{IsKept};
 
 use crate::counting::stats_in;
 use crate::flying::follow;
@@ -24,7 +24,7 @@ pub struct PlainRouter<A: Allocator + Copy = Global> {
 }
 
 impl<A: Allocator + Copy> Model for PlainRouter<A> {
-    ghost use Rattle.gn_plain.specs.Kept.{IsKept};
+    ghost use Rattle.gn_plain.specs.Invariant.{IsKept};
     ghost use Rattle.gn_rules.specs.Kept.{Kept};
 
     ghost Value = { Kept A };

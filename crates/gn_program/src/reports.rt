@@ -14,7 +14,7 @@ use std::net::SocketAddr;
 
 /// What the router did for a link.
 #[derive(Clone, Copy, Debug)]
-struct Tally {
+struct EventCounts {
     /// Descriptors that the link brought.
     offered: u32,
     /// Those among them that were refused at the threshold.
@@ -23,7 +23,7 @@ struct Tally {
     taken: u32,
 }
 
-impl Tally {
+impl EventCounts {
     fn count(&mut self, receipts: &[Receipt]) {
         for receipt in receipts {
             match receipt.reply {
@@ -47,7 +47,7 @@ struct LinkLine {
     conn: Option<ConnId>,
     reader_end: ReaderEnd,
     writer_end: WriterEnd,
-    tally: Tally,
+    counts: EventCounts,
 }
 
 impl Display for LinkLine {
@@ -60,11 +60,11 @@ impl Display for LinkLine {
         let reader = reader_word(self.reader_end);
         let writer = writer_word(self.writer_end);
         write!(f, " reader {reader} writer {writer}")?;
-        let Tally {
+        let EventCounts {
             offered,
             busy,
             taken,
-        } = self.tally;
+        } = self.counts;
         writeln!(f, " offered {offered} busy {busy} taken {taken}")
     }
 }
@@ -93,20 +93,20 @@ fn writer_word(end: WriterEnd) -> &'static str {
 
 /// The line of this link.
 fn line_of(link: usize, report: &LinkReport<TcpReader<'_>, TcpWriter>) -> LinkLine {
-    let mut tally = Tally {
+    let mut counts = EventCounts {
         offered: 0,
         busy: 0,
         taken: 0,
     };
-    tally.count(&report.reader_receipts);
-    tally.count(&report.writer_receipts);
+    counts.count(&report.reader_receipts);
+    counts.count(&report.writer_receipts);
     LinkLine {
         link,
         peer: report.reader.peer(),
         conn: report.conn,
         reader_end: report.reader_end,
         writer_end: report.writer_end,
-        tally,
+        counts,
     }
 }
 

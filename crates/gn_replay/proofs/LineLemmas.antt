@@ -11,7 +11,7 @@ use Rattle.gn_replay.specs.Events.{Played, prints}
 use Rattle.gn_replay.specs.Links.{LinkState, ended, IsLink, AreLinks}
 use Rattle.gn_shake.specs.Shaking.{Shaking, shake_of}
 use Rattle.gn_shake.specs.Texts.{request_text}
-use Rattle.gn_replay.specs.Pieces.{Linked, awaits, takes_piece}
+use Rattle.gn_replay.specs.Pieces.{Linked, awaits, feeds_link}
 use Rattle.gn_replay.proofs.AdmitLemmas.{after_playing_nothing}
 use Rattle.gn_replay.specs.Playing.{Playing, HasLinked, HasPlayed, after_playing, with_links}
 use Rattle.gn_replay.specs.ReplayText.{After, event_plays, link_added, link_given, piece_plays, state_of, with_state}
@@ -84,20 +84,20 @@ played_link v between after link linked states done added are =
 
 -- what a piece of link i does, with the link at place n
 abbrev link_at_given : {A : Type 0} → Playing A → ℕ → ℕ → List ℕ → List LinkState → After A
-link_at_given v i n piece states = link_given states n (takes_piece v.settings v.past i piece (state_of states n))
+link_at_given v i n piece states = link_given states n (feeds_link v.settings v.past i piece (state_of states n))
 
 -- a piece of a link that is there
 pub played_piece : {A : Type 0} (v taken fed after : Playing A) (i at : ℕ) (piece : List ℕ) (link kept : Link A) (states : List LinkState)
     → i ≡ at + 1 → at < length v.links → link ≡ get_or v.links at link → taken ≡ with_links v (set v.links at keep.Ended)
-    → ((state : LinkState) → IsLink link state → HasLinked kept taken fed (takes_piece taken.settings taken.past i piece state))
+    → ((state : LinkState) → IsLink link state → HasLinked kept taken fed (feeds_link taken.settings taken.past i piece state))
     → after ≡ with_links fed (set fed.links at kept) → AreLinks v.links states
     → HasPlayed v after (piece_plays v.settings v.past states i piece)
 played_piece {A} v taken fed after i at piece link kept states place inside there out fed_is put are =
     let state = get_or states at ended in
     let found : IsLink link state = link_at v.links states at link are inside there in
-    let linked : Linked A = takes_piece v.settings v.past i piece state in
+    let linked : Linked A = feeds_link v.settings v.past i piece state in
     let done : HasLinked kept (with_links v (set v.links at keep.Ended)) fed linked =
-    subst (λ (w : Playing A). HasLinked kept w fed (takes_piece w.settings w.past i piece state)) out (fed_is state found) in
+    subst (λ (w : Playing A). HasLinked kept w fed (feeds_link w.settings w.past i piece state)) out (fed_is state found) in
     let left : fed.links ≡ set v.links at keep.Ended = ap (λ (w : Playing A). w.links) done.played in
     let there_now : after.links ≡ set fed.links at kept = ap (λ (w : Playing A). w.links) put in
     let now : after.links ≡ set v.links at kept =
@@ -125,7 +125,7 @@ played_none {A} v after i piece states outside printed are =
     let linked : Linked A = record { played = prints v.past (ended_text i); state = ended } in
     let all : HasPlayed v after (record { played = linked.played; links = with_state states i ended }) =
     subst (λ (ys : List LinkState). HasPlayed v after (record { played = linked.played; links = ys })) (sym none.1) (played_event v after linked.played states printed are) in
-    subst (λ (state : LinkState). HasPlayed v after (link_given states i (takes_piece v.settings v.past i piece state))) (sym none.0) all
+    subst (λ (state : LinkState). HasPlayed v after (link_given states i (feeds_link v.settings v.past i piece state))) (sym none.0) all
 
 pub ruleset lines = (played_event, played_link)
 

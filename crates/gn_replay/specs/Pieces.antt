@@ -91,8 +91,8 @@ greets s past i bytes Refused = record { played = prints past (greeting_refused_
 greets s past i bytes Done = connects s past i (drop (length request_text) bytes)
 
 -- a piece of link i, as the link stands
-abbrev pub takes_piece : {A : Type 0} → Config → List (Step A) → ℕ → List ℕ → LinkState → Linked A
-takes_piece s past i piece ended = record { played = prints past (ended_text i); state = ended }
-takes_piece s past i piece (greeting bytes) =
+abbrev pub feeds_link : {A : Type 0} → Config → List (Step A) → ℕ → List ℕ → LinkState → Linked A
+feeds_link s past i piece ended = record { played = prints past (ended_text i); state = ended }
+feeds_link s past i piece (greeting bytes) =
     greets s past i (bytes ++ piece) (greeting_state request_text (bytes ++ piece))
-takes_piece s past i piece (joined c bytes) = delivers s past i c bytes piece
+feeds_link s past i piece (joined c bytes) = delivers s past i c bytes piece

@@ -13,7 +13,7 @@ use Rattle.gn_capture.specs.declared.line.Line.TheVariants as line
 use Rattle.gn_capture.specs.Captures.{Parsed, capture_of}
 use Rattle.gn_replay.specs.Events.{Played, nothing, prints, followed, happens}
 use Rattle.gn_replay.specs.Links.{LinkState, ended}
-use Rattle.gn_replay.specs.Pieces.{Linked, awaits, joins, takes_piece}
+use Rattle.gn_replay.specs.Pieces.{Linked, awaits, joins, feeds_link}
 
 -- what a line did, and the links after it
 pub record After (A : Type 0) : Type 0 where
@@ -44,7 +44,7 @@ link_given links i given = record { played = given.played; links = with_state li
 
 -- a piece of link i
 abbrev pub piece_plays : {A : Type 0} → Config → List (Step A) → List LinkState → ℕ → List ℕ → After A
-piece_plays s past links i bytes = link_given links i (takes_piece s past i bytes (state_of links i))
+piece_plays s past links i bytes = link_given links i (feeds_link s past i bytes (state_of links i))
 
 -- what one line of a capture does, after these steps and with these links
 abbrev pub plays : {A : Type 0} → Config → List (Step A) → List LinkState → Line A → After A

@@ -9,7 +9,7 @@ ghost use Rattle.gn_replay.specs.Explained.{AppendsExplained, HasExplainedStoppe
 
 use crate::explanation::explained_text;
 use crate::fault::ReplayFault;
-use crate::verdict::audit_text;
+use crate::judged::audit_text;
 use gn_io::{Sink, Source, read_input, write_all};
 use gn_rules::{Legality, RouterCore};
 use std::alloc::Allocator;

@@ -6,8 +6,8 @@ ghost use Rattle.gn_text.specs.Parsed.{line_seen, parsed_of};
 ghost use Rattle.gn_capture.specs.Histories.{history_of};
 ghost use Rattle.gn_replay.specs.Explained.{IsAuditExplained, answer_line, explanation_text, lines_before, step_line_at};
 
+use crate::judged::{judge_text, verdict};
 use crate::judgement::{Answer, Judgement};
-use crate::verdict::{judge_text, verdict};
 use gn_rules::{Legality, RouterCore};
 use gn_text::{CaptureRefusal, NumberedLine, NumberedLines, push_refusal, push_reply};
 use std::alloc::{AllocError, Allocator};

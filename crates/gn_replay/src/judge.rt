@@ -7,8 +7,8 @@ ghost use Rattle.gn_capture.specs.Histories.{steps_left};
 ghost use Rattle.gn_replay.specs.Judgements.{IsFound};
 ghost use Rattle.gn_replay.specs.declared.judgement.Judgement.TheVariants.{Legal};
 
+use crate::given::add;
 use crate::judgement::{Answer, Judgement};
-use crate::kept::add;
 use gn_capture::HistorySteps;
 use gn_rules::{Event, Refusal, RouterCore};
 use gn_text::CaptureRefusal;

@@ -4,10 +4,11 @@
 mod audits;
 mod explanation;
 mod fault;
+mod given;
 mod histories;
 mod judge;
+mod judged;
 mod judgement;
-mod kept;
 mod laws;
 mod line;
 mod link;
@@ -16,7 +17,6 @@ mod piece;
 mod playing;
 mod replays;
 mod run;
-mod verdict;
 
 pub use audits::{audit, audit_explained};
 pub use fault::ReplayFault;

@@ -64,7 +64,7 @@ impl<A: Allocator + Copy, C: RouterCore<A>> Play<A, C> {
             return Ok(());
         };
         let link = self.take_link(at);
-        let kept = self.take_piece(i, link, piece)?;
+        let kept = self.feed_link(i, link, piece)?;
         self.put_link(at, kept);
         Ok(())
     }

@@ -7,7 +7,7 @@ ghost use Rattle.gn_replay.specs.declared.link.Link.TheVariants.{Greeting, Joine
 ghost use Rattle.gn_text.specs.Links.{ended_text};
 ghost use Rattle.gn_replay.specs.Events.{prints};
 ghost use Rattle.gn_replay.specs.Links.{IsLink, LinkState, greeting, joined};
-ghost use Rattle.gn_replay.specs.Pieces.{admits, connects, delivers, delivers_these, fault_plays, greets, joins, takes_piece};
+ghost use Rattle.gn_replay.specs.Pieces.{admits, connects, delivers, delivers_these, fault_plays, greets, joins, feeds_link};
 ghost use Rattle.gn_replay.specs.Playing.{HasAdmitted, HasLinked, after_playing};
 
 use crate::link::Link;
@@ -145,14 +145,14 @@ impl<A: Allocator + Copy, C: RouterCore<A>> Play<A, C> {
     }
 
     /// Takes a piece of link i.
-    pub(crate) fn take_piece(
+    pub(crate) fn feed_link(
         &mut self,
         i: u32,
         link: Link<A>,
         piece: &[u8],
     ) -> Result<Link<A>, AllocError>
         ensures { IfOk result (λ kept. (state : LinkState) → IsLink link state
-            → HasLinked kept self.old self.new (takes_piece self.old.settings self.old.past i piece.now state)) }
+            → HasLinked kept self.old self.new (feeds_link self.old.settings self.old.past i piece.now state)) }
     {
         match link {
             Link::Ended => {

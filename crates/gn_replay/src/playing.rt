@@ -9,7 +9,7 @@ ghost use Rattle.gn_replay.specs.Events.{happens};
 ghost use Rattle.gn_replay.specs.Outcomes.{IsOutcome};
 ghost use Rattle.gn_replay.specs.Playing.{after_playing, refused_more};
 
-use crate::kept::enter;
+use crate::given::enter;
 use crate::link::Link;
 use crate::outcome::Outcome;
 use gn_rules::{Event, Refusal, RouterCore};

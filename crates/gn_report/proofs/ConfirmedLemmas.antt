@@ -21,7 +21,7 @@ use Rattle.gn_laws.proofs.OwnerLemmas.{links_agree}
 use Rattle.gn_report.specs.declared.report.LinkReport.{LinkReport}
 use Rattle.gn_report.specs.declared.report.Report.{Report}
 use Rattle.gn_report.specs.Actors.{actors}
-use Rattle.gn_report.specs.Ends.{is_last_close, is_writer_end}
+use Rattle.gn_report.specs.BodyEnds.{is_last_close, is_writer_end}
 use Rattle.gn_report.proofs.ConnLemmas.{conn_is_known}
 use Rattle.gn_report.specs.Flaw.{HouseConfirmed, IsConfirmed, ReaderConfirmed, TookAll, WorkerConfirmed, WriterConfirmed}
 

@@ -20,7 +20,7 @@ use Rattle.gn_rules.specs.Mine.{mine, mine_from}
 use Rattle.gn_rules.proofs.AnswerLemmas.{answered}
 use Rattle.gn_rules.proofs.LiveLemmas.{decision_connects}
 use Rattle.gn_laws.specs.Owners.{known_conn}
-use Rattle.gn_report.specs.Ends.{conn_made, made_by}
+use Rattle.gn_report.specs.BodyEnds.{conn_made, made_by}
 
 -- an answered event makes the connection that its reply says
 answer_makes : {A : Type 0} (s : Config) (past : List (Step A)) (event : Event A) (reply : Reply A) → answer s past event ≡ Ok reply → made_by event reply ≡ connected_of reply

@@ -10,7 +10,7 @@ use Rattle.gn_shake.specs.declared.role.Role.{Role}
 use Rattle.gn_shake.specs.Roles.{is_calling}
 use Rattle.gn_report.specs.declared.report.LinkReport.{LinkReport}
 use Rattle.gn_report.specs.declared.report.Report.{Report}
-use Rattle.gn_report.specs.Ends.{is_settled}
+use Rattle.gn_report.specs.BodyEnds.{is_settled}
 use Rattle.gn_report.specs.Flaw.{HouseConfirmed, IsConfirmed, ReaderConfirmed, WorkerConfirmed, WriterConfirmed}
 use Rattle.gn_report.proofs.ConfirmedLemmas.{match_false, match_true}
 

@@ -11,7 +11,7 @@ use Rattle.gn_rules.specs.History.{admitted_of, is_at}
 use Rattle.gn_laws.specs.Runs.{EachIsRouted, is_admitted}
 use Rattle.gn_laws.proofs.RunLemmas.{none_flies}
 use Rattle.gn_report.specs.declared.routes.Reach.{Reach}
-use Rattle.gn_report.specs.Ends.{is_settled}
+use Rattle.gn_report.specs.BodyEnds.{is_settled}
 use Rattle.gn_report.specs.Routes.{IsReach, IsRouteAt, RoutesNotAt, RoutesNotNear}
 
 -- a test that the first n items pass is passed by the first m

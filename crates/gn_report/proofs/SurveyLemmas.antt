@@ -9,7 +9,7 @@ use Rattle.gn_rules.specs.declared.receipt.Step.{Step}
 use Rattle.gn_shake.specs.declared.role.Role.{Role}
 use Rattle.gn_report.specs.declared.report.LinkReport.{LinkReport}
 use Rattle.gn_report.specs.Actors.{is_awaited}
-use Rattle.gn_report.specs.Ends.{is_settled}
+use Rattle.gn_report.specs.BodyEnds.{is_settled}
 use Rattle.gn_report.specs.Survey.{AreSettled, IsDrainsCloseAt, IsReadUntil, is_drains_close}
 
 pub settled_there : {Rd W A : Type 0} (links : List (LinkReport Rd W A)) (steps : List (Step A)) (k : ℕ) → AreSettled links steps → IsDrainsCloseAt links steps k → is_settled steps k ≡ true

@@ -13,7 +13,7 @@ use Rattle.gn_laws.specs.Owners.{is_readers, is_writers, packets_of}
 use Rattle.gn_report.specs.declared.report.LinkReport.{LinkReport}
 use Rattle.gn_report.specs.declared.report.Report.{Report}
 use Rattle.gn_report.specs.Actors.{actors}
-use Rattle.gn_report.specs.Ends.{conn_made, is_connect, is_reader_end, is_writer_end, may_close_first}
+use Rattle.gn_report.specs.BodyEnds.{conn_made, is_connect, is_reader_end, is_writer_end, may_close_first}
 
 -- what is compared of the reader of link k, whose writer is actor `writer`
 pub record ReaderConfirmed {Rd W A : Type 0} (steps : List (Step A)) (all_call : Bool) (k writer : ℕ) (role : Role) (link : LinkReport Rd W A) : Type 0 where

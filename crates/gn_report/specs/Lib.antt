@@ -1,6 +1,6 @@
 pub mod Actors
 pub mod Closes
-pub mod Ends
+pub mod BodyEnds
 pub mod Flaw
 pub mod Routes
 pub mod Survey

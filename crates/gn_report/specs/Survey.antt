@@ -12,7 +12,7 @@ use Rattle.gn_report.specs.declared.report.LinkReport.{LinkReport}
 use Rattle.gn_report.specs.declared.report.Report.{Report}
 use Rattle.gn_report.specs.declared.survey.Survey.{Survey}
 use Rattle.gn_report.specs.Actors.{AreOwn, is_awaited}
-use Rattle.gn_report.specs.Ends.{is_settled}
+use Rattle.gn_report.specs.BodyEnds.{is_settled}
 
 -- whether an event is a Close, of whatever connection
 abbrev pub is_any_close : {A : Type 0} → Event A → Bool

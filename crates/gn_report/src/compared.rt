@@ -6,7 +6,7 @@ ghost use Rattle.gn_rules.specs.declared.config.Config.{Config};
 ghost use Rattle.gn_rules.specs.Legal.{IsLegal};
 ghost use Rattle.gn_rules.specs.Mine.{mine};
 ghost use Rattle.gn_report.specs.Actors as actors;
-ghost use Rattle.gn_report.specs.Ends as ends;
+ghost use Rattle.gn_report.specs.BodyEnds as ends;
 ghost use Rattle.gn_report.specs.Flaw.{HouseConfirmed, IsConfirmed, IsFlaw, ReaderConfirmed, TookAll, WorkerConfirmed, WriterConfirmed};
 ghost use Rattle.gn_report.specs.Survey.{IsSurvey};
 

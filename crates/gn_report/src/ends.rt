@@ -2,7 +2,7 @@
 
 ghost use Rattle.std.specs.Prelude.{◌≡◌, ℕ, Bool, Some, None, length};
 ghost use Rattle.std.specs.List.{list_any};
-ghost use Rattle.gn_report.specs.Ends as ends;
+ghost use Rattle.gn_report.specs.BodyEnds as ends;
 ghost use Rattle.gn_report.specs.Survey.{IsSurvey};
 
 use crate::closes::{Closer, has_close};

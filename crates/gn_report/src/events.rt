@@ -5,7 +5,7 @@ ghost use Rattle.std.specs.List.{count_by, list_all, list_any};
 ghost use Rattle.gn_rules.specs.History.{is_at, is_close, ticket_of};
 ghost use Rattle.gn_laws.specs.Owners.{is_readers, is_writers};
 ghost use Rattle.gn_rules.specs.History.{closed_of};
-ghost use Rattle.gn_report.specs.Ends as ends;
+ghost use Rattle.gn_report.specs.BodyEnds as ends;
 
 use gn_laws::{may_read, may_write};
 use gn_rules::{ConnId, Event, Receipt, Reply};

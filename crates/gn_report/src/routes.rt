@@ -3,7 +3,7 @@
 
 ghost use Rattle.std.specs.Prelude.{◌≡◌, ◌+◌, ◌<◌, false, true, length, IfNone, IfSome};
 ghost use Rattle.gn_rules.specs.Flight.{is_routed};
-ghost use Rattle.gn_report.specs.Ends.{is_settled};
+ghost use Rattle.gn_report.specs.BodyEnds.{is_settled};
 ghost use Rattle.gn_report.specs.Routes.{IsReach, IsRouteAt, RoutesNotAt, RoutesNotNear};
 ghost use Rattle.gn_report.specs.Survey.{AreSettled};
 

@@ -4,7 +4,7 @@ ghost use Rattle.std.specs.Prelude.{◌≡◌, not, true, drop};
 ghost use Rattle.std.specs.List.{list_all};
 ghost use Rattle.gn_shake.specs.Roles.{is_calling};
 ghost use Rattle.gn_report.specs.Actors as actors;
-ghost use Rattle.gn_report.specs.Ends as ends;
+ghost use Rattle.gn_report.specs.BodyEnds as ends;
 ghost use Rattle.gn_report.specs.Survey.{AreSettled, IsDrainsCloseAt, IsReadUntil, IsSurvey};
 ghost use Rattle.gn_report.specs.Survey as found;
 

@@ -25,7 +25,7 @@ use Rattle.gn_laws.proofs.RunLemmas.{settled_routes_all}
 use Rattle.gn_report.specs.declared.report.LinkReport.{LinkReport}
 use Rattle.gn_report.specs.declared.report.Report.{Report}
 use Rattle.gn_report.specs.Actors.{actors}
-use Rattle.gn_report.specs.Ends.{is_settled}
+use Rattle.gn_report.specs.BodyEnds.{is_settled}
 use Rattle.gn_report.specs.Flaw.{IsFlaw}
 use Rattle.gn_report.proofs.ConnLemmas.{conn_is_known}
 use Rattle.gn_report.proofs.ConfirmedLemmas.{compared, house_at, reader_at, took_all, worker_at, writer_at}

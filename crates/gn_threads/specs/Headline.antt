@@ -21,7 +21,7 @@ use Rattle.gn_laws.specs.Runs.{RoutesAll}
 use Rattle.gn_report.specs.declared.report.LinkReport.{LinkReport}
 use Rattle.gn_report.specs.declared.report.Report.{Report}
 use Rattle.gn_report.specs.Actors.{AreOwn, actors, receipts_of}
-use Rattle.gn_report.specs.Ends.{is_settled}
+use Rattle.gn_report.specs.BodyEnds.{is_settled}
 use Rattle.gn_report.specs.Flaw.{HouseConfirmed, ReaderConfirmed, WorkerConfirmed, WriterConfirmed}
 use Rattle.gn_links.specs.Views.{IsReadFrom, ReadHalf, WrittenHalf}
 use Rattle.gn_bodies.specs.Done.{ReadsAs, WritesAs}

@@ -8,11 +8,11 @@ use Rattle.gn_bodies.specs.declared.worker.WorkerDone.{WorkerDone}
 use Rattle.gn_report.specs.declared.report.LinkReport.{LinkReport}
 use Rattle.gn_report.specs.declared.report.Report.{Report}
 use Rattle.gn_bodies.specs.Done.{Ended}
-use Rattle.gn_threads.specs.declared.reported.HomedReader.{HomedReader}
+use Rattle.gn_threads.specs.declared.reported.ReaderResult.{ReaderResult}
 
 -- a reader's body as it ended, once its half of the stage went home
-abbrev pub reader_homed : {Rd L A : Type 0} → HomedReader Rd L A → Ended A ReaderEnd Rd
-reader_homed left = record { receipts = left.actor.receipts; half = left.reader; end = left.end }
+abbrev pub reader_result : {Rd L A : Type 0} → ReaderResult Rd L A → Ended A ReaderEnd Rd
+reader_result left = record { receipts = left.actor.receipts; half = left.reader; end = left.end }
 
 -- the body of a link's reader, as the link's report has it
 abbrev pub reader_reported : {Rd W A : Type 0} → LinkReport Rd W A → Ended A ReaderEnd Rd

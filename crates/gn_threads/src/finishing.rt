@@ -4,7 +4,7 @@ ghost use Rattle.std.specs.Prelude.{◌≡◌, ◌+◌, ◌*◌, ◌<◌, ℕ, N
 ghost use Rattle.gn_bodies.specs.declared.worker.WorkerDone.{WorkerDone};
 ghost use Rattle.gn_rules.specs.Legal.{IsLegal};
 ghost use Rattle.gn_threads.specs.Faults.{IsFaultOf};
-ghost use Rattle.gn_threads.specs.Reported.{HasBodies, reader_homed};
+ghost use Rattle.gn_threads.specs.Reported.{HasBodies, reader_result};
 ghost use Rattle.gn_threads.specs.Headline.{Holds};
 ghost use Rattle.gn_bodies.specs.Done.{reader_ended, halved, writer_ended};
 ghost use Rattle.gn_threads.specs.Joined.{KeepEnds};
@@ -14,7 +14,7 @@ use crate::confirming::{history_left, least, report};
 use crate::done::{Done, first_refused};
 use crate::fault::RunFault;
 use crate::house::route_left;
-use crate::reported::{HomedReader, Worked, report_links, report_workers, send_home};
+use crate::reported::{ReaderResult, Worked, report_links, report_workers, send_home};
 use gn_bodies::{BodyFault, WriterDone};
 use gn_links::{LinkReader, LinkWriter};
 use gn_report::Report;
@@ -132,21 +132,21 @@ fn assemble<L: Ledger, C: RouterCore<A> + Drop, Rd: LinkReader, W: LinkWriter, A
     roles: &[Role],
     hub: Hub<C, L, A>,
     house: Actor<L, A>,
-    readers: Vec<HomedReader<Rd, L, A>, A>,
+    readers: Vec<ReaderResult<Rd, L, A>, A>,
     writers: Vec<WriterDone<W, L, A>, A>,
     worked: Worked<L, A>,
     unconfirmed: Option<u32>,
 ) -> Result<Report<Rd, W, A>, RunFault>
     requires counted { AreCounted L.parts (length roles.now) (vec_len readers) (vec_len writers)
         (vec_len worked.receipts) }
-    requires ends { KeepEnds roles.now (map (λ d. halved Rd.state (reader_homed d)) readers.items)
+    requires ends { KeepEnds roles.now (map (λ d. halved Rd.state (reader_result d)) readers.items)
         (map (λ d. halved W.state (writer_ended d)) writers.items) }
     requires unconfirmed { IfSome unconfirmed
         (λ a. a < length roles.now + length roles.now + vec_len worked.receipts + 1) }
     ensures fault { IfErr result (λ fault. IsFaultOf (length roles.now) (vec_len worked.receipts) fault) }
     ensures holds { IfOk result (λ report. Holds Rd.state W.state config.now roles.now (vec_len worked.receipts) report) }
     ensures bodies { IfOk result (λ report.
-        HasBodies (map reader_homed readers.items) (map writer_ended writers.items) report) }
+        HasBodies (map reader_result readers.items) (map writer_ended writers.items) report) }
     ensures clean { IfOk result (λ _. unconfirmed ≡ None) }
 {
     let linked = report_links(alloc, readers, writers)?;

@@ -3,7 +3,7 @@
 ghost use Rattle.gn_rules.specs.Limits.{most_links};
 ghost use Rattle.std.specs.Prelude.{◌≡◌, ◌+◌, ◌++◌, ◌∷◌, ◌<◌, ◌≤◌, [], ℕ, map, vec_len, IfErr, IfOk, Ok};
 ghost use Rattle.gn_threads.specs.Faults.{IsFaultOf};
-ghost use Rattle.gn_threads.specs.Reported.{link_receipts, reader_reported, receipt_list, receipts_given, worker_receipts, writer_reported, reader_homed};
+ghost use Rattle.gn_threads.specs.Reported.{link_receipts, reader_reported, receipt_list, receipts_given, worker_receipts, writer_reported, reader_result};
 ghost use Rattle.gn_bodies.specs.Done.{reader_ended, writer_ended};
 ghost use Rattle.gn_threads.specs.Shares.{amount_of, parts_of};
 
@@ -20,7 +20,7 @@ use std::sync::ledger::Ledger;
 
 /// A reader whose half of the stage went home.
 #[derive(Drop)]
-pub(crate) struct HomedReader<Rd, L: Ledger, A: Allocator = Global> {
+pub(crate) struct ReaderResult<Rd, L: Ledger, A: Allocator = Global> {
     pub actor: Actor<L, A>,
     pub reader: Rd,
     pub end: Result<ReaderEnd, BodyFault>,
@@ -48,9 +48,9 @@ pub(crate) struct Worked<L: Ledger, A: Allocator = Global> {
 pub(crate) fn send_home<Rd: LinkReader, B: Site + Ledger, A: Allocator + Copy>(
     alloc: A,
     readers: Vec<ReaderDone<Rd, B, A>, A>,
-) -> Result<(Vec<HomedReader<Rd, B, A>, A>, Vec<IntakeHome<B, A>, A>), AllocError>
+) -> Result<(Vec<ReaderResult<Rd, B, A>, A>, Vec<IntakeHome<B, A>, A>), AllocError>
     ensures many { IfOk result (λ sent. vec_len sent.0 ≡ vec_len readers) }
-    ensures readers { IfOk result (λ sent. map reader_homed sent.0.items ≡ map reader_ended readers.items) }
+    ensures readers { IfOk result (λ sent. map reader_result sent.0.items ≡ map reader_ended readers.items) }
 {
     let (mut homed, mut homes) = (Vec::new(alloc), Vec::new(alloc));
     for done in readers {
@@ -61,7 +61,7 @@ pub(crate) fn send_home<Rd: LinkReader, B: Site + Ledger, A: Allocator + Copy>(
             home,
             end,
         } = done;
-        homed.push(HomedReader { actor, reader, end })?;
+        homed.push(ReaderResult { actor, reader, end })?;
         homes.push(home)?;
     }
     Ok((homed, homes))
@@ -81,7 +81,7 @@ impl<Rd: LinkReader, W: LinkWriter, L: Ledger, A: Allocator + Copy> Linked<Rd, W
     /// With the two bodies of the next link, of so many in all.
     fn with(
         self,
-        reader: HomedReader<Rd, L, A>,
+        reader: ReaderResult<Rd, L, A>,
         writer: WriterDone<W, L, A>,
         link: u32,
         links: u32,
@@ -90,7 +90,7 @@ impl<Rd: LinkReader, W: LinkWriter, L: Ledger, A: Allocator + Copy> Linked<Rd, W
         ensures fault { IfErr result (λ fault. (workers : ℕ) → IsFaultOf links workers fault) }
         ensures many { IfOk result (λ linked. vec_len linked.links ≡ vec_len self.links + 1) }
         ensures reader { IfOk result (λ linked. map reader_reported linked.links.items
-            ≡ map reader_reported self.links.items ++ reader_homed reader ∷ []) }
+            ≡ map reader_reported self.links.items ++ reader_result reader ∷ []) }
         ensures writer { IfOk result (λ linked. map writer_reported linked.links.items
             ≡ map writer_reported self.links.items ++ writer_ended writer ∷ []) }
     {
@@ -98,7 +98,7 @@ impl<Rd: LinkReader, W: LinkWriter, L: Ledger, A: Allocator + Copy> Linked<Rd, W
             links: before,
             shares,
         } = self;
-        let HomedReader {
+        let ReaderResult {
             actor: reading,
             reader,
             end: reader_end,
@@ -146,7 +146,7 @@ fn ended<E>(end: Result<E, BodyFault>, actor: u32) -> Result<E, RunFault>
 /// fault. A writer makes no route, so none is refused one.
 pub(crate) fn report_links<Rd: LinkReader, W: LinkWriter, L: Ledger, A: Allocator + Copy>(
     alloc: A,
-    readers: Vec<HomedReader<Rd, L, A>, A>,
+    readers: Vec<ReaderResult<Rd, L, A>, A>,
     writers: Vec<WriterDone<W, L, A>, A>,
 ) -> Result<Linked<Rd, W, L, A>, RunFault>
     requires many { vec_len writers ≡ vec_len readers }
@@ -154,7 +154,7 @@ pub(crate) fn report_links<Rd: LinkReader, W: LinkWriter, L: Ledger, A: Allocato
     ensures fault { IfErr result (λ fault. (workers : ℕ) → IsFaultOf (vec_len readers) workers fault) }
     ensures many { IfOk result (λ linked. vec_len linked.links ≡ vec_len readers) }
     ensures readers { IfOk result (λ linked.
-        map reader_reported linked.links.items ≡ map reader_homed readers.items) }
+        map reader_reported linked.links.items ≡ map reader_result readers.items) }
     ensures writers { IfOk result (λ linked.
         map writer_reported linked.links.items ≡ map writer_ended writers.items) }
 {

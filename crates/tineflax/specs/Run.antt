@@ -2,7 +2,7 @@
 
 pub use Rattle.gn_report.specs.Actors
 pub use Rattle.gn_report.specs.Closes
-pub use Rattle.gn_report.specs.Ends
+pub use Rattle.gn_report.specs.BodyEnds
 pub use Rattle.gn_report.specs.Flaw
 pub use Rattle.gn_threads.specs.Faults
 pub use Rattle.gn_threads.specs.Headline

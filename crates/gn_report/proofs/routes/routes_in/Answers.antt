@@ -1,7 +1,7 @@
 use Rattle.std.proofs.Common.{◌≡◌, ◌≤◌, ◌∙◌, true, arith, ap, get_or, length, subst, sym}
 use Rattle.std.proofs.lemmas.List.{get_or_default}
 use Rattle.gn_rules.specs.declared.receipt.Step.{Step}
-use Rattle.gn_report.specs.Ends.{is_settled}
+use Rattle.gn_report.specs.BodyEnds.{is_settled}
 use Rattle.gn_report.specs.Survey.{is_drains_close}
 use Rattle.gn_report.proofs.RouteLemmas.{reached, settled_on}
 use Rattle.gn_report.proofs.routes.routes_in.Goals as goal

@@ -1,5 +1,5 @@
 use Rattle.std.proofs.Common.{◌≡◌, ◌<◌, ℕ, true, get_or}
-use Rattle.gn_report.specs.Ends.{is_settled}
+use Rattle.gn_report.specs.BodyEnds.{is_settled}
 use Rattle.gn_report.specs.Routes.{IsReach}
 use Rattle.gn_report.specs.Survey.{is_drains_close}
 use Rattle.gn_report.proofs.routes.routes_in.Given as goal

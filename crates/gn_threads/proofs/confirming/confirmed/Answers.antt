@@ -1,7 +1,7 @@
 use Rattle.std.proofs.Common.{◌≡◌, ◌<◌, ◌+◌, length, vec_len, refl, sym, subst, arith}
 use Rattle.std.specs.Prelude.{IfSome}
 use Rattle.gn_report.specs.Actors.{actors}
-use Rattle.gn_report.specs.Ends.{is_settled}
+use Rattle.gn_report.specs.BodyEnds.{is_settled}
 use Rattle.gn_report.specs.Flaw.{IsFlaw}
 use Rattle.gn_threads.proofs.FaultLemmas.{least_below}
 use Rattle.gn_threads.proofs.HoldsLemmas.{flaw_below, links_hold, others_route, own_steps, routes_each_once}

@@ -2,7 +2,7 @@ use Rattle.std.proofs.Common.{◌∙◌, map, sym, subst, vec_len}
 use Rattle.gn_bodies.specs.Done.{halved, writer_ended}
 use Rattle.gn_threads.specs.Faults.{IsFaultOf}
 use Rattle.gn_threads.specs.Joined.{KeepEnds}
-use Rattle.gn_threads.specs.Reported.{reader_homed, reader_reported, writer_reported}
+use Rattle.gn_threads.specs.Reported.{reader_result, reader_reported, writer_reported}
 use Rattle.gn_threads.proofs.FaultLemmas.{handed_on}
 use Rattle.gn_threads.proofs.JoinedLemmas.{known_alike}
 use Rattle.gn_threads.proofs.finishing.assemble.Goals as goal
@@ -16,7 +16,7 @@ report-requires-clause-counted g c =
 pub report-requires-clause-ends : goal.report-requires-clause-ends
 report-requires-clause-ends g c =
     let links = c.in_ok-linked.linked.links.items in
-    let read = sym (known_alike reader_reported reader_homed (halved g.Rd.LinkReader.state) links c.args.readers.items c.in_ok-linked.ensures.readers) in
+    let read = sym (known_alike reader_reported reader_result (halved g.Rd.LinkReader.state) links c.args.readers.items c.in_ok-linked.ensures.readers) in
     let written = sym (known_alike writer_reported writer_ended (halved g.W.LinkWriter.state) links c.args.writers.items c.in_ok-linked.ensures.writers) in
     subst (λ bodies. KeepEnds c.args.roles.now (map (λ l. halved g.Rd.LinkReader.state (reader_reported l)) links) bodies) written
     (subst (λ bodies. KeepEnds c.args.roles.now bodies (map (λ d. halved g.W.LinkWriter.state (writer_ended d)) c.args.writers.items)) read c.requires.ends)

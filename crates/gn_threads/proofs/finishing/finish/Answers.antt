@@ -6,7 +6,7 @@ use Rattle.std.proofs.lemmas.Result.{on_ok_weaker}
 use Rattle.gn_bodies.specs.Done.{reader_ended, halved, writer_ended}
 use Rattle.gn_threads.specs.Joined.{KeepEnds}
 use Rattle.gn_threads.specs.Headline.{Holds}
-use Rattle.gn_threads.specs.Reported.{HasBodies, reader_homed}
+use Rattle.gn_threads.specs.Reported.{HasBodies, reader_result}
 use Rattle.gn_threads.proofs.FaultLemmas.{answer_below, below_more, number_below, of_stop}
 use Rattle.gn_threads.proofs.JoinedLemmas.{known_alike}
 use Rattle.gn_threads.proofs.finishing.finish.Goals as goal
@@ -29,7 +29,7 @@ assemble-requires-clause-counted g c =
 pub assemble-requires-clause-ends : goal.assemble-requires-clause-ends
 assemble-requires-clause-ends g c =
     subst (λ bodies. KeepEnds c.args.roles.now bodies (map (λ d. halved g.W.LinkWriter.state (writer_ended d)) c.args.done.writers.items))
-    (sym (known_alike reader_homed reader_ended (halved g.Rd.LinkReader.state) _ c.args.done.readers.items c.in_ok-readers.ensures.readers)) c.requires.ends
+    (sym (known_alike reader_result reader_ended (halved g.Rd.LinkReader.state) _ c.args.done.readers.items c.in_ok-readers.ensures.readers)) c.requires.ends
 
 pub assemble-requires-clause-unconfirmed : goal.assemble-requires-clause-unconfirmed
 assemble-requires-clause-unconfirmed g c =

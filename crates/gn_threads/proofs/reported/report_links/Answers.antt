@@ -1,7 +1,7 @@
 use Rattle.std.proofs.Common.{arith, subst}
 use Rattle.std.specs.Vec.Iter.{into_iter_items}
 use Rattle.gn_threads.specs.Faults.{IsFaultOf}
-use Rattle.gn_threads.specs.Reported.{reader_reported, writer_reported, reader_homed}
+use Rattle.gn_threads.specs.Reported.{reader_reported, writer_reported, reader_result}
 use Rattle.gn_bodies.specs.Done.{writer_ended}
 use Rattle.gn_threads.proofs.FaultLemmas.{handed_on}
 use Rattle.gn_threads.proofs.JoinedLemmas.{one_started}
@@ -20,6 +20,6 @@ loop-reader-preserved g c =
       number = omega (arith, was.number, c.in-Some.ensures.steps.1);
       writers_left = omega (arith, was.writers_left, c.in-Some.ensures.steps.1, c.in-Some-next.ensures.len);
       many = omega (arith, was.many, c.in_ok-linked.ensures.many);
-      readers = one_started reader_reported reader_homed before after (into_iter_items c.loop-reader.reader-iterator) (into_iter_items c.next.new.self) c.in-Some.reader _ c.in_ok-linked.ensures.reader c.in-Some.ensures.steps.0 was.readers;
+      readers = one_started reader_reported reader_result before after (into_iter_items c.loop-reader.reader-iterator) (into_iter_items c.next.new.self) c.in-Some.reader _ c.in_ok-linked.ensures.reader c.in-Some.ensures.steps.0 was.readers;
       writers = one_started writer_reported writer_ended before after (into_iter_items c.loop-reader.writers) (into_iter_items c.next-in-loop-reader.new.self) c.in-Some-next.writer _ c.in_ok-linked.ensures.writer c.in-Some-next.ensures.items was.writers;
     }

@@ -7,6 +7,6 @@ returns-in_default g c = λ states are.
 
 pub returns : goal.returns
 returns g c = λ states are.
-    played_piece c.args.self.now c.take_link-link.new.self c.take_piece.new.self c.put_link.new.self c.args.i c.in-Some.at c.args.piece.now
+    played_piece c.args.self.now c.take_link-link.new.self c.feed_link.new.self c.put_link.new.self c.args.i c.in-Some.at c.args.piece.now
     c.take_link-link.result c.in_ok-kept.kept states c.in-Some.ensures.place c.in-Some.ensures.there c.take_link-link.ensures.taken c.take_link-link.ensures.left
     c.in_ok-kept.ensures c.put_link.ensures are

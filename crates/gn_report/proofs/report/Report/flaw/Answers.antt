@@ -1,5 +1,5 @@
 use Rattle.std.proofs.Common.{subst}
-use Rattle.gn_report.specs.Ends.{is_settled}
+use Rattle.gn_report.specs.BodyEnds.{is_settled}
 use Rattle.gn_report.specs.Flaw.{IsFlaw}
 use Rattle.gn_report.proofs.ConfirmedLemmas.{took_all}
 use Rattle.gn_report.proofs.report.Report.flaw.Goals as goal

@@ -1,5 +1,5 @@
 use Rattle.std.proofs.Common.{below_more, rules}
-use Rattle.gn_report.specs.Ends.{is_settled}
+use Rattle.gn_report.specs.BodyEnds.{is_settled}
 use Rattle.gn_report.specs.Flaw.{IsConfirmed}
 use Rattle.gn_report.proofs.report.Report.least_flaw.Goals as goal
 

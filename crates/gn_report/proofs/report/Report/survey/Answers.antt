@@ -1,6 +1,6 @@
 use Rattle.std.proofs.Common.{◌≡◌, List, length, subst}
 use Rattle.gn_rules.specs.declared.receipt.Step.{Step}
-use Rattle.gn_report.specs.Ends.{is_settled}
+use Rattle.gn_report.specs.BodyEnds.{is_settled}
 use Rattle.gn_report.specs.Survey.{AreSettled, IsReadUntil}
 use Rattle.gn_report.proofs.report.Report.survey.Goals as goal
 

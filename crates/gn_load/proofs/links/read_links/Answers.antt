@@ -1,5 +1,5 @@
 use Rattle.gn_load.proofs.LineLemmas.{refused_here}
-use Rattle.gn_load.proofs.links.gather.Goals as goal
+use Rattle.gn_load.proofs.links.read_links.Goals as goal
 
 pub returns-in_err-take_line : goal.returns-in_err-take_line
 returns-in_err-take_line g c =

@@ -1,5 +1,5 @@
 use Rattle.gn_replay.proofs.VerdictLemmas.{audited}
-use Rattle.gn_replay.proofs.verdict.audit_text.Goals as goal
+use Rattle.gn_replay.proofs.judged.audit_text.Goals as goal
 
 pub returns-clause-audited : goal.returns-clause-audited
 returns-clause-audited g c =

@@ -1,6 +1,6 @@
 use Rattle.gn_capture.specs.Histories.{steps_left}
 use Rattle.gn_replay.proofs.VerdictLemmas.{text_judged, text_refused}
-use Rattle.gn_replay.proofs.verdict.judge_text.Goals as goal
+use Rattle.gn_replay.proofs.judged.judge_text.Goals as goal
 
 pub returns-clause-judged : goal.returns-clause-judged
 returns-clause-judged g c =

@@ -13,12 +13,12 @@ const PIECE: usize = 4096;
 
 /// A link with the bytes that its lines gave it so far.
 #[derive(Drop)]
-pub(crate) struct Gathered<A: Allocator = Global> {
+pub(crate) struct LinkInput<A: Allocator = Global> {
     role: Role,
     bytes: Vec<u8, A>,
 }
 
-impl<A: Allocator> Model for Gathered<A> {
+impl<A: Allocator> Model for LinkInput<A> {
     ghost use Rattle.gn_links.specs.Memory.{Memory};
     ghost use Rattle.gn_load.specs.Links.{link_of};
 
@@ -27,12 +27,12 @@ impl<A: Allocator> Model for Gathered<A> {
     ghost view = { λ g. link_of g.role g.bytes.items };
 }
 
-impl<A: Allocator + Copy> Gathered<A> {
+impl<A: Allocator + Copy> LinkInput<A> {
     /// A link without bytes.
     pub(crate) fn new(alloc: A, role: Role) -> Self
         ensures { result ≡ link_of role [] }
     {
-        Gathered {
+        LinkInput {
             role,
             bytes: Vec::new(alloc),
         }
