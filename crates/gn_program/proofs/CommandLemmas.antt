@@ -6,8 +6,8 @@ use Rattle.clap.specs.declared.error.Error.{Error}
 use Rattle.clap.specs.declared.error.kind.ErrorKind.{ErrorKind}
 use Rattle.clap.specs.declared.error.kind.ErrorKind.TheVariants.{DisplayHelp, DisplayVersion, OutOfMemory}
 use Rattle.gn_program.specs.Commands.{IsTurnedAway, IsUnread}
-use Rattle.gn_program.specs.Words.{kinds_of, request_by, request_of}
-use Rattle.gn_program.specs.declared.request.Request.{Request}
+use Rattle.gn_words.specs.Words.{kinds_of, request_by, request_of}
+use Rattle.gn_words.specs.declared.request.Request.{Request}
 
 memory_by : (kinds : Kinds) (o : Option (Text × List Row)) (r : Request) (k : ErrorKind) → request_by kinds o ≡ Some r
     → (k ≡ OutOfMemory) ⊎ IsAmong k kinds → k ≡ OutOfMemory

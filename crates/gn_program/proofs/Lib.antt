@@ -1,4 +1,2 @@
 pub mod CommandLemmas
-pub mod OptionLemmas
 pub mod ServeLemmas
-pub mod WordLemmas

@@ -26,9 +26,9 @@ use Rattle.gn_rules.specs.declared.config.Config.{Config}
 use Rattle.gn_rules.specs.declared.config.Own.{Own}
 use Rattle.gn_rules.specs.declared.legality.Legality.{Legality}
 use Rattle.gn_rules.specs.declared.legality.Legality.TheVariants.{Legal, WrongAt}
-use Rattle.gn_program.specs.Serving.{AskedServe}
-use Rattle.gn_program.specs.declared.request.Request.{Request}
-use Rattle.gn_program.specs.declared.request.Request.TheVariants.{Replay, History, Audit, Explain, Show, Load, Watched, Serve}
+use Rattle.gn_words.specs.Serving.{AskedServe}
+use Rattle.gn_words.specs.declared.request.Request.{Request}
+use Rattle.gn_words.specs.declared.request.Request.TheVariants.{Replay, History, Audit, Explain, Show, Load, Watched, Serve}
 
 -- what replay answers: the input was a capture, no longer than it may be, and its replay text was written, its steps
 -- and refusals counted; or it stopped, at a fault that the streams confirm, and what was written then is a prefix of

@@ -1,5 +1,3 @@
 pub mod Commands
 pub mod FaultTexts
-pub mod Options
-pub mod Serving
-pub mod Words
+pub mod Peers

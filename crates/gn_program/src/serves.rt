@@ -3,11 +3,10 @@
 ghost use Rattle.std.specs.Prelude.{◌≡◌, ◌≢◌, ◌*◌, Some, length, map, IfOk, MatchOption};
 ghost use Rattle.std.specs.Duration.{as_nanos};
 ghost use Rattle.gn_program.specs.Commands.{IsServeAnswer, IsServing};
-ghost use Rattle.gn_program.specs.Serving.{peer_at};
+ghost use Rattle.gn_program.specs.Peers.{peer_at};
 
 use crate::eof::stop_at_eof;
 use crate::reports::write_report;
-use crate::request::{Peer, Serving};
 use crate::text::write_text;
 use gn_io::Sink;
 use gn_links::Watch;
@@ -16,6 +15,7 @@ use gn_rules::{Config, Numbers, Own};
 use gn_serve::{ServeFault, Stop, serve_history};
 use gn_tcp::listen;
 use gn_threads::RunFault;
+use gn_words::{Peer, Serving};
 use std::alloc::{AllocError, Global};
 use std::fmt;
 use std::fmt::{Display, Formatter, Write};

@@ -1,6 +1,6 @@
 -- The definitions of command lines.
 
 pub use Rattle.gn_program.specs.Commands
-pub use Rattle.gn_program.specs.Options
-pub use Rattle.gn_program.specs.Serving
-pub use Rattle.gn_program.specs.Words
+pub use Rattle.gn_words.specs.Options
+pub use Rattle.gn_words.specs.Serving
+pub use Rattle.gn_words.specs.Words

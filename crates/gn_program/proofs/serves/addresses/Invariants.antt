@@ -1,5 +1,5 @@
 use Rattle.std.proofs.Common.{◌≡◌, Some, length, map, take, vec_items}
-use Rattle.gn_program.specs.Serving.{peer_at}
+use Rattle.gn_program.specs.Peers.{peer_at}
 use Rattle.gn_program.proofs.serves.addresses.Given as goal
 
 abbrev pub invariant-loop-peer : goal.invariant-loop-peer

@@ -1,0 +1,12 @@
+-- The peers of a serve at their addresses.
+use Rattle.std.specs.Prelude.{Option, Some, None}
+use Rattle.std.specs.declared.net.socket_addr.SocketAddr.{SocketAddr}
+use Rattle.std.specs.declared.net.socket_addr.SocketAddr.TheVariants.{V4, V6}
+use Rattle.std.specs.Net.Addr.{ipv4_octets}
+use Rattle.std.specs.Net.Socket.{v4_ip, v4_port}
+use Rattle.gn_words.specs.declared.request.Peer.{Peer}
+
+-- the peer at an address; none at one of the longer form, which no option gives
+abbrev pub peer_at : SocketAddr → Option Peer
+peer_at (V4 address) = Some (record { ip = ipv4_octets (v4_ip address); port = v4_port address })
+peer_at (V6 address) = None

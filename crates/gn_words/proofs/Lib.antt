@@ -1,0 +1,2 @@
+mod OptionLemmas
+mod WordLemmas

@@ -1,0 +1,120 @@
+-- What the values of options say.
+use Rattle.std.specs.Prelude.{◌≡◌, ◌∷◌, ◌++◌, ◌==◌, ◌&&◌, ℕ, Bool, false, List, [], Option, Some, None, Result, Ok, Err, codes, length, nat_le, slice_index, unwrap_or, if◌then◌else◌}
+use Rattle.std.specs.List.{slice_split}
+use Rattle.std.specs.Option.{option_map_or}
+use Rattle.std.specs.Str.{bytes_eq}
+use Rattle.clap.specs.Words.{Row, Text, all_of, first_of}
+use Rattle.gn_rules.specs.Limits.{most, most_workers}
+use Rattle.gn_text.specs.Addresses.{ip_of}
+use Rattle.gn_text.specs.Bytes.{guid_of}
+use Rattle.gn_numbers.specs.Numbers.{number_below, number_of, ◌>>=◌}
+use Rattle.gn_wire.specs.declared.kind.Guid.{Guid}
+use Rattle.gn_words.specs.Serving.{AskedServe}
+use Rattle.gn_words.specs.declared.options.Limits.{Limits}
+use Rattle.gn_words.specs.declared.request.Peer.{Peer}
+use Rattle.gn_words.specs.declared.unread.Unread.{Unread}
+use Rattle.gn_words.specs.declared.unread.Unread.TheVariants.{Mistake, NoMemory}
+
+-- whether a flag is set
+abbrev pub is_set : Text → List Row → Bool
+is_set flag rows = option_map_or (λ value. bytes_eq value (codes "true")) (first_of flag rows) false
+
+-- the number that a text says, where it is within these
+abbrev pub number_between : ℕ → ℕ → Text → Option ℕ
+number_between least most text = do
+  number ← number_of text
+  if nat_le least number && nat_le number most then Some number else None
+
+-- the number that an option asks for, where it is within these
+abbrev pub number_asked : Text → ℕ → ℕ → List Row → Option ℕ
+number_asked option least most rows = do
+  text ← first_of option rows
+  number_between least most text
+
+-- the number of workers that is asked for, where it is 1 to 64
+abbrev pub workers_of : List Row → Option ℕ
+workers_of rows = number_asked (codes "workers") 1 most_workers rows
+
+-- the ID that is asked for
+abbrev pub servent_of : List Row → Option Guid
+servent_of rows = do
+  text ← first_of (codes "servent") rows
+  guid_of text
+
+-- the peer at an address, where that is one of this machine, 127 and three bytes more, and the text says its port, 1 to 65,535
+abbrev pub peer_at : Text → List ℕ → Option Peer
+peer_at place ip = do
+  port ← number_below 65536 place
+  if slice_index ip 0 == 127 && nat_le 1 port then Some (record { ip = ip; port = port }) else None
+
+-- the peer that two texts say
+abbrev pub peer_of_parts : List Text → Option Peer
+peer_of_parts (address ∷ place ∷ []) = do
+  ip ← ip_of address
+  peer_at place ip
+peer_of_parts parts = None
+
+-- the peer that a text says, its address and its port with a colon between them
+abbrev pub peer_of : Text → Option Peer
+peer_of text = peer_of_parts (slice_split (λ b. b == 58) text)
+
+-- these peers, and after them those that texts say
+abbrev pub peers_after : List Peer → List Text → Option (List Peer)
+peers_after peers [] = Some peers
+peers_after peers (text ∷ texts) = do
+  peer ← peer_of text
+  peers_after (peers ++ peer ∷ []) texts
+
+-- the peers that at most 64 texts say
+abbrev pub peers_in : List Text → Option (List Peer)
+peers_in texts = if nat_le (length texts) 64 then peers_after [] texts else None
+
+-- the peers that are asked for; none, where the option isn't given
+abbrev pub peers_of : List Row → Option (List Peer)
+peers_of rows = peers_in (unwrap_or (all_of (codes "peer") rows) [])
+
+-- the numbers that limit a serve, where each is within its own limits
+abbrev pub limits_of : List Row → Option Limits
+limits_of rows = do
+  idle ← number_asked (codes "idle") 0 86400 rows
+  life ← number_asked (codes "life") 0 most.life rows
+  crowd ← number_asked (codes "crowd") 0 most.crowd rows
+  retry ← number_asked (codes "retry") 0 86400 rows
+  seconds ← number_asked (codes "for") 0 86400 rows
+  steps ← number_asked (codes "steps") 1 most.steps rows
+  Some (record { idle = idle; life = life; crowd = crowd; retry = retry; seconds = seconds; steps = steps })
+
+-- what the options of a serve ask for, where each is within its limits
+abbrev pub serving_of : List Row → Option AskedServe
+serving_of rows = do
+  port ← number_asked (codes "port") 1 65535 rows
+  accept ← number_asked (codes "accept") 0 128 rows
+  workers ← workers_of rows
+  servent ← servent_of rows
+  peers ← peers_of rows
+  limits ← limits_of rows
+  Some (record {
+    port = port;
+    accept = accept;
+    workers = workers;
+    servent = servent;
+    peers = peers;
+    idle = limits.idle;
+    life = limits.life;
+    crowd = limits.crowd;
+    retry = limits.retry;
+    seconds = limits.seconds;
+    early = is_set (codes "stop-early") rows;
+    until_eof = is_set (codes "until-eof") rows;
+    steps = limits.steps;
+    keeps = is_set (codes "keep-history") rows;
+    report = is_set (codes "report") rows;
+    progress = is_set (codes "progress") rows;
+  })
+
+-- a value was read as the definition says; a mistake is where it says none, and memory may run out at any time. view is how the
+-- definition sees the value that was read
+abbrev pub IsReadAs : {X T : Type 0} → (T → X) → Option X → Result T Unread → Type 0
+IsReadAs view asked (Ok value) = asked ≡ Some (view value)
+IsReadAs view asked (Err (Mistake text)) = asked ≡ None
+IsReadAs view asked (Err NoMemory) = Unit {0}

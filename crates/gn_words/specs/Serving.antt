@@ -1,0 +1,28 @@
+-- What a serve is asked for.
+use Rattle.std.specs.Prelude.{ℕ, Bool, List}
+use Rattle.gn_wire.specs.declared.kind.Guid.{Guid}
+use Rattle.gn_words.specs.declared.request.Peer.{Peer}
+
+-- what the options of a serve say: the port, how many peers may call, the workers, the own servent's ID, the peers that
+-- are called; the seconds after which a silent peer is given up, 0 for never; the limit on a descriptor's life and the threshold
+-- of a connection, each 0 for none; the seconds for which a peer that doesn't listen is called again, and those after which the
+-- run is stopped, 0 for never; whether it is stopped at nine tenths of its steps, and at the end of standard input; the most
+-- steps; whether the history of a run that stops at a fault is kept; and whether a report of the links is written, and how far
+-- the run is
+pub record AskedServe : Type 0 where
+  pub port : ℕ
+  pub accept : ℕ
+  pub workers : ℕ
+  pub servent : Guid
+  pub peers : List Peer
+  pub idle : ℕ
+  pub life : ℕ
+  pub crowd : ℕ
+  pub retry : ℕ
+  pub seconds : ℕ
+  pub early : Bool
+  pub until_eof : Bool
+  pub steps : ℕ
+  pub keeps : Bool
+  pub report : Bool
+  pub progress : Bool

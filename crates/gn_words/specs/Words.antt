@@ -1,0 +1,207 @@
+-- How the words of a command line are read: by the rules of the crate clap, for this command.
+use Rattle.std.specs.Prelude.{◌≡◌, ◌∷◌, ℕ, List, [], Bool, true, false, Option, Some, None, codes, is_some, option_map, replicate, if◌then◌else◌}
+use Rattle.std.specs.Str.{bytes_eq}
+use Rattle.clap.specs.Words.{App, Row, Rule, Text, fault_of, new_app, new_rule, subcommand_of, with_rule, with_subcommand}
+use Rattle.clap.specs.Kinds.{Kinds, or_else}
+use Rattle.clap.specs.declared.builder.action.ArgAction.TheVariants.{Append, Set, SetTrue}
+use Rattle.clap.specs.declared.error.kind.ErrorKind.TheVariants.{ValueValidation}
+use Rattle.gn_words.specs.Options.{is_set, peer_of, peers_in, serving_of, workers_of}
+use Rattle.gn_words.specs.declared.request.Request.{Request}
+use Rattle.gn_words.specs.declared.request.Request.TheVariants.{Replay, History, Audit, Explain, Show, Load, Watched, Serve}
+use Rattle.gn_show.specs.declared.form.Form.TheVariants.{Plain, Json}
+use Rattle.gn_show.specs.declared.form.View.{View}
+use Rattle.gn_show.specs.declared.form.View.TheVariants.{Steps, Stats}
+
+-- the flag `--NAME`, which is set where it stands
+abbrev pub flag_rule : Text → Rule
+flag_rule name = record (new_rule name) { long = Some name; action = Some SetTrue }
+
+-- the subcommand `replay`: it takes the flag `--history`
+abbrev pub replay_app : App
+replay_app = with_rule (new_app (codes "replay")) (flag_rule (codes "history"))
+
+-- the subcommand `audit`: it takes the flag `--explain`
+abbrev pub audit_app : App
+audit_app = with_rule (new_app (codes "audit")) (flag_rule (codes "explain"))
+
+-- the subcommand `show`: it takes the flags `--json` and `--stats`
+abbrev pub show_app : App
+show_app = with_rule (with_rule (new_app (codes "show")) (flag_rule (codes "json"))) (flag_rule (codes "stats"))
+
+-- the option `--NAME VALUE`, which has to be given
+abbrev pub value_rule : Text → Rule
+value_rule name = record (new_rule name) { long = Some name; action = Some Set; value_names = 1; required = true }
+
+-- the option `--NAME VALUE`, which has this value where it isn't given
+abbrev pub default_rule : Text → Text → Rule
+default_rule name default =
+    record (new_rule name) { long = Some name; action = Some Set; value_names = 1; defaults = default ∷ [] }
+
+-- the option `--NAME VALUE`, which may be given any number of times
+abbrev pub repeated_rule : Text → Rule
+repeated_rule name = record (new_rule name) { long = Some name; action = Some Append; value_names = 1 }
+
+-- the subcommand `load`: it takes the option `--workers V` and the flag `--progress`
+abbrev pub load_app : App
+load_app = with_rule (with_rule (new_app (codes "load")) (value_rule (codes "workers"))) (flag_rule (codes "progress"))
+
+-- the subcommand `serve` with the options that have to be given
+abbrev pub served_app : App
+served_app =
+    with_rule (with_rule (with_rule (new_app (codes "serve")) (value_rule (codes "port"))) (value_rule (codes "accept")))
+    (value_rule (codes "workers"))
+
+-- the own servent's ID where none is given: 47 sixteen times
+abbrev pub usual_servent : Text
+usual_servent = codes "47474747474747474747474747474747"
+
+-- the subcommand `serve` with the options that say who the router is, whom it calls, and when it gives a peer up
+abbrev pub calling_app : App
+calling_app =
+    with_rule (with_rule (with_rule served_app (default_rule (codes "servent") usual_servent))
+    (repeated_rule (codes "peer"))) (default_rule (codes "idle") (codes "0"))
+
+-- the same with the numbers of the router's rules
+abbrev pub ruled_app : App
+ruled_app =
+    with_rule (with_rule calling_app (default_rule (codes "life") (codes "0"))) (default_rule (codes "crowd") (codes "0"))
+
+-- the same with the options for how long it calls, how long it goes on, and how many steps it makes
+abbrev pub limited_app : App
+limited_app =
+    with_rule (with_rule (with_rule ruled_app (default_rule (codes "retry") (codes "0")))
+    (default_rule (codes "for") (codes "0"))) (default_rule (codes "steps") (codes "1000000"))
+
+-- the same with the flags for what else stops it
+abbrev pub stopped_app : App
+stopped_app = with_rule (with_rule limited_app (flag_rule (codes "stop-early"))) (flag_rule (codes "until-eof"))
+
+-- the subcommand `serve`: it takes these flags too
+abbrev pub serve_app : App
+serve_app =
+    with_rule (with_rule (with_rule stopped_app (flag_rule (codes "keep-history"))) (flag_rule (codes "report")))
+    (flag_rule (codes "progress"))
+
+-- the command `gn` before it has its subcommands: it has a version, and one of them has to be named; `help` is none
+abbrev pub bare_app : App
+bare_app =
+    let gn = new_app (codes "gn") in
+    record gn {
+      top = record gn.top { has_version = true; disable_help_subcommand = true; subcommand_required = true };
+    }
+
+-- the command `gn` with the subcommands that start no threads
+abbrev pub texts_app : App
+texts_app = with_subcommand (with_subcommand (with_subcommand bare_app replay_app.top) audit_app.top) show_app.top
+
+-- the command `gn`: it has these subcommands, of which none takes more than its flags and options
+abbrev pub gn_app : App
+gn_app = with_subcommand (with_subcommand texts_app load_app.top) serve_app.top
+
+-- what of a history is shown; nothing, where both flags are set
+abbrev pub view_by : Bool → Bool → Option View
+view_by false false = Some (Steps Plain)
+view_by true false = Some (Steps Json)
+view_by false true = Some Stats
+view_by true true = None
+
+-- what of a history is shown, by the flags `--json` and `--stats`
+abbrev pub view_of : List Row → Option View
+view_of rows = view_by (is_set (codes "json") rows) (is_set (codes "stats") rows)
+
+-- a load with so many workers, by the flag `--progress`
+abbrev pub load_by : Bool → ℕ → Request
+load_by false workers = Load workers
+load_by true workers = Watched workers
+
+-- the request that a subcommand with these flags and options stands for; nothing, where a value isn't within its limits
+abbrev pub request_named : Text → List Row → Option Request
+request_named name rows =
+    if bytes_eq name (codes "replay") then Some (if is_set (codes "history") rows then History else Replay)
+    else (if bytes_eq name (codes "audit") then Some (if is_set (codes "explain") rows then Explain else Audit)
+    else (if bytes_eq name (codes "show") then option_map Show (view_of rows)
+    else (if bytes_eq name (codes "load") then option_map (load_by (is_set (codes "progress") rows)) (workers_of rows)
+    else (if bytes_eq name (codes "serve") then option_map Serve (serving_of rows) else None))))
+
+-- what is wrong with the values of a subcommand's options: one isn't within its limits, so that they stand for no request
+abbrev pub value_kinds : Option (Text × List Row) → Kinds
+value_kinds (Some (name, rows)) = if is_some (request_named name rows) then [] else ValueValidation ∷ []
+value_kinds None = []
+
+-- what else than a request words are, in clap's kinds, help and the version among them; nothing is wrong with the words
+-- of a request. A value is looked at where clap's rules find nothing wrong
+abbrev pub kinds_of : List Text → Kinds
+kinds_of words = or_else (fault_of gn_app words) (value_kinds (subcommand_of gn_app words))
+
+-- what the words ask for, by what is wrong with them and by the subcommand that they name; nothing, where something is
+-- wrong
+abbrev pub request_by : Kinds → Option (Text × List Row) → Option Request
+request_by [] (Some (name, rows)) = request_named name rows
+request_by [] None = None
+request_by (fault ∷ faults) named = None
+
+-- what the words ask for, the first of them the program's name; nothing where they ask for help or the version, or
+-- something is wrong with them
+abbrev pub request_of : List Text → Option Request
+request_of words = request_by (kinds_of words) (subcommand_of gn_app words)
+
+-- the words of a load, with this text for the number of workers
+abbrev pub load_words : Text → Text → List Text
+load_words program workers = program ∷ codes "load" ∷ codes "--workers" ∷ workers ∷ []
+
+-- the words of a load that says how far it is
+abbrev pub progress_words : Text → Text → List Text
+progress_words program workers = program ∷ codes "load" ∷ codes "--workers" ∷ workers ∷ codes "--progress" ∷ []
+
+-- the words of a serve, with these texts for its port, the peers that may call, and its workers, and these words after them
+abbrev pub serve_words : Text → Text → Text → Text → List Text → List Text
+serve_words program port accept workers more =
+    program ∷ codes "serve" ∷ codes "--port" ∷ port ∷ codes "--accept" ∷ accept ∷ codes "--workers" ∷ workers ∷ more
+
+-- plain words are read as they say, whatever the program's name is; and a value that isn't within its limits is a mistake in
+-- the value of an option
+pub record PlainWordsAreRead : Type 0 where
+  pub replay : (program : Text) → request_of (program ∷ codes "replay" ∷ []) ≡ Some Replay
+  pub history : (program : Text) → request_of (program ∷ codes "replay" ∷ codes "--history" ∷ []) ≡ Some History
+  pub audit : (program : Text) → request_of (program ∷ codes "audit" ∷ []) ≡ Some Audit
+  pub explain : (program : Text) → request_of (program ∷ codes "audit" ∷ codes "--explain" ∷ []) ≡ Some Explain
+  pub show : (program : Text) → request_of (program ∷ codes "show" ∷ []) ≡ Some (Show (Steps Plain))
+  pub json : (program : Text) → request_of (program ∷ codes "show" ∷ codes "--json" ∷ []) ≡ Some (Show (Steps Json))
+  pub stats : (program : Text) → request_of (program ∷ codes "show" ∷ codes "--stats" ∷ []) ≡ Some (Show Stats)
+  pub both : (program : Text)
+      → kinds_of (program ∷ codes "show" ∷ codes "--json" ∷ codes "--stats" ∷ []) ≡ ValueValidation ∷ []
+  pub load : (program : Text) → request_of (load_words program (codes "4")) ≡ Some (Load 4)
+  pub watched : (program : Text) → request_of (progress_words program (codes "4")) ≡ Some (Watched 4)
+  pub most : (program : Text) → request_of (load_words program (codes "64")) ≡ Some (Load 64)
+  pub none : (program : Text) → kinds_of (load_words program (codes "0")) ≡ ValueValidation ∷ []
+  pub many : (program : Text) → kinds_of (load_words program (codes "65")) ≡ ValueValidation ∷ []
+  -- a serve of one port, with what holds of the options that aren't given
+  pub serve : (program : Text) → request_of (serve_words program (codes "6346") (codes "128") (codes "64") [])
+      ≡ Some (Serve (record {
+        port = 6346;
+        accept = 128;
+        workers = 64;
+        servent = record { 0 = 71 ∷ 71 ∷ 71 ∷ 71 ∷ 71 ∷ 71 ∷ 71 ∷ 71 ∷ 71 ∷ 71 ∷ 71 ∷ 71 ∷ 71 ∷ 71 ∷ 71 ∷ 71 ∷ [] };
+        peers = [];
+        idle = 0;
+        life = 0;
+        crowd = 0;
+        retry = 0;
+        seconds = 0;
+        early = false;
+        until_eof = false;
+        steps = 1000000;
+        keeps = false;
+        report = false;
+        progress = false;
+      }))
+  pub no_port : (program : Text)
+      → kinds_of (serve_words program (codes "0") (codes "1") (codes "1") []) ≡ ValueValidation ∷ []
+  pub accepts : (program : Text)
+      → kinds_of (serve_words program (codes "6346") (codes "129") (codes "1") []) ≡ ValueValidation ∷ []
+  pub workers : (program : Text)
+      → kinds_of (serve_words program (codes "6346") (codes "1") (codes "65") []) ≡ ValueValidation ∷ []
+  -- a peer of this machine is one that is called; one of another machine is a mistake
+  pub near : peer_of (codes "127.0.0.1:6347") ≡ Some (record { ip = 127 ∷ 0 ∷ 0 ∷ 1 ∷ []; port = 6347 })
+  pub far : peer_of (codes "10.0.0.1:6347") ≡ None
+  pub long : (peer : Text) → peers_in (replicate 65 peer) ≡ None

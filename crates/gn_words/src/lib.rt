@@ -1,0 +1,12 @@
+//! What a command line says, without doing it: its words, its options and their help, and the request that they make.
+#![tactic(auto)]
+
+mod help;
+mod options;
+mod request;
+mod shown;
+mod unread;
+mod words;
+
+pub use request::{Peer, Request, Serving};
+pub use words::{plain_words_are_read, read_words};

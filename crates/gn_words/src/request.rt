@@ -1,0 +1,101 @@
+//! What a command line asks for.
+
+use gn_show::View;
+use gn_wire::Guid;
+use std::marker::Model;
+
+/// What a command line asks for.
+#[derive(Debug, Drop)]
+pub enum Request {
+    /// A capture is replayed, and what it prints is written.
+    Replay,
+    /// A capture is replayed, and the history of its router is written.
+    History,
+    /// A history is audited.
+    Audit,
+    /// A history is audited, and its first wrong step explained.
+    Explain,
+    /// A history is shown: its steps, or its counters.
+    Show(View),
+    /// The links of a capture are run by so many workers, 1 to 64, and the history of the router is written.
+    Load(u32),
+    /// The same, and how far the run is is said as it goes on.
+    Watched(u32),
+    /// A router is run over TCP, and its history is written.
+    Serve(Serving),
+}
+
+/// A peer on this machine, which is called.
+#[derive(Clone, Copy, Debug, PartialEq, Eq)]
+pub struct Peer {
+    /// The first byte, which is 127, is the first that is written between dots.
+    pub ip: [u8; 4],
+    pub port: u16,
+}
+
+/// A run over TCP, as its options ask for it.
+#[derive(Debug, Drop)]
+pub struct Serving {
+    /// The port that the router listens on.
+    pub port: u16,
+    /// How many peers may call.
+    pub accept: u32,
+    /// How many threads route.
+    pub workers: u32,
+    /// The router's own servent ID.
+    pub servent: Guid,
+    /// The peers that are called, in this order.
+    pub peers: Vec<Peer>,
+    /// The seconds after which a silent peer is given up; 0: it never is.
+    pub idle: u32,
+    /// The limit on a descriptor's life; 0: there is none.
+    pub life: u8,
+    /// The threshold of a connection; 0: there is none but that of all.
+    pub crowd: u32,
+    /// The seconds for which a peer that doesn't listen is called again; 0: it is called once.
+    pub retry: u32,
+    /// The seconds after which the run is stopped; 0: no time stops it.
+    pub seconds: u32,
+    /// Whether the run is stopped once it has made nine tenths of its steps.
+    pub early: bool,
+    /// Whether the run is stopped at the end of standard input.
+    pub until_eof: bool,
+    /// The most steps that the history may have.
+    pub steps: u32,
+    /// Whether what stands of the history is written where the run stops at a fault.
+    pub keeps: bool,
+    /// Whether it is written what became of each link.
+    pub report: bool,
+    /// Whether how far the run is is said as it goes on.
+    pub progress: bool,
+}
+
+impl Model for Serving {
+    ghost use Rattle.std.specs.Prelude.{◌+◌, ◌≤◌, length};
+    ghost use Rattle.gn_rules.specs.Limits.{IsCrew, IsWithin, most, most_links};
+    ghost use Rattle.gn_words.specs.Serving.{AskedServe};
+
+    ghost Value = { AskedServe };
+
+    ghost view = { λ s. record {
+      port = s.port;
+      accept = s.accept;
+      workers = s.workers;
+      servent = s.servent;
+      peers = s.peers.items;
+      idle = s.idle;
+      life = s.life;
+      crowd = s.crowd;
+      retry = s.retry;
+      seconds = s.seconds;
+      early = s.early;
+      until_eof = s.until_eof;
+      steps = s.steps;
+      keeps = s.keeps;
+      report = s.report;
+      progress = s.progress;
+    } };
+
+    ghost invariant = { λ s. (IsCrew s.workers) × (s.accept + length s.peers.items ≤ most_links)
+        × (s.crowd ≤ most.crowd) × (IsWithin s.steps most.steps) };
+}
