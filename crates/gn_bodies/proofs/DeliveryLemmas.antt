@@ -7,7 +7,7 @@ use Rattle.gn_wire.specs.Packet.{Packet}
 use Rattle.gn_rules.specs.declared.event.Event.TheVariants.{Connect, Admit}
 use Rattle.gn_frames.specs.Frames.{frames_of}
 use Rattle.gn_frames.specs.Reassembly.{IsAnswer, IsStreamed, PiecesAreOneStream, held_of}
-use Rattle.gn_service.specs.ActorState.{ActorState}
+use Rattle.gn_hub.specs.ActorState.{ActorState}
 use Rattle.gn_bodies.specs.Events.{link_events, offered_events}
 
 pub streamed : (s piece : List ℕ) (before : Option (List ℕ)) (ds : List Packet) (fault : Option FrameFault) (after : Option (List ℕ)) → PiecesAreOneStream → before ≡ held_of (frames_of s)

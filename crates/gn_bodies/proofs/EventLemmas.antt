@@ -12,9 +12,9 @@ use Rattle.gn_rules.specs.History.{admitted_of, connected_of, taken_of}
 use Rattle.gn_laws.specs.Owners.{known_conn}
 use Rattle.gn_laws.specs.Owners as laws
 use Rattle.gn_stage.specs.Jobs.{Queued}
-use Rattle.gn_service.specs.ActorState.{ActorState, receipt, with_receipt}
+use Rattle.gn_hub.specs.ActorState.{ActorState, receipt, with_receipt}
 use Rattle.gn_rules.specs.Fits.{replies}
-use Rattle.gn_service.specs.Receipts.{HasDrained, HasReceipt}
+use Rattle.gn_hub.specs.Receipts.{HasDrained, HasReceipt}
 use Rattle.gn_bodies.specs.Admitting.{HasAdmitted, KeepsConnection}
 use Rattle.gn_bodies.specs.Events.{events_of, link_event, link_events, link_events_in, connection_of, packets_of, MayClose}
 use Rattle.gn_bodies.specs.ReaderRows.{WithClose}

@@ -9,8 +9,8 @@ use Rattle.gn_rules.specs.declared.reply.Reply.{Reply}
 use Rattle.gn_rules.specs.declared.reply.Reply.TheVariants.{Connected, TooMany, Closed, Admitted, Busy, Crowded, Routed, Dropped, Taken, Sent}
 use Rattle.gn_stage.specs.Ends.{End, with_job}
 use Rattle.gn_stage.specs.Jobs.{Queued}
-use Rattle.gn_service.specs.ActorState.{ActorState, receipt, with_receipt}
-use Rattle.gn_service.specs.Receipts.{HasReceipt}
+use Rattle.gn_hub.specs.ActorState.{ActorState, receipt, with_receipt}
+use Rattle.gn_hub.specs.Receipts.{HasReceipt}
 use Rattle.gn_bodies.specs.Admitting.{Admitting, HasAdmitted, IsOwed, IsSettled}
 use Rattle.gn_bodies.specs.Events.{MayClose, events_of}
 use Rattle.gn_bodies.specs.Jobs.{is_route, is_routed_next, is_route_of, job_by, jobs_left, routes_of}

@@ -20,7 +20,7 @@ use Rattle.gn_bodies.specs.declared.ends.ReaderEnd.TheVariants.{Bytes, Fault, Re
 use Rattle.gn_shake.specs.declared.role.Role.{Role}
 use Rattle.gn_bodies.specs.declared.piece.Reading.{Reading}
 use Rattle.gn_bodies.specs.declared.piece.Reading.TheVariants as reading
-use Rattle.gn_service.specs.ActorState.{ActorState}
+use Rattle.gn_hub.specs.ActorState.{ActorState}
 use Rattle.gn_bodies.specs.Events.{events_of, link_events, link_events_in, connection_of, offered_events}
 use Rattle.gn_shake.specs.Roles.{greeting_of}
 use Rattle.gn_links.specs.Halves.{Source}

@@ -17,7 +17,7 @@ use Rattle.gn_wire.specs.Encoding.{bytes_of}
 use Rattle.gn_shake.specs.declared.role.Role.{Role}
 use Rattle.gn_rules.specs.declared.event.Event.TheVariants.{Take}
 use Rattle.gn_rules.specs.declared.reply.Reply.TheVariants.{Taken}
-use Rattle.gn_service.specs.ActorState.{ActorState, receipt, with_receipt}
+use Rattle.gn_hub.specs.ActorState.{ActorState, receipt, with_receipt}
 use Rattle.gn_bodies.specs.Events.{packets_of}
 use Rattle.gn_laws.specs.Owners as laws
 use Rattle.gn_bodies.specs.Written.{AreTakes, opening_texts, texts, Breaks}

@@ -6,7 +6,7 @@ use Rattle.gn_rules.specs.declared.reply.Reply.TheVariants.{Admitted, Busy, Crow
 use Rattle.gn_stage.specs.Ends.{End}
 use Rattle.gn_stage.specs.Jobs.{Queued}
 use Rattle.gn_wire.specs.Packet.{Packet}
-use Rattle.gn_service.specs.ActorState.{ActorState, receipt, with_receipt}
+use Rattle.gn_hub.specs.ActorState.{ActorState, receipt, with_receipt}
 use Rattle.gn_bodies.specs.Events.{connection_of, events_of, link_events}
 use Rattle.gn_bodies.specs.Jobs.{jobs_left}
 

@@ -7,7 +7,7 @@ use Rattle.gn_rules.specs.declared.receipt.Receipt.{Receipt}
 use Rattle.gn_rules.specs.declared.reply.Reply.TheVariants.{Closed}
 use Rattle.gn_laws.specs.Owners.{known_conn}
 use Rattle.gn_laws.specs.Owners as laws
-use Rattle.gn_service.specs.ActorState.{ActorState, receipt, with_receipt}
+use Rattle.gn_hub.specs.ActorState.{ActorState, receipt, with_receipt}
 
 -- an actor's events, in order
 abbrev pub events_of : {A : Type 0} → ActorState A → List (Event A)

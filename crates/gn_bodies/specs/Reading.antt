@@ -9,7 +9,7 @@ use Rattle.gn_shake.specs.Greeting.{greeting_state}
 use Rattle.gn_shake.specs.Roles.{greeting_of}
 use Rattle.gn_shake.specs.Shaking.{shake_of}
 use Rattle.gn_links.specs.Views.{ReadHalf}
-use Rattle.gn_service.specs.ActorState.{ActorState}
+use Rattle.gn_hub.specs.ActorState.{ActorState}
 use Rattle.gn_bodies.specs.declared.ends.ReaderEnd.{ReaderEnd}
 use Rattle.gn_bodies.specs.declared.ends.ReaderEnd.TheVariants.{Bytes, Fault, ReadFailed, Turns, GreetingCut, NotLive}
 use Rattle.gn_bodies.specs.declared.piece.Delivery.{Delivery}

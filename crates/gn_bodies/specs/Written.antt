@@ -8,8 +8,8 @@ use Rattle.gn_shake.specs.declared.role.Role.{Role}
 use Rattle.gn_shake.specs.declared.role.Role.TheVariants.{Accepting, Calling, Plain}
 use Rattle.gn_shake.specs.Texts.{request_text, consent_text}
 use Rattle.gn_links.specs.Views.{WrittenHalf}
-use Rattle.gn_service.specs.ActorState.{ActorState}
-use Rattle.gn_service.specs.Receipts.{HasDrained}
+use Rattle.gn_hub.specs.ActorState.{ActorState}
+use Rattle.gn_hub.specs.Receipts.{HasDrained}
 use Rattle.gn_bodies.specs.declared.ends.WriterEnd.{WriterEnd}
 use Rattle.gn_bodies.specs.declared.ends.WriterEnd.TheVariants.{Drained, WriteFailed, Closed, NeverOpened}
 use Rattle.gn_bodies.specs.Events.{events_of, packets_of, MayClose}

@@ -4,15 +4,15 @@ ghost use Rattle.std.specs.Prelude.{◌≡◌, [], ℕ, Some, true, IfErr, IfOk,
 ghost use Rattle.gn_rules.specs.declared.event.Event.TheVariants.{Admit, Route};
 ghost use Rattle.gn_wire.specs.Packet.{Packet};
 ghost use Rattle.gn_rules.specs.Fits.{refuses};
-ghost use Rattle.gn_service.specs.Receipts.{HasReceipt};
+ghost use Rattle.gn_hub.specs.Receipts.{HasReceipt};
 ghost use Rattle.gn_bodies.specs.Admitting.{HasAdmitted, HasOnlyConnected};
 ghost use Rattle.gn_bodies.specs.Events.{packets_of, MayClose};
 
 use crate::ends::BodyFault;
+use gn_hub::{Actor, Service};
 use gn_links::{Gate, Made};
 use gn_payload::Checked;
 use gn_rules::{ConnId, Event, Refusal, RouterCore, Ticket};
-use gn_service::{Actor, Service};
 use gn_stage::Job;
 use gn_wire::Descriptor;
 use std::alloc::Allocator;

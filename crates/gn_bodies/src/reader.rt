@@ -13,9 +13,9 @@ ghost use Rattle.gn_bodies.specs.Reading.{EndsReading, HasTakenPiece, IsTaken, R
 use crate::ends::{BodyFault, ReaderEnd};
 use crate::handler::ReaderHandler;
 use crate::piece::{Piece, Reading};
+use gn_hub::{Actor, Service};
 use gn_links::{Gate, Half, LinkReader};
 use gn_rules::{ConnId, RouterCore};
-use gn_service::{Actor, Service};
 use gn_shake::{Role, Shake};
 use gn_stage::{Intake, IntakeHome, Site};
 use std::alloc::{Allocator, Global};

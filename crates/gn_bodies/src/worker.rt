@@ -2,16 +2,16 @@
 
 ghost use Rattle.std.specs.Prelude.{◌≡◌, ◌++◌, [], MatchResult, OnOk};
 ghost use Rattle.gn_rules.specs.declared.event.Event.TheVariants.{Route};
-ghost use Rattle.gn_service.specs.Receipts.{HasReceipt};
+ghost use Rattle.gn_hub.specs.Receipts.{HasReceipt};
 ghost use Rattle.gn_bodies.specs.Events.{events_of, link_events};
 ghost use Rattle.gn_bodies.specs.Jobs.{routes_of};
 
 use crate::asking::route;
 use crate::ends::BodyFault;
+use gn_hub::{Actor, Service};
 use gn_links::Gate;
 use gn_payload::Checked;
 use gn_rules::RouterCore;
-use gn_service::{Actor, Service};
 use gn_stage::{Job, Outlet, OutletHome, Site};
 use std::alloc::{Allocator, Global};
 use std::sync::Wait;

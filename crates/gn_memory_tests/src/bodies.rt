@@ -5,10 +5,10 @@ ghost use Rattle.gn_links.specs.Views.{IsNewReader, IsNewWriter};
 
 use gn_bodies::{BodyFault, ReaderEnd, WriterEnd, reader_body, worker_body, writer_body};
 use gn_fixtures::{Heap, OWN_PONG, PING, Refused, Turn, Turns, growths, usual};
+use gn_hub::{Actor, Service};
 use gn_links::{Link, LinkReader, LinkWriter, MemoryLink, MemoryWriter, NoGate};
 use gn_router::TableRouter;
 use gn_rules::RouterCore;
-use gn_service::{Actor, Service};
 use gn_shake::{Role, consent, request};
 use gn_stage::{Intake, Outlet, Site, Stage};
 use std::alloc::{AllocError, Allocator};

@@ -4,11 +4,11 @@ ghost use Rattle.std.specs.Prelude.{◌≡◌};
 
 use crate::steps::{are_same, read};
 use gn_fixtures::{Heap, Refused, Turn, Turns, growths, ping, usual};
+use gn_hub::{Actor, Hub, Next, Outgoing, Role, Service, ServiceFault};
 use gn_payload::Checked;
 use gn_plain::PlainRouter;
 use gn_router::TableRouter;
 use gn_rules::{Event, Refusal, RouterCore};
-use gn_service::{Actor, Hub, Next, Outgoing, Role, Service, ServiceFault};
 use std::alloc::{Allocator, Global};
 use std::marker::{Brand, PhantomData};
 use std::sync::Wait;

@@ -13,10 +13,10 @@ use gn_bodies::{
     BodyFault, ReaderEnd, WriterDone, WriterEnd, reader_body, worker_body, writer_body,
 };
 use gn_fixtures::ping;
+use gn_hub::{Actor, Door, Hub, Service};
 use gn_links::{Link, LinkReader, LinkWriter, MemoryLink, MemoryWriter};
 use gn_router::TableRouter;
 use gn_rules::{RouterCore, Step};
-use gn_service::{Actor, Door, Hub, Service};
 use gn_shake::Role;
 use gn_stage::{Intake, Job, Outlet, Site, Stage};
 use std::alloc::Global;

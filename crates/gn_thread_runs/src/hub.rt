@@ -8,10 +8,10 @@ ghost use Rattle.std.specs.Prelude.{◌≡◌, ◌+◌, ◌*◌, ◌≤◌, leng
 ghost use Rattle.gn_rules.specs.Limits.{most_links};
 
 use gn_fixtures::{ping, usual};
+use gn_hub::{Actor, Hub, Next, Role, Service};
 use gn_payload::Checked;
 use gn_plain::PlainRouter;
 use gn_rules::{ConnId, Event, Refusal, RouterCore, Step, Ticket, is_step_of};
-use gn_service::{Actor, Hub, Next, Role, Service};
 use gn_text::push_step;
 use std::alloc::Global;
 use std::marker::Brand;

@@ -4,11 +4,11 @@ ghost use Rattle.std.specs.Prelude.{◌≡◌, ◌+◌};
 
 use crate::hub::{service_of, stands_in};
 use gn_fixtures::{ping, usual};
+use gn_hub::{Actor, Outgoing, Role, Service};
 use gn_legal::legal;
 use gn_payload::Checked;
 use gn_plain::PlainRouter;
 use gn_rules::{Event, Legality, RouterCore, Step};
-use gn_service::{Actor, Outgoing, Role, Service};
 use std::alloc::Global;
 use std::marker::Brand;
 use std::sync::Wait;

@@ -1,6 +1,6 @@
 -- Actors that were made are numbered in order.
 use Rattle.std.proofs.Common.{◌≡◌, ◌<◌, ◌+◌, ℕ, suc, List, [], ◌∷◌, length, get_or, sym, ◌∙◌, ap, subst, arith}
-use Rattle.gn_service.specs.ActorState.{ActorState, new_actor}
+use Rattle.gn_hub.specs.ActorState.{ActorState, new_actor}
 use Rattle.gn_threads.specs.Actors.{AreActorsFrom}
 
 numbered_from : {A : Type 0} (k : ℕ) (actors : List (ActorState A)) → ((j : ℕ) (d : ActorState A) → j < length actors → get_or actors j d ≡ new_actor (k + j)) → AreActorsFrom k actors

@@ -1,6 +1,6 @@
 -- The actors of a run that have no body yet.
 use Rattle.std.specs.Prelude.{◌≡◌, ◌+◌, ℕ, List, [], ◌∷◌}
-use Rattle.gn_service.specs.ActorState.{ActorState, new_actor}
+use Rattle.gn_hub.specs.ActorState.{ActorState, new_actor}
 
 -- actors without receipts, numbered from k on
 abbrev pub AreActorsFrom : {A : Type 0} → ℕ → List (ActorState A) → Type 0

@@ -1,6 +1,6 @@
 -- What the house does with the jobs that the stage had left.
 use Rattle.std.specs.Prelude.{◌≡◌, List, ◌++◌}
-use Rattle.gn_service.specs.ActorState.{ActorState}
+use Rattle.gn_hub.specs.ActorState.{ActorState}
 use Rattle.gn_stage.specs.Jobs.{Queued}
 use Rattle.gn_bodies.specs.Events.{events_of}
 use Rattle.gn_bodies.specs.Jobs.{routes_of}

@@ -1,9 +1,9 @@
 //! The actors of a run that have no body yet.
 
 ghost use Rattle.std.specs.Prelude.{◌≡◌, ◌<◌, ◌+◌, ◌^◌, ℕ, vec_len, slice_index_or};
-ghost use Rattle.gn_service.specs.ActorState.{ActorState, new_actor};
+ghost use Rattle.gn_hub.specs.ActorState.{ActorState, new_actor};
 
-use gn_service::Actor;
+use gn_hub::Actor;
 use std::alloc::{Allocator, Global};
 use std::marker::Model;
 use std::sync::ledger::Ledger;

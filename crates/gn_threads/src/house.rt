@@ -4,9 +4,9 @@ ghost use Rattle.std.specs.Prelude.{◌∷◌, [], OnOk};
 ghost use Rattle.gn_threads.specs.House.{HasRouted};
 
 use gn_bodies::BodyFault;
+use gn_hub::{Actor, Hub};
 use gn_payload::Checked;
 use gn_rules::{RouterCore, Ticket};
-use gn_service::{Actor, Hub};
 use gn_stage::Job;
 use std::alloc::Allocator;
 use std::sync::ledger::Ledger;

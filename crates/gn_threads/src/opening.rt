@@ -2,10 +2,10 @@
 
 ghost use Rattle.std.specs.Prelude.{◌≡◌, ◌+◌, ◌*◌, ◌≤◌, length, vec_len, IfOk};
 ghost use Rattle.gn_rules.specs.Limits.{IsCrew, most_links};
-ghost use Rattle.gn_service.specs.ActorState.{AreNew};
+ghost use Rattle.gn_hub.specs.ActorState.{AreNew};
 
+use gn_hub::{Actor, Service};
 use gn_rules::{Config, RouterCore};
-use gn_service::{Actor, Service};
 use gn_shake::Role;
 use gn_stage::{Desk, Intake, Outlet, Site, Stage};
 use std::alloc::{AllocError, Allocator, Global};

@@ -5,9 +5,9 @@ ghost use Rattle.gn_links.specs.Views.{IsNewReader, IsNewWriter};
 ghost use Rattle.gn_bodies.specs.Done.{half_of, IsReaderDone, IsWriterDone, reader_ended, writer_ended};
 
 use gn_bodies::{ReaderDone, WorkerDone, WriterDone, reader_body, worker_body, writer_body};
+use gn_hub::{Actor, Service};
 use gn_links::{Gate, LinkReader, LinkWriter};
 use gn_rules::RouterCore;
-use gn_service::{Actor, Service};
 use gn_shake::Role;
 use gn_stage::{Intake, Outlet, Site};
 use std::alloc::{Allocator, Global};

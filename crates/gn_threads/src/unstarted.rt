@@ -3,12 +3,12 @@
 ghost use Rattle.gn_rules.specs.Limits.{most_links, most_workers};
 ghost use Rattle.std.specs.Prelude.{◌≡◌, ◌+◌, ◌*◌, ◌<◌, ◌≤◌, [], All, length, map, vec_len, IfOk};
 ghost use Rattle.gn_links.specs.Views.{IsNewReader, IsNewWriter};
-ghost use Rattle.gn_service.specs.ActorState.{AreNew};
+ghost use Rattle.gn_hub.specs.ActorState.{AreNew};
 
 use crate::actors::UnstartedActors;
 use crate::start::{ReaderStart, WorkerStart, WriterStart};
+use gn_hub::Actor;
 use gn_links::{LinkReader, LinkWriter};
-use gn_service::Actor;
 use gn_shake::Role;
 use gn_stage::{Intake, Outlet, Site};
 use std::alloc::{AllocError, Allocator, Global};

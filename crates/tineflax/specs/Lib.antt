@@ -6,7 +6,7 @@ pub mod Rules
 pub mod Laws
 pub mod Tables
 pub mod Stage
-pub mod Service
+pub mod Hub
 pub mod Links
 pub mod Bodies
 pub mod Run

@@ -22,9 +22,9 @@ pub use Rattle.gn_rules.specs.declared.legality.Legality
 pub use Rattle.gn_rules.specs.declared.statistics.Stats
 pub use Rattle.gn_tables.specs.declared.flights.Flight
 pub use Rattle.gn_stage.specs.declared.settle.StageFault
-pub use Rattle.gn_service.specs.declared.mark.Door
-pub use Rattle.gn_service.specs.declared.next.Next
-pub use Rattle.gn_service.specs.declared.next.Outgoing
+pub use Rattle.gn_hub.specs.declared.mark.Door
+pub use Rattle.gn_hub.specs.declared.next.Next
+pub use Rattle.gn_hub.specs.declared.next.Outgoing
 pub use Rattle.gn_bodies.specs.declared.ends.ReaderEnd
 pub use Rattle.gn_bodies.specs.declared.ends.WriterEnd
 pub use Rattle.gn_bodies.specs.declared.ends.BodyFault

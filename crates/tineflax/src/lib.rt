@@ -75,8 +75,8 @@ pub mod stage {
 }
 
 /// The router under its lock, and the actors that call it.
-pub mod service {
-    pub use gn_service::{Actor, Door, Hub, Mark, Next, Outgoing, Service, ServiceFault};
+pub mod hub {
+    pub use gn_hub::{Actor, Door, Hub, Mark, Next, Outgoing, Service, ServiceFault};
 }
 
 /// Links over memory and over TCP.

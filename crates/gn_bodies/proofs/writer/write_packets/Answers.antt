@@ -4,7 +4,7 @@ use Rattle.gn_wire.specs.Encoding.{bytes_of}
 use Rattle.gn_bodies.specs.Events.{packets_of}
 use Rattle.gn_rules.specs.declared.event.Event.TheVariants.{Take}
 use Rattle.gn_rules.specs.declared.reply.Reply.TheVariants.{Taken}
-use Rattle.gn_service.specs.ActorState.{receipt}
+use Rattle.gn_hub.specs.ActorState.{receipt}
 use Rattle.gn_bodies.specs.Written.{texts}
 use Rattle.gn_bodies.proofs.EventLemmas.{drained_packets, packets-receipt}
 use Rattle.gn_bodies.proofs.WrittenLemmas.{encoded_more, encoded_part, takes_more}

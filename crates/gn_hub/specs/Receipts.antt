@@ -1,0 +1,36 @@
+-- What the calls that take the lock do to their actor.
+use Rattle.std.specs.Prelude.{◌≡◌, ℕ, Bool, true, false, List, [], ◌∷◌, ◌++◌}
+use Rattle.gn_wire.specs.Packet.{Packet}
+use Rattle.gn_rules.specs.declared.event.Event.{Event}
+use Rattle.gn_rules.specs.declared.event.Event.TheVariants.{Close, Take}
+use Rattle.gn_rules.specs.declared.receipt.Receipt.{Receipt}
+use Rattle.gn_rules.specs.declared.refusal.Refusal.{Refusal}
+use Rattle.gn_rules.specs.declared.refusal.Refusal.TheVariants.{HistoryFull, NoMemory}
+use Rattle.gn_rules.specs.declared.reply.Reply.{Reply}
+use Rattle.gn_rules.specs.declared.reply.Reply.TheVariants.{Closed, Taken}
+use Rattle.gn_hub.specs.ActorState.{ActorState, receipt, with_receipt}
+use Rattle.gn_rules.specs.Fits.{replies}
+
+-- an actor got a receipt of the event, with a reply that it may have
+abbrev pub HasReceipt : {A : Type 0} → Event A → ActorState A → ActorState A → Type 0
+HasReceipt {A} event me us =
+    (index : ℕ) × (reply : Reply A) × (replies event reply ≡ true) × (us ≡ with_receipt me (receipt index event reply))
+
+-- an actor got a receipt of a packet that was taken
+abbrev pub HasTaken : {A : Type 0} → ℕ → ActorState A → ActorState A → Type 0
+HasTaken {A} c me us = (index : ℕ) × (packet : Packet) × (us ≡ with_receipt me (receipt index (Take c) (Taken packet)))
+
+-- an actor got a receipt of a close that discarded nothing
+abbrev pub HasDrained : {A : Type 0} → ℕ → ActorState A → ActorState A → Type 0
+HasDrained {A} c me us = (index : ℕ) × (us ≡ with_receipt me (receipt index (Close c) (Closed 0)))
+
+-- an actor's last receipt is of this packet, which was taken
+abbrev pub HasTakenLast : {A : Type 0} → Packet → ActorState A → Type 0
+HasTakenLast {A} packet me =
+    (before : List (Receipt A)) × (index c : ℕ) × (me.receipts ≡ before ++ receipt index (Take c) (Taken packet) ∷ [])
+
+-- a refusal that stops every step: the history is full, or out of memory
+abbrev pub is_stop : Refusal → Bool
+is_stop HistoryFull = true
+is_stop NoMemory = true
+is_stop refusal = false

@@ -1,0 +1,292 @@
+//! What lies under the lock: the router, the book of its steps, and what is known of the links.
+
+ghost use Rattle.std.specs.Prelude.{◌≡◌, ◌==◌, [], true, false, length, MatchResult};
+ghost use Rattle.std.specs.List.{list_all, slice_get};
+ghost use Rattle.gn_rules.specs.Answer.{checked_answer};
+ghost use Rattle.gn_rules.specs.Flight.{flying};
+ghost use Rattle.gn_rules.specs.declared.event.Event.TheVariants.{Connect, Route};
+ghost use Rattle.gn_hub.specs.declared.mark.Door.TheVariants.{Shut};
+ghost use Rattle.gn_hub.specs.HubState.{are_read, do_all_call, door_by, door_of, is_awaited_no_more, is_closing, past_of, with_door, with_reader_done};
+ghost use Rattle.gn_hub.specs.Calls.{HasConnected, HasStepped, IsNext, IsOutgoing, IsRefusal, IsStop, answer_now, due, is_step};
+
+use crate::actor::Actor;
+use crate::mark::{Door, Mark};
+use crate::next::{Next, Outgoing, next_of};
+use gn_payload::Checked;
+use gn_rules::{ConnId, Event, Refusal, Reply, RouterCore, Ticket};
+use std::alloc::{Allocator, Global};
+use std::marker::Model;
+use std::sync::ledger::{Book, Ledger, Share};
+
+/// The router that the threads of a run share, the book of its steps, what is known of each link, and whether the run has
+/// failed. The book is the length of the router's history.
+#[derive(Drop)]
+pub struct Hub<C: RouterCore<A>, L: Ledger, A: Allocator + Copy = Global> {
+    core: C,
+    book: Book<L>,
+    links: Vec<Mark, A>,
+    failed: bool,
+}
+
+impl<C: RouterCore<A>, L: Ledger, A: Allocator + Copy> Model for Hub<C, L, A> {
+    ghost use Rattle.std.specs.Prelude.{◌≡◌, length};
+    ghost use Rattle.gn_hub.specs.HubState.{HubState};
+
+    ghost Value = { HubState A };
+
+    ghost view = { λ h. record {
+      settings = C.settings h.core;
+      steps = C.steps h.core;
+      links = h.links.items;
+      failed = h.failed;
+    } };
+
+    ghost invariant = { λ h. h.book.total ≡ length (C.steps h.core) };
+}
+
+impl<C: RouterCore<A>, L: Ledger, A: Allocator + Copy> Hub<C, L, A> {
+    /// A hub with no steps, of a run that hasn't failed.
+    pub(crate) fn new(core: C, book: Book<L>, links: Vec<Mark, A>) -> Self
+        requires { (book.total ≡ 0) × (C.steps core ≡ []) }
+        ensures { result ≡ record { settings = C.settings core; steps = []; links = links.items; failed = false } }
+    {
+        Hub {
+            core,
+            book,
+            links,
+            failed: false,
+        }
+    }
+
+    /// An actor's event. A refusal changes nothing.
+    pub fn call(&mut self, me: &mut Actor<L, A>, event: &Event<A>) -> Result<(), Refusal>
+        ensures { MatchResult result
+            (λ _. HasStepped (answer_now self.old event.now) event.now self.old me.old self.new me.new)
+            (λ refusal. IsRefusal refusal (answer_now self.old event.now) × (self.new ≡ self.old) × (me.new ≡ me.old)) }
+    {
+        let Hub { core, book, .. } = self;
+        let Actor {
+            number,
+            receipts,
+            share,
+        } = me;
+        receipts.reserve(1)?;
+        let receipt = core.apply(*number, event)?;
+        receipts.push_reserved(receipt);
+        book.add(share, 1);
+        Ok(())
+    }
+
+    /// As `call` of a Route, with the descriptor's payload checked beforehand. A descriptor that isn't the admitted one is
+    /// refused as strange. A refusal changes nothing.
+    pub fn route(
+        &mut self,
+        me: &mut Actor<L, A>,
+        ticket: Ticket,
+        checked: &Checked<A>,
+    ) -> Result<(), Refusal>
+        ensures { MatchResult result
+            (λ _. HasStepped (checked_answer self.old.settings (past_of self.old) ticket checked.now) (Route ticket)
+            self.old me.old self.new me.new)
+            (λ refusal. IsRefusal refusal (checked_answer self.old.settings (past_of self.old) ticket checked.now)
+            × (self.new ≡ self.old) × (me.new ≡ me.old)) }
+    {
+        let Hub { core, book, .. } = self;
+        let Actor {
+            number,
+            receipts,
+            share,
+        } = me;
+        receipts.reserve(1)?;
+        let receipt = core.route(*number, ticket, checked)?;
+        receipts.push_reserved(receipt);
+        book.add(share, 1);
+        Ok(())
+    }
+
+    /// The Connect of the reader of a link. Its reply opens the link's door, or shuts it. A refusal changes nothing.
+    pub fn connect(&mut self, me: &mut Actor<L, A>, link: u32) -> Result<(), Refusal>
+        requires { me.old.number ≡ link }
+        ensures { MatchResult result
+            (λ _. HasConnected link self.old me.old self.new me.new)
+            (λ refusal. IsRefusal refusal (answer_now self.old Connect) × (self.new ≡ self.old) × (me.new ≡ me.old)) }
+    {
+        self.call(me, &Event::Connect)?;
+        let door = door_after(me.last_reply());
+        self.set_door(link, door);
+        Ok(())
+    }
+
+    /// What is next for the writer of a connection: a Take where a packet waits, a Close where the run closes. A refusal
+    /// comes only where a step was to be made, and changes nothing.
+    pub fn next_out(&mut self, me: &mut Actor<L, A>, c: ConnId) -> Result<Next, Refusal>
+        ensures { MatchResult result
+            (λ next. IsNext (due self.old c) next c self.old me.old self.new me.new)
+            (λ refusal. (is_step (due self.old c) ≡ true) × IsStop refusal self.old
+            × (self.new ≡ self.old) × (me.new ≡ me.old)) }
+    {
+        let answer = self.outgoing(me, c)?;
+        Ok(next_of(answer))
+    }
+
+    /// `next_out`, by what a writer is answered that waits while it is none.
+    pub(crate) fn outgoing(
+        &mut self,
+        me: &mut Actor<L, A>,
+        c: ConnId,
+    ) -> Result<Option<Outgoing>, Refusal>
+        ensures { MatchResult result
+            (λ answer. IsOutgoing (due self.old c) answer c self.old me.old self.new me.new)
+            (λ refusal. (is_step (due self.old c) ≡ true) × IsStop refusal self.old
+            × (self.new ≡ self.old) × (me.new ≡ me.old)) }
+    {
+        if !self.core.is_live(c) || self.failed {
+            return Ok(Some(Outgoing::Closed));
+        }
+        if self.core.waiting(c) != 0 {
+            self.call(me, &Event::Take(c))?;
+            return Ok(Some(Outgoing::Packet));
+        }
+        if self.closing() {
+            self.call(me, &Event::Close(c))?;
+            return Ok(Some(Outgoing::Drained));
+        }
+        Ok(None)
+    }
+
+    /// The link won't connect: its door is shut. Changes nothing where the run has no such link.
+    pub fn shut(&mut self, link: u32)
+        ensures { self.new ≡ with_door self.old link Shut }
+    {
+        self.set_door(link, Door::Shut);
+    }
+
+    /// The reader of the link is done. Changes nothing where the run has no such link.
+    pub fn reader_done(&mut self, link: u32)
+        ensures { self.new ≡ with_reader_done self.old link }
+    {
+        let i = link as usize;
+        if i < self.links.len() {
+            self.links[i].is_done = true;
+        }
+    }
+
+    /// Sets the door of a link of the run.
+    fn set_door(&mut self, link: u32, door: Door)
+        ensures { self.new ≡ with_door self.old link door }
+    {
+        let i = link as usize;
+        if i < self.links.len() {
+            self.links[i].door = door;
+        }
+    }
+
+    /// Whether the run is closing: nothing is in flight, and the reader of each link that doesn't call is done, or of each
+    /// link, where all of them call.
+    pub fn closing(&self) -> bool
+        ensures { result ≡ is_closing self.now }
+    {
+        self.is_idle() && self.is_read()
+    }
+
+    /// Whether nothing is in flight.
+    fn is_idle(&self) -> bool
+        ensures { result ≡ (length (flying (past_of self.now)) == 0) }
+    {
+        self.core.flights() == 0
+    }
+
+    /// Whether the run waits for no reader any more.
+    fn is_read(&self) -> bool
+        ensures { result ≡ are_read self.now.links }
+    {
+        are_read(self.links.as_slice())
+    }
+
+    /// Whether the run has failed.
+    pub fn failed(&self) -> bool
+        ensures { result ≡ self.now.failed }
+    {
+        self.failed
+    }
+
+    /// The run has failed.
+    pub fn fail(&mut self)
+        ensures { self.new ≡ record self.old { failed = true } }
+    {
+        self.failed = true;
+    }
+
+    /// The door of a link; shut where the run has no such link.
+    pub fn door(&self, link: u32) -> Door
+        ensures { result ≡ door_of (slice_get self.now.links link) }
+    {
+        match self.links.get(link as usize) {
+            Some(mark) => mark.door,
+            None => Door::Shut,
+        }
+    }
+
+    /// The book: how many steps were made.
+    pub fn book(&self) -> u64
+        ensures { result ≡ length self.now.steps }
+    {
+        self.core.history().len() as u64
+    }
+
+    /// The router.
+    pub fn router(&self) -> &C
+        ensures settings { C.settings result.now ≡ self.now.settings }
+        ensures steps { C.steps result.now ≡ self.now.steps }
+    {
+        &self.core
+    }
+
+    /// The router, for keeps.
+    pub fn into_router(self) -> C
+        ensures settings { C.settings result ≡ self.settings }
+        ensures steps { C.steps result ≡ self.steps }
+    {
+        self.core
+    }
+
+    /// All shares together are the book.
+    pub fn audit(&mut self, all: &mut Share<L>)
+        requires { all.old.parts ≡ L.parts }
+        ensures total { all.new.amount ≡ length self.new.steps }
+        ensures same { (self.new ≡ self.old) × (all.new.amount ≡ all.old.amount) × (all.new.parts ≡ all.old.parts) }
+    {
+        self.book.audit(all);
+    }
+}
+
+/// The door that the reply to a Connect opens or shuts.
+fn door_after<A: Allocator>(reply: &Reply<A>) -> Door
+    ensures { result ≡ door_by reply.now }
+{
+    match reply {
+        Reply::Connected(c) => Door::Met(*c),
+        _ => Door::Shut,
+    }
+}
+
+/// Whether all links call.
+fn do_all_call(links: &[Mark]) -> bool
+    ensures { result ≡ do_all_call links.now }
+{
+    links.iter().all(|m| m.role.is_calling())
+}
+
+/// Whether a run waits for no reader of these links any more.
+fn are_read(links: &[Mark]) -> bool
+    ensures { result ≡ are_read links.now }
+{
+    are_awaited_no_more(links, do_all_call(links))
+}
+
+/// Whether a run waits for none of these readers, where all links call or not.
+fn are_awaited_no_more(links: &[Mark], all_call: bool) -> bool
+    ensures { result ≡ list_all (is_awaited_no_more all_call) links.now }
+{
+    links.iter().all(|m| m.is_awaited_no_more(all_call))
+}

@@ -1,0 +1,111 @@
+//! How the service of a run is made, and its actors.
+
+ghost use Rattle.std.specs.Prelude.{◌≡◌, ◌+◌, ◌*◌, ◌<◌, ◌≤◌, ◌↔◌, length, map, IfErr, IfOk};
+ghost use Rattle.gn_rules.specs.Limits.{IsCrew, most_links};
+ghost use Rattle.gn_hub.specs.ActorState.{AreNew};
+ghost use Rattle.gn_hub.specs.HubState.{new_mark, opening};
+ghost use Rattle.gn_hub.specs.declared.opening.ServiceFault.TheVariants.{BadWorkers};
+
+use crate::actor::Actor;
+use crate::hub::Hub;
+use crate::mark::Mark;
+use crate::service::Service;
+use gn_rules::{Config, MOST_WORKERS, RouterCore};
+use gn_shake::Role;
+use std::alloc::{AllocError, AllocFailed, Allocator};
+use std::sync::ledger::{Blank, Ledger, Share};
+
+/// Why no service was made.
+#[derive(Clone, Copy, Debug, PartialEq, Eq)]
+pub enum ServiceFault {
+    /// Not 1 to 64 workers.
+    BadWorkers,
+    /// Out of memory.
+    NoMemory,
+}
+
+impl From<AllocError> for ServiceFault {
+    ghost use Rattle.gn_hub.specs.declared.opening.ServiceFault.TheVariants.{NoMemory};
+
+    ghost from_gives = { λ _ e. e ≡ NoMemory };
+
+    fn from(_e: AllocError) -> ServiceFault {
+        ServiceFault::NoMemory
+    }
+}
+
+impl<C: RouterCore<A> + Drop, L: Ledger, A: Allocator + Copy> Service<C, L, A> {
+    /// The service of a run with links of these roles, at most 256, and so many workers, and its actors: the readers in the
+    /// order of their links, then the writers, the workers and the house. The ledger has a part for each of them.
+    /// `BadWorkers` comes exactly where there aren't 1 to 64 workers.
+    pub fn new(
+        alloc: A,
+        blank: Blank,
+        config: &Config,
+        roles: &[Role],
+        workers: u32,
+    ) -> Result<(Self, Vec<Actor<L, A>, A>), ServiceFault>
+        requires name { blank.name ≡ L.name }
+        requires parts { (blank.parts ≡ L.parts) × (blank.parts ≡ 2 * length roles.now + workers + 1) }
+        requires few { length roles.now ≤ most_links }
+        ensures actors { IfOk result (λ made. AreNew (2 * length roles.now + workers + 1) made.1.items) }
+        ensures workers { IfOk result (λ made. IsCrew workers) }
+        ensures bad_workers { IfErr result (λ fault. (fault ≡ BadWorkers) ↔ (¬ IsCrew workers)) }
+    {
+        if workers == 0 || workers > MOST_WORKERS {
+            return Err(ServiceFault::BadWorkers);
+        }
+        let (hub, actors) = open(alloc, blank, config, roles, workers)?;
+        Ok((Service::over(hub), actors))
+    }
+}
+
+/// The hub of a run that begins, and the actors.
+fn open<C: RouterCore<A>, L: Ledger, A: Allocator + Copy>(
+    alloc: A,
+    blank: Blank,
+    config: &Config,
+    roles: &[Role],
+    workers: u32,
+) -> Result<(Hub<C, L, A>, Vec<Actor<L, A>, A>), AllocError>
+    requires name { blank.name ≡ L.name }
+    requires parts { (blank.parts ≡ L.parts) × (blank.parts ≡ 2 * length roles.now + workers + 1) }
+    requires few { (length roles.now ≤ most_links) × IsCrew workers }
+    ensures hub { IfOk result (λ made. made.0 ≡ opening config.now roles.now) }
+    ensures actors { IfOk result (λ made. AreNew (2 * length roles.now + workers + 1) made.1.items) }
+{
+    let links = marks_of(alloc, roles)?;
+    let (book, all) = blank.open::<L>();
+    let actors = make_actors(alloc, all, 2 * roles.len() as u32 + workers + 1)?;
+    let core = C::make(alloc, config)?;
+    Ok((Hub::new(core, book, links), actors))
+}
+
+/// Links whose readers have neither connected nor ended.
+fn marks_of<A: Allocator>(alloc: A, roles: &[Role]) -> Result<Vec<Mark, A>, AllocError>
+    ensures { IfOk result (λ marks. marks.items ≡ map new_mark roles.now) }
+{
+    let mut marks = Vec::new(alloc);
+    for role in roles {
+        marks.push(Mark::new(*role))?;
+    }
+    Ok(marks)
+}
+
+/// Actors in order, with a part of the ledger each.
+fn make_actors<L: Ledger, A: Allocator + Copy>(
+    alloc: A,
+    all: Share<L>,
+    count: u32,
+) -> Result<Vec<Actor<L, A>, A>, AllocError>
+    requires { (0 < count) × (all.parts ≡ count) × (all.amount ≡ 0) }
+    ensures { IfOk result (λ actors. AreNew count actors.items) }
+{
+    let mut all = all;
+    let mut actors = Vec::new(alloc);
+    for number in 0..count - 1 {
+        actors.push(Actor::new(alloc, number, all.split_off(1, 0)))?;
+    }
+    actors.push(Actor::new(alloc, count - 1, all))?;
+    Ok(actors)
+}

@@ -1,0 +1,185 @@
+//! The lock that the threads of a run take.
+
+ghost use Rattle.std.specs.Prelude.{◌≡◌, true, false, IfOk, IfErr, MatchResult};
+ghost use Rattle.gn_rules.specs.declared.event.Event.TheVariants.{Connect, Route};
+ghost use Rattle.gn_rules.specs.Fits.{refuses};
+ghost use Rattle.gn_hub.specs.declared.next.Outgoing.TheVariants.{Packet, Drained, Closed};
+ghost use Rattle.gn_hub.specs.Receipts.{HasDrained, HasReceipt, HasTaken, is_stop};
+
+use crate::actor::Actor;
+use crate::answered::Answered;
+use crate::hub::Hub;
+use crate::mark::Door;
+use crate::next::Outgoing;
+use gn_payload::Checked;
+use gn_rules::{ConnId, Event, Refusal, RouterCore, Ticket};
+use std::alloc::{Allocator, Global};
+use std::sync::ledger::Ledger;
+use std::sync::{Condvar, Mutex, MutexGuard, Wait};
+use std::thread::yield_now;
+
+/// How often a thread tries to take the lock before it sleeps.
+const TRIES: u32 = 32;
+
+/// The hub under one lock, and the condition variable that is notified where a change may have brought what a thread waits
+/// for: a door, a packet, the end of a connection, the closing of the run, or its failure.
+#[derive(Drop)]
+pub struct Service<C: RouterCore<A> + Drop, L: Ledger, A: Allocator + Copy = Global> {
+    hub: Mutex<Hub<C, L, A>>,
+    changed: Condvar,
+}
+
+impl<C: RouterCore<A> + Drop, L: Ledger, A: Allocator + Copy> Service<C, L, A> {
+    /// A hub under a lock of its own.
+    pub(crate) fn over(hub: Hub<C, L, A>) -> Self {
+        Service {
+            hub: Mutex::new(hub),
+            changed: Condvar::new(),
+        }
+    }
+
+    /// The hub. A thread that finds it taken lets others run and tries again, so many times, before it sleeps.
+    fn lock<R: Wait>(&self, rt: &R) -> MutexGuard<'_, Hub<C, L, A>> {
+        for _ in 0..TRIES {
+            if let Some(hub) = self.hub.try_lock() {
+                return hub;
+            }
+            yield_now();
+        }
+        self.hub.lock(rt)
+    }
+
+    /// An actor's event.
+    pub fn call<R: Wait>(
+        &self,
+        rt: &R,
+        me: &mut Actor<L, A>,
+        event: &Event<A>,
+    ) -> Result<(), Refusal>
+        ensures { MatchResult result
+            (λ _. HasReceipt event.now me.old me.new)
+            (λ refusal. (refuses event.now refusal ≡ true) × (me.new ≡ me.old)) }
+    {
+        me.make_room()?;
+        let Answered { answer, wakes } = self.lock(rt).call_answered(me, event);
+        self.wake(wakes);
+        answer
+    }
+
+    /// An actor's Route, with the descriptor's payload checked beforehand.
+    pub fn route<R: Wait>(
+        &self,
+        rt: &R,
+        me: &mut Actor<L, A>,
+        ticket: Ticket,
+        checked: &Checked<A>,
+    ) -> Result<(), Refusal>
+        ensures { MatchResult result
+            (λ _. HasReceipt (Route ticket) me.old me.new)
+            (λ refusal. (refuses {A = A} (Route ticket) refusal ≡ true) × (me.new ≡ me.old)) }
+    {
+        me.make_room()?;
+        let Answered { answer, wakes } = self.lock(rt).route_answered(me, ticket, checked);
+        self.wake(wakes);
+        answer
+    }
+
+    /// The Connect of the reader of a link, which opens or shuts its door.
+    pub fn connect<R: Wait>(&self, rt: &R, me: &mut Actor<L, A>, link: u32) -> Result<(), Refusal>
+        requires { me.old.number ≡ link }
+        ensures { MatchResult result
+            (λ _. HasReceipt Connect me.old me.new)
+            (λ refusal. (refuses {A = A} Connect refusal ≡ true) × (me.new ≡ me.old)) }
+    {
+        me.make_room()?;
+        let Answered { answer, wakes } = self.lock(rt).connect_answered(me, link);
+        self.wake(wakes);
+        answer
+    }
+
+    /// Waits until the connection has a packet for its writer, which is in the last receipt, or is over, also where this
+    /// call closed it.
+    pub fn next_out<R: Wait>(
+        &self,
+        rt: &R,
+        me: &mut Actor<L, A>,
+        c: ConnId,
+    ) -> Result<Outgoing, Refusal>
+        ensures packet { IfOk result (λ next. next ≡ Packet → HasTaken c me.old me.new) }
+        ensures drained { IfOk result (λ next. next ≡ Drained → HasDrained c me.old me.new) }
+        ensures closed { IfOk result (λ next. next ≡ Closed → me.new ≡ me.old) }
+        ensures refused { IfErr result (λ refusal. (is_stop refusal ≡ true) × (me.new ≡ me.old)) }
+    {
+        let mut has_yielded = false;
+        for _ in rt.forever() {
+            me.make_room()?;
+            let mut hub = self.lock(rt);
+            let Answered { answer, wakes } = hub.outgoing_answered(me, c);
+            self.wake(wakes);
+            match answer? {
+                Some(next) => return Ok(next),
+                // Letting others run costs less than to sleep and be woken, and often brings a packet.
+                None if !has_yielded => {
+                    drop(hub);
+                    yield_now();
+                }
+                None => drop(self.changed.wait(rt, hub)),
+            }
+            has_yielded = !has_yielded;
+        }
+        unreachable!()
+    }
+
+    /// Waits until the door of the link is open or shut, or the run has failed. The connection, where it is open.
+    pub fn meet<R: Wait>(&self, rt: &R, link: u32) -> Option<ConnId> {
+        let mut hub = self.lock(rt);
+        for _ in rt.forever() {
+            match hub.door(link) {
+                Door::Met(c) => return Some(c),
+                Door::Shut => return None,
+                Door::Unmet => {}
+            }
+            if hub.failed() {
+                return None;
+            }
+            hub = self.changed.wait(rt, hub);
+        }
+        unreachable!()
+    }
+
+    /// The link won't connect.
+    pub fn shut<R: Wait>(&self, rt: &R, link: u32) {
+        self.lock(rt).shut(link);
+        self.changed.notify_all();
+    }
+
+    /// The reader of the link is done.
+    pub fn reader_done<R: Wait>(&self, rt: &R, link: u32) {
+        self.lock(rt).reader_done(link);
+        self.changed.notify_all();
+    }
+
+    /// Whether the run has failed by now.
+    pub fn failed<R: Wait>(&self, rt: &R) -> bool {
+        self.lock(rt).failed()
+    }
+
+    /// The run has failed.
+    pub fn fail<R: Wait>(&self, rt: &R) {
+        self.lock(rt).fail();
+        self.changed.notify_all();
+    }
+
+    /// Wakes the threads that wait, where they have to look again.
+    fn wake(&self, wakes: bool) {
+        if wakes {
+            self.changed.notify_all();
+        }
+    }
+
+    /// The hub, without its lock.
+    pub fn into_hub(self) -> Hub<C, L, A> {
+        let Service { hub, changed: _ } = self;
+        hub.into_inner()
+    }
+}

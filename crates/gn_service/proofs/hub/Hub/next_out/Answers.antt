@@ -1,7 +1,0 @@
-use Rattle.gn_service.specs.Calls.{due}
-use Rattle.gn_service.proofs.StepLemmas.{next_is}
-use Rattle.gn_service.proofs.hub.Hub.next_out.Goals as goal
-
-pub returns : goal.returns
-returns g c =
-    next_is (due c.args.self.now c.args.c) c.in_ok-answer.answer c.next_of.result c.args.c c.args.self.now c.outgoing.new.self c.args.me.now c.outgoing.new.me c.next_of.ensures c.in_ok-answer.ensures

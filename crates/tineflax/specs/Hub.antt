@@ -1,0 +1,6 @@
+-- The definitions of the router under its lock.
+
+pub use Rattle.gn_hub.specs.ActorState
+pub use Rattle.gn_hub.specs.Calls
+pub use Rattle.gn_hub.specs.HubState
+pub use Rattle.gn_hub.specs.Receipts
