@@ -4,3 +4,4 @@ pub mod LineLemmas
 pub mod SendLemmas
 pub mod LoadLemmas
 pub mod PrintLemmas
+pub mod ServedLemmas

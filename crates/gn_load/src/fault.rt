@@ -7,8 +7,8 @@ ghost use Rattle.gn_load.specs.declared.fault.LoadFault.TheVariants.{Run, Text};
 
 use gn_io::{InputFault, IoFault};
 use gn_replay::ReplayFault;
+use gn_service::RunFault;
 use gn_text::CaptureRefusal;
-use gn_threads::RunFault;
 use std::alloc::AllocError;
 
 /// Why a load stopped.

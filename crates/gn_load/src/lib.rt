@@ -1,4 +1,4 @@
-//! The links of a capture, run by many threads, and the history of that run, written.
+//! The two front doors of a run, each of which writes its history: over the links of a capture, and over TCP.
 #![tactic(auto)]
 
 mod fault;
@@ -6,8 +6,12 @@ mod link_input;
 mod links;
 mod loads;
 mod printed;
+mod serve_fault;
+mod served;
 
 pub use fault::LoadFault;
 pub use links::links_of;
 pub use loads::{load, load_watched};
 pub use printed::{PrintFault, print_history};
+pub use serve_fault::ServeFault;
+pub use served::serve_history;

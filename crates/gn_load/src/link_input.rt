@@ -3,8 +3,7 @@
 ghost use Rattle.std.specs.Prelude.{◌≡◌, ◌++◌, [], OnOk};
 ghost use Rattle.gn_load.specs.Links.{link_of};
 
-use gn_links::MemoryLink;
-use gn_shake::Role;
+use gn_service::{MemoryLink, Role};
 use std::alloc::{AllocError, Allocator, Global};
 use std::marker::Model;
 

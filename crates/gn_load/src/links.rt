@@ -6,8 +6,7 @@ ghost use Rattle.gn_load.specs.Links.{given, line_taken, links_from};
 
 use crate::link_input::LinkInput;
 use gn_capture::Line;
-use gn_links::MemoryLink;
-use gn_shake::Role;
+use gn_service::{MemoryLink, Role};
 use gn_text::{CaptureRefusal, Cause};
 use std::alloc::{AllocError, Allocator};
 

@@ -6,7 +6,7 @@ use gn_links::NoGate;
 use gn_report::Report;
 use gn_router::TableRouter;
 use gn_rules::RouterCore;
-use gn_serve::{Serving, serve_on};
+use gn_service::{Serving, serve_on};
 use gn_stage::StageFault;
 use gn_tcp::{TcpReader, TcpWriter, listen};
 use gn_threads::RunFault;

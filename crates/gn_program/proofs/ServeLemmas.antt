@@ -6,10 +6,10 @@ use Rattle.std.specs.declared.alloc.Global.{Global}
 use Rattle.gn_io.specs.Streams.{NoWriteFailed, SinkState}
 use Rattle.gn_rules.specs.Limits.{IsCrew}
 use Rattle.gn_rules.specs.declared.config.Config.{Config}
-use Rattle.gn_serve.proofs.HistoryLemmas.{none_written}
-use Rattle.gn_serve.specs.Histories.{AppendsServed, HasServeStopped, IsServeFault}
-use Rattle.gn_serve.specs.declared.fault.ServeFault.{ServeFault}
-use Rattle.gn_serve.specs.declared.fault.ServeFault.TheVariants.{Run}
+use Rattle.gn_load.proofs.ServedLemmas.{none_written}
+use Rattle.gn_load.specs.Served.{AppendsServed, HasServeStopped, IsServeFault}
+use Rattle.gn_load.specs.declared.serve_fault.ServeFault.{ServeFault}
+use Rattle.gn_load.specs.declared.serve_fault.ServeFault.TheVariants.{Run}
 use Rattle.gn_threads.specs.Faults.{IsArrivingFault}
 use Rattle.gn_threads.specs.declared.fault.RunFault.{RunFault}
 use Rattle.gn_program.specs.Commands.{IsServeAnswer, IsServing}

@@ -19,8 +19,8 @@ use Rattle.gn_show.specs.declared.form.View.{View}
 use Rattle.gn_load.specs.Faults.{IsLoadFault}
 use Rattle.gn_load.specs.Loads.{AppendsLoad, HasStopped as HasLoadStopped, load_of}
 use Rattle.gn_load.specs.declared.fault.LoadFault.{LoadFault}
-use Rattle.gn_serve.specs.Histories.{AppendsServed, HasServeStopped, IsServeFault}
-use Rattle.gn_serve.specs.declared.fault.ServeFault.{ServeFault}
+use Rattle.gn_load.specs.Served.{AppendsServed, HasServeStopped, IsServeFault}
+use Rattle.gn_load.specs.declared.serve_fault.ServeFault.{ServeFault}
 use Rattle.gn_rules.specs.Settings.{IsMadeOf}
 use Rattle.gn_rules.specs.declared.config.Config.{Config}
 use Rattle.gn_rules.specs.declared.config.Own.{Own}

@@ -9,8 +9,8 @@ use Rattle.gn_threads.specs.declared.fault.RunFault.{RunFault}
 use Rattle.gn_threads.specs.declared.fault.RunFault.TheVariants as run
 use Rattle.gn_load.specs.declared.fault.LoadFault.{LoadFault}
 use Rattle.gn_load.specs.declared.fault.LoadFault.TheVariants as load
-use Rattle.gn_serve.specs.declared.fault.ServeFault.{ServeFault}
-use Rattle.gn_serve.specs.declared.fault.ServeFault.TheVariants as serve
+use Rattle.gn_load.specs.declared.serve_fault.ServeFault.{ServeFault}
+use Rattle.gn_load.specs.declared.serve_fault.ServeFault.TheVariants as serve
 use Rattle.gn_program.specs.declared.fault.Fault.{Fault}
 use Rattle.gn_program.specs.declared.fault.Fault.TheVariants.{Input, InputTooLarge, Line, Output, NoMemory, HistoryFull, Listen, Call, Link, StageMissing, Audit, Workers}
 

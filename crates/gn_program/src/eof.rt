@@ -1,6 +1,6 @@
 //! The end of standard input, which stops a run.
 
-use gn_serve::Stop;
+use gn_service::Stop;
 use std::alloc::{AllocError, Global};
 use std::io::{ErrorKind, Read, StdinLock};
 use std::sync::Arc;

@@ -3,9 +3,8 @@
 ghost use Rattle.std.specs.Prelude.{◌≡◌};
 ghost use Rattle.gn_program.specs.FaultTexts as texts;
 
-use gn_load::LoadFault;
+use gn_load::{LoadFault, ServeFault};
 use gn_replay::ReplayFault;
-use gn_serve::ServeFault;
 use gn_stage::StageFault;
 use gn_text::{CaptureFault, Cause};
 use gn_threads::RunFault;

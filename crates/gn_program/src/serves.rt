@@ -10,9 +10,10 @@ use crate::reports::write_report;
 use crate::text::write_text;
 use gn_io::Sink;
 use gn_links::Watch;
+use gn_load::{ServeFault, serve_history};
 use gn_router::TableRouter;
 use gn_rules::{Config, Numbers, Own};
-use gn_serve::{ServeFault, Stop, serve_history};
+use gn_service::Stop;
 use gn_tcp::listen;
 use gn_threads::RunFault;
 use gn_words::{Peer, Serving};
@@ -93,10 +94,10 @@ fn may_stop(serving: &Serving) -> bool {
 }
 
 /// How long the router goes on and waits for its peers, and whether its history is kept.
-fn limits<'s>(serving: &Serving, stop: &'s Stop) -> gn_serve::Serving<'s>
+fn limits<'s>(serving: &Serving, stop: &'s Stop) -> gn_service::Serving<'s>
     ensures { result.is_kept ≡ serving.now.keeps }
 {
-    gn_serve::Serving {
+    gn_service::Serving {
         idle: limit(serving.idle),
         retry: limit(serving.retry),
         stop: may_stop(serving).then_some(stop),

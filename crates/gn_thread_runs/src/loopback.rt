@@ -9,7 +9,7 @@ use gn_fixtures::usual;
 use gn_links::NoGate;
 use gn_report::Report;
 use gn_router::TableRouter;
-use gn_serve::{Serving, serve_on};
+use gn_service::{Serving, serve_on};
 use gn_tcp::{TcpReader, TcpWriter};
 use gn_threads::RunFault;
 use peers::{LATE, Peer, play};

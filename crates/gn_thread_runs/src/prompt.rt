@@ -4,7 +4,7 @@ use crate::loopback::peers::{Peer, sent};
 use crate::loopback::{report_of, serve};
 use crate::wanted::a_listener;
 use gn_fixtures::PING;
-use gn_serve::Serving;
+use gn_service::Serving;
 use gn_threads::RunFault;
 use std::test::Fail;
 use std::time::{Duration, Instant};

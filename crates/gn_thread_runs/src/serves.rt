@@ -4,7 +4,7 @@ use crate::loopback::peers::{LATE, Peer, is_called};
 use crate::loopback::{DRAINED, TcpReport, have_ended, report_of, serve};
 use crate::wanted::a_listener;
 use gn_bodies::{ReaderEnd, WriterEnd};
-use gn_serve::Serving;
+use gn_service::Serving;
 use gn_threads::RunFault;
 use std::net::{Ipv4Addr, SocketAddr};
 use std::test::Fail;

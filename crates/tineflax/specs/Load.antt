@@ -1,5 +1,6 @@
--- The definitions of loads.
+-- The definitions of loads, and of the histories of runs over TCP.
 
 pub use Rattle.gn_load.specs.Faults
 pub use Rattle.gn_load.specs.Links
 pub use Rattle.gn_load.specs.Loads
+pub use Rattle.gn_load.specs.Served

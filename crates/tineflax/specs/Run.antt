@@ -6,5 +6,4 @@ pub use Rattle.gn_report.specs.BodyEnds
 pub use Rattle.gn_report.specs.Flaw
 pub use Rattle.gn_threads.specs.Faults
 pub use Rattle.gn_threads.specs.Headline
-pub use Rattle.gn_serve.specs.Histories
-pub use Rattle.gn_serve.specs.Links
+pub use Rattle.gn_service.specs.Links

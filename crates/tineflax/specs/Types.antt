@@ -29,7 +29,7 @@ pub use Rattle.gn_bodies.specs.declared.ends.ReaderEnd
 pub use Rattle.gn_bodies.specs.declared.ends.WriterEnd
 pub use Rattle.gn_bodies.specs.declared.ends.BodyFault
 pub use Rattle.gn_threads.specs.declared.fault.RunFault
-pub use Rattle.gn_serve.specs.declared.fault.ServeFault
+pub use Rattle.gn_load.specs.declared.serve_fault.ServeFault
 pub use Rattle.gn_text.specs.declared.fault.CaptureFault
 pub use Rattle.gn_text.specs.declared.fault.CaptureRefusal
 pub use Rattle.gn_text.specs.declared.fault.Cause

@@ -99,7 +99,7 @@ pub mod bodies {
 /// Runs of many threads, and their reports.
 pub mod run {
     pub use gn_report::{LinkReport, Report};
-    pub use gn_serve::{ServeFault, Serving, Stop, serve_history, serve_kept, serve_on};
+    pub use gn_service::{Serving, Stop, serve_kept, serve_on};
     pub use gn_threads::{Arrivals, RunFault, Stopped, run, run_arriving, run_arriving_kept};
 }
 
@@ -131,10 +131,13 @@ pub mod show {
     pub use gn_show::{Form, View, show};
 }
 
-/// The links of a capture, run by many threads.
+/// Runs whose history is written, over the links of a capture and over TCP.
 pub mod load {
     pub use gn_links::Watch;
-    pub use gn_load::{LoadFault, PrintFault, links_of, load, load_watched, print_history};
+    pub use gn_load::{
+        LoadFault, PrintFault, ServeFault, links_of, load, load_watched, print_history,
+        serve_history,
+    };
 }
 
 /// A whole command line of `gn`.

@@ -4,7 +4,7 @@ use super::{Left, READER, WRITER, left_of};
 use crate::loopback::peers::Peer;
 use crate::loopback::report_of;
 use gn_bodies::{ReaderEnd, WriterEnd};
-use gn_serve::Serving;
+use gn_service::Serving;
 use std::alloc::Global;
 use std::net::{Net, TcpListener, TcpStream};
 use std::process::Abort;

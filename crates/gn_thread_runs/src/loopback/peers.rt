@@ -1,7 +1,7 @@
 //! What the peers of a run over the loopback do.
 
 use gn_fixtures::{OWN_PONG, PING};
-use gn_serve::Serving;
+use gn_service::Serving;
 use gn_shake::{consent, request};
 use gn_tcp::listen;
 use std::io::{ErrorKind, Read, Write};

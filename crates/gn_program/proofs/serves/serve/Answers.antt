@@ -1,6 +1,6 @@
 use Rattle.std.proofs.Common.{◌≡◌, ◌∙◌, Bool, ap, refl, length, subst, sym, Ok}
 use Rattle.std.specs.declared.alloc.Global.{Global}
-use Rattle.gn_serve.specs.Histories.{HasServeStopped}
+use Rattle.gn_load.specs.Served.{HasServeStopped}
 use Rattle.gn_threads.specs.declared.fault.RunFault.TheVariants.{Listen, NoMemory}
 use Rattle.gn_program.specs.Commands.{IsServing}
 use Rattle.gn_words.specs.Serving.{AskedServe}

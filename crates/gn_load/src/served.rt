@@ -1,0 +1,95 @@
+//! A run over TCP, and the history of it, written.
+
+ghost use Rattle.std.specs.Prelude.{◌≡◌, ◌+◌, ◌≤◌, ◌↔◌, length, reverse, IfErr, IfOk, IfSome, OnOk};
+ghost use Rattle.gn_rules.specs.Legal.{IsLegal};
+ghost use Rattle.std.specs.Io.KnownBytes.{Appends};
+ghost use Rattle.gn_capture.specs.Histories.{history_text};
+ghost use Rattle.gn_io.specs.Streams.{NoWriteFailed};
+ghost use Rattle.gn_rules.specs.Limits.{IsCrew, most_links};
+ghost use Rattle.gn_threads.specs.declared.fault.RunFault.TheVariants.{BadWorkers};
+ghost use Rattle.gn_load.specs.declared.serve_fault.ServeFault.TheVariants.{Run};
+ghost use Rattle.gn_load.specs.Served.{AppendsServed, HasKept, HasServeStopped, IsServeFault};
+
+use crate::printed::{PrintFault, print_history};
+use crate::serve_fault::ServeFault;
+use gn_io::Sink;
+use gn_rules::{Config, RouterCore, Step};
+use gn_service::{Report, RunFault, Serving, Stopped, TcpReader, TcpWriter, Watch, serve_kept};
+use std::alloc::Allocator;
+use std::net::{Net, SocketAddr, TcpListener, TcpStream};
+use std::sync::Wait;
+use std::thread::Threads;
+use std::time::Clock;
+
+/// Writes what stands of the history of a run that stopped after its first step, where it is to be kept. That it can't be
+/// written changes no fault.
+fn keep<A: Allocator + Copy, W: Sink>(
+    alloc: A,
+    config: &Config,
+    is_kept: bool,
+    history: Option<Vec<Step<A>, A>>,
+    sink: &mut W,
+)
+    requires { IfSome history (λ steps. IsLegal config.now (reverse steps.items)) }
+    ensures { HasKept A is_kept config.now (W.state sink.old).written (W.state sink.new).written }
+{
+    let Some(steps) = history else {
+        return;
+    };
+    if is_kept && !steps.is_empty() {
+        let _ = print_history(alloc, config, &steps, sink);
+    }
+}
+
+/// Runs a router as `serve_on` does, and writes its history, which `audit` reads, in blocks once the run has ended. The report
+/// comes back. Out of memory and `Write` may leave a prefix of the history. Where the run stopped at a fault and its history is to be
+/// kept, what stands of it is written all the same, up to where memory or a write fails; else any other `Err` leaves nothing.
+pub fn serve_history<
+    's,
+    C: RouterCore<A> + Drop + Send,
+    A: Allocator + Copy + Send + Sync,
+    R: Threads + Wait + Net<Listener = TcpListener, Stream = TcpStream> + Clock + Sync,
+    G: Watch + Sync,
+    W: Sink,
+>(
+    rt: &R,
+    alloc: A,
+    listener: &TcpListener,
+    config: &Config,
+    accept: u32,
+    peers: &[SocketAddr],
+    serving: &Serving<'s>,
+    workers: u32,
+    watch: &G,
+    sink: &mut W,
+) -> Result<Report<TcpReader<'s>, TcpWriter, A>, ServeFault>
+    requires few { accept + length peers.now ≤ most_links }
+    ensures workers { OnOk result (IsCrew workers) }
+    ensures bad_workers { IfErr result (λ fault. (fault ≡ Run BadWorkers) ↔ (¬ IsCrew workers)) }
+    ensures fault { IfErr result (λ fault. IsCrew workers → IsServeFault (length peers.now + accept) workers fault
+        (W.state sink.old) (W.state sink.new)) }
+    ensures written { OnOk result (AppendsServed A config.now (length peers.now) accept workers
+        (W.state sink.old).written (W.state sink.new).written) }
+    ensures report { IfOk result (λ report. Appends (W.state sink.old).written (W.state sink.new).written
+        (history_text config.now report.history.items)) }
+    ensures unfailed { OnOk result (NoWriteFailed (W.state sink.old) (W.state sink.new)) }
+    ensures stopped { IfErr result (λ fault. HasServeStopped A serving.now.is_kept config.now (length peers.now) accept workers fault
+        (W.state sink.old).written (W.state sink.new).written) }
+{
+    let answer = serve_kept::<C, G, A, R>(
+        rt, alloc, listener, config, accept, peers, serving, workers, watch,
+    );
+    watch.end();
+    let report = match answer {
+        Ok(report) => report,
+        Err(Stopped { fault, history }) => {
+            keep(alloc, config, serving.is_kept, history, sink);
+            return Err(ServeFault::Run(fault));
+        }
+    };
+    match print_history(alloc, config, &report.history, sink) {
+        Ok(()) => Ok(report),
+        Err(PrintFault::Write) => Err(ServeFault::Write),
+        Err(PrintFault::NoMemory) => Err(ServeFault::Run(RunFault::NoMemory)),
+    }
+}

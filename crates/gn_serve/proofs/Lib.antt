@@ -1,2 +1,0 @@
-pub mod HistoryLemmas
-mod RoleLemmas

@@ -1,3 +1,0 @@
-pub mod Histories
-pub mod Links
-pub mod Serves

@@ -1,0 +1,2 @@
+mod RoleLemmas
+mod FaultLemmas

@@ -1,0 +1,11 @@
+use Rattle.std.proofs.Common.{rules}
+use Rattle.gn_service.proofs.FaultLemmas.{handed_on}
+use Rattle.gn_service.proofs.RoleLemmas.{one_left}
+use Rattle.gn_service.proofs.peers.PeersArrivals.next.Goals as goal
+
+pub returns-clause-made : goal.returns-clause-made
+returns-clause-made g c = (one_left c.args.self.now.called.now c.args.self.now.next c.in-Some-Some.next c.args.self.now.left c.in-Some-Some.left c.in-Ok.halves.0.origin (search rules) (search rules) (search rules), search rules)
+
+pub returns-in_err-register-clause-fault : goal.returns-in_err-register-clause-fault
+returns-in_err-register-clause-fault g c =
+    handed_on c.args.link c.from_residual-in_err-register.result c.in_err-register.field-0.0 c.from_residual-in_err-register.ensures.1 c.in_err-register.ensures

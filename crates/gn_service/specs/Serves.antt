@@ -1,0 +1,23 @@
+-- What a run over TCP answers.
+use Rattle.std.specs.Prelude.{◌≡◌, ◌+◌, ◌↔◌, ℕ, true, List, length, reverse, IfErr, IfOk, IfSome, Result}
+use Rattle.std.specs.declared.net.socket_addr.SocketAddr.{SocketAddr}
+use Rattle.gn_rules.specs.Legal.{IsLegal}
+use Rattle.gn_rules.specs.Limits.{IsCrew}
+use Rattle.gn_rules.specs.declared.config.Config.{Config}
+use Rattle.gn_report.specs.declared.report.Report.{Report}
+use Rattle.gn_tcp.specs.Tcp.{TcpReading, TcpWriting, half_read, half_written}
+use Rattle.gn_threads.specs.Faults.{IsArrivingFault}
+use Rattle.gn_threads.specs.Headline.{AreMadeOf, Holds}
+use Rattle.gn_threads.specs.declared.fault.RunFault.TheVariants.{BadWorkers}
+use Rattle.gn_threads.specs.declared.stopped.Stopped.{Stopped}
+use Rattle.gn_service.specs.Links.{origins_of, roles_of}
+
+-- a run over links to these peers and to so many that call: its report has all of the headline; or it stopped, at a fault that
+-- it may have, and what stands of its history is legal
+pub record IsServed {A : Type 0} (s : Config) (peers : List SocketAddr) (accept workers : ℕ) (answer : Result (Report TcpReading TcpWriting A) (Stopped A)) : Type 0 where
+  pub crew : IfOk answer (λ _. IsCrew workers)
+  pub bad_workers : IfErr answer (λ stopped. (stopped.fault ≡ BadWorkers) ↔ (¬ IsCrew workers))
+  pub fault : IfErr answer (λ stopped. IsCrew workers → IsArrivingFault true (length peers + accept) workers stopped.fault)
+  pub kept : IfErr answer (λ stopped. IfSome stopped.history (λ history. IsLegal s (reverse history.items)))
+  pub holds : IfOk answer (λ report. Holds half_read half_written s (roles_of (length peers) (length peers + accept)) workers report)
+  pub made : IfOk answer (λ report. AreMadeOf (λ half. half.origin) (λ half. half.origin) (origins_of peers (length peers + accept)) report)

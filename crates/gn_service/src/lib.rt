@@ -1,0 +1,27 @@
+//! The run over TCP, each link started as it comes; and what a user of any run names, passed on from the crates below: `run`,
+//! links, gates, actors, bodies and reports.
+#![tactic(auto)]
+
+mod counted;
+mod peers;
+mod serve;
+mod serving;
+mod stop;
+mod stops;
+
+pub use gn_bodies::{
+    BodyFault, ReaderDone, ReaderEnd, WorkerDone, WriterDone, WriterEnd, reader_body, worker_body,
+    writer_body,
+};
+pub use gn_hub::{Actor, Door, Hub, Mark, Next, Outgoing, Service, ServiceFault};
+pub use gn_links::{
+    Gate, Half, Link, LinkFault, LinkReader, LinkWriter, Made, MemoryLink, MemoryReader,
+    MemoryWriter, NoGate, Watch,
+};
+pub use gn_report::{LinkReport, Report};
+pub use gn_shake::Role;
+pub use gn_tcp::{TcpLink, TcpOrigin, TcpReader, TcpWriter, listen};
+pub use gn_threads::{Arrivals, RunFault, Stopped, run, run_arriving, run_arriving_kept};
+pub use serve::{serve_kept, serve_on};
+pub use serving::Serving;
+pub use stop::Stop;

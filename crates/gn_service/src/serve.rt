@@ -1,0 +1,172 @@
+//! A run over TCP.
+
+ghost use Rattle.std.specs.Prelude.{◌≡◌, ◌+◌, ◌≤◌, ◌↔◌, length, reverse, true, IfErr, IfOk, IfSome};
+ghost use Rattle.gn_rules.specs.Legal.{IsLegal};
+ghost use Rattle.gn_rules.specs.Limits.{IsCrew, most_links};
+ghost use Rattle.gn_threads.specs.declared.fault.RunFault.TheVariants.{BadWorkers};
+ghost use Rattle.gn_threads.specs.Faults.{IsArrivingFault};
+ghost use Rattle.gn_threads.specs.Headline.{AreMadeOf, Holds};
+ghost use Rattle.gn_service.specs.Links.{origins_of, roles_of};
+ghost use Rattle.gn_tcp.specs.Tcp.{half_read, half_written};
+ghost use Rattle.gn_service.specs.Serves.{IsServed};
+
+use crate::counted::Counted;
+use crate::peers::{Peers, roles_of};
+use crate::serving::Serving;
+use crate::stop::Stop;
+use crate::stops::Stops;
+use gn_links::Watch;
+use gn_report::Report;
+use gn_rules::{Config, RouterCore};
+use gn_tcp::{TcpReader, TcpWriter};
+use gn_threads::{RunFault, Stopped, run_arriving_kept};
+use std::alloc::Allocator;
+use std::net::{Net, SocketAddr, TcpListener, TcpStream};
+use std::sync::Wait;
+use std::thread;
+use std::thread::Threads;
+use std::time::Clock;
+
+/// Runs a router over links to these peers, which it calls in order, and after them to so many others that call the
+/// listener. The bodies of each link start as soon as it has come; it waits for a caller without a time limit, for peers and
+/// what they send and take as `serving` says, and where it has failed for nobody. `watch` learns of each link as it comes, and
+/// each worker passes it before it routes. At most 256 links.
+///
+/// Of several faults it answers the one that `run` of gn_threads does. Where a call, an accept or a split fails, the bodies that
+/// have started are ended and joined first, and their peers are let go.
+pub fn serve_on<
+    's,
+    C: RouterCore<A> + Drop + Send,
+    G: Watch + Sync,
+    A: Allocator + Copy + Send + Sync,
+    R: Threads + Wait + Net<Listener = TcpListener, Stream = TcpStream> + Clock + Sync,
+>(
+    rt: &R,
+    alloc: A,
+    listener: &TcpListener,
+    config: &Config,
+    accept: u32,
+    peers: &[SocketAddr],
+    serving: &Serving<'s>,
+    workers: u32,
+    watch: &G,
+) -> Result<Report<TcpReader<'s>, TcpWriter, A>, RunFault>
+    requires few { accept + length peers.now ≤ most_links }
+    ensures workers { IfOk result (λ _. IsCrew workers) }
+    ensures bad_workers { IfErr result (λ fault. (fault ≡ BadWorkers) ↔ (¬ IsCrew workers)) }
+    ensures fault { IfErr result (λ fault. IsCrew workers
+        → IsArrivingFault true (length peers.now + accept) workers fault) }
+    ensures holds { IfOk result (λ report. Holds half_read half_written config.now
+        (roles_of (length peers.now) (length peers.now + accept)) workers report) }
+    ensures made { IfOk result (λ report. AreMadeOf (λ half. half.origin) (λ half. half.origin)
+        (origins_of peers.now (length peers.now + accept)) report) }
+{
+    match serve_kept::<C, G, A, R>(
+        rt, alloc, listener, config, accept, peers, serving, workers, watch,
+    ) {
+        Ok(report) => Ok(report),
+        Err(stopped) => Err(stopped.fault),
+    }
+}
+
+/// Does the same, and a fault comes with what stands of the history, which is legal by the configuration of the call.
+pub fn serve_kept<
+    's,
+    C: RouterCore<A> + Drop + Send,
+    G: Watch + Sync,
+    A: Allocator + Copy + Send + Sync,
+    R: Threads + Wait + Net<Listener = TcpListener, Stream = TcpStream> + Clock + Sync,
+>(
+    rt: &R,
+    alloc: A,
+    listener: &TcpListener,
+    config: &Config,
+    accept: u32,
+    peers: &[SocketAddr],
+    serving: &Serving<'s>,
+    workers: u32,
+    watch: &G,
+) -> Result<Report<TcpReader<'s>, TcpWriter, A>, Stopped<A>>
+    requires few { accept + length peers.now ≤ most_links }
+    ensures workers { IfOk result (λ _. IsCrew workers) }
+    ensures bad_workers { IfErr result (λ stopped. (stopped.fault ≡ BadWorkers) ↔ (¬ IsCrew workers)) }
+    ensures fault { IfErr result (λ stopped. IsCrew workers
+        → IsArrivingFault true (length peers.now + accept) workers stopped.fault) }
+    ensures kept { IfErr result (λ stopped. IfSome stopped.history (λ history.
+        IsLegal config.now (reverse history.items))) }
+    ensures holds { IfOk result (λ report. Holds half_read half_written config.now
+        (roles_of (length peers.now) (length peers.now + accept)) workers report) }
+    ensures made { IfOk result (λ report. AreMadeOf (λ half. half.origin) (λ half. half.origin)
+        (origins_of peers.now (length peers.now + accept)) report) }
+{
+    let own = Stop::new(None, false);
+    let stop = match serving.stop {
+        Some(stop) => stop,
+        None => &own,
+    };
+    let stops = Stops::new(alloc, stop);
+    let stops = &stops;
+    let ((), answer) = thread::join(
+        rt,
+        || stops.watch(rt, listener),
+        ||
+            requires { accept + length peers.now ≤ most_links }
+            ensures { IsServed config.entry.now peers.entry.now accept workers result }
+        {
+            run_links::<C, G, A, R>(
+                rt, alloc, listener, config, accept, peers, serving, workers, watch, stops,
+            )
+        },
+    );
+    answer
+}
+
+/// Runs a router over these links, which `stops` ends where the run is stopped.
+fn run_links<
+    's,
+    C: RouterCore<A> + Drop + Send,
+    G: Watch + Sync,
+    A: Allocator + Copy + Send + Sync,
+    R: Threads + Wait + Net<Listener = TcpListener, Stream = TcpStream> + Clock + Sync,
+>(
+    rt: &R,
+    alloc: A,
+    listener: &TcpListener,
+    config: &Config,
+    accept: u32,
+    peers: &[SocketAddr],
+    serving: &Serving<'s>,
+    workers: u32,
+    watch: &G,
+    stops: &Stops<'_, A>,
+) -> Result<Report<TcpReader<'s>, TcpWriter, A>, Stopped<A>>
+    requires few { accept + length peers.now ≤ most_links }
+    ensures workers { IfOk result (λ _. IsCrew workers) }
+    ensures bad_workers { IfErr result (λ stopped. (stopped.fault ≡ BadWorkers) ↔ (¬ IsCrew workers)) }
+    ensures fault { IfErr result (λ stopped. IsCrew workers
+        → IsArrivingFault true (length peers.now + accept) workers stopped.fault) }
+    ensures kept { IfErr result (λ stopped. IfSome stopped.history (λ history.
+        IsLegal config.now (reverse history.items))) }
+    ensures holds { IfOk result (λ report. Holds half_read half_written config.now
+        (roles_of (length peers.now) (length peers.now + accept)) workers report) }
+    ensures made { IfOk result (λ report. AreMadeOf (λ half. half.origin) (λ half. half.origin)
+        (origins_of peers.now (length peers.now + accept)) report) }
+{
+    let links = peers.len() + accept as usize;
+    let all = roles_of(peers.len(), links);
+    let roles = &all[..links];
+    let steps = config.numbers.steps;
+    watch.open(steps);
+    let gate = Counted::new(watch, stops.stop, steps);
+    let arrivals = Peers {
+        net: rt,
+        listener,
+        called: peers,
+        next: 0,
+        left: links as u32,
+        serving: *serving,
+        stops,
+        watch,
+    };
+    run_arriving_kept::<C, _, _, _, _>(rt, alloc, config, roles, arrivals, workers, &gate)
+}
