@@ -1,5 +1,5 @@
 -- A reader's bytes so far.
-use Rattle.std.proofs.Common.{◌≡◌, ℕ, ◌<◌, All, true, false, cond, List, [], ◌∷◌, ◌++◌, length, take, drop, Option, Some, None, refl, sym, ap, ◌∙◌, subst, append_assoc}
+use Rattle.std.proofs.Common.{◌≡◌, ℕ, ◌<◌, All, true, false, cond, List, [], ◌∷◌, ◌++◌, length, map, take, drop, Option, Some, None, refl, sym, ap, ◌∙◌, subst, append_assoc}
 use Rattle.std.proofs.lemmas.List.{drop_at}
 use Rattle.std.proofs.lemmas.List.Elements.{All-nil}
 use Rattle.gn_wire.specs.declared.header.FrameFault.{FrameFault}
@@ -111,6 +111,11 @@ ended_row known role (reading.Joined c frames) b me is has =
 pub conn_of_reading : {A : Type 0} (r : Reading A) (me : ActorState A) → HasConnection r me → connection_of me ≡ reading_connection r
 conn_of_reading (reading.Greeting shake) me none = ap (λ w. connection_of (record { number = me.number; receipts = w })) none
 conn_of_reading (reading.Joined c frames) me is = is
+
+-- a reader that has no connection routed nothing
+pub alone_of_reading : {A : Type 0} (r : Reading A) (me : ActorState A) → HasConnection r me → reading_connection r ≡ None → events_of me ≡ link_events me
+alone_of_reading {A} (reading.Greeting shake) me none is = ap (λ w. map (λ (x : Receipt A). x.event) w) none ∙ sym (none_done me none)
+alone_of_reading (reading.Joined c frames) me has is = absurd (cc)
 
 -- an end that bytes bring says nothing of the half
 pub bytes_source : (end : ReaderEnd) (half : ReadHalf) → is_of_bytes end ≡ true → SourceRow end half

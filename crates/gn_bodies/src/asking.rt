@@ -32,11 +32,15 @@ pub(crate) fn admit<C: RouterCore<A> + Drop, L: Ledger, A: Allocator + Copy, R: 
     ensures err { IfErr result (λ refusal. (refuses {A = A} (Admit c descriptor) refusal ≡ true) × (me.new ≡ me.old)) }
 {
     let event = Event::Admit(c, descriptor);
-    service.call(rt, me, &event)?;
-    match me.last_reply().admitted() {
-        None => Ok(None),
-        Some(ticket) => Ok(job_of(ticket, event)),
+    if let Err(refusal) = service.call(rt, me, &event) {
+        drop(event);
+        return Err(refusal);
     }
+    let Some(ticket) = me.last_reply().admitted() else {
+        drop(event);
+        return Ok(None);
+    };
+    Ok(job_of(ticket, event))
 }
 
 /// The job of an event that was admitted.
@@ -108,7 +112,10 @@ pub(crate) fn close<G: Gate, C: RouterCore<A> + Drop, L: Ledger, A: Allocator + 
     ensures closed { MayClose c me.old me.new }
     ensures packets { packets_of me.new ≡ packets_of me.old }
 {
-    match service.call(rt, me, &Event::Close(c)) {
+    let event = Event::Close(c);
+    let answer = service.call(rt, me, &event);
+    drop(event);
+    match answer {
         Ok(()) => {
             gate.made(link, Made::Closed);
             Ok(())

@@ -109,13 +109,10 @@ impl<'s, G: Gate, B: Site + Ledger, C: RouterCore<A> + Drop, A: Allocator + Copy
             return Ok(());
         };
         let Job { ticket, descriptor } = back;
-        match route(
-            rt,
-            self.service,
-            &mut self.actor,
-            ticket,
-            &Checked::new(descriptor),
-        ) {
+        let checked = Checked::new(descriptor);
+        let answer = route(rt, self.service, &mut self.actor, ticket, &checked);
+        drop(checked);
+        match answer {
             Ok(()) => {
                 self.gate.made(self.actor.number(), Made::Routed);
                 Ok(())

@@ -60,12 +60,12 @@ impl<A: Allocator> Reading<A> {
     ghost use Rattle.gn_bodies.specs.Reading.{end_of_bytes, reading_connection};
 
     /// The connection, where there is one.
-    pub(crate) fn connection(&self) -> Option<ConnId>
-        ensures { result ≡ reading_connection self.now }
+    pub(crate) fn into_connection(self) -> Option<ConnId>
+        ensures { result ≡ reading_connection self }
     {
         match self {
             Reading::Greeting(_) => None,
-            Reading::Joined { connection, .. } => Some(*connection),
+            Reading::Joined { connection, .. } => Some(connection),
         }
     }
 

@@ -81,8 +81,11 @@ impl<'s, G: Gate, B: Site + Ledger, C: RouterCore<A> + Drop, A: Allocator + Copy
         let mut buffer = [0u8; 4096];
         for _ in 0..TURNS {
             match reader.read(rt, &mut buffer) {
-                Err(_) => return Ok((reading.connection(), ReaderEnd::ReadFailed)),
-                Ok(0) => return Ok((reading.connection(), reading.end_of_bytes())),
+                Err(_) => return Ok((reading.into_connection(), ReaderEnd::ReadFailed)),
+                Ok(0) => {
+                    let end = reading.end_of_bytes();
+                    return Ok((reading.into_connection(), end));
+                }
                 Ok(n) => match self.take_bytes(rt, reading, &buffer[..n]) {
                     Piece::More(later) => reading = later,
                     Piece::End { connection, end } => return Ok((connection, end)),
@@ -90,7 +93,7 @@ impl<'s, G: Gate, B: Site + Ledger, C: RouterCore<A> + Drop, A: Allocator + Copy
                 },
             }
         }
-        Ok((reading.connection(), ReaderEnd::Turns))
+        Ok((reading.into_connection(), ReaderEnd::Turns))
     }
 
     /// Closes the connection at an end that closes it, and shuts the door where there is none.

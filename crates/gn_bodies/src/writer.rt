@@ -90,7 +90,22 @@ fn encode_into<A: Allocator>(
     packet.write_to(text)
 }
 
-/// Takes, encodes and writes each packet.
+/// Encodes a packet, and writes it. False where a write failed, or took nothing. An `Err` is out of memory.
+fn write_packet<W: LinkWriter, A: Allocator, R: Wait>(
+    rt: &R,
+    writer: &mut W,
+    packet: &Descriptor<A>,
+    text: &mut Vec<u8, A>,
+) -> Result<bool, AllocError>
+    ensures made { W.made_of writer.new ≡ W.made_of writer.old }
+    ensures state { IfOk result (λ is_all. HasWrittenText is_all (bytes_of packet.now) (W.state writer.old)
+        (W.state writer.new)) }
+{
+    encode_into(packet, text)?;
+    Ok(write_text(rt, writer, text.as_slice()))
+}
+
+/// Takes, encodes and writes each packet. `text` holds the encoding of one at a time.
 fn write_packets<
     W: LinkWriter,
     G: Gate,
@@ -100,7 +115,6 @@ fn write_packets<
     R: Wait,
 >(
     rt: &R,
-    alloc: A,
     service: &Service<C, L, A>,
     gate: &G,
     me: &mut Actor<L, A>,
@@ -108,6 +122,7 @@ fn write_packets<
     writer: &mut W,
     role: Role,
     c: ConnId,
+    text: &mut Vec<u8, A>,
 ) -> Result<WriterEnd, BodyFault>
     requires none { me.old.receipts ≡ [] }
     requires opened { (W.state writer.old).is_known ≡ true
@@ -117,17 +132,13 @@ fn write_packets<
     ensures written { IfOk result (λ end. WritesAs role end (packets_of me.new) (W.state writer.new)) }
     ensures steps { IfOk result (λ end. PacketSteps end c me.new) }
 {
-    let mut text = Vec::new(alloc);
     for _ in rt.forever() {
         match take_next(rt, service, gate, me, link, c)? {
-            Outgoing::Packet => {
-                let Ok(()) = encode_into(me.last_taken(), &mut text) else {
-                    return Err(BodyFault::NoMemory);
-                };
-                if !write_text(rt, writer, text.as_slice()) {
-                    return Ok(WriterEnd::WriteFailed);
-                }
-            }
+            Outgoing::Packet => match write_packet(rt, writer, me.last_taken(), text) {
+                Ok(true) => {}
+                Ok(false) => return Ok(WriterEnd::WriteFailed),
+                Err(_) => return Err(BodyFault::NoMemory),
+            },
             Outgoing::Drained => return Ok(WriterEnd::Drained),
             Outgoing::Closed => return Ok(WriterEnd::Closed),
         }
@@ -145,13 +156,13 @@ fn write_link<
     R: Wait,
 >(
     rt: &R,
-    alloc: A,
     service: &Service<C, L, A>,
     gate: &G,
     me: &mut Actor<L, A>,
     link: u32,
     role: Role,
     writer: &mut W,
+    text: &mut Vec<u8, A>,
 ) -> Result<WriterEnd, BodyFault>
     requires none { me.old.receipts ≡ [] }
     requires new { (W.state writer.old).bytes ≡ [] }
@@ -174,7 +185,7 @@ fn write_link<
             return Ok(WriterEnd::WriteFailed);
         }
     }
-    let end = write_packets(rt, alloc, service, gate, me, link, writer, role, c)?;
+    let end = write_packets(rt, service, gate, me, link, writer, role, c, text)?;
     if let WriterEnd::WriteFailed = end {
         close(rt, service, gate, me, link, c)?;
     }
@@ -210,16 +221,18 @@ pub fn writer_body<
     ensures steps { IfOk result.end (λ end. (c : ℕ) × WriterSteps end c result.actor) }
 {
     let (mut actor, mut writer) = (actor, writer);
+    let mut text = Vec::new(alloc);
     let end = write_link(
         rt,
-        alloc,
         service,
         gate,
         &mut actor,
         link,
         role,
         &mut writer,
+        &mut text,
     );
+    drop(text);
     if let Err(BodyFault::HistoryFull | BodyFault::NoMemory) = end {
         service.fail(rt);
         gate.failed();

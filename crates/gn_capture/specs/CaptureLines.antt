@@ -29,12 +29,17 @@ abbrev pub number_alone : List (List ℕ) → Result ℕ Cause
 number_alone (field ∷ []) = parsed (number_of field)
 number_alone _ = Err cause.Fields
 
--- a piece of a link, which has to be made before
+-- a piece of this link, which has to be made before
+abbrev pub piece_of : {A : Type 0} → ℕ → ℕ → List ℕ → Result (Line A) Cause
+piece_of links i hex = do
+  bytes ← parsed (bytes_parsed hex)
+  if nat_le 1 i && nat_le i links then Ok (Piece i bytes) else Err cause.Link
+
+-- a piece of the link of this number
 abbrev pub data_of : {A : Type 0} → ℕ → List (List ℕ) → Result (Line A) Cause
 data_of links (link ∷ hex ∷ []) = do
   i ← parsed (number_of link)
-  bytes ← parsed (bytes_parsed hex)
-  if nat_le 1 i && nat_le i links then Ok (Piece i bytes) else Err cause.Link
+  piece_of links i hex
 data_of links _ = Err cause.Fields
 
 -- what the fields after a word say

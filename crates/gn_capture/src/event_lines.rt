@@ -2,7 +2,7 @@
 
 ghost use Rattle.std.specs.Prelude.{◌≡◌, map};
 ghost use Rattle.gn_capture.specs.Outcomes.{IsLineRead};
-ghost use Rattle.gn_capture.specs.CaptureLines.{alone_of, data_of, link_of, number_alone};
+ghost use Rattle.gn_capture.specs.CaptureLines.{alone_of, data_of, link_of, number_alone, piece_of};
 
 use crate::line::{Line, PieceBytes};
 use crate::refusal::LineRefusal;
@@ -41,6 +41,25 @@ pub(crate) fn number_alone(fields: &[&[u8]]) -> Result<u32, Cause>
     }
 }
 
+/// A piece of this link, where so many links are made before it.
+fn piece_line<A: Allocator + Copy>(
+    alloc: A,
+    links: u64,
+    link: u32,
+    hex: &[u8],
+) -> Result<Line<A>, LineRefusal>
+    ensures { IsLineRead result (piece_of links link hex.now) }
+{
+    let Some(bytes) = hex_bytes(alloc, hex)? else {
+        return Err(LineRefusal::Fault(Cause::Field));
+    };
+    if link < 1 || u64::from(link) > links {
+        return Err(LineRefusal::Fault(Cause::Link));
+    }
+    let bytes = PieceBytes::of(alloc, bytes)?;
+    Ok(Line::Piece { link, bytes })
+}
+
 /// The piece of a `data` line, where so many links are made before it.
 pub(crate) fn data_line<A: Allocator + Copy>(
     alloc: A,
@@ -54,16 +73,7 @@ pub(crate) fn data_line<A: Allocator + Copy>(
             let Some(link) = number(link) else {
                 return Err(LineRefusal::Fault(Cause::Field));
             };
-            let Some(bytes) = hex_bytes(alloc, hex)? else {
-                return Err(LineRefusal::Fault(Cause::Field));
-            };
-            if link < 1 || u64::from(link) > links {
-                return Err(LineRefusal::Fault(Cause::Link));
-            }
-            Ok(Line::Piece {
-                link,
-                bytes: PieceBytes::of(alloc, bytes)?,
-            })
+            piece_line(alloc, links, link, hex)
         }
         _ => Err(LineRefusal::Fault(Cause::Fields)),
     }

@@ -1,6 +1,7 @@
 //! One line of a capture.
 
-ghost use Rattle.std.specs.Prelude.{◌≡◌, map};
+ghost use Rattle.std.specs.Prelude.{◌≡◌, Ok, map};
+ghost use Rattle.gn_capture.specs.declared.line.Line.TheVariants.{Originate};
 ghost use Rattle.gn_text.specs.Lines.{fields_of};
 ghost use Rattle.gn_capture.specs.CaptureLines.{fields_say, line_of};
 ghost use Rattle.gn_text.specs.Faults.{IsRead};
@@ -12,7 +13,15 @@ use crate::query_line::{ping_line, query_line};
 use crate::refusal::LineRefusal;
 use crate::word::{Word, word_in};
 use gn_text::{CaptureRefusal, Cause, fields_into};
+use gn_wire::Descriptor;
 use std::alloc::Allocator;
+
+/// The line of which the local servent sends a descriptor.
+fn request_line<A: Allocator>(alloc: A, descriptor: Descriptor<A>) -> Result<Line<A>, LineRefusal>
+    ensures { IsLineRead result (Ok (Originate descriptor)) }
+{
+    Ok(Line::Originate(LocalRequest::of(alloc, descriptor)?))
+}
 
 /// What the fields after a word say, where so many links are made before them.
 fn read_fields<A: Allocator + Copy>(
@@ -23,17 +32,17 @@ fn read_fields<A: Allocator + Copy>(
 ) -> Result<Line<A>, LineRefusal>
     ensures { IsLineRead result (fields_say links (map (λ x. x.now) fields.now) word) }
 {
-    Ok(match word {
-        Word::Join => link_line(Line::Join, links, fields)?,
-        Word::Open => link_line(Line::Greeted, links, fields)?,
-        Word::Data => data_line(alloc, links, fields)?,
-        Word::Route => Line::Route(number_alone(fields)?),
-        Word::Take => Line::Take(number_alone(fields)?),
-        Word::Close => Line::Close(number_alone(fields)?),
-        Word::Ping => Line::Originate(LocalRequest::of(alloc, ping_line(alloc, fields)?)?),
-        Word::Query => Line::Originate(LocalRequest::of(alloc, query_line(alloc, fields)?)?),
-        Word::Stats => alone(Line::Stats, fields)?,
-    })
+    match word {
+        Word::Join => Ok(link_line(Line::Join, links, fields)?),
+        Word::Open => Ok(link_line(Line::Greeted, links, fields)?),
+        Word::Data => data_line(alloc, links, fields),
+        Word::Route => Ok(Line::Route(number_alone(fields)?)),
+        Word::Take => Ok(Line::Take(number_alone(fields)?)),
+        Word::Close => Ok(Line::Close(number_alone(fields)?)),
+        Word::Ping => request_line(alloc, ping_line(alloc, fields)?),
+        Word::Query => request_line(alloc, query_line(alloc, fields)?),
+        Word::Stats => Ok(alone(Line::Stats, fields)?),
+    }
 }
 
 /// What the fields of a line say.

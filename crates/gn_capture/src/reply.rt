@@ -159,13 +159,22 @@ pub(crate) fn read_reply<A: Allocator + Copy>(
         return Ok(None);
     };
     if is_word(word, b"connected") {
-        return Ok(number_alone(more).ok().map(|c| Reply::Connected(c)));
+        return match number_alone(more) {
+            Ok(c) => Ok(Some(Reply::Connected(c))),
+            Err(_) => Ok(None),
+        };
     }
     if is_word(word, b"closed") {
-        return Ok(number_alone(more).ok().map(|count| Reply::Closed(count)));
+        return match number_alone(more) {
+            Ok(count) => Ok(Some(Reply::Closed(count))),
+            Err(_) => Ok(None),
+        };
     }
     if is_word(word, b"admitted") {
-        return Ok(number_alone(more).ok().map(|t| Reply::Admitted(t)));
+        return match number_alone(more) {
+            Ok(t) => Ok(Some(Reply::Admitted(t))),
+            Err(_) => Ok(None),
+        };
     }
     read_unnumbered(alloc, word, more)
 }

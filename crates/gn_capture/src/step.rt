@@ -35,12 +35,19 @@ pub(crate) fn read_step<A: Allocator + Copy>(
     let Some((event, fields)) = event_first(alloc, fields)? else {
         return Ok(None);
     };
-    match read_answer(alloc, fields)? {
-        Some(reply) => Ok(Some(Step {
+    match read_answer(alloc, fields) {
+        Ok(Some(reply)) => Ok(Some(Step {
             actor,
             event,
             reply,
         })),
-        None => Ok(None),
+        Ok(None) => {
+            drop(event);
+            Ok(None)
+        }
+        Err(error) => {
+            drop(event);
+            Err(error)
+        }
     }
 }

@@ -68,7 +68,12 @@ impl<C: RouterCore<A>, L: Ledger, A: Allocator + Copy> Hub<C, L, A> {
     {
         checked_answers_fit::<A>();
         match self.route(me, ticket, checked) {
-            Ok(()) => self.stepped((), &Event::Route(ticket), me),
+            Ok(()) => {
+                let event = Event::Route(ticket);
+                let answered = self.stepped((), &event, me);
+                drop(event);
+                answered
+            }
             Err(refusal) => Answered::refused(refusal),
         }
     }
@@ -103,7 +108,10 @@ impl<C: RouterCore<A>, L: Ledger, A: Allocator + Copy> Hub<C, L, A> {
         answers_fit::<A>();
         match self.outgoing(me, c) {
             Ok(Some(Outgoing::Packet)) => {
-                self.stepped(Some(Outgoing::Packet), &Event::Take(c), me)
+                let event = Event::Take(c);
+                let answered = self.stepped(Some(Outgoing::Packet), &event, me);
+                drop(event);
+                answered
             }
             Ok(Some(over)) => Answered {
                 answer: Ok(Some(over)),

@@ -77,6 +77,17 @@ impl<C: RouterCore<A>, L: Ledger, A: Allocator + Copy> Hub<C, L, A> {
         Ok(())
     }
 
+    /// As `call`, of an event that nobody needs any more.
+    fn call_with(&mut self, me: &mut Actor<L, A>, event: Event<A>) -> Result<(), Refusal>
+        ensures { MatchResult result
+            (λ _. HasStepped (answer_now self.old event) event self.old me.old self.new me.new)
+            (λ refusal. IsRefusal refusal (answer_now self.old event) × (self.new ≡ self.old) × (me.new ≡ me.old)) }
+    {
+        let answer = self.call(me, &event);
+        drop(event);
+        answer
+    }
+
     /// As `call` of a Route, with the descriptor's payload checked beforehand. A descriptor that isn't the admitted one is
     /// refused as strange. A refusal changes nothing.
     pub fn route(
@@ -111,7 +122,7 @@ impl<C: RouterCore<A>, L: Ledger, A: Allocator + Copy> Hub<C, L, A> {
             (λ _. HasConnected link self.old me.old self.new me.new)
             (λ refusal. IsRefusal refusal (answer_now self.old Connect) × (self.new ≡ self.old) × (me.new ≡ me.old)) }
     {
-        self.call(me, &Event::Connect)?;
+        self.call_with(me, Event::Connect)?;
         let door = door_after(me.last_reply());
         self.set_door(link, door);
         Ok(())
@@ -144,11 +155,11 @@ impl<C: RouterCore<A>, L: Ledger, A: Allocator + Copy> Hub<C, L, A> {
             return Ok(Some(Outgoing::Closed));
         }
         if self.core.waiting(c) != 0 {
-            self.call(me, &Event::Take(c))?;
+            self.call_with(me, Event::Take(c))?;
             return Ok(Some(Outgoing::Packet));
         }
         if self.closing() {
-            self.call(me, &Event::Close(c))?;
+            self.call_with(me, Event::Close(c))?;
             return Ok(Some(Outgoing::Drained));
         }
         Ok(None)

@@ -1,3 +1,4 @@
+pub mod CountLemmas
 pub mod CounterLemmas
 pub mod FlightLemmas
 pub mod KeptLemmas

@@ -51,15 +51,12 @@ pub(crate) fn out_count<A: Allocator>(config: &Config, history: &[Step<A>], c: C
 }
 
 /// How many packets were taken from the connection's output.
-#[tactic(auto, using(gn_rules::proofs::PastLemmas::past_more))]
 fn take_count<A: Allocator>(history: &[Step<A>], c: ConnId) -> usize
     ensures { result ≡ takes (reverse history.now) c }
 {
     let mut count = 0usize;
     for step in history {
-        if step.event.takes(c) {
-            count += 1;
-        }
+        count += usize::from(step.event.takes(c));
     }
     count
 }

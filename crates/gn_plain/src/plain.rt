@@ -44,6 +44,13 @@ impl<A: Allocator + Copy> PlainRouter<A> {
         Past::with_flights(&self.config, &self.history, self.flying.len())
     }
 
+    /// The answer to an event: a reply, the rules' refusal, or out of memory where the rules give a reply.
+    fn answer(&self, event: &Event<A>) -> Result<Reply<A>, Refusal>
+        ensures { rules.Finds result (rules.answer self.now.settings (reverse self.now.steps) event.now) }
+    {
+        find(self.alloc, &self.past(), event)
+    }
+
     /// Adds the step of an event and the rules' reply, and gives its receipt. An `Err` is out of memory, and changes
     /// nothing.
     #[tactic(auto, using(gn_rules::proofs::PastLemmas::past_length, gn_rules::proofs::LegalLemmas::legal_within))]
@@ -63,8 +70,9 @@ impl<A: Allocator + Copy> PlainRouter<A> {
     {
         let index = self.history.len() as u32;
         let (mut step, receipt) = Step::with_receipt(self.alloc, index, actor, event, reply)?;
-        self.keep(step.actor, &mut step.event, &mut step.reply)?;
-        Ok(receipt)
+        let kept = self.keep(step.actor, &mut step.event, &mut step.reply);
+        drop(step);
+        kept.and(Ok(receipt))
     }
 
     /// Makes the step of an event and the rules' reply the last of the history. An `Err` is out of memory, and changes
@@ -111,7 +119,7 @@ impl<A: Allocator + Copy> RouterCore<A> for PlainRouter<A> {
     }
 
     fn apply(&mut self, actor: u32, event: &Event<A>) -> Result<Receipt<A>, Refusal> {
-        let reply = find(self.alloc, &self.past(), event)?;
+        let reply = self.answer(event)?;
         Ok(self.add_with_receipt(actor, event, reply)?)
     }
 
@@ -120,8 +128,10 @@ impl<A: Allocator + Copy> RouterCore<A> for PlainRouter<A> {
     }
 
     fn enter(&mut self, actor: u32, event: &mut Event<A>) -> Result<(), Refusal> {
-        let mut reply = find(self.alloc, &self.past(), event)?;
-        self.keep(actor, event, &mut reply)?;
+        let mut reply = self.answer(event)?;
+        let kept = self.keep(actor, event, &mut reply);
+        drop(reply);
+        kept?;
         Ok(())
     }
 
@@ -136,7 +146,10 @@ impl<A: Allocator + Copy> RouterCore<A> for PlainRouter<A> {
         checked: &Checked<A>,
     ) -> Result<Receipt<A>, Refusal> {
         let reply = find_checked(self.alloc, &self.past(), ticket, checked)?;
-        Ok(self.add_with_receipt(actor, &Event::Route(ticket), reply)?)
+        let event = Event::Route(ticket);
+        let receipt = self.add_with_receipt(actor, &event, reply);
+        drop(event);
+        Ok(receipt?)
     }
 
     fn config(&self) -> &Config {

@@ -1,12 +1,17 @@
 -- Places in a list of entries, where one is looked for or taken out.
-use Rattle.std.proofs.Common.{◌≡◌, ℕ, zero, suc, ◌+◌, ◌<◌, ◌≤◌, Bool, true, false, ◌&&◌, ◌||◌, not, cond, if◌then◌else◌, nat_lt, List, [], ◌∷◌, take, Option, Some, None, refl, sym, ap, ◌∙◌, arith}
+use Rattle.std.proofs.Common.{◌≡◌, ℕ, zero, suc, ◌+◌, ◌<◌, ◌≤◌, Bool, true, false, ◌&&◌, ◌||◌, not, cond, if◌then◌else◌, nat_lt, List, [], ◌∷◌, ◌++◌, get_or, length, reverse, take, Option, Some, None, refl, sym, ap, ◌∙◌, arith}
 use Rattle.std.specs.Map.{lookup, remove_entry}
+use Rattle.std.specs.Option.{option_to_list}
 use Rattle.std.proofs.lemmas.Grind.{common_steps}
+use Rattle.gn_wire.specs.declared.key.Key.{Key}
 use Rattle.gn_wire.specs.declared.kind.Guid.{Guid}
-use Rattle.gn_wire.specs.Keys.{is_same_id}
-use Rattle.gn_rules.specs.Servents.{learned}
+use Rattle.gn_wire.specs.Keys.{is_same_id, is_same_key}
+use Rattle.gn_rules.specs.declared.receipt.Step.{Step}
+use Rattle.gn_rules.specs.SeenEntries.{entry_of, seen_entries}
+use Rattle.gn_rules.specs.Servents.{hit_of, learned, servents}
 use Rattle.gn_rules.proofs.EntryLemmas.{below_zero, zero_below, lookup_removed, ids_apart}
-use Rattle.gn_remembered.specs.Place.{place, is_before, before_after, route_after, place_after}
+use Rattle.gn_rules.proofs.PastLemmas.{past_more}
+use Rattle.gn_remembered.specs.Place.{place, is_before, before_after, route_after, place_after, source_after, later_after}
 
 below_more : (n m : ℕ) → nat_lt (n + 1) (suc m) ≡ nat_lt n m
 below_more n m = grind (arith, common_steps)
@@ -89,17 +94,75 @@ before_known x y hit known =
       ] refl
     ] refl
 
-pub before_learned : (x y : Guid) (hit : Option (Guid × ℕ)) (known : List (Guid × ℕ))
+before_learned : (x y : Guid) (hit : Option (Guid × ℕ)) (known : List (Guid × ℕ))
     → is_before (is_same_id x) (is_same_id y) (learned hit known) ≡ before_after x y hit (is_before (is_same_id x) (is_same_id y) known)
 before_learned x y None known = refl
 before_learned x y (Some hit) known = before_known x y hit known
 
-pub route_learned : (x : Guid) (hit : Option (Guid × ℕ)) (known : List (Guid × ℕ))
+route_learned : (x : Guid) (hit : Option (Guid × ℕ)) (known : List (Guid × ℕ))
     → lookup (is_same_id x) (learned hit known) ≡ route_after x hit (lookup (is_same_id x) known)
 route_learned x None known = refl
 route_learned x (Some hit) known = route_known x hit known
 
-pub place_learned : (x : Guid) (hit : Option (Guid × ℕ)) (known : List (Guid × ℕ))
+place_learned : (x : Guid) (hit : Option (Guid × ℕ)) (known : List (Guid × ℕ))
     → place (is_same_id x) (learned hit known) ≡ place_after x hit known
 place_learned x None known = refl
 place_learned x (Some hit) known = place_known x hit known
+
+source_found : (k : Key) (entry : Option (Key × ℕ)) (es : List (Key × ℕ)) → lookup (is_same_key k) (option_to_list entry ++ es) ≡ source_after k entry (lookup (is_same_key k) es)
+source_found k None es = refl
+source_found k (Some e) es = refl
+
+later_found : (k : Key) (entry : Option (Key × ℕ)) (es : List (Key × ℕ)) → place (is_same_key k) (option_to_list entry ++ es) ≡ later_after k entry (place (is_same_key k) es)
+later_found k None es = refl
+later_found k (Some e) es = refl
+
+-- what searches have found, one step on
+module _ {A : Type 0} (steps : List (Step A)) (i : ℕ) (step : Step A) (within : i < length steps) (is : step ≡ get_or steps i step) where
+  pub source_more : (k : Key) (found : Option (Key × ℕ)) (source now : Option ℕ) → found ≡ entry_of (reverse (take i steps)) step.event step.reply
+      → source ≡ lookup (is_same_key k) (seen_entries (reverse (take i steps))) → now ≡ source_after k found source
+      → now ≡ lookup (is_same_key k) (seen_entries (reverse (take (i + 1) steps)))
+  source_more k found source now found_is source_is now_is =
+      now_is
+      ∙ ap (λ e. source_after k e source) found_is
+      ∙ ap (source_after k (entry_of (reverse (take i steps)) step.event step.reply)) source_is
+      ∙ sym (source_found k (entry_of (reverse (take i steps)) step.event step.reply) (seen_entries (reverse (take i steps))))
+      ∙ sym (ap (λ past. lookup (is_same_key k) (seen_entries past)) (past_more steps i step within is))
+
+  pub later_more : (k : Key) (found : Option (Key × ℕ)) (later now : ℕ) → found ≡ entry_of (reverse (take i steps)) step.event step.reply
+      → later ≡ place (is_same_key k) (seen_entries (reverse (take i steps))) → now ≡ later_after k found later
+      → now ≡ place (is_same_key k) (seen_entries (reverse (take (i + 1) steps)))
+  later_more k found later now found_is later_is now_is =
+      now_is
+      ∙ ap (λ e. later_after k e later) found_is
+      ∙ ap (later_after k (entry_of (reverse (take i steps)) step.event step.reply)) later_is
+      ∙ sym (later_found k (entry_of (reverse (take i steps)) step.event step.reply) (seen_entries (reverse (take i steps))))
+      ∙ sym (ap (λ past. place (is_same_key k) (seen_entries past)) (past_more steps i step within is))
+
+  pub before_more : (x y : Guid) (found : Option (Guid × ℕ)) (later now : Bool) → found ≡ hit_of (reverse (take i steps)) step.event step.reply
+      → later ≡ is_before (is_same_id x) (is_same_id y) (servents (reverse (take i steps))) → now ≡ before_after x y found later
+      → now ≡ is_before (is_same_id x) (is_same_id y) (servents (reverse (take (i + 1) steps)))
+  before_more x y found later now found_is later_is now_is =
+      now_is
+      ∙ ap (λ h. before_after x y h later) found_is
+      ∙ ap (before_after x y (hit_of (reverse (take i steps)) step.event step.reply)) later_is
+      ∙ sym (before_learned x y (hit_of (reverse (take i steps)) step.event step.reply) (servents (reverse (take i steps))))
+      ∙ sym (ap (λ past. is_before (is_same_id x) (is_same_id y) (servents past)) (past_more steps i step within is))
+
+  pub route_more : (x : Guid) (found : Option (Guid × ℕ)) (route now : Option ℕ) → found ≡ hit_of (reverse (take i steps)) step.event step.reply
+      → route ≡ lookup (is_same_id x) (servents (reverse (take i steps))) → now ≡ route_after x found route
+      → now ≡ lookup (is_same_id x) (servents (reverse (take (i + 1) steps)))
+  route_more x found route now found_is route_is now_is =
+      now_is
+      ∙ ap (λ h. route_after x h route) found_is
+      ∙ ap (route_after x (hit_of (reverse (take i steps)) step.event step.reply)) route_is
+      ∙ sym (route_learned x (hit_of (reverse (take i steps)) step.event step.reply) (servents (reverse (take i steps))))
+      ∙ sym (ap (λ past. lookup (is_same_id x) (servents past)) (past_more steps i step within is))
+
+  pub place_more : (x : Guid) (found : Option (Guid × ℕ)) (now : ℕ) → found ≡ hit_of (reverse (take i steps)) step.event step.reply
+      → now ≡ place_after x found (servents (reverse (take i steps))) → now ≡ place (is_same_id x) (servents (reverse (take (i + 1) steps)))
+  place_more x found now found_is now_is =
+      now_is
+      ∙ ap (λ h. place_after x h (servents (reverse (take i steps)))) found_is
+      ∙ sym (place_learned x (hit_of (reverse (take i steps)) step.event step.reply) (servents (reverse (take i steps))))
+      ∙ sym (ap (λ past. place (is_same_id x) (servents past)) (past_more steps i step within is))

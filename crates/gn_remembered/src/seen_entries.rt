@@ -1,10 +1,10 @@
 //! Searches of a history for the descriptors that are remembered.
 
-ghost use Rattle.std.specs.Prelude.{◌≡◌, reverse};
+ghost use Rattle.std.specs.Prelude.{◌≡◌, ◌+◌, ◌^◌, ◌<◌, ◌≤◌, reverse};
 ghost use Rattle.std.specs.Map.{lookup};
 ghost use Rattle.gn_wire.specs.Keys.{is_same_key};
 ghost use Rattle.gn_rules.specs.SeenEntries as rules;
-ghost use Rattle.gn_remembered.specs.Place.{place};
+ghost use Rattle.gn_remembered.specs.Place.{later_after, place, source_after};
 
 use crate::admitted::admission_in;
 use gn_rules::{Config, ConnId, Event, Step};
@@ -29,8 +29,32 @@ fn entry_in<A: Allocator>(history: &[Step<A>], step: &Step<A>) -> Option<(Key, C
     }
 }
 
+/// The source of the key, after one more entry.
+#[tactic(auto, using(gn_wire::proofs::KeyLemmas::same_key))]
+fn source_with(entry: Option<(Key, ConnId)>, key: &Key, source: Option<ConnId>) -> Option<ConnId>
+    ensures { result ≡ source_after key.now entry source }
+{
+    match entry {
+        Some((other, origin)) if *key == other => Some(origin),
+        _ => source,
+    }
+}
+
+/// How many entries are kept after the last one of the key, after one more entry.
+#[tactic(auto, using(gn_wire::proofs::KeyLemmas::same_key))]
+fn later_with(entry: Option<(Key, ConnId)>, key: &Key, later: usize) -> usize
+    requires { later + 1 < 2 ^ 64 }
+    ensures value { result ≡ later_after key.now entry later }
+    ensures bound { result ≤ later + 1 }
+{
+    match entry {
+        None => later,
+        Some((other, _)) if *key == other => 0,
+        Some(_) => later + 1,
+    }
+}
+
 /// The source of the key's last kept entry, and how many seen entries are kept after it.
-#[tactic(auto, using(gn_rules::proofs::PastLemmas::past_more, gn_wire::proofs::KeyLemmas::same_key))]
 fn last_entry<A: Allocator>(history: &[Step<A>], key: &Key) -> (Option<ConnId>, usize)
     ensures source { result.0 ≡ lookup (is_same_key key.now) (rules.seen_entries (reverse history.now)) }
     ensures later { result.1 ≡ place (is_same_key key.now) (rules.seen_entries (reverse history.now)) }
@@ -38,14 +62,9 @@ fn last_entry<A: Allocator>(history: &[Step<A>], key: &Key) -> (Option<ConnId>, 
     let mut source = None;
     let mut later = 0usize;
     for i in 0..history.len() {
-        if let Some((other, origin)) = entry_in(&history[..i], &history[i]) {
-            if *key == other {
-                source = Some(origin);
-                later = 0;
-            } else {
-                later += 1;
-            }
-        }
+        let entry = entry_in(&history[..i], &history[i]);
+        source = source_with(entry, key, source);
+        later = later_with(entry, key, later);
     }
     (source, later)
 }

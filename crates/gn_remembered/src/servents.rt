@@ -37,7 +37,6 @@ fn later_after(hit: Option<(&[u8], ConnId)>, x: &[u8], y: &[u8], before: bool) -
 }
 
 /// Whether the last hit of the servent y comes after that of x.
-#[tactic(auto, using(gn_rules::proofs::PastLemmas::past_more, crate::proofs::PlaceLemmas::before_learned))]
 fn is_later<A: Allocator>(history: &[Step<A>], x: &[u8], y: &[u8]) -> bool
     ensures { result
         ≡ is_before (is_same_id (guid x.now)) (is_same_id (guid y.now)) (servents (reverse history.now)) }
@@ -80,7 +79,6 @@ fn place_with<A: Allocator>(
 }
 
 /// The connection of the servent's last hit, and how many servents have a hit after it.
-#[tactic(auto, using(gn_rules::proofs::PastLemmas::past_more, crate::proofs::PlaceLemmas::route_learned, crate::proofs::PlaceLemmas::place_learned,))]
 fn last_hit<A: Allocator>(history: &[Step<A>], x: &[u8]) -> (Option<ConnId>, usize)
     ensures route { result.0 ≡ lookup (is_same_id (guid x.now)) (servents (reverse history.now)) }
     ensures later { result.1 ≡ place (is_same_id (guid x.now)) (servents (reverse history.now)) }

@@ -4,6 +4,7 @@ ghost use Rattle.std.specs.Prelude.{◌≡◌, ◌<◌, ◌+◌, ◌++◌, Some,
 ghost use Rattle.gn_text.specs.Faults.{IsRefused};
 ghost use Rattle.gn_text.specs.Parsed.{line_seen, parsed_of};
 ghost use Rattle.gn_capture.specs.Histories.{history_of};
+ghost use Rattle.gn_replay.specs.Judgements.{IsJudged};
 ghost use Rattle.gn_replay.specs.Explained.{IsAuditExplained, answer_line, explanation_text, lines_before, step_line_at};
 
 use crate::judged::{judge_text, verdict};
@@ -78,6 +79,27 @@ fn explain<A: Allocator + Copy>(
     }
 }
 
+/// The verdict of a judgement on the history that a text says, and the lines that state and explain it.
+fn explained_lines<A: Allocator + Copy>(
+    alloc: A,
+    text: &[u8],
+    judgement: &Judgement<A>,
+    steps: u32,
+) -> Result<(Legality, Vec<u8, A>), AllocError>
+    requires { IsJudged A text.now judgement.now steps }
+    ensures { IfOk result (λ explained. IsAuditExplained A text.now explained.0 explained.1.items) }
+{
+    let legality = judgement.legality();
+    let mut lines = verdict(alloc, legality, steps)?;
+    match judgement {
+        Judgement::Legal => Ok((legality, lines)),
+        Judgement::WrongAt(index, rules) => {
+            explain(alloc, &mut lines, text, *index, rules)?;
+            Ok((legality, lines))
+        }
+    }
+}
+
 /// The verdict of a new router on the history that a text says, and the lines that state and explain it.
 pub(crate) fn explained_text<A: Allocator + Copy, C: RouterCore<A> + Drop>(
     alloc: A,
@@ -87,11 +109,7 @@ pub(crate) fn explained_text<A: Allocator + Copy, C: RouterCore<A> + Drop>(
     ensures refused { IfErr result (λ refusal. IsRefused refusal (history_of {A = A} text.now)) }
 {
     let (judgement, steps) = judge_text::<A, C>(alloc, text)?;
-    let legality = judgement.legality();
-    let mut lines = verdict(alloc, legality, steps)?;
-    match &judgement {
-        Judgement::Legal => {}
-        Judgement::WrongAt(index, rules) => explain(alloc, &mut lines, text, *index, rules)?,
-    }
-    Ok((legality, lines))
+    let explained = explained_lines(alloc, text, &judgement, steps);
+    drop(judgement);
+    Ok(explained?)
 }

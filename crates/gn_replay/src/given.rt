@@ -22,7 +22,9 @@ pub(crate) fn enter<A: Allocator + Copy, C: RouterCore<A>>(
     ensures settings { C.settings core.new ≡ C.settings core.old }
 {
     let mut event = event;
-    core.enter(actor, &mut event)
+    let entered = core.enter(actor, &mut event);
+    drop(event);
+    entered
 }
 
 /// Adds a step whose reply is the rules' answer. An `Err` is out of memory.
@@ -35,5 +37,7 @@ pub(crate) fn add<A: Allocator + Copy, C: RouterCore<A>>(
     ensures settings { C.settings core.new ≡ C.settings core.old }
 {
     let mut step = step;
-    core.add(&mut step)
+    let added = core.add(&mut step);
+    drop(step);
+    added
 }

@@ -55,7 +55,9 @@ pub(crate) fn judge<A: Allocator + Copy, C: RouterCore<A>>(
     let mut index = 0u32;
     while let Some(step) = steps.next_step()? {
         if !core.is_answered(&step) {
-            let rules = answer_to(core, step.actor, &step.event)?;
+            let answer = answer_to(core, step.actor, &step.event);
+            drop(step);
+            let rules = answer?;
             pass_left(steps)?;
             return Ok((Judgement::WrongAt(index, rules), index));
         }

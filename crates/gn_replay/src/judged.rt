@@ -59,6 +59,7 @@ pub(crate) fn audit_text<A: Allocator + Copy, C: RouterCore<A> + Drop>(
 {
     let (judgement, steps) = judge_text::<A, C>(alloc, text)?;
     let legality = judgement.legality();
+    drop(judgement);
     let line = verdict(alloc, legality, steps)?;
     Ok((legality, line))
 }

@@ -95,7 +95,9 @@ impl<A: Allocator + Copy, C: RouterCore<A>> Play<A, C> {
         let mut lines = lines;
         lines.reverse();
         while let Some(numbered) = take_last(&mut lines) {
-            self.write_line(&numbered.1, block, sink)?;
+            let written = self.write_line(&numbered.1, block, sink);
+            drop(numbered);
+            written?;
         }
         Ok(())
     }

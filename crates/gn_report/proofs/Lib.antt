@@ -4,4 +4,5 @@ pub mod OwnLemmas
 pub mod SurveyLemmas
 pub mod ConnLemmas
 pub mod ConfirmedLemmas
+pub mod ComparedLemmas
 pub mod PlaceLemmas

@@ -1,5 +1,5 @@
 -- What is compared of an actor is what is compared of the reader, the writer, the worker or the house at its place.
-use Rattle.std.proofs.Common.{◌≡◌, ◌≤◌, ◌<◌, ◌+◌, ◌-◌, ℕ, Bool, true, false, nat_lt, List, length, get_or, Vec, sym, ◌∙◌, subst, arith}
+use Rattle.std.proofs.Common.{◌≡◌, ◌≤◌, ◌<◌, ◌+◌, ◌-◌, ℕ, Bool, true, false, nat_lt, List, length, get_or, Vec, sym, ◌∙◌, subst, ap, arith}
 use Rattle.std.specs.Bool.{MatchBool}
 use Rattle.std.specs.List.{list_all}
 use Rattle.std.proofs.lemmas.Bool.{le-ltb, lt-ltb}
@@ -10,6 +10,8 @@ use Rattle.gn_shake.specs.declared.role.Role.{Role}
 use Rattle.gn_shake.specs.Roles.{is_calling}
 use Rattle.gn_report.specs.declared.report.LinkReport.{LinkReport}
 use Rattle.gn_report.specs.declared.report.Report.{Report}
+use Rattle.gn_rules.specs.Mine.{mine}
+use Rattle.gn_report.specs.Actors.{AreOwn}
 use Rattle.gn_report.specs.BodyEnds.{is_settled}
 use Rattle.gn_report.specs.Flaw.{HouseConfirmed, IsConfirmed, ReaderConfirmed, WorkerConfirmed, WriterConfirmed}
 use Rattle.gn_report.proofs.ConfirmedLemmas.{match_false, match_true}
@@ -119,3 +121,17 @@ house_is {Rd} {W} {A} roles report P a steps receipts both these all high =
 
     back : HouseConfirmed (is_settled report.history.items) report.history.items a report.house.items → HouseConfirmed (is_settled steps) steps a receipts
     back h = subst (λ x. HouseConfirmed (is_settled x) x a receipts) (sym these) (subst (λ x. HouseConfirmed (is_settled report.history.items) report.history.items a x) (sym all) h)
+
+-- where all receipts are their actors' own, so are those of the writer and of the worker at this place
+pub writer_own : {Rd W A : Type 0} (report : Report Rd W A) (a i : ℕ) (link : LinkReport Rd W A) → AreOwn report → link ≡ get_or report.links.items i link → i + length report.links.items ≡ a
+    → length report.links.items ≤ a → a < length report.links.items + length report.links.items → link.writer_receipts.items ≡ mine report.history.items a
+writer_own {Rd} {W} {A} report a i link own there at high low =
+    let is : length report.links.items + i ≡ a = omega (arith, at) in
+    ap (λ (l : LinkReport Rd W A). l.writer_receipts.items) there ∙ own.writer i link (omega (arith, at, low)) ∙ ap (mine report.history.items) is
+
+pub worker_own : {Rd W A : Type 0} (report : Report Rd W A) (a i : ℕ) (worker : Vec (Receipt A) A) → AreOwn report → worker ≡ get_or report.workers.items i worker
+    → i + (length report.links.items + length report.links.items) ≡ a → length report.links.items + length report.links.items ≤ a
+    → a < length report.links.items + length report.links.items + length report.workers.items → worker.items ≡ mine report.history.items a
+worker_own {Rd} {W} {A} report a i worker own there at high low =
+    let is : length report.links.items + length report.links.items + i ≡ a = omega (arith, at) in
+    ap (λ (v : Vec (Receipt A) A). v.items) there ∙ own.worker i worker (omega (arith, at, low)) ∙ ap (mine report.history.items) is

@@ -1,16 +1,17 @@
 -- What one look at a whole report says of a step or of a place in the history.
-use Rattle.std.proofs.Common.{◌≡◌, ◌≤◌, ◌<◌, ◌+◌, ◌-◌, ◌==◌, ◌&&◌, ℕ, zero, suc, Bool, true, false, not, nat_lt, List, [], ◌∷◌, length, drop, get_or, take, refl, sym, ap, ◌∙◌, inl, inr, subst, arith}
-use Rattle.std.specs.List.{list_all}
-use Rattle.std.proofs.lemmas.Bool.{and_from, cases_lt, eq-eqb, eqb-true, le-leb, le-ltb, leb-true, lt-ltb}
+use Rattle.std.proofs.Common.{◌≡◌, ◌≤◌, ◌<◌, ◌+◌, ◌-◌, ◌&&◌, ℕ, zero, suc, Bool, true, false, not, nat_lt, List, [], ◌∷◌, length, drop, get_or, Some, refl, sym, ap, ◌∙◌, inl, inr, subst, arith}
+use Rattle.std.specs.List.{list_all, slice_get}
+use Rattle.std.proofs.lemmas.Bool.{and_from, cases_lt, le-leb, le-ltb, leb-true, lt-ltb}
 use Rattle.std.proofs.Math.Dec.{leb}
 use Rattle.std.proofs.lemmas.Grind.{common_steps}
 use Rattle.std.proofs.lemmas.List.{get_or_default}
+use Rattle.std.proofs.lemmas.Option.{slice_get-get_or, slice_get_past}
 use Rattle.gn_rules.specs.declared.receipt.Step.{Step}
 use Rattle.gn_shake.specs.declared.role.Role.{Role}
 use Rattle.gn_report.specs.declared.report.LinkReport.{LinkReport}
 use Rattle.gn_report.specs.Actors.{is_awaited}
 use Rattle.gn_report.specs.BodyEnds.{is_settled}
-use Rattle.gn_report.specs.Survey.{AreSettled, IsDrainsCloseAt, IsReadUntil, is_drains_close}
+use Rattle.gn_report.specs.Survey.{AreSettled, IsDrainsCloseAt, IsReadUntil, has_drained, is_drained, is_drained_writer}
 
 pub settled_there : {Rd W A : Type 0} (links : List (LinkReport Rd W A)) (steps : List (Step A)) (k : ℕ) → AreSettled links steps → IsDrainsCloseAt links steps k → is_settled steps k ≡ true
 settled_there links [] k settled at = absurd (omega (arith, at.within))
@@ -63,14 +64,37 @@ pub is_read_by : {A : Type 0} (roles : List Role) (steps : List (Step A)) (n k :
 is_read_by roles steps n k read = leb_is n k ∙ sym (read_by roles steps n k read)
 
 -- one place further back
-pub none_back : {A : Type 0} (roles : List Role) (steps : List (Step A)) (n m : ℕ) (step : Step A) → m ≡ n + 1 → n < length steps → step ≡ get_or steps n step → is_awaited roles step.actor ≡ false
+pub none_back : {A : Type 0} (roles : List Role) (steps : List (Step A)) (n m : ℕ) (step : Step A) → m ≡ n + 1 → n < length steps → is_awaited roles (get_or steps n step).actor ≡ false
     → ((k : ℕ) (d : Step A) → m ≤ k → k < length steps → is_awaited roles (get_or steps k d).actor ≡ false)
     → (k : ℕ) (d : Step A) → n ≤ k → k < length steps → is_awaited roles (get_or steps k d).actor ≡ false
-none_back {A} roles steps n m step next below is not_awaited after k d high low =
+none_back {A} roles steps n m step next below not_awaited after k d high low =
     elim (cases_lt n k) as (λ x. is_awaited roles (get_or steps k d).actor ≡ false) [
       | inl over ↦ after k d (omega (arith, next, over)) low
       | inr under ↦
           let at : n ≡ k = omega (arith, under, high) in
-          let same : step ≡ get_or steps n d = is ∙ get_or_default steps n step d below in
+          let same = get_or_default steps n step d below in
           subst (λ i. is_awaited roles (get_or steps i d).actor ≡ false) at (subst (λ (x : Step A). is_awaited roles x.actor ≡ false) same not_awaited)
     ]
+
+-- the step that was looked at is the last one
+pub last_at : {A : Type 0} (roles : List Role) (steps : List (Step A)) (n m : ℕ) (step : Step A) → m ≡ n + 1 → n < length steps → is_awaited roles (get_or steps n step).actor ≡ true
+    → (k : ℕ) (d : Step A) → m ≡ k + 1 → is_awaited roles (get_or steps k d).actor ≡ true
+last_at {A} roles steps n m step next below awaited k d at =
+    let same : n ≡ k = omega (arith, next, at) in
+    subst (λ i. is_awaited roles (get_or steps i d).actor ≡ true) same (subst (λ (x : Step A). is_awaited roles x.actor ≡ true) (get_or_default steps n step d below) awaited)
+
+-- a reader is no writer
+pub no_writer : {Rd W A : Type 0} (links : List (LinkReport Rd W A)) (a : ℕ) → a < length links → is_drained_writer links a ≡ false
+no_writer links a below = ap (λ b. not b && has_drained (slice_get links (a - length links))) (lt-ltb a (length links) below)
+
+-- an actor that is no reader is looked for among the links
+writer_at : {Rd W A : Type 0} (links : List (LinkReport Rd W A)) (a : ℕ) → length links ≤ a → is_drained_writer links a ≡ has_drained (slice_get links (a - length links))
+writer_at links a past = ap (λ b. not b && has_drained (slice_get links (a - length links))) (le-ltb a (length links) past)
+
+pub writer_there : {Rd W A : Type 0} (links : List (LinkReport Rd W A)) (a : ℕ) (link : LinkReport Rd W A) → length links ≤ a → a - length links < length links
+    → link ≡ get_or links (a - length links) link → is_drained_writer links a ≡ is_drained link.writer_end
+writer_there {Rd} {W} {A} links a link past below is =
+    writer_at links a past ∙ ap has_drained (slice_get-get_or links (a - length links) link below ∙ ap (λ (l : LinkReport Rd W A). Some l) (sym is))
+
+pub writer_past : {Rd W A : Type 0} (links : List (LinkReport Rd W A)) (a : ℕ) → length links ≤ a → length links ≤ a - length links → is_drained_writer links a ≡ false
+writer_past links a past beyond = writer_at links a past ∙ ap has_drained (slice_get_past links (a - length links) beyond)

@@ -7,7 +7,7 @@ use gn_rules::{ConnId, Receipt, Step};
 use std::alloc::Allocator;
 
 /// Whose Close of a connection is looked for.
-#[derive(Clone, Copy, Debug, PartialEq, Eq)]
+#[derive(Clone, Copy)]
 pub enum Closer {
     /// Any actor's.
     Anyone,

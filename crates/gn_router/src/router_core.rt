@@ -1,8 +1,7 @@
 //! The table router keeps what every router promises.
 
-ghost use Rattle.std.specs.Prelude.{◌≡◌, ◌∷◌, ◌++◌, [], Ok, length, IfOk, IfErr, OnErr, OnOk};
+ghost use Rattle.std.specs.Prelude.{◌≡◌, ◌∷◌, ◌++◌, [], Ok, length, IfOk, OnErr, OnOk};
 ghost use Rattle.gn_rules.specs.Answer.{answer};
-ghost use Rattle.gn_rules.specs.declared.refusal.Refusal.TheVariants.{NoMemory};
 ghost use Rattle.gn_router.specs.Tabled.{past_of};
 
 use crate::table_router::TableRouter;
@@ -12,32 +11,28 @@ use gn_rules::{Config, ConnId, Event, Receipt, Refusal, Reply, RouterCore, Stats
 use std::alloc::{AllocError, Allocator};
 
 impl<A: Allocator + Copy> TableRouter<A> {
-    /// Makes the step of an event whose reply was found, and gives its receipt. The one refusal is out of memory, and
-    /// changes nothing.
+    /// Makes the step of an event whose reply was found, and gives its receipt. An `Err` is out of memory, and changes
+    /// nothing.
+    #[tactic(auto, using(gn_rules::proofs::PastLemmas::past_length))]
     fn add_with_receipt(
         &mut self,
         actor: u32,
         event: &Event<A>,
-        mut reply: Reply<A>,
-    ) -> Result<Receipt<A>, Refusal>
+        reply: Reply<A>,
+    ) -> Result<Receipt<A>, AllocError>
         requires { answer self.old.settings (past_of self.old) event.now ≡ Ok reply }
-        ensures reply { IfOk result (λ receipt. receipt.reply ≡ reply) }
         ensures step { IfOk result (λ receipt. self.new.steps
             ≡ self.old.steps ++ record { actor = actor; event = event.now; reply = reply } ∷ []) }
-        ensures index { IfOk result (λ receipt. receipt.index ≡ length self.old.steps) }
-        ensures event { IfOk result (λ receipt. receipt.event ≡ event.now) }
+        ensures receipt { IfOk result (λ receipt. receipt
+            ≡ record { index = length self.old.steps; event = event.now; reply = reply }) }
         ensures err { OnErr result (self.new.steps ≡ self.old.steps) }
-        ensures refusal { IfErr result (λ refusal. refusal ≡ NoMemory) }
         ensures settings { self.new.settings ≡ self.old.settings }
     {
-        let receipt = Receipt {
-            index: self.history.len() as u32,
-            event: event.copy()?,
-            reply: reply.copy(self.alloc)?,
-        };
-        let mut event = event.copy()?;
-        self.keep(actor, &mut event, &mut reply)?;
-        Ok(receipt)
+        let index = self.step_count();
+        let (mut step, receipt) = Step::with_receipt(self.alloc(), index, actor, event, reply)?;
+        let kept = self.keep(actor, &mut step.event, &mut step.reply);
+        drop(step);
+        kept.and(Ok(receipt))
     }
 
     /// Makes the step of an event and its reply, which was found, the last of the history. An `Err` is out of memory, and
@@ -77,8 +72,8 @@ impl<A: Allocator + Copy> RouterCore<A> for TableRouter<A> {
     }
 
     fn apply(&mut self, actor: u32, event: &Event<A>) -> Result<Receipt<A>, Refusal> {
-        let reply = find(self.alloc, self, event)?;
-        self.add_with_receipt(actor, event, reply)
+        let reply = find(self.alloc(), self, event)?;
+        Ok(self.add_with_receipt(actor, event, reply)?)
     }
 
     fn is_answered(&self, step: &Step<A>) -> bool {
@@ -86,8 +81,10 @@ impl<A: Allocator + Copy> RouterCore<A> for TableRouter<A> {
     }
 
     fn enter(&mut self, actor: u32, event: &mut Event<A>) -> Result<(), Refusal> {
-        let mut reply = find(self.alloc, self, event)?;
-        self.keep(actor, event, &mut reply)?;
+        let mut reply = find(self.alloc(), self, event)?;
+        let kept = self.keep(actor, event, &mut reply);
+        drop(reply);
+        kept?;
         Ok(())
     }
 
@@ -101,8 +98,11 @@ impl<A: Allocator + Copy> RouterCore<A> for TableRouter<A> {
         ticket: Ticket,
         checked: &Checked<A>,
     ) -> Result<Receipt<A>, Refusal> {
-        let reply = find_checked(self.alloc, self, ticket, checked)?;
-        self.add_with_receipt(actor, &Event::Route(ticket), reply)
+        let reply = find_checked(self.alloc(), self, ticket, checked)?;
+        let event = Event::Route(ticket);
+        let receipt = self.add_with_receipt(actor, &event, reply);
+        drop(event);
+        Ok(receipt?)
     }
 
     fn config(&self) -> &Config {

@@ -93,7 +93,7 @@ impl<A: Allocator + Copy> Sends<A> {
     {
         let mut items = Vec::with_capacity(alloc, sends.len())?;
         for sending in sends {
-            items.push(sending.copy()?)?;
+            items.push_reserved(sending.copy()?);
         }
         Ok(Sends { items })
     }

@@ -11,7 +11,10 @@ use std::alloc::{AllocError, Global};
 pub(crate) fn json_line(alloc: Global, index: u32, step: &Step) -> Result<Vec<u8>, AllocError>
     ensures { IfOk result (λ line. line.items ≡ json_line index step.now) }
 {
-    let text = step_value(alloc, index, step)?.to_string(alloc)?;
+    let value = step_value(alloc, index, step)?;
+    let written = value.to_string(alloc);
+    drop(value);
+    let text = written?;
     let mut line = text.into_bytes();
     line.push(b'\n')?;
     Ok(line)

@@ -4,6 +4,7 @@
 mod descriptor_json;
 mod form;
 mod json_lines;
+mod members;
 mod payload_json;
 mod plain;
 mod plain_descriptor;

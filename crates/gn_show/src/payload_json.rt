@@ -1,7 +1,8 @@
 //! Payloads as JSON.
 
-ghost use Rattle.std.specs.Prelude.{◌≡◌, ℕ, List, map, IfOk};
-ghost use Rattle.serde_json.specs.View.{items_of, items_view, view};
+ghost use Rattle.std.specs.Prelude.{◌≡◌, ℕ, List, map, IfOk, OnOk};
+ghost use Rattle.serde_json.specs.Data.{no_members, object};
+ghost use Rattle.serde_json.specs.View.{items_of, items_view, members_view, view};
 ghost use Rattle.gn_payload.specs.Grammar.{IsPong, IsPush};
 ghost use Rattle.gn_payload.specs.Views.{query_fields, result_fields};
 ghost use Rattle.gn_show.specs.Values.{
@@ -14,59 +15,68 @@ ghost use Rattle.gn_show.specs.Values.{
   unread_data,
 };
 
-use crate::text::{dotted, utf8};
+use crate::members::{Members, put_hex, put_ip, put_number, put_text};
+use crate::text::utf8;
 use gn_payload::{
     HitResult, Pong, Push, Query, QueryHit, read_hit, read_pong, read_push, read_query,
 };
 use gn_wire::Kind;
-use serde_json::{Value, json};
+use serde_json::{Map, Value, put};
 use std::alloc::{AllocError, Global};
 
-fn pong_value(alloc: Global, pong: &Pong) -> Result<Value, AllocError>
-    ensures { IfOk result (λ value. (bytes : List ℕ) → IsPong bytes pong.now → view value ≡ pong_data bytes) }
+fn put_pong(alloc: Global, members: &mut Members, pong: &Pong) -> Result<(), AllocError>
+    requires { members_view members.old.entries ≡ no_members }
+    ensures { OnOk result ((bytes : List ℕ) → IsPong bytes pong.now
+        → object (members_view members.new.entries) ≡ pong_data bytes) }
 {
-    let ip = dotted(alloc, pong.ip)?;
-    json!(in alloc; {"files": pong.files, "ip": ip, "kilobytes": pong.kbytes, "port": pong.port})
+    put_number(alloc, members, "files", pong.files)?;
+    put_ip(alloc, members, "ip", pong.ip)?;
+    put_number(alloc, members, "kilobytes", pong.kbytes)?;
+    put_number(alloc, members, "port", u32::from(pong.port))
 }
 
-fn push_value(alloc: Global, push: &Push) -> Result<Value, AllocError>
-    ensures { IfOk result (λ value. (bytes : List ℕ) → IsPush bytes push.now → view value ≡ push_data bytes) }
+fn put_push(alloc: Global, members: &mut Members, push: &Push) -> Result<(), AllocError>
+    requires { members_view members.old.entries ≡ no_members }
+    ensures { OnOk result ((bytes : List ℕ) → IsPush bytes push.now
+        → object (members_view members.new.entries) ≡ push_data bytes) }
 {
-    let ip = dotted(alloc, push.ip)?;
-    let servent = hex::encode(alloc, push.servent.0)?;
-    json!(in alloc; {"index": push.file, "ip": ip, "port": push.port, "servent": servent})
+    put_number(alloc, members, "index", push.file)?;
+    put_ip(alloc, members, "ip", push.ip)?;
+    put_number(alloc, members, "port", u32::from(push.port))?;
+    put_hex(alloc, members, "servent", &push.servent.0)
 }
 
-fn query_value(alloc: Global, query: &Query<'_>) -> Result<Value, AllocError>
-    ensures { IfOk result (λ value. view value ≡ query_data (query_fields query.now)) }
+fn put_query(alloc: Global, members: &mut Members, query: &Query<'_>) -> Result<(), AllocError>
+    requires { members_view members.old.entries ≡ no_members }
+    ensures { OnOk result (object (members_view members.new.entries) ≡ query_data (query_fields query.now)) }
 {
-    let tail = hex::encode(alloc, query.tail)?;
+    put_number(alloc, members, "minimum_speed", u32::from(query.speed))?;
+    put_hex(alloc, members, "tail_hex", query.tail)?;
     match utf8(query.text) {
-        Some(text) => {
-            json!(in alloc; {"minimum_speed": query.speed, "tail_hex": tail, "text": text})
-        }
-        None => {
-            let text = hex::encode(alloc, query.text)?;
-            json!(in alloc; {"minimum_speed": query.speed, "tail_hex": tail, "text_hex": text})
-        }
+        Some(text) => put_text(alloc, members, "text", text),
+        None => put_hex(alloc, members, "text_hex", query.text),
+    }
+}
+
+fn put_result(alloc: Global, members: &mut Members, found: &HitResult<'_>) -> Result<(), AllocError>
+    requires { members_view members.old.entries ≡ no_members }
+    ensures { OnOk result (object (members_view members.new.entries) ≡ result_data (result_fields found.now)) }
+{
+    put_hex(alloc, members, "extra_hex", found.extra)?;
+    put_number(alloc, members, "index", found.file)?;
+    put_number(alloc, members, "size", found.size)?;
+    match utf8(found.name) {
+        Some(name) => put_text(alloc, members, "name", name),
+        None => put_hex(alloc, members, "name_hex", found.name),
     }
 }
 
 fn result_value(alloc: Global, found: &HitResult<'_>) -> Result<Value, AllocError>
     ensures { IfOk result (λ value. view value ≡ result_data (result_fields found.now)) }
 {
-    let extra = hex::encode(alloc, found.extra)?;
-    match utf8(found.name) {
-        Some(name) => json!(in alloc; {
-            "extra_hex": extra, "index": found.file, "name": name, "size": found.size
-        }),
-        None => {
-            let name = hex::encode(alloc, found.name)?;
-            json!(in alloc; {
-                "extra_hex": extra, "index": found.file, "name_hex": name, "size": found.size
-            })
-        }
-    }
+    let mut members = Map::new(alloc);
+    put_result(alloc, &mut members, found)?;
+    Ok(Value::Object(members))
 }
 
 fn results_value(alloc: Global, hit: &QueryHit<'_>) -> Result<Vec<Value>, AllocError>
@@ -79,49 +89,63 @@ fn results_value(alloc: Global, hit: &QueryHit<'_>) -> Result<Vec<Value>, AllocE
     Ok(values)
 }
 
-fn hit_value(alloc: Global, hit: &QueryHit<'_>) -> Result<Value, AllocError>
-    ensures { IfOk result (λ value. view value ≡ hit_data hit.now) }
+fn put_hit(alloc: Global, members: &mut Members, hit: &QueryHit<'_>) -> Result<(), AllocError>
+    requires { members_view members.old.entries ≡ no_members }
+    ensures { OnOk result (object (members_view members.new.entries) ≡ hit_data hit.now) }
 {
-    let ip = dotted(alloc, hit.ip())?;
+    put_ip(alloc, members, "ip", hit.ip())?;
+    put_number(alloc, members, "port", u32::from(hit.port()))?;
     let results = results_value(alloc, hit)?;
-    let servent = hex::encode(alloc, hit.servent().0)?;
-    let trailer = hex::encode(alloc, hit.trailer())?;
-    json!(in alloc; {
-        "ip": ip, "port": hit.port(), "results": results, "servent": servent, "speed": hit.speed(),
-        "trailer_hex": trailer
-    })
+    put(members, alloc, "results", Value::Array(results))?;
+    put_hex(alloc, members, "servent", &hit.servent().0)?;
+    put_number(alloc, members, "speed", hit.speed())?;
+    put_hex(alloc, members, "trailer_hex", hit.trailer())
 }
 
-fn unread_value(alloc: Global, payload: &[u8]) -> Result<Value, AllocError>
-    ensures { IfOk result (λ value. view value ≡ unread_data payload.now) }
+fn put_unread(alloc: Global, members: &mut Members, payload: &[u8]) -> Result<(), AllocError>
+    requires { members_view members.old.entries ≡ no_members }
+    ensures { OnOk result (object (members_view members.new.entries) ≡ unread_data payload.now) }
 {
-    let bytes = hex::encode(alloc, payload)?;
-    json!(in alloc; {"unread_hex": bytes})
+    put_hex(alloc, members, "unread_hex", payload)
+}
+
+#[tactic(auto, using(crate::proofs::ValueLemmas::readings))]
+fn put_payload(
+    alloc: Global,
+    members: &mut Members,
+    kind: Kind,
+    payload: &[u8],
+) -> Result<(), AllocError>
+    requires { members_view members.old.entries ≡ no_members }
+    ensures { OnOk result (object (members_view members.new.entries) ≡ payload_data kind payload.now) }
+{
+    match kind {
+        Kind::Ping if payload.is_empty() => Ok(()),
+        Kind::Pong => match read_pong(payload) {
+            Some(pong) => put_pong(alloc, members, &pong),
+            None => put_unread(alloc, members, payload),
+        },
+        Kind::Push => match read_push(payload) {
+            Some(push) => put_push(alloc, members, &push),
+            None => put_unread(alloc, members, payload),
+        },
+        Kind::Query => match read_query(payload) {
+            Some(query) => put_query(alloc, members, &query),
+            None => put_unread(alloc, members, payload),
+        },
+        Kind::QueryHit => match read_hit(payload) {
+            Some(hit) => put_hit(alloc, members, &hit),
+            None => put_unread(alloc, members, payload),
+        },
+        _ => put_unread(alloc, members, payload),
+    }
 }
 
 /// The payload of a descriptor of this kind: what its fields say, or its bytes where it has no reading.
-#[tactic(auto, using(crate::proofs::ValueLemmas::readings))]
 pub(crate) fn payload_value(alloc: Global, kind: Kind, payload: &[u8]) -> Result<Value, AllocError>
     ensures { IfOk result (λ value. view value ≡ payload_data kind payload.now) }
 {
-    match kind {
-        Kind::Ping if payload.is_empty() => json!(in alloc; {}),
-        Kind::Pong => match read_pong(payload) {
-            Some(pong) => pong_value(alloc, &pong),
-            None => unread_value(alloc, payload),
-        },
-        Kind::Push => match read_push(payload) {
-            Some(push) => push_value(alloc, &push),
-            None => unread_value(alloc, payload),
-        },
-        Kind::Query => match read_query(payload) {
-            Some(query) => query_value(alloc, &query),
-            None => unread_value(alloc, payload),
-        },
-        Kind::QueryHit => match read_hit(payload) {
-            Some(hit) => hit_value(alloc, &hit),
-            None => unread_value(alloc, payload),
-        },
-        _ => unread_value(alloc, payload),
-    }
+    let mut members = Map::new(alloc);
+    put_payload(alloc, &mut members, kind, payload)?;
+    Ok(Value::Object(members))
 }

@@ -1,7 +1,9 @@
 //! Descriptors and their payloads in plain words.
 #![tactic(auto, using(std::proofs::Common::append_assoc))]
 
-ghost use Rattle.std.specs.Prelude.{◌≡◌, ◌++◌, ℕ, List, OnOk};
+ghost use Rattle.std.specs.Prelude.{◌≡◌, ◌++◌, ℕ, List, IfOk, OnOk, string_bytes};
+ghost use Rattle.serde_json.specs.Data.{string};
+ghost use Rattle.serde_json.specs.Written.{compact_text};
 ghost use Rattle.gn_payload.specs.Grammar.{IsPong, IsPush};
 ghost use Rattle.gn_payload.specs.Views.{query_fields, result_fields};
 ghost use Rattle.gn_show.specs.Plain.{
@@ -26,7 +28,7 @@ use gn_payload::{
 };
 use gn_text::{push_hex, push_ip, push_number};
 use gn_wire::{Descriptor, Guid, Kind};
-use serde_json::json;
+use serde_json::Value;
 use std::alloc::{AllocError, Global};
 
 fn push_id(out: &mut Vec<u8>, id: Guid) -> Result<(), AllocError>
@@ -44,13 +46,23 @@ fn push_place(out: &mut Vec<u8>, ip: [u8; 4], port: u16) -> Result<(), AllocErro
     push_number(out, u32::from(port))
 }
 
+/// A text in quotes as in JSON.
+fn quoted(alloc: Global, text: &str) -> Result<String, AllocError>
+    ensures { IfOk result (λ quoted. string_bytes quoted ≡ compact_text (string text.now)) }
+{
+    let value = Value::try_from_str(alloc, text)?;
+    let quoted = value.to_string(alloc);
+    drop(value);
+    quoted
+}
+
 /// Appends a text in quotes as in JSON, so that a line feed in it ends no line; or its bytes in hex.
 fn push_text(alloc: Global, out: &mut Vec<u8>, text: &[u8]) -> Result<(), AllocError>
     ensures { OnOk result (out.new.items ≡ out.old.items ++ text_words text.now) }
 {
     match utf8(text) {
         Some(text) => {
-            let quoted = json!(in alloc; text)?.to_string(alloc)?;
+            let quoted = quoted(alloc, text)?;
             out.extend_from_slice(quoted.as_bytes())
         }
         None => {

@@ -32,9 +32,10 @@ fn count_steps(steps: &mut HistorySteps) -> Result<Stats, CaptureRefusal>
     let mut stats = Stats::new();
     let mut index = 0u32;
     while let Some(step) = steps.next_step()? {
-        index = next_index(index)?;
-        stats.raise(Counter::of(&step.reply));
+        let counter = Counter::of(&step.reply);
         drop(step);
+        index = next_index(index)?;
+        stats.raise(counter);
     }
     Ok(stats)
 }

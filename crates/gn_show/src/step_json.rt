@@ -1,7 +1,8 @@
 //! Steps as JSON.
 
-ghost use Rattle.std.specs.Prelude.{◌≡◌, codes, IfOk};
-ghost use Rattle.serde_json.specs.View.{view};
+ghost use Rattle.std.specs.Prelude.{◌≡◌, codes, IfOk, OnOk};
+ghost use Rattle.serde_json.specs.Data.{no_members, object};
+ghost use Rattle.serde_json.specs.View.{members_view, view};
 ghost use Rattle.gn_rules.specs.declared.event.Event.TheVariants.{Admit};
 ghost use Rattle.gn_rules.specs.declared.reply.Reply.TheVariants.{Closed, Dropped, Routed, Sent};
 ghost use Rattle.gn_show.specs.Values.{
@@ -16,110 +17,187 @@ ghost use Rattle.gn_show.specs.Values.{
 };
 
 use crate::descriptor_json::{descriptor_value, sends_value};
+use crate::members::{Members, put_flag, put_number, put_text};
 use crate::text::reason_word;
 use gn_rules::{DropReason, Event, Reply, Sending, Step};
 use gn_wire::Descriptor;
-use serde_json::{Value, json};
+use serde_json::{Map, Value, put};
 use std::alloc::{AllocError, Global};
 
 /// An event or a reply of which the kind says all.
-fn kind_value(alloc: Global, kind: &str) -> Result<Value, AllocError>
-    ensures { IfOk result (λ value. view value ≡ kind_data kind.now) }
+fn put_kind(alloc: Global, members: &mut Members, kind: &str) -> Result<(), AllocError>
+    requires { members_view members.old.entries ≡ no_members }
+    ensures { OnOk result (object (members_view members.new.entries) ≡ kind_data kind.now) }
 {
-    json!(in alloc; {"kind": kind})
+    put_text(alloc, members, "kind", kind)
 }
 
 /// An event or a reply of this kind that names a connection.
-fn connection_value(alloc: Global, c: u32, kind: &str) -> Result<Value, AllocError>
-    ensures { IfOk result (λ value. view value ≡ before_kind (codes "connection") (number_data c) kind.now) }
+fn put_connection(
+    alloc: Global,
+    members: &mut Members,
+    c: u32,
+    kind: &str,
+) -> Result<(), AllocError>
+    requires { members_view members.old.entries ≡ no_members }
+    ensures { OnOk result (object (members_view members.new.entries)
+        ≡ before_kind (codes "connection") (number_data c) kind.now) }
 {
-    json!(in alloc; {"connection": c, "kind": kind})
+    put_number(alloc, members, "connection", c)?;
+    put_text(alloc, members, "kind", kind)
 }
 
 /// An event or a reply of this kind that names a ticket.
-fn ticket_value(alloc: Global, kind: &str, ticket: u32) -> Result<Value, AllocError>
-    ensures { IfOk result (λ value. view value ≡ after_kind kind.now (codes "ticket") (number_data ticket)) }
+fn put_ticket(
+    alloc: Global,
+    members: &mut Members,
+    kind: &str,
+    ticket: u32,
+) -> Result<(), AllocError>
+    requires { members_view members.old.entries ≡ no_members }
+    ensures { OnOk result (object (members_view members.new.entries)
+        ≡ after_kind kind.now (codes "ticket") (number_data ticket)) }
 {
-    json!(in alloc; {"kind": kind, "ticket": ticket})
+    put_text(alloc, members, "kind", kind)?;
+    put_number(alloc, members, "ticket", ticket)
 }
 
 /// An event or a reply of this kind that has a descriptor and nothing else.
-fn whole_value(alloc: Global, descriptor: &Descriptor, kind: &str) -> Result<Value, AllocError>
-    ensures { IfOk result (λ value.
-        view value ≡ before_kind (codes "descriptor") (descriptor_data descriptor.now) kind.now) }
+fn put_whole(
+    alloc: Global,
+    members: &mut Members,
+    descriptor: &Descriptor,
+    kind: &str,
+) -> Result<(), AllocError>
+    requires { members_view members.old.entries ≡ no_members }
+    ensures { OnOk result (object (members_view members.new.entries)
+        ≡ before_kind (codes "descriptor") (descriptor_data descriptor.now) kind.now) }
 {
     let descriptor = descriptor_value(alloc, descriptor)?;
-    json!(in alloc; {"descriptor": descriptor, "kind": kind})
+    put(members, alloc, "descriptor", descriptor)?;
+    put_text(alloc, members, "kind", kind)
 }
 
-fn admit_value(alloc: Global, c: u32, descriptor: &Descriptor) -> Result<Value, AllocError>
-    ensures { IfOk result (λ value. view value ≡ event_data (Admit c descriptor.now)) }
+fn put_admit(
+    alloc: Global,
+    members: &mut Members,
+    c: u32,
+    descriptor: &Descriptor,
+) -> Result<(), AllocError>
+    requires { members_view members.old.entries ≡ no_members }
+    ensures { OnOk result (object (members_view members.new.entries) ≡ event_data (Admit c descriptor.now)) }
 {
+    put_number(alloc, members, "connection", c)?;
     let descriptor = descriptor_value(alloc, descriptor)?;
-    json!(in alloc; {"connection": c, "descriptor": descriptor, "kind": "admit"})
+    put(members, alloc, "descriptor", descriptor)?;
+    put_text(alloc, members, "kind", "admit")
+}
+
+fn put_event(alloc: Global, members: &mut Members, event: &Event) -> Result<(), AllocError>
+    requires { members_view members.old.entries ≡ no_members }
+    ensures { OnOk result (object (members_view members.new.entries) ≡ event_data event.now) }
+{
+    match event {
+        Event::Connect => put_kind(alloc, members, "connect"),
+        Event::Close(c) => put_connection(alloc, members, *c, "close"),
+        Event::Admit(c, descriptor) => put_admit(alloc, members, *c, descriptor),
+        Event::Route(ticket) => put_ticket(alloc, members, "route", *ticket),
+        Event::Take(c) => put_connection(alloc, members, *c, "take"),
+        Event::Originate(descriptor) => put_whole(alloc, members, descriptor, "originate"),
+    }
 }
 
 fn event_value(alloc: Global, event: &Event) -> Result<Value, AllocError>
     ensures { IfOk result (λ value. view value ≡ event_data event.now) }
 {
-    match event {
-        Event::Connect => kind_value(alloc, "connect"),
-        Event::Close(c) => connection_value(alloc, *c, "close"),
-        Event::Admit(c, descriptor) => admit_value(alloc, *c, descriptor),
-        Event::Route(ticket) => ticket_value(alloc, "route", *ticket),
-        Event::Take(c) => connection_value(alloc, *c, "take"),
-        Event::Originate(descriptor) => whole_value(alloc, descriptor, "originate"),
+    let mut members = Map::new(alloc);
+    put_event(alloc, &mut members, event)?;
+    Ok(Value::Object(members))
+}
+
+fn put_closed(alloc: Global, members: &mut Members, count: u32) -> Result<(), AllocError>
+    requires { members_view members.old.entries ≡ no_members }
+    ensures { OnOk result (object (members_view members.new.entries) ≡ reply_data (Closed count)) }
+{
+    put_number(alloc, members, "discarded", count)?;
+    put_text(alloc, members, "kind", "closed")
+}
+
+fn put_routed(
+    alloc: Global,
+    members: &mut Members,
+    sends: &[Sending],
+    local: bool,
+) -> Result<(), AllocError>
+    requires { members_view members.old.entries ≡ no_members }
+    ensures { OnOk result (object (members_view members.new.entries) ≡ reply_data (Routed sends.now local)) }
+{
+    put_text(alloc, members, "kind", "routed")?;
+    put_flag(alloc, members, "local", local)?;
+    let sends = sends_value(alloc, sends)?;
+    put(members, alloc, "sends", Value::Array(sends))
+}
+
+fn put_dropped(alloc: Global, members: &mut Members, reason: DropReason) -> Result<(), AllocError>
+    requires { members_view members.old.entries ≡ no_members }
+    ensures { OnOk result (object (members_view members.new.entries) ≡ reply_data (Dropped reason)) }
+{
+    put_text(alloc, members, "kind", "dropped")?;
+    put_text(alloc, members, "reason", reason_word(reason))
+}
+
+fn put_sent(alloc: Global, members: &mut Members, sends: &[Sending]) -> Result<(), AllocError>
+    requires { members_view members.old.entries ≡ no_members }
+    ensures { OnOk result (object (members_view members.new.entries) ≡ reply_data (Sent sends.now)) }
+{
+    put_text(alloc, members, "kind", "sent")?;
+    let sends = sends_value(alloc, sends)?;
+    put(members, alloc, "sends", Value::Array(sends))
+}
+
+fn put_reply(alloc: Global, members: &mut Members, reply: &Reply) -> Result<(), AllocError>
+    requires { members_view members.old.entries ≡ no_members }
+    ensures { OnOk result (object (members_view members.new.entries) ≡ reply_data reply.now) }
+{
+    match reply {
+        Reply::Connected(c) => put_connection(alloc, members, *c, "connected"),
+        Reply::TooMany => put_kind(alloc, members, "toomany"),
+        Reply::Closed(count) => put_closed(alloc, members, *count),
+        Reply::Admitted(ticket) => put_ticket(alloc, members, "admitted", *ticket),
+        Reply::Busy => put_kind(alloc, members, "busy"),
+        Reply::Crowded => put_kind(alloc, members, "crowded"),
+        Reply::Routed { sends, local } => put_routed(alloc, members, sends.as_slice(), *local),
+        Reply::Dropped(reason) => put_dropped(alloc, members, *reason),
+        Reply::Taken(descriptor) => put_whole(alloc, members, descriptor, "taken"),
+        Reply::Sent(sends) => put_sent(alloc, members, sends.as_slice()),
     }
-}
-
-fn closed_value(alloc: Global, count: u32) -> Result<Value, AllocError>
-    ensures { IfOk result (λ value. view value ≡ reply_data (Closed count)) }
-{
-    json!(in alloc; {"discarded": count, "kind": "closed"})
-}
-
-fn routed_value(alloc: Global, sends: &[Sending], local: bool) -> Result<Value, AllocError>
-    ensures { IfOk result (λ value. view value ≡ reply_data (Routed sends.now local)) }
-{
-    let sends = sends_value(alloc, sends)?;
-    json!(in alloc; {"kind": "routed", "local": local, "sends": sends})
-}
-
-fn dropped_value(alloc: Global, reason: DropReason) -> Result<Value, AllocError>
-    ensures { IfOk result (λ value. view value ≡ reply_data (Dropped reason)) }
-{
-    json!(in alloc; {"kind": "dropped", "reason": reason_word(reason)})
-}
-
-fn sent_value(alloc: Global, sends: &[Sending]) -> Result<Value, AllocError>
-    ensures { IfOk result (λ value. view value ≡ reply_data (Sent sends.now)) }
-{
-    let sends = sends_value(alloc, sends)?;
-    json!(in alloc; {"kind": "sent", "sends": sends})
 }
 
 fn reply_value(alloc: Global, reply: &Reply) -> Result<Value, AllocError>
     ensures { IfOk result (λ value. view value ≡ reply_data reply.now) }
 {
-    match reply {
-        Reply::Connected(c) => connection_value(alloc, *c, "connected"),
-        Reply::TooMany => kind_value(alloc, "toomany"),
-        Reply::Closed(count) => closed_value(alloc, *count),
-        Reply::Admitted(ticket) => ticket_value(alloc, "admitted", *ticket),
-        Reply::Busy => kind_value(alloc, "busy"),
-        Reply::Crowded => kind_value(alloc, "crowded"),
-        Reply::Routed { sends, local } => routed_value(alloc, sends.as_slice(), *local),
-        Reply::Dropped(reason) => dropped_value(alloc, *reason),
-        Reply::Taken(descriptor) => whole_value(alloc, descriptor, "taken"),
-        Reply::Sent(sends) => sent_value(alloc, sends.as_slice()),
-    }
+    let mut members = Map::new(alloc);
+    put_reply(alloc, &mut members, reply)?;
+    Ok(Value::Object(members))
+}
+
+fn put_step(alloc: Global, members: &mut Members, index: u32, step: &Step) -> Result<(), AllocError>
+    requires { members_view members.old.entries ≡ no_members }
+    ensures { OnOk result (object (members_view members.new.entries) ≡ step_data index step.now) }
+{
+    put_number(alloc, members, "actor", step.actor)?;
+    let event = event_value(alloc, &step.event)?;
+    put(members, alloc, "event", event)?;
+    let reply = reply_value(alloc, &step.reply)?;
+    put(members, alloc, "reply", reply)?;
+    put_number(alloc, members, "step", index)
 }
 
 /// A step with its index, counted from 0.
 pub(crate) fn step_value(alloc: Global, index: u32, step: &Step) -> Result<Value, AllocError>
     ensures { IfOk result (λ value. view value ≡ step_data index step.now) }
 {
-    let event = event_value(alloc, &step.event)?;
-    let reply = reply_value(alloc, &step.reply)?;
-    json!(in alloc; {"actor": step.actor, "event": event, "reply": reply, "step": index})
+    let mut members = Map::new(alloc);
+    put_step(alloc, &mut members, index, step)?;
+    Ok(Value::Object(members))
 }

@@ -60,10 +60,13 @@ fn write_steps<W: Sink>(
     let mut block = Block::new(alloc);
     let mut index = 0u32;
     while let Some(step) = steps.next_step()? {
-        let line = line_of(alloc, form, index, &step)?;
-        write_step(&line, &mut block, sink)?;
-        index = next_index(index)?;
+        let made = line_of(alloc, form, index, &step);
         drop(step);
+        let line = made?;
+        let written = write_step(&line, &mut block, sink);
+        drop(line);
+        written?;
+        index = next_index(index)?;
     }
     block.write_rest(sink)?;
     Ok(())

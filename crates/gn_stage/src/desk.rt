@@ -81,7 +81,8 @@ impl<S: Site, A: Allocator + Copy> Desk<S, A> {
             × (self.new ≡ record self.old { intakes = self.old.intakes + 1 })) }
     {
         let sender = self.sender.try_clone()?;
-        let (room, ready) = (room.to.clone()?, ready.to.clone()?);
+        let room = room.to.clone()?;
+        let ready = ready.to.clone()?;
         let pass = sender.another::<Intakes<S>>(&mut self.pass);
         let home = Home::new(self.intakes, pass);
         self.intakes += 1;
@@ -98,7 +99,8 @@ impl<S: Site, A: Allocator + Copy> Desk<S, A> {
             × (self.new ≡ record self.old { outlets = self.old.outlets + 1 })) }
     {
         let receiver = self.receiver.try_clone()?;
-        let (room, ready) = (room.from.clone()?, ready.from.clone()?);
+        let room = room.from.clone()?;
+        let ready = ready.from.clone()?;
         let pass = self.sender.another::<Outlets<S>>(&mut self.pass);
         let home = Home::new(self.outlets, pass);
         self.outlets += 1;

@@ -68,12 +68,14 @@ impl<A: Allocator + Copy> Stage<A> {
         ensures { IfOk result (λ s. s.capacity ≡ capacity) }
     {
         let (sender, receiver, pass) = bounded_with::<Job<A>, View, Law, A>(alloc, capacity)?;
+        let room = Tokens::new(alloc, capacity)?;
+        let ready = Tokens::new(alloc, capacity)?;
         Ok(Stage {
             sender,
             receiver,
             pass,
-            room: Tokens::new(alloc, capacity)?,
-            ready: Tokens::new(alloc, capacity)?,
+            room,
+            ready,
             capacity,
         })
     }
@@ -100,7 +102,10 @@ impl<A: Allocator + Copy> Stage<A> {
         } = self;
         let mut desk = Desk::new(sender, receiver, pass, capacity);
         let ins = desk.make_intakes(alloc, intakes, &room, &ready)?;
-        let outs = desk.make_outlets(alloc, outlets, &room, &ready)?;
+        let outs = desk.make_outlets(alloc, outlets, &room, &ready);
+        drop(room);
+        drop(ready);
+        let outs = outs?;
         Ok((ins, outs, desk))
     }
 }

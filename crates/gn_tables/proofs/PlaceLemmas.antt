@@ -37,6 +37,15 @@ module _ {X : Type 0} (c : ℕ) where
         | false ↦ λ t f. absurd (cc)
       ] refl h
 
+  first_within : (es : List (ℕ × X)) (i : ℕ) → IsFirst es i → i < length es
+  first_within [] i h = absurd h
+  first_within (e ∷ es) zero h = omega arith
+  first_within (e ∷ es) (suc i) h = let more = first_within es i h.1 in omega (arith, more)
+
+  -- a place that is found is there
+  pub found_within : (es : List (ℕ × X)) (i : ℕ) → Some i ≡ position is_its es → i < length es
+  found_within es i h = first_within es i (is_first es i h)
+
   none_found : (es : List (ℕ × X)) → None ≡ position is_its es → lookup (nat_eq c) es ≡ None
   none_found es h =
       elim (nat_lt (position_or_len is_its es) (length es)) as (λ b. nat_lt (position_or_len is_its es) (length es) ≡ b → ◌≡◌ {A = Option ℕ} None (cond b (Some (position_or_len is_its es)) None) → lookup (nat_eq c) es ≡ None) [

@@ -89,8 +89,10 @@ const JOINED: &str =
 /// The line and the cause of the fault of a capture of these two parts.
 fn fault(alloc: Global, head: &str, rest: &str) -> Result<Option<(u64, Cause)>, AllocError> {
     let text = format!(in alloc; "{head}{rest}")?;
-    Ok(match read_capture(alloc, text.as_bytes()) {
-        Err(CaptureRefusal::Fault(fault)) => Some((fault.line, fault.cause)),
+    let refusal = read_capture(alloc, text.as_bytes()).err();
+    drop(text);
+    Ok(match refusal {
+        Some(CaptureRefusal::Fault(fault)) => Some((fault.line, fault.cause)),
         _ => None,
     })
 }
@@ -124,17 +126,24 @@ fn full(alloc: Global) -> Result<String, AllocError> {
     Ok(text)
 }
 
+/// The line and the cause of the fault of that capture with this last line.
+fn fault_after(alloc: Global, last: &str) -> Result<Option<(u64, Cause)>, AllocError> {
+    let text = full(alloc)?;
+    let fault = fault(alloc, text.as_str(), last);
+    drop(text);
+    fault
+}
+
 #[test]
 fn the_most_links(rt: HostRuntime) -> Result<(), Fail> {
-    let text = full(rt.alloc())?;
-    assert_eq!(rt; fault(rt.alloc(), text.as_str(), "")?, None);
+    assert_eq!(rt; fault_after(rt.alloc(), "")?, None);
     for (line, cause) in [
         ("join", Cause::Link),
         ("open", Cause::Link),
         ("join 1", Cause::Fields),
         ("data 257 -", Cause::Link),
     ] {
-        assert_eq!(rt; fault(rt.alloc(), text.as_str(), line)?, Some((261, cause)));
+        assert_eq!(rt; fault_after(rt.alloc(), line)?, Some((261, cause)));
     }
     Ok(())
 }

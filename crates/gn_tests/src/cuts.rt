@@ -1,10 +1,9 @@
 //! Bytes of links that come in pieces: however they are cut, the same is printed.
 
 use crate::encoding::encoded;
+use crate::replays::replay_with_tables;
 use crate::run::capture_text;
 use gn_io::{ReaderSource, WriterSink};
-use gn_replay::replay;
-use gn_router::TableRouter;
 use std::alloc::{AllocError, Global};
 use std::test::Fail;
 
@@ -91,23 +90,50 @@ fn printed(alloc: Global, cut: &Cut, digits: &str, at: Option<usize>) -> Result<
     let text = cut_text(alloc, cut, digits, at)?;
     let mut sink = WriterSink::new(Vec::new(alloc));
     let mut source = ReaderSource::new(text.as_slice());
-    if replay::<Global, TableRouter, _, _>(alloc, &mut source, &mut sink).is_err() {
-        return Err(Fail::from(cut.name));
+    let replayed = replay_with_tables(alloc, &mut source, &mut sink);
+    drop(source);
+    drop(text);
+    let found = sink.into_inner();
+    if replayed.is_ok() {
+        Ok(found)
+    } else {
+        drop(found);
+        Err(Fail::from(cut.name))
     }
-    Ok(sink.into_inner())
+}
+
+/// Whether a replay of the capture, its piece cut there, prints this.
+fn prints(
+    alloc: Global,
+    cut: &Cut,
+    digits: &str,
+    at: Option<usize>,
+    wanted: &[u8],
+) -> Result<bool, Fail> {
+    let found = printed(alloc, cut, digits, at)?;
+    let is_wanted = found.as_slice() == wanted;
+    drop(found);
+    Ok(is_wanted)
+}
+
+/// Whether a replay prints this wherever the piece of these digits is cut.
+fn always_prints(alloc: Global, cut: &Cut, digits: &str, wanted: &[u8]) -> Result<bool, Fail> {
+    for at in 0..digits.len() / 2 {
+        if !prints(alloc, cut, digits, Some(at), wanted)? {
+            return Ok(false);
+        }
+    }
+    prints(alloc, cut, digits, None, wanted)
 }
 
 /// Whether that is the same wherever the piece is cut.
 fn is_the_same(alloc: Global, cut: &Cut) -> Result<bool, Fail> {
     let piece = encoded(alloc, cut.piece)?;
     let wanted = encoded(alloc, cut.printed)?;
-    let digits = piece.as_str().trim_end();
-    for at in 0..digits.len() / 2 {
-        if printed(alloc, cut, digits, Some(at))?.as_slice() != wanted.as_bytes() {
-            return Ok(false);
-        }
-    }
-    Ok(printed(alloc, cut, digits, None)?.as_slice() == wanted.as_bytes())
+    let is_the_same = always_prints(alloc, cut, piece.as_str().trim_end(), wanted.as_bytes());
+    drop(piece);
+    drop(wanted);
+    is_the_same
 }
 
 #[test]

@@ -6,10 +6,10 @@ use crate::run::{Run, capture_of};
 use gn_frames::Reassembler;
 use gn_plain::PlainRouter;
 use gn_router::TableRouter;
-use gn_rules::{Event, Receipt, Refusal, RouterCore, run_events};
+use gn_rules::{Config, Event, Receipt, Refusal, RouterCore, run_events};
 use gn_text::{push_refusal, push_step_of};
 use gn_wire::Descriptor;
-use std::alloc::{AllocError, Global};
+use std::alloc::{AllocError, Allocator, Global};
 use std::test::Fail;
 
 /// The events of each run that isn't statistics alone, in the order of the runs.
@@ -65,15 +65,24 @@ const EVENTS: [(&'static str, &'static str); 7] = [
 ];
 
 /// The descriptor that hex digits encode.
-fn descriptor(alloc: Global, digits: &str) -> Result<Descriptor, Fail> {
+fn descriptor<A: Allocator + Copy>(alloc: A, digits: &str) -> Result<Descriptor<A>, Fail> {
     let Ok(bytes) = hex::decode(alloc, digits) else {
         return Err(Fail::from("hex"));
     };
-    let mut frames = Reassembler::new(alloc)?;
-    match frames.feed(&bytes) {
-        Ok(mut fed) => Ok(fed.descriptors.pop().ok_or("a descriptor")?),
-        Err(_) => Err(Fail::from("a feed")),
-    }
+    let Ok(mut frames) = Reassembler::new(alloc) else {
+        drop(bytes);
+        return Err(Fail::from("a reassembler"));
+    };
+    let answer = frames.feed(&bytes);
+    drop(frames);
+    drop(bytes);
+    let Ok(fed) = answer else {
+        return Err(Fail::from("a feed"));
+    };
+    let mut descriptors = fed.descriptors;
+    let last = descriptors.pop();
+    drop(descriptors);
+    Ok(last.ok_or("a descriptor")?)
 }
 
 /// The number that a word is.
@@ -85,7 +94,7 @@ fn number(word: Option<&str>) -> Result<u32, Fail> {
 }
 
 /// The event that a line says.
-fn event(alloc: Global, line: &str) -> Result<Event, Fail> {
+fn event<A: Allocator + Copy>(alloc: A, line: &str) -> Result<Event<A>, Fail> {
     let mut words = line.split(' ');
     let word = words.next().unwrap_or("");
     if word == "connect" {
@@ -101,21 +110,42 @@ fn event(alloc: Global, line: &str) -> Result<Event, Fail> {
     }
 }
 
-fn events(alloc: Global, lines: &str) -> Result<Vec<Event>, Fail> {
-    let text = encoded(alloc, lines)?;
-    let mut events = Vec::new(alloc);
+/// Appends the events that these lines say.
+fn push_events<A: Allocator + Copy>(
+    alloc: A,
+    events: &mut Vec<Event<A>, A>,
+    text: &str,
+) -> Result<(), Fail> {
     for line in text.lines() {
         events.push(event(alloc, line)?)?;
     }
-    Ok(events)
+    Ok(())
+}
+
+fn events<A: Allocator + Copy>(
+    texts: Global,
+    alloc: A,
+    lines: &str,
+) -> Result<Vec<Event<A>, A>, Fail> {
+    let text = encoded(texts, lines)?;
+    let mut events = Vec::new(alloc);
+    let pushed = push_events(alloc, &mut events, text.as_str());
+    drop(text);
+    match pushed {
+        Ok(()) => Ok(events),
+        Err(fail) => {
+            drop(events);
+            Err(fail)
+        }
+    }
 }
 
 /// What is printed of events and their answers.
-fn printed(
-    alloc: Global,
-    events: &[Event],
-    answers: &[Result<Receipt, Refusal>],
-) -> Result<Vec<u8>, AllocError> {
+fn printed<A: Allocator + Copy>(
+    alloc: A,
+    events: &[Event<A>],
+    answers: &[Result<Receipt<A>, Refusal>],
+) -> Result<Vec<u8, A>, AllocError> {
     let mut text = Vec::new(alloc);
     for (event, answer) in events.iter().zip(answers) {
         match answer {
@@ -126,32 +156,59 @@ fn printed(
     Ok(text)
 }
 
+/// What is printed of events and of a router's answers to them.
+fn answered<A: Allocator + Copy, C: RouterCore<A> + Drop>(
+    alloc: A,
+    config: &Config,
+    events: &[Event<A>],
+) -> Result<Vec<u8, A>, AllocError> {
+    let mut core = C::make(alloc, config)?;
+    let answers = run_events(alloc, &mut core, events);
+    drop(core);
+    let answers = answers?;
+    let text = printed(alloc, events, answers.as_slice());
+    drop(answers);
+    text
+}
+
 /// Whether a router answers the events as the run's text says.
-fn answers_as<C: RouterCore<Global> + Drop>(
-    alloc: Global,
+fn answers_as<A: Allocator + Copy, C: RouterCore<A> + Drop>(
+    texts: Global,
+    alloc: A,
     run: &Run,
     lines: &str,
 ) -> Result<bool, Fail> {
-    let capture = capture_of(alloc, run)?;
-    let mut core = C::make(alloc, &capture.config)?;
-    let events = events(alloc, lines)?;
-    let answers = run_events(alloc, &mut core, &events)?;
-    let found = printed(alloc, &events, &answers)?;
-    Ok(found.as_slice() == encoded(alloc, run.printed)?.as_bytes())
+    let capture = capture_of(texts, texts, run)?;
+    let config = capture.config;
+    drop(capture);
+    let events = events(texts, alloc, lines)?;
+    let found = answered::<A, C>(alloc, &config, events.as_slice());
+    drop(events);
+    let found = found?;
+    let wanted = encoded(texts, run.printed)?;
+    Ok(found.as_slice() == wanted.as_bytes())
 }
 
 /// Whether a router answers the events of all runs so. An `Err` names the first that it doesn't.
-fn answers_all<C: RouterCore<Global> + Drop>(alloc: Global) -> Result<(), Fail> {
+fn answers_all<A: Allocator + Copy, C: RouterCore<A> + Drop>(
+    texts: Global,
+    alloc: A,
+) -> Result<(), Fail> {
     for (name, lines) in &EVENTS {
-        if !answers_as::<C>(alloc, &request_run(*name)?, *lines)? {
+        if !answers_as::<A, C>(texts, alloc, &request_run(*name)?, *lines)? {
             return Err(Fail::from(*name));
         }
     }
     Ok(())
 }
 
+/// The same of both routers, over any allocator.
+fn both_answer_all<A: Allocator + Copy>(texts: Global, alloc: A) -> Result<(), Fail> {
+    answers_all::<A, TableRouter<A>>(texts, alloc)?;
+    answers_all::<A, PlainRouter<A>>(texts, alloc)
+}
+
 #[test]
 fn events_are_answered_as_lines(rt: HostRuntime) -> Result<(), Fail> {
-    answers_all::<TableRouter>(rt.alloc())?;
-    answers_all::<PlainRouter>(rt.alloc())
+    both_answer_all(rt.alloc(), rt.alloc())
 }

@@ -1,5 +1,7 @@
 //! A hundred descriptors, in one piece and byte by byte.
 
+ghost use Rattle.std.specs.Prelude.{◌<◌};
+
 use gn_frames::Reassembler;
 use gn_wire::Descriptor;
 use std::alloc::{AllocError, Global};
@@ -23,15 +25,43 @@ fn push_all(bytes: &mut Vec<u8>, descriptors: &[Descriptor]) -> Result<(), Alloc
     Ok(())
 }
 
+/// Appends the encodings of what a reassembler gives for a piece.
+fn push_fed(given: &mut Vec<u8>, frames: &mut Reassembler, piece: &[u8]) -> Result<(), Fail> {
+    let fed = frames.feed(piece)?;
+    let pushed = push_all(given, fed.descriptors.as_slice());
+    drop(fed);
+    Ok(pushed?)
+}
+
+/// Appends the encodings of what a reassembler gives for these bytes, so many at a time.
+fn push_all_fed(
+    given: &mut Vec<u8>,
+    frames: &mut Reassembler,
+    bytes: &[u8],
+    size: usize,
+) -> Result<(), Fail>
+    requires { 0 < size }
+{
+    for piece in bytes.chunks(size) {
+        push_fed(given, frames, piece)?;
+    }
+    Ok(())
+}
+
 /// The encodings of what a reassembler gives for these bytes, 4,096 at a time, or one by one.
 fn fed(alloc: Global, bytes: &[u8], is_cut: bool) -> Result<Vec<u8>, Fail> {
     let mut frames = Reassembler::new(alloc)?;
     let mut given = Vec::new(alloc);
-    for piece in bytes.chunks(if is_cut { 1 } else { 4096 }) {
-        let fed = frames.feed(piece)?;
-        push_all(&mut given, fed.descriptors.as_slice())?;
+    let size = if is_cut { 1 } else { 4096 };
+    let pushed = push_all_fed(&mut given, &mut frames, bytes, size);
+    drop(frames);
+    match pushed {
+        Ok(()) => Ok(given),
+        Err(fail) => {
+            drop(given);
+            Err(fail)
+        }
     }
-    Ok(given)
 }
 
 #[test]

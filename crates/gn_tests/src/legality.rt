@@ -1,31 +1,40 @@
 //! One short history, judged under several configurations and from several steps on.
 
-use gn_fixtures::{OWN, ping};
+use crate::calls::{admits, is_made};
+use gn_fixtures::OWN;
 use gn_legal::legal;
 use gn_plain::PlainRouter;
 use gn_rules::{Config, Event, Legality, Own, RouterCore, Step};
 use std::alloc::Global;
 use std::test::Fail;
 
+/// Whether connection 1's Ping is routed to connection 2, and taken there.
+fn are_made(core: &mut PlainRouter) -> Result<bool, Fail> {
+    let are_connected = is_made(core, Event::Connect) && is_made(core, Event::Connect);
+    let is_admitted = admits(core, 1, 0xa1)?;
+    let is_routed = is_made(core, Event::Route(0));
+    Ok(are_connected && is_admitted && is_routed && is_made(core, Event::Take(2)))
+}
+
 /// Connection 1's Ping is routed to connection 2, and taken there.
 fn history(alloc: Global) -> Result<Vec<Step>, Fail> {
     let Ok(config) = Config::new(4, 8, 4, 8, 8, 100, 0, 0, OWN) else {
         return Err(Fail::from("a configuration"));
     };
-    let events = [
-        Event::Connect,
-        Event::Connect,
-        Event::Admit(1, ping(0xa1, 7, 0)?),
-        Event::Route(0),
-        Event::Take(2),
-    ];
     let mut core = PlainRouter::make(alloc, &config)?;
-    for event in &events {
-        if core.apply(0, event).is_err() {
-            return Err(Fail::from("an answer"));
+    let are_made = are_made(&mut core);
+    let history = core.into_history();
+    match are_made {
+        Ok(true) => Ok(history),
+        Ok(false) => {
+            drop(history);
+            Err(Fail::from("an answer"))
+        }
+        Err(fail) => {
+            drop(history);
+            Err(fail)
         }
     }
-    Ok(core.into_history())
 }
 
 /// A configuration by its neighbours, its steps and the files of the own servent, the first step that is judged, and how.

@@ -5,12 +5,12 @@ use crate::link_runs::LINK_RUNS;
 use crate::request_runs::REQUEST_RUNS;
 use crate::run::{Run, capture_of};
 use gn_capture::Line;
-use gn_links::{MemoryLink, NoGate};
+use gn_links::{Link, MemoryLink, NoGate};
 use gn_router::TableRouter;
 use gn_rules::Config;
 use gn_shake::Role;
 use gn_threads::run;
-use std::alloc::{AllocError, Global};
+use std::alloc::{AllocError, Allocator, Global};
 use std::sync::Wait;
 use std::test::Fail;
 use std::thread::Threads;
@@ -50,18 +50,27 @@ fn links_of(
     Ok(links)
 }
 
-/// Whether so many links have a report. That its history is legal is proved.
-fn are_run<R: Threads + Wait + Sync>(
+/// Whether so many links have a report. That its history is legal is proved. The router is named for any allocator, since one
+/// over Global is dear to prove.
+fn are_run<A: Allocator + Copy + Send + Sync, K: Link, R: Threads + Wait + Sync>(
     rt: &R,
-    alloc: Global,
+    alloc: A,
     config: &Config,
-    links: Vec<MemoryLink>,
+    links: Vec<K, A>,
     workers: u32,
-) -> bool {
+) -> bool
+where
+    K::Reader: Send,
+    K::Writer: Send,
+{
     if links.len() > 256 {
+        drop(links);
         return false;
     }
-    run::<TableRouter, _, _, _, _>(rt, alloc, config, links, workers, &NoGate).is_ok()
+    let ran = run::<TableRouter<A>, K, NoGate, A, R>(rt, alloc, config, links, workers, &NoGate);
+    let is_run = ran.is_ok();
+    drop(ran);
+    is_run
 }
 
 /// Few and many workers, and whether the bytes come one by one.
@@ -74,16 +83,28 @@ const WAYS: [(u32, bool); 6] = [
     (16, true),
 ];
 
-/// Whether the links of a run are run in each way.
-fn is_run<R: Threads + Wait + Sync>(rt: &R, alloc: Global, row: &Run) -> Result<bool, Fail> {
-    let capture = capture_of(alloc, row)?;
+/// Whether the links of these lines are run in each way.
+fn are_run_in_each_way<R: Threads + Wait + Sync>(
+    rt: &R,
+    alloc: Global,
+    config: &Config,
+    lines: &[(u64, Line)],
+) -> Result<bool, Fail> {
     for (workers, is_cut) in &WAYS {
-        let links = links_of(alloc, capture.lines.as_slice(), *is_cut)?;
-        if !are_run(rt, alloc, &capture.config, links, *workers) {
+        let links = links_of(alloc, lines, *is_cut)?;
+        if !are_run(rt, alloc, config, links, *workers) {
             return Ok(false);
         }
     }
     Ok(true)
+}
+
+/// Whether the links of a run are run in each way.
+fn is_run<R: Threads + Wait + Sync>(rt: &R, alloc: Global, row: &Run) -> Result<bool, Fail> {
+    let capture = capture_of(alloc, alloc, row)?;
+    let is_run = are_run_in_each_way(rt, alloc, &capture.config, capture.lines.as_slice());
+    drop(capture);
+    is_run
 }
 
 /// Whether all runs are run so. An `Err` names the first that isn't.

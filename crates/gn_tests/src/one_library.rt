@@ -1,19 +1,19 @@
 //! Programs that stand on tineflax alone.
 
-use std::alloc::Global;
+use std::alloc::{Allocator, Global};
 use std::sync::Wait;
 use std::test::Fail;
 use std::thread::Threads;
 use tineflax::capture::write_history;
 use tineflax::frames::Reassembler;
 use tineflax::greeting::Role;
-use tineflax::links::{MemoryLink, NoGate};
-use tineflax::replay::audit;
+use tineflax::links::{Link, MemoryLink, NoGate};
+use tineflax::replay::{ReplayFault, audit};
 use tineflax::router::{PlainRouter, TableRouter, legal};
 use tineflax::rules::{Config, Event, Legality, Own, Reply, RouterCore, Step};
 use tineflax::run::run;
-use tineflax::streams::{ReaderSource, WriterSink};
-use tineflax::wire::Guid;
+use tineflax::streams::{ReaderSource, Sink, Source, WriterSink};
+use tineflax::wire::{Descriptor, Guid};
 
 /// The router's own servent.
 const OWN: Own = Own {
@@ -42,51 +42,104 @@ fn packets_of(alloc: Global, reply: &Reply) -> Result<Vec<u8>, Fail> {
     Ok(written)
 }
 
+/// The descriptor whose encoding this is.
+fn descriptor_of(alloc: Global, bytes: &[u8]) -> Result<Descriptor, Fail> {
+    let mut frames = Reassembler::new(alloc)?;
+    let answer = frames.feed(bytes);
+    drop(frames);
+    let Ok(fed) = answer else {
+        return Err(Fail::from("an answer"));
+    };
+    let mut descriptors = fed.descriptors;
+    let last = descriptors.pop();
+    drop(descriptors);
+    Ok(last.ok_or("a descriptor")?)
+}
+
+/// A router's reply to an event.
+fn reply_to(router: &mut PlainRouter, event: Event) -> Result<Reply, Fail> {
+    let answer = router.apply(0, &event);
+    drop(event);
+    match answer {
+        Ok(receipt) => Ok(receipt.reply),
+        Err(_) => Err(Fail::from("a reply")),
+    }
+}
+
+/// Admits and routes the Ping on a new connection: the packets that the router sends.
+fn answer_to_ping(alloc: Global, router: &mut PlainRouter) -> Result<Vec<u8>, Fail> {
+    drop(reply_to(router, Event::Connect)?);
+    let ping = descriptor_of(alloc, PING)?;
+    drop(reply_to(router, Event::Admit(1, ping))?);
+    let reply = reply_to(router, Event::Route(0))?;
+    let written = packets_of(alloc, &reply);
+    drop(reply);
+    written
+}
+
 #[test]
 fn a_ping_is_answered(rt: HostRuntime) -> Result<(), Fail> {
-    let config = Config::new(4, 8, 4, 8, 8, 100, 0, 0, OWN).map_err(|_| "a configuration")?;
+    let Ok(config) = Config::new(4, 8, 4, 8, 8, 100, 0, 0, OWN) else {
+        return Err(Fail::from("a configuration"));
+    };
     let mut router = PlainRouter::make(rt.alloc(), &config)?;
-    let mut frames = Reassembler::new(rt.alloc())?;
-    let fed = frames.feed(PING).map_err(|_| "an answer")?;
-    router
-        .apply(0, &Event::Connect)
-        .map_err(|_| "a connection")?;
-    for ping in fed.descriptors {
-        router
-            .apply(0, &Event::Admit(1, ping))
-            .map_err(|_| "an admission")?;
-    }
-    let routed = router.apply(0, &Event::Route(0)).map_err(|_| "a reply")?;
-    let written = packets_of(rt.alloc(), &routed.reply)?;
+    let written = answer_to_ping(rt.alloc(), &mut router);
+    let history = router.into_history();
+    assert_eq!(rt; legal(&config, history.as_slice()), Legality::Legal);
+    drop(history);
+    let written = written?;
     assert_eq!(rt; written.as_slice(), PONG);
-    assert_eq!(rt; legal(&config, router.history()), Legality::Legal);
     Ok(())
 }
 
-/// The steps of a run of a link that sends that Ping, by two workers.
-fn steps_of<R: Threads + Wait + Sync>(
+/// The steps of a run of these links by two workers.
+fn steps_of<A: Allocator + Copy + Send + Sync, K: Link, R: Threads + Wait + Sync>(
     rt: &R,
-    alloc: Global,
+    alloc: A,
     config: &Config,
-) -> Result<Vec<Step>, Fail> {
-    let link = MemoryLink::new(Role::Plain, PING.to_vec(alloc)?, 4096);
-    let links = vec![in alloc; link]?;
-    match run::<TableRouter, _, _, _, _>(rt, alloc, config, links, 2, &NoGate) {
-        Ok(report) => Ok(report.history),
+    links: Vec<K, A>,
+) -> Result<Vec<Step<A>, A>, Fail>
+where
+    K::Reader: Send,
+    K::Writer: Send,
+{
+    if links.len() > 256 {
+        drop(links);
+        return Err(Fail::from("at most 256 links"));
+    }
+    match run::<TableRouter<A>, K, NoGate, A, R>(rt, alloc, config, links, 2, &NoGate) {
+        Ok(report) => {
+            drop(report.links);
+            drop(report.workers);
+            drop(report.house);
+            Ok(report.history)
+        }
         Err(_) => Err(Fail::from("a report")),
     }
 }
 
-/// The history of that run.
+/// The history of a run of a link that sends that Ping.
 fn history_of<R: Threads + Wait + Sync>(
     rt: &R,
     alloc: Global,
     config: &Config,
 ) -> Result<Vec<u8>, Fail> {
-    let steps = steps_of(rt, alloc, config)?;
+    let link = MemoryLink::new(Role::Plain, PING.to_vec(alloc)?, 4096);
+    let steps = steps_of(rt, alloc, config, vec![in alloc; link]?)?;
     let mut history = Vec::new(alloc);
-    write_history(config, steps.as_slice(), &mut history)?;
+    let written = write_history(config, steps.as_slice(), &mut history);
+    drop(steps);
+    written?;
     Ok(history)
+}
+
+/// An audit at the router with tables, over any allocator.
+fn audit_with_tables<A: Allocator + Copy, S: Source, W: Sink>(
+    alloc: A,
+    source: &mut S,
+    sink: &mut W,
+) -> Result<Legality, ReplayFault> {
+    audit::<A, TableRouter<A>, S, W>(alloc, source, sink)
 }
 
 #[test]
@@ -97,7 +150,9 @@ fn a_run_is_audited(rt: HostRuntime) -> Result<(), Fail> {
     let history = history_of(&rt, rt.alloc(), &config)?;
     let mut source = ReaderSource::new(history.as_slice());
     let mut sink = WriterSink::new(Vec::new(rt.alloc()));
-    let legality = audit::<_, TableRouter, _, _>(rt.alloc(), &mut source, &mut sink);
+    let legality = audit_with_tables(rt.alloc(), &mut source, &mut sink);
+    drop(source);
+    drop(history);
     assert!(rt; legality == Ok(Legality::Legal));
     assert_eq!(rt; sink.into_inner().as_slice(), b"legal 5\n".as_slice());
     Ok(())

@@ -3,6 +3,7 @@
 use gn_payload::*;
 use gn_wire::Guid;
 use std::alloc::{AllocError, Allocator};
+use std::process::Abort;
 use std::test::Fail;
 
 const SERVENT: Guid = Guid([0x5e; 16]);
@@ -45,6 +46,47 @@ fn listed<'a, A: Allocator>(alloc: A, hit: &QueryHit<'a>) -> Result<Vec<HitResul
     Ok(results)
 }
 
+/// A Query's payload as it is written.
+fn written_query<A: Allocator>(
+    alloc: A,
+    speed: u16,
+    text: &[u8],
+    tail: &[u8],
+) -> Option<Vec<u8, A>> {
+    let mut out = Vec::new(alloc);
+    match write_query(speed, text, tail, &mut out) {
+        Ok(()) => Some(out),
+        Err(_) => {
+            drop(out);
+            None
+        }
+    }
+}
+
+/// A Query Hit's payload as it is written, of 127.0.0.2 at port 6346, of speed 28.
+fn written_hit<A: Allocator>(
+    alloc: A,
+    results: &[HitResult<'_>],
+    trailer: &[u8],
+) -> Option<Vec<u8, A>> {
+    let mut out = Vec::new(alloc);
+    match write_hit(
+        6346,
+        [127, 0, 0, 2],
+        28,
+        results,
+        trailer,
+        SERVENT,
+        &mut out,
+    ) {
+        Ok(()) => Some(out),
+        Err(_) => {
+            drop(out);
+            None
+        }
+    }
+}
+
 #[test]
 fn queries(rt: HostRuntime) -> Result<(), Fail> {
     let read: [(&[u8], u16, &[u8], &[u8]); 4] = [
@@ -58,14 +100,50 @@ fn queries(rt: HostRuntime) -> Result<(), Fail> {
             return Err("a reading".into());
         };
         assert_eq!(rt; query, Query { speed, text, tail });
-        let mut out = Vec::new(rt.alloc());
-        write_query(speed, text, tail, &mut out).map_err(|_| "nothing against it")?;
+        let out = written_query(rt.alloc(), speed, text, tail).ok_or("nothing against it")?;
         assert_eq!(rt; out.as_slice(), bytes);
     }
     let unread: [&[u8]; 4] = [b"", b"\0", b"\0\0", b"\0\0x"];
     for bytes in unread {
         assert!(rt; read_query(bytes).is_none());
     }
+    Ok(())
+}
+
+/// How many results a Query Hit has, the bytes of them, and the bytes after them.
+type Encoded<'a> = (u8, &'a [u8], &'a [u8]);
+
+/// Compares what a Query Hit's payload is read as.
+fn is_read<R: Abort + AllocGlobal>(
+    rt: &R,
+    payload: &[u8],
+    encoded: Encoded<'_>,
+    wanted: &[HitResult<'_>],
+) -> Result<(), Fail> {
+    let (count, result_bytes, trailer) = encoded;
+    let Some(hit) = read_hit(payload) else {
+        return Err("a reading".into());
+    };
+    assert_eq!(rt; (hit.hits(), hit.port(), hit.speed()), (count, 6346, 28));
+    assert_eq!(rt; (hit.ip(), hit.servent()), ([127, 0, 0, 2], SERVENT));
+    assert_eq!(rt; servent_of_hit(payload), SERVENT);
+    assert_eq!(rt; hit.result_bytes(), result_bytes);
+    assert_eq!(rt; hit.trailer(), trailer);
+    let results = listed(rt.alloc(), &hit)?;
+    assert_eq!(rt; results.as_slice(), wanted);
+    Ok(())
+}
+
+/// Compares a Query Hit's payload with what it is read as, and with what is written of that.
+fn is_encoded<R: Abort + AllocGlobal>(
+    rt: &R,
+    payload: &[u8],
+    encoded: Encoded<'_>,
+    wanted: &[HitResult<'_>],
+) -> Result<(), Fail> {
+    is_read(rt, payload, encoded, wanted)?;
+    let out = written_hit(rt.alloc(), wanted, encoded.2).ok_or("nothing against it")?;
+    assert_eq!(rt; out.as_slice(), payload);
     Ok(())
 }
 
@@ -83,21 +161,11 @@ fn hits(rt: HostRuntime) -> Result<(), Fail> {
     ];
     for (count, middle, result_bytes, trailer) in encoded {
         let payload = hit_payload(rt.alloc(), count, middle)?;
-        let Some(hit) = read_hit(&payload) else {
-            return Err("a reading".into());
-        };
-        assert_eq!(rt; (hit.hits(), hit.port(), hit.speed()), (count, 6346, 28));
-        assert_eq!(rt; (hit.ip(), hit.servent()), ([127, 0, 0, 2], SERVENT));
-        assert_eq!(rt; servent_of_hit(&payload), SERVENT);
-        assert_eq!(rt; hit.result_bytes(), result_bytes);
-        assert_eq!(rt; hit.trailer(), trailer);
         let wanted: &[HitResult<'_>] = if count == 0 { &[] } else { &results };
-        assert_eq!(rt; listed(rt.alloc(), &hit)?.as_slice(), wanted);
-        let mut out = Vec::new(rt.alloc());
-        write_hit(6346, [127, 0, 0, 2], 28, wanted, trailer, SERVENT, &mut out).map_err(
-            |_| "nothing against it",
-        )?;
-        assert_eq!(rt; out.as_slice(), payload.as_slice());
+        let encoded = (count, result_bytes, trailer);
+        let compared = is_encoded(&rt, payload.as_slice(), encoded, wanted);
+        drop(payload);
+        compared?;
     }
     Ok(())
 }

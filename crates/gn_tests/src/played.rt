@@ -13,7 +13,7 @@ use gn_plain::PlainRouter;
 use gn_replay::{audit, play};
 use gn_router::TableRouter;
 use gn_rules::{Legality, RouterCore};
-use std::alloc::Global;
+use std::alloc::Allocator;
 use std::process::Abort;
 use std::test::Fail;
 
@@ -26,70 +26,119 @@ fn steps_of<R: Abort + AllocGlobal>(
     let Ok((config, steps)) = read_history(rt.alloc(), written) else {
         return Err(Fail::from(name));
     };
-    let mut again = Vec::new(rt.alloc());
-    write_history(&config, &steps, &mut again)?;
-    same(rt, name, &again, written);
     assert!(rt; legal(&config, &steps) == Legality::Legal, "{name}");
-    Ok(steps.len())
+    let count = steps.len();
+    let mut again = Vec::new(rt.alloc());
+    let is_written = write_history(&config, &steps, &mut again);
+    drop(steps);
+    is_written?;
+    same(rt, name, &again, written);
+    drop(again);
+    Ok(count)
 }
 
 /// Compares what is stated of a history of so many steps.
-fn is_audited<C: RouterCore<Global> + Drop, R: Abort + AllocGlobal>(
+fn is_audited<A: Allocator + Copy, C: RouterCore<A> + Drop, R: Abort + AllocGlobal>(
     rt: &R,
+    alloc: A,
     name: &'static str,
     written: &[u8],
     steps: usize,
 ) -> Result<(), Fail> {
+    let line = format!(in rt.alloc(); "legal {steps}\n")?;
     let mut source = ReaderSource::new(written);
     let mut sink = WriterSink::new(Vec::new(rt.alloc()));
-    let known = audit::<Global, C, _, _>(rt.alloc(), &mut source, &mut sink);
+    let known = audit::<A, C, _, _>(alloc, &mut source, &mut sink);
+    drop(source);
+    let found = sink.into_inner();
     assert!(rt; known == Ok(Legality::Legal), "{name}");
-    let line = format!(in rt.alloc(); "legal {steps}\n")?;
-    same(rt, name, &sink.into_inner(), line.as_bytes());
+    same(rt, name, &found, line.as_bytes());
+    drop(found);
+    drop(line);
     Ok(())
 }
 
 /// Compares what a router's history is read back as, and what is stated of it.
-fn history_is_kept<C: RouterCore<Global> + Drop, R: Abort + AllocGlobal>(
+fn history_is_kept<A: Allocator + Copy, C: RouterCore<A> + Drop, R: Abort + AllocGlobal>(
     rt: &R,
+    alloc: A,
     name: &'static str,
     core: &C,
 ) -> Result<(), Fail> {
     let mut written = Vec::new(rt.alloc());
     write_history(core.config(), core.history(), &mut written)?;
     let steps = steps_of(rt, name, &written)?;
-    is_audited::<C, R>(rt, name, &written, steps)
+    is_audited::<A, C, R>(rt, alloc, name, &written, steps)
 }
 
-fn plays<C: RouterCore<Global> + Drop, R: Abort + AllocGlobal>(
+/// Plays a run, and compares what is printed. The router, after all events.
+fn printed_by<A: Allocator + Copy, C: RouterCore<A> + Drop, R: Abort + AllocGlobal>(
     rt: &R,
+    alloc: A,
     run: &Run,
-) -> Result<(), Fail> {
-    let alloc = rt.alloc();
-    let printed = encoded(alloc, run.printed)?;
-    let mut sink = WriterSink::new(Vec::new(alloc));
-    let Ok(replayed) = play::<Global, C, _>(alloc, capture_of(alloc, run)?, &mut sink) else {
+    wanted: &[u8],
+) -> Result<C, Fail> {
+    let capture = capture_of(rt.alloc(), alloc, run)?;
+    let mut sink = WriterSink::new(Vec::new(rt.alloc()));
+    let played = play::<A, C, _>(alloc, capture, &mut sink);
+    let found = sink.into_inner();
+    let Ok(replayed) = played else {
+        drop(found);
         return Err(Fail::from(run.name));
     };
-    same(rt, run.name, &sink.into_inner(), printed.as_bytes());
-    history_is_kept::<C, R>(rt, run.name, &replayed.core)
+    same(rt, run.name, &found, wanted);
+    drop(found);
+    Ok(replayed.core)
 }
 
-fn all_play<C: RouterCore<Global> + Drop, R: Abort + AllocGlobal>(rt: &R) -> Result<(), Fail> {
+fn plays<A: Allocator + Copy, C: RouterCore<A> + Drop, R: Abort + AllocGlobal>(
+    rt: &R,
+    alloc: A,
+    run: &Run,
+) -> Result<(), Fail> {
+    let printed = encoded(rt.alloc(), run.printed)?;
+    let core = printed_by::<A, C, R>(rt, alloc, run, printed.as_bytes());
+    drop(printed);
+    let core = core?;
+    let is_kept = history_is_kept::<A, C, R>(rt, alloc, run.name, &core);
+    drop(core);
+    is_kept
+}
+
+fn all_play<A: Allocator + Copy, C: RouterCore<A> + Drop, R: Abort + AllocGlobal>(
+    rt: &R,
+    alloc: A,
+) -> Result<(), Fail> {
     for runs in [REQUEST_RUNS.as_slice(), &LINK_RUNS, &ANSWER_RUNS] {
         for run in runs {
-            plays::<C, R>(rt, run)?;
+            plays::<A, C, R>(rt, alloc, run)?;
         }
     }
     Ok(())
 }
 
+/// All runs at the router with tables, over any allocator: one over Global is dear to prove.
+fn all_play_with_tables<A: Allocator + Copy, R: Abort + AllocGlobal>(
+    rt: &R,
+    alloc: A,
+) -> Result<(), Fail> {
+    all_play::<A, TableRouter<A>, R>(rt, alloc)
+}
+
 #[test]
 fn on_the_table_router(rt: HostRuntime) -> Result<(), Fail> {
-    all_play::<TableRouter, _>(&rt)
+    all_play_with_tables(&rt, rt.alloc())
+}
+
+/// The same at the router that searches its history.
+fn all_play_in_history<A: Allocator + Copy, R: Abort + AllocGlobal>(
+    rt: &R,
+    alloc: A,
+) -> Result<(), Fail> {
+    all_play::<A, PlainRouter<A>, R>(rt, alloc)
 }
 
 #[test]
 fn on_the_plain_router(rt: HostRuntime) -> Result<(), Fail> {
-    all_play::<PlainRouter, _>(&rt)
+    all_play_in_history(&rt, rt.alloc())
 }

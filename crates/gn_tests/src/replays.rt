@@ -4,11 +4,20 @@ use crate::compare::same;
 use crate::encoding::encoded;
 use crate::run::{USUAL, capture_text};
 use gn_fixtures::Heap;
-use gn_io::{ReaderSource, WriterSink};
+use gn_io::{ReaderSource, Sink, Source, WriterSink};
 use gn_replay::{Exit, ReplayFault, replay, replay_text_is_one};
 use gn_router::TableRouter;
-use std::alloc::Global;
+use std::alloc::{Allocator, Global};
 use std::test::Fail;
+
+/// A replay at the router with tables, over any allocator: one over Global is dear to prove.
+pub(crate) fn replay_with_tables<A: Allocator + Copy, S: Source, W: Sink>(
+    alloc: A,
+    source: &mut S,
+    sink: &mut W,
+) -> Result<Exit, ReplayFault> {
+    replay::<A, TableRouter<A>, S, W>(alloc, source, sink)
+}
 
 #[test]
 fn refusals_are_counted(rt: HostRuntime) -> Result<(), Fail> {
@@ -17,7 +26,9 @@ fn refusals_are_counted(rt: HostRuntime) -> Result<(), Fail> {
     let text = capture_text(alloc, USUAL, lines)?;
     let mut source = ReaderSource::new(text.as_bytes());
     let mut sink = WriterSink::new(Vec::new(alloc));
-    let exit = replay::<_, TableRouter, _, _>(alloc, &mut source, &mut sink);
+    let exit = replay_with_tables(alloc, &mut source, &mut sink);
+    drop(source);
+    drop(text);
     replay_text_is_one::<Global>();
     assert_eq!(rt;
         exit,
@@ -36,7 +47,7 @@ fn written_without(alloc: Global, heap: &Heap, capture: &str, growth: u64) -> (b
     let mut source = ReaderSource::new(capture.as_bytes());
     let mut sink = WriterSink::new(Vec::new(alloc));
     heap.refuse_only(growth);
-    let exit = replay::<&Heap, TableRouter<&Heap>, _, _>(heap, &mut source, &mut sink);
+    let exit = replay_with_tables(heap, &mut source, &mut sink);
     let is_refused = matches!(exit, Err(ReplayFault::NoMemory));
     (is_refused, sink.into_inner())
 }
@@ -69,7 +80,9 @@ fn what_was_played_is_written_without_memory(rt: HostRuntime) -> Result<(), Fail
     let mut most = 0;
     for growth in 0..1_000 {
         let (is_refused, written) = written_without(alloc, &heap, &capture, growth);
-        let lines = whole_lines(text.as_bytes(), &written).ok_or("whole lines")?;
+        let lines = whole_lines(text.as_bytes(), &written);
+        drop(written);
+        let lines = lines.ok_or("whole lines")?;
         if !is_refused {
             // the last growth is refused within the last line
             assert_eq!(rt; (most, lines), (3, 4));

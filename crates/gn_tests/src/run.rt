@@ -2,7 +2,7 @@
 
 use crate::encoding::encoded;
 use gn_capture::{Capture, read_capture};
-use std::alloc::{AllocError, Global};
+use std::alloc::{AllocError, Allocator, Global};
 use std::test::Fail;
 
 /// The numbers of the configuration that most runs have.
@@ -34,9 +34,15 @@ pub(crate) fn capture_text(
 }
 
 /// The capture of a run.
-pub(crate) fn capture_of(alloc: Global, run: &Run) -> Result<Capture, Fail> {
-    let text = capture_text(alloc, run.numbers, run.capture)?;
-    match read_capture(alloc, text.as_bytes()) {
+pub(crate) fn capture_of<A: Allocator + Copy>(
+    texts: Global,
+    alloc: A,
+    run: &Run,
+) -> Result<Capture<A>, Fail> {
+    let text = capture_text(texts, run.numbers, run.capture)?;
+    let read = read_capture(alloc, text.as_bytes());
+    drop(text);
+    match read {
         Ok(capture) => Ok(capture),
         Err(_) => Err(Fail::from(run.name)),
     }

@@ -19,7 +19,7 @@ use gn_router::TableRouter;
 use gn_rules::{RouterCore, Step};
 use gn_shake::Role;
 use gn_stage::{Intake, Job, Outlet, Site, Stage};
-use std::alloc::Global;
+use std::alloc::{Allocator, Global};
 use std::marker::Brand;
 use std::sync::Wait;
 use std::sync::ledger::{Blank, Ledger};
@@ -28,36 +28,56 @@ use std::sync::ledger::{Blank, Ledger};
 const WORKER: u32 = 5;
 
 /// The last of these actors, where it has this number and no receipts.
-fn last_actor<L: Ledger>(actors: &mut Vec<Actor<L>>, number: u32) -> Option<Actor<L>>
+fn last_actor<A: Allocator + Copy, L: Ledger>(
+    actors: &mut Vec<Actor<L, A>, A>,
+    number: u32,
+) -> Option<Actor<L, A>>
     ensures { IfSome result (λ actor. (actor.number ≡ number) × (actor.receipts ≡ [])) }
 {
     let actor = actors.pop()?;
     if actor.number() == number && actor.receipts().is_empty() {
         Some(actor)
     } else {
+        drop(actor);
         None
     }
 }
 
 /// The actors of a run of one link and one worker.
 #[derive(Drop)]
-struct Actors<L: Ledger> {
-    reader: Actor<L>,
-    writer: Actor<L>,
-    worker: Actor<L>,
+struct Actors<L: Ledger, A: Allocator> {
+    reader: Actor<L, A>,
+    writer: Actor<L, A>,
+    worker: Actor<L, A>,
 }
 
 /// The reader, the writer, the worker and the house, but for the last of them, where they have these numbers and no receipts.
-fn actors_of<L: Ledger>(actors: Vec<Actor<L>>) -> Option<Actors<L>>
+fn actors_of<A: Allocator + Copy, L: Ledger>(actors: Vec<Actor<L, A>, A>) -> Option<Actors<L, A>>
     ensures reader { IfSome result (λ all. (all.reader.number ≡ 0) × (all.reader.receipts ≡ [])) }
     ensures writer { IfSome result (λ all. (all.writer.number ≡ 1) × (all.writer.receipts ≡ [])) }
     ensures worker { IfSome result (λ all. (all.worker.number ≡ 2) × (all.worker.receipts ≡ [])) }
 {
     let mut actors = actors;
-    let _house = actors.pop();
-    let worker = last_actor(&mut actors, 2)?;
-    let writer = last_actor(&mut actors, 1)?;
-    let reader = last_actor(&mut actors, 0)?;
+    drop(actors.pop());
+    let worker = last_actor(&mut actors, 2);
+    let writer = last_actor(&mut actors, 1);
+    let reader = last_actor(&mut actors, 0);
+    drop(actors);
+    let Some(worker) = worker else {
+        drop(writer);
+        drop(reader);
+        return None;
+    };
+    let Some(writer) = writer else {
+        drop(worker);
+        drop(reader);
+        return None;
+    };
+    let Some(reader) = reader else {
+        drop(worker);
+        drop(writer);
+        return None;
+    };
     Some(Actors {
         reader,
         writer,
@@ -75,14 +95,14 @@ type Ends = (
 /// How the bodies of one link ended, who passed the gate last with which ticket, how many admissions and steps and which ends
 /// the gate learned of, and what they left of the run.
 #[derive(Drop)]
-struct Ran<W: LinkWriter> {
+struct Ran<W: LinkWriter, A: Allocator = Global> {
     ends: Ends,
     passed: Option<(u32, u32)>,
     admitted: u32,
     counted: u32,
     ended: (bool, bool),
     writer: W,
-    history: Vec<Step>,
+    history: Vec<Step<A>, A>,
     door: Door,
     is_closing: bool,
     has_failed: bool,
@@ -102,23 +122,31 @@ const USUAL: Setting = Setting {
 };
 
 /// What a gate and a hub know once all bodies have returned, with what those gave back.
-fn what_ran<C, L: Ledger, W: LinkWriter>(
+fn what_ran<A, C, L: Ledger, W: LinkWriter>(
     gate: &Doorman,
-    hub: Hub<C, L>,
+    hub: Hub<C, L, A>,
     read: Result<ReaderEnd, BodyFault>,
     worked: Result<(), BodyFault>,
-    wrote: WriterDone<W, L>,
-) -> Ran<W>
+    wrote: WriterDone<W, L, A>,
+) -> Ran<W, A>
 where
-    C: RouterCore<Global> + Drop,
+    A: Allocator + Copy,
+    C: RouterCore<A> + Drop,
 {
+    let WriterDone {
+        actor,
+        writer,
+        end,
+        ..
+    } = wrote;
+    drop(actor);
     Ran {
-        ends: (read, worked, wrote.end),
+        ends: (read, worked, end),
         passed: gate.last.get(),
         admitted: gate.admitted.get(),
         counted: gate.steps.get(),
         ended: gate.ended.get(),
-        writer: wrote.writer,
+        writer,
         door: hub.door(0),
         is_closing: hub.closing(),
         has_failed: hub.failed(),
@@ -127,19 +155,20 @@ where
 }
 
 /// The reader, the worker and the writer of one link, one after the other.
-fn in_turn<C, B: Site + Ledger, Rd: LinkReader, W: LinkWriter, R: Wait>(
+fn in_turn<A, C, B: Site + Ledger, Rd: LinkReader, W: LinkWriter, R: Wait>(
     rt: &R,
-    alloc: Global,
-    service: Service<C, B>,
-    actors: Actors<B>,
-    intake: Intake<B>,
-    outlet: Outlet<B>,
+    alloc: A,
+    service: Service<C, B, A>,
+    actors: Actors<B, A>,
+    intake: Intake<B, A>,
+    outlet: Outlet<B, A>,
     role: Role,
     reader: Rd,
     writer: W,
-) -> Ran<W>
+) -> Ran<W, A>
 where
-    C: RouterCore<Global> + Drop,
+    A: Allocator + Copy,
+    C: RouterCore<A> + Drop,
     requires reading { (actors.reader.number ≡ 0) × (actors.reader.receipts ≡ []) }
     requires writing { (actors.writer.number ≡ 1) × (actors.writer.receipts ≡ []) }
     requires working { (actors.worker.number ≡ 2) × (actors.worker.receipts ≡ []) }
@@ -152,78 +181,116 @@ where
         worker: k,
     } = actors;
     let gate = Doorman::new();
-    let read = reader_body(rt, alloc, &service, &gate, a, 0, role, reader, intake).end;
-    let worked = worker_body(rt, &service, k, WORKER, &gate, outlet).end;
+    let done = reader_body(rt, alloc, &service, &gate, a, 0, role, reader, intake);
+    let read = done.end;
+    drop(done);
+    let done = worker_body(rt, &service, k, WORKER, &gate, outlet);
+    let worked = done.end;
+    drop(done);
     let wrote = writer_body(rt, alloc, &service, &gate, w, 0, role, writer);
     what_ran(&gate, service.into_hub(), read, worked, wrote)
 }
 
 /// Puts a job of a Ping that nobody admitted, where the setting has one.
-fn forge<S: Site, R: Wait>(rt: &R, intake: &mut Intake<S>, forged: Option<u32>) {
-    if let (Some(ticket), Ok(descriptor)) = (forged, ping(0xa1, 7, 0)) {
-        let _ = intake.put(rt, Job { ticket, descriptor });
-    }
+fn forge<A: Allocator, S: Site, R: Wait>(rt: &R, intake: &mut Intake<S, A>, forged: Option<u32>) {
+    let Some(ticket) = forged else {
+        return;
+    };
+    let Ok(descriptor) = ping(0xa1, 7, 0) else {
+        return;
+    };
+    drop(intake.put(rt, Job { ticket, descriptor }));
 }
 
 /// The only intake and the only outlet of a stage.
-fn ends_of<S: Site>(alloc: Global, stage: Stage) -> Option<(Intake<S>, Outlet<S>)>
+fn ends_of<A: Allocator + Copy, S: Site>(
+    alloc: A,
+    stage: Stage<A>,
+) -> Option<(Intake<S, A>, Outlet<S, A>)>
     requires { stage ≡ S.stage }
 {
-    let (mut ins, mut outs, _desk) = stage.ends::<S>(alloc, 1, 1).ok()?;
-    ins.pop().zip(outs.pop())
+    let (mut ins, mut outs, desk) = stage.ends::<S>(alloc, 1, 1).ok()?;
+    drop(desk);
+    let ends = ins.pop().zip(outs.pop());
+    drop(ins);
+    drop(outs);
+    ends
 }
 
 /// A service of one link and one worker that makes at most so many steps, with its actors.
-fn service_of<C, L: Ledger>(
-    alloc: Global,
+fn service_of<A, C, L: Ledger>(
+    alloc: A,
     blank: Blank,
     steps: u32,
     role: Role,
-) -> Option<(Service<C, L>, Actors<L>)>
+) -> Option<(Service<C, L, A>, Actors<L, A>)>
 where
-    C: RouterCore<Global> + Drop,
+    A: Allocator + Copy,
+    C: RouterCore<A> + Drop,
     requires name { blank.name ≡ L.name }
     requires parts { (blank.parts ≡ L.parts) × (blank.parts ≡ 4) }
     ensures reader { IfSome result (λ r. (r.1.reader.number ≡ 0) × (r.1.reader.receipts ≡ [])) }
     ensures writer { IfSome result (λ r. (r.1.writer.number ≡ 1) × (r.1.writer.receipts ≡ [])) }
     ensures worker { IfSome result (λ r. (r.1.worker.number ≡ 2) × (r.1.worker.receipts ≡ [])) }
 {
-    let (service, actors) = crate::hub::service_of::<C, L>(alloc, blank, steps, &[role])?;
-    Some((service, actors_of(actors)?))
+    let (service, actors) = crate::hub::service_of::<A, C, L>(alloc, blank, steps, &[role])?;
+    match actors_of(actors) {
+        Some(actors) => Some((service, actors)),
+        None => {
+            drop(service);
+            None
+        }
+    }
 }
 
 /// The bodies of one memory link in turn, with the ends of a stage and the actors of a service of their own.
-fn in_stage<C, B: Site + Ledger, R: Wait>(
+fn in_stage<A, C, B: Site + Ledger, R: Wait>(
     rt: &R,
-    alloc: Global,
+    alloc: A,
     blank: Blank,
-    stage: Stage,
+    stage: Stage<A>,
     setting: Setting,
     link: MemoryLink,
-) -> Option<Ran<MemoryWriter>>
+) -> Option<Ran<MemoryWriter, A>>
 where
-    C: RouterCore<Global> + Drop,
+    A: Allocator + Copy,
+    C: RouterCore<A> + Drop,
     requires name { blank.name ≡ B.name }
     requires parts { (blank.parts ≡ B.parts) × (blank.parts ≡ 4) }
     requires stage { stage ≡ B.stage }
 {
     let role = link.role();
-    let (mut intake, outlet) = ends_of::<B>(alloc, stage)?;
+    let ends = ends_of::<A, B>(alloc, stage);
+    let Ok((reader, writer)) = link.split() else {
+        drop(ends);
+        return None;
+    };
+    let Some((mut intake, outlet)) = ends else {
+        drop(reader);
+        drop(writer);
+        return None;
+    };
     forge(rt, &mut intake, setting.forged);
-    let (service, actors) = service_of::<C, B>(alloc, blank, setting.steps, role)?;
-    let (reader, writer) = link.split().ok()?;
+    let made = service_of::<A, C, B>(alloc, blank, setting.steps, role);
+    let Some((service, actors)) = made else {
+        drop(intake);
+        drop(outlet);
+        drop(reader);
+        drop(writer);
+        return None;
+    };
     Some(in_turn(
         rt, alloc, service, actors, intake, outlet, role, reader, writer,
     ))
 }
 
 /// The bodies of one memory link in turn, over the table router.
-fn run_link<R: Wait>(
+fn run_link<A: Allocator + Copy, R: Wait>(
     rt: &R,
-    alloc: Global,
+    alloc: A,
     setting: Setting,
     link: MemoryLink,
-) -> Option<Ran<MemoryWriter>> {
+) -> Option<Ran<MemoryWriter, A>> {
     let stage = Stage::new(alloc, 8).ok()?;
-    in_stage::<TableRouter, Brand, R>(rt, alloc, Blank::new(4), stage, setting, link)
+    in_stage::<A, TableRouter<A>, Brand, R>(rt, alloc, Blank::new(4), stage, setting, link)
 }

@@ -9,7 +9,7 @@ use crate::runs::run_of;
 use crate::wanted::a_report;
 use gn_bodies::{ReaderEnd, WriterEnd};
 use gn_links::{Link, MemoryLink, NoGate};
-use gn_report::Report;
+use gn_report::{LinkReport, Report};
 use gn_rules::{Config, Event, Step};
 use slow::SlowWriter;
 use std::alloc::{AllocError, Global};
@@ -53,21 +53,69 @@ fn count(left: &mut Left, step: &Step) -> Result<(), AllocError> {
     Ok(())
 }
 
-/// What a run left, and the writer of the first link.
-fn left_of<Rd: Drop, W: Drop>(alloc: Global, report: Report<Rd, W>) -> Result<(Left, W), Fail> {
-    let (mut links, history) = (report.links, report.history);
-    links.truncate(1);
-    let link = links.pop().ok_or("a link")?;
+/// How the bodies of a link ended, and its writer.
+fn ends_of<Rd: Drop, W: Drop>(link: LinkReport<Rd, W>) -> ((ReaderEnd, WriterEnd), W) {
+    let LinkReport {
+        reader_end,
+        reader_receipts,
+        reader,
+        writer_end,
+        writer_receipts,
+        writer,
+        ..
+    } = link;
+    drop(reader_receipts);
+    drop(reader);
+    drop(writer_receipts);
+    ((reader_end, writer_end), writer)
+}
+
+/// What a run left whose first link ended so and whose history this is.
+fn left_by(
+    alloc: Global,
+    ends: (ReaderEnd, WriterEnd),
+    history: &[Step],
+) -> Result<Left, AllocError> {
     let mut left = Left {
-        ends: (link.reader_end, link.writer_end),
+        ends,
         connects: 0,
         admits: 0,
         closers: Vec::new(alloc),
     };
-    for step in &history {
+    for step in history {
         count(&mut left, step)?;
     }
-    Ok((left, link.writer))
+    Ok(left)
+}
+
+/// What a run left, and the writer of the first link.
+fn left_of<Rd: Drop, W: Drop>(alloc: Global, report: Report<Rd, W>) -> Result<(Left, W), Fail> {
+    let Report {
+        history,
+        mut links,
+        workers,
+        house,
+        ..
+    } = report;
+    drop(workers);
+    drop(house);
+    links.truncate(1);
+    let link = links.pop();
+    drop(links);
+    let Some(link) = link else {
+        drop(history);
+        return Err("a link".into());
+    };
+    let (ends, writer) = ends_of(link);
+    let left = left_by(alloc, ends, history.as_slice());
+    drop(history);
+    match left {
+        Ok(left) => Ok((left, writer)),
+        Err(_) => {
+            drop(writer);
+            Err("room for the closers".into())
+        }
+    }
 }
 
 /// What a run over this link leaves, with one worker, and what was written to the link.
@@ -81,9 +129,7 @@ where
     K::Reader: Send,
 {
     let mut links = Vec::new(alloc);
-    if links.push(link).is_err() {
-        return Err(Fail::from("memory"));
-    }
+    links.push(link)?;
     let report = a_report(run_of(rt, alloc, config, links, 1, &NoGate))?;
     let (left, writer) = left_of(alloc, report)?;
     Ok((left, writer.into_bytes()))

@@ -1,6 +1,7 @@
 //! Runs on the lent hub, at the plain router: the worked one, and one over jobs that were never admitted, or not so.
 //!
-//! Each helper is generic in the router, so that one function alone names it. What a worker does with such a job stands with
+//! Each helper is generic in the router, so that one function alone names it, and in the allocator: a router over Global is
+//! dear to prove in each function that names it, one over any allocator isn't. What a worker does with such a job stands with
 //! the tests of the bodies. A run over one can't be had: all jobs are put by the run's own readers, and no caller has an
 //! intake.
 
@@ -13,7 +14,7 @@ use gn_payload::Checked;
 use gn_plain::PlainRouter;
 use gn_rules::{ConnId, Event, Refusal, RouterCore, Step, Ticket, is_step_of};
 use gn_text::push_step;
-use std::alloc::Global;
+use std::alloc::{Allocator, Global};
 use std::marker::Brand;
 use std::sync::ledger::{Blank, Ledger};
 use std::test::Fail;
@@ -84,31 +85,35 @@ const FORGED: &str = "\
 ";
 
 /// Whether a Ping is admitted.
-fn admits<C: RouterCore<Global>, L: Ledger>(
-    hub: &mut Hub<C, L>,
-    me: &mut Actor<L>,
+fn admits<A: Allocator + Copy, C: RouterCore<A>, L: Ledger>(
+    hub: &mut Hub<C, L, A>,
+    me: &mut Actor<L, A>,
     byte: u8,
 ) -> Result<bool, Fail> {
     let event = Event::Admit(1, ping(byte, 7, 0)?);
-    Ok(hub.call(me, &event).is_ok())
+    let answer = hub.call(me, &event);
+    drop(event);
+    Ok(answer.is_ok())
 }
 
 /// Whether the route of a Ping is answered so.
-fn is_routed<C: RouterCore<Global>, L: Ledger>(
-    hub: &mut Hub<C, L>,
-    me: &mut Actor<L>,
+fn is_routed<A: Allocator + Copy, C: RouterCore<A>, L: Ledger>(
+    hub: &mut Hub<C, L, A>,
+    me: &mut Actor<L, A>,
     ticket: Ticket,
     byte: u8,
     wanted: Result<(), Refusal>,
 ) -> Result<bool, Fail> {
     let checked = Checked::new(ping(byte, 7, 0)?);
-    Ok(hub.route(me, ticket, &checked) == wanted)
+    let answer = hub.route(me, ticket, &checked);
+    drop(checked);
+    Ok(answer == wanted)
 }
 
 /// Makes a call: whether its answer is the wanted one.
-fn is_answered<C: RouterCore<Global>, L: Ledger>(
-    hub: &mut Hub<C, L>,
-    me: &mut Actor<L>,
+fn is_answered<A: Allocator + Copy, C: RouterCore<A>, L: Ledger>(
+    hub: &mut Hub<C, L, A>,
+    me: &mut Actor<L, A>,
     call: Call,
 ) -> Result<bool, Fail> {
     Ok(match call {
@@ -124,7 +129,7 @@ fn is_answered<C: RouterCore<Global>, L: Ledger>(
 }
 
 /// Whether each of an actor's receipts is a step of the history, at its index and its own.
-pub(crate) fn stands_in<L: Ledger>(me: &Actor<L>, history: &[Step]) -> bool {
+pub(crate) fn stands_in<A: Allocator, L: Ledger>(me: &Actor<L, A>, history: &[Step<A>]) -> bool {
     for receipt in me.receipts() {
         match history.get(receipt.index as usize) {
             Some(step) if is_step_of(step, me.number(), receipt) => {}
@@ -135,7 +140,11 @@ pub(crate) fn stands_in<L: Ledger>(me: &Actor<L>, history: &[Step]) -> bool {
 }
 
 /// Whether the actors have these shares, in order, and receipts that stand in the history.
-fn have_shares<L: Ledger>(actors: &[Actor<L>], shares: &[u64], history: &[Step]) -> bool {
+fn have_shares<A: Allocator, L: Ledger>(
+    actors: &[Actor<L, A>],
+    shares: &[u64],
+    history: &[Step<A>],
+) -> bool {
     for (k, me) in actors.iter().enumerate() {
         match shares.get(k) {
             Some(share) if *share == me.share() && stands_in(me, history) => {}
@@ -157,16 +166,16 @@ pub(crate) fn lines_of(alloc: Global, steps: &[Step]) -> Result<Vec<u8>, Fail> {
 /// What a run left: whether each answer was the wanted one, and the actors have the shares that are wanted and receipts that
 /// stand in the history; the book, and the history.
 #[derive(Drop)]
-struct Worked {
+struct Worked<A: Allocator> {
     is_right: bool,
     book: u64,
-    history: Vec<Step>,
+    history: Vec<Step<A>, A>,
 }
 
 /// Makes all calls: whether each answer was the wanted one.
-fn are_answered<C: RouterCore<Global>, L: Ledger>(
-    hub: &mut Hub<C, L>,
-    actors: &mut [Actor<L>],
+fn are_answered<A: Allocator + Copy, C: RouterCore<A>, L: Ledger>(
+    hub: &mut Hub<C, L, A>,
+    actors: &mut [Actor<L, A>],
     calls: &[(usize, Call)],
 ) -> Result<bool, Fail> {
     for (who, call) in calls {
@@ -181,31 +190,31 @@ fn are_answered<C: RouterCore<Global>, L: Ledger>(
 }
 
 /// A service of links of these roles and one worker that makes at most so many steps, with its actors.
-pub(crate) fn service_of<C: RouterCore<Global> + Drop, L: Ledger>(
-    alloc: Global,
+pub(crate) fn service_of<A: Allocator + Copy, C: RouterCore<A> + Drop, L: Ledger>(
+    alloc: A,
     blank: Blank,
     steps: u32,
     roles: &[Role],
-) -> Option<(Service<C, L>, Vec<Actor<L>>)>
+) -> Option<(Service<C, L, A>, Vec<Actor<L, A>, A>)>
     requires name { blank.name ≡ L.name }
     requires parts { (blank.parts ≡ L.parts) × (blank.parts ≡ 2 * length roles.now + 1 + 1) }
     requires few { length roles.now ≤ most_links }
 {
     let config = usual(steps).ok()?;
-    Service::<C, L>::new(alloc, blank, &config, roles, 1).ok()
+    Service::<C, L, A>::new(alloc, blank, &config, roles, 1).ok()
 }
 
 /// The calls of a run of two plain links and one worker.
-fn work<C: RouterCore<Global> + Drop, L: Ledger>(
-    alloc: Global,
+fn work<A: Allocator + Copy, C: RouterCore<A> + Drop, L: Ledger>(
+    alloc: A,
     blank: Blank,
     calls: &[(usize, Call)],
     shares: &[u64],
-) -> Result<Worked, Fail>
+) -> Result<Worked<A>, Fail>
     requires name { blank.name ≡ L.name }
     requires parts { (blank.parts ≡ L.parts) × (blank.parts ≡ 6) }
 {
-    let Some((service, mut actors)) = service_of::<C, L>(
+    let Some((service, mut actors)) = service_of::<A, C, L>(
         alloc,
         blank,
         100,
@@ -214,19 +223,30 @@ fn work<C: RouterCore<Global> + Drop, L: Ledger>(
         return Err(Fail::from("a service"));
     };
     let mut hub = service.into_hub();
-    let are_answered = are_answered(&mut hub, actors.as_mut_slice(), calls)?;
+    let are_answered = are_answered(&mut hub, actors.as_mut_slice(), calls);
     let book = hub.book();
     let history = hub.into_router().into_history();
     let have_shares = have_shares(actors.as_slice(), shares, history.as_slice());
-    Ok(Worked {
-        is_right: are_answered && have_shares,
-        book,
-        history,
-    })
+    drop(actors);
+    match are_answered {
+        Ok(are_answered) => Ok(Worked {
+            is_right: are_answered && have_shares,
+            book,
+            history,
+        }),
+        Err(fail) => {
+            drop(history);
+            Err(fail)
+        }
+    }
 }
 
-fn work_plain(alloc: Global, calls: &[(usize, Call)], shares: &[u64]) -> Result<Worked, Fail> {
-    work::<PlainRouter, Brand>(alloc, Blank::new(6), calls, shares)
+fn work_plain<A: Allocator + Copy>(
+    alloc: A,
+    calls: &[(usize, Call)],
+    shares: &[u64],
+) -> Result<Worked<A>, Fail> {
+    work::<A, PlainRouter<A>, Brand>(alloc, Blank::new(6), calls, shares)
 }
 
 /// Two plain links connect, the first sends a Ping, and both writers take what there is until the run closes.
@@ -234,7 +254,9 @@ fn work_plain(alloc: Global, calls: &[(usize, Call)], shares: &[u64]) -> Result<
 fn a_ping_through_the_lent_hub(rt: HostRuntime) -> Result<(), Fail> {
     let worked = work_plain(rt.alloc(), &CALLS, &[2, 1, 2, 2, 1, 0])?;
     assert!(rt; worked.is_right && worked.book == 8);
-    let lines = lines_of(rt.alloc(), worked.history.as_slice())?;
+    let lines = lines_of(rt.alloc(), worked.history.as_slice());
+    drop(worked);
+    let lines = lines?;
     assert_eq!(rt; lines.as_slice(), WORKED.as_bytes());
     Ok(())
 }
@@ -243,7 +265,9 @@ fn a_ping_through_the_lent_hub(rt: HostRuntime) -> Result<(), Fail> {
 fn forged_routes_are_refused(rt: HostRuntime) -> Result<(), Fail> {
     let worked = work_plain(rt.alloc(), &FORGED_CALLS, &[3, 0, 0, 0, 2, 0])?;
     assert!(rt; worked.is_right && worked.book == 5);
-    let lines = lines_of(rt.alloc(), worked.history.as_slice())?;
+    let lines = lines_of(rt.alloc(), worked.history.as_slice());
+    drop(worked);
+    let lines = lines?;
     assert_eq!(rt; lines.as_slice(), FORGED.as_bytes());
     Ok(())
 }

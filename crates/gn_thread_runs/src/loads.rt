@@ -1,15 +1,31 @@
 //! A load of six links.
 
+ghost use Rattle.std.specs.Prelude.{◌<◌};
+
 use gn_capture::read_history;
-use gn_io::{ReaderSource, WriterSink};
-use gn_load::load;
-use gn_replay::audit;
+use gn_io::{ReaderSource, Sink, Source, WriterSink};
+use gn_load::{LoadFault, load};
+use gn_replay::{ReplayFault, audit};
 use gn_router::TableRouter;
 use gn_rules::{Event, Legality, Reply, Step};
-use std::alloc::Global;
+use std::alloc::{AllocError, Allocator, Global};
 use std::sync::Wait;
 use std::test::Fail;
 use std::thread::Threads;
+
+/// Appends the line of the Ping of this number, counted from 0.
+fn push_ping(alloc: Global, text: &mut String, ping: u32) -> Result<(), AllocError>
+    requires { ping < 600 }
+{
+    let line = format!(in alloc;
+        "data {} {}a1a1a1a1a1a1a1a1a1a1a1a1a1a100070000000000\n",
+        ping / 100 + 1,
+        ping + 1000
+    )?;
+    let pushed = text.push_str(&line);
+    drop(line);
+    pushed
+}
 
 /// Six links of a hundred Pings each, of TTL 7 and Hops 0, whose IDs differ, under a title and a line of numbers.
 fn six_links(alloc: Global, head: &str) -> Result<String, Fail> {
@@ -25,13 +41,8 @@ join
 join
 ",
     )?;
-    for ping in 0..600u32 {
-        let line = format!(in alloc;
-            "data {} {}a1a1a1a1a1a1a1a1a1a1a1a1a1a100070000000000\n",
-            ping / 100 + 1,
-            ping + 1000
-        )?;
-        text.push_str(&line)?;
+    for ping in 0..600 {
+        push_ping(alloc, &mut text, ping)?;
     }
     Ok(text)
 }
@@ -72,6 +83,25 @@ fn are_all_of_six(kinds: &Kinds) -> bool {
         && kinds.others == 0
 }
 
+/// A load at the router with tables. That router is named for any allocator, since one over Global is dear to prove.
+fn load_with_tables<
+    A: Allocator + Copy + Send + Sync,
+    R: Threads + Wait + Sync,
+    S: Source,
+    W: Sink,
+>(rt: &R, alloc: A, workers: u32, source: &mut S, sink: &mut W) -> Result<(), LoadFault> {
+    load::<A, TableRouter<A>, R, S, W>(rt, alloc, workers, source, sink)
+}
+
+/// An audit at that router.
+fn audit_with_tables<A: Allocator + Copy, S: Source, W: Sink>(
+    alloc: A,
+    source: &mut S,
+    sink: &mut W,
+) -> Result<Legality, ReplayFault> {
+    audit::<A, TableRouter<A>, S, W>(alloc, source, sink)
+}
+
 /// The history that a load by so many workers writes.
 fn history_of<R: Threads + Wait + Sync>(
     rt: &R,
@@ -82,17 +112,31 @@ fn history_of<R: Threads + Wait + Sync>(
     let text = six_links(alloc, head)?;
     let mut source = ReaderSource::new(text.as_bytes());
     let mut sink = WriterSink::new(Vec::new(alloc));
-    load::<Global, TableRouter, _, _, _>(rt, alloc, workers, &mut source, &mut sink)?;
-    Ok(sink.into_inner())
+    let loaded = load_with_tables(rt, alloc, workers, &mut source, &mut sink);
+    drop(source);
+    drop(text);
+    let written = sink.into_inner();
+    match loaded {
+        Ok(()) => Ok(written),
+        Err(fault) => {
+            drop(written);
+            Err(fault.into())
+        }
+    }
 }
 
 /// Whether an audit finds a history legal, and writes that it has so many steps.
 pub(crate) fn is_legal(alloc: Global, history: &[u8], steps: usize) -> Result<bool, Fail> {
+    let judged = format!(in alloc; "legal {steps}\n")?;
     let mut source = ReaderSource::new(history);
     let mut sink = WriterSink::new(Vec::new(alloc));
-    let legality = audit::<Global, TableRouter, _, _>(alloc, &mut source, &mut sink)?;
-    let judged = format!(in alloc; "legal {steps}\n")?;
-    Ok(legality == Legality::Legal && sink.into_inner().as_slice() == judged.as_bytes())
+    let legality = audit_with_tables(alloc, &mut source, &mut sink);
+    drop(source);
+    let written = sink.into_inner();
+    let is_judged = written.as_slice() == judged.as_bytes();
+    drop(written);
+    drop(judged);
+    Ok(legality? == Legality::Legal && is_judged)
 }
 
 /// How many of these steps are of each kind.
@@ -112,6 +156,18 @@ fn kinds_of(steps: &[Step]) -> Kinds {
     kinds
 }
 
+/// The kinds of the steps of a history, which is legal.
+fn kinds_of_history(alloc: Global, history: &[u8]) -> Result<Kinds, Fail> {
+    let (_, steps) = read_history(alloc, history)?;
+    let (kinds, count) = (kinds_of(steps.as_slice()), steps.len());
+    drop(steps);
+    if is_legal(alloc, history, count)? {
+        Ok(kinds)
+    } else {
+        Err("a legal history".into())
+    }
+}
+
 /// The kinds of the steps of a load by so many workers, whose history is legal.
 fn kinds_of_load<R: Threads + Wait + Sync>(
     rt: &R,
@@ -120,11 +176,9 @@ fn kinds_of_load<R: Threads + Wait + Sync>(
     workers: u32,
 ) -> Result<Kinds, Fail> {
     let history = history_of(rt, alloc, head, workers)?;
-    let (_, steps) = read_history(alloc, history.as_slice())?;
-    if !is_legal(alloc, history.as_slice(), steps.len())? {
-        return Err("a legal history".into());
-    }
-    Ok(kinds_of(steps.as_slice()))
+    let kinds = kinds_of_history(alloc, history.as_slice());
+    drop(history);
+    kinds
 }
 
 #[test]

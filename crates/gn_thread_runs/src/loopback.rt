@@ -13,7 +13,7 @@ use gn_service::{Serving, serve_on};
 use gn_tcp::{TcpReader, TcpWriter};
 use gn_threads::RunFault;
 use peers::{LATE, Peer, play};
-use std::alloc::Global;
+use std::alloc::{Allocator, Global};
 use std::net::{Ipv4Addr, Net, SocketAddr, TcpListener, TcpStream};
 use std::process::Abort;
 use std::sync::Wait;
@@ -31,23 +31,24 @@ pub(crate) const DRAINED: (ReaderEnd, WriterEnd) = (ReaderEnd::Bytes, WriterEnd:
 /// A run of at most so many steps over the table router with one worker, within these limits.
 pub(crate) fn serve<
     's,
+    A: Allocator + Copy + Send + Sync,
     R: Threads + Wait + Net<Listener = TcpListener, Stream = TcpStream> + Clock + Sync,
 >(
     rt: &R,
-    alloc: Global,
+    alloc: A,
     listener: &TcpListener,
     steps: u32,
     accept: u32,
     called: &[SocketAddr],
     serving: &Serving<'s>,
-) -> Result<TcpReport<'s>, RunFault> {
+) -> Result<Report<TcpReader<'s>, TcpWriter, A>, RunFault> {
     let Ok(config) = usual(steps) else {
         return Err(RunFault::BadWorkers);
     };
     if accept > 128 || called.len() > 64 {
         return Err(RunFault::BadWorkers);
     }
-    serve_on::<TableRouter, _, _, _>(
+    serve_on::<TableRouter<A>, NoGate, A, R>(
         rt, alloc, listener, &config, accept, called, serving, 1, &NoGate,
     )
 }
@@ -126,7 +127,10 @@ pub(crate) fn report_of<
     let (is_good, served) = beside(
         rt, alloc, &listener, at, &theirs, peer, steps, accept, called, serving,
     );
+    drop(listener);
+    drop(theirs);
     if !is_good {
+        drop(served);
         return Err("what a peer has to hear".into());
     }
     a_report(served)

@@ -17,7 +17,8 @@ const ROUNDS: u8 = 5;
 fn no_packet_waits_for_another(rt: HostRuntime) -> Result<(), Fail> {
     for _ in 0..ROUNDS {
         let begun = Instant::now(&rt)?;
-        report_of(&rt, rt.alloc(), Peer::Turns, 2000, 2, &Serving::UNLIMITED)?;
+        let report = report_of(&rt, rt.alloc(), Peer::Turns, 2000, 2, &Serving::UNLIMITED)?;
+        drop(report);
         if begun.elapsed(&rt)? < Duration::from_secs(1) {
             return Ok(());
         }

@@ -28,15 +28,34 @@ struct Steps {
 fn worked<R: Threads + Wait + Sync>(rt: &R, alloc: Global) -> Result<Steps, Fail> {
     let link = MemoryLink::new(Role::Plain, PING.to_vec(alloc)?, 4096);
     let ran = table_run(rt, alloc, vec![in alloc; link]?, 1, &NoGate);
-    let report = a_report(ran)?;
-    let (mut links, mut workers) = (report.links, report.workers);
-    let (Some(link), Some(worker)) = (links.pop(), workers.pop()) else {
+    let Report {
+        history,
+        mut links,
+        mut workers,
+        house,
+        ..
+    } = a_report(ran)?;
+    drop(house);
+    let first = links.pop().zip(workers.pop());
+    drop(links);
+    drop(workers);
+    let Some((link, worker)) = first else {
+        drop(history);
         return Err("one link and one worker".into());
     };
+    let LinkReport {
+        reader_receipts,
+        reader,
+        writer_receipts,
+        writer,
+        ..
+    } = link;
+    drop(reader);
+    drop(writer);
     Ok(Steps {
-        history: report.history,
-        reader: link.reader_receipts,
-        writer: link.writer_receipts,
+        history,
+        reader: reader_receipts,
+        writer: writer_receipts,
         worker,
     })
 }
@@ -50,9 +69,17 @@ fn add(
     event: Event,
     reply: Reply,
 ) -> Result<Receipt, Fail> {
-    let (step, receipt) = Step::with_receipt(alloc, index, actor, &event, reply)?;
-    history.push(step)?;
-    Ok(receipt)
+    let made = Step::with_receipt(alloc, index, actor, &event, reply);
+    drop(event);
+    let (step, receipt) = made?;
+    match history.push(step) {
+        Ok(()) => Ok(receipt),
+        Err(back) => {
+            drop(back);
+            drop(receipt);
+            Err("room for a step".into())
+        }
+    }
 }
 
 /// Adds a step of the reader, and its receipt.
@@ -70,8 +97,8 @@ fn read(
 
 /// The reader connects, admits a Ping and closes.
 fn read_a_ping(alloc: Global, steps: &mut Steps) -> Result<(), Fail> {
-    let admit = Event::Admit(1, ping(0xa1, 7, 0)?);
     read(alloc, steps, 0, Event::Connect, Reply::Connected(1))?;
+    let admit = Event::Admit(1, ping(0xa1, 7, 0)?);
     read(alloc, steps, 1, admit, Reply::Admitted(0))?;
     read(alloc, steps, 2, Event::Close(1), Reply::Closed(0))
 }
@@ -85,19 +112,35 @@ fn report(
 ) -> Result<Report<(), ()>, Fail>
     ensures { IfOk result (λ r. length r.links.items ≡ 1) }
 {
+    let Steps {
+        history,
+        reader,
+        writer,
+        worker,
+    } = steps;
     let link = LinkReport {
-        conn: conn_of(steps.reader.as_slice()),
+        conn: conn_of(reader.as_slice()),
         reader_end,
-        reader_receipts: steps.reader,
+        reader_receipts: reader,
         reader: (),
         writer_end,
-        writer_receipts: steps.writer,
+        writer_receipts: writer,
         writer: (),
     };
+    let Ok(workers) = vec![in alloc; worker] else {
+        drop(history);
+        drop(link);
+        return Err("a list of workers".into());
+    };
+    let Ok(links) = vec![in alloc; link] else {
+        drop(history);
+        drop(workers);
+        return Err("a list of links".into());
+    };
     Ok(Report {
-        history: steps.history,
-        links: vec![in alloc; link]?,
-        workers: vec![in alloc; steps.worker]?,
+        history,
+        links,
+        workers,
         house: Vec::new(alloc),
         stats: Stats::new(),
     })
@@ -119,6 +162,7 @@ fn a_changed_part_of_the_worked_run_names_its_actor(rt: HostRuntime) -> Result<(
         }
         let changed = report(alloc, steps, read, wrote)?;
         assert_eq!(rt; changed.flaw(&[Role::Plain]), actor);
+        drop(changed);
     }
     Ok(())
 }
@@ -126,17 +170,24 @@ fn a_changed_part_of_the_worked_run_names_its_actor(rt: HostRuntime) -> Result<(
 #[test]
 fn the_house_is_named_for_a_stranger(rt: HostRuntime) -> Result<(), Fail> {
     let mut steps = worked(&rt, rt.alloc())?;
-    let history = &mut steps.history;
-    add(
+    let added = add(
         rt.alloc(),
-        history,
+        &mut steps.history,
         5,
         4,
         Event::Connect,
         Reply::Connected(2),
-    )?;
+    );
+    match added {
+        Ok(receipt) => drop(receipt),
+        Err(fail) => {
+            drop(steps);
+            return Err(fail);
+        }
+    }
     let strange = report(rt.alloc(), steps, ReaderEnd::Bytes, WriterEnd::Drained)?;
     assert_eq!(rt; strange.flaw(&[Role::Plain]), Some(3));
+    drop(strange);
     Ok(())
 }
 
@@ -152,5 +203,6 @@ fn the_house_is_named_for_a_ticket(rt: HostRuntime) -> Result<(), Fail> {
     read_a_ping(alloc, &mut steps)?;
     let unrouted = report(alloc, steps, ReaderEnd::ReadFailed, WriterEnd::Closed)?;
     assert_eq!(rt; unrouted.flaw(&[Role::Plain]), Some(3));
+    drop(unrouted);
     Ok(())
 }

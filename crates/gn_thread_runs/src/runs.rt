@@ -10,7 +10,7 @@ use gn_router::TableRouter;
 use gn_rules::Config;
 use gn_shake::Role;
 use gn_threads::{RunFault, run};
-use std::alloc::{AllocError, Global};
+use std::alloc::{AllocError, Allocator, Global};
 use std::sync::Wait;
 use std::sync::atomic::Ordering;
 use std::test::Fail;
@@ -45,37 +45,49 @@ pub(crate) fn plain_links(
 }
 
 /// What a run over the table router gives, of at most 256 links.
-pub(crate) fn run_of<K: Link, G: Gate + Sync, R: Threads + Wait + Sync>(
+pub(crate) fn run_of<
+    A: Allocator + Copy + Send + Sync,
+    K: Link,
+    G: Gate + Sync,
+    R: Threads + Wait + Sync,
+>(
     rt: &R,
-    alloc: Global,
+    alloc: A,
     config: &Config,
-    links: Vec<K>,
+    links: Vec<K, A>,
     workers: u32,
     gate: &G,
-) -> Result<Report<K::Reader, K::Writer>, RunFault>
+) -> Result<Report<K::Reader, K::Writer, A>, RunFault>
 where
     K::Reader: Send,
     K::Writer: Send,
 {
     if links.len() > 256 {
+        drop(links);
         return Err(RunFault::NoMemory);
     }
-    run::<TableRouter, _, _, _, _>(rt, alloc, config, links, workers, gate)
+    run::<TableRouter<A>, K, G, A, R>(rt, alloc, config, links, workers, gate)
 }
 
 /// The same with a history of at most 100,000 steps.
-pub(crate) fn table_run<K: Link, G: Gate + Sync, R: Threads + Wait + Sync>(
+pub(crate) fn table_run<
+    A: Allocator + Copy + Send + Sync,
+    K: Link,
+    G: Gate + Sync,
+    R: Threads + Wait + Sync,
+>(
     rt: &R,
-    alloc: Global,
-    links: Vec<K>,
+    alloc: A,
+    links: Vec<K, A>,
     workers: u32,
     gate: &G,
-) -> Result<Report<K::Reader, K::Writer>, RunFault>
+) -> Result<Report<K::Reader, K::Writer, A>, RunFault>
 where
     K::Reader: Send,
     K::Writer: Send,
 {
     let Ok(config) = Config::new(8, 1024, 64, 1024, 1024, 100_000, 0, 0, OWN) else {
+        drop(links);
         return Err(RunFault::NoMemory);
     };
     run_of(rt, alloc, &config, links, workers, gate)
@@ -111,6 +123,7 @@ fn two_workers_meet(rt: HostRuntime) -> Result<(), Fail> {
     let report = a_report(table_run(&rt, rt.alloc(), links, 2, &meeting))?;
     assert!(rt; are_even(&report));
     assert_eq!(rt; receipts_of(&report), report.history.len());
+    drop(report);
     assert_eq!(rt; meeting.begun(), (300, 300));
     assert!(rt; !meeting.is_missed.load(Ordering::SeqCst));
     Ok(())
@@ -130,6 +143,7 @@ fn writes_fail_on_their_own_link(rt: HostRuntime) -> Result<(), Fail> {
     // each link's own Pong is queued to it, whatever the schedule
     assert_eq!(rt; writer_end_of(&report, 0), Some(WriterEnd::WriteFailed));
     assert_eq!(rt; writer_end_of(&report, 1), Some(WriterEnd::Drained));
+    drop(report);
     Ok(())
 }
 
@@ -166,6 +180,7 @@ fn two_readers_meet(rt: HostRuntime) -> Result<(), Fail> {
     let links = paced_links(rt.alloc(), 10, &meeting, Some(&meeting))?;
     let report = a_report(table_run(&rt, rt.alloc(), links, 1, &NoGate))?;
     assert_eq!(rt; report.stats.routed, 20);
+    drop(report);
     // ten Pings of 23 bytes, and the read that finds no more, on both sides alike: nobody waits for one that has ended
     assert_eq!(rt; meeting.begun(), (231, 231));
     assert!(rt; !meeting.is_missed.load(Ordering::SeqCst));

@@ -29,6 +29,7 @@ fn two_clients_are_served(rt: HostRuntime) -> Result<(), Fail> {
     assert_eq!(rt; report.history.len(), 10);
     assert_eq!(rt; counts_of(&report), [2, 2, 1, 1, 2, 2]);
     assert!(rt; have_ended(&report, 0, 2, DRAINED));
+    drop(report);
     Ok(())
 }
 
@@ -38,6 +39,7 @@ fn a_stranger_is_let_go(rt: HostRuntime) -> Result<(), Fail> {
     let report = report_of(&rt, rt.alloc(), Peer::Stranger, 100, 2, &Serving::UNLIMITED)?;
     assert_eq!(rt; report.history.len(), 2);
     assert!(rt; have_ended(&report, 0, 1, refused) && have_ended(&report, 1, 2, DRAINED));
+    drop(report);
     Ok(())
 }
 
@@ -46,7 +48,13 @@ fn a_peer_is_called(rt: HostRuntime) -> Result<(), Fail> {
     let report = report_of(&rt, rt.alloc(), Peer::Called, 100, 0, &Serving::UNLIMITED)?;
     assert_eq!(rt; report.history.len(), 5);
     assert!(rt; have_ended(&report, 0, 1, DRAINED));
+    drop(report);
     Ok(())
+}
+
+/// Whom the first link of a run leads to.
+fn peer_of(report: &TcpReport<'_>) -> Option<SocketAddr> {
+    Some(report.links.get(0)?.reader.peer())
 }
 
 #[test]
@@ -57,9 +65,10 @@ fn a_peer_is_called_until_it_listens(rt: HostRuntime) -> Result<(), Fail> {
     };
     let report = report_of(&rt, rt.alloc(), Peer::CalledLate, 100, 0, &serving)?;
     assert_eq!(rt; report.history.len(), 5);
-    let link = report.links.get(0).ok_or("a link")?;
+    let peer = peer_of(&report);
+    drop(report);
     assert_eq!(rt;
-        link.reader.peer(),
+        peer.ok_or("a link")?,
         SocketAddr::from((Ipv4Addr::LOCALHOST, LATE))
     );
     Ok(())

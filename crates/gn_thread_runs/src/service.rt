@@ -9,7 +9,7 @@ use gn_legal::legal;
 use gn_payload::Checked;
 use gn_plain::PlainRouter;
 use gn_rules::{Event, Legality, RouterCore, Step};
-use std::alloc::Global;
+use std::alloc::Allocator;
 use std::marker::Brand;
 use std::sync::Wait;
 use std::sync::ledger::{Blank, Ledger};
@@ -18,23 +18,31 @@ use std::thread;
 use std::thread::Threads;
 
 /// Makes so many Connect calls.
-fn connects<C: RouterCore<Global> + Drop, L: Ledger, R: Wait>(
+fn connects<A: Allocator + Copy, C: RouterCore<A> + Drop, L: Ledger, R: Wait>(
     rt: &R,
-    service: &Service<C, L>,
-    mut me: Actor<L>,
+    service: &Service<C, L, A>,
+    mut me: Actor<L, A>,
     count: u32,
-) -> Actor<L> {
+) -> Actor<L, A> {
+    let connect = Event::Connect;
     for _ in 0..count {
-        let _ = service.call(rt, &mut me, &Event::Connect);
+        let _ = service.call(rt, &mut me, &connect);
     }
+    drop(connect);
     me
 }
 
 fn both_connect<
-    C: RouterCore<Global> + Drop + Send,
+    A: Allocator + Copy + Send + Sync,
+    C: RouterCore<A> + Drop + Send,
     L: Ledger + Send + Sync,
     R: Threads + Wait + Sync,
->(rt: &R, service: &Service<C, L>, a: Actor<L>, b: Actor<L>) -> (Actor<L>, Actor<L>) {
+>(
+    rt: &R,
+    service: &Service<C, L, A>,
+    a: Actor<L, A>,
+    b: Actor<L, A>,
+) -> (Actor<L, A>, Actor<L, A>) {
     thread::join(
         rt,
         move || connects(rt, service, a, 50),
@@ -43,9 +51,9 @@ fn both_connect<
 }
 
 /// Whether nobody meets a link that was shut, one that the run doesn't have, and one of a run that has failed.
-fn nobody_meets<C: RouterCore<Global> + Drop, L: Ledger, R: Wait>(
+fn nobody_meets<A: Allocator + Copy, C: RouterCore<A> + Drop, L: Ledger, R: Wait>(
     rt: &R,
-    service: &Service<C, L>,
+    service: &Service<C, L, A>,
 ) -> bool {
     service.shut(rt, 0);
     let shut = service.meet(rt, 0).is_none() && service.meet(rt, 2).is_none();
@@ -54,65 +62,85 @@ fn nobody_meets<C: RouterCore<Global> + Drop, L: Ledger, R: Wait>(
 }
 
 /// The first three of these actors.
-fn first_three<L: Ledger>(actors: Vec<Actor<L>>) -> Option<((Actor<L>, Actor<L>), Actor<L>)> {
+fn first_three<A: Allocator, L: Ledger>(
+    actors: Vec<Actor<L, A>, A>,
+) -> Option<((Actor<L, A>, Actor<L, A>), Actor<L, A>)> {
     let mut all = actors.into_iter();
-    all.next().zip(all.next()).zip(all.next())
+    let three = all.next().zip(all.next()).zip(all.next());
+    drop(all);
+    three
 }
 
 /// Whether an actor has 50 receipts, which stand in the history.
-fn has_fifty<L: Ledger>(me: &Actor<L>, history: &[Step]) -> bool {
+fn has_fifty<A: Allocator, L: Ledger>(me: &Actor<L, A>, history: &[Step<A>]) -> bool {
     me.share() == 50 && stands_in(me, history)
 }
 
 /// The history of two threads that make 50 Connect calls each, where each actor has 50 receipts that stand in it. Nobody
 /// connected either link, and nobody meets it once it is shut or the run has failed.
-fn hundred<C: RouterCore<Global> + Drop + Send, L: Ledger + Send + Sync, R: Threads + Wait + Sync>(
-    rt: &R,
-    alloc: Global,
-    blank: Blank,
-) -> Result<Vec<Step>, Fail>
+fn hundred<
+    A: Allocator + Copy + Send + Sync,
+    C: RouterCore<A> + Drop + Send,
+    L: Ledger + Send + Sync,
+    R: Threads + Wait + Sync,
+>(rt: &R, alloc: A, blank: Blank) -> Result<Vec<Step<A>, A>, Fail>
     requires name { blank.name ≡ L.name }
     requires parts { (blank.parts ≡ L.parts) × (blank.parts ≡ 6) }
 {
-    let Some((service, actors)) = service_of::<C, L>(alloc, blank, 100, &[Role::Plain, Role::Plain])
-    else {
+    let Some((service, actors)) = service_of::<A, C, L>(
+        alloc,
+        blank,
+        100,
+        &[Role::Plain, Role::Plain],
+    ) else {
         return Err(Fail::from("a service"));
     };
-    let Some(((a, b), _)) = first_three(actors) else {
+    let Some(((a, b), third)) = first_three(actors) else {
+        drop(service);
         return Err(Fail::from("three actors"));
     };
+    drop(third);
     let (a, b) = both_connect(rt, &service, a, b);
     let nobody_meets = nobody_meets(rt, &service);
     let history = service.into_hub().into_router().into_history();
-    if nobody_meets && has_fifty(&a, history.as_slice()) && has_fifty(&b, history.as_slice()) {
+    let have_fifty = has_fifty(&a, history.as_slice()) && has_fifty(&b, history.as_slice());
+    drop(a);
+    drop(b);
+    if nobody_meets && have_fifty {
         Ok(history)
     } else {
+        drop(history);
         Err(Fail::from("no link to meet, and 50 receipts in the history"))
     }
 }
 
-fn hundred_plain<R: Threads + Wait + Sync>(rt: &R, alloc: Global) -> Result<Vec<Step>, Fail> {
-    hundred::<PlainRouter, Brand, R>(rt, alloc, Blank::new(6))
+fn hundred_plain<A: Allocator + Copy + Send + Sync, R: Threads + Wait + Sync>(
+    rt: &R,
+    alloc: A,
+) -> Result<Vec<Step<A>, A>, Fail> {
+    hundred::<A, PlainRouter<A>, Brand, R>(rt, alloc, Blank::new(6))
 }
 
 #[test]
 fn two_threads_connect(rt: HostRuntime) -> Result<(), Fail> {
+    let config = usual(100)?;
     let history = hundred_plain(&rt, rt.alloc())?;
     assert_eq!(rt; history.len(), 100);
-    assert_eq!(rt; legal(&usual(100)?, history.as_slice()), Legality::Legal);
+    assert_eq!(rt; legal(&config, history.as_slice()), Legality::Legal);
+    drop(history);
     Ok(())
 }
 
 /// A writer's part: waits for its door, then takes packets until the connection is over. How many it took.
-fn takes<C: RouterCore<Global> + Drop, L: Ledger, R: Wait>(
+fn takes<A: Allocator + Copy, C: RouterCore<A> + Drop, L: Ledger, R: Wait>(
     rt: &R,
-    service: &Service<C, L>,
-    mut me: Actor<L>,
+    service: &Service<C, L, A>,
+    me: &mut Actor<L, A>,
 ) -> Option<u32> {
     let c = service.meet(rt, 0)?;
     let mut taken = 0u32;
     for _ in rt.forever() {
-        match service.next_out(rt, &mut me, c).ok()? {
+        match service.next_out(rt, me, c).ok()? {
             Outgoing::Packet => taken = taken.saturating_add(1),
             Outgoing::Drained | Outgoing::Closed => break,
         }
@@ -121,10 +149,10 @@ fn takes<C: RouterCore<Global> + Drop, L: Ledger, R: Wait>(
 }
 
 /// Connects the first link, by its reader.
-fn connect<C: RouterCore<Global> + Drop, L: Ledger, R: Wait>(
+fn connect<A: Allocator + Copy, C: RouterCore<A> + Drop, L: Ledger, R: Wait>(
     rt: &R,
-    service: &Service<C, L>,
-    reader: &mut Actor<L>,
+    service: &Service<C, L, A>,
+    reader: &mut Actor<L, A>,
 ) -> Option<()> {
     if reader.number() != 0 {
         return None;
@@ -133,33 +161,37 @@ fn connect<C: RouterCore<Global> + Drop, L: Ledger, R: Wait>(
 }
 
 /// Admits the Ping of this number.
-fn admit<C: RouterCore<Global> + Drop, L: Ledger, R: Wait>(
+fn admit<A: Allocator + Copy, C: RouterCore<A> + Drop, L: Ledger, R: Wait>(
     rt: &R,
-    service: &Service<C, L>,
-    reader: &mut Actor<L>,
+    service: &Service<C, L, A>,
+    reader: &mut Actor<L, A>,
     number: u8,
 ) -> Option<()> {
     let event = Event::Admit(1, ping(number, 7, 0).ok()?);
-    service.call(rt, reader, &event).ok()
+    let answer = service.call(rt, reader, &event);
+    drop(event);
+    answer.ok()
 }
 
 /// Routes the Ping of this number.
-fn route<C: RouterCore<Global> + Drop, L: Ledger, R: Wait>(
+fn route<A: Allocator + Copy, C: RouterCore<A> + Drop, L: Ledger, R: Wait>(
     rt: &R,
-    service: &Service<C, L>,
-    worker: &mut Actor<L>,
+    service: &Service<C, L, A>,
+    worker: &mut Actor<L, A>,
     number: u8,
 ) -> Option<()> {
     let checked = Checked::new(ping(number, 7, 0).ok()?);
-    service.route(rt, worker, u32::from(number), &checked).ok()
+    let answer = service.route(rt, worker, u32::from(number), &checked);
+    drop(checked);
+    answer.ok()
 }
 
 /// Connects, and admits and routes so many Pings.
-fn send<C: RouterCore<Global> + Drop, L: Ledger, R: Wait>(
+fn send<A: Allocator + Copy, C: RouterCore<A> + Drop, L: Ledger, R: Wait>(
     rt: &R,
-    service: &Service<C, L>,
-    reader: &mut Actor<L>,
-    worker: &mut Actor<L>,
+    service: &Service<C, L, A>,
+    reader: &mut Actor<L, A>,
+    worker: &mut Actor<L, A>,
     count: u8,
 ) -> Option<()> {
     connect(rt, service, reader)?;
@@ -171,57 +203,77 @@ fn send<C: RouterCore<Global> + Drop, L: Ledger, R: Wait>(
 }
 
 /// A reader's part and a worker's: connects, and admits and routes so many Pings; then the reader is done.
-fn pings<C: RouterCore<Global> + Drop, L: Ledger, R: Wait>(
+fn pings<A: Allocator + Copy, C: RouterCore<A> + Drop, L: Ledger, R: Wait>(
     rt: &R,
-    service: &Service<C, L>,
-    mut reader: Actor<L>,
-    mut worker: Actor<L>,
+    service: &Service<C, L, A>,
+    mut reader: Actor<L, A>,
+    mut worker: Actor<L, A>,
     count: u8,
 ) -> Option<()> {
     let sent = send(rt, service, &mut reader, &mut worker, count);
+    drop(reader);
+    drop(worker);
     service.reader_done(rt, 0);
     sent
 }
 
+/// A writer's part, after which the writer is done.
+fn takes_all<A: Allocator + Copy, C: RouterCore<A> + Drop, L: Ledger, R: Wait>(
+    rt: &R,
+    service: &Service<C, L, A>,
+    mut writer: Actor<L, A>,
+) -> Option<u32> {
+    let taken = takes(rt, service, &mut writer);
+    drop(writer);
+    taken
+}
+
 fn ping_and_take<
-    C: RouterCore<Global> + Drop + Send,
+    A: Allocator + Copy + Send + Sync,
+    C: RouterCore<A> + Drop + Send,
     L: Ledger + Send + Sync,
     R: Threads + Wait + Sync,
 >(
     rt: &R,
-    service: &Service<C, L>,
-    reader: Actor<L>,
-    writer: Actor<L>,
-    worker: Actor<L>,
+    service: &Service<C, L, A>,
+    reader: Actor<L, A>,
+    writer: Actor<L, A>,
+    worker: Actor<L, A>,
 ) -> (Option<()>, Option<u32>) {
     thread::join(
         rt,
         move || pings(rt, service, reader, worker, 8),
-        move || takes(rt, service, writer),
+        move || takes_all(rt, service, writer),
     )
 }
 
 /// Eight Pings by a link's reader and its writer, each in a thread of its own: how many packets the writer took.
-fn wake<C: RouterCore<Global> + Drop + Send, L: Ledger + Send + Sync, R: Threads + Wait + Sync>(
-    rt: &R,
-    alloc: Global,
-    blank: Blank,
-) -> Result<Option<u32>, Fail>
+fn wake<
+    A: Allocator + Copy + Send + Sync,
+    C: RouterCore<A> + Drop + Send,
+    L: Ledger + Send + Sync,
+    R: Threads + Wait + Sync,
+>(rt: &R, alloc: A, blank: Blank) -> Result<Option<u32>, Fail>
     requires name { blank.name ≡ L.name }
     requires parts { (blank.parts ≡ L.parts) × (blank.parts ≡ 4) }
 {
-    let Some((service, actors)) = service_of::<C, L>(alloc, blank, 100, &[Role::Plain]) else {
+    let Some((service, actors)) = service_of::<A, C, L>(alloc, blank, 100, &[Role::Plain]) else {
         return Err(Fail::from("a service"));
     };
     let Some(((reader, writer), worker)) = first_three(actors) else {
+        drop(service);
         return Err(Fail::from("three actors"));
     };
     let (sent, taken) = ping_and_take(rt, &service, reader, writer, worker);
+    drop(service);
     Ok(sent.and(taken))
 }
 
-fn wake_plain<R: Threads + Wait + Sync>(rt: &R, alloc: Global) -> Result<Option<u32>, Fail> {
-    wake::<PlainRouter, Brand, R>(rt, alloc, Blank::new(4))
+fn wake_plain<A: Allocator + Copy + Send + Sync, R: Threads + Wait + Sync>(
+    rt: &R,
+    alloc: A,
+) -> Result<Option<u32>, Fail> {
+    wake::<A, PlainRouter<A>, Brand, R>(rt, alloc, Blank::new(4))
 }
 
 #[test]

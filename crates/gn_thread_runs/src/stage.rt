@@ -28,30 +28,49 @@ fn add_tickets(tickets: &mut Vec<u32>, jobs: &[Job]) -> Result<(), AllocError> {
     Ok(())
 }
 
+/// Whether a job of this ticket is put.
+fn is_put<S: Site, R: Wait>(rt: &R, intake: &mut Intake<S>, ticket: u32) -> bool {
+    let Ok(job) = job(ticket) else {
+        return false;
+    };
+    let answer = intake.put(rt, job);
+    let is_put = answer.is_ok();
+    drop(answer);
+    is_put
+}
+
 /// Puts so many jobs, until one can't be.
 fn put_some<S: Site, R: Wait>(rt: &R, intake: &mut Intake<S>, first: u32, count: u32) {
     for i in 0..count {
-        let Ok(job) = job(first.wrapping_add(i)) else {
-            return;
-        };
-        if intake.put(rt, job).is_err() {
+        if !is_put(rt, intake, first.wrapping_add(i)) {
             return;
         }
     }
 }
 
-/// Settles a stage whose ends are these, where nothing is missing.
-fn settled<S: Site, R: Wait>(
+/// Settles a stage again, with an intake that has come home.
+fn settled_again<S: Site, R: Wait>(
     rt: &R,
     alloc: Global,
-    desk: Desk<S>,
-    ins: Vec<IntakeHome<S>>,
-    outs: Vec<OutletHome<S>>,
-) -> Result<Settled, AllocError> {
-    match desk.settle(rt, alloc, ins, outs) {
-        Ok(settled) => Ok(settled),
-        Err(_) => Err(AllocError),
+    back: Unsettled<S>,
+    late: IntakeHome<S>,
+) -> Option<(StageFault, Settled)> {
+    let Unsettled {
+        fault,
+        desk,
+        mut intakes,
+        outlets,
+    } = back;
+    let kept = intakes.push(late);
+    let is_kept = kept.is_ok();
+    drop(kept);
+    if !is_kept {
+        drop(desk);
+        drop(intakes);
+        drop(outlets);
+        return None;
     }
+    Some((fault, desk.settle(rt, alloc, intakes, outlets).ok()?))
 }
 
 /// The fault of a stage that isn't settled by these ends, and what is settled of it once another intake has come home.
@@ -62,25 +81,29 @@ fn settled_late<S: Site, R: Wait>(
     intake: IntakeHome<S>,
     outlet: OutletHome<S>,
     late: IntakeHome<S>,
-) -> Result<(StageFault, Settled), AllocError> {
-    let ins = vec![in alloc; intake]?;
-    let outs = vec![in alloc; outlet]?;
-    let Err(back) = desk.settle(rt, alloc, ins, outs) else {
-        return Err(AllocError);
+) -> Option<(StageFault, Settled)> {
+    let ins = vec![in alloc; intake].ok();
+    let Some((ins, outs)) = ins.zip(vec![in alloc; outlet].ok()) else {
+        drop(desk);
+        drop(late);
+        return None;
     };
-    let Unsettled {
-        fault,
-        desk,
-        mut intakes,
-        outlets,
-    } = back;
-    intakes.push(late)?;
-    Ok((fault, settled(rt, alloc, desk, intakes, outlets)?))
+    match desk.settle(rt, alloc, ins, outs) {
+        Ok(settled) => {
+            drop(settled);
+            drop(late);
+            None
+        }
+        Err(back) => settled_again(rt, alloc, back, late),
+    }
 }
 
 /// The ticket of a job, where there is one.
 fn ticket_of(job: Option<Job>) -> Option<u32> {
-    Some(job?.ticket)
+    let job = job?;
+    let ticket = job.ticket;
+    drop(job);
+    Some(ticket)
 }
 
 /// Two jobs are put and one is taken. The second intake comes home late: the fault before it does, and what is settled then.
@@ -92,14 +115,20 @@ fn one_thread<S: Site, R: Wait>(
     requires { stage ≡ S.stage }
 {
     let (mut ins, mut outs, desk) = stage.ends::<S>(alloc, 2, 1)?;
-    let Some(((late, mut intake), mut outlet)) = ins.pop().zip(ins.pop()).zip(outs.pop()) else {
+    let ends = ins.pop().zip(ins.pop()).zip(outs.pop());
+    drop(ins);
+    drop(outs);
+    let Some(((late, mut intake), mut outlet)) = ends else {
+        drop(desk);
         return Err(AllocError);
     };
     put_some(rt, &mut intake, 0, 2);
     let first = ticket_of(outlet.take(rt));
     let (intake, outlet, late) = (intake.finish(), outlet.finish(), late.finish());
-    let (fault, settled) = settled_late(rt, alloc, desk, intake, outlet, late)?;
-    Ok((first, fault, settled))
+    match settled_late(rt, alloc, desk, intake, outlet, late) {
+        Some((fault, settled)) => Ok((first, fault, settled)),
+        None => Err(AllocError),
+    }
 }
 
 fn in_one_thread<R: Wait>(
@@ -112,10 +141,12 @@ fn in_one_thread<R: Wait>(
 #[test]
 fn stage_settles(rt: HostRuntime) -> Result<(), Fail> {
     let (first, fault, settled) = in_one_thread(&rt, rt.alloc())?;
-    let mut drained = Vec::new(rt.alloc());
-    add_tickets(&mut drained, settled.drained.as_slice())?;
     assert!(rt; first == Some(0) && fault == StageFault::Missing);
     assert!(rt; settled.put == 2 && settled.taken == 1);
+    let mut drained = Vec::new(rt.alloc());
+    let added = add_tickets(&mut drained, settled.drained.as_slice());
+    drop(settled);
+    added?;
     assert_eq!(rt; drained.as_slice(), [1].as_slice());
     Ok(())
 }
@@ -137,10 +168,10 @@ fn take_all<S: Site, R: Wait>(
 ) -> (OutletHome<S>, Vec<u32>) {
     let mut tickets = Vec::new(alloc);
     for _ in rt.forever() {
-        let Some(job) = outlet.take(rt) else {
+        let Some(ticket) = ticket_of(outlet.take(rt)) else {
             break;
         };
-        if tickets.push(job.ticket).is_err() {
+        if tickets.push(ticket).is_err() {
             break;
         }
     }
@@ -167,14 +198,45 @@ fn all_taken<S: Site>(
 ) -> Result<(Vec<OutletHome<S>>, Vec<u32>), AllocError> {
     let (mut outs, mut tickets) = (Vec::new(alloc), Vec::new(alloc));
     for (home, taken) in homes {
-        tickets.extend_from_slice(taken.as_slice())?;
-        outs.push(home)?;
+        let is_added = tickets.extend_from_slice(taken.as_slice()).is_ok();
+        drop(taken);
+        let kept = outs.push(home);
+        let is_kept = kept.is_ok();
+        drop(kept);
+        if !is_added || !is_kept {
+            drop(outs);
+            drop(tickets);
+            return Err(AllocError);
+        }
     }
     Ok((outs, tickets))
 }
 
 /// The ends of a stage that came home, with what each outlet took.
 type Homes<S> = (Vec<IntakeHome<S>>, Vec<(OutletHome<S>, Vec<u32>)>);
+
+/// All that was taken, and what is settled of a stage whose ends came home, where nothing is missing.
+fn settled_of<S: Site, R: Wait>(
+    rt: &R,
+    alloc: Global,
+    desk: Desk<S>,
+    homes: Homes<S>,
+) -> Result<(Vec<u32>, Settled), AllocError> {
+    let (ins, outs) = homes;
+    let Ok((outs, tickets)) = all_taken(alloc, outs) else {
+        drop(desk);
+        drop(ins);
+        return Err(AllocError);
+    };
+    match desk.settle(rt, alloc, ins, outs) {
+        Ok(settled) => Ok((tickets, settled)),
+        Err(back) => {
+            drop(back);
+            drop(tickets);
+            Err(AllocError)
+        }
+    }
+}
 
 /// A thread for each end: each intake puts so many jobs, each outlet takes until there are no more. It gives what was
 /// taken, too.
@@ -189,7 +251,7 @@ fn many_threads<S: Site + Send, R: Threads + Wait + Sync>(
     requires { stage ≡ S.stage }
 {
     let (ins, outs, desk) = stage.ends::<S>(alloc, intakes, outlets)?;
-    let (ins, outs) = thread::scope(
+    let homes = thread::scope(
         thread::scope_env(),
         rt,
         |scope| -> Result<Homes<S>, AllocError> {
@@ -203,11 +265,17 @@ fn many_threads<S: Site + Send, R: Threads + Wait + Sync>(
                 putting.push(scope.spawn(move || put_all(rt, intake, first, count))?)?;
                 first = first.wrapping_add(count);
             }
-            Ok((joined(rt, alloc, putting)?, joined(rt, alloc, taking)?))
+            let put = joined(rt, alloc, putting).ok();
+            put.zip(joined(rt, alloc, taking).ok()).ok_or(AllocError)
         },
-    )?;
-    let (outs, tickets) = all_taken(alloc, outs)?;
-    Ok((tickets, settled(rt, alloc, desk, ins, outs)?))
+    );
+    match homes {
+        Ok(homes) => settled_of(rt, alloc, desk, homes),
+        Err(fault) => {
+            drop(desk);
+            Err(fault)
+        }
+    }
 }
 
 /// Whether these are the tickets from 0 on, in order.
@@ -235,10 +303,14 @@ fn counted<R: Threads + Wait + Sync>(
     let (mut tickets, settled) = many_threads::<Brand, R>(
         rt, alloc, stage, intakes, outlets, count,
     )?;
-    add_tickets(&mut tickets, settled.drained.as_slice())?;
-    tickets.sort()?;
+    let added = add_tickets(&mut tickets, settled.drained.as_slice());
     let counts = (settled.put, settled.taken, settled.drained.len());
-    Ok((counts, are_in_order(tickets.as_slice())))
+    drop(settled);
+    added?;
+    tickets.sort()?;
+    let are_in_order = are_in_order(tickets.as_slice());
+    drop(tickets);
+    Ok((counts, are_in_order))
 }
 
 #[test]
@@ -252,10 +324,8 @@ fn each_job_is_there_once(rt: HostRuntime) -> Result<(), Fail> {
         (100, 1, 7, 5, 10, (70, 70, 0)),
     ] {
         for _ in 0..times {
-            assert_eq!(rt;
-                counted(&rt, rt.alloc(), capacity, intakes, outlets, count)?,
-                (want, true)
-            );
+            let found = counted(&rt, rt.alloc(), capacity, intakes, outlets, count)?;
+            assert_eq!(rt; found, (want, true));
         }
     }
     Ok(())
@@ -263,8 +333,12 @@ fn each_job_is_there_once(rt: HostRuntime) -> Result<(), Fail> {
 
 /// Puts a job, and gives the ticket of the one that comes back.
 fn put_back<S: Site, R: Wait>(rt: &R, mut intake: Intake<S>) -> Option<u32> {
-    let second = job(1).ok()?;
-    ticket_of(intake.put(rt, second).err())
+    let back = match job(1) {
+        Ok(second) => intake.put(rt, second).err(),
+        Err(_) => None,
+    };
+    drop(intake);
+    ticket_of(back)
 }
 
 /// Finishes an outlet after a while.
@@ -281,16 +355,22 @@ fn outlet_leaves<S: Site + Send, R: Threads + Wait + Sync + Clock>(
 ) -> Result<Option<u32>, AllocError>
     requires { stage ≡ S.stage }
 {
-    let (mut ins, mut outs, _desk) = stage.ends::<S>(alloc, 1, 1)?;
-    let Some((mut intake, outlet)) = ins.pop().zip(outs.pop()) else {
+    let (mut ins, mut outs, desk) = stage.ends::<S>(alloc, 1, 1)?;
+    let ends = ins.pop().zip(outs.pop());
+    drop(ins);
+    drop(outs);
+    let Some((mut intake, outlet)) = ends else {
+        drop(desk);
         return Err(AllocError);
     };
     put_some(rt, &mut intake, 0, 1);
-    let (back, _) = thread::join(
+    let (back, home) = thread::join(
         rt,
         move || put_back(rt, intake),
         move || finish_late(rt, outlet),
     );
+    drop(home);
+    drop(desk);
     Ok(back)
 }
 

@@ -30,8 +30,15 @@ fn accepted<N: Net<Listener = TcpListener, Stream = TcpStream>>(
     let listener = a_listener(net)?;
     let peer = TcpStream::connect(net, listener.local_addr()?)?;
     peer.set_write_timeout(Some(Duration::from_millis(200)))?;
-    let (reader, writer) = halves(TcpLink::accept(&listener), idle)?;
-    Ok((reader, writer, peer))
+    let link = TcpLink::accept(&listener);
+    drop(listener);
+    match halves(link, idle) {
+        Ok((reader, writer)) => Ok((reader, writer, peer)),
+        Err(fail) => {
+            drop(peer);
+            Err(fail)
+        }
+    }
 }
 
 #[test]

@@ -3,4 +3,5 @@ pub mod ActorLemmas
 pub mod JoinedLemmas
 pub mod ReceiptLemmas
 pub mod HoldsLemmas
+mod LoopLemmas
 mod UnstartedLemmas

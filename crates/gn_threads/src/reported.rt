@@ -52,7 +52,8 @@ pub(crate) fn send_home<Rd: LinkReader, B: Site + Ledger, A: Allocator + Copy>(
     ensures many { IfOk result (λ sent. vec_len sent.0 ≡ vec_len readers) }
     ensures readers { IfOk result (λ sent. map reader_result sent.0.items ≡ map reader_ended readers.items) }
 {
-    let (mut homed, mut homes) = (Vec::new(alloc), Vec::new(alloc));
+    let mut homed = Vec::new(alloc);
+    let mut homes = Vec::new(alloc);
     for done in readers {
         let ReaderDone {
             actor,
@@ -94,25 +95,26 @@ impl<Rd: LinkReader, W: LinkWriter, L: Ledger, A: Allocator + Copy> Linked<Rd, W
         ensures writer { IfOk result (λ linked. map writer_reported linked.links.items
             ≡ map writer_reported self.links.items ++ writer_ended writer ∷ []) }
     {
-        let Linked {
-            links: before,
-            shares,
-        } = self;
+        let reader_end = ended(reader.end, link)?;
+        let writer_end = ended(writer.end, links + link)?;
         let ReaderResult {
             actor: reading,
             reader,
-            end: reader_end,
+            end: _,
         } = reader;
         let WriterDone {
             actor: writing,
             role: _,
             writer,
-            end: writer_end,
+            end: _,
         } = writer;
-        let reader_end = ended(reader_end, link)?;
-        let writer_end = ended(writer_end, links + link)?;
         let (reader_receipts, one) = reading.into_parts();
         let (writer_receipts, other) = writing.into_parts();
+        let Linked {
+            links: before,
+            shares,
+        } = self;
+        let shares = shares.add(one).add(other);
         let mut all = before;
         all.push(LinkReport {
             conn: conn_of(reader_receipts.as_slice()),
@@ -123,10 +125,7 @@ impl<Rd: LinkReader, W: LinkWriter, L: Ledger, A: Allocator + Copy> Linked<Rd, W
             writer_receipts,
             writer,
         })?;
-        Ok(Linked {
-            links: all,
-            shares: shares.add(one).add(other),
-        })
+        Ok(Linked { links: all, shares })
     }
 }
 
@@ -180,14 +179,15 @@ pub(crate) fn report_workers<B: Site + Ledger, A: Allocator + Copy>(
     ensures many { IfOk result (λ made. vec_len made.0.receipts ≡ vec_len workers) }
     ensures receipts { IfOk result (λ made. map receipt_list made.0.receipts.items ≡ map receipts_given workers.items) }
 {
-    let (mut receipts, mut homes) = (Vec::new(alloc), Vec::new(alloc));
+    let mut receipts = Vec::new(alloc);
+    let mut homes = Vec::new(alloc);
     let mut shares = Shares::new();
     for worker in workers {
         let WorkerDone { actor, home, .. } = worker;
         let (own, share) = actor.into_parts();
+        shares = shares.add(share);
         receipts.push(own)?;
         homes.push(home)?;
-        shares = shares.add(share);
     }
     Ok((Worked { receipts, shares }, homes))
 }

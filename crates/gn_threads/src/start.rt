@@ -1,8 +1,9 @@
 //! How the threads of a run are started, and what each promises.
 
-ghost use Rattle.std.specs.Prelude.{◌≡◌, ◌+◌, ◌++◌, ◌∷◌, [], true, map, vec_len};
+ghost use Rattle.std.specs.Prelude.{◌≡◌, ◌+◌, ◌++◌, ◌∷◌, [], true, map, vec_len, IfSome};
 ghost use Rattle.gn_links.specs.Views.{IsNewReader, IsNewWriter};
 ghost use Rattle.gn_bodies.specs.Done.{half_of, IsReaderDone, IsWriterDone, reader_ended, writer_ended};
+ghost use Rattle.gn_bodies.specs.Events.{link_events};
 
 use gn_bodies::{ReaderDone, WorkerDone, WriterDone, reader_body, worker_body, writer_body};
 use gn_hub::{Actor, Service};
@@ -146,6 +147,23 @@ fn run_writer<
     writer_body(rt, alloc, service, gate, actor, link, role, writer)
 }
 
+/// The body of a worker, from its start.
+fn run_worker<B: Site + Ledger, C: RouterCore<A> + Drop, G: Gate, A: Allocator + Copy, R: Wait>(
+    rt: &R,
+    service: &Service<C, B, A>,
+    gate: &G,
+    start: WorkerStart<B, A>,
+) -> WorkerDone<B, A>
+    ensures { link_events result.actor ≡ [] }
+{
+    let WorkerStart {
+        actor,
+        worker,
+        outlet,
+    } = start;
+    worker_body(rt, service, actor, worker, gate, outlet)
+}
+
 /// What each thread of a run is started with.
 #[derive(Drop)]
 pub(crate) struct Starter<'s, E, C: RouterCore<A> + Drop, B: Ledger, G, A: Allocator + Copy, R> {
@@ -165,6 +183,21 @@ impl<
     A: Allocator + Copy + Send + Sync + 's,
     R: Threads + Wait + Sync + 's,
 > Starter<'s, E, C, B, G, A, R> {
+    /// The thread of a reader; `None`, where none can be made.
+    fn spawn_reader<Rd: LinkReader + Send + 's>(
+        &self,
+        promise: Reads<Rd, B, A>,
+        start: ReaderStart<Rd, B, A>,
+    ) -> Option<ReaderHandle<Rd, B, A>>
+        requires { promise.start.value ≡ start }
+        ensures { IfSome result (λ h. h.promise ≡ promise) }
+    {
+        let (rt, alloc, service, gate) = (self.rt, self.alloc, self.service, self.gate);
+        self.scope
+            .spawn_with(promise, move || run_reader(rt, alloc, service, gate, start))
+            .ok()
+    }
+
     /// Starts a reader. False where no thread can be made.
     pub(crate) fn start_reader<Rd: LinkReader + Send + 's>(
         &self,
@@ -174,20 +207,35 @@ impl<
         ensures { result ≡ true → map (λ h. h.promise.start.value) handles.new.items
             ≡ map (λ h. h.promise.start.value) handles.old.items ++ start ∷ [] }
     {
-        let (rt, alloc, service, gate) = (self.rt, self.alloc, self.service, self.gate);
         if handles.reserve(1).is_err() {
+            drop(start);
             return false;
         }
         let promise = Reads {
             start: Snapshot::of(&start),
         };
-        match self.scope.spawn_with(promise, move || run_reader(rt, alloc, service, gate, start)) {
-            Ok(handle) => {
+        match self.spawn_reader(promise, start) {
+            Some(handle) => {
                 handles.push_reserved(handle);
                 true
             }
-            Err(_) => false,
+            None => false,
         }
+    }
+
+    /// The thread of a writer; `None`, where none can be made.
+    fn spawn_writer<W: LinkWriter + Send + 's>(
+        &self,
+        promise: Writes<W, B, A>,
+        start: WriterStart<W, B, A>,
+    ) -> Option<WriterHandle<W, B, A>>
+        requires { promise.start.value ≡ start }
+        ensures { IfSome result (λ h. h.promise ≡ promise) }
+    {
+        let (rt, alloc, service, gate) = (self.rt, self.alloc, self.service, self.gate);
+        self.scope
+            .spawn_with(promise, move || run_writer(rt, alloc, service, gate, start))
+            .ok()
     }
 
     /// Starts a writer. False where no thread can be made.
@@ -199,20 +247,28 @@ impl<
         ensures { result ≡ true → map (λ h. h.promise.start.value) handles.new.items
             ≡ map (λ h. h.promise.start.value) handles.old.items ++ start ∷ [] }
     {
-        let (rt, alloc, service, gate) = (self.rt, self.alloc, self.service, self.gate);
         if handles.reserve(1).is_err() {
+            drop(start);
             return false;
         }
         let promise = Writes {
             start: Snapshot::of(&start),
         };
-        match self.scope.spawn_with(promise, move || run_writer(rt, alloc, service, gate, start)) {
-            Ok(handle) => {
+        match self.spawn_writer(promise, start) {
+            Some(handle) => {
                 handles.push_reserved(handle);
                 true
             }
-            Err(_) => false,
+            None => false,
         }
+    }
+
+    /// The thread of a worker; `None`, where none can be made.
+    fn spawn_worker(&self, start: WorkerStart<B, A>) -> Option<WorkerHandle<B, A>> {
+        let (rt, service, gate) = (self.rt, self.service, self.gate);
+        self.scope
+            .spawn_with(Works, move || run_worker(rt, service, gate, start))
+            .ok()
     }
 
     /// Starts a worker. False where no thread can be made.
@@ -223,23 +279,16 @@ impl<
     ) -> bool
         ensures { result ≡ true → vec_len handles.new ≡ vec_len handles.old + 1 }
     {
-        let (rt, service, gate) = (self.rt, self.service, self.gate);
         if handles.reserve(1).is_err() {
+            drop(start);
             return false;
         }
-        let WorkerStart {
-            actor,
-            worker,
-            outlet,
-        } = start;
-        match self.scope.spawn_with(Works, move || {
-            worker_body(rt, service, actor, worker, gate, outlet)
-        }) {
-            Ok(handle) => {
+        match self.spawn_worker(start) {
+            Some(handle) => {
                 handles.push_reserved(handle);
                 true
             }
-            Err(_) => false,
+            None => false,
         }
     }
 

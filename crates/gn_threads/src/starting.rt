@@ -1,6 +1,7 @@
 //! How all bodies of a run are started and joined.
 
-ghost use Rattle.std.specs.Prelude.{◌≡◌, ◌<◌, ◌++◌, ◌∷◌, [], ℕ, All, Bool, map, vec_len, IfErr, IfOk, OnOk};
+ghost use Rattle.std.specs.Prelude.{◌≡◌, ◌<◌, ◌++◌, ◌∷◌, [], ℕ, All, Bool, true, map, vec_len, IfErr, IfOk, OnOk};
+ghost use Rattle.gn_links.specs.Views.{IsNewReader, IsNewWriter};
 ghost use Rattle.gn_threads.specs.Faults.{IsArrivingFault};
 ghost use Rattle.gn_threads.specs.Joined.{AreJoinedOf};
 ghost use Rattle.gn_bodies.specs.Done.{IsReaderDone, IsWriterDone};
@@ -9,11 +10,12 @@ use crate::arrivals::Arrivals;
 use crate::done::Done;
 use crate::fault::RunFault;
 use crate::joins::Handles;
-use crate::start::Starter;
+use crate::start::{ReaderStart, Starter, WriterStart};
 use crate::unstarted::{Unstarted, UnstartedReader, UnstartedWriter};
 use gn_hub::Service;
-use gn_links::Gate;
+use gn_links::{Gate, LinkReader, LinkWriter};
 use gn_rules::RouterCore;
+use gn_shake::Role;
 use gn_stage::Site;
 use std::alloc::Allocator;
 use std::sync::Wait;
@@ -30,8 +32,48 @@ impl<
     A: Allocator + Copy + Send + Sync + 's,
     R: Threads + Wait + Sync + 's,
 > Starter<'s, E, C, B, G, A, R> {
-    /// Waits for a link, and starts its two bodies. Where the run has failed by then nobody is waited for: what the bodies
+    /// Waits for a link with this number, in this role. Where the run has failed by then nobody is waited for: what the bodies
     /// that have started found is said once they are joined.
+    fn next_link<V: Arrivals>(
+        &self,
+        arrivals: &mut V,
+        link: u32,
+        role: Role,
+    ) -> Result<(V::Reader, V::Writer), RunFault>
+        ensures reader { IfOk result (λ h. IsNewReader (V.Reader.state h.0)) }
+        ensures writer { IfOk result (λ h. IsNewWriter (V.Writer.state h.1)) }
+        ensures made { IfOk result (λ h. (V.coming arrivals.old ≡ V.Reader.made_of h.0 ∷ V.coming arrivals.new)
+            × (V.Writer.made_of h.1 ≡ V.Reader.made_of h.0)) }
+        ensures fault { IfErr result (λ fault. (links workers : ℕ) → link < links
+            → IsArrivingFault V.has_peers links workers fault) }
+    {
+        if self.service.failed(self.rt) {
+            return Err(RunFault::NoMemory);
+        }
+        arrivals.next(link, role)
+    }
+
+    /// Starts the two bodies of a link. False where a thread can't be made.
+    fn start_bodies<Rd: LinkReader + Send + 's, W: LinkWriter + Send + 's>(
+        &self,
+        reading: ReaderStart<Rd, B, A>,
+        writing: WriterStart<W, B, A>,
+        handles: &mut Handles<Rd, W, B, A>,
+    ) -> bool
+        ensures readers { result ≡ true → map (λ h. h.promise.start.value) handles.new.readers.items
+            ≡ map (λ h. h.promise.start.value) handles.old.readers.items ++ reading ∷ [] }
+        ensures writers { result ≡ true → map (λ h. h.promise.start.value) handles.new.writers.items
+            ≡ map (λ h. h.promise.start.value) handles.old.writers.items ++ writing ∷ [] }
+        ensures workers { handles.new.workers ≡ handles.old.workers }
+    {
+        if !self.start_reader(reading, &mut handles.readers) {
+            drop(writing);
+            return false;
+        }
+        self.start_writer(writing, &mut handles.writers)
+    }
+
+    /// Waits for a link, and starts its two bodies.
     fn start_link<V: Arrivals>(
         &self,
         arrivals: &mut V,
@@ -56,18 +98,24 @@ impl<
         ensures fault { IfErr result (λ fault. (links workers : ℕ) → reading.link < links
             → IsArrivingFault V.has_peers links workers fault) }
     {
-        if self.service.failed(self.rt) {
-            return Err(RunFault::NoMemory);
+        let coming = self.next_link(arrivals, reading.link, reading.role);
+        match coming {
+            Err(fault) => {
+                drop(reading);
+                drop(writing);
+                Err(fault)
+            }
+            Ok(halves) => {
+                let (reader, writer) = halves;
+                let reading = reading.with(reader);
+                let writing = writing.with(writer);
+                if self.start_bodies(reading, writing, handles) {
+                    Ok(())
+                } else {
+                    Err(RunFault::NoMemory)
+                }
+            }
         }
-        let (reader, writer) = arrivals.next(reading.link, reading.role)?;
-        let (reading, writing) = (reading.with(reader), writing.with(writer));
-        if !self.start_reader(reading, &mut handles.readers) {
-            return Err(RunFault::NoMemory);
-        }
-        if !self.start_writer(writing, &mut handles.writers) {
-            return Err(RunFault::NoMemory);
-        }
-        Ok(())
     }
 
     /// Starts the two bodies of each link as soon as it has come. At a fault the links before it have started, and the
@@ -103,7 +151,10 @@ impl<
             };
             match self.start_link(arrivals, reading, writing, handles) {
                 Ok(()) => {}
-                Err(fault) => return Err(fault),
+                Err(fault) => {
+                    drop(writers);
+                    return Err(fault);
+                }
             }
         }
         Ok(())
@@ -139,6 +190,8 @@ impl<
             workers,
         } = unstarted;
         if !self.start_workers(workers, &mut handles.workers) {
+            drop(readers);
+            drop(writers);
             return Err(RunFault::NoMemory);
         }
         self.start_links(arrivals, readers, writers, handles)

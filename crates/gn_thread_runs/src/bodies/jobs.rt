@@ -18,7 +18,9 @@ fn a_forged_job_is_passed_over(rt: HostRuntime) -> Result<(), Fail> {
     let link = MemoryLink::new(Role::Plain, PING.to_vec(rt.alloc())?, 4096);
     let ran = run_link(&rt, rt.alloc(), setting, link).ok_or("memory")?;
     assert!(rt; ran.ends.1 == Err(BodyFault::Refused) && !ran.has_failed && ran.is_closing);
-    let lines = lines_of(rt.alloc(), ran.history.as_slice())?;
+    let lines = lines_of(rt.alloc(), ran.history.as_slice());
+    drop(ran);
+    let lines = lines?;
     assert_eq!(rt; lines.as_slice(), ONE_PING.as_bytes());
     Ok(())
 }

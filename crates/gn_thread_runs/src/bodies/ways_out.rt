@@ -33,7 +33,11 @@ fn ends_at(steps: u32) -> Ends {
 fn found_at<R: Wait>(rt: &R, alloc: Global, steps: u32) -> Result<(Ends, bool, bool), Fail> {
     let link = MemoryLink::new(Role::Plain, PING.to_vec(alloc)?, 4096);
     match run_link(rt, alloc, Setting { steps, ..USUAL }, link) {
-        Some(ran) => Ok((ran.ends, ran.has_failed, ran.is_closing)),
+        Some(ran) => {
+            let found = (ran.ends, ran.has_failed, ran.is_closing);
+            drop(ran);
+            Ok(found)
+        }
         None => Err(Fail::from("memory")),
     }
 }

@@ -54,7 +54,11 @@ pub(super) fn never_opens<R: Wait>(
     written: &[u8],
 ) -> bool {
     match run_link(rt, alloc, USUAL, link) {
-        Some(ran) => has_not_opened(&ran, read, written),
+        Some(ran) => {
+            let has_not_opened = has_not_opened(&ran, read, written);
+            drop(ran);
+            has_not_opened
+        }
         None => false,
     }
 }
@@ -80,10 +84,12 @@ fn a_link_of_one_ping(rt: HostRuntime) -> Result<(), Fail> {
                 OWN_PONG
             )
         );
-        let lines = lines_of(alloc, ran.history.as_slice())?;
-        assert_eq!(rt; lines.as_slice(), ONE_PING.as_bytes());
         assert!(rt; ran.passed == Some((WORKER, 0)) && ran.admitted == 1);
         assert!(rt; ran.counted == 5 && ran.ended == (true, true));
+        let lines = lines_of(alloc, ran.history.as_slice());
+        drop(ran);
+        let lines = lines?;
+        assert_eq!(rt; lines.as_slice(), ONE_PING.as_bytes());
     }
     Ok(())
 }

@@ -217,6 +217,22 @@ fn is_found(left: &Left, written: &[u8], row: &Row, text: &[u8], k: u32) -> bool
         && left.is_all_closed()
 }
 
+/// Whether the run of a row at k leaves what it must.
+fn is_right_at<R: Threads + Wait + Sync>(
+    rt: &R,
+    alloc: Global,
+    config: &Config,
+    row: &Row,
+    text: &[u8],
+    k: u32,
+) -> Result<bool, Fail> {
+    let (left, written) = run_over(rt, alloc, config, link_of(alloc, row, k)?)?;
+    let is_found = is_found(&left, written.as_slice(), row, text, k);
+    drop(left);
+    drop(written);
+    Ok(is_found)
+}
+
 /// The first k at which the run of a row leaves something else than it must.
 fn first_wrong<R: Threads + Wait + Sync>(
     rt: &R,
@@ -226,8 +242,7 @@ fn first_wrong<R: Threads + Wait + Sync>(
 ) -> Result<Option<u32>, Fail> {
     let text = greeted(alloc, consent(), row.role, OWN_PONG)?;
     for k in row.ks.0..=row.ks.1 {
-        let (left, written) = run_over(rt, alloc, config, link_of(alloc, row, k)?)?;
-        if !is_found(&left, written.as_slice(), row, text.as_slice(), k) {
+        if !is_right_at(rt, alloc, config, row, text.as_slice(), k)? {
             return Ok(Some(k));
         }
     }
@@ -262,21 +277,23 @@ const ENDLESS: Row = Row {
 #[test]
 fn a_link_without_end_is_closed(rt: HostRuntime) -> Result<(), Fail> {
     let alloc = rt.alloc();
+    let config = usual(1_000_000)?;
     let mut pong = OWN_PONG.to_vec(alloc)?;
     pong[..16].fill(0);
     let link = EndlessLink {
         link: MemoryLink::new(Role::Plain, Vec::new(alloc), 1),
     };
-    let (left, written) = run_over(&rt, alloc, &usual(1_000_000)?, link)?;
+    let (left, written) = run_over(&rt, alloc, &config, link)?;
     assert!(rt; is_found(&left, written.as_slice(), &ENDLESS, pong.as_slice(), 0));
     Ok(())
 }
 
 /// Whether a run of two plain links of so many Pings, of three steps at most, finds its history full.
 fn is_full<R: Threads + Wait + Sync>(rt: &R, alloc: Global, pings: u8) -> Result<bool, Fail> {
+    let config = usual(3)?;
     let links = plain_links(alloc, 2, pings)?;
-    let ran = run_of(rt, alloc, &usual(3)?, links, 1, &NoGate);
-    Ok(matches!(ran, Err(RunFault::HistoryFull)))
+    let fault = run_of(rt, alloc, &config, links, 1, &NoGate).err();
+    Ok(fault == Some(RunFault::HistoryFull))
 }
 
 #[test]

@@ -97,7 +97,9 @@ fn over<R: Threads + Wait + Net<Listener = TcpListener, Stream = TcpStream> + Sy
         ..Serving::UNLIMITED
     };
     let report = report_of(rt, alloc, row.peer, STEPS_OF_ALL, row.clients, &serving)?;
-    Ok(left_of(alloc, report)?.0)
+    let (left, writer) = left_of(alloc, report)?;
+    drop(writer);
+    Ok(left)
 }
 
 /// Whether the run of a row left what it must.

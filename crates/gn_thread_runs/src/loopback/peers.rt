@@ -61,17 +61,46 @@ const FORWARDED: [u8; 23] = [
     0, 6, 1, 0, 0, 0, 0,
 ];
 
+/// What a caller waits for longer than 20 seconds fails, and small packets go out at once.
+fn limit(caller: &TcpStream) -> io::Result<()> {
+    let limit = Some(Duration::from_secs(20));
+    caller.set_read_timeout(limit)?;
+    caller.set_write_timeout(limit)?;
+    caller.set_nodelay(true)
+}
+
+/// This caller, where what came before went well.
+fn where_well(caller: TcpStream, before: io::Result<()>) -> io::Result<TcpStream> {
+    match before {
+        Ok(()) => Ok(caller),
+        Err(why) => {
+            drop(caller);
+            Err(why)
+        }
+    }
+}
+
 /// A caller of the run. What it waits for longer than 20 seconds fails.
 fn caller<N: Net<Listener = TcpListener, Stream = TcpStream>>(
     net: &N,
     at: SocketAddr,
 ) -> io::Result<TcpStream> {
     let caller = TcpStream::connect(net, at)?;
-    let limit = Some(Duration::from_secs(20));
-    caller.set_read_timeout(limit)?;
-    caller.set_write_timeout(limit)?;
-    caller.set_nodelay(true)?;
-    Ok(caller)
+    let limited = limit(&caller);
+    where_well(caller, limited)
+}
+
+/// Greets, and waits for the first byte that comes.
+fn greet(client: &mut TcpStream) -> io::Result<()> {
+    client.write_all(request())?;
+    client.peek(&mut [0u8; 1])?;
+    Ok(())
+}
+
+/// Greets, and sends these bytes.
+fn greet_and_send(client: &mut TcpStream, bytes: &[u8]) -> io::Result<()> {
+    client.write_all(request())?;
+    client.write_all(bytes)
 }
 
 /// A client that has greeted, and has heard that it may come in; but it hasn't read that yet.
@@ -80,9 +109,8 @@ fn greeted<N: Net<Listener = TcpListener, Stream = TcpStream>>(
     at: SocketAddr,
 ) -> io::Result<TcpStream> {
     let mut client = caller(net, at)?;
-    client.write_all(request())?;
-    client.peek(&mut [0u8; 1])?;
-    Ok(client)
+    let greeted = greet(&mut client);
+    where_well(client, greeted)
 }
 
 /// A client that has greeted and sent these bytes, and waits for nothing.
@@ -92,9 +120,8 @@ pub(crate) fn sent<N: Net<Listener = TcpListener, Stream = TcpStream>>(
     bytes: &[u8],
 ) -> io::Result<TcpStream> {
     let mut client = caller(net, at)?;
-    client.write_all(request())?;
-    client.write_all(bytes)?;
-    Ok(client)
+    let sent = greet_and_send(&mut client, bytes);
+    where_well(client, sent)
 }
 
 /// Whether exactly these bytes come next, at most 64.
@@ -192,7 +219,9 @@ pub(crate) fn is_called(caller: &mut TcpStream, consents: bool) -> io::Result<bo
 /// A peer that the run calls there, and that consents.
 fn called(listener: &TcpListener) -> io::Result<bool> {
     let (mut caller, _) = listener.accept()?;
-    is_called(&mut caller, true)
+    let is_good = is_called(&mut caller, true);
+    drop(caller);
+    is_good
 }
 
 /// The same, which listens only after a while.
@@ -201,7 +230,11 @@ fn called_late<N: Net<Listener = TcpListener, Stream = TcpStream> + Clock>(
 ) -> io::Result<bool> {
     thread::sleep(net, Duration::from_millis(200));
     match listen(net, LATE) {
-        Ok(listener) => called(&listener),
+        Ok(listener) => {
+            let is_good = called(&listener);
+            drop(listener);
+            is_good
+        }
         Err(_) => Ok(false),
     }
 }
@@ -353,8 +386,60 @@ fn play_greeted<N: Net<Listener = TcpListener, Stream = TcpStream> + Clock>(
             client.write_all(&PING[..10])?;
             Ok(true)
         }
-        _ => play_two(net, client, &mut greeted(net, at)?, peer),
+        _ => play_with_second(net, at, client, peer),
     }
+}
+
+/// What a client does that has greeted, with a second.
+fn play_with_second<N: Net<Listener = TcpListener, Stream = TcpStream> + Clock>(
+    net: &N,
+    at: SocketAddr,
+    client: &mut TcpStream,
+    peer: Peer,
+) -> io::Result<bool> {
+    let mut second = greeted(net, at)?;
+    let is_good = play_two(net, client, &mut second, peer);
+    drop(second);
+    is_good
+}
+
+/// A client that dawdles.
+fn play_dawdler<N: Net<Listener = TcpListener, Stream = TcpStream> + Clock>(
+    net: &N,
+    at: SocketAddr,
+) -> io::Result<bool> {
+    let mut client = caller(net, at)?;
+    let is_good = dawdles(net, &mut client);
+    drop(client);
+    Ok(is_good)
+}
+
+/// A stranger, which is let go, and after it a client.
+fn play_stranger<N: Net<Listener = TcpListener, Stream = TcpStream>>(
+    net: &N,
+    at: SocketAddr,
+) -> io::Result<bool> {
+    let mut stranger = caller(net, at)?;
+    let is_let_go = is_let_go(&mut stranger);
+    drop(stranger);
+    let is_let_go = is_let_go?;
+    let mut client = greeted(net, at)?;
+    let leaves = leaves(&mut client);
+    drop(client);
+    Ok(is_let_go & leaves?)
+}
+
+/// One or two clients that greet first.
+fn play_client<N: Net<Listener = TcpListener, Stream = TcpStream> + Clock>(
+    net: &N,
+    at: SocketAddr,
+    peer: Peer,
+    serving: &Serving<'_>,
+) -> io::Result<bool> {
+    let mut client = greeted(net, at)?;
+    let is_good = play_greeted(net, at, &mut client, peer, serving);
+    drop(client);
+    is_good
 }
 
 /// The peers' part of a run: whether they heard what they had to.
@@ -368,11 +453,8 @@ pub(crate) fn play<N: Net<Listener = TcpListener, Stream = TcpStream> + Clock>(
     match peer {
         Peer::Called => called(theirs),
         Peer::CalledLate => called_late(net),
-        Peer::Dawdles => Ok(dawdles(net, &mut caller(net, at)?)),
-        Peer::Stranger => {
-            let is_let_go = is_let_go(&mut caller(net, at)?)?;
-            Ok(is_let_go & leaves(&mut greeted(net, at)?)?)
-        }
-        _ => play_greeted(net, at, &mut greeted(net, at)?, peer, serving),
+        Peer::Dawdles => play_dawdler(net, at),
+        Peer::Stranger => play_stranger(net, at),
+        _ => play_client(net, at, peer, serving),
     }
 }

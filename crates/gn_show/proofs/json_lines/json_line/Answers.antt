@@ -17,4 +17,4 @@ line_made index step value text bytes line is written same end =
 
 pub returns : goal.returns
 returns c =
-    line_made c.args.index c.args.step.now _ _ _ _ c.in_ok-step_value.ensures c.in_ok-text.ensures.text (ap vec_items c.into_bytes-line.ensures.value) c.in_ok-push.ensures.items
+    line_made c.args.index c.args.step.now _ _ _ _ c.in_ok-value.ensures c.in_ok-text.ensures.text (ap vec_items c.into_bytes-line.ensures.value) c.in_ok-push.ensures.items

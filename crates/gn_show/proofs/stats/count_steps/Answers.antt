@@ -11,7 +11,7 @@ loop-step-preserved c =
     let next = subst (λ found. IsNextOf (Ok found) (steps_left c.loop-step.steps) (steps_left c.next_step.new.self)) c.in-Some.is c.in_ok-step.ensures.next in
     rw c.in_ok-index.ensures
     (counting_more c.loop-step.stats c.raise.new.self c.loop-step.index c.loop-step.steps c.next_step.new.self (steps_left c.args.steps.now) c.in-Some.step
-    c.loop-step.invariant next (omega arith) (rw c.of.ensures at c.raise.ensures.more))
+    c.loop-step.invariant next (omega arith) (rw c.of-counter.ensures at c.raise.ensures.more))
 
 pub returns-clause-counted : goal.returns-clause-counted
 returns-clause-counted c =

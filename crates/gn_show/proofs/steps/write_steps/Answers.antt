@@ -19,10 +19,10 @@ loop-block-preserved g c =
     record {
       showing = rw c.in_ok-index.ensures
           (showing_more c.args.form (g.W.Sink.state c.args.sink.now).written (g.W.Sink.state c.loop-block.sink).written c.loop-block.block c.loop-block.index c.loop-block.steps
-          (steps_left c.args.steps.now) c.loop-block.invariant.showing (g.W.Sink.state c.write_step.new.sink).written c.write_step.new.block c.deref.result.now c.next_step.new.self
-          c.in-Some.step next (c.deref.ensures.value ∙ c.in_ok-line.ensures) c.in_ok-write_step.ensures.ok);
+          (steps_left c.args.steps.now) c.loop-block.invariant.showing (g.W.Sink.state c.write_step-written.new.sink).written c.write_step-written.new.block c.deref.result.now c.next_step.new.self
+          c.in-Some.step next (c.deref.ensures.value ∙ c.in_ok-line.ensures) c.in_ok-written.ensures.ok);
       writes =
-          (c.in_ok-write_step.ensures.writes.0 ∙ c.loop-block.invariant.writes.0, c.in_ok-write_step.ensures.writes.1 ∙ c.loop-block.invariant.writes.1);
+          (c.in_ok-written.ensures.writes.0 ∙ c.loop-block.invariant.writes.0, c.in_ok-written.ensures.writes.1 ∙ c.loop-block.invariant.writes.1);
     }
 
 pub returns-in_err-step-clause-err : goal.returns-in_err-step-clause-err
@@ -45,25 +45,25 @@ returns-in_err-line-clause-err g c =
     (showing_kept c.args.form (g.W.Sink.state c.args.sink.now).written (g.W.Sink.state c.loop-block.sink).written c.loop-block.block c.loop-block.index c.loop-block.steps
     (steps_left c.args.steps.now) c.loop-block.invariant.showing c.requires)
 
-pub returns-in_err-write_step-clause-err : goal.returns-in_err-write_step-clause-err
-returns-in_err-write_step-clause-err g c =
+pub returns-in_err-written-clause-err : goal.returns-in_err-written-clause-err
+returns-in_err-written-clause-err g c =
     let next = subst (λ found. IsNextOf (Ok found) (steps_left c.loop-block.steps) (steps_left c.next_step.new.self)) c.in-Some.is c.in_ok-step.ensures.next in
-    on_err c.from_residual-in_err-write_step.result
+    on_err c.from_residual-in_err-written.result
     (line_cut c.args.form (g.W.Sink.state c.args.sink.now).written (g.W.Sink.state c.loop-block.sink).written c.loop-block.block c.loop-block.index c.loop-block.steps
-    (steps_left c.args.steps.now) c.loop-block.invariant.showing (g.W.Sink.state c.write_step.new.sink).written c.deref.result.now c.next_step.new.self
-    c.in-Some.step c.requires next (c.deref.ensures.value ∙ c.in_ok-line.ensures) c.in_err-write_step.ensures.err)
+    (steps_left c.args.steps.now) c.loop-block.invariant.showing (g.W.Sink.state c.write_step-written.new.sink).written c.deref.result.now c.next_step.new.self
+    c.in-Some.step c.requires next (c.deref.ensures.value ∙ c.in_ok-line.ensures) c.in_err-written.ensures.err)
 
 pub returns-in_err-index-clause-err : goal.returns-in_err-index-clause-err
 returns-in_err-index-clause-err g c =
     let next = subst (λ found. IsNextOf (Ok found) (steps_left c.loop-block.steps) (steps_left c.next_step.new.self)) c.in-Some.is c.in_ok-step.ensures.next in
     let first = (g.W.Sink.state c.args.sink.now).written in
-    let last = (g.W.Sink.state c.write_step.new.sink).written in
+    let last = (g.W.Sink.state c.write_step-written.new.sink).written in
     let all = steps_left c.args.steps.now in
     on_err c.from_residual-in_err-index.result
-    (showing_kept c.args.form first last c.write_step.new.block (c.loop-block.index + 1) c.next_step.new.self all
+    (showing_kept c.args.form first last c.write_step-written.new.block (c.loop-block.index + 1) c.next_step.new.self all
     (showing_more c.args.form first (g.W.Sink.state c.loop-block.sink).written c.loop-block.block c.loop-block.index c.loop-block.steps
-    all c.loop-block.invariant.showing last c.write_step.new.block c.deref.result.now c.next_step.new.self
-    c.in-Some.step next (c.deref.ensures.value ∙ c.in_ok-line.ensures) c.in_ok-write_step.ensures.ok) c.requires)
+    all c.loop-block.invariant.showing last c.write_step-written.new.block c.deref.result.now c.next_step.new.self
+    c.in-Some.step next (c.deref.ensures.value ∙ c.in_ok-line.ensures) c.in_ok-written.ensures.ok) c.requires)
 
 pub returns-in_err-write_rest-clause-err : goal.returns-in_err-write_rest-clause-err
 returns-in_err-write_rest-clause-err g c =

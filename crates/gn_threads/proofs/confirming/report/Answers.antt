@@ -22,3 +22,19 @@ confirmed-requires-clause-unconfirmed g c =
 
 pub returns-clause-clean : goal.returns-clause-clean
 returns-clause-clean g c = IfOk-weaker _ _ _ (λ found same. (c.least.ensures.none same.1).0) c.confirmed.ensures.same
+
+pub add_up-requires : goal.add_up-requires
+add_up-requires g c =
+    omega (arith, c.requires.counted.parts, c.requires.counted.each.0, c.args.linked.parts, c.args.worked.parts, c.into_parts-house.ensures.share)
+
+pub confirmed-requires-clause-legal : goal.confirmed-requires-clause-legal
+confirmed-requires-clause-legal g c = λ none. c.close-closed.ensures.legal (c.misconfigured-misconfigured.ensures.none (c.least.ensures.none none).1)
+
+pub confirmed-requires-clause-ends : goal.confirmed-requires-clause-ends
+confirmed-requires-clause-ends g c = c.requires.ends
+
+pub returns-clause-fault : goal.returns-clause-fault
+returns-clause-fault g c = c.confirmed.ensures.fault
+
+pub returns-clause-holds : goal.returns-clause-holds
+returns-clause-holds g c = c.confirmed.ensures.holds

@@ -23,3 +23,15 @@ report-requires-clause-ends g c =
 
 pub returns-in_err-linked-clause-fault : goal.returns-in_err-linked-clause-fault
 returns-in_err-linked-clause-fault g c = handed_on _ c.from_residual.result _ c.from_residual.ensures.1 (subst (λ n. IsFaultOf n (vec_len c.args.worked.receipts) c.in_err-linked.field-0.0) c.requires.counted.each.0 (c.in_err-linked.ensures.fault _))
+
+pub report-requires-clause-unconfirmed : goal.report-requires-clause-unconfirmed
+report-requires-clause-unconfirmed g c = c.requires.unconfirmed
+
+pub returns-clause-fault : goal.returns-clause-fault
+returns-clause-fault g c = c.report.ensures.fault
+
+pub returns-clause-holds : goal.returns-clause-holds
+returns-clause-holds g c = c.report.ensures.holds
+
+pub returns-clause-clean : goal.returns-clause-clean
+returns-clause-clean g c = c.report.ensures.clean

@@ -12,16 +12,16 @@ returns-in_default-clause-settled g c =
 
 pub returns-in-Ok-clause-connection : goal.returns-in-Ok-clause-connection
 returns-in-Ok-clause-connection g c =
-    rw (← c.self.view_is) (connection-route c.back.inside.ticket c.self.inside.actor c.route-2.new.me c.in-Ok.ensures)
+    rw (← c.self.view_is) (connection-route c.back.inside.ticket c.self.inside.actor c.route-answer.new.me c.in-Ok.ensures)
 
 pub returns-in-Ok-clause-events : goal.returns-in-Ok-clause-events
 returns-in-Ok-clause-events g c =
-    rw (← c.self.view_is) (link_events-route c.back.inside.ticket c.self.inside.actor c.route-2.new.me c.in-Ok.ensures)
+    rw (← c.self.view_is) (link_events-route c.back.inside.ticket c.self.inside.actor c.route-answer.new.me c.in-Ok.ensures)
 
 pub returns-in-Ok-clause-settled : goal.returns-in-Ok-clause-settled
 returns-in-Ok-clause-settled g c =
     let before : Admitting _ = record { actor = c.self.inside.actor; intake = c.self.inside.intake; is_refused = c.self.inside.is_refused } in
-    let after : Admitting _ = record before { actor = c.route-2.new.me; intake = c.put.new.self } in
+    let after : Admitting _ = record before { actor = c.route-answer.new.me; intake = c.put.new.self } in
     let ticket : c.back.inside.ticket ≡ c.args.job.ticket = ap (λ job. job.ticket) (c.back.view_is ∙ c.in-Err.ensures.0) in
     rw (← c.self.view_is) (λ jobs is.
     settled_routed jobs c.args.job c.back.inside.ticket before after ticket is c.in-Ok.ensures refl c.in-Err.ensures.1)

@@ -12,45 +12,23 @@ loop-numbered-init g c = record {
   unfailed = (refl, refl);
 }
 
-pub returns-in_err-write_line-clause-err : goal.returns-in_err-write_line-clause-err
-returns-in_err-write_line-clause-err g c =
+pub returns-in_err-written-clause-err : goal.returns-in_err-written-clause-err
+returns-in_err-written-clause-err g c =
     on_err c.from_residual.result
-    (running_part c.args.self.now.settings c.loop-numbered.self (g.W.Sink.state c.args.sink.now).written (g.W.Sink.state c.loop-numbered.sink).written (g.W.Sink.state c.write_line.new.sink).written
-    c.loop-numbered.block c.write_line.new.block
+    (running_part c.args.self.now.settings c.loop-numbered.self (g.W.Sink.state c.args.sink.now).written (g.W.Sink.state c.loop-numbered.sink).written (g.W.Sink.state c.write_line-written.new.sink).written
+    c.loop-numbered.block c.write_line-written.new.block
     c.in-Some.numbered.0 c.in-Some.numbered.1 (reverse c.take_last.new.lines.items) c.args.lines.items (rw (turned c.loop-numbered.lines.items c.take_last.new.lines.items c.in-Some.numbered c.in-Some.ensures) at c.loop-numbered.invariant.running)
-    c.in_err-write_line.ensures.err)
-
-pub loop-numbered-preserved-in_ok-write_line : goal.loop-numbered-preserved-in_ok-write_line
-loop-numbered-preserved-in_ok-write_line g c = record {
-  running =
-      running_more c.args.self.now.settings c.loop-numbered.self c.write_line.new.self (g.W.Sink.state c.args.sink.now).written (g.W.Sink.state c.loop-numbered.sink).written (g.W.Sink.state c.write_line.new.sink).written
-      c.loop-numbered.block c.write_line.new.block
-      c.in-Some.numbered.0 c.in-Some.numbered.1 (reverse c.take_last.new.lines.items) c.args.lines.items (rw (turned c.loop-numbered.lines.items c.take_last.new.lines.items c.in-Some.numbered c.in-Some.ensures) at c.loop-numbered.invariant.running)
-      c.in_ok-write_line.ensures.ok;
-  unfailed =
-      (c.in_ok-write_line.ensures.writes.0 ∙ c.loop-numbered.invariant.unfailed.0, c.in_ok-write_line.ensures.writes.1 ∙ c.loop-numbered.invariant.unfailed.1);
-}
-
-pub loop-numbered-preserved-in_ok-write_line-2 : goal.loop-numbered-preserved-in_ok-write_line-2
-loop-numbered-preserved-in_ok-write_line-2 g c = record {
-  running =
-      running_more c.args.self.now.settings c.loop-numbered.self c.write_line.new.self (g.W.Sink.state c.args.sink.now).written (g.W.Sink.state c.loop-numbered.sink).written (g.W.Sink.state c.write_line.new.sink).written
-      c.loop-numbered.block c.write_line.new.block
-      c.in-Some.numbered.0 c.in-Some.numbered.1 (reverse c.take_last.new.lines.items) c.args.lines.items (rw (turned c.loop-numbered.lines.items c.take_last.new.lines.items c.in-Some.numbered c.in-Some.ensures) at c.loop-numbered.invariant.running)
-      c.in_ok-write_line.ensures.ok;
-  unfailed =
-      (c.in_ok-write_line.ensures.writes.0 ∙ c.loop-numbered.invariant.unfailed.0, c.in_ok-write_line.ensures.writes.1 ∙ c.loop-numbered.invariant.unfailed.1);
-}
+    c.in_err-written.ensures.err)
 
 pub loop-numbered-preserved : goal.loop-numbered-preserved
 loop-numbered-preserved g c = record {
   running =
-      running_more c.args.self.now.settings c.loop-numbered.self c.write_line.new.self (g.W.Sink.state c.args.sink.now).written (g.W.Sink.state c.loop-numbered.sink).written (g.W.Sink.state c.write_line.new.sink).written
-      c.loop-numbered.block c.write_line.new.block
+      running_more c.args.self.now.settings c.loop-numbered.self c.write_line-written.new.self (g.W.Sink.state c.args.sink.now).written (g.W.Sink.state c.loop-numbered.sink).written (g.W.Sink.state c.write_line-written.new.sink).written
+      c.loop-numbered.block c.write_line-written.new.block
       c.in-Some.numbered.0 c.in-Some.numbered.1 (reverse c.take_last.new.lines.items) c.args.lines.items (rw (turned c.loop-numbered.lines.items c.take_last.new.lines.items c.in-Some.numbered c.in-Some.ensures) at c.loop-numbered.invariant.running)
-      c.in_ok-write_line.ensures.ok;
+      c.in_ok-written.ensures.ok;
   unfailed =
-      (c.in_ok-write_line.ensures.writes.0 ∙ c.loop-numbered.invariant.unfailed.0, c.in_ok-write_line.ensures.writes.1 ∙ c.loop-numbered.invariant.unfailed.1);
+      (c.in_ok-written.ensures.writes.0 ∙ c.loop-numbered.invariant.unfailed.0, c.in_ok-written.ensures.writes.1 ∙ c.loop-numbered.invariant.unfailed.1);
 }
 
 pub returns-clause-ok : goal.returns-clause-ok

@@ -1,8 +1,16 @@
-use Rattle.std.proofs.Common.{ap}
+use Rattle.std.proofs.Common.{ap, arith, subst, sym}
+use Rattle.std.specs.List.Sorted.{IsStrictlyIncreasing}
+use Rattle.std.specs.Map.{keys_of}
 use Rattle.std.specs.Option.{option_copied}
 use Rattle.gn_tables.proofs.OutputLemmas.{lookup_rows}
-use Rattle.gn_tables.proofs.PlaceLemmas.{placed, unplaced}
+use Rattle.gn_tables.proofs.PlaceLemmas.{found_within, placed, unplaced}
 use Rattle.gn_tables.proofs.neighbours.Neighbours.first.Goals as goal
+
+pub place_of-requires : goal.place_of-requires
+place_of-requires g c = subst (λ rows. IsStrictlyIncreasing (keys_of rows)) (sym c.deref.ensures.value) c.self.invariant.ascending
+
+pub index-requires : goal.index-requires
+index-requires g c = omega (arith, found_within c.args.connection c.deref.result.now c.in_ok-place.place c.in_ok-place.ensures, c.deref.ensures.len)
 
 pub returns-in_err-place : goal.returns-in_err-place
 returns-in_err-place g c =

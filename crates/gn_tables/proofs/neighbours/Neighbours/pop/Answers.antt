@@ -1,7 +1,15 @@
-use Rattle.std.proofs.Common.{drop, refl}
+use Rattle.std.proofs.Common.{arith, drop, refl, subst, sym}
+use Rattle.std.specs.List.Sorted.{IsStrictlyIncreasing}
+use Rattle.std.specs.Map.{keys_of}
 use Rattle.gn_tables.proofs.OutputLemmas.{popped_row, none_changed, lookup_rows}
-use Rattle.gn_tables.proofs.PlaceLemmas.{placed, unplaced, written}
+use Rattle.gn_tables.proofs.PlaceLemmas.{found_within, placed, unplaced, written}
 use Rattle.gn_tables.proofs.neighbours.Neighbours.pop.Goals as goal
+
+pub place_of-requires : goal.place_of-requires
+place_of-requires g c = subst (λ rows. IsStrictlyIncreasing (keys_of rows)) (sym c.deref.ensures.value) c.self.invariant.ascending
+
+pub index_mut-requires : goal.index_mut-requires
+index_mut-requires g c = omega (arith, found_within c.args.connection c.deref.result.now c.in_ok-place.place c.in_ok-place.ensures, c.deref.ensures.len)
 
 pub returns-in_err-place-clause-first : goal.returns-in_err-place-clause-first
 returns-in_err-place-clause-first g c =

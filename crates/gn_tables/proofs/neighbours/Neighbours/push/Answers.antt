@@ -1,7 +1,15 @@
-use Rattle.std.proofs.Common.{refl}
+use Rattle.std.proofs.Common.{arith, refl, subst, sym}
+use Rattle.std.specs.List.Sorted.{IsStrictlyIncreasing}
+use Rattle.std.specs.Map.{keys_of}
 use Rattle.gn_tables.proofs.OutputLemmas.{pushed_row, lookup_rows}
-use Rattle.gn_tables.proofs.PlaceLemmas.{placed, unplaced, written}
+use Rattle.gn_tables.proofs.PlaceLemmas.{found_within, placed, unplaced, written}
 use Rattle.gn_tables.proofs.neighbours.Neighbours.push.Goals as goal
+
+pub place_of-requires : goal.place_of-requires
+place_of-requires g c = subst (λ rows. IsStrictlyIncreasing (keys_of rows)) (sym c.deref.ensures.value) c.self.invariant.ascending
+
+pub index_mut-requires : goal.index_mut-requires
+index_mut-requires g c = omega (arith, found_within c.args.connection c.deref.result.now c.in-Some.place c.in-Some.ensures, c.deref.ensures.len)
 
 pub returns-in_default-clause-err : goal.returns-in_default-clause-err
 returns-in_default-clause-err g c =

@@ -1,8 +1,16 @@
-use Rattle.std.proofs.Common.{◌∙◌, arith, refl}
+use Rattle.std.proofs.Common.{arith, refl, subst, sym, ◌∙◌}
+use Rattle.std.specs.List.Sorted.{IsStrictlyIncreasing}
+use Rattle.std.specs.Map.{keys_of}
 use Rattle.gn_tables.specs.Outputs.{IsRing}
 use Rattle.gn_tables.proofs.OutputLemmas.{found_ring, lookup_rows, none_left_out, removed}
-use Rattle.gn_tables.proofs.PlaceLemmas.{placed, taken, unplaced}
+use Rattle.gn_tables.proofs.PlaceLemmas.{found_within, placed, taken, unplaced}
 use Rattle.gn_tables.proofs.neighbours.Neighbours.remove.Goals as goal
+
+pub place_of-requires : goal.place_of-requires
+place_of-requires g c = subst (λ rows. IsStrictlyIncreasing (keys_of rows)) (sym c.deref.ensures.value) c.self.invariant.ascending
+
+pub remove-ring-requires : goal.remove-ring-requires
+remove-ring-requires g c = omega (arith, found_within c.args.connection c.deref.result.now c.in_ok-place.place c.in_ok-place.ensures, c.deref.ensures.len)
 
 pub returns-in_err-place-clause-value : goal.returns-in_err-place-clause-value
 returns-in_err-place-clause-value g c =
