@@ -1,14 +1,15 @@
 -- One receipt more.
-use Rattle.std.proofs.Common.{◌≡◌, ◌⊎◌, inl, inr, ℕ, true, List, [], ◌∷◌, ◌++◌, Option, Some, None, refl, ap, ◌∙◌, sym, append_assoc, append-nil}
+use Rattle.std.proofs.Common.{◌≡◌, ◌⊎◌, inl, inr, ℕ, Bool, true, not, List, [], ◌∷◌, ◌++◌, filter, is_some, map, Option, Some, None, refl, ap, ◌∙◌, sym, append-nil}
 use Rattle.std.proofs.lemmas.List.{map-append}
 use Rattle.gn_wire.specs.Packet.{Packet}
+use Rattle.gn_rules.specs.declared.event.Event.{Event}
 use Rattle.gn_rules.specs.declared.event.Event.TheVariants.{Admit, Close, Connect, Route}
 use Rattle.gn_rules.specs.declared.receipt.Receipt.{Receipt}
 use Rattle.gn_rules.specs.declared.reply.Reply.{Reply}
 use Rattle.gn_rules.specs.declared.reply.Reply.TheVariants.{Connected, TooMany, Closed, Admitted, Busy, Crowded, Routed, Dropped, Taken, Sent}
 use Rattle.std.specs.Option.{option_or}
-use Rattle.std.proofs.lemmas.List.Elements.{filter_map-append}
-use Rattle.gn_rules.specs.History.{admitted_of, connected_of, taken_of}
+use Rattle.std.proofs.lemmas.List.Elements.{filter-append, filter_map-append}
+use Rattle.gn_rules.specs.History.{admitted_of, connected_of, taken_of, ticket_of}
 use Rattle.gn_laws.specs.Owners.{known_conn}
 use Rattle.gn_laws.specs.Owners as laws
 use Rattle.gn_stage.specs.Jobs.{Queued}
@@ -16,12 +17,14 @@ use Rattle.gn_hub.specs.ActorState.{ActorState, receipt, with_receipt}
 use Rattle.gn_rules.specs.Fits.{replies}
 use Rattle.gn_hub.specs.Receipts.{HasDrained, HasReceipt}
 use Rattle.gn_bodies.specs.Admitting.{HasAdmitted, KeepsConnection}
-use Rattle.gn_bodies.specs.Events.{events_of, link_event, link_events, link_events_in, connection_of, packets_of, MayClose}
+use Rattle.gn_bodies.specs.Events.{events_of, link_events, link_events_in, connection_of, packets_of, MayClose}
 use Rattle.gn_bodies.specs.ReaderRows.{WithClose}
 
-link_events-push : {A : Type 0} (rs : List (Receipt A)) (r : Receipt A) → link_events_in (rs ++ r ∷ []) ≡ link_events_in rs ++ link_event r.event
-link_events-push [] r = append-nil (link_event r.event)
-link_events-push (x ∷ rs) r = ap (λ w. link_event x.event ++ w) (link_events-push rs r) ∙ sym (append_assoc (link_event x.event) (link_events_in rs) (link_event r.event))
+link_events-push : {A : Type 0} (rs : List (Receipt A)) (r : Receipt A) → link_events_in (rs ++ r ∷ []) ≡ link_events_in rs ++ link_events_in (r ∷ [])
+link_events-push {A} rs r =
+    let is_link : Event A → Bool = λ event. not (is_some (ticket_of event)) in
+    let event : Receipt A → Event A = λ x. x.event in
+    ap (filter is_link) (map-append event rs (r ∷ [])) ∙ filter-append is_link (map event rs) (r.event ∷ [])
 
 or-none : (o : Option ℕ) → option_or o None ≡ o
 or-none None = refl
@@ -36,7 +39,7 @@ connection-push [] r = or-none (connected_of r.reply)
 connection-push (x ∷ rs) r = ap (λ o. option_or (connected_of x.reply) o) (connection-push rs r) ∙ or-assoc (connected_of x.reply) (known_conn rs) (connected_of r.reply)
 
 -- what one receipt does to the events, the connection and the packets
-pub link_events-receipt : {A : Type 0} (me us : ActorState A) (r : Receipt A) → us ≡ with_receipt me r → link_events us ≡ link_events me ++ link_event r.event
+pub link_events-receipt : {A : Type 0} (me us : ActorState A) (r : Receipt A) → us ≡ with_receipt me r → link_events us ≡ link_events me ++ link_events_in (r ∷ [])
 link_events-receipt me us r got = ap link_events got ∙ link_events-push me.receipts r
 
 pub connection-receipt : {A : Type 0} (me us : ActorState A) (r : Receipt A) → us ≡ with_receipt me r → KeepsConnection me us

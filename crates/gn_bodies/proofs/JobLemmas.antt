@@ -1,5 +1,5 @@
 -- The jobs that receipts leave, with one receipt more.
-use Rattle.std.proofs.Common.{◌≡◌, inl, inr, ℕ, Bool, true, false, cond, List, [], ◌∷◌, ◌++◌, Some, None, refl, ap, ◌∙◌, sym, append_assoc, append-nil, arith, nat_eq}
+use Rattle.std.proofs.Common.{◌≡◌, inl, inr, ℕ, Bool, true, false, cond, List, [], ◌∷◌, ◌++◌, map, Some, None, refl, ap, ◌∙◌, sym, append_assoc, append-nil, arith, nat_eq}
 use Rattle.std.proofs.lemmas.List.{map-append}
 use Rattle.gn_wire.specs.Packet.{Packet}
 use Rattle.gn_rules.specs.declared.event.Event.{Event}
@@ -104,6 +104,10 @@ settled_routed jobs job t me us ticket is (index, reply, fits, got) refused inta
     ∙ ap (λ u. jobs_left ((is.earlier ++ receipt is.index (Admit is.connection job.descriptor) (Admitted job.ticket) ∷ []) ++ receipt index (Route u) reply ∷ [])) ticket
     ∙ jobs_left-routed is.earlier is.index index is.connection job.ticket job.descriptor reply in
     ap (λ w. w.jobs) intake ∙ is.settled (sym refused ∙ other) ∙ ap (λ w. jobs ++ w) (sym left)
+
+-- an actor that did nothing has routed nothing
+pub routes_none : {A : Type 0} (start : List (Event A)) (me : ActorState A) → me.receipts ≡ [] → start ≡ start ++ events_of me
+routes_none {A} start me none = sym (ap (λ (rs : List (Receipt A)). start ++ map (λ r. r.event) rs) none ∙ append-nil start)
 
 -- a job more was taken, and routed
 pub routes_more : {A : Type 0} (start : List (Event A)) (job : Queued) (before after : End Queued) (me us : ActorState A) → after ≡ with_job before job

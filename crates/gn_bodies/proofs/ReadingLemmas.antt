@@ -1,13 +1,13 @@
 -- A reader's bytes so far.
-use Rattle.std.proofs.Common.{◌≡◌, ℕ, ◌<◌, All, true, false, cond, List, [], ◌∷◌, ◌++◌, length, map, take, drop, Option, Some, None, refl, sym, ap, ◌∙◌, subst, append_assoc}
+use Rattle.std.proofs.Common.{◌≡◌, ℕ, ◌<◌, All, true, false, List, [], ◌∷◌, ◌++◌, length, map, take, drop, Option, Some, None, refl, sym, ap, ◌∙◌, subst, append_assoc}
 use Rattle.std.proofs.lemmas.List.{drop_at}
 use Rattle.std.proofs.lemmas.List.Elements.{All-nil}
 use Rattle.gn_wire.specs.declared.header.FrameFault.{FrameFault}
-use Rattle.gn_frames.specs.Frames.{Frames, frames_of, no_frames}
-use Rattle.gn_rules.specs.declared.event.Event.TheVariants.{Connect}
+use Rattle.gn_frames.specs.Frames.{Frames, frames_of}
+use Rattle.gn_rules.specs.declared.event.Event.TheVariants.{Admit, Connect}
 use Rattle.gn_shake.specs.declared.shake.ShakeState.{ShakeState}
 use Rattle.gn_shake.specs.declared.shake.ShakeState.TheVariants.{More, Done}
-use Rattle.gn_shake.specs.Greeting.{GreetingIsKnown, greeting_state}
+use Rattle.gn_shake.specs.Greeting.{GreetingIsKnown, greeting_state, greeting_of}
 use Rattle.gn_shake.specs.Shaking.{Shaking, answer_of, fed, used_of, shake_of, PiecesAreOneStream}
 use Rattle.std.specs.Prelude.{IfOk, OnOk, Result}
 use Rattle.gn_rules.specs.declared.event.Event.{Event}
@@ -21,11 +21,8 @@ use Rattle.gn_shake.specs.declared.role.Role.{Role}
 use Rattle.gn_bodies.specs.declared.piece.Reading.{Reading}
 use Rattle.gn_bodies.specs.declared.piece.Reading.TheVariants as reading
 use Rattle.gn_hub.specs.ActorState.{ActorState}
-use Rattle.gn_bodies.specs.Events.{events_of, link_events, link_events_in, connection_of, offered_events}
-use Rattle.gn_shake.specs.Roles.{greeting_of}
-use Rattle.gn_links.specs.Halves.{Source}
-use Rattle.gn_links.specs.Views.{IsNewReader, IsReadFrom, ReadHalf}
-use Rattle.gn_bodies.specs.Offers.{frames_after, is_done}
+use Rattle.gn_bodies.specs.Events.{events_of, link_events, link_events_in, connection_of}
+use Rattle.gn_links.specs.Halves.{Source, IsNewReader, IsReadFrom, ReadHalf}
 use Rattle.gn_bodies.specs.ReaderRows.{ConnectedRow, ReaderRow, SourceRow, WithClose}
 use Rattle.gn_bodies.specs.Reading.{HasConnection, IsOffering, IsReading, ReadRow, OpenRow, reading_connection, end_of_bytes, is_of_bytes, closes}
 
@@ -33,28 +30,30 @@ use Rattle.gn_bodies.specs.Reading.{HasConnection, IsOffering, IsReading, ReadRo
 pub accepted : GreetingIsKnown → (role : Role) (b s : List ℕ) → b ≡ greeting_of role ++ s → greeting_state (greeting_of role) b ≡ Done
 accepted known role b s whole = sym ((known (greeting_of role) b Done).0 (s, whole))
 
--- the frames after the greeting, where it is accepted
-pub after_greeting : GreetingIsKnown → (role : Role) (b s : List ℕ) → b ≡ greeting_of role ++ s → frames_after role b ≡ frames_of s
-after_greeting known role b s whole =
+-- the frames after the greeting
+abbrev pub frames_after : Role → List ℕ → Frames
+frames_after role b = frames_of (drop (length (greeting_of role)) b)
+
+pub after_greeting : (role : Role) (b s : List ℕ) → b ≡ greeting_of role ++ s → frames_after role b ≡ frames_of s
+after_greeting role b s whole =
     let g = greeting_of role in
-    ap (λ (w : ShakeState). cond (is_done w) (frames_of (drop (length g) b)) (no_frames [] None)) (accepted known role b s whole)
-    ∙ ap frames_of (ap (drop (length g)) whole ∙ drop_at g s (length g) refl)
+    ap frames_of (ap (drop (length g)) whole ∙ drop_at g s (length g) refl)
 
 -- a joined link goes on
 pub whole_more : (role : Role) (b s piece : List ℕ) → b ≡ greeting_of role ++ s → b ++ piece ≡ greeting_of role ++ (s ++ piece)
 whole_more role b s piece whole = ap (λ w. w ++ piece) whole ∙ append_assoc (greeting_of role) s piece
 
 pub fault_row : {A : Type 0} → GreetingIsKnown → (role : Role) (b s : List ℕ) (c : ℕ) (f : FrameFault) (me : ActorState A) → b ≡ greeting_of role ++ s
-    → (frames_of s).fault ≡ Some f → link_events me ≡ offered_events c (frames_of s).descriptors → ReadRow role (Fault f) (Some c) (link_events me) b
+    → (frames_of s).fault ≡ Some f → link_events me ≡ Connect ∷ map (Admit c) (frames_of s).descriptors → ReadRow role (Fault f) (Some c) (link_events me) b
 fault_row known role b s c f me whole ends events =
-    let is = after_greeting known role b s whole in
-    let all = ap (λ (w : Frames). offered_events c w.descriptors) (sym is) in
+    let is = after_greeting role b s whole in
+    let all = ap (λ (w : Frames). Connect ∷ map (Admit c) w.descriptors) (sym is) in
     (accepted known role b s whole, (ap (λ (w : Frames). w.fault) is ∙ ends, events ∙ all))
 
 pub not_live_row : {A : Type 0} → GreetingIsKnown → (role : Role) (b s : List ℕ) (c : ℕ) (me : ActorState A) → b ≡ greeting_of role ++ s
-    → ((n : ℕ) × (n < length (frames_of s).descriptors) × (link_events me ≡ offered_events c (take n (frames_of s).descriptors))) → ReadRow role NotLive (Some c) (link_events me) b
+    → ((n : ℕ) × (n < length (frames_of s).descriptors) × (link_events me ≡ Connect ∷ map (Admit c) (take n (frames_of s).descriptors))) → ReadRow role NotLive (Some c) (link_events me) b
 not_live_row known role b s c me whole part =
-    let row = subst (λ (w : Frames). (n : ℕ) × (n < length w.descriptors) × (link_events me ≡ offered_events c (take n w.descriptors))) (sym (after_greeting known role b s whole)) part in
+    let row = subst (λ (w : Frames). (n : ℕ) × (n < length w.descriptors) × (link_events me ≡ Connect ∷ map (Admit c) (take n w.descriptors))) (sym (after_greeting role b s whole)) part in
     (accepted known role b s whole, row)
 
 -- a link that just connected
@@ -92,20 +91,20 @@ pub failed_row : {A : Type 0} → GreetingIsKnown → (role : Role) (r : Reading
     → ReadRow role ReadFailed (reading_connection r) (link_events me) b
 failed_row known role (reading.Greeting shake) b me (kept, more) has = (more, none_done me has)
 failed_row known role (reading.Joined c frames) b me is has =
-    (accepted known role b is.stream is.whole, is.offering.events ∙ ap (λ (w : Frames). offered_events c w.descriptors) (sym (after_greeting known role b is.stream is.whole)))
+    (accepted known role b is.stream is.whole, is.offering.events ∙ ap (λ (w : Frames). Connect ∷ map (Admit c) w.descriptors) (sym (after_greeting role b is.stream is.whole)))
 
 pub turns_row : {A : Type 0} → GreetingIsKnown → (role : Role) (r : Reading A) (b : List ℕ) (me : ActorState A) → IsReading role r b me → HasConnection r me
     → ReadRow role Turns (reading_connection r) (link_events me) b
 turns_row known role (reading.Greeting shake) b me (kept, more) has = (more, none_done me has)
 turns_row known role (reading.Joined c frames) b me is has =
-    (accepted known role b is.stream is.whole, is.offering.events ∙ ap (λ (w : Frames). offered_events c w.descriptors) (sym (after_greeting known role b is.stream is.whole)))
+    (accepted known role b is.stream is.whole, is.offering.events ∙ ap (λ (w : Frames). Connect ∷ map (Admit c) w.descriptors) (sym (after_greeting role b is.stream is.whole)))
 
 pub ended_row : {A : Type 0} → GreetingIsKnown → (role : Role) (r : Reading A) (b : List ℕ) (me : ActorState A) → IsReading role r b me → HasConnection r me
     → ReadRow role (end_of_bytes r) (reading_connection r) (link_events me) b
 ended_row known role (reading.Greeting shake) b me (kept, more) has = (more, none_done me has)
 ended_row known role (reading.Joined c frames) b me is has =
-    let same = after_greeting known role b is.stream is.whole in
-    let all = ap (λ (w : Frames). offered_events c w.descriptors) (sym same) in
+    let same = after_greeting role b is.stream is.whole in
+    let all = ap (λ (w : Frames). Connect ∷ map (Admit c) w.descriptors) (sym same) in
     (accepted known role b is.stream is.whole, (ap (λ (w : Frames). w.fault) same ∙ is.offering.clean, is.offering.events ∙ all))
 
 pub conn_of_reading : {A : Type 0} (r : Reading A) (me : ActorState A) → HasConnection r me → connection_of me ≡ reading_connection r
@@ -138,26 +137,26 @@ end_not_failed (reading.Greeting shake) end is failed = let no : GreetingCut ≡
 end_not_failed (reading.Joined c frames) end is failed = let no : Bytes ≡ ReadFailed = sym is ∙ failed in absurd (cc)
 
 -- a reader that closed, or closed nothing
-pub closed_row : {A : Type 0} (role : Role) (end : ReaderEnd) (c : ℕ) (es before : List (Event A)) (b : List ℕ) → closes end ≡ true → OpenRow role end c before b → WithClose c es before
-    → ConnectedRow role end c es b
-closed_row role Bytes c es before b is row more = absurd (cc)
-closed_row {A} role (Fault f) c es before b is row more = (row.0, subst (λ (w : List (Event A)). WithClose c es w) row.1 more)
-closed_row {A} role ReadFailed c es before b is row more = subst (λ (w : List (Event A)). WithClose c es w) row more
-closed_row {A} role Turns c es before b is row more = subst (λ (w : List (Event A)). WithClose c es w) row more
-closed_row role GreetingRefused c es before b is row more = absurd (cc)
-closed_row role GreetingCut c es before b is row more = absurd (cc)
-closed_row role TooMany c es before b is row more = absurd (cc)
-closed_row role NotLive c es before b is row more = absurd (cc)
+pub closed_row : {A : Type 0} (end : ReaderEnd) (c : ℕ) (es before : List (Event A)) (frames : Frames) → closes end ≡ true → OpenRow end c before frames → WithClose c es before
+    → ConnectedRow end c es frames
+closed_row Bytes c es before frames is row more = absurd (cc)
+closed_row {A} (Fault f) c es before frames is row more = (row.0, subst (λ (w : List (Event A)). WithClose c es w) row.1 more)
+closed_row {A} ReadFailed c es before frames is row more = subst (λ (w : List (Event A)). WithClose c es w) row more
+closed_row {A} Turns c es before frames is row more = subst (λ (w : List (Event A)). WithClose c es w) row more
+closed_row GreetingRefused c es before frames is row more = absurd (cc)
+closed_row GreetingCut c es before frames is row more = absurd (cc)
+closed_row TooMany c es before frames is row more = absurd (cc)
+closed_row NotLive c es before frames is row more = absurd (cc)
 
-pub open_row : {A : Type 0} (role : Role) (end : ReaderEnd) (c : ℕ) (es : List (Event A)) (b : List ℕ) → closes end ≡ false → OpenRow role end c es b → ConnectedRow role end c es b
-open_row role Bytes c es b is row = row
-open_row role (Fault f) c es b is row = absurd (cc)
-open_row role ReadFailed c es b is row = absurd (cc)
-open_row role Turns c es b is row = absurd (cc)
-open_row role GreetingRefused c es b is row = absurd row
-open_row role GreetingCut c es b is row = absurd row
-open_row role TooMany c es b is row = absurd row
-open_row role NotLive c es b is row = row
+pub open_row : {A : Type 0} (end : ReaderEnd) (c : ℕ) (es : List (Event A)) (frames : Frames) → closes end ≡ false → OpenRow end c es frames → ConnectedRow end c es frames
+open_row Bytes c es frames is row = row
+open_row (Fault f) c es frames is row = absurd (cc)
+open_row ReadFailed c es frames is row = absurd (cc)
+open_row Turns c es frames is row = absurd (cc)
+open_row GreetingRefused c es frames is row = absurd row
+open_row GreetingCut c es frames is row = absurd row
+open_row TooMany c es frames is row = absurd row
+open_row NotLive c es frames is row = row
 
 -- of a new reader nothing was read
 pub nothing_read : (source : Source) (half : ReadHalf) → IsNewReader half → IsReadFrom source half
@@ -176,15 +175,15 @@ unconnected_row role end None es b is row = row
 unconnected_row role end (Some c) es b is row = absurd (cc)
 
 pub connected_row : {A : Type 0} (role : Role) (end : ReaderEnd) (made : Option ℕ) (c : ℕ) (es before : List (Event A)) (b : List ℕ) → made ≡ Some c
-    → (OpenRow role end c before b → ConnectedRow role end c es b) → ReadRow role end made before b → ReaderRow role end made es b
+    → (OpenRow end c before (frames_after role b) → ConnectedRow end c es (frames_after role b)) → ReadRow role end made before b → ReaderRow role end made es b
 connected_row {A} role end made c es before b is closes row =
-    let here : (greeting_state (greeting_of role) b ≡ Done) × OpenRow role end c before b = subst (λ (o : Option ℕ). ReadRow role end o before b) is row in
+    let here : (greeting_state (greeting_of role) b ≡ Done) × OpenRow end c before (frames_after role b) = subst (λ (o : Option ℕ). ReadRow role end o before b) is row in
     subst (λ (o : Option ℕ). ReaderRow role end o es b) (sym is) (here.0, closes here.1)
 
 -- what a reader promises of its half, by what it read
 pub reading_done : {A Rd O : Type 0} (state : Rd → ReadHalf) (made_of : Rd → O) (gives : O → Source) (link : Half Rd) (me : ActorState A) (half : Rd) (end : Result ReaderEnd BodyFault)
     → made_of half ≡ made_of link.half → IsReadFrom (gives (made_of half)) (state half)
-    → IfOk end (λ e. ReadsAs link.role e (connection_of me) (link_events me) (state half))
+    → IfOk end (λ e. ReadsAs link.role e (connection_of me) me.receipts (state half))
     → OnOk end (connection_of me ≡ None → events_of me ≡ link_events me)
     → IfOk end (λ e. e ≡ ReadFailed → (gives (made_of half)).may_fail ≡ true)
     → IsReaderDone state made_of gives link (record { receipts = me.receipts; half = half; end = end })

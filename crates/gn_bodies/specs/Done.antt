@@ -1,11 +1,11 @@
 -- What the bodies of a link give back, and what they promise of it.
-use Rattle.std.specs.Prelude.{◌≡◌, ℕ, true, List, map, IfOk, OnOk, Option, None, Result}
+use Rattle.std.specs.Prelude.{◌≡◌, ◌<◌, ◌⊎◌, ℕ, true, not, List, ◌++◌, filter, is_some, map, IfOk, OnOk, Option, None, Result}
+use Rattle.gn_wire.specs.Encoding.{bytes_of}
 use Rattle.gn_wire.specs.Packet.{Packet}
-use Rattle.gn_rules.specs.declared.event.Event.{Event}
 use Rattle.gn_rules.specs.declared.receipt.Receipt.{Receipt}
+use Rattle.gn_rules.specs.History.{ticket_of}
 use Rattle.gn_shake.specs.declared.role.Role.{Role}
-use Rattle.gn_links.specs.Halves.{Source}
-use Rattle.gn_links.specs.Views.{IsReadFrom, ReadHalf, WrittenHalf}
+use Rattle.gn_links.specs.Halves.{Source, IsReadFrom, ReadHalf, WrittenHalf}
 use Rattle.gn_bodies.specs.declared.ends.BodyFault.{BodyFault}
 use Rattle.gn_bodies.specs.declared.ends.ReaderEnd.{ReaderEnd}
 use Rattle.gn_bodies.specs.declared.ends.ReaderEnd.TheVariants.{ReadFailed}
@@ -16,7 +16,7 @@ use Rattle.gn_bodies.specs.declared.writer.WriterDone.{WriterDone}
 use Rattle.gn_bodies.specs.Events.{link_events_in}
 use Rattle.gn_laws.specs.Owners.{known_conn, packets_of}
 use Rattle.gn_bodies.specs.ReaderRows.{ReaderRow, SourceRow}
-use Rattle.gn_bodies.specs.Written.{IsHurt, WriterRow}
+use Rattle.gn_bodies.specs.Written.{WriterRow, opening_texts}
 
 -- a half of a link before its body began, and how the link begins
 pub record Half (H : Type 0) : Type 0 where
@@ -37,26 +37,26 @@ pub record Ended (A E H : Type 0) : Type 0 where
 abbrev pub halved : {A E H T : Type 0} → (H → T) → Ended A E H → Ended A E T
 halved view body = record { receipts = body.receipts; half = view body.half; end = body.end }
 
--- what a reader's end says of the connection, of the events except the routes, and of the half that was read
-pub record ReadsAs {A : Type 0} (role : Role) (end : ReaderEnd) (conn : Option ℕ) (events : List (Event A))
+-- what a reader's end says of the connection, of the receipts, and of the half that was read
+pub record ReadsAs {A : Type 0} (role : Role) (end : ReaderEnd) (conn : Option ℕ) (receipts : List (Receipt A))
     (half : ReadHalf) : Type 0 where
-  -- its events and its bytes are as the table of ends says, where the bytes are known
-  pub row : half.is_known ≡ true → ReaderRow role end conn events half.bytes
+  -- its events except the routes, in order, and its bytes are as the table of ends says, where the bytes are known
+  pub row : half.is_known ≡ true
+      → ReaderRow role end conn (filter (λ event. not (is_some (ticket_of event))) (map (λ r. r.event) receipts)) half.bytes
   -- the half ended, failed, or gave bytes as often as may be, where the end says so
   pub counts : SourceRow end half
 
 -- what a writer's end says of the packets that were taken, and of the half that was written
 pub record WritesAs (role : Role) (end : WriterEnd) (packets : List Packet) (half : WrittenHalf) : Type 0 where
   -- what was written are the opening text and the packets, all or up to where a write failed, where the bytes are known
-  pub row : half.is_known ≡ true → WriterRow end role packets half.bytes
+  pub row : half.is_known ≡ true → WriterRow end role (opening_texts role ++ map bytes_of packets) half.bytes
   -- a write failed, or took nothing, where the end says so
-  pub hurt : end ≡ WriteFailed → IsHurt half
+  pub hurt : end ≡ WriteFailed → (0 < half.failures) ⊎ (half.is_stuck ≡ true)
 
 -- a reader's receipts and its half are as its end says, where it has one
 abbrev pub ReaderKeeps : {A : Type 0} → Role → Ended A ReaderEnd ReadHalf → Type 0
 ReaderKeeps role body =
-    IfOk body.end (λ end.
-    ReadsAs role end (known_conn body.receipts) (link_events_in body.receipts) body.half)
+    IfOk body.end (λ end. ReadsAs role end (known_conn body.receipts) body.receipts body.half)
 
 -- so are a writer's, and its half is finished
 abbrev pub WriterKeeps : {A : Type 0} → Role → Ended A WriterEnd WrittenHalf → Type 0

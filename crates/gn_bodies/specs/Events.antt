@@ -1,10 +1,11 @@
 -- What the receipts of an actor say of its events.
-use Rattle.std.specs.Prelude.{◌≡◌, ◌⊎◌, ℕ, List, [], ◌∷◌, ◌++◌, map, Option}
+use Rattle.std.specs.Prelude.{◌≡◌, ◌⊎◌, ℕ, not, List, filter, is_some, map, Option}
 use Rattle.gn_wire.specs.Packet.{Packet}
 use Rattle.gn_rules.specs.declared.event.Event.{Event}
-use Rattle.gn_rules.specs.declared.event.Event.TheVariants.{Connect, Close, Admit, Route, Take, Originate}
+use Rattle.gn_rules.specs.declared.event.Event.TheVariants.{Close}
 use Rattle.gn_rules.specs.declared.receipt.Receipt.{Receipt}
 use Rattle.gn_rules.specs.declared.reply.Reply.TheVariants.{Closed}
+use Rattle.gn_rules.specs.History.{ticket_of}
 use Rattle.gn_laws.specs.Owners.{known_conn}
 use Rattle.gn_laws.specs.Owners as laws
 use Rattle.gn_hub.specs.ActorState.{ActorState, receipt, with_receipt}
@@ -13,19 +14,9 @@ use Rattle.gn_hub.specs.ActorState.{ActorState, receipt, with_receipt}
 abbrev pub events_of : {A : Type 0} → ActorState A → List (Event A)
 events_of me = map (λ r. r.event) me.receipts
 
--- an event, unless it is a route
-abbrev pub link_event : {A : Type 0} → Event A → List (Event A)
-link_event (Route t) = []
-link_event Connect = Connect ∷ []
-link_event (Close c) = Close c ∷ []
-link_event (Admit c d) = Admit c d ∷ []
-link_event (Take c) = Take c ∷ []
-link_event (Originate d) = Originate d ∷ []
-
 -- the events of these receipts except the routes, in order
 abbrev pub link_events_in : {A : Type 0} → List (Receipt A) → List (Event A)
-link_events_in [] = []
-link_events_in (r ∷ rs) = link_event r.event ++ link_events_in rs
+link_events_in receipts = filter (λ event. not (is_some (ticket_of event))) (map (λ r. r.event) receipts)
 
 -- an actor's events except its routes, in order
 abbrev pub link_events : {A : Type 0} → ActorState A → List (Event A)
@@ -34,10 +25,6 @@ link_events me = link_events_in me.receipts
 -- the first connection that an actor's receipts made
 abbrev pub connection_of : {A : Type 0} → ActorState A → Option ℕ
 connection_of me = known_conn me.receipts
-
--- the events of a reader that connected as c and admitted these descriptors, in order
-abbrev pub offered_events : {A : Type 0} → ℕ → List Packet → List (Event A)
-offered_events c ds = Connect ∷ map (Admit c) ds
 
 -- the packets that an actor took, in order
 abbrev pub packets_of : {A : Type 0} → ActorState A → List Packet

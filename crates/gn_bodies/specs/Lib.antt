@@ -2,7 +2,6 @@ pub mod Admitting
 pub mod Done
 pub mod Events
 pub mod Jobs
-pub mod Offers
 pub mod ReaderRows
 pub mod Reading
 pub mod Stops

@@ -1,14 +1,14 @@
 -- What a reader keeps of its link, piece by piece.
-use Rattle.std.specs.Prelude.{◌≡◌, ◌<◌, ℕ, Bool, true, false, List, [], ◌++◌, length, take, Option, Some, None, ⊤}
+use Rattle.std.specs.Prelude.{◌≡◌, ◌<◌, ℕ, Bool, true, false, List, [], ◌∷◌, ◌++◌, drop, length, map, take, Option, Some, None, ⊤}
 use Rattle.gn_rules.specs.declared.event.Event.{Event}
-use Rattle.gn_frames.specs.Frames.{frames_of}
+use Rattle.gn_rules.specs.declared.event.Event.TheVariants.{Admit, Connect}
+use Rattle.gn_frames.specs.Frames.{Frames, frames_of}
 use Rattle.gn_frames.specs.Reassembly.{held_of}
 use Rattle.gn_shake.specs.declared.role.Role.{Role}
 use Rattle.gn_shake.specs.declared.shake.ShakeState.TheVariants.{More, Done}
-use Rattle.gn_shake.specs.Greeting.{greeting_state}
-use Rattle.gn_shake.specs.Roles.{greeting_of}
+use Rattle.gn_shake.specs.Greeting.{greeting_state, greeting_of}
 use Rattle.gn_shake.specs.Shaking.{shake_of}
-use Rattle.gn_links.specs.Views.{ReadHalf}
+use Rattle.gn_links.specs.Halves.{ReadHalf}
 use Rattle.gn_hub.specs.ActorState.{ActorState}
 use Rattle.gn_bodies.specs.declared.ends.ReaderEnd.{ReaderEnd}
 use Rattle.gn_bodies.specs.declared.ends.ReaderEnd.TheVariants.{Bytes, Fault, ReadFailed, Turns, GreetingCut, NotLive}
@@ -19,23 +19,24 @@ use Rattle.gn_bodies.specs.declared.piece.Piece.TheVariants as piece
 use Rattle.gn_bodies.specs.declared.piece.Reading.{Reading}
 use Rattle.gn_bodies.specs.declared.piece.Reading.TheVariants as reading
 use Rattle.gn_bodies.specs.Admitting.{Admitting, HasSameNumbers, StaysSettled}
-use Rattle.gn_bodies.specs.Events.{events_of, link_events, connection_of, offered_events}
-use Rattle.gn_bodies.specs.Offers.{offers, fault}
-use Rattle.gn_bodies.specs.ReaderRows.{SourceRow, UnconnectedRow}
+use Rattle.gn_bodies.specs.Events.{events_of, link_events, connection_of}
+use Rattle.gn_bodies.specs.ReaderRows.{ReaderRow, SourceRow}
 
 -- a reader that connected as c: its row, before it closes what it closes
-abbrev pub OpenRow : {A : Type 0} → Role → ReaderEnd → ℕ → List (Event A) → List ℕ → Type 0
-OpenRow role Bytes c es b = (fault role b ≡ None) × (es ≡ offered_events c (offers role b))
-OpenRow role (Fault f) c es b = (fault role b ≡ Some f) × (es ≡ offered_events c (offers role b))
-OpenRow role ReadFailed c es b = es ≡ offered_events c (offers role b)
-OpenRow role Turns c es b = es ≡ offered_events c (offers role b)
-OpenRow role NotLive c es b = (n : ℕ) × (n < length (offers role b)) × (es ≡ offered_events c (take n (offers role b)))
-OpenRow role end c es b = ⊥
+abbrev pub OpenRow : {A : Type 0} → ReaderEnd → ℕ → List (Event A) → Frames → Type 0
+OpenRow Bytes c es frames = (frames.fault ≡ None) × (es ≡ Connect ∷ map (Admit c) frames.descriptors)
+OpenRow (Fault f) c es frames = (frames.fault ≡ Some f) × (es ≡ Connect ∷ map (Admit c) frames.descriptors)
+OpenRow ReadFailed c es frames = es ≡ Connect ∷ map (Admit c) frames.descriptors
+OpenRow Turns c es frames = es ≡ Connect ∷ map (Admit c) frames.descriptors
+OpenRow NotLive c es frames =
+    (n : ℕ) × (n < length frames.descriptors) × (es ≡ Connect ∷ map (Admit c) (take n frames.descriptors))
+OpenRow end c es frames = ⊥
 
 -- a reader's row, before it closes what it closes
 abbrev pub ReadRow : {A : Type 0} → Role → ReaderEnd → Option ℕ → List (Event A) → List ℕ → Type 0
-ReadRow role end (Some c) es b = (greeting_state (greeting_of role) b ≡ Done) × OpenRow role end c es b
-ReadRow role end None es b = UnconnectedRow role end es b
+ReadRow role end (Some c) es b =
+    (greeting_state (greeting_of role) b ≡ Done) × OpenRow end c es (frames_of (drop (length (greeting_of role)) b))
+ReadRow role end None es b = ReaderRow role end None es b
 
 -- whether a connected reader closes its connection at this end
 abbrev pub closes : ReaderEnd → Bool
@@ -48,14 +49,14 @@ closes end = false
 pub record IsOffering {A : Type 0} (s : List ℕ) (c : ℕ) (frames : Option (List ℕ)) (me : ActorState A) : Type 0 where
   pub held : frames ≡ held_of (frames_of s)
   pub clean : (frames_of s).fault ≡ None
-  pub events : link_events me ≡ offered_events c (frames_of s).descriptors
+  pub events : link_events me ≡ Connect ∷ map (Admit c) (frames_of s).descriptors
 
 -- what a piece of these bytes after the greeting did
 abbrev pub IsDelivered : {A : Type 0} → Delivery → List ℕ → ℕ → Option (List ℕ) → ActorState A → Type 0
 IsDelivered delivery.More s c frames me = IsOffering s c frames me
-IsDelivered (delivery.Fault f) s c frames me = ((frames_of s).fault ≡ Some f) × (link_events me ≡ offered_events c (frames_of s).descriptors)
+IsDelivered (delivery.Fault f) s c frames me = ((frames_of s).fault ≡ Some f) × (link_events me ≡ Connect ∷ map (Admit c) (frames_of s).descriptors)
 IsDelivered delivery.NotLive s c frames me =
-    (n : ℕ) × (n < length (frames_of s).descriptors) × (link_events me ≡ offered_events c (take n (frames_of s).descriptors))
+    (n : ℕ) × (n < length (frames_of s).descriptors) × (link_events me ≡ Connect ∷ map (Admit c) (take n (frames_of s).descriptors))
 IsDelivered (delivery.Stop f) s c frames me = ⊤
 
 -- the bytes of a joined link are its greeting and what came after it, all of which is offered

@@ -1,15 +1,13 @@
 -- What a writer's end says of its receipts, of the packets that it took, and of the bytes that it wrote.
-use Rattle.std.specs.Prelude.{◌≡◌, ◌<◌, ◌⊎◌, ℕ, Bool, true, false, List, [], ◌∷◌, ◌++◌, take, map}
+use Rattle.std.specs.Prelude.{◌≡◌, ◌<◌, ◌⊎◌, ℕ, Bool, true, false, if◌then◌else◌, List, [], ◌∷◌, ◌++◌, take, map, Option, Some, None}
 use Rattle.std.specs.List.{concat}
-use Rattle.gn_wire.specs.Packet.{Packet}
-use Rattle.gn_wire.specs.Encoding.{bytes_of}
 use Rattle.gn_rules.specs.declared.event.Event.TheVariants.{Take}
 use Rattle.gn_shake.specs.declared.role.Role.{Role}
 use Rattle.gn_shake.specs.declared.role.Role.TheVariants.{Accepting, Calling, Plain}
-use Rattle.gn_shake.specs.Texts.{request_text, consent_text}
-use Rattle.gn_links.specs.Views.{WrittenHalf}
+use Rattle.gn_shake.specs.Greeting.{is_calling, request_text, consent_text}
+use Rattle.gn_links.specs.Halves.{WrittenHalf}
 use Rattle.gn_hub.specs.ActorState.{ActorState}
-use Rattle.gn_hub.specs.Receipts.{HasDrained}
+use Rattle.gn_hub.specs.Receipts.{HasDrained, HasTaken}
 use Rattle.gn_bodies.specs.declared.ends.WriterEnd.{WriterEnd}
 use Rattle.gn_bodies.specs.declared.ends.WriterEnd.TheVariants.{Drained, WriteFailed, Closed, NeverOpened}
 use Rattle.gn_bodies.specs.Events.{events_of, packets_of, MayClose}
@@ -20,41 +18,34 @@ opening_texts Accepting = consent_text ∷ []
 opening_texts Calling = request_text ∷ []
 opening_texts Plain = []
 
--- the texts of a link that never opened
-abbrev pub call_texts : Role → List (List ℕ)
-call_texts Calling = request_text ∷ []
-call_texts Accepting = []
-call_texts Plain = []
-
--- all texts of a writer that took these packets
-abbrev pub texts : Role → List Packet → List (List ℕ)
-texts role ds = opening_texts role ++ map bytes_of ds
-
--- all of the texts except the last, and a prefix of the last
-pub record Breaks (all : List (List ℕ)) (written : List ℕ) : Type 0 where
-  pub done : List (List ℕ)
-  pub last : List ℕ
-  pub part : ℕ
-  pub split : all ≡ done ++ last ∷ []
-  pub prefix : written ≡ concat done ++ take part last
-
--- what the end says of the packets that were taken, and of what was written
-abbrev pub WriterRow : WriterEnd → Role → List Packet → List ℕ → Type 0
-WriterRow Drained role ds written = written ≡ concat (texts role ds)
-WriterRow Closed role ds written = written ≡ concat (texts role ds)
-WriterRow WriteFailed role ds written = Breaks (texts role ds) written
-WriterRow NeverOpened role ds written = written ≡ concat (call_texts role)
-
--- a write failed, or took nothing of a nonempty piece
-abbrev pub IsHurt : WrittenHalf → Type 0
-IsHurt half = (0 < half.failures) ⊎ (half.is_stuck ≡ true)
+-- what the end says of what was written, where `texts` are the opening ones and the packets that were taken
+abbrev pub WriterRow : WriterEnd → Role → List (List ℕ) → List ℕ → Type 0
+WriterRow Drained role texts written = written ≡ concat texts
+WriterRow Closed role texts written = written ≡ concat texts
+-- all of them except the last, and a prefix of the last
+WriterRow WriteFailed role texts written =
+    (done : List (List ℕ)) × (last : List ℕ) × (n : ℕ) × (texts ≡ done ++ last ∷ []) × (written ≡ concat done ++ take n last)
+-- the request of a link that calls
+WriterRow NeverOpened role texts written = written ≡ (if is_calling role then request_text else [])
 
 -- what was written of a text: all of it; or a prefix, where a write failed or took nothing
 pub record HasWrittenText (is_all : Bool) (text : List ℕ) (before after : WrittenHalf) : Type 0 where
   pub known : after.is_known ≡ before.is_known
   pub all : is_all ≡ true → before.is_known ≡ true → after.bytes ≡ before.bytes ++ text
   pub part : is_all ≡ false → before.is_known ≡ true → (n : ℕ) × (after.bytes ≡ before.bytes ++ take n text)
-  pub hurt : is_all ≡ false → IsHurt after
+  pub hurt : is_all ≡ false → (0 < after.failures) ⊎ (after.is_stuck ≡ true)
+
+-- how a writer on connection c ends that found no packet: it closed the drained connection, or did nothing
+abbrev pub FoundNone : {A : Type 0} → WriterEnd → ℕ → ActorState A → ActorState A → Type 0
+FoundNone Drained c me us = HasDrained c me us
+FoundNone Closed c me us = us ≡ me
+FoundNone WriteFailed c me us = ⊥
+FoundNone NeverOpened c me us = ⊥
+
+-- what a writer on connection c did that asked for a packet: it took one, or found none, and ends
+abbrev pub HasAsked : {A : Type 0} → Option WriterEnd → ℕ → ActorState A → ActorState A → Type 0
+HasAsked None c me us = HasTaken c me us
+HasAsked (Some end) c me us = FoundNone end c me us
 
 -- an actor took packets of connection c, and did nothing else
 abbrev pub AreTakes : {A : Type 0} → ℕ → ActorState A → Type 0

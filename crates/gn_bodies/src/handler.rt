@@ -4,15 +4,7 @@ ghost use Rattle.std.specs.Prelude.{◌≡◌, ◌∷◌, ◌++◌, ◌<◌, [],
 ghost use Rattle.gn_rules.specs.declared.event.Event.TheVariants.{Admit};
 ghost use Rattle.gn_stage.specs.Jobs.{Queued};
 ghost use Rattle.gn_bodies.specs.declared.piece.Halt.TheVariants as halt;
-ghost use Rattle.gn_bodies.specs.Admitting.{
-  GoesOn,
-  HasOnlyConnected,
-  HasSameNumbers,
-  IsOwed,
-  IsSettled,
-  KeepsConnection,
-  StaysSettled,
-};
+ghost use Rattle.gn_bodies.specs.Admitting.{GoesOn, HasOnlyConnected, HasSameNumbers, IsOwed, IsSettled, KeepsConnection, StaysSettled};
 ghost use Rattle.gn_bodies.specs.Events.{link_events};
 ghost use Rattle.gn_bodies.specs.ReaderRows.{WithClose};
 

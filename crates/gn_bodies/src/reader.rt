@@ -2,7 +2,7 @@
 
 ghost use Rattle.std.specs.Prelude.{◌≡◌, ◌++◌, [], ℕ, List, None, false, true, IfOk, OnOk};
 ghost use Rattle.gn_shake.specs.declared.role.Role.{Role};
-ghost use Rattle.gn_links.specs.Views.{IsNewReader, IsReadFrom};
+ghost use Rattle.gn_links.specs.Halves.{IsNewReader, IsReadFrom};
 ghost use Rattle.gn_bodies.specs.Admitting.{GoesOn, HasSameNumbers, StaysSettled};
 ghost use Rattle.gn_bodies.specs.Done.{IsReaderDone, half_of, reader_ended};
 ghost use Rattle.gn_bodies.specs.Events.{link_events};
@@ -10,7 +10,7 @@ ghost use Rattle.gn_bodies.specs.Jobs.{jobs_left};
 ghost use Rattle.gn_bodies.specs.ReaderRows.{ReaderRow};
 ghost use Rattle.gn_bodies.specs.Reading.{EndsReading, HasTakenPiece, IsTaken, ReadRow, closes};
 
-use crate::ends::{BodyFault, ReaderEnd};
+use crate::ends::{BodyFault, ReaderEnd, fail_at_stop};
 use crate::handler::ReaderHandler;
 use crate::piece::{Piece, Reading};
 use gn_hub::{Actor, Service};
@@ -193,10 +193,7 @@ pub fn reader_body<
         is_refused: false,
     };
     let end = me.read_link(rt, &mut reader, role);
-    if let Err(BodyFault::HistoryFull | BodyFault::NoMemory) = end {
-        service.fail(rt);
-        gate.failed();
-    }
+    fail_at_stop(rt, service, gate, &end);
     service.reader_done(rt, link);
     reader.finish(rt);
     gate.ended(link, Half::Reader);

@@ -1,8 +1,8 @@
 //! How a reader takes the bytes of its link.
 
-ghost use Rattle.std.specs.Prelude.{◌≡◌, ◌++◌, [], ℕ, List, Some, drop};
+ghost use Rattle.std.specs.Prelude.{◌≡◌, ◌++◌, [], ℕ, List, Some};
 ghost use Rattle.gn_shake.specs.declared.role.Role.{Role};
-ghost use Rattle.gn_shake.specs.Roles.{greeting_of};
+ghost use Rattle.gn_shake.specs.Greeting.{greeting_of};
 ghost use Rattle.gn_bodies.specs.declared.piece.Reading.TheVariants as reading;
 ghost use Rattle.gn_bodies.specs.Admitting.{GoesOn};
 ghost use Rattle.gn_bodies.specs.Events.{connection_of};
@@ -64,10 +64,7 @@ impl<'s, G: Gate, B: Site + Ledger, C: RouterCore<A> + Drop, A: Allocator + Copy
                 connection: None,
                 end: ReaderEnd::GreetingRefused,
             },
-            ShakeState::Done => {
-                let rest = rest_of(piece, shaken.used);
-                self.connect_and_take(rt, rest)
-            }
+            ShakeState::Done => self.connect_and_take(rt, shaken.rest_of(piece)),
         }
     }
 
@@ -150,17 +147,5 @@ impl<'s, G: Gate, B: Site + Ledger, C: RouterCore<A> + Drop, A: Allocator + Copy
             Some(fault) => Delivery::Fault(fault),
             None => Delivery::More,
         }
-    }
-}
-
-/// What of a piece comes after its first bytes.
-#[tactic(auto, using(std::proofs::lemmas::List::drop_all))]
-fn rest_of(piece: &[u8], used: usize) -> &[u8]
-    ensures { result.now ≡ drop used piece.now }
-{
-    if used <= piece.len() {
-        &piece[used..]
-    } else {
-        &[]
     }
 }

@@ -7,7 +7,7 @@ ghost use Rattle.gn_bodies.specs.Events.{events_of, link_events};
 ghost use Rattle.gn_bodies.specs.Jobs.{routes_of};
 
 use crate::asking::route;
-use crate::ends::BodyFault;
+use crate::ends::{BodyFault, fail_at_stop};
 use gn_hub::{Actor, Service};
 use gn_links::Gate;
 use gn_payload::Checked;
@@ -102,10 +102,7 @@ pub fn worker_body<
 {
     let (mut actor, mut outlet) = (actor, outlet);
     let end = route_all(rt, service, &mut actor, worker, gate, &mut outlet);
-    if let Err(BodyFault::HistoryFull | BodyFault::NoMemory) = end {
-        service.fail(rt);
-        gate.failed();
-    }
+    fail_at_stop(rt, service, gate, &end);
     WorkerDone {
         actor,
         home: outlet.finish(),

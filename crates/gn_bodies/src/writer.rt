@@ -1,17 +1,16 @@
 //! The body of a writer.
 
-ghost use Rattle.std.specs.Prelude.{◌≡◌, [], ℕ, true, IfOk, OnOk};
+ghost use Rattle.std.specs.Prelude.{◌≡◌, [], ℕ, false, true, IfOk, OnOk};
 ghost use Rattle.std.specs.List.{concat};
 ghost use Rattle.gn_wire.specs.Encoding.{bytes_of};
-ghost use Rattle.gn_links.specs.Views.{IsNewWriter};
-ghost use Rattle.gn_hub.specs.Receipts.{HasDrained, HasTaken};
-ghost use Rattle.gn_hub.specs.declared.next.Outgoing.TheVariants.{Packet, Drained, Closed};
+ghost use Rattle.gn_links.specs.Halves.{IsNewWriter};
+ghost use Rattle.gn_bodies.specs.declared.ends.WriterEnd.TheVariants.{Closed, NeverOpened, WriteFailed};
 ghost use Rattle.gn_bodies.specs.Done.{IsWriterDone, WritesAs, half_of, writer_ended};
 ghost use Rattle.gn_bodies.specs.Events.{packets_of};
-ghost use Rattle.gn_bodies.specs.Written.{HasWrittenText, PacketSteps, WriterSteps, opening_texts};
+ghost use Rattle.gn_bodies.specs.Written.{HasAsked, HasWrittenText, PacketSteps, WriterSteps, opening_texts};
 
 use crate::asking::close;
-use crate::ends::{BodyFault, WriterEnd};
+use crate::ends::{BodyFault, WriterEnd, fail_at_stop};
 use gn_hub::{Actor, Outgoing, Service};
 use gn_links::{Gate, Half, LinkWriter, Made};
 use gn_rules::{ConnId, RouterCore};
@@ -46,16 +45,7 @@ fn write_text<W: LinkWriter, R: Wait>(rt: &R, writer: &mut W, text: &[u8]) -> bo
     true
 }
 
-/// Tells the gate what a writer's last call did.
-fn tell<G: Gate>(gate: &G, link: u32, next: Outgoing) {
-    match next {
-        Outgoing::Packet => gate.made(link, Made::Taken),
-        Outgoing::Drained => gate.made(link, Made::Closed),
-        Outgoing::Closed => {}
-    }
-}
-
-/// Takes the link's next packet, or finds out how its connection is over.
+/// Takes the link's next packet. None where one was taken; else how the writer ends that found none.
 fn take_next<G: Gate, C: RouterCore<A> + Drop, L: Ledger, A: Allocator + Copy, R: Wait>(
     rt: &R,
     service: &Service<C, L, A>,
@@ -63,17 +53,20 @@ fn take_next<G: Gate, C: RouterCore<A> + Drop, L: Ledger, A: Allocator + Copy, R
     me: &mut Actor<L, A>,
     link: u32,
     c: ConnId,
-) -> Result<Outgoing, BodyFault>
+) -> Result<Option<WriterEnd>, BodyFault>
     ensures number { me.new.number ≡ me.old.number }
-    ensures packet { IfOk result (λ next. next ≡ Packet → HasTaken c me.old me.new) }
-    ensures drained { IfOk result (λ next. next ≡ Drained → HasDrained c me.old me.new) }
-    ensures closed { IfOk result (λ next. next ≡ Closed → me.new ≡ me.old) }
+    ensures asked { IfOk result (λ end. HasAsked end c me.old me.new) }
 {
     match service.next_out(rt, me, c) {
-        Ok(next) => {
-            tell(gate, link, next);
-            Ok(next)
+        Ok(Outgoing::Packet) => {
+            gate.made(link, Made::Taken);
+            Ok(None)
         }
+        Ok(Outgoing::Drained) => {
+            gate.made(link, Made::Closed);
+            Ok(Some(WriterEnd::Drained))
+        }
+        Ok(Outgoing::Closed) => Ok(Some(WriterEnd::Closed)),
         Err(refusal) => Err(BodyFault::from(refusal)),
     }
 }
@@ -133,17 +126,42 @@ fn write_packets<
     ensures steps { IfOk result (λ end. PacketSteps end c me.new) }
 {
     for _ in rt.forever() {
-        match take_next(rt, service, gate, me, link, c)? {
-            Outgoing::Packet => match write_packet(rt, writer, me.last_taken(), text) {
-                Ok(true) => {}
-                Ok(false) => return Ok(WriterEnd::WriteFailed),
-                Err(_) => return Err(BodyFault::NoMemory),
-            },
-            Outgoing::Drained => return Ok(WriterEnd::Drained),
-            Outgoing::Closed => return Ok(WriterEnd::Closed),
+        if let Some(end) = take_next(rt, service, gate, me, link, c)? {
+            return Ok(end);
+        }
+        match write_packet(rt, writer, me.last_taken(), text) {
+            Ok(true) => {}
+            Ok(false) => return Ok(WriterEnd::WriteFailed),
+            Err(_) => return Err(BodyFault::NoMemory),
         }
     }
     unreachable!()
+}
+
+/// Writes the request of a calling link. False where a write failed, or took nothing.
+fn write_request<W: LinkWriter, R: Wait>(rt: &R, writer: &mut W, role: Role) -> bool
+    requires new { (W.state writer.old).bytes ≡ [] }
+    ensures made { W.made_of writer.new ≡ W.made_of writer.old }
+    ensures all { result ≡ true → WritesAs role NeverOpened [] (W.state writer.new) }
+    ensures part { result ≡ false → WritesAs role WriteFailed [] (W.state writer.new) }
+{
+    match role {
+        Role::Calling => write_text(rt, writer, gn_shake::request()),
+        Role::Accepting | Role::Plain => true,
+    }
+}
+
+/// Writes the consent of an accepting link. False where a write failed, or took nothing.
+fn write_consent<W: LinkWriter, R: Wait>(rt: &R, writer: &mut W, role: Role) -> bool
+    requires called { WritesAs role NeverOpened [] (W.state writer.old) }
+    ensures made { W.made_of writer.new ≡ W.made_of writer.old }
+    ensures all { result ≡ true → WritesAs role Closed [] (W.state writer.new) }
+    ensures part { result ≡ false → WritesAs role WriteFailed [] (W.state writer.new) }
+{
+    match role {
+        Role::Accepting => write_text(rt, writer, gn_shake::consent()),
+        Role::Calling | Role::Plain => true,
+    }
 }
 
 /// Opens the link, writes, and closes it where a write failed.
@@ -171,19 +189,15 @@ fn write_link<
     ensures written { IfOk result (λ end. WritesAs role end (packets_of me.new) (W.state writer.new)) }
     ensures steps { IfOk result (λ end. (c : ℕ) × WriterSteps end c me.new) }
 {
-    if let Role::Calling = role {
-        if !write_text(rt, writer, gn_shake::request()) {
-            return Ok(WriterEnd::WriteFailed);
-        }
+    if !write_request(rt, writer, role) {
+        return Ok(WriterEnd::WriteFailed);
     }
     let Some(c) = service.meet(rt, link) else {
         return Ok(WriterEnd::NeverOpened);
     };
-    if let Role::Accepting = role {
-        if !write_text(rt, writer, gn_shake::consent()) {
-            close(rt, service, gate, me, link, c)?;
-            return Ok(WriterEnd::WriteFailed);
-        }
+    if !write_consent(rt, writer, role) {
+        close(rt, service, gate, me, link, c)?;
+        return Ok(WriterEnd::WriteFailed);
     }
     let end = write_packets(rt, service, gate, me, link, writer, role, c, text)?;
     if let WriterEnd::WriteFailed = end {
@@ -233,10 +247,7 @@ pub fn writer_body<
         &mut text,
     );
     drop(text);
-    if let Err(BodyFault::HistoryFull | BodyFault::NoMemory) = end {
-        service.fail(rt);
-        gate.failed();
-    }
+    fail_at_stop(rt, service, gate, &end);
     writer.finish(rt);
     gate.ended(link, Half::Writer);
     WriterDone {

@@ -1,15 +1,14 @@
 -- A descriptor that is written is read again.
-use Rattle.std.proofs.Common.{◌≡◌, ℕ, suc, ◌/◌, ◌%◌, ◌<◌, ◌≤◌, List, [], ◌∷◌, length, take, drop, true, false, refl, sym, ap, ◌∙◌, arith, Ok, Some, append-nil, length-append}
+use Rattle.std.proofs.Common.{◌≡◌, ℕ, suc, ◌/◌, ◌%◌, ◌<◌, ◌≤◌, List, [], ◌∷◌, length, take, drop, true, false, refl, sym, ap, ◌∙◌, arith, Ok, Err, Some, append-nil, length-append}
 use Rattle.std.specs.Prelude.{◌==◌, nat_lt, slice_index}
-use Rattle.std.specs.Option.{option_and_then}
+use Rattle.std.specs.Option.{option_and_then, option_map_or}
 use Rattle.std.specs.Result.{result_ok}
 use Rattle.std.proofs.lemmas.Bool.Decides.{nat_tests}
 use Rattle.std.proofs.lemmas.List.Sums.{AllPass-from_list_all}
 use Rattle.hex.specs.Hex.{encode_lower, encode_with, lower_digits, IsBytes, decode_of}
 use Rattle.hex.proofs.HexLemmas.{decode_of-encode_lower, length-encode_with}
 use Rattle.gn_wire.specs.declared.header.Header.{Header}
-use Rattle.gn_wire.specs.Lengths.{fault_of, unless_fault, IsDescriptor}
-use Rattle.gn_wire.specs.Packet.{Packet}
+use Rattle.gn_wire.specs.Packet.{fault_of, IsDescriptor, Packet}
 use Rattle.gn_wire.specs.Encoding.{bytes_of, header_at, header_bytes, header_of, reading}
 use Rattle.gn_wire.proofs.EncodingLemmas.{header_at-stream, drop-stream, length-header_bytes}
 use Rattle.gn_text.specs.Bytes.{bytes_of_pairs, bytes_parsed, is_dash}
@@ -54,7 +53,7 @@ read_again : (d : Packet) → IsDescriptor d → reading (take 23 (bytes_of d)) 
 read_again d kept =
     let head : header_at (take 23 (bytes_of d)) ≡ header_of d =
     ap (λ (bs : List ℕ). header_at (take 23 bs)) (sym (append-nil (bytes_of d))) ∙ header_at-stream d [] kept in
-    ap (λ (h : Header). unless_fault (fault_of h.kind h.length) h) head ∙ rw kept.valid refl
+    ap (λ (h : Header). option_map_or Err (fault_of h.kind h.length) (Ok h)) head ∙ rw kept.valid refl
 
 payload_again : (d : Packet) → IsDescriptor d → drop 23 (bytes_of d) ≡ d.payload
 payload_again d kept = ap (drop 23) (sym (append-nil (bytes_of d))) ∙ drop-stream d [] kept ∙ append-nil d.payload

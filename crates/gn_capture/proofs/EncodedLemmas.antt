@@ -1,19 +1,19 @@
 -- A descriptor that was read is encoded by the bytes that it was read of.
 use Rattle.std.proofs.Common.{◌≡◌, ℕ, ◌<◌, ◌≤◌, List, ◌++◌, length, get_or, take, drop, Bool, true, false, refl, sym, ap, ◌∙◌, arith, Result, Ok, Err, Option, Some, None, inl, inr}
 use Rattle.std.specs.Prelude.{◌==◌, nat_lt, if◌then◌else◌}
+use Rattle.std.specs.Option.{option_map_or}
 use Rattle.std.proofs.lemmas.Bool.{cases_lt}
 use Rattle.std.proofs.lemmas.Bool.Decides.{nat_tests}
 use Rattle.std.proofs.lemmas.List.{get_or-take, get_or_past, length-take-le, take-append-drop}
 use Rattle.hex.specs.Hex.{IsBytes}
 use Rattle.gn_wire.specs.declared.header.FrameFault.{FrameFault}
 use Rattle.gn_wire.specs.declared.header.Header.{Header}
-use Rattle.gn_wire.specs.Lengths.{fault_of, unless_fault}
-use Rattle.gn_wire.specs.Packet.{Packet}
+use Rattle.gn_wire.specs.Packet.{fault_of, Packet}
 use Rattle.gn_wire.specs.Encoding.{bytes_of, header_at, header_bytes, header_of, packet_from, reading}
 use Rattle.gn_wire.proofs.HeaderLemmas.{header_bytes-header_at}
 use Rattle.gn_capture.specs.Packets.{packet_at, packet_of}
 
-header_by : (bs : List ℕ) (h : Header) (f : Option FrameFault) → unless_fault f (header_at bs) ≡ Ok h → header_at bs ≡ h
+header_by : (bs : List ℕ) (h : Header) (f : Option FrameFault) → option_map_or Err f (Ok (header_at bs)) ≡ Ok h → header_at bs ≡ h
 header_by bs h None e = cc
 header_by bs h (Some fault) e = absurd (cc)
 

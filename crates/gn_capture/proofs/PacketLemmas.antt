@@ -1,13 +1,12 @@
 -- The descriptor that bytes encode.
 use Rattle.std.proofs.Common.{◌≡◌, ℕ, ◌-◌, ◌≤◌, ◌<◌, List, length, take, drop, false, true, refl, sym, ap, ◌∙◌, arith, Ok, Err, Some, None, length-drop}
 use Rattle.std.specs.Prelude.{min, nat_lt, ◌==◌}
+use Rattle.std.specs.Option.{option_map_or}
 use Rattle.std.proofs.lemmas.Bool.Decides.{nat_tests}
 use Rattle.gn_wire.specs.declared.header.FrameFault.{FrameFault}
 use Rattle.gn_wire.specs.declared.header.Header.{Header}
 use Rattle.gn_wire.specs.declared.kind.Kind.{Kind}
-use Rattle.gn_wire.specs.Kinds.{code_of, kind_of}
-use Rattle.gn_wire.specs.Lengths.{fault_of, packet_fault, unless_fault}
-use Rattle.gn_wire.specs.Packet.{Packet}
+use Rattle.gn_wire.specs.Packet.{code_of, kind_of, fault_of, packet_fault, Packet}
 use Rattle.gn_wire.specs.Encoding.{IsHeader, packet_from, reading}
 use Rattle.gn_capture.specs.Packets.{IsHeaderAlone, packet_of}
 
@@ -55,7 +54,7 @@ header_found bs head h long head_is m ok size =
 
 -- a header's descriptor has no fault where the payload has the length that the header says
 pub made_whole : (bs : List ℕ) (h : Header) (payload : List ℕ) → IsHeaderAlone bs h → payload ≡ drop 23 bs
-    → (let e = packet_from (record h { kind = kind_of (code_of h.kind) }) payload in unless_fault (packet_fault e) e)
+    → (let e = packet_from (record h { kind = kind_of (code_of h.kind) }) payload in option_map_or Err (packet_fault e) (Ok e))
     ≡ Ok (packet_from h (drop 23 bs))
 made_whole bs h payload alone is =
     let of : Kind → Packet = λ k. packet_from (record h { kind = k }) payload in
@@ -65,4 +64,4 @@ made_whole bs h payload alone is =
     let below : h.length < 4294967296 = alone.header.length_fits in
     let fits : min (length (drop 23 bs)) 4294967295 ≡ h.length = omega arith in
     let valid : packet_fault (packet_from h (drop 23 bs)) ≡ None = ap (fault_of h.kind) fits ∙ alone.header.valid in
-    ap (λ (d : Packet). unless_fault (packet_fault d) d) same ∙ ap (λ fault. unless_fault fault (packet_from h (drop 23 bs))) valid
+    ap (λ (d : Packet). option_map_or Err (packet_fault d) (Ok d)) same ∙ ap (λ fault. option_map_or Err fault (Ok (packet_from h (drop 23 bs)))) valid

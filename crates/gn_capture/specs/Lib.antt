@@ -1,9 +1,9 @@
+-- What is promised: contracts of public functions rest on it.
 pub mod CaptureLines
 pub mod Captures
 pub mod Events
 pub mod FirstFaults
 pub mod Histories
-pub mod Known
 pub mod Outcomes
 pub mod Packets
 pub mod Replies
@@ -11,3 +11,5 @@ pub mod Requests
 pub mod RoundTrip
 pub mod Steps
 pub mod Words
+-- Words of the proofs.
+pub mod Known

@@ -2,8 +2,7 @@
 use Rattle.std.specs.Prelude.{◌≡◌, ◌<◌, ◌^◌, ℕ, List, length, Some, Ok}
 use Rattle.std.specs.List.{AllByRecursion}
 use Rattle.hex.specs.Hex.{IsBytes}
-use Rattle.gn_wire.specs.Lengths.{IsDescriptor}
-use Rattle.gn_wire.specs.Packet.{Packet}
+use Rattle.gn_wire.specs.Packet.{IsDescriptor, Packet}
 use Rattle.gn_wire.specs.Encoding.{bytes_of}
 use Rattle.gn_rules.specs.declared.config.Config.{Config}
 use Rattle.gn_rules.specs.declared.config.Own.{Own}

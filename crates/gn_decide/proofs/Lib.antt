@@ -1,4 +1,3 @@
-pub mod FirstLemmas
 pub mod MostLemmas
 pub mod RestLemmas
 pub mod SendLemmas

@@ -1,5 +1,7 @@
+-- What is promised: contracts of public functions rest on it.
 pub mod Made
-pub mod Others
 pub mod Planned
-pub mod Rest
 pub mod Seen
+-- Words of the proofs.
+pub mod Others
+pub mod Rest

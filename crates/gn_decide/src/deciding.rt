@@ -2,7 +2,7 @@
 
 ghost use Rattle.std.specs.Prelude.{◌≡◌};
 ghost use Rattle.gn_wire.specs.Keys.{key_of};
-ghost use Rattle.gn_wire.specs.declared.kind.Kind.TheVariants.{Push};
+ghost use Rattle.gn_wire.specs.declared.kind.Kind.TheVariants.{Ping, Push};
 ghost use Rattle.gn_rules.specs.Answer.{decision_reply};
 ghost use Rattle.gn_rules.specs.Decision as rules;
 ghost use Rattle.gn_rules.specs.Flight.{Admission};
@@ -57,7 +57,7 @@ fn decide_request<'a, A: Allocator, L: Lookup<A>>(
     ensures { let a : Admission = record { origin = origin; packet = packet.now } in
         plan_reply (L.settings past.now) (L.past past.now) result
         ≡ decision_reply (L.settings past.now) (L.past past.now) a
-        (rules.decide_request (L.settings past.now) (L.past past.now) a) }
+        (rules.decide_sound (L.settings past.now) (L.past past.now) a Ping) }
 {
     if is_remembered(past, packet) {
         return Plan::Ready(Reply::Dropped(DropReason::Duplicate));
@@ -76,7 +76,7 @@ fn decide_reply<'a, A: Allocator, L: Lookup<A>>(
     ensures { let a : Admission = record { origin = origin; packet = packet.now } in
         plan_reply (L.settings past.now) (L.past past.now) result
         ≡ decision_reply (L.settings past.now) (L.past past.now) a (rules.decide_reply (L.settings past.now) (L.past past.now) a
-        (seen_entries.source (L.settings past.now) (L.past past.now) (rules.request_key request a))) }
+        (seen_entries.source (L.settings past.now) (L.past past.now) (record { kind = request; id = packet.now.id }))) }
 {
     let key = Key {
         kind: request,
@@ -99,7 +99,7 @@ fn decide_push<'a, A: Allocator, L: Lookup<A>>(
     ensures { let a : Admission = record { origin = origin; packet = packet.now } in
         plan_reply (L.settings past.now) (L.past past.now) result
         ≡ decision_reply (L.settings past.now) (L.past past.now) a
-        (rules.decide_push (L.settings past.now) (L.past past.now) a) }
+        (rules.decide_sound (L.settings past.now) (L.past past.now) a Push) }
 {
     if is_remembered(past, packet) {
         return Plan::Ready(Reply::Dropped(DropReason::Duplicate));

@@ -1,5 +1,5 @@
 //! The rules' decision tree, once for all routers: what an event is answered, found by a router's own look-ups, and the
-//! answer made or compared.
+//! answer made or compared, or made a step.
 #![tactic(auto)]
 
 mod answering;
@@ -10,6 +10,8 @@ mod made;
 mod outbox;
 mod plan;
 mod planning;
+mod recorder;
+mod recording;
 mod rest;
 mod sending;
 
@@ -21,4 +23,6 @@ pub use made::{Forwarded, Made};
 pub use outbox::Outbox;
 pub use plan::{Outgoing, Plan};
 pub use planning::{plan_checked, plan_of};
+pub use recorder::Recorder;
+pub use recording::{apply, enter, route};
 pub use sending::send_all;

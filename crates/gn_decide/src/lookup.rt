@@ -4,7 +4,7 @@ ghost use Rattle.std.specs.Prelude.{◌≡◌, ◌<◌, ◌+◌, ◌^◌, ◌++�
 ghost use Rattle.std.specs.List.{slice_get};
 ghost use Rattle.std.specs.Option.{option_copied, option_to_list};
 ghost use Rattle.gn_rules.specs.Flight.{flying, flying_from, in_flight, tickets};
-ghost use Rattle.gn_rules.specs.Live.{connections, live, live_connections};
+ghost use Rattle.gn_rules.specs.History.{connections, live, live_connections};
 ghost use Rattle.gn_rules.specs.Output.{out};
 ghost use Rattle.gn_rules.specs.Servents as servents;
 ghost use Rattle.gn_rules.specs.SeenEntries as seen_entries;

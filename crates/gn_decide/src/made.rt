@@ -31,7 +31,7 @@ impl<'a, A: Allocator> Model for Forwarded<'a, A> {
 
 impl<'a, A: Allocator> Forwarded<'a, A> {
     ghost use Rattle.std.specs.Prelude.{MatchOption, false, true};
-    ghost use Rattle.gn_wire.specs.Forward as wire;
+    ghost use Rattle.gn_wire.specs.Packet as wire;
 
     /// The forward of a descriptor whose life has this limit. `None` where it is expired.
     pub fn of(life: u8, packet: &'a Descriptor<A>) -> Option<Self>

@@ -1,11 +1,11 @@
 //! The plan for each event: the rules' answer, before any packet is made.
 
-ghost use Rattle.std.specs.Prelude.{◌≡◌, ◌==◌, Ok, IfOk, length};
-ghost use Rattle.gn_payload.specs.Sound.{verdict_of};
+ghost use Rattle.std.specs.Prelude.{◌≡◌, ◌==◌, ◌&&◌, Ok, IfOk, length, nat_le, not};
+ghost use Rattle.gn_wire.specs.Packet.{Packet};
+ghost use Rattle.gn_payload.specs.Reading.{verdict_of};
 ghost use Rattle.gn_rules.specs.Answer as rules;
-ghost use Rattle.gn_rules.specs.Flight as flight;
-ghost use Rattle.gn_rules.specs.Flight.{Admission, in_flight};
-ghost use Rattle.gn_rules.specs.declared.event.Event.TheVariants.{Route};
+ghost use Rattle.gn_rules.specs.Flight.{Admission, flying_from, in_flight};
+ghost use Rattle.gn_rules.specs.declared.event.Event.TheVariants.{Connect, Close, Admit, Route, Take, Originate};
 ghost use Rattle.gn_decide.specs.Planned.{plan_reply, planned};
 
 use crate::deciding::{decide, is_remembered};
@@ -18,7 +18,7 @@ use std::alloc::Allocator;
 
 /// The plan for a Connect.
 fn plan_connect<A: Allocator, L: Lookup<A>>(past: &L) -> Plan<'_, A>
-    ensures { rules.connect_answer (L.settings past.now) (L.past past.now)
+    ensures { rules.event_answer (L.settings past.now) (L.past past.now) Connect
         ≡ Ok (plan_reply (L.settings past.now) (L.past past.now) result) }
 {
     if past.live_count() == past.config().numbers.neighbours {
@@ -29,7 +29,8 @@ fn plan_connect<A: Allocator, L: Lookup<A>>(past: &L) -> Plan<'_, A>
 
 /// The plan for a Close.
 fn plan_close<A: Allocator, L: Lookup<A>>(past: &L, c: ConnId) -> Result<Plan<'_, A>, Refusal>
-    ensures { planned (L.settings past.now) (L.past past.now) result ≡ rules.close_answer (L.past past.now) c }
+    ensures { planned (L.settings past.now) (L.past past.now) result
+        ≡ rules.event_answer (L.settings past.now) (L.past past.now) (Close c) }
 {
     match past.output(c) {
         None => Err(Refusal::NotLive),
@@ -39,7 +40,8 @@ fn plan_close<A: Allocator, L: Lookup<A>>(past: &L, c: ConnId) -> Result<Plan<'_
 
 /// Whether as many tickets of the connection are in flight as one may have, where there is a threshold for each.
 fn is_crowded<A: Allocator, L: Lookup<A>>(past: &L, c: ConnId) -> bool
-    ensures { result ≡ flight.is_crowded (L.settings past.now) (L.past past.now) c }
+    ensures { let crowd = (L.settings past.now).numbers.crowd in
+        result ≡ (not (crowd == 0) && nat_le crowd (length (flying_from (L.past past.now) c))) }
 {
     let crowd = past.config().numbers.crowd;
     crowd != 0 && crowd <= past.flights_of(c)
@@ -47,8 +49,8 @@ fn is_crowded<A: Allocator, L: Lookup<A>>(past: &L, c: ConnId) -> bool
 
 /// The plan for an Admit.
 fn plan_admit<A: Allocator, L: Lookup<A>>(past: &L, c: ConnId) -> Result<Plan<'_, A>, Refusal>
-    ensures { planned (L.settings past.now) (L.past past.now) result
-        ≡ rules.admit_answer (L.settings past.now) (L.past past.now) c }
+    ensures { (packet : Packet) → planned (L.settings past.now) (L.past past.now) result
+        ≡ rules.event_answer (L.settings past.now) (L.past past.now) (Admit c packet) }
 {
     if !past.is_live(c) {
         return Err(Refusal::NotLive);
@@ -63,9 +65,9 @@ fn plan_admit<A: Allocator, L: Lookup<A>>(past: &L, c: ConnId) -> Result<Plan<'_
 }
 
 /// The plan for a Take.
-#[tactic(auto, using(crate::proofs::FirstLemmas::first_none, crate::proofs::FirstLemmas::first_some))]
 fn plan_take<A: Allocator, L: Lookup<A>>(past: &L, c: ConnId) -> Result<Plan<'_, A>, Refusal>
-    ensures { planned (L.settings past.now) (L.past past.now) result ≡ rules.take_answer (L.past past.now) c }
+    ensures { planned (L.settings past.now) (L.past past.now) result
+        ≡ rules.event_answer (L.settings past.now) (L.past past.now) (Take c) }
 {
     if !past.is_live(c) {
         return Err(Refusal::NotLive);
@@ -82,7 +84,7 @@ fn plan_originate<'a, A: Allocator, L: Lookup<A>>(
     packet: &'a Descriptor<A>,
 ) -> Result<Plan<'a, A>, Refusal>
     ensures { planned (L.settings past.now) (L.past past.now) result
-        ≡ rules.originate_answer (L.settings past.now) (L.past past.now) packet.now }
+        ≡ rules.event_answer (L.settings past.now) (L.past past.now) (Originate packet.now) }
 {
     if !may_originate(past.config().numbers.life, packet) {
         return Err(Refusal::BadOrigin);
@@ -96,7 +98,7 @@ fn plan_originate<'a, A: Allocator, L: Lookup<A>>(
 /// The plan for a Route.
 fn plan_route<A: Allocator, L: Lookup<A>>(past: &L, ticket: Ticket) -> Result<Plan<'_, A>, Refusal>
     ensures { planned (L.settings past.now) (L.past past.now) result
-        ≡ rules.route_answer (L.settings past.now) (L.past past.now) ticket }
+        ≡ rules.event_answer (L.settings past.now) (L.past past.now) (Route ticket) }
 {
     match past.flight(ticket) {
         None => Err(Refusal::NoTicket),
@@ -150,9 +152,9 @@ fn plan_checked_flight<'a, A: Allocator, L: Lookup<A>>(
     checked: &Checked<A>,
 ) -> Result<Plan<'a, A>, Refusal>
     ensures value { planned (L.settings past.now) (L.past past.now) result
-        ≡ rules.checked_flight_answer (L.settings past.now) (L.past past.now) checked.now
-        (in_flight (L.past past.now) ticket) }
-    ensures routed { IfOk result (λ plan. rules.route_answer (L.settings past.now) (L.past past.now) ticket
+        ≡ rules.unless_strange checked.now (in_flight (L.past past.now) ticket)
+        (rules.event_answer (L.settings past.now) (L.past past.now) (Route ticket)) }
+    ensures routed { IfOk result (λ plan. rules.event_answer (L.settings past.now) (L.past past.now) (Route ticket)
         ≡ Ok (plan_reply (L.settings past.now) (L.past past.now) plan)) }
 {
     match past.flight(ticket) {

@@ -1,7 +1,9 @@
 //! The packets that a reply sends, one after the other.
 
-ghost use Rattle.std.specs.Prelude.{◌≡◌, ◌<◌, ◌+◌, ◌^◌, nat_lt, OnOk};
+ghost use Rattle.std.specs.Prelude.{◌≡◌, ◌<◌, ◌+◌, ◌^◌, ◌&&◌, ◌∷◌, [], if◌then◌else◌, nat_lt, OnOk};
 ghost use Rattle.std.specs.List.{fold};
+ghost use Rattle.gn_wire.specs.Packet.{forward_of, is_expired};
+ghost use Rattle.gn_rules.specs.History.{live};
 ghost use Rattle.gn_rules.specs.Sending as sending;
 ghost use Rattle.gn_decide.specs.Made.{made_packet};
 ghost use Rattle.gn_decide.specs.Others.{to_others};
@@ -73,8 +75,9 @@ fn send_pong<A: Allocator, L: Lookup<A>, O: Outbox<A>>(
     packet: &Descriptor<A>,
 ) -> Result<(), O::Fault>
     ensures { OnOk result (outbox.new ≡ fold O.after outbox.old
-        (sending.pong_sends (L.settings past.now) (L.past past.now)
-        (record { origin = origin; packet = packet.now }))) }
+        (if sending.is_ping packet.now.kind && live (L.past past.now) origin
+        then sending.send (L.settings past.now) (L.past past.now)
+        (sending.own_pong (L.settings past.now).own packet.now) origin ∷ [] else [])) }
 {
     if packet.kind() != Kind::Ping {
         return Ok(());
@@ -96,8 +99,8 @@ fn send_forwards<A: Allocator, L: Lookup<A>, O: Outbox<A>>(
     packet: &Descriptor<A>,
 ) -> Result<(), O::Fault>
     ensures { OnOk result (outbox.new ≡ fold O.after outbox.old
-        (sending.forward_sends (L.settings past.now) (L.past past.now)
-        (record { origin = origin; packet = packet.now }))) }
+        (if is_expired (L.settings past.now).numbers.life packet.now then [] else sending.fanout (L.settings past.now)
+        (L.past past.now) origin (forward_of (L.settings past.now).numbers.life packet.now))) }
 {
     match Forwarded::of(past.config().numbers.life, packet) {
         None => Ok(()),

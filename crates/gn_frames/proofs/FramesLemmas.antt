@@ -7,8 +7,7 @@ use Rattle.gn_wire.specs.Packet.{Packet}
 use Rattle.gn_frames.specs.declared.head.Head.{Head}
 use Rattle.gn_frames.specs.declared.head.Head.TheVariants.{Open, Faulty, Whole}
 use Rattle.gn_wire.specs.Encoding.{packet_from}
-use Rattle.gn_frames.specs.Head.{head_of}
-use Rattle.gn_frames.specs.Frames.{Frames, no_frames, prepended, frames_by, frames_within, frames_of, FramesAreCut}
+use Rattle.gn_frames.specs.Frames.{head_of, Frames, no_frames, prepended, frames_by, frames_within, frames_of, FramesAreCut}
 use Rattle.gn_frames.proofs.HeadLemmas.{whole, whole_stays, faulty_stays}
 
 -- frames by the head are the same where those of what stands after the descriptor are

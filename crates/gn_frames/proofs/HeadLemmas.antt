@@ -1,15 +1,16 @@
 -- The head of a string.
-use Rattle.std.proofs.Common.{◌≡◌, ℕ, ◌+◌, ◌-◌, ◌<◌, ◌≤◌, ◌⊎◌, inl, inr, List, ◌++◌, length, take, Option, Some, None, Ok, refl, sym, ap, ◌∙◌, arith, nat_lt, cond, true, false, length-append}
+use Rattle.std.proofs.Common.{◌≡◌, ℕ, ◌+◌, ◌-◌, ◌<◌, ◌≤◌, ◌⊎◌, inl, inr, List, ◌++◌, length, take, Option, Some, None, Ok, Err, refl, sym, ap, ◌∙◌, arith, nat_lt, cond, true, false, length-append}
+use Rattle.std.specs.Option.{option_map_or}
 use Rattle.std.proofs.lemmas.Bool.Decides.{nat_tests}
 use Rattle.std.proofs.lemmas.Bool.{cases_order}
 use Rattle.std.proofs.lemmas.List.{take-append-le}
 use Rattle.gn_wire.specs.declared.header.FrameFault.{FrameFault}
 use Rattle.gn_wire.specs.declared.header.Header.{Header}
-use Rattle.gn_wire.specs.Lengths.{fault_of, unless_fault}
+use Rattle.gn_wire.specs.Packet.{fault_of}
 use Rattle.gn_wire.specs.Encoding.{header_at, reading}
+use Rattle.gn_frames.specs.declared.head.Head.{Head}
 use Rattle.gn_frames.specs.declared.head.Head.TheVariants.{Open, Faulty, Whole}
-use Rattle.gn_frames.specs.Head.{head_of, head_after}
-use Rattle.gn_frames.specs.Frames.{named_length, named_fault, IsOpen, IsFaulty}
+use Rattle.gn_frames.specs.Frames.{head_of, named_length, named_fault, IsOpen, IsFaulty}
 
 less : (a b : ℕ) → a < b → nat_lt a b ≡ true
 less a b h = grind (arith, nat_tests)
@@ -17,12 +18,16 @@ less a b h = grind (arith, nat_tests)
 not_less : (a b : ℕ) → b ≤ a → nat_lt a b ≡ false
 not_less a b h = grind (arith, nat_tests)
 
+-- the head by the fault of its header, with n bytes after that
+abbrev head_by : Option FrameFault → Header → ℕ → Head
+head_by fault h n = option_map_or Faulty fault (cond (nat_lt n h.length) Open (Whole h))
+
 -- the head of a string that has a header
-head_long : (s : List ℕ) → 23 ≤ length s → head_of s ≡ head_after (reading (take 23 s)) (length s - 23)
-head_long s long = ap (λ b. cond b Open (head_after (reading (take 23 s)) (length s - 23))) (not_less (length s) 23 long)
+head_long : (s : List ℕ) → 23 ≤ length s → head_of s ≡ head_by (named_fault s) (header_at (take 23 s)) (length s - 23)
+head_long s long = ap (λ b. cond b Open (head_by (named_fault s) (header_at (take 23 s)) (length s - 23))) (not_less (length s) 23 long)
 
 head_short : (s : List ℕ) → length s < 23 → head_of s ≡ Open
-head_short s short = ap (λ b. cond b Open (head_after (reading (take 23 s)) (length s - 23))) (less (length s) 23 short)
+head_short s short = ap (λ b. cond b Open (head_by (named_fault s) (header_at (take 23 s)) (length s - 23))) (less (length s) 23 short)
 
 -- of two numbers, one is below the other or it isn't
 pub below_or_not : (a b : ℕ) → (a < b) ⊎ (b ≤ a)
@@ -40,7 +45,7 @@ pub record IsWhole (s : List ℕ) (h : Header) : Type 0 where
   pub valid : fault_of h.kind h.length ≡ None
   pub fits : 23 + h.length ≤ length s
 
-whole_by : (fault : Option FrameFault) (h k : Header) (n : ℕ) → fault_of h.kind h.length ≡ fault → head_after (unless_fault fault h) n ≡ Whole k
+whole_by : (fault : Option FrameFault) (h k : Header) (n : ℕ) → fault_of h.kind h.length ≡ fault → head_by fault h n ≡ Whole k
     → (h ≡ k) × (fault_of h.kind h.length ≡ None) × (h.length ≤ n)
 whole_by None h k n is e = elim (below_or_not n h.length) [
   | inl below ↦ let shut : Open ≡ Whole k = sym (ap (λ b. cond b Open (Whole h)) (less n h.length below)) ∙ e in cc
@@ -61,29 +66,50 @@ whole s h e = elim (short_or_long s) [
       }
 ]
 
--- a whole head, by what is read of its header
-pub head_read : (s start : List ℕ) (h : Header) → 23 ≤ length s → start ≡ take 23 s → reading start ≡ Ok h → h.length ≤ length s - 23 → Whole h ≡ head_of s
-head_read s start h long is read fits =
-    sym (head_long s long ∙ ap (λ r. head_after r (length s - 23)) (ap reading (sym is) ∙ read)
-    ∙ ap (λ b. cond b Open (Whole h)) (not_less (length s - 23) h.length fits))
-
 -- the head by the parts of its definition in words
 pub head_whole : (s : List ℕ) → named_fault s ≡ None → 23 + named_length s ≤ length s → head_of s ≡ Whole (header_at (take 23 s))
 head_whole s valid fits =
-    sym (head_read s (take 23 s) (header_at (take 23 s)) (omega arith) refl (ap (λ fault. unless_fault fault (header_at (take 23 s))) valid) (omega arith))
+    head_long s (omega arith) ∙ ap (λ fault. head_by fault (header_at (take 23 s)) (length s - 23)) valid
+    ∙ ap (λ b. cond b Open (Whole (header_at (take 23 s)))) (not_less (length s - 23) (named_length s) (omega arith))
 
 pub head_open : (s : List ℕ) → IsOpen s → head_of s ≡ Open
 head_open s (inl short) = head_short s short
 head_open s (inr (long, valid, wanting)) =
-    head_long s long ∙ ap (λ fault. head_after (unless_fault fault (header_at (take 23 s))) (length s - 23)) valid
+    head_long s long ∙ ap (λ fault. head_by fault (header_at (take 23 s)) (length s - 23)) valid
     ∙ ap (λ b. cond b Open (Whole (header_at (take 23 s)))) (less (length s - 23) (named_length s) (omega arith))
 
 pub head_faulty : (s : List ℕ) (fault : FrameFault) → IsFaulty s fault → head_of s ≡ Faulty fault
 head_faulty s fault (long, invalid) =
-    head_long s long ∙ ap (λ fault. head_after (unless_fault fault (header_at (take 23 s))) (length s - 23)) invalid
+    head_long s long ∙ ap (λ fault. head_by fault (header_at (take 23 s)) (length s - 23)) invalid
+
+-- what is read of a header: what its bytes say, where they have no fault, else that
+read_by : (fault : Option FrameFault) (h k : Header) → option_map_or Err fault (Ok h) ≡ Ok k → (h ≡ k) × (fault ≡ None)
+read_by None h k e = (cc, refl)
+read_by (Some fault) h k e = absurd (cc)
+
+refused_by : (fault : Option FrameFault) (h : Header) (found : FrameFault) → option_map_or Err fault (Ok h) ≡ Err found → fault ≡ Some found
+refused_by None h found e = absurd (cc)
+refused_by (Some fault) h found e = cc
+
+-- the head by what is read of its header
+pub whole_read : (s start : List ℕ) (h : Header) → 23 ≤ length s → start ≡ take 23 s → reading start ≡ Ok h → h.length ≤ length s - 23 → Whole h ≡ head_of s
+whole_read s start h long is read fits =
+    let known = read_by (named_fault s) (header_at (take 23 s)) h (ap reading (sym is) ∙ read) in
+    let size : named_length s ≡ h.length = ap (λ (x : Header). x.length) known.0 in
+    sym (head_whole s known.1 (omega arith) ∙ ap Whole known.0)
+
+pub open_read : (s start : List ℕ) (h : Header) → 23 ≤ length s → start ≡ take 23 s → reading start ≡ Ok h → length s - 23 < h.length → Open ≡ head_of s
+open_read s start h long is read wanting =
+    let known = read_by (named_fault s) (header_at (take 23 s)) h (ap reading (sym is) ∙ read) in
+    let size : named_length s ≡ h.length = ap (λ (x : Header). x.length) known.0 in
+    sym (head_open s (inr (long, known.1, omega arith)))
+
+pub faulty_read : (s start : List ℕ) (fault : FrameFault) → 23 ≤ length s → start ≡ take 23 s → reading start ≡ Err fault → Faulty fault ≡ head_of s
+faulty_read s start fault long is read =
+    sym (head_faulty s fault (long, refused_by (named_fault s) (header_at (take 23 s)) fault (ap reading (sym is) ∙ read)))
 
 -- what an open and a faulty head say
-open_by : (fault : Option FrameFault) (h : Header) (n : ℕ) → head_after (unless_fault fault h) n ≡ Open → (fault ≡ None) × (n < h.length)
+open_by : (fault : Option FrameFault) (h : Header) (n : ℕ) → head_by fault h n ≡ Open → (fault ≡ None) × (n < h.length)
 open_by None h n e = elim (below_or_not n h.length) [
   | inl below ↦ (refl, below)
   | inr above ↦ let shut : Whole h ≡ Open = sym (ap (λ b. cond b Open (Whole h)) (not_less n h.length above)) ∙ e in cc
@@ -98,7 +124,7 @@ is_open s e = elim (short_or_long s) [
       let wanting = known.1 in inr (long, known.0, omega arith)
 ]
 
-faulty_by : (fault : Option FrameFault) (h : Header) (n : ℕ) (found : FrameFault) → head_after (unless_fault fault h) n ≡ Faulty found → fault ≡ Some found
+faulty_by : (fault : Option FrameFault) (h : Header) (n : ℕ) (found : FrameFault) → head_by fault h n ≡ Faulty found → fault ≡ Some found
 faulty_by None h n found e = elim (below_or_not n h.length) [
   | inl below ↦ let shut : Open ≡ Faulty found = sym (ap (λ b. cond b Open (Whole h)) (less n h.length below)) ∙ e in cc
   | inr above ↦ let shut : Whole h ≡ Faulty found = sym (ap (λ b. cond b Open (Whole h)) (not_less n h.length above)) ∙ e in cc

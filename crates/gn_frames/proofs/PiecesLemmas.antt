@@ -6,8 +6,7 @@ use Rattle.gn_wire.specs.declared.header.Header.{Header}
 use Rattle.gn_wire.specs.Packet.{Packet}
 use Rattle.gn_wire.specs.Encoding.{packet_from}
 use Rattle.gn_frames.specs.declared.head.Head.TheVariants.{Open, Faulty, Whole}
-use Rattle.gn_frames.specs.Head.{head_of}
-use Rattle.gn_frames.specs.Frames.{Frames, no_frames, prepended, frames_of}
+use Rattle.gn_frames.specs.Frames.{head_of, Frames, no_frames, prepended, frames_of}
 use Rattle.gn_frames.specs.Held.{IsHeld}
 use Rattle.gn_frames.specs.Pieces.{IsFound, IsTaken}
 use Rattle.gn_frames.proofs.HeadLemmas.{whole}

@@ -6,17 +6,14 @@ use Rattle.std.proofs.lemmas.List.{length-take-le, take-append-drop, take_at, dr
 use Rattle.std.specs.List.{flat_map}
 use Rattle.gn_wire.specs.declared.header.FrameFault.{FrameFault}
 use Rattle.gn_wire.specs.declared.header.Header.{Header}
-use Rattle.gn_wire.specs.Kinds.{IsStored}
-use Rattle.gn_wire.specs.Lengths.{fault_of, IsDescriptor}
-use Rattle.gn_wire.specs.Packet.{Packet}
+use Rattle.gn_wire.specs.Packet.{IsStored, fault_of, IsDescriptor, Packet}
 use Rattle.gn_wire.specs.Encoding.{bytes_of, header_at, header_bytes, header_of, packet_from}
 use Rattle.gn_wire.proofs.HeaderLemmas.{header_bytes-header_at}
 use Rattle.gn_wire.proofs.KindLemmas.{stored-kind_of}
 use Rattle.gn_wire.proofs.EncodingLemmas.{header_at-stream, drop-stream, length-header_bytes}
 use Rattle.gn_frames.specs.declared.head.Head.{Head}
 use Rattle.gn_frames.specs.declared.head.Head.TheVariants.{Open, Faulty, Whole}
-use Rattle.gn_frames.specs.Head.{head_of}
-use Rattle.gn_frames.specs.Frames.{no_frames, prepended, frames_of, named_length, IsRest, IsFrames, FramesAreOne}
+use Rattle.gn_frames.specs.Frames.{head_of, no_frames, prepended, frames_of, named_length, IsRest, IsFrames, FramesAreOne}
 use Rattle.gn_frames.proofs.FramesLemmas.{frames_open, frames_faulty, frames_whole, shorter}
 use Rattle.gn_frames.proofs.HeadLemmas.{below_or_not, IsWhole, whole, head_whole, head_open, head_faulty, is_open, is_faulty}
 

@@ -1,13 +1,19 @@
 -- The descriptors that a string of bytes encodes, and what stands after them.
-use Rattle.std.specs.Prelude.{◌≡◌, ◌<◌, ◌≤◌, ◌+◌, ◌⊎◌, ◌↔◌, ℕ, zero, suc, List, [], ◌∷◌, ◌++◌, length, take, drop, Option, Some, None, All}
+use Rattle.std.specs.Prelude.{ℕ, ◌-◌, nat_lt, if◌then◌else◌, List, length, take, ◌≡◌, ◌<◌, ◌≤◌, ◌+◌, ◌⊎◌, ◌↔◌, zero, suc, [], ◌∷◌, ◌++◌, drop, Option, Some, None, All}
+use Rattle.std.specs.Option.{option_map_or}
 use Rattle.std.specs.List.{flat_map}
+use Rattle.gn_wire.specs.Encoding.{header_at, bytes_of}
+use Rattle.gn_wire.specs.Packet.{fault_of, IsDescriptor, Packet}
 use Rattle.gn_wire.specs.declared.header.FrameFault.{FrameFault}
-use Rattle.gn_wire.specs.Lengths.{fault_of, IsDescriptor}
-use Rattle.gn_wire.specs.Packet.{Packet}
-use Rattle.gn_wire.specs.Encoding.{bytes_of, header_at, packet_from}
 use Rattle.gn_frames.specs.declared.head.Head.{Head}
 use Rattle.gn_frames.specs.declared.head.Head.TheVariants.{Open, Faulty, Whole}
-use Rattle.gn_frames.specs.Head.{head_of}
+
+-- the head: open where bytes are wanting, faulty where the header's length is invalid, else a whole descriptor
+abbrev pub head_of : List ℕ → Head
+head_of s =
+    let h = header_at (take 23 s) in
+    if nat_lt (length s) 23 then Open
+    else option_map_or Faulty (fault_of h.kind h.length) (if nat_lt (length s - 23) h.length then Open else Whole h)
 
 -- the descriptors of a string, the bytes after them, and the fault that ends it, where one does
 pub record Frames : Type 0 where
@@ -42,28 +48,32 @@ pub record IsFrames (s : List ℕ) (f : Frames) : Type 0 where
   pub valid : All IsDescriptor f.descriptors
   pub ended : IsRest f.rest f.fault
 
--- no descriptor, and all bytes are the rest
-abbrev pub no_frames : List ℕ → Option FrameFault → Frames
-no_frames s fault = record { descriptors = []; rest = s; fault = fault }
-
--- the same with these descriptors before it
-abbrev pub prepended : List Packet → Frames → Frames
-prepended ds f = record { descriptors = ds ++ f.descriptors; rest = f.rest; fault = f.fault }
-
 -- the frames of a string by its head, where those of what stands after a descriptor are known
 abbrev pub frames_by : (List ℕ → Frames) → List ℕ → Head → Frames
-frames_by later s Open = no_frames s None
-frames_by later s (Faulty fault) = no_frames s (Some fault)
-frames_by later s (Whole h) = prepended (packet_from h (take h.length (drop 23 s)) ∷ []) (later (drop (23 + h.length) s))
+-- all bytes are the rest where no whole descriptor stands first
+frames_by later s Open = record { descriptors = []; rest = s; fault = None }
+frames_by later s (Faulty fault) = record { descriptors = []; rest = s; fault = Some fault }
+-- else it is the first of the descriptors
+frames_by later s (Whole h) =
+    let d : Packet = record { id = h.id; kind = h.kind; ttl = h.ttl; hops = h.hops; payload = take h.length (drop 23 s) } in
+    let f = later (drop (23 + h.length) s) in record f { descriptors = d ∷ f.descriptors }
 
 -- the frames of a string of at most n bytes
 abbrev pub frames_within : ℕ → List ℕ → Frames
-frames_within zero s = no_frames s None
+frames_within zero s = record { descriptors = []; rest = s; fault = None }
 frames_within (suc n) s = frames_by (frames_within n) s (head_of s)
 
 -- the frames of a string, as a function
 unfoldable pub frames_of : List ℕ → Frames
 frames_of s = frames_within (length s) s
+
+-- no descriptor, and all bytes are the rest
+abbrev pub no_frames : List ℕ → Option FrameFault → Frames
+no_frames s fault = record { descriptors = []; rest = s; fault = fault }
+
+-- these descriptors, and then those of other bytes, with their rest
+abbrev pub prepended : List Packet → Frames → Frames
+prepended ds f = record { descriptors = ds ++ f.descriptors; rest = f.rest; fault = f.fault }
 
 -- a string of bytes has just one reading, and the function gives it
 abbrev pub FramesAreOne : Type 0

@@ -1,7 +1,7 @@
 -- What a reassembler keeps.
 use Rattle.std.specs.Prelude.{◌≡◌, ℕ, Bool, true, false, List, [], Option, Some, None}
 use Rattle.gn_frames.specs.declared.head.Head.TheVariants.{Open}
-use Rattle.gn_frames.specs.Head.{head_of}
+use Rattle.gn_frames.specs.Frames.{head_of}
 
 -- its value: the bytes that are held, or none once a fault ended the stream
 abbrev pub held_view : Bool → List ℕ → Option (List ℕ)

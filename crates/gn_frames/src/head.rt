@@ -1,10 +1,9 @@
 //! What stands at the head of a slice of bytes.
 
 ghost use Rattle.std.specs.Prelude.{◌≡◌, ◌<◌, ◌≤◌, None, length};
-ghost use Rattle.gn_wire.specs.Kinds.{IsStored};
-ghost use Rattle.gn_wire.specs.Lengths.{fault_of};
+ghost use Rattle.gn_wire.specs.Packet.{IsStored, fault_of};
 ghost use Rattle.gn_wire.specs.Encoding.{packet_from};
-ghost use Rattle.gn_frames.specs.Head.{head_of};
+ghost use Rattle.gn_frames.specs.Frames.{head_of};
 
 use bytes::Bytes;
 use gn_wire::{Descriptor, FrameFault, HEADER_BYTES, Header, read_header};

@@ -1,8 +1,7 @@
 //! The descriptors that bytes begin with, and a piece that goes on with the bytes of an unfinished one.
 
 ghost use Rattle.std.specs.Prelude.{◌≡◌, ◌<◌, ◌++◌, length, take, IfOk, OnOk, OnErr};
-ghost use Rattle.gn_frames.specs.Head.{head_of};
-ghost use Rattle.gn_frames.specs.Frames.{prepended, frames_of};
+ghost use Rattle.gn_frames.specs.Frames.{frames_of, head_of, prepended};
 ghost use Rattle.gn_frames.specs.Pieces.{IsFound, IsTaken};
 
 use crate::head::{Head, head_of, whole};

@@ -1,8 +1,9 @@
 -- A step that wakes nobody leaves everybody waiting who had to wait.
-use Rattle.std.proofs.Common.{◌≡◌, ◌+◌, ◌==◌, ℕ, Bool, true, false, ◌&&◌, ◌||◌, cond, not, List, [], ◌∷◌, ◌++◌, length, filter, map, Result, refl, sym, ap, ◌∙◌, arith}
+use Rattle.std.proofs.Common.{◌≡◌, ◌+◌, ◌==◌, ℕ, Bool, true, false, ◌&&◌, ◌||◌, cond, if◌then◌else◌, not, List, [], ◌∷◌, ◌++◌, length, drop, filter, map, Result, refl, sym, ap, ◌∙◌, arith}
 use Rattle.std.specs.List.{list_any}
 use Rattle.std.proofs.lemmas.Bool.Decides.{nat_tests}
 use Rattle.std.proofs.lemmas.List.{reverse-append}
+use Rattle.gn_wire.specs.Packet.{Packet}
 use Rattle.gn_rules.specs.declared.event.Event.{Event}
 use Rattle.gn_rules.specs.declared.event.Event.TheVariants.{Connect, Close, Admit, Route, Take, Originate}
 use Rattle.gn_rules.specs.declared.receipt.Receipt.{Receipt}
@@ -10,9 +11,8 @@ use Rattle.gn_rules.specs.declared.receipt.Step.{Step}
 use Rattle.gn_rules.specs.declared.refusal.Refusal.{Refusal}
 use Rattle.gn_rules.specs.declared.reply.Reply.{Reply}
 use Rattle.gn_rules.specs.declared.sends.Sending.{Sending}
-use Rattle.gn_rules.specs.History.{connected_of, is_at, is_close, is_take, sends_of}
-use Rattle.gn_rules.specs.Live.{live}
-use Rattle.gn_rules.specs.Output.{out, queued_to, untaken, waiting}
+use Rattle.gn_rules.specs.History.{connected_of, is_at, is_close, is_take, sends_of, live}
+use Rattle.gn_rules.specs.Output.{out, queued_to, waiting}
 use Rattle.gn_hub.specs.ActorState.{ActorState, receipt}
 use Rattle.gn_hub.specs.Calls.{HasStepped, over, take, close, later}
 use Rattle.gn_hub.specs.HubState.{HubState, past_of, with_step, is_closing}
@@ -82,7 +82,7 @@ step_later past step c no_close no_queue lives none =
     or_true true = refl
     or_true false = refl
 
-    taken_none : (b : Bool) → untaken b [] ++ [] ≡ []
+    taken_none : (b : Bool) → ◌≡◌ {A = List Packet} ((if b then drop 1 [] else []) ++ []) []
     taken_none true = refl
     taken_none false = refl
 

@@ -7,7 +7,7 @@ use Rattle.gn_rules.specs.declared.refusal.Refusal.TheVariants.{HistoryFull, NoM
 use Rattle.gn_rules.specs.declared.reply.Reply.{Reply}
 use Rattle.gn_rules.specs.declared.reply.Reply.TheVariants.{Closed}
 use Rattle.gn_rules.specs.Answer as rules
-use Rattle.gn_rules.specs.Live.{live}
+use Rattle.gn_rules.specs.History.{live}
 use Rattle.gn_rules.specs.Output.{waiting}
 use Rattle.gn_hub.specs.declared.next.Next.{Next}
 use Rattle.gn_hub.specs.declared.next.Next.TheVariants.{Packet, Later, Over}

@@ -9,7 +9,7 @@ use Rattle.gn_rules.specs.declared.reply.Reply.TheVariants.{Connected}
 use Rattle.gn_rules.specs.Flight.{flying}
 use Rattle.gn_shake.specs.declared.role.Role.{Role}
 use Rattle.gn_shake.specs.declared.role.Role.TheVariants.{Plain}
-use Rattle.gn_shake.specs.Roles.{is_calling}
+use Rattle.gn_shake.specs.Greeting.{is_awaited, is_calling}
 use Rattle.gn_hub.specs.declared.mark.Door.{Door}
 use Rattle.gn_hub.specs.declared.mark.Door.TheVariants.{Unmet, Met, Shut}
 use Rattle.gn_hub.specs.declared.mark.Mark.{Mark}
@@ -60,9 +60,9 @@ abbrev pub door_by : {A : Type 0} → Reply A → Door
 door_by (Connected c) = Met c
 door_by reply = Shut
 
--- whether a run waits for this link's reader no more: it is done, or it calls and not all links do
+-- whether a run waits for this link's reader no more: it is done, or isn't one that the run waits for
 abbrev pub is_awaited_no_more : Bool → Mark → Bool
-is_awaited_no_more all_call mark = mark.is_done || (is_calling mark.role && not all_call)
+is_awaited_no_more all_call mark = mark.is_done || not (is_awaited all_call mark.role)
 
 -- whether all links call
 abbrev pub do_all_call : List Mark → Bool

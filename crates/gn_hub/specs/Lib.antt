@@ -1,5 +1,7 @@
+-- What is promised: contracts of public functions rest on it.
 pub mod ActorState
 pub mod Calls
 pub mod HubState
 pub mod Receipts
+-- Words of the proofs.
 pub mod Waking

@@ -42,6 +42,6 @@ impl Mark {
     pub fn is_awaited_no_more(&self, all_call: bool) -> bool
         ensures { result ≡ is_awaited_no_more all_call self.now }
     {
-        self.is_done || (self.role.is_calling() && !all_call)
+        self.is_done || !self.role.is_awaited(all_call)
     }
 }

@@ -1,20 +1,19 @@
 -- Connections count up from 1, and one that is closed stays closed.
-use Rattle.std.proofs.Common.{◌≡◌, ◌≤◌, ◌+◌, ◌==◌, ℕ, Bool, true, false, ◌&&◌, ◌||◌, not, cond, nat_lt, List, [], ◌∷◌, ◌++◌, length, filter, Option, Some, None, Ok, ◌⊎◌, inl, inr, refl, sym, ap, ◌∙◌, arith, add-zero, length-append}
+use Rattle.std.proofs.Common.{◌≡◌, ◌≤◌, ◌+◌, ◌==◌, ℕ, Bool, true, false, ◌&&◌, ◌||◌, not, cond, if◌then◌else◌, nat_lt, List, [], ◌∷◌, ◌++◌, length, filter, Option, Some, None, Ok, ◌⊎◌, inl, inr, refl, sym, ap, ◌∙◌, arith, add-zero, length-append}
 use Rattle.std.specs.List.{list_any}
-use Rattle.std.specs.Option.{option_to_list}
+use Rattle.std.specs.Option.{option_map_or, option_to_list}
 use Rattle.std.proofs.lemmas.Grind.{common_steps}
 use Rattle.std.proofs.lemmas.List.{append-nil}
 use Rattle.std.proofs.lemmas.List.Folds.{list_any-append}
 use Rattle.std.proofs.lemmas.Map.Views.{exact_unsigned_eq}
 use Rattle.gn_wire.specs.declared.kind.Kind.{Kind}
 use Rattle.gn_wire.specs.declared.kind.Kind.TheVariants.{Ping, Pong, Push, Query, QueryHit, Unknown}
-use Rattle.gn_wire.specs.Forward.{forward_of, is_expired}
+use Rattle.gn_wire.specs.Packet.{forward_of, is_expired, Packet}
 use Rattle.gn_wire.specs.Keys.{is_same_id, key_of}
-use Rattle.gn_wire.specs.Packet.{Packet}
 use Rattle.gn_payload.specs.declared.checked.Verdict.{Verdict}
 use Rattle.gn_payload.specs.declared.checked.Verdict.TheVariants.{Sound, UnknownKind, Malformed}
-use Rattle.gn_payload.specs.Places.{push_servent}
-use Rattle.gn_payload.specs.Sound.{verdict_of}
+use Rattle.gn_payload.specs.Fields.{push_servent}
+use Rattle.gn_payload.specs.Reading.{verdict_of}
 use Rattle.gn_rules.specs.declared.config.Config.{Config}
 use Rattle.gn_rules.specs.declared.event.Event.{Event}
 use Rattle.gn_rules.specs.declared.event.Event.TheVariants.{Connect, Close, Admit, Route, Take, Originate}
@@ -23,14 +22,13 @@ use Rattle.gn_rules.specs.declared.reply.Decision.{Decision}
 use Rattle.gn_rules.specs.declared.reply.Decision.TheVariants.{Drop, Local, Flood, Forward}
 use Rattle.gn_rules.specs.declared.reply.DropReason.TheVariants as reason
 use Rattle.gn_rules.specs.declared.reply.Reply.{Reply}
-use Rattle.gn_rules.specs.Answer.{answer, decision_reply}
-use Rattle.gn_rules.specs.Decision.{checks, decide, decide_checked, decide_push_to, decide_reply, decide_request, decide_sound, request_key}
+use Rattle.gn_rules.specs.declared.sends.Sending.{Sending}
+use Rattle.gn_rules.specs.Answer.{answer, decision_reply, IsLegal}
+use Rattle.gn_rules.specs.Decision.{checks, decide, decide_checked, decide_reply, decide_sound}
 use Rattle.gn_rules.specs.Flight.{Admission}
-use Rattle.gn_rules.specs.History.{connected_of, is_at, is_close, is_take, sends_of}
-use Rattle.gn_rules.specs.Legal.{IsLegal}
-use Rattle.gn_rules.specs.Live.{connections, live}
+use Rattle.gn_rules.specs.History.{connected_of, is_at, is_close, is_take, sends_of, connections, live}
 use Rattle.gn_rules.specs.Output.{queued, queued_to, takes}
-use Rattle.gn_rules.specs.Sending.{fanout, flood_sends, forward_sends, is_ping, own_pong, pong_sends, send}
+use Rattle.gn_rules.specs.Sending.{fanout, flood_sends, is_ping, own_pong, send}
 use Rattle.gn_rules.specs.Servents.{servent_route}
 use Rattle.gn_rules.specs.SeenEntries.{is_remembered, source}
 use Rattle.gn_rules.proofs.LiveLemmas.{connections_counted, connects_next}
@@ -198,26 +196,24 @@ send_none s past p r c alive dead =
       | true ↦ λ e. let is : r ≡ c = exact_unsigned_eq r c e in let same : live past r ≡ live past c = ap (live past) is in cc
     ] refl
 
+pong_none : {A : Type 0} (s : Config) (past : List (Step A)) (ping alive : Bool) (p : Packet) (r c : ℕ) → live past r ≡ alive → live past c ≡ false
+    → queued_to c (if ping && alive then send s past p r ∷ [] else []) ≡ []
+pong_none s past true true p r c e dead = send_none s past p r c e dead
+pong_none s past true false p r c e dead = refl
+pong_none s past false alive p r c e dead = refl
+
+forward_none : {A : Type 0} (s : Config) (past : List (Step A)) (expired : Bool) (from : ℕ) (p : Packet) (c : ℕ) → live past c ≡ false
+    → queued_to c (if expired then [] else fanout s past from p) ≡ []
+forward_none s past true from p c dead = refl
+forward_none s past false from p c dead = fanout_none s past from p c dead
+
+both_none : {A : Type 0} (c : ℕ) (xs ys : List (Sending A)) → queued_to c xs ≡ [] → queued_to c ys ≡ [] → queued_to c (xs ++ ys) ≡ []
+both_none c xs ys first second = queued_append c xs ys ∙ ap (λ ps. ps ++ queued_to c ys) first ∙ second
+
 flood_none : {A : Type 0} (s : Config) (past : List (Step A)) (a : Admission) (c : ℕ) → live past c ≡ false → queued_to c (flood_sends s past a) ≡ []
 flood_none s past a c dead =
-    queued_append c (pong_sends s past a) (forward_sends s past a) ∙ ap (λ ps. ps ++ queued_to c (forward_sends s past a)) pong ∙ forward
-  where
-    pong : queued_to c (pong_sends s past a) ≡ []
-    pong =
-        elim (is_ping a.packet.kind) as (λ b. queued_to c (cond (b && live past a.origin) (send s past (own_pong s.own a.packet) a.origin ∷ []) []) ≡ []) [
-          | false ↦ refl
-          | true ↦ elim (live past a.origin) as (λ b. live past a.origin ≡ b → queued_to c (cond b (send s past (own_pong s.own a.packet) a.origin ∷ []) []) ≡ []) [
-            | false ↦ λ e. refl
-            | true ↦ λ e. send_none s past (own_pong s.own a.packet) a.origin c e dead
-          ] refl
-        ]
-
-    forward : queued_to c (forward_sends s past a) ≡ []
-    forward =
-        elim (is_expired s.numbers.life a.packet) as (λ b. queued_to c (cond b [] (fanout s past a.origin (forward_of s.numbers.life a.packet))) ≡ []) [
-          | true ↦ refl
-          | false ↦ fanout_none s past a.origin (forward_of s.numbers.life a.packet) c dead
-        ]
+    both_none c _ _ (pong_none s past (is_ping a.packet.kind) (live past a.origin) (own_pong s.own a.packet) a.origin c refl dead)
+    (forward_none s past (is_expired s.numbers.life a.packet) a.origin (forward_of s.numbers.life a.packet) c dead)
 
 -- a decision passes a descriptor on to a live connection alone
 abbrev AimsLive : {A : Type 0} → List (Step A) → Decision → Type 0
@@ -241,22 +237,22 @@ reply_aims : {A : Type 0} (s : Config) (past : List (Step A)) (a : Admission) (f
 reply_aims s past a None = tt
 reply_aims s past a (Some r) = aims_either past (r == 0) Local (checks s past a r) tt (checks_aim s past a r)
 
-push_aims : {A : Type 0} (s : Config) (past : List (Step A)) (a : Admission) (found : Option ℕ) → AimsLive past (decide_push_to s past a found)
+push_aims : {A : Type 0} (s : Config) (past : List (Step A)) (a : Admission) (found : Option ℕ) → AimsLive past (option_map_or (checks s past a) found (Drop reason.NoRoute))
 push_aims s past a None = tt
 push_aims s past a (Some r) = checks_aim s past a r
 
-request_aims : {A : Type 0} (s : Config) (past : List (Step A)) (a : Admission) → AimsLive past (decide_request s past a)
+request_aims : {A : Type 0} (s : Config) (past : List (Step A)) (a : Admission) → AimsLive past (decide_sound s past a Ping)
 request_aims s past a = aims_either past (is_remembered s past (key_of a.packet)) (Drop reason.Duplicate) Flood tt tt
 
 sound_aims : {A : Type 0} (s : Config) (past : List (Step A)) (a : Admission) (kind : Kind) → AimsLive past (decide_sound s past a kind)
 sound_aims s past a Ping = request_aims s past a
 sound_aims s past a Query = request_aims s past a
-sound_aims s past a Pong = reply_aims s past a (source s past (request_key Ping a))
-sound_aims s past a QueryHit = reply_aims s past a (source s past (request_key Query a))
+sound_aims s past a Pong = reply_aims s past a (source s past (record { kind = Ping; id = a.packet.id }))
+sound_aims s past a QueryHit = reply_aims s past a (source s past (record { kind = Query; id = a.packet.id }))
 sound_aims s past a Push =
     let to = push_servent a.packet.payload in
-    aims_either past (is_remembered s past (key_of a.packet)) (Drop reason.Duplicate) (cond (is_same_id to s.own.servent) Local (decide_push_to s past a (servent_route s past to))) tt
-    (aims_either past (is_same_id to s.own.servent) Local (decide_push_to s past a (servent_route s past to)) tt (push_aims s past a (servent_route s past to)))
+    aims_either past (is_remembered s past (key_of a.packet)) (Drop reason.Duplicate) (cond (is_same_id to s.own.servent) Local (option_map_or (checks s past a) (servent_route s past to) (Drop reason.NoRoute))) tt
+    (aims_either past (is_same_id to s.own.servent) Local (option_map_or (checks s past a) (servent_route s past to) (Drop reason.NoRoute)) tt (push_aims s past a (servent_route s past to)))
 sound_aims s past a (Unknown code) = tt
 
 checked_aims : {A : Type 0} (s : Config) (past : List (Step A)) (a : Admission) (verdict : Verdict) → AimsLive past (decide_checked s past a verdict)

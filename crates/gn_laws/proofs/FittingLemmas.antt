@@ -9,7 +9,7 @@ use Rattle.gn_rules.specs.declared.event.Event.{Event}
 use Rattle.gn_rules.specs.declared.receipt.Receipt.{Receipt}
 use Rattle.gn_rules.specs.declared.receipt.Step.{Step}
 use Rattle.gn_rules.specs.declared.reply.Reply.{Reply}
-use Rattle.gn_rules.specs.Mine.{mine, mine_from, step_of}
+use Rattle.gn_rules.specs.History.{mine, mine_from, step_of}
 use Rattle.gn_laws.specs.Owners.{receipts_below, indices_ascend, AreFitting, FittingAreMine, FittingIsMine, StrangersHaveNone}
 use Rattle.gn_laws.proofs.OwnerLemmas.{mine_length, receipts_add_up, receipts_counted}
 use Rattle.gn_laws.proofs.ReceiptLemmas.{receipts_in_order}

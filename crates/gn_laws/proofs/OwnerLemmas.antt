@@ -1,5 +1,5 @@
 -- What a link's actors were answered is all that the history says of the link's connection.
-use Rattle.std.proofs.Common.{◌≡◌, ◌≤◌, ◌<◌, ◌+◌, ◌-◌, ◌==◌, ◌↔◌, ℕ, zero, suc, Bool, true, false, ◌&&◌, ◌||◌, nat_lt, cond, List, [], ◌∷◌, ◌++◌, length, get_or, reverse, is_some, Option, Some, None, Ok, inl, inr, refl, sym, ap, ◌∙◌, arith}
+use Rattle.std.proofs.Common.{◌≡◌, ◌≤◌, ◌<◌, ◌+◌, ◌-◌, ◌==◌, ◌↔◌, ℕ, zero, suc, Bool, true, false, ◌&&◌, ◌||◌, nat_lt, cond, List, [], ◌∷◌, ◌++◌, filter, length, get_or, reverse, is_some, Option, Some, None, Ok, inl, inr, refl, sym, ap, ◌∙◌, arith}
 use Rattle.std.specs.List.{All, AllByRecursion, cons_option, count_by, filter_map, list_all, list_any}
 use Rattle.std.specs.Option.{option_or, option_to_list}
 use Rattle.std.proofs.lemmas.Bool.{cases_lt, cases_eq, eqb-false, false_from_ne_true}
@@ -16,12 +16,11 @@ use Rattle.gn_rules.specs.declared.event.Event.TheVariants.{Close, Admit, Route,
 use Rattle.gn_rules.specs.declared.receipt.Receipt.{Receipt}
 use Rattle.gn_rules.specs.declared.receipt.Step.{Step}
 use Rattle.gn_rules.specs.declared.reply.Reply.{Reply}
-use Rattle.gn_rules.specs.Answer.{answer}
-use Rattle.gn_rules.specs.History.{closed_of, connected_of, is_at, is_close, is_take, offered_of, taken_of, ticket_of}
-use Rattle.gn_rules.specs.Legal.{IsLegal}
-use Rattle.gn_rules.specs.Mine.{mine, mine_from}
-use Rattle.gn_rules.specs.Output.{taken, took}
-use Rattle.gn_laws.specs.Owners.{known_conn, receipts_below, packets_of, offered_on, is_readers, is_writers, AreCompared, ConnectedToOne, LinksAgree, ReceiptsAddUp}
+use Rattle.gn_rules.specs.Answer.{answer, IsLegal}
+use Rattle.gn_rules.specs.Flight.{Admission, admission_of}
+use Rattle.gn_rules.specs.History.{closed_of, connected_of, is_at, is_close, is_take, taken_of, ticket_of, mine, mine_from}
+use Rattle.gn_rules.specs.Output.{taken}
+use Rattle.gn_laws.specs.Owners.{known_conn, receipts_below, packets_of, is_readers, is_writers, AreCompared, ConnectedToOne, LinksAgree, ReceiptsAddUp}
 use Rattle.gn_rules.proofs.AnswerLemmas.{answered}
 use Rattle.gn_laws.proofs.ConnectionLemmas.{connections_count}
 use Rattle.gn_laws.proofs.CountLemmas.{tally, count-cons, count_some, count-reverse, same_in_both}
@@ -111,6 +110,10 @@ connected_to_one A s steps c j k legal known_j known_k =
           absurd (omega (arith, both, first, second, once, same))
     ]
 
+-- the packet that a step took from c, where it is a Take(c)
+abbrev took : {A : Type 0} → ℕ → Step A → Option Packet
+took c step = cond (is_take c step.event) (taken_of step.reply) None
+
 -- the packets that were taken, in the order of the steps
 taken_in_order : {A : Type 0} (past : List (Step A)) (c : ℕ) → taken past c ≡ filter_map (took c) (reverse past)
 taken_in_order [] c = refl
@@ -182,14 +185,41 @@ each_even : {A : Type 0} (s : Config) (steps : List (Step A)) (c : ℕ) → IsLe
 each_even s steps c legal =
     All-permutation (IsEven c) (reverse steps) steps (rw reverse-reverse at (IsPermutation-reverse (reverse steps))) (All-from_recursion (IsEven c) (reverse steps) (all_even s (reverse steps) c legal))
 
+-- what an event offers on c
+abbrev offered_on : {A : Type 0} → ℕ → Event A → Option Admission
+offered_on c (Admit d packet) = cond (d == c) (Some (record { origin = d; packet = packet })) None
+offered_on c event = None
+
+-- one event more
+offered_more : {A : Type 0} (event : Event A) (c : ℕ) (on all : List Admission) → on ≡ filter (λ offer. offer.origin == c) all
+    → cons_option (offered_on c event) on ≡ filter (λ offer. offer.origin == c) (cons_option (admission_of event) all)
+offered_more (Admit d packet) c on all rest =
+    let here : Admission = record { origin = d; packet = packet } in
+    let others = filter (λ (offer : Admission). offer.origin == c) all in
+    elim (d == c) as (λ b. cons_option (cond b (Some here) None) on ≡ cond b (here ∷ others) others) [
+      | true ↦ ap (λ offers. here ∷ offers) rest
+      | false ↦ rest
+    ]
+offered_more event c on all rest = rest
+
+-- what the steps offer on c, in order
+offered_in_order : {A : Type 0} (steps : List (Step A)) (c : ℕ)
+    → filter_map (λ step. offered_on c step.event) steps ≡ filter (λ offer. offer.origin == c) (filter_map (λ step. admission_of step.event) steps)
+offered_in_order [] c = refl
+offered_in_order {A} (step ∷ steps) c =
+    offered_more step.event c (filter_map (λ (x : Step A). offered_on c x.event) steps) (filter_map (λ (x : Step A). admission_of x.event) steps) (offered_in_order steps c)
+
 -- a reader that offers on c has it as its connection
 reader_conn : {A : Type 0} (o : Option ℕ) (event : Event A) (c : ℕ) → is_readers o event ≡ true → is_some (offered_on c event) ≡ true → o ≡ Some c
 reader_conn None (Admit d packet) c reads offers = absurd (cc)
 reader_conn (Some x) (Admit d packet) c reads offers =
-    let same : c ≡ d = exact_unsigned_eq c d (at (c == d) offers) in
-    ap (λ (n : ℕ). Some n) (sym (same ∙ exact_unsigned_eq d x reads))
+    let same : d ≡ c = exact_unsigned_eq d c (at (d == c) offers) in
+    ap (λ (n : ℕ). Some n) (sym (exact_unsigned_eq d x reads) ∙ same)
   where
-    at : (b : Bool) → is_some (cond b (Some packet) None) ≡ true → b ≡ true
+    offer : Admission
+    offer = record { origin = d; packet = packet }
+
+    at : (b : Bool) → is_some (cond b (Some offer) None) ≡ true → b ≡ true
     at true h = refl
     at false h = cc
 reader_conn o event c reads offers = absurd (cc)
@@ -282,11 +312,8 @@ offered_by {A} s steps conns k c link i d below offers =
     ]
 
 -- a reader's own offer is on its connection
-own_offer : {A : Type 0} (event : Event A) (c : ℕ) → is_readers (Some c) event ≡ true → offered_of event ≡ offered_on c event
-own_offer (Admit d packet) c reads = ap (λ b. cond b (Some packet) None) (sym (ap (λ n. n == d) (sym (exact_unsigned_eq d c reads)) ∙ itself d))
-  where
-    itself : (d : ℕ) → (d == d) ≡ true
-    itself d = grind (arith, common_steps)
+own_offer : {A : Type 0} (event : Event A) (c : ℕ) → is_readers (Some c) event ≡ true → admission_of event ≡ offered_on c event
+own_offer (Admit d packet) c reads = ap (λ b. cond b (Some (record { origin = d; packet = packet })) None) (sym reads)
 own_offer event c reads = refl
 
 none_unless : {X : Type 0} (o : Option X) → (is_some o ≡ true → ⊥) → o ≡ None
@@ -306,9 +333,9 @@ pub links_agree : (A : Type 0) → LinksAgree A
 links_agree A s steps conns k c legal compared inside conn =
     let n = length conns in
     let link : IsLink s steps conns k c = record { legal = legal; compared = compared; inside = inside; conn = conn } in
-    let offering : Event A → Reply A → Option Packet = λ event reply. offered_of event in
+    let offering : Event A → Reply A → Option Admission = λ event reply. admission_of event in
     let giving : Event A → Reply A → Option Packet = λ event reply. taken_of reply in
-    let on : Step A → Option Packet = λ step. offered_on c step.event in
+    let on : Step A → Option Admission = λ step. offered_on c step.event in
     let even = each_even s steps c legal in
     let takes : packets_of (mine steps (n + k)) ≡ taken (reverse steps) c =
     mine_agrees giving (took c) (n + k) 0 steps (recursion_from_All (IsVerdictBy giving (took c) (n + k)) steps (λ i d below. record {
@@ -321,7 +348,8 @@ links_agree A s steps conns k c legal compared inside conn =
       offers = mine_agrees offering on k 0 steps (recursion_from_All (IsVerdictBy offering on k) steps (λ i d below. record {
         own = λ is. own_offer (get_or steps i d).event c (ap (λ o. is_readers o (get_or steps i d).event) (sym conn) ∙ at_mine (is_readers (get_or conns k None)) k 0 steps (compared.readers k inside) i d below is);
         other = λ isnt. none_unless (offered_on c (get_or steps i d).event) (λ offers. isnt (offered_by s steps conns k c link i d below offers));
-      }));
+      }))
+          ∙ offered_in_order steps c;
       takes = takes;
       drained = λ known.
           let drains : Event A → Reply A → Bool = λ event reply. is_close c event && is_at 0 (closed_of reply) in

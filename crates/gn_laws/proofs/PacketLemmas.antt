@@ -10,8 +10,7 @@ use Rattle.gn_rules.specs.declared.event.Event.TheVariants.{Connect, Close, Admi
 use Rattle.gn_rules.specs.declared.receipt.Step.{Step}
 use Rattle.gn_rules.specs.declared.reply.Reply.{Reply}
 use Rattle.gn_rules.specs.Answer.{answer}
-use Rattle.gn_rules.specs.History.{closed_of, is_at, is_close, is_take, sends_of, taken_of}
-use Rattle.gn_rules.specs.Live.{live}
+use Rattle.gn_rules.specs.History.{closed_of, is_at, is_close, is_take, sends_of, taken_of, live}
 use Rattle.gn_rules.specs.Output.{out, queued, queued_to, taken}
 use Rattle.gn_laws.specs.Connections.{is_closed}
 use Rattle.gn_laws.specs.Packets.{is_drained, DrainedTookAll, QueuedIsTakenAndWaiting}

@@ -4,7 +4,7 @@ use Rattle.std.proofs.lemmas.Bool.{and_from, le-ltb}
 use Rattle.std.proofs.lemmas.Map.Views.{exact_unsigned_eq}
 use Rattle.gn_rules.specs.declared.receipt.Receipt.{Receipt}
 use Rattle.gn_rules.specs.declared.receipt.Step.{Step}
-use Rattle.gn_rules.specs.Mine.{mine, mine_from, step_of}
+use Rattle.gn_rules.specs.History.{mine, mine_from, step_of}
 use Rattle.gn_laws.specs.Owners.{indices_ascend, ReceiptsInOrder}
 
 -- where a receipt's step stands among steps of which the first has index i

@@ -1,6 +1,6 @@
 -- The laws of tickets, of histories in order.
 use Rattle.std.proofs.Common.{◌≡◌, ◌<◌, ◌+◌, ◌==◌, ◌↔◌, ℕ, zero, suc, Bool, true, false, ◌||◌, not, List, [], ◌∷◌, ◌++◌, length, get_or, take, reverse, is_some, refl, sym, ap, ◌∙◌, arith, append_assoc}
-use Rattle.std.specs.List.{All, AllByRecursion, list_any}
+use Rattle.std.specs.List.{All, AllByRecursion, count_by, list_any}
 use Rattle.std.specs.List.Sorted.{IsPermutation}
 use Rattle.std.proofs.lemmas.Bool.{and_from, and_parts, eq-eqb, eqb-true}
 use Rattle.std.proofs.lemmas.Grind.{common_steps}
@@ -10,13 +10,15 @@ use Rattle.std.proofs.lemmas.List.Folds.{list_any_at}
 use Rattle.std.proofs.lemmas.List.Sorted.{All-permutation, list_any-IsPermutation, IsPermutation-reverse}
 use Rattle.std.proofs.lemmas.List.Sums.{sum_by_push}
 use Rattle.gn_rules.specs.declared.config.Config.{Config}
+use Rattle.gn_rules.specs.declared.event.Event.{Event}
+use Rattle.gn_rules.specs.declared.event.Event.TheVariants.{Route}
 use Rattle.gn_rules.specs.declared.receipt.Step.{Step}
 use Rattle.gn_rules.specs.Flight.{flying, is_route}
 use Rattle.gn_rules.specs.History.{admitted_of, is_at, ticket_of}
-use Rattle.gn_rules.specs.Legal.{IsLegal}
+use Rattle.gn_rules.specs.Answer.{IsLegal}
 use Rattle.gn_laws.specs.Tickets.{admitted, is_route_reply, routed}
 use Rattle.gn_laws.specs.Runs.{is_admitted, EachIsRouted, RoutesAll, settled_from, CountsAgree, EqualCountsRouteAll, NoneFlies}
-use Rattle.gn_laws.proofs.CountLemmas.{count_some, count-reverse, tally}
+use Rattle.gn_laws.proofs.CountLemmas.{count-cons, count_some, count-reverse, tally}
 use Rattle.gn_laws.proofs.TicketLemmas.{admitted_once, each_routed, flights_balance, none_flies as none_left, route_replied, routed_once}
 
 -- a test of some step doesn't go by the order
@@ -57,6 +59,16 @@ all_replied : {A : Type 0} (s : Config) (past : List (Step A)) → IsLegal s pas
 all_replied s [] legal = tt
 all_replied s (step ∷ past) legal = ((λ h. route_replied s past step.event step.reply legal.0 h), all_replied s past legal.1)
 
+-- an event routes t where t is the ticket that it routes
+routes_same : {A : Type 0} (t : ℕ) (event : Event A) → is_at t (ticket_of event) ≡ is_route t event
+routes_same t (Route u) = refl
+routes_same t event = refl
+
+routes_counted : {A : Type 0} (steps : List (Step A)) (t : ℕ) → count_by (λ step. is_at t (ticket_of step.event)) steps ≡ count_by (λ step. is_route t step.event) steps
+routes_counted [] t = refl
+routes_counted {A} (step ∷ steps) t =
+    omega (arith, routes_counted steps t, ap tally (routes_same t step.event), count-cons (λ (x : Step A). is_at t (ticket_of x.event)) step steps, count-cons (λ (x : Step A). is_route t x.event) step steps)
+
 pub equal_counts_route_all : (A : Type 0) → EqualCountsRouteAll A
 equal_counts_route_all A s steps legal same =
     let past : List (Step A) = reverse steps in
@@ -71,7 +83,7 @@ equal_counts_route_all A s steps legal same =
           let some = count_some routing steps ((counts_agree A s steps legal).0 same t was) in
           let most = routed_once A s past t legal in
           let once = admitted_once A s past t legal in
-          omega (arith, some, most, once, count-reverse routing steps);
+          omega (arith, some, most, once, count-reverse routing steps, routes_counted steps t);
       replied = λ k d below h. All-get_or IsReplied steps k d below replied h;
     }
   where

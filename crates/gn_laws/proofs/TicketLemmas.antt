@@ -14,13 +14,12 @@ use Rattle.gn_rules.specs.declared.receipt.Step.{Step}
 use Rattle.gn_rules.specs.declared.reply.Decision.{Decision}
 use Rattle.gn_rules.specs.declared.reply.Decision.TheVariants.{Drop}
 use Rattle.gn_rules.specs.declared.reply.Reply.{Reply}
-use Rattle.gn_rules.specs.Answer.{answer, decision_reply}
+use Rattle.gn_rules.specs.Answer.{answer, decision_reply, IsLegal}
 use Rattle.gn_rules.specs.Decision.{decide}
 use Rattle.gn_rules.specs.Flight.{Admission, admission, admission_of, flying, is_route, is_routed, tickets}
 use Rattle.gn_rules.specs.History.{admitted_of, is_at, ticket_of}
-use Rattle.gn_rules.specs.Legal.{IsLegal}
 use Rattle.gn_rules.proofs.AnswerLemmas.{answered}
-use Rattle.gn_rules.proofs.FlightLemmas.{flying_more, gives_next, moves_tickets, route_is, tickets_counted}
+use Rattle.gn_rules.proofs.FlightLemmas.{flying_more, gives_next, moves_tickets, tickets_counted}
 use Rattle.gn_rules.proofs.StepLemmas.{filter_both}
 use Rattle.gn_laws.specs.Tickets.{admissions, routes, is_route_reply, AdmittedOnce, FlightsBalance, RoutedOnce, RoutesAreReplied, TicketsCount}
 use Rattle.gn_laws.specs.Runs.{EachIsRouted}
@@ -67,14 +66,14 @@ routed_more {A} s past step t e before =
       | inr (inr one) ↦ elim (is_route t step.event) as (λ b. is_route t step.event ≡ b → tally b + routes past t ≤ admissions past t) [
         | false ↦ λ h. omega (arith, before)
         | true ↦ λ h.
-            let is : t ≡ one.ticket = exact_unsigned_eq t one.ticket (ap (is_at t) (sym one.routes) ∙ sym (route_is t step.event) ∙ h) in
+            let is : t ≡ one.ticket = exact_unsigned_eq t one.ticket (ap (is_at t) (sym one.routes) ∙ h) in
             let unrouted : list_any (λ x. is_route t x.event) past ≡ false = ap (is_routed past) is ∙ one.unrouted in
             omega (arith, count_none (λ (x : Step A). is_route t x.event) past unrouted, some_admission past t one.found (ap (admission past) is ∙ one.was_admitted))
       ] refl
     ]
   where
     none : ticket_of step.event ≡ None → tally (is_route t step.event) ≡ 0
-    none h = ap tally (route_is t step.event) ∙ ap (λ o. tally (is_at t o)) h
+    none h = ap (λ o. tally (is_at t o)) h
 
 pub routed_once : (A : Type 0) → RoutedOnce A
 routed_once A s [] t legal = omega arith
@@ -144,7 +143,7 @@ flying_stay {A} s past step legal =
       | inl leaves ↦ all leaves.routes
       | inr (inl next) ↦ all next.routes
       | inr (inr one) ↦
-          let both = length-filter_both (λ t. t == one.ticket) (λ t. not (is_route t step.event)) (λ t. ap not (route_is t step.event ∙ ap (is_at t) one.routes)) (flying past) in
+          let both = length-filter_both (λ t. t == one.ticket) (λ t. not (is_route t step.event)) (λ t. ap (λ o. not (is_at t o)) one.routes) (flying past) in
           let here = length-filter (λ t. t == one.ticket) (flying past) in
           let flies = flies_as_admitted past one.ticket one.unrouted in
           let most = admitted_once A s past one.ticket legal.1 in
@@ -158,7 +157,7 @@ flying_stay {A} s past step legal =
 
     all : ticket_of step.event ≡ None → length (filter (λ t. not (is_route t step.event)) (flying past)) + tally (is_some (ticket_of step.event)) ≡ length (flying past)
     all none =
-        let same = keeps_all (λ t. not (is_route t step.event)) (λ t. ap not (route_is t step.event ∙ ap (is_at t) none)) (flying past) in
+        let same = keeps_all (λ t. not (is_route t step.event)) (λ t. ap (λ o. not (is_at t o)) none) (flying past) in
         omega (arith, ap length same, ap (λ o. tally (is_some o)) none)
 
 pub flights_balance : (A : Type 0) → FlightsBalance A

@@ -7,10 +7,8 @@ use Rattle.gn_rules.specs.declared.config.Config.{Config}
 use Rattle.gn_rules.specs.declared.event.Event.{Event}
 use Rattle.gn_rules.specs.declared.receipt.Step.{Step}
 use Rattle.gn_rules.specs.declared.reply.Reply.{Reply}
-use Rattle.gn_rules.specs.Answer.{answer}
-use Rattle.gn_rules.specs.History.{connected_of, is_at, is_close, sends_of}
-use Rattle.gn_rules.specs.Legal.{IsLegal}
-use Rattle.gn_rules.specs.Live.{connections, live}
+use Rattle.gn_rules.specs.Answer.{answer, IsLegal}
+use Rattle.gn_rules.specs.History.{connected_of, is_at, is_close, sends_of, connections, live}
 use Rattle.gn_rules.specs.Output.{queued, queued_to, takes}
 
 -- how many steps are replied Connected(c)

@@ -2,7 +2,7 @@
 --
 -- Here `steps` is a history in order, the oldest step first, and `reverse steps` the past that the definitions of the rules
 -- are given. Of n links, actor k below n reads link k, and actor n + k writes it; every other actor routes.
-use Rattle.std.specs.Prelude.{◌≡◌, ◌≤◌, ◌<◌, ◌+◌, ◌↔◌, ◌==◌, ◌&&◌, ℕ, zero, suc, Bool, true, false, nat_lt, not, if◌then◌else◌, List, [], ◌∷◌, length, reverse, is_some, slice_index_or, Option, Some, None}
+use Rattle.std.specs.Prelude.{◌≡◌, ◌≤◌, ◌<◌, ◌+◌, ◌↔◌, ◌==◌, ◌&&◌, ℕ, zero, suc, Bool, true, false, nat_lt, not, List, [], ◌∷◌, filter, length, reverse, is_some, slice_index_or, Option, Some, None}
 use Rattle.std.specs.List.{count_by, filter_map, list_all, list_any, sum_by}
 use Rattle.std.specs.Option.{option_or}
 use Rattle.gn_wire.specs.Packet.{Packet}
@@ -11,9 +11,9 @@ use Rattle.gn_rules.specs.declared.event.Event.{Event}
 use Rattle.gn_rules.specs.declared.event.Event.TheVariants.{Connect, Close, Admit, Route, Take}
 use Rattle.gn_rules.specs.declared.receipt.Receipt.{Receipt}
 use Rattle.gn_rules.specs.declared.receipt.Step.{Step}
-use Rattle.gn_rules.specs.History.{closed_of, connected_of, is_at, is_close, offered_of, taken_of, ticket_of}
-use Rattle.gn_rules.specs.Legal.{IsLegal}
-use Rattle.gn_rules.specs.Mine.{mine, step_of}
+use Rattle.gn_rules.specs.Flight.{admission_of}
+use Rattle.gn_rules.specs.History.{closed_of, connected_of, is_at, is_close, taken_of, ticket_of, mine, step_of}
+use Rattle.gn_rules.specs.Answer.{IsLegal}
 use Rattle.gn_rules.specs.Output.{queued, taken}
 
 -- how many receipts the actors below n have
@@ -59,19 +59,6 @@ pub record AreCompared {A : Type 0} (steps : List (Step A)) (conns : List (Optio
 abbrev pub packets_of : {A : Type 0} → List (Receipt A) → List Packet
 packets_of receipts = filter_map (λ r. taken_of r.reply) receipts
 
--- the descriptor that an event offers to admission on c
-abbrev pub offered_on : {A : Type 0} → ℕ → Event A → Option Packet
-offered_on c (Admit d packet) = if c == d then Some packet else None
-offered_on c event = None
-
--- the descriptors that receipts offer to admission, in order
-abbrev pub offers_of : {A : Type 0} → List (Receipt A) → List Packet
-offers_of receipts = filter_map (λ r. offered_of r.event) receipts
-
--- among receipts is a Close(c) replied Closed(0)
-abbrev pub is_drained_by : {A : Type 0} → List (Receipt A) → ℕ → Bool
-is_drained_by receipts c = list_any (λ r. is_close c r.event && is_at 0 (closed_of r.reply)) receipts
-
 -- the actors below n have as many receipts as the history has steps exactly where no step is of another actor
 abbrev pub ReceiptsAddUp : Type 0 → Type 0
 ReceiptsAddUp A =
@@ -107,12 +94,14 @@ ConnectedToOne A =
 -- what a link's two actors have receipts of, about its connection c
 pub record LinkAgrees {A : Type 0} (steps : List (Step A)) (reader writer c : ℕ) : Type 0 where
   -- the descriptors that the reader's receipts offer are all that the history offers on c, in order
-  pub offers : offers_of (mine steps reader) ≡ filter_map (λ step. offered_on c step.event) steps
+  pub offers : filter_map (λ r. admission_of r.event) (mine steps reader)
+      ≡ filter (λ offer. offer.origin == c) (filter_map (λ step. admission_of step.event) steps)
   -- the packets that the writer's receipts took are all that the history took from c, in order
   pub takes : packets_of (mine steps writer) ≡ taken (reverse steps) c
   -- where one of the writer's receipts is of a Close(c) replied Closed(0), these packets are all that the history ever
   -- queued to c
-  pub drained : is_drained_by (mine steps writer) c ≡ true → packets_of (mine steps writer) ≡ queued (reverse steps) c
+  pub drained : list_any (λ r. is_close c r.event && is_at 0 (closed_of r.reply)) (mine steps writer) ≡ true
+      → packets_of (mine steps writer) ≡ queued (reverse steps) c
 
 -- in a legal history whose actors' steps are as compared, the two actors of a link that has a connection have receipts of
 -- all of it

@@ -6,7 +6,7 @@ use Rattle.std.specs.List.{list_any}
 use Rattle.gn_rules.specs.declared.config.Config.{Config}
 use Rattle.gn_rules.specs.declared.receipt.Step.{Step}
 use Rattle.gn_rules.specs.History.{closed_of, is_at, is_close}
-use Rattle.gn_rules.specs.Legal.{IsLegal}
+use Rattle.gn_rules.specs.Answer.{IsLegal}
 use Rattle.gn_rules.specs.Output.{out, queued, taken}
 
 -- a step is Close(c), replied Closed(0)

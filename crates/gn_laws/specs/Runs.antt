@@ -3,14 +3,14 @@
 -- Here `steps` is a history in order, the oldest step first, and `reverse steps` the past that the definitions of the rules
 -- are given. Counts are the same of both.
 use Rattle.std.specs.Prelude.{◌≡◌, ◌<◌, ◌+◌, ◌↔◌, ◌==◌, ◌&&◌, ◌||◌, ℕ, Bool, true, not, if◌then◌else◌, List, [], ◌∷◌, length, reverse, is_some, slice_index_or}
-use Rattle.std.specs.List.{list_any}
+use Rattle.std.specs.List.{count_by, list_any}
 use Rattle.gn_rules.specs.declared.config.Config.{Config}
 use Rattle.gn_rules.specs.declared.receipt.Step.{Step}
 use Rattle.gn_rules.specs.declared.reply.Reply.TheVariants.{Admitted}
 use Rattle.gn_rules.specs.Flight.{flying, is_routed}
 use Rattle.gn_rules.specs.History.{admitted_of, is_at, ticket_of}
-use Rattle.gn_rules.specs.Legal.{IsLegal}
-use Rattle.gn_laws.specs.Tickets.{admitted, is_route_reply, routed, routes}
+use Rattle.gn_rules.specs.Answer.{IsLegal}
+use Rattle.gn_laws.specs.Tickets.{admitted, is_route_reply, routed}
 
 -- a step is replied Admitted(t)
 abbrev pub is_admitted : {A : Type 0} → List (Step A) → ℕ → Bool
@@ -34,7 +34,7 @@ NoneFlies A = (steps : List (Step A)) → (length (flying (reverse steps)) ≡ 0
 pub record RoutesAll {A : Type 0} (steps : List (Step A)) : Type 0 where
   -- for each step replied Admitted(t) there is exactly one step Route(t)
   pub once : (k t : ℕ) (d : Step A) → k < length steps → (slice_index_or steps k d).reply ≡ Admitted t
-      → routes steps t ≡ 1
+      → count_by (λ step. is_at t (ticket_of step.event)) steps ≡ 1
   -- each step Route is replied Routed or Dropped
   pub replied : (k : ℕ) (d : Step A) → k < length steps → is_some (ticket_of (slice_index_or steps k d).event) ≡ true
       → is_route_reply (slice_index_or steps k d).reply ≡ true

@@ -1,13 +1,14 @@
 -- Laws of tickets: each is given once and routed at most once.
 --
 -- In each law `past` is a history with its newest step first, as in the definitions of the rules.
-use Rattle.std.specs.Prelude.{◌≡◌, ◌≤◌, ◌<◌, ◌+◌, ◌||◌, ℕ, Bool, true, List, ◌∷◌, length, is_some, slice_index_or, count_by}
+use Rattle.std.specs.Prelude.{◌≡◌, ◌≤◌, ◌<◌, ◌+◌, ℕ, Bool, true, false, List, ◌∷◌, length, is_some, slice_index_or, count_by}
 use Rattle.gn_rules.specs.declared.config.Config.{Config}
 use Rattle.gn_rules.specs.declared.receipt.Step.{Step}
 use Rattle.gn_rules.specs.declared.reply.Reply.{Reply}
-use Rattle.gn_rules.specs.Flight.{flying, is_route, tickets}
-use Rattle.gn_rules.specs.History.{admitted_of, dropped_of, is_at, is_routed_reply, ticket_of}
-use Rattle.gn_rules.specs.Legal.{IsLegal}
+use Rattle.gn_rules.specs.declared.reply.Reply.TheVariants.{Dropped, Routed}
+use Rattle.gn_rules.specs.Flight.{flying, tickets}
+use Rattle.gn_rules.specs.History.{admitted_of, is_at, ticket_of}
+use Rattle.gn_rules.specs.Answer.{IsLegal}
 
 -- how many steps are replied Admitted(t)
 abbrev pub admissions : {A : Type 0} → List (Step A) → ℕ → ℕ
@@ -15,7 +16,7 @@ admissions past t = count_by (λ step. is_at t (admitted_of step.reply)) past
 
 -- how many steps are Route(t)
 abbrev pub routes : {A : Type 0} → List (Step A) → ℕ → ℕ
-routes past t = count_by (λ step. is_route t step.event) past
+routes past t = count_by (λ step. is_at t (ticket_of step.event)) past
 
 -- how many steps are replied Admitted, whatever the ticket
 abbrev pub admitted : {A : Type 0} → List (Step A) → ℕ
@@ -42,7 +43,9 @@ RoutedOnce A = (s : Config) (past : List (Step A)) (t : ℕ) → IsLegal s past 
 
 -- a reply is Routed or Dropped
 abbrev pub is_route_reply : {A : Type 0} → Reply A → Bool
-is_route_reply reply = is_routed_reply reply || is_some (dropped_of reply)
+is_route_reply (Routed sends local) = true
+is_route_reply (Dropped reason) = true
+is_route_reply reply = false
 
 -- in a legal history the newest step, where it is a Route, is replied Routed or Dropped
 abbrev pub RoutesAreReplied : Type 0 → Type 0

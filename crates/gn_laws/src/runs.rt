@@ -3,7 +3,7 @@
 ghost use Rattle.gn_laws.specs.Runs.{EachIsRouted, EqualCountsRouteAll};
 ghost use Rattle.std.specs.Prelude.{◌≡◌, ◌==◌, ◌↔◌, true, reverse};
 ghost use Rattle.gn_rules.specs.declared.config.Config.{Config};
-ghost use Rattle.gn_rules.specs.Legal.{IsLegal};
+ghost use Rattle.gn_rules.specs.Answer.{IsLegal};
 ghost use Rattle.gn_laws.specs.Tickets.{admitted, routed};
 
 use gn_rules::Step;

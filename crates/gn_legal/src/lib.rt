@@ -2,8 +2,7 @@
 #![tactic(auto)]
 
 ghost use Rattle.std.specs.Prelude.{◌≡◌, ◌↔◌, IsTrue, Ok, reverse};
-ghost use Rattle.gn_rules.specs.Answer.{answer};
-ghost use Rattle.gn_rules.specs.Legal.{IsLegal};
+ghost use Rattle.gn_rules.specs.Answer.{IsLegal, answer};
 ghost use Rattle.gn_rules.specs.Legality.{IsVerdict};
 
 use gn_decide::is_answered;

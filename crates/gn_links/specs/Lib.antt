@@ -1,4 +1,3 @@
 pub mod Halves
-pub mod Views
 pub mod Split
 pub mod Memory

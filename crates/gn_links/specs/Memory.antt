@@ -1,8 +1,7 @@
 -- A link over memory and its halves.
 use Rattle.std.specs.Prelude.{◌≡◌, ◌+◌, ◌-◌, ◌^◌, ◌<◌, ◌≤◌, ℕ, All, Bool, true, false, is_some, nat_le, min, List, [], length, take, Option, Some, None}
 use Rattle.gn_shake.specs.declared.role.Role.{Role}
-use Rattle.gn_links.specs.Halves.{Source}
-use Rattle.gn_links.specs.Views.{ReadHalf, WrittenHalf}
+use Rattle.gn_links.specs.Halves.{Source, ReadHalf, WrittenHalf}
 
 -- a link over memory: its role, the bytes that it gives, the most of them at a time, and from which read and which write
 -- on it fails

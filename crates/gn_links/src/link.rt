@@ -2,16 +2,7 @@
 
 ghost use Rattle.std.specs.Prelude.{◌≡◌, ◌≤◌, Bool, false, length, true, IfOk, OnErr};
 ghost use Rattle.gn_shake.specs.declared.role.Role.{Role};
-ghost use Rattle.gn_links.specs.Halves.{Source};
-ghost use Rattle.gn_links.specs.Views.{
-  HasRead,
-  HasWritten,
-  IsNewReader,
-  IsNewWriter,
-  IsReadFrom,
-  ReadHalf,
-  WrittenHalf,
-};
+ghost use Rattle.gn_links.specs.Halves.{HasRead, HasWritten, IsNewReader, IsNewWriter, IsReadFrom, ReadHalf, Source, WrittenHalf};
 
 use gn_shake::Role;
 use std::sync::Wait;

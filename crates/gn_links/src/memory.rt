@@ -2,7 +2,7 @@
 
 ghost use Rattle.std.specs.Prelude.{◌≡◌, ◌<◌, ◌≤◌, None, false, IfOk, IsOk};
 ghost use Rattle.gn_links.specs.Memory.{half_read, half_written, new_reading, new_writing};
-ghost use Rattle.gn_links.specs.Views.{IsNewReader, IsNewWriter};
+ghost use Rattle.gn_links.specs.Halves.{IsNewReader, IsNewWriter};
 
 use crate::link::{Link, LinkFault};
 use crate::memory_reader::MemoryReader;

@@ -1,9 +1,8 @@
 //! The reading half of a link over memory.
 
 ghost use Rattle.std.specs.Prelude.{◌≡◌, ◌++◌, ◌<◌, ◌≤◌, length, take, true, IfOk, OnErr, is_err, is_some};
-ghost use Rattle.gn_links.specs.Halves.{IsReadOf};
-ghost use Rattle.gn_links.specs.Memory.{half_read, is_failing, new_reading, next_call, source_of, IsReaderOf};
-ghost use Rattle.gn_links.specs.Views.{HasRead};
+ghost use Rattle.gn_links.specs.Halves.{HasRead, IsReadOf};
+ghost use Rattle.gn_links.specs.Memory.{IsReaderOf, half_read, is_failing, new_reading, next_call, source_of};
 
 use crate::link::{LinkFault, LinkReader};
 use crate::memory::MemoryLink;
@@ -28,7 +27,7 @@ pub struct MemoryReader<A: Allocator + Copy = Global> {
 }
 
 impl<A: Allocator + Copy> Model for MemoryReader<A> {
-    ghost use Rattle.gn_links.specs.Memory.{MemoryReading, IsGiving, IsReaderOf};
+    ghost use Rattle.gn_links.specs.Memory.{IsGiving, IsReaderOf, MemoryReading};
 
     ghost Value = { MemoryReading };
 

@@ -2,7 +2,7 @@
 
 ghost use Rattle.std.specs.Prelude.{◌≡◌, ◌+◌, ◌⊎◌, ◌<◌, ◌≤◌, length, true, false, IfOk, OnErr, OnOk};
 ghost use Rattle.gn_links.specs.Memory.{half_written, is_failing, new_writing, next_call};
-ghost use Rattle.gn_links.specs.Views.{HasWritten};
+ghost use Rattle.gn_links.specs.Halves.{HasWritten};
 
 use crate::link::{LinkFault, LinkWriter};
 use crate::memory::MemoryLink;

@@ -1,30 +1,41 @@
 -- What a load reads of its input, and why it stops.
-use Rattle.std.proofs.Common.{◌≡◌, ◌↔◌, ℕ, true, false, List, [], length, map, IfErr, Option, Some, None, Result, Ok, Err, refl, sym, ap, ◌∙◌, subst}
+use Rattle.std.proofs.Common.{◌≡◌, ◌↔◌, ◌≤◌, ℕ, true, false, List, [], length, map, IfErr, Option, Some, None, Result, Ok, Err, refl, sym, ap, ◌∙◌, subst, inl}
 use Rattle.std.proofs.lemmas.List.{length-map, map-id}
 use Rattle.std.proofs.lemmas.Option.{slice_get-map}
 use Rattle.std.specs.List.{slice_get}
 use Rattle.std.specs.Option.{option_map}
 use Rattle.std.specs.Prelude.{IfSome, IsOk}
 use Rattle.std.specs.Result.{IsErrAnd, IsOkAnd}
+use Rattle.gn_io.specs.declared.input.InputFault.{InputFault}
+use Rattle.gn_io.specs.declared.input.InputFault.TheVariants as input_fault
+use Rattle.gn_io.specs.Input.{IsInputFault, input_limit}
+use Rattle.gn_io.specs.Streams.{Streams}
 use Rattle.gn_links.specs.Memory.{Memory, MemoryReading, MemoryWriting, half_read, half_written, source_of}
 use Rattle.gn_rules.specs.declared.config.Own.{Own}
 use Rattle.gn_rules.specs.Limits.{IsCrew}
 use Rattle.gn_text.specs.declared.fault.CaptureFault.{CaptureFault}
+use Rattle.gn_text.specs.declared.fault.CaptureRefusal.{CaptureRefusal}
+use Rattle.gn_text.specs.declared.fault.CaptureRefusal.TheVariants as refusal
+use Rattle.gn_text.specs.Faults.{IsRefused}
 use Rattle.gn_rules.specs.declared.limits.Numbers.{Numbers}
 use Rattle.gn_text.specs.Settings.{settings_of}
 use Rattle.gn_capture.specs.declared.capture.Capture.{Capture}
 use Rattle.gn_capture.specs.declared.line.Line.{Line}
 use Rattle.gn_capture.specs.Captures.{capture_of, capture_seen}
 use Rattle.gn_capture.specs.Histories.{history_text}
+use Rattle.gn_replay.specs.Faults.{of_input, of_refusal}
+use Rattle.gn_replay.specs.declared.fault.ReplayFault.TheVariants as replay
 use Rattle.gn_report.specs.declared.report.Report.{Report}
 use Rattle.gn_threads.specs.declared.fault.RunFault.{RunFault}
 use Rattle.gn_threads.specs.declared.fault.RunFault.TheVariants.{BadWorkers, Listen, Call, Link, HistoryFull, NoMemory, Stage, Audit}
 use Rattle.gn_threads.specs.Faults.{IsFaultOf, IsWholeFault}
 use Rattle.gn_threads.specs.Headline.{AreMadeOf, Holds, LinksReadOwn}
-use Rattle.gn_load.specs.declared.fault.LoadFault.TheVariants.{Run}
-use Rattle.gn_load.specs.Faults.{IsRunFault, IsRunLoadFault}
+use Rattle.gn_load.specs.declared.fault.LoadFault.{LoadFault}
+use Rattle.gn_load.specs.declared.fault.LoadFault.TheVariants.{Run, Text}
+use Rattle.gn_load.specs.Faults.{IsLoadFault, IsRunFault, IsRunLoadFault}
 use Rattle.gn_load.specs.Links.{links_from}
-use Rattle.gn_load.specs.Loads.{IsLoadText, load_of}
+use Rattle.gn_load.specs.Loads.{HasStopped, IsLoadText, load_of}
+use Rattle.gn_load.proofs.ServedLemmas.{kept}
 use Rattle.gn_load.proofs.UnfailedLemmas.{none_failed}
 
 -- an error that was handed on
@@ -36,6 +47,47 @@ on_err (Err x) e P is h = subst P (sym is) h
 pub of_known : (rest : Option (List ℕ)) (input : List ℕ) (P : List ℕ → Type 0) → IfSome rest (λ bytes. input ≡ bytes) → P input → IfSome rest P
 of_known None input P whole holds = tt
 of_known (Some bytes) input P whole holds = subst P whole holds
+
+-- the fault of an input that wasn't read is one of its load
+pub unread : {X L : Type 0} (workers : ℕ) (fault : InputFault) (read : List ℕ → Result (X × List L) CaptureFault) (s : Streams)
+    → IsInputFault fault s.source s.source_new → IsLoadFault workers (Text (of_input fault)) read s
+unread workers input_fault.Read read s is = is
+unread workers input_fault.TooLarge read s is = is
+unread workers input_fault.NoMemory read s is = tt
+
+-- and nothing was written
+pub stopped_unread : (A : Type 0) (workers : ℕ) (fault : InputFault) (rest old : Option (List ℕ)) → HasStopped A workers (Text (of_input fault)) rest old old
+stopped_unread A workers input_fault.Read rest old = kept old
+stopped_unread A workers input_fault.TooLarge rest old = kept old
+stopped_unread A workers input_fault.NoMemory rest old = inl (kept old)
+
+-- the fault of an input that was read and has no history is one of its load
+pub unloaded : {X L : Type 0} (workers : ℕ) (fault : LoadFault) (text : List ℕ) (read : List ℕ → Result (X × List L) CaptureFault) (s : Streams)
+    → IfSome s.source.rest (λ bytes. text ≡ bytes) → length text ≤ input_limit → IsRunLoadFault workers fault (read text) → IsLoadFault workers fault read s
+unloaded workers (Text replay.Read) text read s whole short is = absurd is
+unloaded workers (Text replay.TooLarge) text read s whole short is = absurd is
+unloaded workers (Text (replay.Capture fault)) text read s whole short is =
+    of_known s.source.rest text (λ bytes. (length bytes ≤ input_limit) × (read bytes ≡ Err fault)) whole (short, is)
+unloaded workers (Text replay.Write) text read s whole short is = absurd is
+unloaded workers (Text replay.NoMemory) text read s whole short is = tt
+unloaded workers (Run fault) text read s whole short is =
+    of_known s.source.rest text (λ bytes. (length bytes ≤ input_limit) × IsOkAnd (read bytes) (λ loaded. IsRunFault (length loaded.1) workers fault)) whole (short, is)
+
+-- and nothing was written
+pub stopped_unloaded : {X L : Type 0} (A : Type 0) (workers : ℕ) (fault : LoadFault) (read : Result (X × List L) CaptureFault) (rest old : Option (List ℕ))
+    → IsRunLoadFault workers fault read → HasStopped A workers fault rest old old
+stopped_unloaded A workers (Text replay.Read) read rest old is = absurd is
+stopped_unloaded A workers (Text replay.TooLarge) read rest old is = absurd is
+stopped_unloaded A workers (Text (replay.Capture fault)) read rest old is = kept old
+stopped_unloaded A workers (Text replay.Write) read rest old is = absurd is
+stopped_unloaded A workers (Text replay.NoMemory) read rest old is = inl (kept old)
+stopped_unloaded A workers (Run fault) read rest old is = kept old
+
+-- the fault of a text that is no capture
+pub refused_capture : (A : Type 0) (text : List ℕ) (workers : ℕ) (why : CaptureRefusal) → IsRefused why (capture_of {A = A} text)
+    → IsRunLoadFault workers (Text (of_refusal why)) (load_of A text)
+refused_capture A text workers (refusal.Fault fault) is = rw is refl
+refused_capture A text workers refusal.NoMemory is = tt
 
 -- what was read is read
 pub is_read : {X E : Type 0} (r : Result X E) (x : X) → r ≡ Ok x → IsOk r
@@ -74,6 +126,12 @@ module _ {A : Type 0} (text : List ℕ) (capture : Capture A) where
   pub loaded : (links : List Memory) → capture_of text ≡ Ok (capture_seen capture) → links_from [] capture.lines.items ≡ Ok links
       → load_of A text ≡ Ok (settings_of capture.config, links)
   loaded links read made = rw (read, made) refl
+
+  -- a line that a load doesn't take
+  pub refused_links : (workers : ℕ) (why : CaptureRefusal) → capture_of text ≡ Ok (capture_seen capture)
+      → IsRefused why (links_from [] capture.lines.items) → IsRunLoadFault workers (Text (of_refusal why)) (load_of A text)
+  refused_links workers (refusal.Fault fault) read is = rw (read, is) refl
+  refused_links workers refusal.NoMemory read is = tt
 
   -- a run that has no report
   pub refused_run : (workers : ℕ) (links : List Memory) (fault : RunFault) → capture_of text ≡ Ok (capture_seen capture)

@@ -69,6 +69,14 @@ then_cut first mid last waited text h k =
 pub parts_are : (heading header steps ending : List ℕ) → heading ≡ header → (heading ++ steps) ++ ending ≡ (header ++ steps) ++ ending
 parts_are heading header steps ending is = ap (λ r. (r ++ steps) ++ ending) is
 
+-- a line that was made in an empty list is its text
+pub line_is : (empty line lent text : List ℕ) → empty ≡ [] → line ≡ empty ++ text → lent ≡ line → lent ≡ text
+line_is empty line lent text none made same = same ∙ made ∙ ap (λ bytes. bytes ++ text) none
+
+-- what waits with a line waits with its text
+pub waits_line : (waited lent held text : List ℕ) → held ≡ waited ++ lent → lent ≡ text → held ≡ waited ++ text
+waits_line waited lent held text added is = added ∙ ap (λ bytes. waited ++ bytes) is
+
 -- what holds at an error
 pub on_err : {T E : Type 0} (r : Result T E) {P : Type 0} → P → OnErr r P
 on_err (Ok x) p = _

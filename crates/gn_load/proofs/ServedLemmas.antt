@@ -1,8 +1,9 @@
 -- The history of a run over TCP.
-use Rattle.std.proofs.Common.{◌≡◌, ◌+◌, ◌-◌, ℕ, Bool, true, List, [], reverse, refl, subst, inl, inr, Option, Some, None, OnOk, OnErr, Result, Ok, Err, append-nil}
+use Rattle.std.proofs.Common.{◌≡◌, ◌↔◌, ◌+◌, ℕ, Bool, true, List, [], reverse, refl, ap, subst, inl, inr, Option, Some, None, OnOk, OnErr, Result, Ok, Err, append-nil}
 use Rattle.gn_io.specs.Parts.{AppendsPart}
 use Rattle.gn_load.specs.declared.printed.PrintFault.{PrintFault}
-use Rattle.gn_rules.specs.Legal.{IsLegal}
+use Rattle.gn_rules.specs.Answer.{IsLegal}
+use Rattle.gn_rules.specs.Limits.{IsCrew}
 use Rattle.gn_rules.specs.declared.config.Config.{Config}
 use Rattle.gn_rules.specs.declared.receipt.Step.{Step}
 use Rattle.gn_tcp.specs.Tcp.{TcpReading, TcpWriting, half_read, half_written}
@@ -13,7 +14,7 @@ use Rattle.gn_threads.specs.declared.fault.RunFault.{RunFault}
 use Rattle.gn_threads.specs.declared.fault.RunFault.TheVariants.{Audit, BadWorkers, Call, HistoryFull, Link, Listen, NoMemory, Stage}
 use Rattle.std.specs.Io.KnownBytes.{Appends, Keeps}
 use Rattle.gn_load.specs.Served.{AppendsServed, AppendsServedPart, HasKept, HasServeStopped, IsServedText}
-use Rattle.gn_load.specs.declared.serve_fault.ServeFault.TheVariants.{Run}
+use Rattle.gn_load.specs.declared.serve_fault.ServeFault.TheVariants.{Run, Write}
 use Rattle.gn_service.specs.Links.{roles_of}
 
 -- bytes that stay are kept
@@ -65,3 +66,15 @@ kept_written A is_kept s calls accept workers (Audit actor) old new has = has
 pub none_written : (A : Type 0) (is_kept : Bool) (s : Config) (calls accept workers : ℕ) (fault : RunFault) (old : Option (List ℕ))
     → HasServeStopped A is_kept s calls accept workers (Run fault) old old
 none_written A is_kept s calls accept workers fault old = kept_written A is_kept s calls accept workers fault old old (inl (kept old))
+
+-- a fault of a run is BadWorkers where the serve's is
+pub run_is : (fault : RunFault) (P : Type 0) → (fault ≡ BadWorkers) ↔ P → (Run fault ≡ Run BadWorkers) ↔ P
+run_is fault P same = ((λ is. let e : fault ≡ BadWorkers = cc in same.0 e), (λ p. ap (λ (f : RunFault). Run f) (same.1 p)))
+
+-- a history that wasn't written is none of the workers
+pub write_is_other : (workers : ℕ) → IsCrew workers → (Write ≡ Run BadWorkers) ↔ (¬ IsCrew workers)
+write_is_other workers within = ((λ is. absurd (cc)), (λ none. absurd (none within)))
+
+-- nor is memory that ran out
+pub memory_is_other : (workers : ℕ) → IsCrew workers → (Run NoMemory ≡ Run BadWorkers) ↔ (¬ IsCrew workers)
+memory_is_other workers within = ((λ is. absurd (cc)), (λ none. absurd (none within)))

@@ -1,5 +1,5 @@
 -- No read of a capture's links fails.
-use Rattle.std.proofs.Common.{◌≡◌, ◌<◌, ◌++◌, ℕ, zero, suc, true, List, [], ◌∷◌, length, map, get_or, refl, subst, arith, None, Option, Result, Ok, Err, IfOk}
+use Rattle.std.proofs.Common.{◌≡◌, ◌++◌, ℕ, zero, suc, true, List, [], ◌∷◌, length, map, get_or, refl, subst, arith, None, Option, Ok, IfOk}
 use Rattle.std.specs.Prelude.{is_some, set}
 use Rattle.std.proofs.lemmas.List.{get_or-map}
 use Rattle.gn_links.specs.Halves.{Source}
@@ -58,7 +58,7 @@ none_failed lines links report made each bytes = λ k link below failed.
     let first = link_of Plain [] in
     let all : NoneFails links = subst (λ r. IfOk r NoneFails) made (lines_none lines [] tt) in
     let there = get_or-map source_of links k first (source_of first) (omega (arith, below, each)) in
-    let may : is_some (get_or links k first).read ≡ true = subst (λ (s : Source). s.may_fail ≡ true) there ((bytes k (source_of first) link below).failed failed) in
+    let may : is_some (get_or links k first).read ≡ true = subst (λ (s : Source). s.may_fail ≡ true) there (bytes.failed k (source_of first) link below failed) in
     let none : Option ℕ = None in
     let no : is_some none ≡ true = subst (λ (o : Option ℕ). is_some o ≡ true) (none_at links k first all refl) may in
     absurd (cc)

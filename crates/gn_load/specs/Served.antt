@@ -3,7 +3,7 @@ use Rattle.std.specs.Prelude.{◌≡◌, ◌⊎◌, ◌+◌, ℕ, Bool, true, Li
 use Rattle.std.specs.Io.KnownBytes.{Appends, Keeps}
 use Rattle.gn_rules.specs.declared.config.Config.{Config}
 use Rattle.gn_rules.specs.declared.receipt.Step.{Step}
-use Rattle.gn_rules.specs.Legal.{IsLegal}
+use Rattle.gn_rules.specs.Answer.{IsLegal}
 use Rattle.gn_report.specs.declared.report.Report.{Report}
 use Rattle.gn_tcp.specs.Tcp.{TcpReading, TcpWriting, half_read, half_written}
 use Rattle.gn_threads.specs.Faults.{IsArrivingFault}

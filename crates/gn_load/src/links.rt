@@ -68,8 +68,9 @@ pub fn links_of<A: Allocator + Copy>(
 ) -> Result<Vec<MemoryLink<A>, A>, CaptureRefusal>
     ensures { IsRead (λ v. v.items) result (links_from [] lines.now) }
 {
+    let read = read_links(alloc, lines)?;
     let mut links = Vec::new(alloc);
-    for link_input in read_links(alloc, lines)? {
+    for link_input in read {
         links.push(link_input.into_link())?;
     }
     Ok(links)

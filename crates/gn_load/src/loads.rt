@@ -36,11 +36,13 @@ fn run_links<
     ensures history { IfOk result (λ ran. IsLoadText A workers text.items (history_text ran.0 ran.1.history.items)) }
     ensures fault { IfErr result (λ fault. IsRunLoadFault workers fault (load_of A text.items)) }
 {
-    let capture = read_capture(alloc, &text)?;
+    let read = read_capture(alloc, &text);
     drop(text);
-    let links = links_of(alloc, &capture.lines)?;
+    let capture = read?;
+    let made = links_of(alloc, &capture.lines);
     let Capture { config, lines } = capture;
     drop(lines);
+    let links = made?;
     watch.begin(links.len());
     let report = run::<C, _, _, A, R>(rt, alloc, &config, links, workers, watch)?;
     Ok((config, report))

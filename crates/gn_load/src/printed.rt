@@ -116,7 +116,9 @@ fn heading<B: Allocator + Copy>(alloc: B, config: &Config) -> Result<Block<B>, A
     let mut line = Vec::new(alloc);
     push_header(&mut line, Text::History, config)?;
     let mut block = Block::new(alloc);
-    block.add(&line)?;
+    let added = block.add(&line);
+    drop(line);
+    added?;
     Ok(block)
 }
 
@@ -137,7 +139,9 @@ pub fn print_history<A: Allocator, B: Allocator + Copy, W: Sink>(
 {
     let mut block = heading(alloc, config)?;
     let mut line = Vec::new(alloc);
-    print_steps(steps, &mut line, &mut block, sink)?;
+    let printed = print_steps(steps, &mut line, &mut block, sink);
+    drop(line);
+    printed?;
     block.add(b"end\n")?;
     block.write_rest(sink)?;
     Ok(())

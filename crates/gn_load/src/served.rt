@@ -1,7 +1,7 @@
 //! A run over TCP, and the history of it, written.
 
 ghost use Rattle.std.specs.Prelude.{◌≡◌, ◌+◌, ◌≤◌, ◌↔◌, length, reverse, IfErr, IfOk, IfSome, OnOk};
-ghost use Rattle.gn_rules.specs.Legal.{IsLegal};
+ghost use Rattle.gn_rules.specs.Answer.{IsLegal};
 ghost use Rattle.std.specs.Io.KnownBytes.{Appends};
 ghost use Rattle.gn_capture.specs.Histories.{history_text};
 ghost use Rattle.gn_io.specs.Streams.{NoWriteFailed};
@@ -23,7 +23,7 @@ use std::time::Clock;
 
 /// Writes what stands of the history of a run that stopped after its first step, where it is to be kept. That it can't be
 /// written changes no fault.
-fn keep<A: Allocator + Copy, W: Sink>(
+fn print_kept<A: Allocator + Copy, W: Sink>(
     alloc: A,
     config: &Config,
     is_kept: bool,
@@ -83,7 +83,7 @@ pub fn serve_history<
     let report = match answer {
         Ok(report) => report,
         Err(Stopped { fault, history }) => {
-            keep(alloc, config, serving.is_kept, history, sink);
+            print_kept(alloc, config, serving.is_kept, history, sink);
             return Err(ServeFault::Run(fault));
         }
     };

@@ -1,7 +1,7 @@
 //! The bodies of one link, called in turn on one thread.
 
 ghost use Rattle.std.specs.Prelude.{◌≡◌, [], true, IfSome};
-ghost use Rattle.gn_links.specs.Views.{IsNewReader, IsNewWriter};
+ghost use Rattle.gn_links.specs.Halves.{IsNewReader, IsNewWriter};
 
 use gn_bodies::{BodyFault, ReaderEnd, WriterEnd, reader_body, worker_body, writer_body};
 use gn_fixtures::{Heap, OWN_PONG, PING, Refused, Turn, Turns, growths, usual};
@@ -320,14 +320,14 @@ impl<'a, A: Allocator + Copy, B: Allocator + Copy, C: RouterCore<A> + Drop, R: W
     }
 }
 
-/// How many growths the bodies meet.
-fn growths_of<A: Allocator + Copy, B: Allocator + Copy, C: RouterCore<A> + Drop, R: Wait>(
+/// How many growths the bodies meet. The router is named for any allocator, since one over the heap is dear to prove.
+fn growths_of<A: Allocator + Copy, B: Allocator + Copy, R: Wait>(
     rt: &R,
     heap: &Heap,
     alloc: A,
     rich: B,
 ) -> Result<u64, Fail> {
-    let bodies: Bodies<B, R, C> = Bodies {
+    let bodies: Bodies<B, R, TableRouter<A>> = Bodies {
         rt,
         rich,
         core: PhantomData,
@@ -343,7 +343,7 @@ const GROWTHS: u64 = 14 + 11 + 3;
 #[test]
 fn bodies_of_one_link(rt: HostRuntime) -> Result<(), Fail> {
     let heap = Heap::new(rt.alloc());
-    let met = growths_of::<_, _, TableRouter<_>, _>(&rt, &heap, &heap, rt.alloc())?;
+    let met = growths_of(&rt, &heap, &heap, rt.alloc())?;
     assert_eq!(rt; met, GROWTHS);
     Ok(())
 }

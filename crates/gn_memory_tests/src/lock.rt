@@ -353,9 +353,19 @@ fn meets_all<A: Allocator + Copy, C: RouterCore<A> + Drop, R: Wait>(
     }
 }
 
+/// Whether they meet theirs at both routers, which are named for any allocator: one over the heap is dear to prove.
+fn both_meet_all<A: Allocator + Copy, R: Wait>(
+    rt: &R,
+    out: Global,
+    heap: &Heap,
+    alloc: A,
+) -> Result<(), Fail> {
+    meets_all::<A, TableRouter<A>, R>(rt, out, heap, alloc, &TABLE)?;
+    meets_all::<A, PlainRouter<A>, R>(rt, out, heap, alloc, &PLAIN)
+}
+
 #[test]
 fn calls_under_the_lock(rt: HostRuntime) -> Result<(), Fail> {
     let heap = Heap::new(rt.alloc());
-    meets_all::<_, TableRouter<_>, _>(&rt, rt.alloc(), &heap, &heap, &TABLE)?;
-    meets_all::<_, PlainRouter<_>, _>(&rt, rt.alloc(), &heap, &heap, &PLAIN)
+    both_meet_all(&rt, rt.alloc(), &heap, &heap)
 }

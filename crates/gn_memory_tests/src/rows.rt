@@ -129,14 +129,24 @@ fn meet_all<A: Allocator + Copy, C: RouterCore<A> + Drop>(
     lists_meet::<A, C>(heap, alloc, lists)
 }
 
+/// The same at the router with tables, which is named for any allocator: one over the heap is dear to prove.
+fn meet_with_tables<A: Allocator + Copy>(out: Global, heap: &Heap, alloc: A) -> Result<(), Fail> {
+    meet_all::<A, TableRouter<A>>(out, heap, alloc, &WITH_TABLES, &LISTS_WITH_TABLES)
+}
+
 #[test]
 fn steps_with_tables(rt: HostRuntime) -> Result<(), Fail> {
     let heap = Heap::new(rt.alloc());
-    meet_all::<_, TableRouter<_>>(rt.alloc(), &heap, &heap, &WITH_TABLES, &LISTS_WITH_TABLES)
+    meet_with_tables(rt.alloc(), &heap, &heap)
+}
+
+/// The same at the router that searches its history.
+fn meet_in_history<A: Allocator + Copy>(out: Global, heap: &Heap, alloc: A) -> Result<(), Fail> {
+    meet_all::<A, PlainRouter<A>>(out, heap, alloc, &IN_HISTORY, &LISTS_IN_HISTORY)
 }
 
 #[test]
 fn steps_in_history(rt: HostRuntime) -> Result<(), Fail> {
     let heap = Heap::new(rt.alloc());
-    meet_all::<_, PlainRouter<_>>(rt.alloc(), &heap, &heap, &IN_HISTORY, &LISTS_IN_HISTORY)
+    meet_in_history(rt.alloc(), &heap, &heap)
 }

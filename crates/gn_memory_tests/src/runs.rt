@@ -117,16 +117,15 @@ fn run_over_two<
     Ok((read, failed))
 }
 
-/// The same of one link and of two.
+/// The same of one link and of two. The router is named for any allocator, since one over a heap is dear to prove.
 fn one_and_two<
     A: Allocator + Copy + Send + Sync,
     B: Allocator + Copy + Send + Sync,
-    C: RouterCore<B> + Drop + Send,
     R: Threads + Wait + Sync,
 >(rt: &R, heap: &Heap, poor: A, rich: B) -> Result<[(usize, usize); 2], Fail> {
     Ok([
-        run_over_two::<A, B, C, R>(rt, heap, poor, rich, 1)?,
-        run_over_two::<A, B, C, R>(rt, heap, poor, rich, 2)?,
+        run_over_two::<A, B, TableRouter<B>, R>(rt, heap, poor, rich, 1)?,
+        run_over_two::<A, B, TableRouter<B>, R>(rt, heap, poor, rich, 2)?,
     ])
 }
 
@@ -135,7 +134,7 @@ fn one_and_two<
 #[test]
 fn writers_without_memory(rt: HostRuntime) -> Result<(), Fail> {
     let heap = Heap::new(rt.alloc());
-    let ends = one_and_two::<_, _, TableRouter, _>(&rt, &heap, &heap, rt.alloc())?;
+    let ends = one_and_two(&rt, &heap, &heap, rt.alloc())?;
     assert!(rt;
         ends == [(1, 1), (1, 2)] || ends == [(1, 1), (2, 2)],
         "{ends:?}"
@@ -201,25 +200,25 @@ fn growths_of_loads<
     Err("a load with no end of growths".into())
 }
 
-/// The growths of runs alone and with all later ones, and those of loads.
-fn all_growths<
-    A: Allocator + Copy + Send + Sync,
-    B: Allocator + Copy,
-    C: RouterCore<A> + Drop + Send,
-    R: Threads + Wait + Sync,
->(rt: &R, heap: &Heap, alloc: A, rich: B) -> Result<[u64; 4], Fail> {
+/// The growths of runs alone and with all later ones, and those of loads, at a router that is named for any allocator too.
+fn all_growths<A: Allocator + Copy + Send + Sync, B: Allocator + Copy, R: Threads + Wait + Sync>(
+    rt: &R,
+    heap: &Heap,
+    alloc: A,
+    rich: B,
+) -> Result<[u64; 4], Fail> {
     Ok([
-        growths_of_runs::<A, C, R>(rt, heap, alloc, false)?,
-        growths_of_runs::<A, C, R>(rt, heap, alloc, true)?,
-        growths_of_loads::<A, B, C, R>(rt, heap, alloc, rich, false)?,
-        growths_of_loads::<A, B, C, R>(rt, heap, alloc, rich, true)?,
+        growths_of_runs::<A, TableRouter<A>, R>(rt, heap, alloc, false)?,
+        growths_of_runs::<A, TableRouter<A>, R>(rt, heap, alloc, true)?,
+        growths_of_loads::<A, B, TableRouter<A>, R>(rt, heap, alloc, rich, false)?,
+        growths_of_loads::<A, B, TableRouter<A>, R>(rt, heap, alloc, rich, true)?,
     ])
 }
 
 #[test]
 fn runs_and_loads_of_two_links(rt: HostRuntime) -> Result<(), Fail> {
     let heap = Heap::new(rt.alloc());
-    let [alone, with_later, load_alone, load_with_later] = all_growths::<_, _, TableRouter<_>, _>(
+    let [alone, with_later, load_alone, load_with_later] = all_growths(
         &rt,
         &heap,
         &heap,

@@ -107,22 +107,22 @@ fn growths_of_serves<
     Err("a serve with no end of growths".into())
 }
 
-/// The growths of serves, alone and with all later ones.
+/// The growths of serves, alone and with all later ones, at a router that is named for any allocator: one over the heap is dear
+/// to prove.
 fn all_growths<
     A: Allocator + Copy + Send + Sync,
-    C: RouterCore<A> + Drop + Send,
     R: Threads + Wait + Net<Listener = TcpListener, Stream = TcpStream> + Clock + Sync,
 >(rt: &R, heap: &Heap, alloc: A) -> Result<(u64, u64), Fail> {
     Ok((
-        growths_of_serves::<A, C, R>(rt, heap, alloc, false)?,
-        growths_of_serves::<A, C, R>(rt, heap, alloc, true)?,
+        growths_of_serves::<A, TableRouter<A>, R>(rt, heap, alloc, false)?,
+        growths_of_serves::<A, TableRouter<A>, R>(rt, heap, alloc, true)?,
     ))
 }
 
 #[test]
 fn serves_of_two_clients(rt: HostRuntime) -> Result<(), Fail> {
     let heap = Heap::new(rt.alloc());
-    let (alone, with_later) = all_growths::<_, TableRouter<_>, _>(&rt, &heap, &heap)?;
+    let (alone, with_later) = all_growths(&rt, &heap, &heap)?;
     assert!(rt; alone > 30 && with_later > 30, "{alone} and {with_later}");
     Ok(())
 }

@@ -16,26 +16,26 @@ fn id(byte: u8) -> Guid {
 
 /// What is remembered: a descriptor, or a servent.
 #[derive(Clone, Copy)]
-enum Kept {
+enum Remembered {
     Ping,
     Servent,
 }
 
 /// What is remembered, by its ID, with its source; and the sources of the first, second and third ID then.
-type Entry = (Kept, u8, u32, [Option<u32>; 3]);
+type Entry = (Remembered, u8, u32, [Option<u32>; 3]);
 
 const ENTRY_COUNT: usize = 8;
 
 /// Where two are remembered, the third makes the first forgotten. A servent that was known comes first again.
 const ENTRIES: [Entry; ENTRY_COUNT] = [
-    (Kept::Ping, 0xa1, 1, [Some(1), None, None]),
-    (Kept::Ping, 0xa2, 2, [Some(1), Some(2), None]),
-    (Kept::Ping, 0xa3, 1, [None, Some(2), Some(1)]),
-    (Kept::Ping, 0xa1, 2, [Some(2), None, Some(1)]),
-    (Kept::Servent, 0xa1, 2, [Some(2), None, None]),
-    (Kept::Servent, 0xa2, 2, [Some(2), Some(2), None]),
-    (Kept::Servent, 0xa1, 3, [Some(3), Some(2), None]),
-    (Kept::Servent, 0xa3, 2, [Some(3), None, Some(2)]),
+    (Remembered::Ping, 0xa1, 1, [Some(1), None, None]),
+    (Remembered::Ping, 0xa2, 2, [Some(1), Some(2), None]),
+    (Remembered::Ping, 0xa3, 1, [None, Some(2), Some(1)]),
+    (Remembered::Ping, 0xa1, 2, [Some(2), None, Some(1)]),
+    (Remembered::Servent, 0xa1, 2, [Some(2), None, None]),
+    (Remembered::Servent, 0xa2, 2, [Some(2), Some(2), None]),
+    (Remembered::Servent, 0xa1, 3, [Some(3), Some(2), None]),
+    (Remembered::Servent, 0xa3, 2, [Some(3), None, Some(2)]),
 ];
 
 /// The growths that each meets.
@@ -54,14 +54,14 @@ struct Both<A: Allocator + Copy> {
 }
 
 impl<A: Allocator + Copy> Both<A> {
-    fn source(&self, kept: Kept, byte: u8) -> Option<u32> {
+    fn source(&self, kept: Remembered, byte: u8) -> Option<u32> {
         match kept {
-            Kept::Ping => self.seen.source(Kind::Ping, &id(byte)),
-            Kept::Servent => self.servents.route(&id(byte)),
+            Remembered::Ping => self.seen.source(Kind::Ping, &id(byte)),
+            Remembered::Servent => self.servents.route(&id(byte)),
         }
     }
 
-    fn sources(&self, kept: Kept) -> [Option<u32>; 3] {
+    fn sources(&self, kept: Remembered) -> [Option<u32>; 3] {
         [
             self.source(kept, 0xa1),
             self.source(kept, 0xa2),
@@ -74,8 +74,8 @@ impl<A: Allocator + Copy> Both<A> {
         let (kept, byte, from, _) = entry;
         let id = id(byte);
         let kept_now = match kept {
-            Kept::Servent => self.servents.learn(id, from),
-            Kept::Ping => match self.seen.source(Kind::Ping, &id) {
+            Remembered::Servent => self.servents.learn(id, from),
+            Remembered::Ping => match self.seen.source(Kind::Ping, &id) {
                 None => self.seen.keep(Kind::Ping, id, from),
                 Some(_) => return Err(Failure::Other),
             },
@@ -138,8 +138,8 @@ impl<A: Allocator + Copy> Call<A> for Remembers {
     }
 
     fn is_unchanged(&self, both: &Both<A>, other: &Both<A>) -> bool {
-        both.sources(Kept::Ping) == other.sources(Kept::Ping)
-            && both.sources(Kept::Servent) == other.sources(Kept::Servent)
+        both.sources(Remembered::Ping) == other.sources(Remembered::Ping)
+            && both.sources(Remembered::Servent) == other.sources(Remembered::Servent)
     }
 
     /// The entries after it follow, so that one which was half kept before a refusal shows.

@@ -6,9 +6,8 @@ use Rattle.byteorder.specs.Endian.{little_bytes, little_number}
 use Rattle.byteorder.specs.Numbers.{little_number-reads_back}
 use Rattle.gn_payload.specs.declared.pong.Pong.{Pong}
 use Rattle.gn_payload.specs.declared.push.Push.{Push}
-use Rattle.gn_payload.specs.Fields.{QueryFields}
+use Rattle.gn_payload.specs.Fields.{QueryFields, number_at, bytes_at, push_servent}
 use Rattle.gn_payload.specs.Grammar.{IsText, IsPong, IsPush, IsQuery}
-use Rattle.gn_payload.specs.Places.{number_at, bytes_at, push_servent}
 use Rattle.gn_payload.specs.Refusals.{has_zero}
 use Rattle.gn_payload.specs.Encoding.{pong_bytes, push_bytes, query_bytes}
 

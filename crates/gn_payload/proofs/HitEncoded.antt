@@ -5,9 +5,8 @@ use Rattle.std.proofs.lemmas.Bool.{false≢true}
 use Rattle.std.proofs.lemmas.Bool.Decides.{nat_tests}
 use Rattle.std.proofs.lemmas.List.{drop_at}
 use Rattle.byteorder.specs.Endian.{little_bytes}
-use Rattle.gn_payload.specs.Fields.{ResultFields, HitFields}
+use Rattle.gn_payload.specs.Fields.{ResultFields, HitFields, number_at, bytes_at, hit_middle}
 use Rattle.gn_payload.specs.Grammar.{IsText, IsResult, AreResults, IsHit}
-use Rattle.gn_payload.specs.Places.{number_at, bytes_at, hit_middle}
 use Rattle.gn_payload.specs.Refusals.{has_zero, zero_in_result, hit_refusal}
 use Rattle.gn_payload.specs.declared.refusal.WriteRefusal.{WriteRefusal}
 use Rattle.gn_payload.specs.declared.refusal.WriteRefusal.TheVariants.{ZeroInText, TooManyHits, TooLong}

@@ -3,9 +3,8 @@ use Rattle.std.proofs.Common.{◌≡◌, ℕ, ◌≤◌, Bool, true, false, cond
 use Rattle.std.proofs.lemmas.Bool.Decides.{nat_tests}
 use Rattle.std.proofs.lemmas.Option.{same_Some, none-some}
 use Rattle.gn_wire.specs.declared.kind.Guid.{Guid}
-use Rattle.gn_payload.specs.Fields.{QueryFields, ResultFields, HitFields}
+use Rattle.gn_payload.specs.Fields.{QueryFields, ResultFields, HitFields, number_at, bytes_at, hit_servent, hit_middle}
 use Rattle.gn_payload.specs.Grammar.{IsQuery, IsHit}
-use Rattle.gn_payload.specs.Places.{number_at, bytes_at, hit_servent, hit_middle}
 use Rattle.gn_payload.specs.Reading.{text_reading, query_reading, results_reading, hit_reading}
 use Rattle.gn_payload.proofs.TextGrammar.{ended_read, read_ended}
 use Rattle.gn_payload.proofs.ResultGrammar.{results_read, read_results}
@@ -15,7 +14,7 @@ query_is : (a b : ℕ) (x y z w : List ℕ) → a ≡ b → x ≡ y → z ≡ w
 query_is a b x y z w e1 e2 e3 = rw (e1, e2, e3) refl
 
 -- a Query with its speed before what is read
-abbrev query_made : List ℕ → List ℕ × List ℕ → QueryFields
+abbrev pub query_made : List ℕ → List ℕ × List ℕ → QueryFields
 query_made bytes x = record { speed = number_at 2 0 bytes; text = x.0; tail = x.1 }
 
 pub query_read : (bytes : List ℕ) (q : QueryFields) → IsQuery bytes q → query_reading bytes ≡ Some q
@@ -32,7 +31,7 @@ pub read_query : (bytes : List ℕ) (q : QueryFields) → query_reading bytes �
 read_query bytes q e = read_made bytes q (text_reading (drop 2 bytes)) refl e
 
 -- a Query Hit with its other fields round what is read
-abbrev hit_made : List ℕ → List ResultFields × List ℕ → HitFields
+abbrev pub hit_made : List ℕ → List ResultFields × List ℕ → HitFields
 hit_made bytes x = record { port = number_at 2 1 bytes; ip = bytes_at 4 3 bytes; speed = number_at 4 7 bytes; results = x.0; trailer = x.1; servent = hit_servent bytes }
 
 hit_is : (a b c d : ℕ) (x y z w : List ℕ) (rs qs : List ResultFields) (s t : Guid) → a ≡ b → x ≡ y → c ≡ d → rs ≡ qs → z ≡ w → s ≡ t

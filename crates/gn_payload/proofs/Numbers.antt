@@ -3,7 +3,7 @@ use Rattle.std.proofs.Common.{◌≡◌, ℕ, ◌+◌, ◌-◌, ◌≤◌, List,
 use Rattle.std.proofs.lemmas.List.{drop-take}
 use Rattle.byteorder.specs.Endian.{little_number}
 use Rattle.byteorder.specs.Numbers.{little_from-take}
-use Rattle.gn_payload.specs.Places.{number_at}
+use Rattle.gn_payload.specs.Fields.{number_at}
 
 -- a number is the same in any bytes that begin with its own
 pub number_first : (width place n : ℕ) (bytes : List ℕ) → place + width ≤ n → number_at width place bytes ≡ number_at width place (take n bytes)

@@ -3,9 +3,8 @@ use Rattle.std.proofs.Common.{◌≡◌, ℕ, zero, suc, ◌+◌, ◌-◌, ◌�
 use Rattle.std.proofs.lemmas.List.{take-append-drop, length-append, length-drop, length-take}
 use Rattle.std.proofs.lemmas.Option.{some_pair_parts, same_Some, none-some, option_and_then_some}
 use Rattle.std.proofs.Math.Seq.{take-append_seam, drop-append_seam}
-use Rattle.gn_payload.specs.Fields.{ResultFields}
+use Rattle.gn_payload.specs.Fields.{ResultFields, number_at}
 use Rattle.gn_payload.specs.Grammar.{IsResult, AreResults}
-use Rattle.gn_payload.specs.Places.{number_at}
 use Rattle.gn_payload.specs.Reading.{◌>>=◌, text_reading, result_reading, results_reading, results_in, AreJust}
 use Rattle.gn_payload.proofs.ResultLemmas.{past}
 use Rattle.gn_payload.proofs.Numbers.{same_number}

@@ -4,8 +4,7 @@ use Rattle.std.specs.Prelude.{◌≡◌, ◌<◌, ◌≤◌, ℕ, List, [], ◌�
 use Rattle.std.specs.List.{AllByRecursion}
 use Rattle.gn_payload.specs.declared.pong.Pong.{Pong}
 use Rattle.gn_payload.specs.declared.push.Push.{Push}
-use Rattle.gn_payload.specs.Fields.{QueryFields, ResultFields, HitFields}
-use Rattle.gn_payload.specs.Places.{number_at, bytes_at, push_servent, hit_servent, hit_middle}
+use Rattle.gn_payload.specs.Fields.{QueryFields, ResultFields, HitFields, number_at, bytes_at, push_servent, hit_servent, hit_middle}
 
 -- a text: none of its bytes is zero
 abbrev pub IsText : List ℕ → Type 0

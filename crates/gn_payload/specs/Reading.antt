@@ -1,7 +1,15 @@
--- The reading that bytes have, as a function: the fields, and what follows where something may.
-use Rattle.std.specs.Prelude.{◌≡◌, ℕ, zero, suc, ◌==◌, nat_lt, if◌then◌else◌, List, [], ◌∷◌, length, drop, slice_index, Option, Some, None, option_map, option_and_then, unwrap_or}
-use Rattle.gn_payload.specs.Fields.{QueryFields, ResultFields, HitFields}
-use Rattle.gn_payload.specs.Places.{number_at, bytes_at, hit_servent, hit_middle}
+-- The reading that bytes have, as a function: the fields, and what follows where something may; and which descriptors are
+-- sound: their kind is known, and their payload has a reading.
+use Rattle.std.specs.Prelude.{◌≡◌, ℕ, zero, suc, ◌==◌, nat_lt, if◌then◌else◌, List, [], ◌∷◌, length, drop, slice_index, Option, Some, None, option_map, option_and_then, unwrap_or, ◌-◌, Bool, true, false, ◌&&◌, nat_le, take, is_some}
+use Rattle.gn_wire.specs.declared.kind.Kind.{Kind}
+use Rattle.gn_wire.specs.declared.kind.Kind.TheVariants.{Ping, Pong, Push, Query, QueryHit, Unknown}
+use Rattle.gn_wire.specs.Packet.{Packet}
+use Rattle.gn_payload.specs.declared.checked.Verdict.{Verdict}
+use Rattle.gn_payload.specs.declared.checked.Verdict.TheVariants.{Sound, UnknownKind, Malformed}
+use Rattle.gn_payload.specs.Fields.{QueryFields, ResultFields, HitFields, number_at, bytes_at, hit_servent, hit_middle}
+use Rattle.gn_payload.specs.Grammar.{IsPong, IsPush, IsQuery, IsHit}
+use Rattle.gn_payload.specs.declared.pong.Pong as pong
+use Rattle.gn_payload.specs.declared.push.Push as push
 
 -- the next step of a reading, where there is a value
 infixl 10 ◌>>=◌
@@ -45,3 +53,41 @@ results_in n bytes = (unwrap_or (results_reading n bytes) ([], [])).0
 -- the bytes are so many results, and nothing else
 abbrev pub AreJust : ℕ → List ℕ → Type 0
 AreJust n bytes = results_reading n bytes ≡ Some (results_in n bytes, [])
+
+-- a payload that the grammar reads; of an unknown kind none is
+abbrev pub HasReading : Kind → List ℕ → Type 0
+HasReading Ping bytes = bytes ≡ []
+HasReading Pong bytes = (p : pong.Pong) × IsPong bytes p
+HasReading Push bytes = (p : push.Push) × IsPush bytes p
+HasReading Query bytes = (q : QueryFields) × IsQuery bytes q
+HasReading QueryHit bytes = (h : HitFields) × IsHit bytes h
+HasReading (Unknown code) bytes = ⊥
+
+-- the same as a test: by the length, where that is enough
+abbrev pub has_reading : Kind → List ℕ → Bool
+has_reading Ping bytes = length bytes == 0
+has_reading Pong bytes = length bytes == 14
+has_reading Push bytes = length bytes == 26
+-- a text that a zero byte ends, after two bytes
+has_reading Query bytes = is_some (text_reading (drop 2 bytes))
+-- as many results as the first byte says, between the first 11 bytes and the last 16
+has_reading QueryHit bytes =
+    nat_le 27 (length bytes) && is_some (results_reading (slice_index bytes 0) (take (length bytes - 27) (drop 11 bytes)))
+has_reading (Unknown code) bytes = false
+
+-- a kind that version 0.4 names
+abbrev pub is_known : Kind → Bool
+is_known Ping = true
+is_known Pong = true
+is_known Push = true
+is_known Query = true
+is_known QueryHit = true
+is_known (Unknown code) = false
+
+-- what a check says of a descriptor
+abbrev pub verdict_of : Packet → Verdict
+verdict_of d = if is_known d.kind then (if has_reading d.kind d.payload then Sound else Malformed) else UnknownKind
+
+-- a sound descriptor: its kind is known, and its payload has a reading
+abbrev pub is_sound : Packet → Bool
+is_sound d = has_reading d.kind d.payload

@@ -1,7 +1,7 @@
 //! A descriptor whose payload has been checked.
 
 ghost use Rattle.std.specs.Prelude.{◌≡◌};
-ghost use Rattle.gn_payload.specs.Sound.{has_reading, verdict_of};
+ghost use Rattle.gn_payload.specs.Reading.{has_reading, verdict_of};
 
 use crate::hit::hit_in;
 use crate::query::query_in;
@@ -30,7 +30,7 @@ pub struct Checked<A: Allocator = Global> {
 impl<A: Allocator> Model for Checked<A> {
     ghost use Rattle.std.specs.Prelude.{◌≡◌};
     ghost use Rattle.gn_wire.specs.Packet.{Packet};
-    ghost use Rattle.gn_payload.specs.Sound.{verdict_of};
+    ghost use Rattle.gn_payload.specs.Reading.{verdict_of};
 
     ghost Value = { Packet };
 

@@ -1,9 +1,8 @@
 //! The payload of a Query Hit.
 
 ghost use Rattle.std.specs.Prelude.{◌≡◌, ◌≤◌, length, IfSome, IfNone};
-ghost use Rattle.gn_payload.specs.Fields.{HitFields};
+ghost use Rattle.gn_payload.specs.Fields.{HitFields, hit_servent};
 ghost use Rattle.gn_payload.specs.Grammar.{IsHit};
-ghost use Rattle.gn_payload.specs.Places.{hit_servent};
 ghost use Rattle.gn_payload.specs.Reading.{hit_reading};
 
 use crate::hit_result::{Results, split_results};
@@ -26,7 +25,7 @@ pub struct QueryHit<'a> {
 
 impl<'a> Model for QueryHit<'a> {
     ghost use Rattle.gn_payload.specs.Fields.{HitFields};
-    ghost use Rattle.gn_payload.specs.Reading.{results_in, AreJust};
+    ghost use Rattle.gn_payload.specs.Reading.{AreJust, results_in};
 
     ghost Value = { HitFields };
 

@@ -6,7 +6,7 @@ ghost use Rattle.gn_payload.specs.declared.pong.Pong.{Pong};
 ghost use Rattle.gn_payload.specs.declared.push.Push.{Push};
 ghost use Rattle.gn_payload.specs.Fields.{QueryFields, HitFields};
 ghost use Rattle.gn_payload.specs.Grammar.{IsPong, IsPush, IsQuery, IsHit};
-ghost use Rattle.gn_payload.specs.Sound.{HasReading, is_sound};
+ghost use Rattle.gn_payload.specs.Reading.{HasReading, is_sound};
 
 /// The law that a payload has at most one reading.
 pub fn one_reading()

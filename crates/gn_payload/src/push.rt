@@ -3,7 +3,7 @@
 ghost use Rattle.std.specs.Prelude.{◌≡◌, ◌≤◌, ◌<◌, ◌+◌, ◌++◌, length, IfSome, IfNone, OnOk, OnErr, vec_len, vec_capacity};
 ghost use Rattle.gn_payload.specs.declared.push.Push.{Push};
 ghost use Rattle.gn_payload.specs.Grammar.{IsPush};
-ghost use Rattle.gn_payload.specs.Places.{push_servent};
+ghost use Rattle.gn_payload.specs.Fields.{push_servent};
 ghost use Rattle.gn_payload.specs.Encoding.{push_bytes};
 
 use crate::parts::first_bytes;

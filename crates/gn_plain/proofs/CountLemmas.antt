@@ -4,9 +4,8 @@ use Rattle.std.specs.Option.{option_to_list}
 use Rattle.std.proofs.lemmas.List.{take_all}
 use Rattle.std.proofs.lemmas.List.Elements.{filter-append}
 use Rattle.gn_rules.specs.declared.receipt.Step.{Step}
-use Rattle.gn_rules.specs.History.{admitted_of, connected_of, is_take}
+use Rattle.gn_rules.specs.History.{admitted_of, connected_of, is_take, connections}
 use Rattle.gn_rules.specs.Flight.{tickets}
-use Rattle.gn_rules.specs.Live.{connections}
 use Rattle.gn_rules.specs.Output.{takes}
 use Rattle.gn_rules.proofs.PastLemmas.{past_more}
 -- 1 where a test holds, as a number is made of it

@@ -4,8 +4,7 @@ use Rattle.std.specs.Option.{option_to_list}
 use Rattle.std.proofs.lemmas.List.{append-nil, drop_all, drop_more, reverse-append}
 use Rattle.std.proofs.lemmas.List.Elements.{filter-append}
 use Rattle.gn_rules.specs.declared.receipt.Step.{Step}
-use Rattle.gn_rules.specs.History.{connected_of}
-use Rattle.gn_rules.specs.Live.{connections, live, live_connections}
+use Rattle.gn_rules.specs.History.{connected_of, connections, live, live_connections}
 use Rattle.gn_plain.specs.Places.{live_from, made_in}
 
 made_both : {A : Type 0} (later earlier : List (Step A)) → connections (later ++ earlier) ≡ connections earlier ++ connections later

@@ -1,2 +1,3 @@
+-- Words of the proofs.
 pub mod Invariant
 pub mod Places

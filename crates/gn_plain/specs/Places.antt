@@ -2,8 +2,7 @@
 use Rattle.std.specs.Prelude.{ℕ, List, [], ◌∷◌, ◌++◌, drop, filter, reverse}
 use Rattle.std.specs.Option.{option_to_list}
 use Rattle.gn_rules.specs.declared.receipt.Step.{Step}
-use Rattle.gn_rules.specs.History.{connected_of}
-use Rattle.gn_rules.specs.Live.{live}
+use Rattle.gn_rules.specs.History.{connected_of, live}
 
 -- all connections that the steps make, in order
 abbrev pub made_in : {A : Type 0} → List (Step A) → List ℕ

@@ -2,8 +2,7 @@
 
 ghost use Rattle.std.specs.Prelude.{◌≡◌, ◌≤◌, ◌+◌, ◌++◌, ◌||◌, ◌&&◌, filter, length, not, reverse, true, IfSome};
 ghost use Rattle.std.specs.Option.{option_to_list};
-ghost use Rattle.gn_rules.specs.History.{connected_of, is_at, is_close};
-ghost use Rattle.gn_rules.specs.Live.{connections, live, live_connections};
+ghost use Rattle.gn_rules.specs.History.{connected_of, connections, is_at, is_close, live, live_connections};
 ghost use Rattle.gn_plain.specs.Places.{live_from};
 
 use gn_rules::{ConnId, Step};

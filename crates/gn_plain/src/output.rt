@@ -2,7 +2,7 @@
 
 ghost use Rattle.std.specs.Prelude.{◌≡◌, ◌≤◌, ◌+◌, ◌-◌, if◌then◌else◌, length, min, slice_get, reverse};
 ghost use Rattle.gn_rules.specs.History.{is_take, sends_of};
-ghost use Rattle.gn_rules.specs.Legal.{IsLegal};
+ghost use Rattle.gn_rules.specs.Answer.{IsLegal};
 ghost use Rattle.gn_rules.specs.Output.{out, queued, queued_to, takes};
 ghost use Rattle.std.specs.Option.{option_copied};
 

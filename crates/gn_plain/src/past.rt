@@ -2,7 +2,7 @@
 
 ghost use Rattle.std.specs.Prelude.{◌≡◌, length, reverse};
 ghost use Rattle.gn_rules.specs.Flight.{flying};
-ghost use Rattle.gn_rules.specs.Legal.{IsLegal};
+ghost use Rattle.gn_rules.specs.Answer.{IsLegal};
 
 use crate::flight::{flight_count, flight_count_of, flight_in, ticket_count};
 use crate::live::{connection_count, is_live, live_at, live_count};
@@ -27,7 +27,7 @@ impl<'a, A: Allocator> Model for Past<'a, A> {
     ghost use Rattle.std.specs.Prelude.{◌≡◌, IfSome, length, reverse};
     ghost use Rattle.gn_rules.specs.Flight.{flying};
     ghost use Rattle.gn_rules.specs.Kept.{Kept};
-    ghost use Rattle.gn_rules.specs.Legal.{IsLegal};
+    ghost use Rattle.gn_rules.specs.Answer.{IsLegal};
 
     ghost Value = { Kept A };
 

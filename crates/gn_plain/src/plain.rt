@@ -1,6 +1,6 @@
 //! A router that keeps its history and searches it for every answer.
 
-ghost use Rattle.std.specs.Prelude.{◌≡◌, ◌≤◌, ◌++◌, ◌∷◌, [], Ok, length, reverse, IfOk, OnErr, OnOk};
+ghost use Rattle.std.specs.Prelude.{◌≡◌};
 ghost use Rattle.gn_rules.specs.declared.config.Config.{Config};
 ghost use Rattle.gn_plain.specs.Invariant.{IsKept};
 
@@ -8,7 +8,7 @@ use crate::counting::stats_in;
 use crate::flying::follow;
 use crate::live;
 use crate::past::Past;
-use gn_decide::{Lookup, find, find_checked, is_answered};
+use gn_decide::{Lookup, Recorder, apply, enter, find, find_checked, is_answered, route};
 use gn_payload::Checked;
 use gn_rules::{Config, ConnId, Event, Receipt, Refusal, Reply, RouterCore, Stats, Step, Ticket};
 use std::alloc::{AllocError, Allocator, Global};
@@ -35,63 +35,43 @@ impl<A: Allocator + Copy> Model for PlainRouter<A> {
 }
 
 impl<A: Allocator + Copy> PlainRouter<A> {
-    ghost use Rattle.gn_rules.specs.Answer as rules;
-
     /// Its history, to be searched.
     fn past(&self) -> Past<'_, A>
         ensures { result ≡ self.now }
     {
         Past::with_flights(&self.config, &self.history, self.flying.len())
     }
+}
 
-    /// The answer to an event: a reply, the rules' refusal, or out of memory where the rules give a reply.
-    fn answer(&self, event: &Event<A>) -> Result<Reply<A>, Refusal>
-        ensures { rules.Finds result (rules.answer self.now.settings (reverse self.now.steps) event.now) }
-    {
+impl<A: Allocator + Copy> Recorder<A> for PlainRouter<A> {
+    ghost settings = { λ r. r.settings };
+
+    ghost steps = { λ r. r.steps };
+
+    fn alloc(&self) -> A {
+        self.alloc
+    }
+
+    #[tactic(auto, using(gn_rules::proofs::PastLemmas::past_length, gn_rules::proofs::LegalLemmas::legal_within))]
+    fn next_index(&self) -> u32 {
+        self.history.len() as u32
+    }
+
+    fn answer(&self, event: &Event<A>) -> Result<Reply<A>, Refusal> {
         find(self.alloc, &self.past(), event)
     }
 
-    /// Adds the step of an event and the rules' reply, and gives its receipt. An `Err` is out of memory, and changes
-    /// nothing.
-    #[tactic(auto, using(gn_rules::proofs::PastLemmas::past_length, gn_rules::proofs::LegalLemmas::legal_within))]
-    fn add_with_receipt(
-        &mut self,
-        actor: u32,
-        event: &Event<A>,
-        reply: Reply<A>,
-    ) -> Result<Receipt<A>, AllocError>
-        requires { rules.answer self.old.settings (reverse self.old.steps) event.now ≡ Ok reply }
-        ensures step { IfOk result (λ receipt. self.new.steps
-            ≡ self.old.steps ++ record { actor = actor; event = event.now; reply = reply } ∷ []) }
-        ensures receipt { IfOk result (λ receipt. receipt
-            ≡ record { index = length self.old.steps; event = event.now; reply = reply }) }
-        ensures err { OnErr result (self.new.steps ≡ self.old.steps) }
-        ensures settings { self.new.settings ≡ self.old.settings }
-    {
-        let index = self.history.len() as u32;
-        let (mut step, receipt) = Step::with_receipt(self.alloc, index, actor, event, reply)?;
-        let kept = self.keep(step.actor, &mut step.event, &mut step.reply);
-        drop(step);
-        kept.and(Ok(receipt))
+    fn checked_answer(&self, ticket: Ticket, checked: &Checked<A>) -> Result<Reply<A>, Refusal> {
+        find_checked(self.alloc, &self.past(), ticket, checked)
     }
 
-    /// Makes the step of an event and the rules' reply the last of the history. An `Err` is out of memory, and changes
-    /// nothing.
     #[tactic(auto, using(gn_rules::proofs::PastLemmas::past_length, gn_rules::proofs::PastLemmas::past_push, gn_rules::proofs::LegalLemmas::legal_within))]
-    fn keep(
+    fn append(
         &mut self,
         actor: u32,
         event: &mut Event<A>,
         reply: &mut Reply<A>,
-    ) -> Result<(), AllocError>
-        requires { rules.answer self.old.settings (reverse self.old.steps) event.old ≡ Ok reply.old }
-        ensures step { OnOk result (self.new.steps
-            ≡ self.old.steps ++ record { actor = actor; event = event.old; reply = reply.old } ∷ []) }
-        ensures err { OnErr result (self.new.steps ≡ self.old.steps) }
-        ensures event { OnErr result (event.new ≡ event.old) }
-        ensures reply { OnErr result (reply.new ≡ reply.old) }
-        ensures settings { self.new.settings ≡ self.old.settings }
-    {
+    ) -> Result<(), AllocError> {
         self.history.reserve(1)?;
         self.flying.reserve(1)?;
         follow(&mut self.flying, event, reply);
@@ -119,8 +99,7 @@ impl<A: Allocator + Copy> RouterCore<A> for PlainRouter<A> {
     }
 
     fn apply(&mut self, actor: u32, event: &Event<A>) -> Result<Receipt<A>, Refusal> {
-        let reply = self.answer(event)?;
-        Ok(self.add_with_receipt(actor, event, reply)?)
+        apply(self, actor, event)
     }
 
     fn is_answered(&self, step: &Step<A>) -> bool {
@@ -128,15 +107,11 @@ impl<A: Allocator + Copy> RouterCore<A> for PlainRouter<A> {
     }
 
     fn enter(&mut self, actor: u32, event: &mut Event<A>) -> Result<(), Refusal> {
-        let mut reply = self.answer(event)?;
-        let kept = self.keep(actor, event, &mut reply);
-        drop(reply);
-        kept?;
-        Ok(())
+        enter(self, actor, event)
     }
 
     fn add(&mut self, step: &mut Step<A>) -> Result<(), AllocError> {
-        self.keep(step.actor, &mut step.event, &mut step.reply)
+        self.append(step.actor, &mut step.event, &mut step.reply)
     }
 
     fn route(
@@ -145,11 +120,7 @@ impl<A: Allocator + Copy> RouterCore<A> for PlainRouter<A> {
         ticket: Ticket,
         checked: &Checked<A>,
     ) -> Result<Receipt<A>, Refusal> {
-        let reply = find_checked(self.alloc, &self.past(), ticket, checked)?;
-        let event = Event::Route(ticket);
-        let receipt = self.add_with_receipt(actor, &event, reply);
-        drop(event);
-        Ok(receipt?)
+        route(self, actor, ticket, checked)
     }
 
     fn config(&self) -> &Config {

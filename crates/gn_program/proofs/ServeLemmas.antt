@@ -13,7 +13,7 @@ use Rattle.gn_load.specs.declared.serve_fault.ServeFault.TheVariants.{Run}
 use Rattle.gn_threads.specs.Faults.{IsArrivingFault}
 use Rattle.gn_threads.specs.declared.fault.RunFault.{RunFault}
 use Rattle.gn_program.specs.Commands.{IsServeAnswer, IsServing}
-use Rattle.gn_words.specs.Serving.{AskedServe}
+use Rattle.gn_words.specs.ServeOptions.{AskedServe}
 
 -- a fault where the number of workers is one that a run may have
 known : (links workers : ℕ) (sink sink_new : SinkState) (answer : Result (Unit {0}) ServeFault) → IsCrew workers

@@ -26,7 +26,7 @@ use Rattle.gn_rules.specs.declared.config.Config.{Config}
 use Rattle.gn_rules.specs.declared.config.Own.{Own}
 use Rattle.gn_rules.specs.declared.legality.Legality.{Legality}
 use Rattle.gn_rules.specs.declared.legality.Legality.TheVariants.{Legal, WrongAt}
-use Rattle.gn_words.specs.Serving.{AskedServe}
+use Rattle.gn_words.specs.ServeOptions.{AskedServe}
 use Rattle.gn_words.specs.declared.request.Request.{Request}
 use Rattle.gn_words.specs.declared.request.Request.TheVariants.{Replay, History, Audit, Explain, Show, Load, Watched, Serve}
 

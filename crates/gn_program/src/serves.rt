@@ -13,10 +13,10 @@ use gn_links::Watch;
 use gn_load::{ServeFault, serve_history};
 use gn_router::TableRouter;
 use gn_rules::{Config, Numbers, Own};
-use gn_service::Stop;
+use gn_service::{Serving, Stop};
 use gn_tcp::listen;
 use gn_threads::RunFault;
-use gn_words::{Peer, Serving};
+use gn_words::{Peer, ServeOptions};
 use std::alloc::{AllocError, Global};
 use std::fmt;
 use std::fmt::{Display, Formatter, Write};
@@ -37,7 +37,7 @@ impl Display for Listening {
 }
 
 /// The configuration of a router that serves: its own servent is on this port, and shares nothing.
-fn settings(serving: &Serving) -> Config
+fn settings(serving: &ServeOptions) -> Config
     ensures { IsServing serving.now result }
 {
     let own = Own {
@@ -89,15 +89,15 @@ fn limit(seconds: u32) -> Option<Duration>
 }
 
 /// Whether anything but its peers stops the router.
-fn may_stop(serving: &Serving) -> bool {
+fn may_stop(serving: &ServeOptions) -> bool {
     serving.seconds != 0 || serving.early || serving.until_eof
 }
 
 /// How long the router goes on and waits for its peers, and whether its history is kept.
-fn limits<'s>(serving: &Serving, stop: &'s Stop) -> gn_service::Serving<'s>
+fn limits<'s>(serving: &ServeOptions, stop: &'s Stop) -> Serving<'s>
     ensures { result.is_kept ≡ serving.now.keeps }
 {
-    gn_service::Serving {
+    Serving {
         idle: limit(serving.idle),
         retry: limit(serving.retry),
         stop: may_stop(serving).then_some(stop),
@@ -109,7 +109,7 @@ fn limits<'s>(serving: &Serving, stop: &'s Stop) -> gn_service::Serving<'s>
 fn stop_of<R: Threads + Input<Reader = StdinLock<'static>>>(
     rt: &R,
     alloc: Global,
-    serving: &Serving,
+    serving: &ServeOptions,
 ) -> Result<Arc<Stop, Global>, AllocError> {
     let stop = Arc::new(alloc, Stop::new(limit(serving.seconds), serving.early))?;
     if serving.until_eof {
@@ -133,7 +133,7 @@ pub(crate) fn serve<
 >(
     rt: &R,
     alloc: Global,
-    serving: &Serving,
+    serving: &ServeOptions,
     watch: &G,
     writer: &mut W,
     faults: &mut F,

@@ -1,2 +1,3 @@
+-- Words of the proofs.
 pub mod Place
 pub mod Views

@@ -7,7 +7,7 @@ ghost use Rattle.gn_rules.specs.SeenEntries as rules;
 ghost use Rattle.gn_remembered.specs.Place.{later_after, place, source_after};
 
 use crate::admitted::admission_in;
-use gn_rules::{Config, ConnId, Event, Step};
+use gn_rules::{Config, ConnId, Event, Reply, Step};
 use gn_wire::Key;
 use std::alloc::Allocator;
 
@@ -24,7 +24,10 @@ fn entry_in<A: Allocator>(history: &[Step<A>], step: &Step<A>) -> Option<(Key, C
                 None
             }
         }
-        Event::Originate(packet) if step.reply.is_sent() => Some((packet.key(), 0)),
+        Event::Originate(packet) => match &step.reply {
+            Reply::Sent(_) => Some((packet.key(), 0)),
+            _ => None,
+        },
         _ => None,
     }
 }

@@ -9,7 +9,7 @@ ghost use Rattle.gn_remembered.specs.Place.{before_after, is_before, place, plac
 ghost use Rattle.gn_remembered.specs.Views.{guid, hit_seen};
 
 use crate::admitted::admission_in;
-use gn_rules::{Config, ConnId, Step};
+use gn_rules::{Config, ConnId, Reply, Step};
 use gn_wire::{Guid, Kind};
 use std::alloc::Allocator;
 
@@ -18,8 +18,11 @@ fn hit_in<'a, A: Allocator>(history: &'a [Step<A>], step: &Step<A>) -> Option<(&
     ensures { hit_seen result ≡ hit_of (reverse history.now) step.now.event step.now.reply }
 {
     let t = step.event.ticket()?;
+    let Reply::Routed { .. } = &step.reply else {
+        return None;
+    };
     let (origin, packet) = admission_in(history, t)?;
-    if packet.kind() != Kind::QueryHit || !step.reply.is_routed() {
+    if packet.kind() != Kind::QueryHit {
         return None;
     }
     let payload = packet.payload().as_slice();

@@ -8,8 +8,7 @@ use Rattle.gn_rules.specs.declared.config.Config.{Config}
 use Rattle.gn_rules.specs.declared.receipt.Step.{Step}
 use Rattle.gn_rules.specs.declared.refusal.Refusal.{Refusal}
 use Rattle.gn_rules.specs.declared.reply.Reply.{Reply}
-use Rattle.gn_rules.specs.Answer.{answer}
-use Rattle.gn_rules.specs.Legal.{IsLegal}
+use Rattle.gn_rules.specs.Answer.{answer, IsLegal}
 use Rattle.gn_rules.specs.Legality.{IsFirstWrong}
 use Rattle.gn_rules.proofs.LegalLemmas.{legal_within}
 use Rattle.gn_rules.proofs.PastLemmas.{past_more}

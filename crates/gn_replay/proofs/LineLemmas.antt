@@ -10,7 +10,7 @@ use Rattle.gn_replay.specs.declared.link.Link.TheVariants as keep
 use Rattle.gn_replay.specs.Events.{Played, prints}
 use Rattle.gn_replay.specs.Links.{LinkState, ended, IsLink, AreLinks}
 use Rattle.gn_shake.specs.Shaking.{Shaking, shake_of}
-use Rattle.gn_shake.specs.Texts.{request_text}
+use Rattle.gn_shake.specs.Greeting.{request_text}
 use Rattle.gn_replay.specs.Pieces.{Linked, awaits, feeds_link}
 use Rattle.gn_replay.proofs.AdmitLemmas.{after_playing_nothing}
 use Rattle.gn_replay.specs.Playing.{Playing, HasLinked, HasPlayed, after_playing, with_links}

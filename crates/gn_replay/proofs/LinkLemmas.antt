@@ -7,9 +7,8 @@ use Rattle.gn_frames.specs.Frames.{Frames, frames_of, FramesAreCut, prepended}
 use Rattle.gn_frames.specs.Reassembly.{IsAnswer, IsFed, held_of, unless_ended}
 use Rattle.gn_shake.specs.declared.shake.ShakeState.{ShakeState}
 use Rattle.gn_shake.specs.declared.shake.ShakeState.TheVariants.{More, Done, Refused}
-use Rattle.gn_shake.specs.Greeting.{greeting_state}
+use Rattle.gn_shake.specs.Greeting.{greeting_state, request_text}
 use Rattle.gn_shake.specs.Shaking.{Shaking, answer_of, fed as shaken, used_of, shake_of, PiecesAreOneStream}
-use Rattle.gn_shake.specs.Texts.{request_text}
 use Rattle.gn_rules.specs.declared.event.Event.TheVariants.{Connect}
 use Rattle.gn_rules.specs.Answer.{answer}
 use Rattle.gn_text.specs.Links.{greeting_refused_text}

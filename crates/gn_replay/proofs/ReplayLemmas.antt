@@ -11,7 +11,7 @@ use Rattle.gn_replay.specs.declared.fault.ReplayFault.TheVariants as fault
 use Rattle.gn_replay.specs.Faults.{IsReplayFault, input_of}
 use Rattle.gn_rules.specs.declared.config.Config.{Config}
 use Rattle.gn_rules.specs.declared.receipt.Step.{Step}
-use Rattle.gn_rules.specs.Legal.{IsLegal}
+use Rattle.gn_rules.specs.Answer.{IsLegal}
 use Rattle.gn_rules.proofs.LegalLemmas.{legal_within}
 use Rattle.gn_capture.specs.declared.capture.Capture.{Capture}
 use Rattle.gn_capture.specs.Captures.{Parsed, capture_of, capture_seen}

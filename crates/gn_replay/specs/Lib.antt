@@ -1,13 +1,15 @@
+-- What is promised: contracts of public functions rest on it.
 pub mod Audits
 pub mod Events
 pub mod Explained
 pub mod Faults
-pub mod Judgements
 pub mod Links
-pub mod Outcomes
 pub mod Pieces
 pub mod Playing
 pub mod ReplayHistory
 pub mod ReplayText
 pub mod Replays
 pub mod Runs
+-- Words of the proofs.
+pub mod Judgements
+pub mod Outcomes

@@ -2,9 +2,8 @@
 use Rattle.std.specs.Prelude.{◌≡◌, ℕ, List, [], ◌∷◌, Some, None}
 use Rattle.gn_frames.specs.Frames.{frames_of}
 use Rattle.gn_shake.specs.declared.shake.ShakeState.TheVariants.{More}
-use Rattle.gn_shake.specs.Greeting.{greeting_state}
+use Rattle.gn_shake.specs.Greeting.{greeting_state, request_text}
 use Rattle.gn_shake.specs.Shaking.{shake_of}
-use Rattle.gn_shake.specs.Texts.{request_text}
 use Rattle.gn_replay.specs.declared.link.Link.{Link}
 use Rattle.gn_replay.specs.declared.link.Link.TheVariants as link
 

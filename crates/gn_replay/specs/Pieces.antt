@@ -5,8 +5,7 @@ use Rattle.gn_wire.specs.Packet.{Packet}
 use Rattle.gn_frames.specs.Frames.{frames_of}
 use Rattle.gn_shake.specs.declared.shake.ShakeState.{ShakeState}
 use Rattle.gn_shake.specs.declared.shake.ShakeState.TheVariants.{More, Done, Refused}
-use Rattle.gn_shake.specs.Greeting.{greeting_state}
-use Rattle.gn_shake.specs.Texts.{request_text}
+use Rattle.gn_shake.specs.Greeting.{greeting_state, request_text}
 use Rattle.gn_rules.specs.declared.config.Config.{Config}
 use Rattle.gn_rules.specs.declared.event.Event.TheVariants.{Connect, Close, Admit}
 use Rattle.gn_rules.specs.declared.receipt.Step.{Step}

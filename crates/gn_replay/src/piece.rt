@@ -1,13 +1,12 @@
 //! What pieces of a link's bytes do to a replay.
 
-ghost use Rattle.std.specs.Prelude.{◌≡◌, ◌++◌, List, ℕ, None, drop, IfOk, OnOk};
-ghost use Rattle.gn_shake.specs.Greeting.{greeting_state};
-ghost use Rattle.gn_shake.specs.Texts.{request_text};
+ghost use Rattle.std.specs.Prelude.{◌≡◌, ◌++◌, List, ℕ, None, IfOk, OnOk};
+ghost use Rattle.gn_shake.specs.Greeting.{greeting_state, request_text};
 ghost use Rattle.gn_replay.specs.declared.link.Link.TheVariants.{Greeting, Joined};
 ghost use Rattle.gn_text.specs.Links.{ended_text};
 ghost use Rattle.gn_replay.specs.Events.{prints};
 ghost use Rattle.gn_replay.specs.Links.{IsLink, LinkState, greeting, joined};
-ghost use Rattle.gn_replay.specs.Pieces.{admits, connects, delivers, delivers_these, fault_plays, greets, joins, feeds_link};
+ghost use Rattle.gn_replay.specs.Pieces.{admits, connects, delivers, delivers_these, fault_plays, feeds_link, greets, joins};
 ghost use Rattle.gn_replay.specs.Playing.{HasAdmitted, HasLinked, after_playing};
 
 use crate::link::Link;
@@ -133,7 +132,7 @@ impl<A: Allocator + Copy, C: RouterCore<A>> Play<A, C> {
                 push_greeting_refused(&mut self.out, i)?;
                 Ok(Link::Ended)
             }
-            ShakeState::Done => self.connect(i, rest_of(piece, shaken.used)),
+            ShakeState::Done => self.connect(i, shaken.rest_of(piece)),
         }
     }
 
@@ -162,17 +161,5 @@ impl<A: Allocator + Copy, C: RouterCore<A>> Play<A, C> {
             Link::Greeting(shake) => self.greet(i, shake, piece),
             Link::Joined { connection, frames } => self.deliver(i, connection, frames, piece),
         }
-    }
-}
-
-/// What of a piece stands after its first bytes.
-#[tactic(auto, using(std::proofs::lemmas::List::drop_all))]
-fn rest_of(piece: &[u8], used: usize) -> &[u8]
-    ensures { result.now ≡ drop used piece.now }
-{
-    if used <= piece.len() {
-        &piece[used..]
-    } else {
-        &[]
     }
 }

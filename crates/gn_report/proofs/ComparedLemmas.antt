@@ -1,15 +1,17 @@
 -- A reader, a writer, a worker or the house is confirmed where each test of it holds.
-use Rattle.std.proofs.Common.{◌≡◌, ◌≤◌, ◌<◌, ◌+◌, ◌&&◌, ◌||◌, ◌∙◌, ℕ, Bool, true, false, List, drop, get_or, length, sym, ap, subst}
+use Rattle.std.proofs.Common.{◌≡◌, ◌≤◌, ◌<◌, ◌+◌, ◌&&◌, ◌||◌, ◌∙◌, ℕ, Bool, true, false, not, List, ◌∷◌, drop, get_or, length, sym, ap, subst}
 use Rattle.std.specs.List.{count_by, list_all, list_any}
 use Rattle.std.specs.Option.{option_or}
 use Rattle.std.proofs.lemmas.List.{at_drop_more}
 use Rattle.gn_rules.specs.declared.receipt.Receipt.{Receipt}
 use Rattle.gn_rules.specs.declared.receipt.Step.{Step}
-use Rattle.gn_rules.specs.Mine.{mine}
+use Rattle.gn_rules.specs.History.{closed_of, is_at, is_close, mine}
 use Rattle.gn_shake.specs.declared.role.Role.{Role}
 use Rattle.gn_laws.specs.Owners.{is_readers, is_writers}
 use Rattle.gn_report.specs.declared.report.LinkReport.{LinkReport}
-use Rattle.gn_report.specs.BodyEnds.{conn_made, is_connect, is_reader_end, is_writer_end, made_by, may_close_first}
+use Rattle.gn_report.specs.Actors.{is_awaited}
+use Rattle.gn_report.specs.BodyEnds.{is_connect, is_reader_end, is_writer_end, may_close_first}
+use Rattle.gn_report.proofs.ConnLemmas.{conn_made, conn_more, made_by}
 use Rattle.gn_report.specs.Flaw.{ReaderConfirmed, WriterConfirmed}
 
 -- a reader whose other tests hold is confirmed exactly where its end is
@@ -61,6 +63,11 @@ pub or_off : (r t a b : Bool) → t ≡ false → t ≡ a → r ≡ b → r ≡ 
 or_off r t true b off same is = cc
 or_off r t false b off same is = is
 
+-- a receipt of a writer is of the Close(c) of a drained connection
+abbrev pub is_last_close : {A : Type 0} → (ℕ → Bool) → List Role → List (Step A) → ℕ → Receipt A → Bool
+is_last_close settled roles steps c r =
+    is_close c r.event && is_at 0 (closed_of r.reply) && settled r.index && list_all (λ step. not (is_awaited roles step.actor)) (drop r.index steps)
+
 -- a look at one item more
 pub any_here : {X : Type 0} (p : X → Bool) (xs : List X) (i : ℕ) (x : X) → i < length xs → x ≡ get_or xs i x → list_any p (drop i xs) ≡ (p x || list_any p (drop (i + 1) xs))
 any_here p xs i x below is = at_drop_more (list_any p) xs i x below ∙ ap (λ y. p y || list_any p (drop (i + 1) xs)) (sym is)
@@ -68,7 +75,8 @@ any_here p xs i x below is = at_drop_more (list_any p) xs i x below ∙ ap (λ y
 -- the connection of the receipts from one place on
 pub made_here : {A : Type 0} (rs : List (Receipt A)) (i : ℕ) (r : Receipt A) → i < length rs → r ≡ get_or rs i r
     → conn_made (drop i rs) ≡ option_or (made_by r.event r.reply) (conn_made (drop (i + 1) rs))
-made_here {A} rs i r below is = at_drop_more conn_made rs i r below ∙ ap (λ (x : Receipt A). option_or (made_by x.event x.reply) (conn_made (drop (i + 1) rs))) (sym is)
+made_here {A} rs i r below is =
+    at_drop_more conn_made rs i r below ∙ ap (λ (x : Receipt A). conn_made (x ∷ drop (i + 1) rs)) (sym is) ∙ conn_more r (drop (i + 1) rs)
 
 -- a test has one answer
 pub clash : {P : Type 0} (b : Bool) → b ≡ true → b ≡ false → P

@@ -7,21 +7,20 @@ use Rattle.std.proofs.lemmas.List.{get_or-map, length-map}
 use Rattle.std.proofs.lemmas.Grind.{common_steps}
 use Rattle.gn_rules.specs.declared.config.Config.{Config}
 use Rattle.gn_rules.specs.declared.receipt.Receipt.{Receipt}
-use Rattle.gn_rules.specs.History.{is_at, is_close, ticket_of}
-use Rattle.gn_rules.specs.Legal.{IsLegal}
+use Rattle.gn_rules.specs.History.{is_at, is_close, ticket_of, mine, closed_of}
+use Rattle.gn_rules.specs.Answer.{IsLegal}
 use Rattle.gn_shake.specs.declared.role.Role.{Role}
 use Rattle.gn_shake.specs.declared.role.Role.TheVariants.{Plain}
-use Rattle.gn_shake.specs.Roles.{is_calling}
+use Rattle.gn_shake.specs.Greeting.{is_calling}
 use Rattle.gn_bodies.specs.declared.ends.WriterEnd.TheVariants.{Drained}
-use Rattle.gn_rules.specs.Mine.{mine}
-use Rattle.gn_laws.specs.Owners.{AreCompared, is_readers, is_writers, packets_of, is_drained_by, known_conn}
-use Rattle.gn_rules.specs.History.{closed_of}
+use Rattle.gn_laws.specs.Owners.{AreCompared, is_readers, is_writers, packets_of, known_conn}
 use Rattle.gn_laws.proofs.FittingLemmas.{strangers_have_none}
 use Rattle.gn_laws.proofs.OwnerLemmas.{links_agree}
 use Rattle.gn_report.specs.declared.report.LinkReport.{LinkReport}
 use Rattle.gn_report.specs.declared.report.Report.{Report}
 use Rattle.gn_report.specs.Actors.{actors}
-use Rattle.gn_report.specs.BodyEnds.{is_last_close, is_writer_end}
+use Rattle.gn_report.specs.BodyEnds.{is_writer_end}
+use Rattle.gn_report.proofs.ComparedLemmas.{is_last_close}
 use Rattle.gn_report.proofs.ConnLemmas.{conn_is_known}
 use Rattle.gn_report.specs.Flaw.{HouseConfirmed, IsConfirmed, ReaderConfirmed, TookAll, WorkerConfirmed, WriterConfirmed}
 
@@ -92,7 +91,7 @@ routes_only {Rd} {W} {A} settled roles report all a past =
         | inr under ↦
             let is : n + n + v ≡ a = omega (arith, high, under) in
             subst (λ i. list_all (λ (r : Receipt A). is_some (ticket_of r.event)) (mine report.history.items i) ≡ true) is
-            (subst (λ rs. list_all (λ (r : Receipt A). is_some (ticket_of r.event)) rs ≡ true) house.own house.events)
+            (subst (λ rs. list_all (λ (r : Receipt A). is_some (ticket_of r.event)) rs ≡ true) house.worker.own house.worker.events)
       ]
     ]
 
@@ -149,6 +148,7 @@ took_all {Rd} {W} {A} s settled roles report legal all k below d c drained is =
     let end : is_writer_end settled roles steps (length links + k) (get_or roles k Plain) link.writer_receipts.items Drained (Some c) ≡ true =
     subst (λ o. is_writer_end settled roles steps (length links + k) (get_or roles k Plain) link.writer_receipts.items Drained o ≡ true) is
     (subst (λ e. is_writer_end settled roles steps (length links + k) (get_or roles k Plain) link.writer_receipts.items e link.conn ≡ true) drained writer.end) in
-    let says : is_drained_by link.writer_receipts.items c ≡ true =
-    any_weaker (λ (r : Receipt A). is_last_close settled roles steps c r) (λ (r : Receipt A). is_close c r.event && is_at 0 (closed_of r.reply)) (λ r e. grind (arith, common_steps, e)) link.writer_receipts.items end in
-    ap packets_of (sym own) ∙ known.drained (subst (λ rs. is_drained_by rs c ≡ true) (sym own) says)
+    let drains : Receipt A → Bool = λ r. is_close c r.event && is_at 0 (closed_of r.reply) in
+    let says : list_any drains link.writer_receipts.items ≡ true =
+    any_weaker (λ (r : Receipt A). is_last_close settled roles steps c r) drains (λ r e. grind (arith, common_steps, e)) link.writer_receipts.items end in
+    ap packets_of (sym own) ∙ known.drained (subst (λ rs. list_any drains rs ≡ true) (sym own) says)

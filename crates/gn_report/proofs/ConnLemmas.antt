@@ -1,6 +1,6 @@
 -- In a legal history Connect alone is replied Connected.
-use Rattle.std.proofs.Common.{◌≡◌, ◌<◌, ◌+◌, ◌==◌, ℕ, suc, true, false, List, [], ◌∷◌, length, get_or, reverse, None, Ok, inl, inr, refl, sym, ap, ◌∙◌, subst, arith, if◌then◌else◌}
-use Rattle.std.specs.List.{All, AllByRecursion}
+use Rattle.std.proofs.Common.{◌≡◌, ◌<◌, ◌+◌, ◌==◌, ℕ, suc, Option, true, false, List, [], ◌∷◌, length, get_or, reverse, Some, None, Ok, inl, inr, refl, sym, ap, ◌∙◌, subst, arith, if◌then◌else◌}
+use Rattle.std.specs.List.{All, AllByRecursion, cons_option, filter_map, slice_get}
 use Rattle.std.specs.List.Sorted.{IsPermutation}
 use Rattle.std.specs.Option.{option_or}
 use Rattle.std.proofs.lemmas.List.{reverse-reverse}
@@ -12,15 +12,30 @@ use Rattle.gn_rules.specs.declared.event.Event.TheVariants.{Connect, Close, Admi
 use Rattle.gn_rules.specs.declared.receipt.Receipt.{Receipt}
 use Rattle.gn_rules.specs.declared.receipt.Step.{Step}
 use Rattle.gn_rules.specs.declared.reply.Reply.{Reply}
-use Rattle.gn_rules.specs.Answer.{answer}
+use Rattle.gn_rules.specs.Answer.{answer, IsLegal}
 use Rattle.gn_rules.specs.Decision.{decide}
-use Rattle.gn_rules.specs.History.{connected_of}
-use Rattle.gn_rules.specs.Legal.{IsLegal}
-use Rattle.gn_rules.specs.Mine.{mine, mine_from}
+use Rattle.gn_rules.specs.History.{connected_of, mine, mine_from}
 use Rattle.gn_rules.proofs.AnswerLemmas.{answered}
 use Rattle.gn_rules.proofs.LiveLemmas.{decision_connects}
 use Rattle.gn_laws.specs.Owners.{known_conn}
-use Rattle.gn_report.specs.BodyEnds.{conn_made, made_by}
+use Rattle.gn_report.specs.BodyEnds.{is_connect}
+
+-- the connection that an event made by its reply: a Connect, where it was replied Connected
+abbrev pub made_by : {A : Type 0} → Event A → Reply A → Option ℕ
+made_by event reply = if is_connect event then connected_of reply else None
+
+-- the connection of the first Connect among receipts that was replied Connected
+abbrev pub conn_made : {A : Type 0} → List (Receipt A) → Option ℕ
+conn_made receipts = slice_get (filter_map (λ r. made_by r.event r.reply) receipts) 0
+
+-- one receipt more
+pub conn_more : {A : Type 0} (r : Receipt A) (receipts : List (Receipt A)) → conn_made (r ∷ receipts) ≡ option_or (made_by r.event r.reply) (conn_made receipts)
+conn_more {A} r receipts =
+    let rest : List ℕ = filter_map (λ (x : Receipt A). made_by x.event x.reply) receipts in
+    elim (made_by r.event r.reply) as (λ o. slice_get (cons_option o rest) 0 ≡ option_or o (slice_get rest 0)) [
+      | None ↦ refl
+      | Some c ↦ refl
+    ]
 
 -- an answered event makes the connection that its reply says
 answer_makes : {A : Type 0} (s : Config) (past : List (Step A)) (event : Event A) (reply : Reply A) → answer s past event ≡ Ok reply → made_by event reply ≡ connected_of reply
@@ -59,7 +74,7 @@ made_is_known {A} a i (step ∷ steps) each =
     let more : List (Receipt A) = mine_from a (i + 1) steps in
     let rest = made_is_known a (i + 1) steps (λ k d below. each (suc k) d (omega (arith, below))) in
     elim (step.actor == a) as (λ b. conn_made (if b then r ∷ more else more) ≡ known_conn (if b then r ∷ more else more)) [
-      | true ↦ ap (λ o. option_or o (conn_made more)) (each 0 step (omega arith)) ∙ ap (option_or (connected_of step.reply)) rest
+      | true ↦ conn_more r more ∙ ap (λ o. option_or o (conn_made more)) (each 0 step (omega arith)) ∙ ap (option_or (connected_of step.reply)) rest
       | false ↦ rest
     ]
 

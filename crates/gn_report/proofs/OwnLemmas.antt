@@ -4,7 +4,7 @@ use Rattle.std.proofs.lemmas.Bool.{and_parts, cases_lt, le-ltb, lt-ltb}
 use Rattle.std.proofs.lemmas.List.{get_or_default}
 use Rattle.gn_rules.specs.declared.receipt.Receipt.{Receipt}
 use Rattle.gn_rules.specs.declared.receipt.Step.{Step}
-use Rattle.gn_rules.specs.Mine.{step_of}
+use Rattle.gn_rules.specs.History.{step_of}
 use Rattle.gn_laws.specs.Owners.{AreFitting, indices_ascend}
 use Rattle.gn_report.specs.Actors.{Stands}
 

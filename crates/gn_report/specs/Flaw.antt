@@ -1,26 +1,26 @@
 -- What is compared of a report, actor by actor, and what is answered.
-use Rattle.std.specs.Prelude.{◌≡◌, ◌≤◌, ◌<◌, ◌+◌, ◌-◌, ℕ, Bool, true, nat_lt, List, length, reverse, slice_index_or, Option, Some, None, Vec, MatchBool, is_some}
-use Rattle.std.specs.List.{count_by, list_all}
+use Rattle.std.specs.Prelude.{◌≡◌, ◌≤◌, ◌<◌, ◌+◌, ◌-◌, ℕ, Bool, true, if◌then◌else◌, nat_lt, List, length, reverse, slice_index_or, Option, Some, None, Vec, MatchBool, is_some}
+use Rattle.std.specs.List.{count_by, filter_map, list_all, slice_get}
 use Rattle.gn_rules.specs.declared.receipt.Receipt.{Receipt}
 use Rattle.gn_rules.specs.declared.receipt.Step.{Step}
-use Rattle.gn_rules.specs.History.{ticket_of}
+use Rattle.gn_rules.specs.History.{connected_of, ticket_of, mine}
 use Rattle.gn_rules.specs.Output.{queued}
 use Rattle.gn_shake.specs.declared.role.Role.{Role}
-use Rattle.gn_shake.specs.Roles.{is_calling}
+use Rattle.gn_shake.specs.Greeting.{is_calling}
 use Rattle.gn_bodies.specs.declared.ends.WriterEnd.TheVariants.{Drained}
-use Rattle.gn_rules.specs.Mine.{mine}
 use Rattle.gn_laws.specs.Owners.{is_readers, is_writers, packets_of}
 use Rattle.gn_report.specs.declared.report.LinkReport.{LinkReport}
 use Rattle.gn_report.specs.declared.report.Report.{Report}
 use Rattle.gn_report.specs.Actors.{actors}
-use Rattle.gn_report.specs.BodyEnds.{conn_made, is_connect, is_reader_end, is_writer_end, may_close_first}
+use Rattle.gn_report.specs.BodyEnds.{is_connect, is_reader_end, is_writer_end, may_close_first}
 
 -- what is compared of the reader of link k, whose writer is actor `writer`
 pub record ReaderConfirmed {Rd W A : Type 0} (steps : List (Step A)) (all_call : Bool) (k writer : ℕ) (role : Role) (link : LinkReport Rd W A) : Type 0 where
   -- its receipts are its own steps
   pub own : link.reader_receipts.items ≡ mine steps k
-  -- the link's connection is the one that its Connect made
-  pub conn : link.conn ≡ conn_made link.reader_receipts.items
+  -- the link's connection is that of the first Connect that was replied Connected
+  pub conn : link.conn
+      ≡ slice_get (filter_map (λ r. if is_connect r.event then connected_of r.reply else None) link.reader_receipts.items) 0
   -- its events are Connect, Admit and Close of the connection, and Route
   pub events : list_all (λ r. is_readers link.conn r.event) link.reader_receipts.items ≡ true
   -- it connected at most once
@@ -46,10 +46,8 @@ pub record WorkerConfirmed {A : Type 0} (steps : List (Step A)) (a : ℕ) (recei
 
 -- what is compared of the house, which is the last actor, a: also what no other actor is named for
 pub record HouseConfirmed {A : Type 0} (settled : ℕ → Bool) (steps : List (Step A)) (a : ℕ) (receipts : List (Receipt A)) : Type 0 where
-  -- its receipts are its own steps
-  pub own : receipts ≡ mine steps a
-  -- its events are Route
-  pub events : list_all (λ r. is_some (ticket_of r.event)) receipts ≡ true
+  -- what is compared of a worker
+  pub worker : WorkerConfirmed steps a receipts
   -- no step is of an actor that the run doesn't have
   pub only : list_all (λ step. nat_lt step.actor (a + 1)) steps ≡ true
   -- each admitted ticket is routed: nothing is in flight at the end

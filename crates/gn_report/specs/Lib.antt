@@ -1,5 +1,4 @@
 pub mod Actors
-pub mod Closes
 pub mod BodyEnds
 pub mod Flaw
 pub mod Routes

@@ -5,7 +5,7 @@ use Rattle.gn_rules.specs.declared.event.Event.{Event}
 use Rattle.gn_rules.specs.declared.event.Event.TheVariants.{Close}
 use Rattle.gn_rules.specs.declared.receipt.Step.{Step}
 use Rattle.gn_shake.specs.declared.role.Role.{Role}
-use Rattle.gn_shake.specs.Roles.{is_calling}
+use Rattle.gn_shake.specs.Greeting.{is_calling}
 use Rattle.gn_bodies.specs.declared.ends.WriterEnd.{WriterEnd}
 use Rattle.gn_bodies.specs.declared.ends.WriterEnd.TheVariants.{Drained}
 use Rattle.gn_report.specs.declared.report.LinkReport.{LinkReport}

@@ -1,7 +1,8 @@
 //! Who closed a connection. Receipts say where to look first, so that a confirmed report's history isn't walked over.
 
-ghost use Rattle.std.specs.Prelude.{◌≡◌, true};
-ghost use Rattle.gn_report.specs.Closes as closes;
+ghost use Rattle.std.specs.Prelude.{◌≡◌, ◌&&◌, true};
+ghost use Rattle.gn_rules.specs.History.{is_close};
+ghost use Rattle.gn_report.specs.BodyEnds as closes;
 
 use gn_rules::{ConnId, Receipt, Step};
 use std::alloc::Allocator;
@@ -30,7 +31,7 @@ fn is_closer(closer: Closer, actor: u32) -> bool
 
 /// Whether a step is a Close of the connection, by one of those.
 fn is_close_by<A: Allocator>(closer: Closer, c: ConnId, step: &Step<A>) -> bool
-    ensures { result ≡ closes.is_close_by closer c step.now }
+    ensures { result ≡ (closes.is_closer closer step.now.actor && is_close c step.now.event) }
 {
     is_closer(closer, step.actor) && step.event.closes(c)
 }

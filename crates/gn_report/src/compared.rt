@@ -3,8 +3,8 @@
 ghost use Rattle.std.specs.Prelude.{◌≡◌, ◌+◌, ◌-◌, ◌<◌, ◌≤◌, ◌↔◌, IsTrue, None, true, ℕ, length, nat_lt, reverse, is_some, slice_index_or};
 ghost use Rattle.std.specs.List.{list_all};
 ghost use Rattle.gn_rules.specs.declared.config.Config.{Config};
-ghost use Rattle.gn_rules.specs.Legal.{IsLegal};
-ghost use Rattle.gn_rules.specs.Mine.{mine};
+ghost use Rattle.gn_rules.specs.Answer.{IsLegal};
+ghost use Rattle.gn_rules.specs.History.{mine};
 ghost use Rattle.gn_report.specs.Actors as actors;
 ghost use Rattle.gn_report.specs.BodyEnds as ends;
 ghost use Rattle.gn_report.specs.Flaw.{HouseConfirmed, IsConfirmed, IsFlaw, ReaderConfirmed, TookAll, WorkerConfirmed, WriterConfirmed};

@@ -1,7 +1,12 @@
 //! Whether the ends of a link's two bodies go with the link's connection and with the Close of it.
 
-ghost use Rattle.std.specs.Prelude.{◌≡◌, ℕ, Bool, Some, None, length};
-ghost use Rattle.std.specs.List.{list_any};
+ghost use Rattle.std.specs.Prelude.{◌≡◌, ◌==◌, ◌&&◌, ℕ, Bool, Some, None, drop, length, not};
+ghost use Rattle.std.specs.List.{list_all};
+ghost use Rattle.gn_rules.specs.History.{closed_of, is_at, is_close};
+ghost use Rattle.gn_shake.specs.Greeting.{is_calling};
+ghost use Rattle.gn_shake.specs.declared.role.Role.{Role};
+ghost use Rattle.gn_bodies.specs.declared.ends.WriterEnd.TheVariants.{Drained};
+ghost use Rattle.gn_report.specs.Actors.{is_awaited};
 ghost use Rattle.gn_report.specs.BodyEnds as ends;
 ghost use Rattle.gn_report.specs.Survey.{IsSurvey};
 
@@ -88,8 +93,10 @@ fn is_last_close<Rd, W, A: Allocator>(
 ) -> bool
     requires { IsSurvey roles.now report.now survey.now }
     ensures { result
-        ≡ ends.is_last_close (ends.is_settled report.now.history.items) roles.now report.now.history.items
-        c receipt.now }
+        ≡ (is_close c receipt.now.event && is_at 0 (closed_of receipt.now.reply)
+        && ends.is_settled report.now.history.items receipt.now.index
+        && list_all (λ step. not (is_awaited roles.now step.actor))
+        (drop receipt.now.index report.now.history.items)) }
 {
     receipt.event.closes(c)
         && is_empty_close(&receipt.reply)
@@ -110,10 +117,9 @@ fn has_last_close<Rd, W, A: Allocator>(
     own: &[Receipt<A>],
 ) -> bool
     requires { IsSurvey roles.now report.now survey.now }
-    ensures { result
-        ≡ list_any
-        (λ r. ends.is_last_close (ends.is_settled report.now.history.items) roles.now report.now.history.items c r)
-        own.now }
+    ensures { (writer : ℕ) (role : Role) → result
+        ≡ ends.is_writer_end (ends.is_settled report.now.history.items) roles.now report.now.history.items
+        writer role own.now Drained (Some c) }
 {
     for receipt in own {
         if is_last_close(report, roles, survey, c, receipt) {
@@ -125,7 +131,7 @@ fn has_last_close<Rd, W, A: Allocator>(
 
 /// Whether a writer that ended WriteFailed failed in the request text of a link that calls.
 fn failed_in_request<A: Allocator>(role: Role, own: &[Receipt<A>]) -> bool
-    ensures { result ≡ ends.failed_in_request role own.now }
+    ensures { result ≡ (is_calling role && (length own.now == 0)) }
 {
     role.is_calling() && own.len() == 0
 }

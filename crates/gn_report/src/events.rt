@@ -1,10 +1,9 @@
 //! Which events and replies an actor's receipts have.
 
-ghost use Rattle.std.specs.Prelude.{◌≡◌, is_some, true};
-ghost use Rattle.std.specs.List.{count_by, list_all, list_any};
-ghost use Rattle.gn_rules.specs.History.{is_at, is_close, ticket_of};
+ghost use Rattle.std.specs.Prelude.{◌≡◌, ◌==◌, ◌&&◌, length, if◌then◌else◌, is_some, true, None};
+ghost use Rattle.std.specs.List.{count_by, filter_map, list_all, list_any, slice_get};
+ghost use Rattle.gn_rules.specs.History.{closed_of, connected_of, is_at, is_close, ticket_of};
 ghost use Rattle.gn_laws.specs.Owners.{is_readers, is_writers};
-ghost use Rattle.gn_rules.specs.History.{closed_of};
 ghost use Rattle.gn_report.specs.BodyEnds as ends;
 
 use gn_laws::{may_read, may_write};
@@ -18,11 +17,14 @@ fn is_connect<A: Allocator>(event: &Event<A>) -> bool
     matches!(event, Event::Connect)
 }
 
-/// Whether a reply is TooMany.
-fn is_too_many<A: Allocator>(reply: &Reply<A>) -> bool
-    ensures { result ≡ ends.is_too_many reply.now }
+/// Whether an event is a Connect that was replied TooMany.
+fn is_too_many<A: Allocator>(event: &Event<A>, reply: &Reply<A>) -> bool
+    ensures { result ≡ ends.is_turned_away event.now reply.now }
 {
-    matches!(reply, Reply::TooMany)
+    match event {
+        Event::Connect => matches!(reply, Reply::TooMany),
+        _ => false,
+    }
 }
 
 /// Whether a reply is Closed(0).
@@ -70,19 +72,24 @@ pub fn closes<A: Allocator>(c: ConnId, receipts: &[Receipt<A>]) -> bool
     receipts.iter().any(|r| r.event.closes(c))
 }
 
+/// Whether each of these receipts is of a Connect replied TooMany.
+fn are_too_many<A: Allocator>(receipts: &[Receipt<A>]) -> bool
+    ensures { result ≡ list_all (λ r. ends.is_turned_away r.event r.reply) receipts.now }
+{
+    receipts.iter().all(|r| is_too_many(&r.event, &r.reply))
+}
+
 /// Whether these are one receipt, of a Connect replied TooMany.
 pub fn is_turned_away<A: Allocator>(receipts: &[Receipt<A>]) -> bool
-    ensures { result ≡ ends.is_turned_away receipts.now }
+    ensures { result
+        ≡ ((length receipts.now == 1) && list_all (λ r. ends.is_turned_away r.event r.reply) receipts.now) }
 {
-    match receipts {
-        [r] => is_connect(&r.event) && is_too_many(&r.reply),
-        _ => false,
-    }
+    receipts.len() == 1 && are_too_many(receipts)
 }
 
 /// The connection that an event made by its reply.
 fn made_by<A: Allocator>(event: &Event<A>, reply: &Reply<A>) -> Option<ConnId>
-    ensures { result ≡ ends.made_by event.now reply.now }
+    ensures { result ≡ if ends.is_connect event.now then connected_of reply.now else None }
 {
     match event {
         Event::Connect => reply.connected(),
@@ -92,7 +99,9 @@ fn made_by<A: Allocator>(event: &Event<A>, reply: &Reply<A>) -> Option<ConnId>
 
 /// The connection of the first Connect that was replied Connected.
 pub fn conn_of<A: Allocator>(receipts: &[Receipt<A>]) -> Option<ConnId>
-    ensures { result ≡ ends.conn_made receipts.now }
+    ensures { result
+        ≡ slice_get
+        (filter_map (λ r. if ends.is_connect r.event then connected_of r.reply else None) receipts.now) 0 }
 {
     for r in receipts {
         if let Some(c) = made_by(&r.event, &r.reply) {

@@ -3,7 +3,7 @@
 ghost use Rattle.std.specs.Prelude.{◌≡◌, ◌==◌, ◌≤◌, ◌<◌, ◌↔◌, IsTrue, [], true, length, slice_index_or};
 ghost use Rattle.std.specs.List.{count_by};
 ghost use Rattle.gn_rules.specs.declared.receipt.Step.{Step};
-ghost use Rattle.gn_rules.specs.Mine.{mine, step_of};
+ghost use Rattle.gn_rules.specs.History.{mine, step_of};
 ghost use Rattle.gn_laws.specs.Owners.{AreFitting};
 ghost use Rattle.gn_report.specs.Actors as actors;
 ghost use Rattle.gn_report.specs.Actors.{AreOwn, Stands};

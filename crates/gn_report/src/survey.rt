@@ -2,7 +2,7 @@
 
 ghost use Rattle.std.specs.Prelude.{◌≡◌, not, true, drop};
 ghost use Rattle.std.specs.List.{list_all};
-ghost use Rattle.gn_shake.specs.Roles.{is_calling};
+ghost use Rattle.gn_shake.specs.Greeting.{is_calling};
 ghost use Rattle.gn_report.specs.Actors as actors;
 ghost use Rattle.gn_report.specs.BodyEnds as ends;
 ghost use Rattle.gn_report.specs.Survey.{AreSettled, IsDrainsCloseAt, IsReadUntil, IsSurvey};
@@ -44,7 +44,7 @@ fn is_awaited(roles: &[Role], all_call: bool, actor: u32) -> bool
     ensures { result ≡ actors.is_awaited roles.now actor }
 {
     match roles.get(actor as usize) {
-        Some(role) => all_call || !role.is_calling(),
+        Some(role) => role.is_awaited(all_call),
         None => false,
     }
 }

@@ -4,14 +4,14 @@ use Rattle.std.specs.Cmp.{nat_cmp_total}
 use Rattle.std.specs.FinMap.{from_entries, get, len-empty, len-entries, entries, nat_cmp-IsAntisymmetric, same_map, values}
 use Rattle.std.specs.List.{All, list_any}
 use Rattle.std.specs.Map.{lookup}
-use Rattle.std.specs.Option.{option_map, option_to_list}
+use Rattle.std.specs.Option.{option_map, option_map_or, option_to_list}
 use Rattle.std.specs.Ordering.{nat_cmp}
 use Rattle.std.proofs.lemmas.Grind.{common_steps}
 use Rattle.std.proofs.lemmas.List.Elements.{All-head, All-tail}
 use Rattle.std.proofs.lemmas.Map.Views.{any-filter_same, exact_unsigned_eq}
 use Rattle.gn_rules.specs.declared.config.Config.{Config}
 use Rattle.gn_rules.specs.declared.receipt.Step.{Step}
-use Rattle.gn_rules.specs.Flight.{Admission, admission, flying, flying_from, in_flight, is_from, is_routed, tickets}
+use Rattle.gn_rules.specs.Flight.{Admission, admission, flying, flying_from, in_flight, is_routed, tickets}
 use Rattle.gn_tables.specs.declared.flights.Flight.{Flight}
 use Rattle.gn_tables.specs.Flying.{Flying}
 use Rattle.gn_tables.specs.Origins.{flights_from, from_count}
@@ -67,20 +67,23 @@ module _ {A : Type 0} (past : List (Step A)) where
       rw first rest
 
   module _ (c : ℕ) where
+    abbrev is_own : Option Admission → Bool
+    is_own o = option_map_or (λ a. a.origin == c) o false
+
     -- the table of some tickets counts those that c admitted
-    counted : (ts : List ℕ) → AreApart ts → from_count c (values (from_entries {R = nat_cmp} (entries_of ts))) ≡ length (filter (λ t. is_from c (admission past t)) ts)
+    counted : (ts : List ℕ) → AreApart ts → from_count c (values (from_entries {R = nat_cmp} (entries_of ts))) ≡ length (filter (λ t. is_own (admission past t)) ts)
     counted [] h = none_from c (entries (from_entries {R = nat_cmp} [])) (sym (len-entries (from_entries {R = nat_cmp} [])) ∙ len-empty nat_cmp (Flight A))
     counted (t ∷ ts) h = by (admission past t) (counted ts h.1)
       where
         gone : get (from_entries {R = nat_cmp} (entries_of ts)) t ≡ None
         gone = get_entries (entries_of ts) t ∙ looked_up t ts ∙ ap (λ b. if b then option_map flight_of (admission past t) else None) (unlisted t ts h.0)
 
-        by : (o : Option Admission) → from_count c (values (from_entries {R = nat_cmp} (entries_of ts))) ≡ length (filter (λ t. is_from c (admission past t)) ts)
-            → from_count c (values (from_entries {R = nat_cmp} (entry_of t o ++ entries_of ts))) ≡ length (if is_from c o then t ∷ (filter (λ t. is_from c (admission past t)) ts) else (filter (λ t. is_from c (admission past t)) ts))
+        by : (o : Option Admission) → from_count c (values (from_entries {R = nat_cmp} (entries_of ts))) ≡ length (filter (λ t. is_own (admission past t)) ts)
+            → from_count c (values (from_entries {R = nat_cmp} (entry_of t o ++ entries_of ts))) ≡ length (if is_own o then t ∷ (filter (λ t. is_own (admission past t)) ts) else (filter (λ t. is_own (admission past t)) ts))
         by None before = before
         by (Some a) before =
             count_insert c (from_entries (entries_of ts)) t (flight_of a) gone
-            ∙ elim (a.origin == c) as (λ b. (if b then 1 else 0) + from_count c (values (from_entries {R = nat_cmp} (entries_of ts))) ≡ length (if b then t ∷ (filter (λ t. is_from c (admission past t)) ts) else (filter (λ t. is_from c (admission past t)) ts))) [
+            ∙ elim (a.origin == c) as (λ b. (if b then 1 else 0) + from_count c (values (from_entries {R = nat_cmp} (entries_of ts))) ≡ length (if b then t ∷ (filter (λ t. is_own (admission past t)) ts) else (filter (λ t. is_own (admission past t)) ts))) [
               | true ↦ omega (arith, before)
               | false ↦ omega (arith, before)
             ]

@@ -12,7 +12,7 @@ use Rattle.std.proofs.lemmas.Map.Views.{exact_unsigned_eq}
 use Rattle.gn_wire.specs.Packet.{Packet}
 use Rattle.gn_rules.specs.declared.config.Config.{Config}
 use Rattle.gn_rules.specs.declared.receipt.Step.{Step}
-use Rattle.gn_rules.specs.Live.{connections, live, live_connections}
+use Rattle.gn_rules.specs.History.{connections, live, live_connections}
 use Rattle.gn_rules.specs.Output.{out, rows}
 use Rattle.gn_rules.proofs.StepLemmas.{is_listed, map_map}
 use Rattle.gn_rules.specs.Statistics.{no_stats}

@@ -8,7 +8,7 @@ use std::alloc::Allocator;
 
 impl<A: Allocator + Copy> Lookup<A> for TableRouter<A> {
     ghost use Rattle.std.specs.Prelude.{drop};
-    ghost use Rattle.gn_rules.specs.Live.{live_connections};
+    ghost use Rattle.gn_rules.specs.History.{live_connections};
     ghost use Rattle.gn_router.specs.Tabled.{past_of};
 
     ghost settings = { λ r. r.settings };

@@ -1,56 +1,39 @@
 //! The table router keeps what every router promises.
 
-ghost use Rattle.std.specs.Prelude.{◌≡◌, ◌∷◌, ◌++◌, [], Ok, length, IfOk, OnErr, OnOk};
-ghost use Rattle.gn_rules.specs.Answer.{answer};
-ghost use Rattle.gn_router.specs.Tabled.{past_of};
-
 use crate::table_router::TableRouter;
-use gn_decide::{Lookup, find, find_checked, is_answered};
+use gn_decide::{Lookup, Recorder, apply, enter, find, find_checked, is_answered, route};
 use gn_payload::Checked;
 use gn_rules::{Config, ConnId, Event, Receipt, Refusal, Reply, RouterCore, Stats, Step, Ticket};
 use std::alloc::{AllocError, Allocator};
 
-impl<A: Allocator + Copy> TableRouter<A> {
-    /// Makes the step of an event whose reply was found, and gives its receipt. An `Err` is out of memory, and changes
-    /// nothing.
-    #[tactic(auto, using(gn_rules::proofs::PastLemmas::past_length))]
-    fn add_with_receipt(
-        &mut self,
-        actor: u32,
-        event: &Event<A>,
-        reply: Reply<A>,
-    ) -> Result<Receipt<A>, AllocError>
-        requires { answer self.old.settings (past_of self.old) event.now ≡ Ok reply }
-        ensures step { IfOk result (λ receipt. self.new.steps
-            ≡ self.old.steps ++ record { actor = actor; event = event.now; reply = reply } ∷ []) }
-        ensures receipt { IfOk result (λ receipt. receipt
-            ≡ record { index = length self.old.steps; event = event.now; reply = reply }) }
-        ensures err { OnErr result (self.new.steps ≡ self.old.steps) }
-        ensures settings { self.new.settings ≡ self.old.settings }
-    {
-        let index = self.step_count();
-        let (mut step, receipt) = Step::with_receipt(self.alloc(), index, actor, event, reply)?;
-        let kept = self.keep(actor, &mut step.event, &mut step.reply);
-        drop(step);
-        kept.and(Ok(receipt))
+impl<A: Allocator + Copy> Recorder<A> for TableRouter<A> {
+    ghost settings = { λ r. r.settings };
+
+    ghost steps = { λ r. r.steps };
+
+    fn alloc(&self) -> A {
+        self.alloc
     }
 
-    /// Makes the step of an event and its reply, which was found, the last of the history. An `Err` is out of memory, and
-    /// changes nothing.
-    fn keep(
+    #[tactic(auto, using(gn_rules::proofs::PastLemmas::past_length))]
+    fn next_index(&self) -> u32 {
+        self.step_count()
+    }
+
+    fn answer(&self, event: &Event<A>) -> Result<Reply<A>, Refusal> {
+        find(self.alloc, self, event)
+    }
+
+    fn checked_answer(&self, ticket: Ticket, checked: &Checked<A>) -> Result<Reply<A>, Refusal> {
+        find_checked(self.alloc, self, ticket, checked)
+    }
+
+    fn append(
         &mut self,
         actor: u32,
         event: &mut Event<A>,
         reply: &mut Reply<A>,
-    ) -> Result<(), AllocError>
-        requires { answer self.old.settings (past_of self.old) event.old ≡ Ok reply.old }
-        ensures step { OnOk result (self.new.steps
-            ≡ self.old.steps ++ record { actor = actor; event = event.old; reply = reply.old } ∷ []) }
-        ensures err { OnErr result (self.new.steps ≡ self.old.steps) }
-        ensures event { OnErr result (event.new ≡ event.old) }
-        ensures reply { OnErr result (reply.new ≡ reply.old) }
-        ensures settings { self.new.settings ≡ self.old.settings }
-    {
+    ) -> Result<(), AllocError> {
         self.history.reserve(1)?;
         self.tables.follow(self.alloc, event, reply)?;
         self.history.push_reserved(Step {
@@ -72,8 +55,7 @@ impl<A: Allocator + Copy> RouterCore<A> for TableRouter<A> {
     }
 
     fn apply(&mut self, actor: u32, event: &Event<A>) -> Result<Receipt<A>, Refusal> {
-        let reply = find(self.alloc(), self, event)?;
-        Ok(self.add_with_receipt(actor, event, reply)?)
+        apply(self, actor, event)
     }
 
     fn is_answered(&self, step: &Step<A>) -> bool {
@@ -81,15 +63,11 @@ impl<A: Allocator + Copy> RouterCore<A> for TableRouter<A> {
     }
 
     fn enter(&mut self, actor: u32, event: &mut Event<A>) -> Result<(), Refusal> {
-        let mut reply = find(self.alloc(), self, event)?;
-        let kept = self.keep(actor, event, &mut reply);
-        drop(reply);
-        kept?;
-        Ok(())
+        enter(self, actor, event)
     }
 
     fn add(&mut self, step: &mut Step<A>) -> Result<(), AllocError> {
-        self.keep(step.actor, &mut step.event, &mut step.reply)
+        self.append(step.actor, &mut step.event, &mut step.reply)
     }
 
     fn route(
@@ -98,11 +76,7 @@ impl<A: Allocator + Copy> RouterCore<A> for TableRouter<A> {
         ticket: Ticket,
         checked: &Checked<A>,
     ) -> Result<Receipt<A>, Refusal> {
-        let reply = find_checked(self.alloc(), self, ticket, checked)?;
-        let event = Event::Route(ticket);
-        let receipt = self.add_with_receipt(actor, &event, reply);
-        drop(event);
-        Ok(receipt?)
+        route(self, actor, ticket, checked)
     }
 
     fn config(&self) -> &Config {

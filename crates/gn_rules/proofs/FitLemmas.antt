@@ -1,5 +1,6 @@
 -- What the rules answer fits the event.
-use Rattle.std.proofs.Common.{◌≡◌, ◌+◌, ◌==◌, ℕ, Bool, true, false, cond, not, List, [], ◌∷◌, length, Option, Some, None, Result, Ok, Err, refl, sym, ap, ◌∙◌}
+use Rattle.std.proofs.Common.{◌≡◌, ◌+◌, ◌==◌, ℕ, Bool, true, false, cond, not, List, [], ◌∷◌, length, slice_get, Option, Some, None, option_map, ok_or, Result, Ok, Err, nat_le, ◌&&◌, refl, sym, ap, ◌∙◌}
+use Rattle.std.specs.Option.{option_map_or}
 use Rattle.gn_wire.specs.Packet.{Packet}
 use Rattle.gn_wire.specs.Keys.{is_same_packet, key_of}
 use Rattle.gn_rules.specs.declared.config.Config.{Config}
@@ -11,12 +12,12 @@ use Rattle.gn_rules.specs.declared.refusal.Refusal.TheVariants.{HistoryFull, Not
 use Rattle.gn_rules.specs.declared.reply.Decision.{Decision}
 use Rattle.gn_rules.specs.declared.reply.Decision.TheVariants.{Drop}
 use Rattle.gn_rules.specs.declared.reply.Reply.{Reply}
-use Rattle.gn_rules.specs.declared.reply.Reply.TheVariants.{Connected, TooMany, Closed, Admitted, Busy, Crowded, Sent}
-use Rattle.gn_rules.specs.Answer.{event_answer, first_taken, flight_answer, checked_flight_answer, decision_reply, route_reply, may_originate, Finds}
+use Rattle.gn_rules.specs.declared.reply.Reply.TheVariants.{Connected, TooMany, Closed, Admitted, Busy, Crowded, Taken, Sent}
+use Rattle.gn_rules.specs.Answer.{answer, decision_reply, event_answer, may_originate, unless_strange, Finds}
 use Rattle.gn_rules.specs.Decision.{decide}
 use Rattle.gn_rules.specs.Fits.{is_fit, replies, AnswersFit, CheckedAnswersFit}
-use Rattle.gn_rules.specs.Flight.{Admission, in_flight, is_at_threshold, is_crowded, tickets}
-use Rattle.gn_rules.specs.Live.{live, connections, live_connections}
+use Rattle.gn_rules.specs.Flight.{Admission, flying, flying_from, in_flight, tickets}
+use Rattle.gn_rules.specs.History.{live, connections, live_connections}
 use Rattle.gn_rules.specs.Output.{out}
 use Rattle.gn_rules.specs.Sending.{fanout}
 use Rattle.gn_rules.specs.SeenEntries.{is_remembered}
@@ -30,16 +31,18 @@ decision_fits : {A : Type 0} (s : Config) (past : List (Step A)) (t : ℕ) (a : 
 decision_fits s past t a (Drop reason) = refl
 decision_fits s past t a decision = refl
 
-flight_fits : {A : Type 0} (s : Config) (past : List (Step A)) (t : ℕ) (found : Option Admission) → is_fit {A = A} (Route t) (flight_answer s past found) ≡ true
+flight_fits : {A : Type 0} (s : Config) (past : List (Step A)) (t : ℕ) (found : Option Admission)
+    → is_fit {A = A} (Route t) (ok_or (option_map (λ a. decision_reply s past a (decide s past a)) found) NoTicket) ≡ true
 flight_fits s past t None = refl
 flight_fits s past t (Some a) = decision_fits s past t a (decide s past a)
 
-checked_flight_fits : {A : Type 0} (s : Config) (past : List (Step A)) (t : ℕ) (d : Packet) (found : Option Admission) → is_fit {A = A} (Route t) (checked_flight_answer s past d found) ≡ true
-checked_flight_fits s past t d None = refl
-checked_flight_fits s past t d (Some a) =
-    either_fits (Route t) (is_same_packet d a.packet) (Ok (route_reply s past a)) (Err Strange) (decision_fits s past t a (decide s past a)) refl
+strange_fits : {A : Type 0} (t : ℕ) (d : Packet) (found : Option Admission) (rules : Result (Reply A) Refusal) → is_fit (Route t) rules ≡ true
+    → is_fit (Route t) (unless_strange d found rules) ≡ true
+strange_fits t d found (Err refusal) fit = fit
+strange_fits t d found (Ok reply) fit = either_fits (Route t) (option_map_or (λ a. is_same_packet d a.packet) found false) (Ok reply) (Err Strange) fit refl
 
-first_fits : (A : Type 0) (c : ℕ) (packets : List Packet) → is_fit {A = A} (Take c) (first_taken packets) ≡ true
+first_fits : (A : Type 0) (c : ℕ) (packets : List Packet)
+    → is_fit {A = A} (Take c) (ok_or (option_map (λ packet. Taken packet) (slice_get packets 0)) NothingWaiting) ≡ true
 first_fits A c [] = refl
 first_fits A c (p ∷ ps) = refl
 
@@ -47,11 +50,14 @@ event_fits : {A : Type 0} (s : Config) (past : List (Step A)) (event : Event A) 
 event_fits s past Connect = either_fits Connect (length (live_connections past) == s.numbers.neighbours) (Ok TooMany) (Ok (Connected (1 + length (connections past)))) refl refl
 event_fits s past (Close c) = either_fits (Close c) (not (live past c)) (Err NotLive) (Ok (Closed (length (out past c)))) refl refl
 event_fits s past (Admit c d) =
-    either_fits (Admit c d) (not (live past c)) (Err NotLive) (cond (is_at_threshold s past) (Ok Busy) (cond (is_crowded s past c) (Ok Crowded) (Ok (Admitted (length (tickets past)))))) refl
-    (either_fits (Admit c d) (is_at_threshold s past) (Ok Busy) (cond (is_crowded s past c) (Ok Crowded) (Ok (Admitted (length (tickets past))))) refl
-    (either_fits (Admit c d) (is_crowded s past c) (Ok Crowded) (Ok (Admitted (length (tickets past)))) refl refl))
+    let busy : Bool = length (flying past) == s.numbers.stage in
+    let crowded : Bool = not (s.numbers.crowd == 0) && nat_le s.numbers.crowd (length (flying_from past c)) in
+    either_fits (Admit c d) (not (live past c)) (Err NotLive) (cond busy (Ok Busy) (cond crowded (Ok Crowded) (Ok (Admitted (length (tickets past)))))) refl
+    (either_fits (Admit c d) busy (Ok Busy) (cond crowded (Ok Crowded) (Ok (Admitted (length (tickets past))))) refl
+    (either_fits (Admit c d) crowded (Ok Crowded) (Ok (Admitted (length (tickets past)))) refl refl))
 event_fits s past (Route t) = flight_fits s past t (in_flight past t)
-event_fits {A} s past (Take c) = either_fits (Take c) (not (live past c)) (Err NotLive) (first_taken (out past c)) refl (first_fits A c (out past c))
+event_fits {A} s past (Take c) =
+    either_fits (Take c) (not (live past c)) (Err NotLive) (ok_or (option_map (λ packet. Taken packet) (slice_get (out past c) 0)) NothingWaiting) refl (first_fits A c (out past c))
 event_fits s past (Originate d) =
     either_fits (Originate d) (not (may_originate s.numbers.life d)) (Err BadOrigin) (cond (is_remembered s past (key_of d)) (Err Remembered) (Ok (Sent (fanout s past 0 d)))) refl
     (either_fits (Originate d) (is_remembered s past (key_of d)) (Err Remembered) (Ok (Sent (fanout s past 0 d))) refl refl)
@@ -60,8 +66,7 @@ pub answers_fit : (A : Type 0) → AnswersFit A
 answers_fit A s past event = either_fits event (length past == s.numbers.steps) (Err HistoryFull) (event_answer s past event) refl (event_fits s past event)
 
 pub checked_answers_fit : (A : Type 0) → CheckedAnswersFit A
-checked_answers_fit A s past t d =
-    either_fits (Route t) (length past == s.numbers.steps) (Err HistoryFull) (checked_flight_answer s past d (in_flight past t)) refl (checked_flight_fits s past t d (in_flight past t))
+checked_answers_fit A s past t d = strange_fits t d (in_flight past t) (answer s past (Route t)) (answers_fit A s past (Route t))
 
 -- what a router finds fits where the rules' answer does
 pub found_fits : {A : Type 0} (event : Event A) (found rules : Result (Reply A) Refusal) → Finds found rules → is_fit event rules ≡ true → is_fit event found ≡ true

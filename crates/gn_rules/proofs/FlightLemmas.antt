@@ -12,11 +12,10 @@ use Rattle.gn_rules.specs.declared.receipt.Step.{Step}
 use Rattle.gn_rules.specs.declared.reply.Decision.{Decision}
 use Rattle.gn_rules.specs.declared.reply.Decision.TheVariants.{Drop}
 use Rattle.gn_rules.specs.declared.reply.Reply.{Reply}
-use Rattle.gn_rules.specs.Answer.{answer, decision_reply}
+use Rattle.gn_rules.specs.Answer.{answer, decision_reply, IsLegal}
 use Rattle.gn_rules.specs.Decision.{decide}
 use Rattle.gn_rules.specs.Flight.{Admission, admission, admission_of, flying, flying_after, is_route, is_routed, tickets}
 use Rattle.gn_rules.specs.History.{admitted_of, is_at, ticket_of}
-use Rattle.gn_rules.specs.Legal.{IsLegal}
 use Rattle.gn_rules.proofs.AnswerLemmas.{answered}
 use Rattle.gn_rules.proofs.NumberLemmas.{AreCounted, counted_more}
 use Rattle.gn_rules.proofs.StepLemmas.{filter_both}
@@ -43,11 +42,6 @@ pub record RoutesOne {A : Type 0} (past : List (Step A)) (event : Event A) (repl
 -- what an answered event does about tickets
 abbrev pub MovesTickets : {A : Type 0} → List (Step A) → Event A → Reply A → Type 0
 MovesTickets past event reply = LeavesTickets event reply ⊎ (GivesNext past event reply ⊎ RoutesOne past event reply)
-
--- an event routes t where t is the ticket that it routes
-pub route_is : {A : Type 0} (t : ℕ) (event : Event A) → is_route t event ≡ is_at t (ticket_of event)
-route_is t (Route u) = refl
-route_is t event = refl
 
 decision_gives : {A : Type 0} (s : Config) (past : List (Step A)) (a : Admission) (decision : Decision) → admitted_of (decision_reply s past a decision) ≡ None
 decision_gives s past a (Drop reason) = refl
@@ -128,7 +122,7 @@ admitted_below s (step ∷ past) t a legal found =
 -- a step doesn't route a ticket that isn't given yet
 unrouted_more : {A : Type 0} (s : Config) (past : List (Step A)) (t : ℕ) (event : Event A) (reply : Reply A) → IsLegal s past → answer s past event ≡ Ok reply → length (tickets past) ≤ t → is_route t event ≡ false
 unrouted_more s past t event reply legal e late =
-    route_is t event ∙ elim (moves_tickets s past event reply e) as (λ x. is_at t (ticket_of event) ≡ false) [
+    elim (moves_tickets s past event reply e) as (λ x. is_at t (ticket_of event) ≡ false) [
       | inl leaves ↦ ap (is_at t) leaves.routes
       | inr (inl next) ↦ ap (is_at t) next.routes
       | inr (inr one) ↦ ap (is_at t) one.routes ∙ other one.ticket (omega (arith, late, admitted_below s past one.ticket one.found legal one.was_admitted))

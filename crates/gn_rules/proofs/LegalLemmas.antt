@@ -4,8 +4,7 @@ use Rattle.std.proofs.lemmas.Grind.{common_steps}
 use Rattle.std.proofs.lemmas.List.{reverse-append, take-append-drop}
 use Rattle.gn_rules.specs.declared.config.Config.{Config}
 use Rattle.gn_rules.specs.declared.receipt.Step.{Step}
-use Rattle.gn_rules.specs.Answer.{event_answer}
-use Rattle.gn_rules.specs.Legal.{IsLegal}
+use Rattle.gn_rules.specs.Answer.{IsLegal}
 use Rattle.gn_rules.proofs.AnswerLemmas.{has_room}
 
 -- the steps before are legal too
@@ -26,4 +25,4 @@ others_differ n m other within = grind (arith, common_steps)
 pub legal_within : {A : Type 0} (s : Config) (past : List (Step A)) → IsLegal s past → length past ≤ s.numbers.steps
 legal_within s [] legal = omega arith
 legal_within s (step ∷ past) legal =
-    omega (arith, others_differ (length past) s.numbers.steps (has_room s past step.reply (event_answer s past step.event) legal.0) (legal_within s past legal.1))
+    omega (arith, others_differ (length past) s.numbers.steps (has_room s past step.reply step.event legal.0) (legal_within s past legal.1))

@@ -10,13 +10,11 @@ use Rattle.gn_rules.specs.declared.receipt.Step.{Step}
 use Rattle.gn_rules.specs.declared.reply.Decision.{Decision}
 use Rattle.gn_rules.specs.declared.reply.Decision.TheVariants.{Drop}
 use Rattle.gn_rules.specs.declared.reply.Reply.{Reply}
-use Rattle.gn_rules.specs.Answer.{answer, decision_reply}
+use Rattle.gn_rules.specs.Answer.{answer, decision_reply, IsLegal}
 use Rattle.gn_rules.specs.Decision.{decide}
 use Rattle.gn_rules.specs.Flight.{Admission}
-use Rattle.gn_rules.specs.History.{connected_of}
+use Rattle.gn_rules.specs.History.{connected_of, live, connections}
 use Rattle.gn_rules.specs.Laws.{LiveConnectionsRise}
-use Rattle.gn_rules.specs.Legal.{IsLegal}
-use Rattle.gn_rules.specs.Live.{live, connections}
 use Rattle.gn_rules.proofs.AnswerLemmas.{answered}
 use Rattle.gn_rules.proofs.NumberLemmas.{AreCounted, counted_more}
 

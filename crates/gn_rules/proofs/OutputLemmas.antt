@@ -1,5 +1,5 @@
 -- What waits is what was queued, less what was taken; and the counters add up.
-use Rattle.std.proofs.Common.{◌≡◌, ◌≤◌, ◌<◌, ◌+◌, ◌==◌, ℕ, true, false, not, if◌then◌else◌, List, [], ◌∷◌, ◌++◌, length, drop, map, sum, suc, Ok, Err, refl, sym, ap, ◌∙◌, arith, add-zero, length-append, length-drop}
+use Rattle.std.proofs.Common.{◌≡◌, ◌≤◌, ◌<◌, ◌+◌, ◌==◌, ℕ, true, false, List, [], ◌∷◌, ◌++◌, length, drop, map, sum, suc, Ok, refl, sym, ap, ◌∙◌, arith, add-zero, length-append, length-drop}
 use Rattle.std.proofs.lemmas.List.{append-nil, drop-append-le, drop-drop}
 use Rattle.std.proofs.lemmas.Map.Views.{exact_unsigned_eq}
 use Rattle.gn_wire.specs.Packet.{Packet}
@@ -8,18 +8,15 @@ use Rattle.gn_rules.specs.declared.event.Event.{Event}
 use Rattle.gn_rules.specs.declared.event.Event.TheVariants.{Connect, Close, Admit, Route, Take, Originate}
 use Rattle.gn_rules.specs.declared.receipt.Step.{Step}
 use Rattle.gn_rules.specs.declared.reply.Reply.{Reply}
-use Rattle.gn_rules.specs.Answer.{answer, take_answer, first_taken, with_room}
+use Rattle.gn_rules.specs.Answer.{answer, IsLegal}
 use Rattle.gn_rules.specs.History.{is_take, sends_of}
 use Rattle.gn_rules.specs.Laws.{OutputIsUntaken, CountersAddUp}
-use Rattle.gn_rules.specs.Legal.{IsLegal}
-use Rattle.gn_rules.specs.Live.{live}
-use Rattle.gn_rules.specs.declared.reply.Reply.TheVariants.{Taken}
-use Rattle.gn_rules.specs.declared.refusal.Refusal.TheVariants.{HistoryFull, NotLive}
 use Rattle.gn_rules.specs.declared.statistics.Counter.{Counter}
 use Rattle.gn_rules.specs.declared.statistics.Counter.TheVariants as counter
 use Rattle.gn_rules.specs.declared.statistics.Stats.{Stats}
 use Rattle.gn_rules.specs.Statistics.{counter_of, raised, stats_of, count_in}
 use Rattle.gn_rules.specs.Output.{out, queued, takes, queued_to}
+use Rattle.gn_rules.proofs.AnswerLemmas.{take_reply}
 
 -- what waits is the queue without the packets that were taken, and no more were taken than queued
 record IsUntaken {A : Type 0} (past : List (Step A)) (c : ℕ) : Type 0 where
@@ -27,22 +24,11 @@ record IsUntaken {A : Type 0} (past : List (Step A)) (c : ℕ) : Type 0 where
   rest : out past c ≡ drop (takes past c) (queued past c)
 
 -- an answered take found a packet, and its reply sends nothing
-taken_one : {A : Type 0} (s : Config) (past : List (Step A)) (c : ℕ) (reply : Reply A) → with_room s past (take_answer past c) ≡ Ok reply
+taken_one : {A : Type 0} (s : Config) (past : List (Step A)) (c : ℕ) (reply : Reply A) → answer s past (Take c) ≡ Ok reply
     → (0 < length (out past c)) × (sends_of reply ≡ [])
-taken_one s past c reply answered =
-    elim (length past == s.numbers.steps) as (λ b. (if b then Err HistoryFull else take_answer past c) ≡ Ok reply → (0 < length (out past c)) × (sends_of reply ≡ [])) [
-      | true ↦ λ e. absurd (cc)
-      | false ↦ λ e. elim (live past c) as (λ b. (if not b then Err NotLive else first_taken (out past c)) ≡ Ok reply → (0 < length (out past c)) × (sends_of reply ≡ [])) [
-        | true ↦ λ e. first_one (out past c) reply e
-        | false ↦ λ e. absurd (cc)
-      ] e
-    ] answered
-  where
-    first_one : {A : Type 0} (packets : List Packet) (reply : Reply A) → first_taken packets ≡ Ok reply → (0 < length packets) × (sends_of reply ≡ [])
-    first_one [] reply e = absurd (cc)
-    first_one (p ∷ ps) reply e =
-        let is : Taken p ≡ reply = cc in
-        (omega arith, ap sends_of (sym is))
+taken_one s past c reply e =
+    let first = take_reply s past reply c e in
+    (omega (arith, ap length first.first), ap sends_of first.reply_is)
 
 -- one step that takes nothing from c
 kept : {A : Type 0} (past : List (Step A)) (step : Step A) (c : ℕ) → is_take c step.event ≡ false → IsUntaken past c → IsUntaken (step ∷ past) c

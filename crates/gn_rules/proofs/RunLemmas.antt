@@ -8,9 +8,8 @@ use Rattle.gn_rules.specs.declared.receipt.Step.{Step}
 use Rattle.gn_rules.specs.declared.reply.Reply.{Reply}
 use Rattle.gn_rules.specs.declared.refusal.Refusal.{Refusal}
 use Rattle.gn_rules.specs.declared.refusal.Refusal.TheVariants.{HistoryFull, NotLive, NoTicket, Strange, NothingWaiting, BadOrigin, Remembered, NoMemory}
-use Rattle.gn_rules.specs.Answer.{answer, Finds, reply_of}
+use Rattle.gn_rules.specs.Answer.{answer, Finds, reply_of, IsLegal}
 use Rattle.gn_rules.specs.Laws.{RunsAgree, RunsAgreeSoFar, RunsStayLegal}
-use Rattle.gn_rules.specs.Legal.{IsLegal}
 use Rattle.gn_rules.proofs.PastLemmas.{past_push}
 use Rattle.gn_rules.specs.Runs.{past_after, IsReceipt, IsAnswered, Ran, had_memory}
 

@@ -7,7 +7,7 @@ use Rattle.gn_wire.specs.Packet.{Packet}
 use Rattle.gn_rules.specs.declared.config.Config.{Config}
 use Rattle.gn_rules.specs.declared.receipt.Step.{Step}
 use Rattle.gn_rules.specs.declared.sends.Sending.{Sending}
-use Rattle.gn_rules.specs.Live.{live_connections}
+use Rattle.gn_rules.specs.History.{live_connections}
 use Rattle.gn_rules.specs.Output.{queued_to}
 use Rattle.gn_rules.specs.Sending.{send, fanout}
 use Rattle.gn_rules.proofs.StepLemmas.{map_map, below_is_other}

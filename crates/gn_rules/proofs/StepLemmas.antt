@@ -1,5 +1,5 @@
 -- What one more step does.
-use Rattle.std.proofs.Common.{◌≡◌, ℕ, suc, zero, ◌<◌, ◌==◌, Bool, true, false, ◌&&◌, ◌||◌, not, cond, List, [], ◌∷◌, ◌++◌, filter, map, take, Some, None, refl, sym, ap, ◌∙◌, arith}
+use Rattle.std.proofs.Common.{◌≡◌, ℕ, suc, zero, ◌<◌, ◌==◌, Bool, true, false, ◌&&◌, ◌||◌, not, cond, if◌then◌else◌, List, [], ◌∷◌, ◌++◌, drop, filter, map, take, Some, None, refl, sym, ap, ◌∙◌, arith}
 use Rattle.std.specs.List.{All, list_any}
 use Rattle.std.specs.Option.{option_to_list}
 use Rattle.std.proofs.lemmas.Grind.{common_steps}
@@ -13,9 +13,8 @@ use Rattle.gn_rules.specs.declared.reply.Reply.{Reply}
 use Rattle.gn_rules.specs.declared.reply.Reply.TheVariants.{Connected, Closed, Admitted, Taken}
 use Rattle.gn_wire.specs.Packet.{Packet}
 use Rattle.gn_rules.specs.Flight.{is_route, tickets, is_routed, flying}
-use Rattle.gn_rules.specs.History.{connected_of, admitted_of, is_close, is_take, is_at, sends_of}
-use Rattle.gn_rules.specs.Live.{live, connections, live_connections}
-use Rattle.gn_rules.specs.Output.{out, untaken, queued_to, rows}
+use Rattle.gn_rules.specs.History.{connected_of, admitted_of, is_close, is_take, is_at, sends_of, live, connections, live_connections}
+use Rattle.gn_rules.specs.Output.{out, queued_to, rows}
 
 -- two filters, one after the other
 pub filter_both : {X : Type 0} (p q : X → Bool) (xs : List X) → filter (λ x. p x && q x) xs ≡ filter p (filter q xs)
@@ -123,13 +122,13 @@ rows-closed {A} past actor c n =
 
 -- a packet that is taken goes from its row
 pub rows-taken : {A : Type 0} (past : List (Step A)) (actor c : ℕ) (packet : Packet)
-    → rows (record { actor = actor; event = Take c; reply = Taken packet } ∷ past) ≡ map (λ r. (r.0, untaken (r.0 == c) r.1)) (rows past)
+    → rows (record { actor = actor; event = Take c; reply = Taken packet } ∷ past) ≡ map (λ r. (r.0, (if r.0 == c then drop 1 r.1 else r.1))) (rows past)
 rows-taken {A} past actor c packet =
     let step : Step A = record { actor = actor; event = Take c; reply = Taken packet } in
     let row : ℕ → ℕ × List Packet = λ d. (d, out past d) in
-    let f : ℕ × List Packet → ℕ × List Packet = λ r. (r.0, untaken (r.0 == c) r.1) in
+    let f : ℕ × List Packet → ℕ × List Packet = λ r. (r.0, (if r.0 == c then drop 1 r.1 else r.1)) in
     ap (map (λ d. (d, out (step ∷ past) d))) (live_connections-kept past step refl (λ d. refl))
-    ∙ map_agree (λ d. (d, out (step ∷ past) d)) (λ d. f (row d)) (λ d. rw (append-nil (untaken (d == c) (out past d))) refl) (live_connections past)
+    ∙ map_agree (λ d. (d, out (step ∷ past) d)) (λ d. f (row d)) (λ d. rw (append-nil (if d == c then drop 1 (out past d) else out past d)) refl) (live_connections past)
     ∙ sym (map_map row f (live_connections past))
 
 -- sends go after what waits

@@ -1,21 +1,21 @@
 -- What becomes of a descriptor that is routed, by its kind.
 use Rattle.std.specs.Prelude.{ℕ, ◌==◌, not, if◌then◌else◌, List, Option, Some, None}
-use Rattle.gn_wire.specs.declared.key.Key.{Key}
+use Rattle.std.specs.Option.{option_map_or}
 use Rattle.gn_wire.specs.declared.kind.Kind.{Kind}
 use Rattle.gn_wire.specs.declared.kind.Kind.TheVariants.{Ping, Pong, Push, Query, QueryHit, Unknown}
-use Rattle.gn_wire.specs.Forward.{is_expired}
+use Rattle.gn_wire.specs.Packet.{is_expired}
 use Rattle.gn_wire.specs.Keys.{is_same_id, key_of}
 use Rattle.gn_payload.specs.declared.checked.Verdict.{Verdict}
 use Rattle.gn_payload.specs.declared.checked.Verdict.TheVariants.{Sound, UnknownKind, Malformed}
-use Rattle.gn_payload.specs.Places.{push_servent}
-use Rattle.gn_payload.specs.Sound.{verdict_of}
+use Rattle.gn_payload.specs.Fields.{push_servent}
+use Rattle.gn_payload.specs.Reading.{verdict_of}
 use Rattle.gn_rules.specs.declared.config.Config.{Config}
 use Rattle.gn_rules.specs.declared.receipt.Step.{Step}
 use Rattle.gn_rules.specs.declared.reply.Decision.{Decision}
 use Rattle.gn_rules.specs.declared.reply.Decision.TheVariants.{Drop, Local, Flood, Forward}
 use Rattle.gn_rules.specs.declared.reply.DropReason.TheVariants as reason
 use Rattle.gn_rules.specs.Flight.{Admission}
-use Rattle.gn_rules.specs.Live.{live}
+use Rattle.gn_rules.specs.History.{live}
 use Rattle.gn_rules.specs.Servents.{servent_route}
 use Rattle.gn_rules.specs.SeenEntries.{source, is_remembered}
 
@@ -28,38 +28,25 @@ checks s past a r =
     else if is_expired s.numbers.life a.packet then Drop reason.Expired
     else Forward r
 
--- a Ping or Query: a duplicate where its key is remembered, else it goes on
-abbrev pub decide_request : {A : Type 0} → Config → List (Step A) → Admission → Decision
-decide_request s past a = if is_remembered s past (key_of a.packet) then Drop reason.Duplicate else Flood
-
 -- a Pong or Query Hit goes by the route that its request came; 0 is the local servent's own request
 abbrev pub decide_reply : {A : Type 0} → Config → List (Step A) → Admission → Option ℕ → Decision
 decide_reply s past a None = Drop reason.NoRoute
 decide_reply s past a (Some r) = if r == 0 then Local else checks s past a r
 
--- a Push to another servent goes by the route that the servent's last Query Hit came
-abbrev pub decide_push_to : {A : Type 0} → Config → List (Step A) → Admission → Option ℕ → Decision
-decide_push_to s past a None = Drop reason.NoRoute
-decide_push_to s past a (Some r) = checks s past a r
-
--- a Push: a duplicate where its key is remembered, else for the local servent or for the one that it names
-abbrev pub decide_push : {A : Type 0} → Config → List (Step A) → Admission → Decision
-decide_push s past a =
-    if is_remembered s past (key_of a.packet) then Drop reason.Duplicate
-    else if is_same_id (push_servent a.packet.payload) s.own.servent then Local
-    else decide_push_to s past a (servent_route s past (push_servent a.packet.payload))
-
--- the key of the request that a reply answers: of the same ID
-abbrev pub request_key : Kind → Admission → Key
-request_key kind a = record { kind = kind; id = a.packet.id }
-
 -- a sound descriptor, by its kind
 abbrev pub decide_sound : {A : Type 0} → Config → List (Step A) → Admission → Kind → Decision
-decide_sound s past a Ping = decide_request s past a
-decide_sound s past a Query = decide_request s past a
-decide_sound s past a Pong = decide_reply s past a (source s past (request_key Ping a))
-decide_sound s past a QueryHit = decide_reply s past a (source s past (request_key Query a))
-decide_sound s past a Push = decide_push s past a
+-- a Ping or Query is a duplicate where its key is remembered, else it goes on
+decide_sound s past a Ping = if is_remembered s past (key_of a.packet) then Drop reason.Duplicate else Flood
+decide_sound s past a Query = if is_remembered s past (key_of a.packet) then Drop reason.Duplicate else Flood
+-- a Pong answers the Ping of its ID, a Query Hit the Query
+decide_sound s past a Pong = decide_reply s past a (source s past (record { kind = Ping; id = a.packet.id }))
+decide_sound s past a QueryHit = decide_reply s past a (source s past (record { kind = Query; id = a.packet.id }))
+-- a Push is a duplicate where its key is remembered, else for the local servent, or for the one that it names, by the route
+-- that the servent's last Query Hit came
+decide_sound s past a Push =
+    if is_remembered s past (key_of a.packet) then Drop reason.Duplicate
+    else if is_same_id (push_servent a.packet.payload) s.own.servent then Local
+    else option_map_or (checks s past a) (servent_route s past (push_servent a.packet.payload)) (Drop reason.NoRoute)
 decide_sound s past a (Unknown code) = Drop reason.UnknownKind
 
 -- by what checking its payload says

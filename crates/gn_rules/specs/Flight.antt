@@ -1,14 +1,13 @@
 -- What was admitted, and what of it isn't routed yet.
-use Rattle.std.specs.Prelude.{ℕ, Bool, false, ◌==◌, ◌&&◌, nat_le, not, if◌then◌else◌, List, [], ◌∷◌, ◌++◌, filter, length, Option, Some, None}
+use Rattle.std.specs.Prelude.{ℕ, Bool, false, ◌==◌, not, if◌then◌else◌, List, [], ◌∷◌, ◌++◌, filter, Option, Some, None}
 use Rattle.std.specs.List.{list_any}
-use Rattle.std.specs.Option.{option_to_list}
+use Rattle.std.specs.Option.{option_map_or, option_to_list}
 use Rattle.gn_wire.specs.Packet.{Packet}
-use Rattle.gn_rules.specs.declared.config.Config.{Config}
 use Rattle.gn_rules.specs.declared.event.Event.{Event}
-use Rattle.gn_rules.specs.declared.event.Event.TheVariants.{Admit, Route}
+use Rattle.gn_rules.specs.declared.event.Event.TheVariants.{Admit}
 use Rattle.gn_rules.specs.declared.receipt.Step.{Step}
 use Rattle.gn_rules.specs.declared.reply.Reply.{Reply}
-use Rattle.gn_rules.specs.History.{admitted_of, is_at}
+use Rattle.gn_rules.specs.History.{admitted_of, is_at, ticket_of}
 
 -- a descriptor, and the connection that admitted it
 pub record Admission : Type 0 where
@@ -27,12 +26,11 @@ admission (step ∷ earlier) t = if is_at t (admitted_of step.reply) then admiss
 
 -- whether an event routes t
 abbrev pub is_route : {A : Type 0} → ℕ → Event A → Bool
-is_route t (Route u) = t == u
-is_route t event = false
+is_route t event = is_at t (ticket_of event)
 
 -- t was routed
 abbrev pub is_routed : {A : Type 0} → List (Step A) → ℕ → Bool
-is_routed past t = list_any (λ step. is_route t step.event) past
+is_routed past t = list_any (λ step. is_at t (ticket_of step.event)) past
 
 -- all tickets that were given, from the first on
 abbrev pub tickets : {A : Type 0} → List (Step A) → List ℕ
@@ -51,19 +49,6 @@ flying_after event reply flying = filter (λ t. not (is_route t event)) flying +
 abbrev pub in_flight : {A : Type 0} → List (Step A) → ℕ → Option Admission
 in_flight past t = if is_routed past t then None else admission past t
 
--- whether c is the connection of an admission
-abbrev pub is_from : ℕ → Option Admission → Bool
-is_from c None = false
-is_from c (Some a) = a.origin == c
-
 -- the tickets in flight that c admitted, whether or not it is still live
 abbrev pub flying_from : {A : Type 0} → List (Step A) → ℕ → List ℕ
-flying_from past c = filter (λ t. is_from c (admission past t)) (flying past)
-
--- crowded: there is a threshold for each connection, and at least as many tickets that c admitted are in flight
-abbrev pub is_crowded : {A : Type 0} → Config → List (Step A) → ℕ → Bool
-is_crowded s past c = not (s.numbers.crowd == 0) && nat_le s.numbers.crowd (length (flying_from past c))
-
--- at the threshold: as many tickets are in flight as may be
-abbrev pub is_at_threshold : {A : Type 0} → Config → List (Step A) → Bool
-is_at_threshold s past = length (flying past) == s.numbers.stage
+flying_from past c = filter (λ t. option_map_or (λ a. a.origin == c) (admission past t) false) (flying past)

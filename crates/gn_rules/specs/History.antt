@@ -1,15 +1,18 @@
--- What one step of a history says.
+-- What one step of a history says, the connections of a history, and the steps of one actor.
 --
 -- A history is the list of a router's steps. Contracts have it in order. The definitions of the rules are given the
 -- steps before an event with the newest first: there the newest step is the head, and "the steps before it" the tail.
-use Rattle.std.specs.Prelude.{ℕ, Bool, true, false, ◌==◌, List, [], Option, Some, None}
+use Rattle.std.specs.Prelude.{ℕ, Bool, true, false, ◌==◌, List, [], Option, Some, None, ◌&&◌, ◌||◌, not, ◌∷◌, ◌++◌, filter, ◌+◌, if◌then◌else◌}
+use Rattle.std.specs.Option.{option_to_list}
 use Rattle.gn_wire.specs.Packet.{Packet}
 use Rattle.gn_rules.specs.declared.event.Event.{Event}
-use Rattle.gn_rules.specs.declared.event.Event.TheVariants.{Close, Admit, Route, Take}
+use Rattle.gn_rules.specs.declared.event.Event.TheVariants.{Close, Route, Take}
 use Rattle.gn_rules.specs.declared.reply.DropReason.{DropReason}
 use Rattle.gn_rules.specs.declared.reply.Reply.{Reply}
 use Rattle.gn_rules.specs.declared.reply.Reply.TheVariants.{Connected, Closed, Admitted, Routed, Dropped, Taken, Sent}
 use Rattle.gn_rules.specs.declared.sends.Sending.{Sending}
+use Rattle.gn_rules.specs.declared.receipt.Step.{Step}
+use Rattle.gn_rules.specs.declared.receipt.Receipt.{Receipt}
 
 -- the connection that a reply made
 abbrev pub connected_of : {A : Type 0} → Reply A → Option ℕ
@@ -67,12 +70,36 @@ abbrev pub ticket_of : {A : Type 0} → Event A → Option ℕ
 ticket_of (Route t) = Some t
 ticket_of event = None
 
--- the descriptor that an event offers to admission
-abbrev pub offered_of : {A : Type 0} → Event A → Option Packet
-offered_of (Admit c packet) = Some packet
-offered_of event = None
-
 -- whether a number is the one that is stated
 abbrev pub is_at : ℕ → Option ℕ → Bool
 is_at n None = false
 is_at n (Some m) = n == m
+
+-- c is live: a step replied that it was connected, and no later step closed it
+abbrev pub live : {A : Type 0} → List (Step A) → ℕ → Bool
+live [] c = false
+live (step ∷ earlier) c = is_at c (connected_of step.reply) || (not (is_close c step.event) && live earlier c)
+
+-- all connections that were made, from the first on
+abbrev pub connections : {A : Type 0} → List (Step A) → List ℕ
+connections [] = []
+connections (step ∷ earlier) = connections earlier ++ option_to_list (connected_of step.reply)
+
+-- those that are live, in the order in which they were made; their numbers rise, since each is one more than the last
+abbrev pub live_connections : {A : Type 0} → List (Step A) → List ℕ
+live_connections past = filter (live past) (connections past)
+
+-- the receipts of actor a's steps, where the first step has index i
+abbrev pub mine_from : {A : Type 0} → ℕ → ℕ → List (Step A) → List (Receipt A)
+mine_from a i [] = []
+mine_from a i (step ∷ steps) =
+    if step.actor == a then record { index = i; event = step.event; reply = step.reply } ∷ mine_from a (i + 1) steps
+    else mine_from a (i + 1) steps
+
+-- actor a's own steps, as receipts: each with its place in the history, counted from 0
+abbrev pub mine : {A : Type 0} → List (Step A) → ℕ → List (Receipt A)
+mine steps a = mine_from a 0 steps
+
+-- the step of actor a that a receipt names
+abbrev pub step_of : {A : Type 0} → ℕ → Receipt A → Step A
+step_of a r = record { actor = a; event = r.event; reply = r.reply }

@@ -9,8 +9,8 @@ use Rattle.gn_rules.specs.declared.receipt.Step.{Step}
 use Rattle.gn_rules.specs.declared.refusal.Refusal.{Refusal}
 use Rattle.gn_rules.specs.declared.statistics.Counter.{Counter}
 use Rattle.gn_rules.specs.declared.statistics.Counter.TheVariants as counter
-use Rattle.gn_rules.specs.Legal.{IsLegal}
-use Rattle.gn_rules.specs.Live.{live_connections}
+use Rattle.gn_rules.specs.Answer.{IsLegal}
+use Rattle.gn_rules.specs.History.{live_connections}
 use Rattle.gn_rules.specs.Output.{out, queued, takes}
 use Rattle.gn_rules.specs.Runs.{Ran, had_memory}
 use Rattle.gn_rules.specs.Statistics.{counter_of, is_same_counter, stats_of, count_in}

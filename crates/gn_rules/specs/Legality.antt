@@ -4,7 +4,7 @@ use Rattle.gn_rules.specs.declared.config.Config.{Config}
 use Rattle.gn_rules.specs.declared.receipt.Step.{Step}
 use Rattle.gn_rules.specs.declared.legality.Legality.{Legality}
 use Rattle.gn_rules.specs.declared.legality.Legality.TheVariants.{Legal, WrongAt}
-use Rattle.gn_rules.specs.Legal.{IsLegal}
+use Rattle.gn_rules.specs.Answer.{IsLegal}
 
 -- the step at the index is the first wrong one: the steps before it are a legal history, and with it they aren't
 pub record IsFirstWrong {A : Type 0} (s : Config) (steps : List (Step A)) (i : ℕ) : Type 0 where

@@ -5,11 +5,8 @@ pub mod Flight
 pub mod History
 pub mod Kept
 pub mod Laws
-pub mod Legal
 pub mod Legality
 pub mod Limits
-pub mod Live
-pub mod Mine
 pub mod Output
 pub mod Runs
 pub mod Sending

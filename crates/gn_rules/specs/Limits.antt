@@ -3,9 +3,9 @@ use Rattle.std.specs.Prelude.{ℕ, ◌≤◌}
 use Rattle.gn_rules.specs.declared.limits.Numbers.{Numbers}
 
 -- from 1 to the limit
-pub record IsWithin (number most : ℕ) : Type 0 where
+pub record IsWithin (number limit : ℕ) : Type 0 where
   pub least : 1 ≤ number
-  pub greatest : number ≤ most
+  pub greatest : number ≤ limit
 
 -- the greatest that each number of a configuration may be
 abbrev pub most : Numbers

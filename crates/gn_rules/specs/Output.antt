@@ -1,25 +1,21 @@
 -- The packets that wait for each connection.
-use Rattle.std.specs.Prelude.{◌+◌, ℕ, Bool, true, false, ◌==◌, ◌&&◌, if◌then◌else◌, List, [], ◌∷◌, ◌++◌, length, map, filter, drop, Option, None}
+use Rattle.std.specs.Prelude.{◌+◌, ℕ, ◌==◌, ◌&&◌, if◌then◌else◌, List, [], ◌∷◌, ◌++◌, length, map, filter, drop, None}
 use Rattle.std.specs.Option.{option_to_list}
 use Rattle.gn_wire.specs.Packet.{Packet}
 use Rattle.gn_rules.specs.declared.receipt.Step.{Step}
 use Rattle.gn_rules.specs.declared.sends.Sending.{Sending}
-use Rattle.gn_rules.specs.History.{is_take, sends_of, taken_of}
-use Rattle.gn_rules.specs.Live.{live, live_connections}
+use Rattle.gn_rules.specs.History.{is_take, sends_of, taken_of, live, live_connections}
 
 -- the packets of these sends that were queued to c
 abbrev pub queued_to : {A : Type 0} → ℕ → List (Sending A) → List Packet
 queued_to c sends = map (λ x. x.packet) (filter (λ x. (x.to == c) && x.queued) sends)
 
--- packets without the first, where it was taken
-abbrev pub untaken : Bool → List Packet → List Packet
-untaken true packets = drop 1 packets
-untaken false packets = packets
-
--- the output of c: the packets that were queued to it and not taken yet, from the first on
+-- the output of c: the packets that were queued to it and not taken yet, from the first on; a step that takes from c takes
+-- the first
 abbrev pub out : {A : Type 0} → List (Step A) → ℕ → List Packet
 out [] c = []
-out (step ∷ earlier) c = untaken (is_take c step.event) (out earlier c) ++ queued_to c (sends_of step.reply)
+out (step ∷ earlier) c =
+    (if is_take c step.event then drop 1 (out earlier c) else out earlier c) ++ queued_to c (sends_of step.reply)
 
 -- how many packets wait for c: none where it isn't live
 abbrev pub waiting : {A : Type 0} → List (Step A) → ℕ → ℕ
@@ -39,11 +35,8 @@ abbrev pub takes : {A : Type 0} → List (Step A) → ℕ → ℕ
 takes [] c = 0
 takes (step ∷ earlier) c = takes earlier c + (if is_take c step.event then 1 else 0)
 
--- the packet that a step took from c, where it is a Take(c)
-abbrev pub took : {A : Type 0} → ℕ → Step A → Option Packet
-took c step = if is_take c step.event then taken_of step.reply else None
-
--- all packets that were ever taken from c, from the first on
+-- all packets that were ever taken from c, from the first on: of each step Take(c) the packet that its reply took
 abbrev pub taken : {A : Type 0} → List (Step A) → ℕ → List Packet
 taken [] c = []
-taken (step ∷ earlier) c = taken earlier c ++ option_to_list (took c step)
+taken (step ∷ earlier) c =
+    taken earlier c ++ option_to_list (if is_take c step.event then taken_of step.reply else None)

@@ -9,35 +9,28 @@ use Rattle.gn_wire.specs.Keys.{is_same_key, key_of}
 use Rattle.gn_rules.specs.declared.config.Config.{Config}
 use Rattle.gn_rules.specs.declared.event.Event.{Event}
 use Rattle.gn_rules.specs.declared.event.Event.TheVariants.{Route, Originate}
-use Rattle.gn_rules.specs.declared.reply.DropReason.{DropReason}
 use Rattle.gn_rules.specs.declared.reply.DropReason.TheVariants.{Malformed, Duplicate}
 use Rattle.gn_rules.specs.declared.reply.Reply.{Reply}
+use Rattle.gn_rules.specs.declared.reply.Reply.TheVariants.{Dropped, Routed, Sent}
 use Rattle.gn_rules.specs.declared.receipt.Step.{Step}
-use Rattle.gn_rules.specs.Flight.{Admission, admission}
-use Rattle.gn_rules.specs.History.{dropped_of, is_routed_reply, is_sent_reply}
-
--- a Push is kept unless it was dropped as malformed or as a duplicate
-abbrev pub keeps_push : Option DropReason → Bool
-keeps_push (Some Malformed) = false
-keeps_push (Some Duplicate) = false
-keeps_push dropped = true
+use Rattle.gn_rules.specs.Flight.{admission}
 
 -- whether a route with this reply is kept: of a Ping or Query where it was routed, of a Push unless it was malformed or a
 -- duplicate, of replies never
 abbrev pub keeps : {A : Type 0} → Kind → Reply A → Bool
-keeps Ping reply = is_routed_reply reply
-keeps Query reply = is_routed_reply reply
-keeps Push reply = keeps_push (dropped_of reply)
+keeps Ping (Routed sends local) = true
+keeps Query (Routed sends local) = true
+keeps Push (Dropped Malformed) = false
+keeps Push (Dropped Duplicate) = false
+keeps Push reply = true
 keeps kind reply = false
 
--- the key and the source that a route with this reply keeps: the source is the connection that admitted it
-abbrev pub route_entry : {A : Type 0} → Reply A → Admission → Option (Key × ℕ)
-route_entry reply a = if keeps a.packet.kind reply then Some (key_of a.packet, a.origin) else None
-
--- the kept entry that a step makes: of a route, or of the local servent's own descriptor that was sent, whose source is 0
+-- the kept entry that a step makes, a key and its source: of a route that is kept, whose source is the connection that
+-- admitted it, or of the local servent's own descriptor that was sent, whose source is 0
 abbrev pub entry_of : {A : Type 0} → List (Step A) → Event A → Reply A → Option (Key × ℕ)
-entry_of earlier (Route t) reply = option_and_then (route_entry reply) (admission earlier t)
-entry_of earlier (Originate d) reply = if is_sent_reply reply then Some (key_of d, 0) else None
+entry_of earlier (Route t) reply =
+    option_and_then (λ a. if keeps a.packet.kind reply then Some (key_of a.packet, a.origin) else None) (admission earlier t)
+entry_of earlier (Originate d) (Sent sends) = Some (key_of d, 0)
 entry_of earlier event reply = None
 
 -- the kept entries, the newest first

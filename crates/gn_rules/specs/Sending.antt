@@ -2,24 +2,19 @@
 use Rattle.std.specs.Prelude.{◌+◌, ℕ, Bool, true, false, ◌==◌, ◌&&◌, not, nat_lt, min, map, filter, if◌then◌else◌, List, [], ◌∷◌, ◌++◌, length}
 use Rattle.gn_wire.specs.declared.kind.Kind.{Kind}
 use Rattle.gn_wire.specs.declared.kind.Kind.TheVariants.{Ping, Pong}
-use Rattle.gn_wire.specs.Forward.{is_expired, forward_of}
-use Rattle.gn_wire.specs.Packet.{Packet}
+use Rattle.gn_wire.specs.Packet.{is_expired, forward_of, Packet}
 use Rattle.gn_payload.specs.Encoding.{pong_bytes}
 use Rattle.gn_rules.specs.declared.config.Config.{Config}
 use Rattle.gn_rules.specs.declared.config.Own.{Own}
 use Rattle.gn_rules.specs.declared.receipt.Step.{Step}
 use Rattle.gn_rules.specs.declared.sends.Sending.{Sending}
 use Rattle.gn_rules.specs.Flight.{Admission}
-use Rattle.gn_rules.specs.Live.{live, live_connections}
+use Rattle.gn_rules.specs.History.{live, live_connections}
 use Rattle.gn_rules.specs.Output.{out}
-
--- whether a connection's output has room for one more packet
-abbrev pub has_room : {A : Type 0} → Config → List (Step A) → ℕ → Bool
-has_room s past c = nat_lt (length (out past c)) s.numbers.out
 
 -- a send of a packet to c, queued exactly where its output has room
 abbrev pub send : {A : Type 0} → Config → List (Step A) → Packet → ℕ → Sending A
-send s past p c = record { to = c; packet = p; queued = has_room s past c }
+send s past p c = record { to = c; packet = p; queued = nat_lt (length (out past c)) s.numbers.out }
 
 -- a fan-out: a send of the packet to each live connection but c, in the order in which they were made, which is ascending
 abbrev pub fanout : {A : Type 0} → Config → List (Step A) → ℕ → Packet → List (Sending A)
@@ -36,15 +31,9 @@ abbrev pub is_ping : Kind → Bool
 is_ping Ping = true
 is_ping kind = false
 
--- a Ping is answered with the own Pong, where the connection that admitted it is live
-abbrev pub pong_sends : {A : Type 0} → Config → List (Step A) → Admission → List (Sending A)
-pong_sends s past a =
-    if is_ping a.packet.kind && live past a.origin then send s past (own_pong s.own a.packet) a.origin ∷ [] else []
-
--- the forward goes to each other live connection, unless the descriptor is expired
-abbrev pub forward_sends : {A : Type 0} → Config → List (Step A) → Admission → List (Sending A)
-forward_sends s past a = if is_expired s.numbers.life a.packet then [] else fanout s past a.origin (forward_of s.numbers.life a.packet)
-
--- what a Ping or Query that is kept sends: the own Pong, then the forwards
+-- what a Ping or Query that is kept sends: a Ping the own Pong, where the connection that admitted it is live, and then both
+-- the forward to each other live connection, unless the descriptor is expired
 abbrev pub flood_sends : {A : Type 0} → Config → List (Step A) → Admission → List (Sending A)
-flood_sends s past a = pong_sends s past a ++ forward_sends s past a
+flood_sends s past a =
+    (if is_ping a.packet.kind && live past a.origin then send s past (own_pong s.own a.packet) a.origin ∷ [] else [])
+    ++ (if is_expired s.numbers.life a.packet then [] else fanout s past a.origin (forward_of s.numbers.life a.packet))

@@ -1,33 +1,31 @@
 -- The servents whose Query Hits were routed, and the route to them.
-use Rattle.std.specs.Prelude.{ℕ, Bool, true, false, ◌&&◌, if◌then◌else◌, List, [], ◌∷◌, take, Option, Some, None}
+use Rattle.std.specs.Prelude.{ℕ, Bool, true, false, if◌then◌else◌, List, [], ◌∷◌, take, Option, Some, None}
 use Rattle.std.specs.Option.{option_and_then}
 use Rattle.std.specs.Map.{lookup, remove_entry}
 use Rattle.gn_wire.specs.declared.kind.Guid.{Guid}
 use Rattle.gn_wire.specs.declared.kind.Kind.{Kind}
 use Rattle.gn_wire.specs.declared.kind.Kind.TheVariants.{QueryHit}
 use Rattle.gn_wire.specs.Keys.{is_same_id}
-use Rattle.gn_payload.specs.Places.{hit_servent}
+use Rattle.gn_payload.specs.Fields.{hit_servent}
 use Rattle.gn_rules.specs.declared.config.Config.{Config}
 use Rattle.gn_rules.specs.declared.event.Event.{Event}
 use Rattle.gn_rules.specs.declared.event.Event.TheVariants.{Route}
 use Rattle.gn_rules.specs.declared.reply.Reply.{Reply}
+use Rattle.gn_rules.specs.declared.reply.Reply.TheVariants.{Routed}
 use Rattle.gn_rules.specs.declared.receipt.Step.{Step}
-use Rattle.gn_rules.specs.Flight.{Admission, admission}
-use Rattle.gn_rules.specs.History.{is_routed_reply}
+use Rattle.gn_rules.specs.Flight.{admission}
 
 -- whether a kind is Query Hit
 abbrev pub is_query_hit : Kind → Bool
 is_query_hit QueryHit = true
 is_query_hit kind = false
 
--- the servent that a routed Query Hit names, and the connection that admitted it
-abbrev pub route_hit : {A : Type 0} → Reply A → Admission → Option (Guid × ℕ)
-route_hit reply a =
-    if is_query_hit a.packet.kind && is_routed_reply reply then Some (hit_servent a.packet.payload, a.origin) else None
-
--- the servent and the connection that a step names: those of a Query Hit that it routed
+-- the servent and the connection that a step names: of a Query Hit that it routed, the servent that the hit names, and the
+-- connection that admitted it
 abbrev pub hit_of : {A : Type 0} → List (Step A) → Event A → Reply A → Option (Guid × ℕ)
-hit_of earlier (Route t) reply = option_and_then (route_hit reply) (admission earlier t)
+hit_of earlier (Route t) (Routed sends local) =
+    option_and_then (λ a. if is_query_hit a.packet.kind then Some (hit_servent a.packet.payload, a.origin) else None)
+    (admission earlier t)
 hit_of earlier event reply = None
 
 -- the known servents after one more hit: its servent comes first, and stands there alone

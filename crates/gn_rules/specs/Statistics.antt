@@ -9,17 +9,7 @@ use Rattle.gn_rules.specs.declared.statistics.Counter.{Counter}
 use Rattle.gn_rules.specs.declared.statistics.Counter.TheVariants as counter
 use Rattle.gn_rules.specs.declared.statistics.Stats.{Stats}
 
--- the counter of a reason to drop
-abbrev pub drop_counter : DropReason → Counter
-drop_counter reason.UnknownKind = counter.UnknownKind
-drop_counter reason.Malformed = counter.Malformed
-drop_counter reason.Duplicate = counter.Duplicate
-drop_counter reason.NoRoute = counter.NoRoute
-drop_counter reason.RouteGone = counter.RouteGone
-drop_counter reason.BackToSender = counter.BackToSender
-drop_counter reason.Expired = counter.Expired
-
--- the counter of a reply
+-- the counter of a reply: of one that drops by its reason
 abbrev pub counter_of : {A : Type 0} → Reply A → Counter
 counter_of (reply.Connected c) = counter.Connected
 counter_of reply.TooMany = counter.TooMany
@@ -28,9 +18,19 @@ counter_of (reply.Admitted t) = counter.Admitted
 counter_of reply.Busy = counter.Busy
 counter_of reply.Crowded = counter.Crowded
 counter_of (reply.Routed sends local) = counter.Routed
-counter_of (reply.Dropped why) = drop_counter why
+counter_of (reply.Dropped reason.UnknownKind) = counter.UnknownKind
+counter_of (reply.Dropped reason.Malformed) = counter.Malformed
+counter_of (reply.Dropped reason.Duplicate) = counter.Duplicate
+counter_of (reply.Dropped reason.NoRoute) = counter.NoRoute
+counter_of (reply.Dropped reason.RouteGone) = counter.RouteGone
+counter_of (reply.Dropped reason.BackToSender) = counter.BackToSender
+counter_of (reply.Dropped reason.Expired) = counter.Expired
 counter_of (reply.Taken packet) = counter.Taken
 counter_of (reply.Sent sends) = counter.Sent
+
+-- the counter of a reason to drop, whatever the allocator
+abbrev pub drop_counter : DropReason → Counter
+drop_counter why = counter_of {A = ℕ} (reply.Dropped why)
 
 -- the place of a counter in the order in which they are printed
 abbrev pub counter_place : Counter → ℕ
@@ -93,9 +93,9 @@ raised counter.Expired n = record n { expired = n.expired + 1 }
 raised counter.Taken n = record n { taken = n.taken + 1 }
 raised counter.Sent n = record n { sent = n.sent + 1 }
 
--- the statistics of no steps
-abbrev pub no_stats : Stats
-no_stats = record {
+-- the statistics of a history: each step counts once, under its reply
+abbrev pub stats_of : {A : Type 0} → List (Step A) → Stats
+stats_of [] = record {
   connected = 0;
   toomany = 0;
   closed = 0;
@@ -113,8 +113,8 @@ no_stats = record {
   taken = 0;
   sent = 0;
 }
-
--- the statistics of a history: each step counts once, under its reply
-abbrev pub stats_of : {A : Type 0} → List (Step A) → Stats
-stats_of [] = no_stats
 stats_of (step ∷ earlier) = raised (counter_of step.reply) (stats_of earlier)
+
+-- the statistics of no steps, whatever the allocator
+abbrev pub no_stats : Stats
+no_stats = stats_of {A = ℕ} []

@@ -129,8 +129,8 @@ impl<A: Allocator> Reply<A> {
         match kind {
             Kind::Ping | Kind::Query => self.is_routed(),
             Kind::Push => !matches!(
-                self.dropped(),
-                Some(DropReason::Malformed | DropReason::Duplicate)
+                self,
+                Reply::Dropped(DropReason::Malformed | DropReason::Duplicate)
             ),
             _ => false,
         }

@@ -1,10 +1,9 @@
 //! What every router promises.
 
 ghost use Rattle.std.specs.Prelude.{◌≡◌, ◌↔◌, ◌∷◌, ◌++◌, [], List, Ok, Err, length, reverse, IfErr, IfOk, IsTrue, OnErr, OnOk};
-ghost use Rattle.gn_rules.specs.Answer.{Finds, answer, checked_answer, reply_of};
+ghost use Rattle.gn_rules.specs.Answer.{Finds, IsLegal, answer, checked_answer, reply_of};
 ghost use Rattle.gn_rules.specs.Flight.{flying, flying_from};
-ghost use Rattle.gn_rules.specs.Legal.{IsLegal};
-ghost use Rattle.gn_rules.specs.Live.{live};
+ghost use Rattle.gn_rules.specs.History.{live};
 ghost use Rattle.gn_rules.specs.Output.{waiting};
 ghost use Rattle.gn_rules.specs.Statistics.{stats_of};
 ghost use Rattle.gn_rules.specs.declared.config.Config.{Config};

@@ -1,7 +1,7 @@
 //! Whether two configurations, events or replies are equal, and whether a receipt is that of a step. None of it takes memory.
 
 ghost use Rattle.std.specs.Prelude.{◌≡◌, ◌↔◌, IsTrue};
-ghost use Rattle.gn_rules.specs.Mine.{step_of};
+ghost use Rattle.gn_rules.specs.History.{step_of};
 
 use crate::config::Config;
 use crate::event::Event;

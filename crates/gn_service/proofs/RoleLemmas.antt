@@ -1,7 +1,11 @@
 -- The roles of a run's links, in an array that has room for more; and where the links come from that are still to come.
-use Rattle.std.proofs.Common.{◌≡◌, ◌≤◌, ◌<◌, ◌+◌, ◌-◌, ◌++◌, ◌∷◌, ℕ, zero, suc, List, [], length, take, set, replicate, refl, ap, sym, ◌∙◌, arith}
-use Rattle.std.specs.List.{slice_get}
+use Rattle.std.proofs.Common.{◌≡◌, ◌≤◌, ◌<◌, ◌+◌, ◌-◌, ◌++◌, ◌∷◌, ℕ, zero, suc, List, [], length, take, set, replicate, refl, ap, sym, subst, ◌∙◌, arith, Option, Some, None}
+use Rattle.std.specs.Borrow.{Bor}
+use Rattle.std.specs.List.{ItemBy, slice_get}
+use Rattle.std.proofs.lemmas.Option.{slice_get_past, slice_get_read}
 use Rattle.std.specs.declared.net.socket_addr.SocketAddr.{SocketAddr}
+use Rattle.gn_shake.specs.declared.role.Role.{Role}
+use Rattle.gn_tcp.specs.Tcp.{TcpLinked}
 use Rattle.gn_tcp.specs.declared.origin.TcpOrigin.{TcpOrigin}
 use Rattle.std.proofs.Math.Seq.{take-append-add}
 use Rattle.std.proofs.lemmas.List.{append_assoc, length-replicate, replicate_more, set_at, take-replicate}
@@ -36,3 +40,24 @@ all_come peers k (suc n) = ap (λ xs. record { link = k; called = slice_get peer
 pub all_of : (peers : List SocketAddr) (many left n : ℕ) → many ≡ n → left ≡ n → take many (origins_from peers 0 left) ≡ origins_from peers 0 n
 all_of peers many left n all left_all =
     ap (λ m. take m (origins_from peers 0 left)) (all ∙ sym left_all) ∙ all_come peers 0 left ∙ ap (λ m. origins_from peers 0 m) left_all
+
+-- a peer that was looked up is the one there
+pub peer_is : (peers : List SocketAddr) (k : ℕ) (found : Option (Bor SocketAddr)) (peer : Bor SocketAddr) → ItemBy (λ (x : Bor SocketAddr). x.now) peers k k found → found ≡ Some peer
+    → slice_get peers k ≡ Some peer.now
+peer_is peers k found peer item is =
+    let there = subst (λ (o : Option (Bor SocketAddr)). ItemBy (λ (x : Bor SocketAddr). x.now) peers k k o) is item in
+    slice_get_read peers (length peers) k peer.now refl there.3.0 there.1
+
+-- where none was found, none is there
+pub no_peer : (peers : List SocketAddr) (k : ℕ) (found : Option (Bor SocketAddr)) → ItemBy (λ (x : Bor SocketAddr). x.now) peers k k found → found ≡ None → slice_get peers k ≡ None
+no_peer peers k found item is =
+    let there = subst (λ (o : Option (Bor SocketAddr)). ItemBy (λ (x : Bor SocketAddr). x.now) peers k k o) is item in
+    slice_get_past peers k there.3
+
+-- a link that has no number yet, in a role, to a peer that is called or not
+abbrev pub unnumbered : Role → Option SocketAddr → TcpLinked
+unnumbered role called = record { role = role; origin = record { link = 0; called = called } }
+
+-- such a link by its own role, to the peer of its place
+pub met_as : (found : TcpLinked) (role own : Role) (called peer : Option SocketAddr) → found ≡ unnumbered own peer → role ≡ own → called ≡ peer → found ≡ unnumbered role called
+met_as found role own called peer is same there = is ∙ ap (λ r. unnumbered r peer) (sym same) ∙ ap (λ p. unnumbered role p) (sym there)

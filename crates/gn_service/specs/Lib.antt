@@ -1,2 +1,4 @@
+-- What is promised: contracts of public functions rest on it.
 pub mod Links
+-- Words of the proofs.
 pub mod Serves

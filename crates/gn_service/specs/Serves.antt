@@ -1,7 +1,7 @@
 -- What a run over TCP answers.
 use Rattle.std.specs.Prelude.{◌≡◌, ◌+◌, ◌↔◌, ℕ, true, List, length, reverse, IfErr, IfOk, IfSome, Result}
 use Rattle.std.specs.declared.net.socket_addr.SocketAddr.{SocketAddr}
-use Rattle.gn_rules.specs.Legal.{IsLegal}
+use Rattle.gn_rules.specs.Answer.{IsLegal}
 use Rattle.gn_rules.specs.Limits.{IsCrew}
 use Rattle.gn_rules.specs.declared.config.Config.{Config}
 use Rattle.gn_report.specs.declared.report.Report.{Report}

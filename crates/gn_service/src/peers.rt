@@ -87,15 +87,15 @@ impl<
             return TcpLink::call(self.net, peer);
         };
         for _ in 0..u64::MAX {
-            if let Ok(found) = TcpLink::call_within(self.net, peer, Duration::from_secs(CALL)) {
-                return Ok(found);
-            }
-            match begun.elapsed(self.net) {
-                Ok(since) if since < limit && !self.stops.is_stopped() => thread::sleep(
-                    self.net,
-                    Duration::from_millis(PAUSE),
-                ),
-                _ => break,
+            match TcpLink::call_within(self.net, peer, Duration::from_secs(CALL)) {
+                Ok(found) => return Ok(found),
+                Err(_) => match begun.elapsed(self.net) {
+                    Ok(since) if since < limit && !self.stops.is_stopped() => thread::sleep(
+                        self.net,
+                        Duration::from_millis(PAUSE),
+                    ),
+                    _ => break,
+                },
             }
         }
         Err(LinkFault)

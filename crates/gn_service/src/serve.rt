@@ -1,7 +1,7 @@
 //! A run over TCP.
 
 ghost use Rattle.std.specs.Prelude.{◌≡◌, ◌+◌, ◌≤◌, ◌↔◌, length, reverse, true, IfErr, IfOk, IfSome};
-ghost use Rattle.gn_rules.specs.Legal.{IsLegal};
+ghost use Rattle.gn_rules.specs.Answer.{IsLegal};
 ghost use Rattle.gn_rules.specs.Limits.{IsCrew, most_links};
 ghost use Rattle.gn_threads.specs.declared.fault.RunFault.TheVariants.{BadWorkers};
 ghost use Rattle.gn_threads.specs.Faults.{IsArrivingFault};

@@ -7,7 +7,8 @@ use Rattle.std.proofs.Math.Nat.{eq-or-lt_of_le}
 use Rattle.std.proofs.lemmas.List.Sums.{common_prefix_len-le}
 use Rattle.gn_shake.specs.declared.shake.ShakeState.{ShakeState}
 use Rattle.gn_shake.specs.declared.shake.ShakeState.TheVariants.{More, Done, Refused}
-use Rattle.gn_shake.specs.Greeting.{matching, greeting_state, IsAccepted, IsRefused, IsState, GreetingIsKnown}
+use Rattle.gn_shake.specs.Shaking.{matching}
+use Rattle.gn_shake.specs.Greeting.{greeting_state, IsAccepted, IsRefused, IsState, GreetingIsKnown}
 
 pub matching-le : (g s : List ℕ) → (matching g s ≤ length g) × (matching g s ≤ length s)
 matching-le g s = common_prefix_len-le nat_eq g s

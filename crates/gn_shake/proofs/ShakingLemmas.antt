@@ -5,8 +5,8 @@ use Rattle.std.proofs.Math.Nat.{eq-or-lt_of_le}
 use Rattle.std.proofs.lemmas.List.{take_all, length-take-le, drop_all, take-append-le, append-nil}
 use Rattle.gn_shake.specs.declared.shake.ShakeState.{ShakeState}
 use Rattle.gn_shake.specs.declared.shake.ShakeState.TheVariants.{More, Done, Refused}
-use Rattle.gn_shake.specs.Greeting.{matching, greeting_state}
-use Rattle.gn_shake.specs.Shaking.{Shaking, is_refusal, answer_of, used_of, fed, shake_of, IsOneStream, PiecesAreOneStream}
+use Rattle.gn_shake.specs.Greeting.{greeting_state}
+use Rattle.gn_shake.specs.Shaking.{Shaking, matching, is_refusal, answer_of, used_of, fed, shake_of, IsOneStream, PiecesAreOneStream}
 use Rattle.gn_shake.proofs.GreetingLemmas.{matching-le, matching-append, matching-stops, matching-same, matching-head, state_done, state_more, state_refused, standing}
 use Rattle.gn_shake.proofs.GreetingLemmas.Standing.{ended, going, broken}
 

@@ -1,17 +1,45 @@
--- Where a stream stands with the greeting that is awaited.
-use Rattle.std.specs.Prelude.{◌≡◌, ◌≢◌, ◌<◌, ◌↔◌, ◌==◌, ℕ, if◌then◌else◌, List, ◌++◌, length, slice_index, nat_eq}
+-- The two texts of the greeting, what the role of a link says of it, and where a stream stands with the greeting that is
+-- awaited.
+use Rattle.std.specs.Prelude.{ℕ, List, [], ◌∷◌, Bool, true, false, ◌||◌, not, ◌≡◌, ◌≢◌, ◌<◌, ◌↔◌, ◌==◌, if◌then◌else◌, ◌++◌, length, slice_index, nat_eq}
 use Rattle.std.specs.List.{common_prefix_len}
+use Rattle.gn_shake.specs.declared.role.Role.{Role}
+use Rattle.gn_shake.specs.declared.role.Role.TheVariants.{Accepting, Calling, Plain}
 use Rattle.gn_shake.specs.declared.shake.ShakeState.{ShakeState}
 use Rattle.gn_shake.specs.declared.shake.ShakeState.TheVariants.{More, Done, Refused}
 
--- how many bytes of the stream agree with the greeting, from the first on
-abbrev pub matching : List ℕ → List ℕ → ℕ
-matching greeting stream = common_prefix_len nat_eq greeting stream
+-- the request: GNUTELLA CONNECT/0.4 and two line feeds
+abbrev pub request_text : List ℕ
+request_text =
+    0x47 ∷ 0x4e ∷ 0x55 ∷ 0x54 ∷ 0x45 ∷ 0x4c ∷ 0x4c ∷ 0x41 ∷ 0x20 ∷ 0x43 ∷ 0x4f ∷ 0x4e ∷ 0x4e ∷ 0x45 ∷ 0x43 ∷ 0x54 ∷ 0x2f ∷ 0x30 ∷ 0x2e ∷ 0x34
+    ∷ 0x0a ∷ 0x0a ∷ []
 
--- the state: done where the whole greeting came, open where all that came agrees with it, else refused
+-- the consent: GNUTELLA OK and two line feeds
+abbrev pub consent_text : List ℕ
+consent_text =
+    0x47 ∷ 0x4e ∷ 0x55 ∷ 0x54 ∷ 0x45 ∷ 0x4c ∷ 0x4c ∷ 0x41 ∷ 0x20 ∷ 0x4f ∷ 0x4b
+    ∷ 0x0a ∷ 0x0a ∷ []
+
+-- whether a link calls
+abbrev pub is_calling : Role → Bool
+is_calling Calling = true
+is_calling Accepting = false
+is_calling Plain = false
+
+-- whether a run waits for the link's reader: the link doesn't call, or all links do
+abbrev pub is_awaited : Bool → Role → Bool
+is_awaited all_call role = all_call || not (is_calling role)
+
+-- the greeting that a link awaits: none on a plain one
+abbrev pub greeting_of : Role → List ℕ
+greeting_of Accepting = request_text
+greeting_of Calling = consent_text
+greeting_of Plain = []
+
+-- the state, where the first n bytes of the stream agree with the greeting: done where the whole greeting came, open where
+-- all that came agrees with it, else refused
 abbrev pub greeting_state : List ℕ → List ℕ → ShakeState
 greeting_state greeting stream =
-    let n = matching greeting stream in
+    let n = common_prefix_len nat_eq greeting stream in
     if n == length greeting then Done else if n == length stream then More else Refused
 
 -- accepted: the stream begins with the greeting

@@ -1,4 +1,2 @@
 pub mod Greeting
-pub mod Roles
 pub mod Shaking
-pub mod Texts

@@ -1,14 +1,19 @@
 -- A greeting that is awaited, piece by piece.
-use Rattle.std.specs.Prelude.{◌≡◌, ◌+◌, ℕ, Bool, true, false, if◌then◌else◌, List, ◌++◌, length, take, drop}
+use Rattle.std.specs.Prelude.{◌≡◌, ◌+◌, ℕ, Bool, true, false, if◌then◌else◌, List, ◌++◌, length, take, drop, nat_eq}
+use Rattle.std.specs.List.{common_prefix_len}
 use Rattle.gn_shake.specs.declared.shake.ShakeState.{ShakeState}
 use Rattle.gn_shake.specs.declared.shake.ShakeState.TheVariants.{More, Done, Refused}
-use Rattle.gn_shake.specs.Greeting.{matching, greeting_state}
+use Rattle.gn_shake.specs.Greeting.{greeting_state}
 
 -- the greeting that is awaited, the bytes of it that have come, and whether the stream was refused
 pub record Shaking : Type 0 where
   pub greeting : List ℕ
   pub matched : List ℕ
   pub refused : Bool
+
+-- how many bytes of a stream agree with a greeting, from the first on: the number that its state goes by
+abbrev pub matching : List ℕ → List ℕ → ℕ
+matching greeting stream = common_prefix_len nat_eq greeting stream
 
 -- whether a state is the refusal
 abbrev pub is_refusal : ShakeState → Bool

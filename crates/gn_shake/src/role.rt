@@ -15,13 +15,21 @@ pub enum Role {
 
 impl Role {
     ghost use Rattle.std.specs.Prelude.{◌≡◌};
-    ghost use Rattle.gn_shake.specs.Roles.{greeting_of, is_calling};
+    ghost use Rattle.gn_shake.specs.Greeting.{greeting_of, is_awaited, is_calling};
 
     /// Whether the link calls.
     pub fn is_calling(self) -> bool
         ensures { result ≡ is_calling self }
     {
         matches!(self, Role::Calling)
+    }
+
+    /// Whether a run waits for the link's reader, where all links call or not: for that of a link which doesn't call, and where
+    /// all call for each.
+    pub fn is_awaited(self, all_call: bool) -> bool
+        ensures { result ≡ is_awaited all_call self }
+    {
+        all_call || !self.is_calling()
     }
 
     /// The text that the link awaits before the descriptors: empty on a plain link.

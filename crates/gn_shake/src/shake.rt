@@ -1,8 +1,8 @@
 //! A greeting that is awaited: what of it has come, and whether something else came.
 
 ghost use Rattle.std.specs.Prelude.{◌≡◌, [], false};
-ghost use Rattle.gn_shake.specs.Greeting.{matching};
-ghost use Rattle.gn_shake.specs.Texts.{consent_text, request_text};
+ghost use Rattle.gn_shake.specs.Shaking.{matching};
+ghost use Rattle.gn_shake.specs.Greeting.{consent_text, request_text};
 
 use crate::texts::{consent, request};
 use std::marker::Model;
@@ -24,6 +24,22 @@ pub struct Shaken {
     /// Bytes of the piece that belong to the greeting. Where it is done, those after them are descriptors'.
     pub used: usize,
     pub state: ShakeState,
+}
+
+impl Shaken {
+    ghost use Rattle.std.specs.Prelude.{drop};
+
+    /// What of the piece comes after the bytes that belong to the greeting.
+    #[tactic(auto, using(std::proofs::lemmas::List::drop_all))]
+    pub fn rest_of(self, piece: &[u8]) -> &[u8]
+        ensures { result.now ≡ drop self.used piece.now }
+    {
+        if self.used <= piece.len() {
+            &piece[self.used..]
+        } else {
+            &[]
+        }
+    }
 }
 
 /// A greeting that one side of a link awaits from the other.

@@ -1,7 +1,7 @@
 //! The two texts of the greeting.
 
 ghost use Rattle.std.specs.Prelude.{◌≡◌};
-ghost use Rattle.gn_shake.specs.Texts.{consent_text, request_text};
+ghost use Rattle.gn_shake.specs.Greeting.{consent_text, request_text};
 
 /// What a calling servent sends, 22 bytes (Gnutella v0.4, "Protocol definition").
 pub fn request() -> &'static [u8]

@@ -3,9 +3,8 @@ use Rattle.std.proofs.Common.{◌≡◌, ℕ, Bool, true, false, List, length, r
 use Rattle.std.specs.Prelude.{◌==◌}
 use Rattle.std.proofs.lemmas.Bool.{eqb-true}
 use Rattle.std.proofs.lemmas.Str.{is_utf8-from_IsUtf8, IsUtf8-from_is_utf8}
-use Rattle.gn_payload.specs.Fields.{QueryFields, HitFields}
+use Rattle.gn_payload.specs.Fields.{QueryFields, HitFields, number_at, bytes_at, push_servent}
 use Rattle.gn_payload.specs.Grammar.{IsPong, IsPush, IsQuery, IsHit}
-use Rattle.gn_payload.specs.Places.{number_at, bytes_at, push_servent}
 use Rattle.gn_payload.specs.Reading.{query_reading, hit_reading}
 use Rattle.gn_payload.specs.declared.pong.Pong.{Pong}
 use Rattle.gn_payload.specs.declared.push.Push.{Push}

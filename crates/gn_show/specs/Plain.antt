@@ -10,8 +10,7 @@ use Rattle.gn_wire.specs.Packet.{Packet}
 use Rattle.gn_wire.specs.declared.kind.Guid.{Guid}
 use Rattle.gn_wire.specs.declared.kind.Kind.{Kind}
 use Rattle.gn_wire.specs.declared.kind.Kind.TheVariants.{Ping, Pong, Push, Query, QueryHit, Unknown}
-use Rattle.gn_payload.specs.Fields.{QueryFields, ResultFields, HitFields}
-use Rattle.gn_payload.specs.Places.{number_at, bytes_at, push_servent}
+use Rattle.gn_payload.specs.Fields.{QueryFields, ResultFields, HitFields, number_at, bytes_at, push_servent}
 use Rattle.gn_payload.specs.Reading.{query_reading, hit_reading}
 use Rattle.gn_rules.specs.declared.event.Event.{Event}
 use Rattle.gn_rules.specs.declared.event.Event.TheVariants as event

@@ -5,15 +5,7 @@ ghost use Rattle.serde_json.specs.Data.{no_members, object};
 ghost use Rattle.serde_json.specs.View.{items_of, items_view, members_view, view};
 ghost use Rattle.gn_payload.specs.Grammar.{IsPong, IsPush};
 ghost use Rattle.gn_payload.specs.Views.{query_fields, result_fields};
-ghost use Rattle.gn_show.specs.Values.{
-  hit_data,
-  payload_data,
-  pong_data,
-  push_data,
-  query_data,
-  result_data,
-  unread_data,
-};
+ghost use Rattle.gn_show.specs.Values.{hit_data, payload_data, pong_data, push_data, query_data, result_data, unread_data};
 
 use crate::members::{Members, put_hex, put_ip, put_number, put_text};
 use crate::text::utf8;

@@ -6,21 +6,7 @@ ghost use Rattle.serde_json.specs.Data.{string};
 ghost use Rattle.serde_json.specs.Written.{compact_text};
 ghost use Rattle.gn_payload.specs.Grammar.{IsPong, IsPush};
 ghost use Rattle.gn_payload.specs.Views.{query_fields, result_fields};
-ghost use Rattle.gn_show.specs.Plain.{
-  descriptor_words,
-  hit_words,
-  id_words,
-  kind_words,
-  payload_words,
-  place_words,
-  pong_words,
-  push_words,
-  query_words,
-  result_words,
-  results_words,
-  text_words,
-  unread_words,
-};
+ghost use Rattle.gn_show.specs.Plain.{descriptor_words, hit_words, id_words, kind_words, payload_words, place_words, pong_words, push_words, query_words, result_words, results_words, text_words, unread_words};
 
 use crate::text::utf8;
 use gn_payload::{

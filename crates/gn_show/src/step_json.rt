@@ -5,16 +5,7 @@ ghost use Rattle.serde_json.specs.Data.{no_members, object};
 ghost use Rattle.serde_json.specs.View.{members_view, view};
 ghost use Rattle.gn_rules.specs.declared.event.Event.TheVariants.{Admit};
 ghost use Rattle.gn_rules.specs.declared.reply.Reply.TheVariants.{Closed, Dropped, Routed, Sent};
-ghost use Rattle.gn_show.specs.Values.{
-  after_kind,
-  before_kind,
-  descriptor_data,
-  event_data,
-  kind_data,
-  number_data,
-  reply_data,
-  step_data,
-};
+ghost use Rattle.gn_show.specs.Values.{after_kind, before_kind, descriptor_data, event_data, kind_data, number_data, reply_data, step_data};
 
 use crate::descriptor_json::{descriptor_value, sends_value};
 use crate::members::{Members, put_flag, put_number, put_text};

@@ -32,13 +32,12 @@ pub struct Flights<A: Allocator + Copy = Global> {
 impl<A: Allocator + Copy> Model for Flights<A> {
     ghost use Rattle.std.specs.Prelude.{◌≤◌, length};
     ghost use Rattle.std.specs.FinMap as map;
-    ghost use Rattle.gn_tables.specs.Flying.{Flying};
+    ghost use Rattle.gn_tables.specs.Flying.{Flying, flying_code};
     ghost use Rattle.gn_tables.specs.declared.flights.Flight.{Flight};
 
     ghost Value = { Flying (Flight A) };
 
     ghost use Rattle.std.specs.Coded.{codes};
-    ghost use Rattle.gn_tables.specs.Flying.{flying_code};
     ghost use Rattle.gn_tables.specs.contracts.flights.Flight as flight;
 
     ghost coded = { flying_code (Prim.hlevel codes) };

@@ -4,7 +4,7 @@ use Rattle.std.specs.declared.net.socket_addr.SocketAddr.{SocketAddr}
 use Rattle.std.specs.Net.Addr.{IsLoopbackV4, IsLoopbackV6, MatchIp}
 use Rattle.std.specs.Net.Socket.{socket_ip}
 use Rattle.gn_shake.specs.declared.role.Role.{Role}
-use Rattle.gn_links.specs.Views.{ReadHalf, WrittenHalf}
+use Rattle.gn_links.specs.Halves.{ReadHalf, WrittenHalf}
 use Rattle.gn_tcp.specs.declared.origin.TcpOrigin.{TcpOrigin}
 
 -- a link: the role in which it begins, and where it comes from

@@ -5,11 +5,11 @@ use gn_fixtures::OWN;
 use gn_legal::legal;
 use gn_plain::PlainRouter;
 use gn_rules::{Config, Event, Legality, Own, RouterCore, Step};
-use std::alloc::Global;
+use std::alloc::Allocator;
 use std::test::Fail;
 
 /// Whether connection 1's Ping is routed to connection 2, and taken there.
-fn are_made(core: &mut PlainRouter) -> Result<bool, Fail> {
+fn are_made<A: Allocator + Copy, C: RouterCore<A>>(core: &mut C) -> Result<bool, Fail> {
     let are_connected = is_made(core, Event::Connect) && is_made(core, Event::Connect);
     let is_admitted = admits(core, 1, 0xa1)?;
     let is_routed = is_made(core, Event::Route(0));
@@ -17,11 +17,11 @@ fn are_made(core: &mut PlainRouter) -> Result<bool, Fail> {
 }
 
 /// Connection 1's Ping is routed to connection 2, and taken there.
-fn history(alloc: Global) -> Result<Vec<Step>, Fail> {
+fn history<A: Allocator + Copy>(alloc: A) -> Result<Vec<Step<A>, A>, Fail> {
     let Ok(config) = Config::new(4, 8, 4, 8, 8, 100, 0, 0, OWN) else {
         return Err(Fail::from("a configuration"));
     };
-    let mut core = PlainRouter::make(alloc, &config)?;
+    let mut core = PlainRouter::<A>::make(alloc, &config)?;
     let are_made = are_made(&mut core);
     let history = core.into_history();
     match are_made {

@@ -1,7 +1,7 @@
 //! The bodies of one link, called in turn on one thread.
 
 ghost use Rattle.std.specs.Prelude.{◌≡◌, [], IfSome};
-ghost use Rattle.gn_links.specs.Views.{IsNewReader, IsNewWriter};
+ghost use Rattle.gn_links.specs.Halves.{IsNewReader, IsNewWriter};
 
 mod fakes;
 mod jobs;

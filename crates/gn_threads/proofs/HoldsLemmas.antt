@@ -7,32 +7,30 @@ use Rattle.std.proofs.lemmas.List.{append-nil, get_or-map, length-map}
 use Rattle.std.proofs.lemmas.Simd.{map-map}
 use Rattle.gn_rules.specs.declared.config.Config.{Config}
 use Rattle.gn_rules.specs.declared.receipt.Step.{Step}
-use Rattle.gn_rules.specs.Legal.{IsLegal}
+use Rattle.gn_rules.specs.Answer.{IsLegal}
 use Rattle.gn_shake.specs.declared.role.Role.{Role}
 use Rattle.gn_shake.specs.declared.role.Role.TheVariants.{Plain}
 use Rattle.gn_bodies.specs.declared.ends.ReaderEnd.{ReaderEnd}
-use Rattle.gn_bodies.specs.declared.ends.ReaderEnd.TheVariants.{ReadFailed}
+use Rattle.gn_bodies.specs.declared.ends.ReaderEnd.TheVariants.{Bytes, ReadFailed}
 use Rattle.gn_bodies.specs.declared.ends.WriterEnd.{WriterEnd}
 use Rattle.gn_bodies.specs.declared.reader.ReaderDone.{ReaderDone}
 use Rattle.gn_bodies.specs.declared.writer.WriterDone.{WriterDone}
-use Rattle.gn_links.specs.Halves.{Source}
+use Rattle.gn_links.specs.Halves.{Source, IsReadFrom, WrittenHalf, ReadHalf}
 use Rattle.gn_bodies.specs.ReaderRows.{SourceRow}
-use Rattle.gn_bodies.specs.Events.{link_events_in}
 use Rattle.gn_laws.specs.Owners.{LinkAgrees, packets_of, known_conn}
 use Rattle.gn_rules.specs.Flight.{flying}
 use Rattle.gn_laws.proofs.OwnerLemmas.{links_agree}
 use Rattle.gn_laws.proofs.RunLemmas.{settled_routes_all}
 use Rattle.gn_report.specs.declared.report.LinkReport.{LinkReport}
 use Rattle.gn_report.specs.declared.report.Report.{Report}
-use Rattle.gn_report.specs.Actors.{actors}
+use Rattle.gn_report.specs.Actors.{AreOwn, actors}
 use Rattle.gn_report.specs.BodyEnds.{is_settled}
 use Rattle.gn_report.specs.Flaw.{IsFlaw}
 use Rattle.gn_report.proofs.ConnLemmas.{conn_is_known}
 use Rattle.gn_report.proofs.ConfirmedLemmas.{compared, house_at, reader_at, took_all, worker_at, writer_at}
-use Rattle.gn_links.specs.Views.{WrittenHalf, ReadHalf}
 use Rattle.gn_bodies.specs.Done.{Half, ReadsAs, WritesAs, Ended, ReaderKeeps, IsReaderDone, WriterKeeps, IsWriterDone, reader_ended, halved, writer_ended}
 use Rattle.gn_laws.specs.Runs.{RoutesAll}
-use Rattle.gn_threads.specs.Headline.{AreMadeOf, HasOwnSteps, LinksHold, LinksReadOwn, OthersRoute, ReadsOwn}
+use Rattle.gn_threads.specs.Headline.{AreMadeOf, LinkHolds, LinksReadOwn}
 use Rattle.gn_threads.specs.Joined.{EachKeeps}
 use Rattle.gn_threads.specs.Reported.{reader_reported, writer_reported}
 use Rattle.gn_threads.proofs.JoinedLemmas.{keeps_less, some_of, known_of}
@@ -42,23 +40,13 @@ pub flaw_below : {Rd W A : Type 0} (settled : ℕ → Bool) (roles : List Role) 
 flaw_below settled roles report None is = tt
 flaw_below settled roles report (Some a) is = is.0
 
--- each actor's receipts are its own steps, and there are no others
-pub own_steps : {Rd W A : Type 0} (settled : ℕ → Bool) (roles : List Role) (report : Report Rd W A) → IsFlaw settled roles report None → HasOwnSteps report
+-- each actor's receipts are its own steps
+pub own_steps : {Rd W A : Type 0} (settled : ℕ → Bool) (roles : List Role) (report : Report Rd W A) → IsFlaw settled roles report None → AreOwn report
 own_steps settled roles report all = record {
-  own = record {
-    reader = λ k d below. (reader_at settled roles report all k Plain d below).own;
-    writer = λ k d below. (writer_at settled roles report all k Plain d below).own;
-    worker = λ j d below. (worker_at settled roles report all j d below).own;
-    house = (house_at settled roles report all).own;
-  };
-  only = (house_at settled roles report all).only;
-}
-
--- workers and the house are confirmed
-pub others_route : {Rd W A : Type 0} (roles : List Role) (report : Report Rd W A) → IsFlaw (is_settled report.history.items) roles report None → OthersRoute report
-others_route roles report all = record {
-  workers = λ j d below. worker_at (is_settled report.history.items) roles report all j d below;
-  house = house_at (is_settled report.history.items) roles report all;
+  reader = λ k d below. (reader_at settled roles report all k Plain d below).own;
+  writer = λ k d below. (writer_at settled roles report all k Plain d below).own;
+  worker = λ j d below. (worker_at settled roles report all j d below).own;
+  house = (house_at settled roles report all).worker.own;
 }
 
 -- each admitted ticket is routed once
@@ -73,13 +61,13 @@ routes_each_once {Rd} {W} {A} s roles report legal all =
 -- what the reader of a link kept, in the words of its report
 read_holds : {Rd W A : Type 0} (reads : Rd → ReadHalf) (roles : List Role) (links : List (LinkReport Rd W A)) → EachKeeps ReaderKeeps roles (map (λ l. halved reads (reader_reported l)) links)
     → (k : ℕ) (role : Role) (link : LinkReport Rd W A) → k < length links → (get_or links k link).conn ≡ known_conn (get_or links k link).reader_receipts.items
-    → ReadsAs (get_or roles k role) (get_or links k link).reader_end (get_or links k link).conn (link_events_in (get_or links k link).reader_receipts.items) (reads (get_or links k link).reader)
+    → ReadsAs (get_or roles k role) (get_or links k link).reader_end (get_or links k link).conn (get_or links k link).reader_receipts.items (reads (get_or links k link).reader)
 read_holds {Rd} {W} {A} reads roles links kept k role link below conn =
     let it = get_or links k link in
     let agrees : LinkReport Rd W A → Ended A ReaderEnd ReadHalf = λ l. halved reads (reader_reported l) in
     let there = get_or-map agrees links k link (agrees link) below in
     let keeps : ReaderKeeps (get_or roles k role) (agrees it) = subst (λ body. ReaderKeeps (get_or roles k role) body) there (kept k role (agrees link) (omega (arith, below, length-map links agrees))) in
-    subst (λ o. ReadsAs (get_or roles k role) it.reader_end o (link_events_in it.reader_receipts.items) (reads it.reader)) (sym conn) keeps
+    subst (λ o. ReadsAs (get_or roles k role) it.reader_end o it.reader_receipts.items (reads it.reader)) (sym conn) keeps
 
 -- the same of its writer
 written_holds : {Rd W A : Type 0} (writes : W → WrittenHalf) (roles : List Role) (links : List (LinkReport Rd W A)) → EachKeeps WriterKeeps roles (map (λ l. halved writes (writer_reported l)) links)
@@ -110,8 +98,9 @@ pub links_hold : {Rd W A : Type 0} (s : Config) (reads : Rd → ReadHalf) (write
     → IsFlaw (is_settled report.history.items) roles report None
     → EachKeeps ReaderKeeps roles (map (λ l. halved reads (reader_reported l)) report.links.items)
     → EachKeeps WriterKeeps roles (map (λ l. halved writes (writer_reported l)) report.links.items)
-    → LinksHold reads writes roles report
-links_hold {Rd} {W} {A} s reads writes roles report legal all readers writers = λ k role link below.
+    → (k : ℕ) (role : Role) (link : LinkReport Rd W A) → k < length report.links.items
+    → LinkHolds reads writes roles report k (get_or roles k role) (get_or report.links.items k link)
+links_hold {Rd} {W} {A} s reads writes roles report legal all readers writers k role link below =
     let settled = is_settled report.history.items in
     let reader = reader_at settled roles report all k role link below in
     let writer = written_holds writes roles report.links.items writers k role link below in
@@ -147,27 +136,32 @@ writers_keep {W} {L} {A} writes made_of links roles done are many kept =
     subst (λ (rs : List Role). EachKeeps WriterKeeps rs (map (λ d. view (ended d)) done)) are
     (subst (λ (bs : List (Ended A WriterEnd WrittenHalf)). EachKeeps WriterKeeps (map (λ (h : Half W). h.role) links) bs) (map-map view ended done) less)
 
+-- what was read of a link that is to give this, where its reader ended so
+abbrev ReadOwn : Source → ReaderEnd → ReadHalf → Type 0
+ReadOwn source end half =
+    IsReadFrom source half × ((source.is_foretold ≡ true → end ≡ Bytes → half.bytes ≡ source.bytes) × (end ≡ ReadFailed → source.may_fail ≡ true))
+
 -- what one reader promised is what the headline says of its link
 read_own : {A Rd O : Type 0} (reads : Rd → ReadHalf) (made_of : Rd → O) (gives : O → Source) (link : Half Rd) (end : ReaderEnd) (body : Ended A ReaderEnd Rd) → body.end ≡ Ok end
-    → IsReaderDone reads made_of gives link body → ReadsOwn (gives (made_of link.half)) end (reads body.half)
+    → IsReaderDone reads made_of gives link body → ReadOwn (gives (made_of link.half)) end (reads body.half)
 read_own reads made_of gives link end body is promised =
     let half = reads body.half in
-    let reads_as : ReadsAs link.role end (known_conn body.receipts) (link_events_in body.receipts) half =
-    subst (λ r. IfOk r (λ e. ReadsAs link.role e (known_conn body.receipts) (link_events_in body.receipts) half)) is promised.kept in
-    record {
-      first = promised.own;
-      whole = λ foretold ends.
-          let read = promised.own foretold in
-          let none = read.ended (subst (λ e. SourceRow e half) ends reads_as.counts) in
-          sym (read.whole ∙ ap (λ rest. half.bytes ++ rest) none ∙ append-nil half.bytes);
-      failed = subst (λ r. IfOk r (λ e. e ≡ ReadFailed → (gives (made_of link.half)).may_fail ≡ true)) is promised.failed;
-    }
+    let source = gives (made_of link.half) in
+    let reads_as : ReadsAs link.role end (known_conn body.receipts) body.receipts half =
+    subst (λ r. IfOk r (λ e. ReadsAs link.role e (known_conn body.receipts) body.receipts half)) is promised.kept in
+    let whole : source.is_foretold ≡ true → end ≡ Bytes → half.bytes ≡ source.bytes = λ foretold ends.
+    let read = promised.own foretold in
+    let none = read.ended (subst (λ e. SourceRow e half) ends reads_as.counts) in
+    sym (read.whole ∙ ap (λ rest. half.bytes ++ rest) none ∙ append-nil half.bytes) in
+    let failed : end ≡ ReadFailed → source.may_fail ≡ true = subst (λ r. IfOk r (λ e. e ≡ ReadFailed → source.may_fail ≡ true)) is promised.failed in
+    (promised.own, (whole, failed))
 
 -- so of each link, where the report has these bodies, in order
-pub links_read_own : {Rd W A O : Type 0} (reads : Rd → ReadHalf) (made_of : Rd → O) (gives : O → Source) (links : List (Half Rd)) (sources : List Source) (bodies : List (Ended A ReaderEnd Rd))
+each_read_own : {Rd W A O : Type 0} (reads : Rd → ReadHalf) (made_of : Rd → O) (gives : O → Source) (links : List (Half Rd)) (sources : List Source) (bodies : List (Ended A ReaderEnd Rd))
     (report : Report Rd W A) → map (λ (h : Half Rd). gives (made_of h.half)) links ≡ sources → length bodies ≡ length links → map reader_reported report.links.items ≡ bodies
-    → EachKeeps (IsReaderDone reads made_of gives) links bodies → LinksReadOwn reads sources report
-links_read_own {Rd} {W} {A} reads made_of gives links sources bodies report own many is kept = λ k source link below.
+    → EachKeeps (IsReaderDone reads made_of gives) links bodies → (k : ℕ) (source : Source) (link : LinkReport Rd W A) → k < length report.links.items
+    → ReadOwn (get_or sources k source) (get_or report.links.items k link).reader_end (reads (get_or report.links.items k link).reader)
+each_read_own {Rd} {W} {A} reads made_of gives links sources bodies report own many is kept k source link below =
     let reported : LinkReport Rd W A → Ended A ReaderEnd Rd = λ l. reader_reported l in
     let it = get_or report.links.items k link in
     let body = reported link in
@@ -177,7 +171,19 @@ links_read_own {Rd} {W} {A} reads made_of gives links sources bodies report own 
     let here : gives (made_of (get_or links k start).half) ≡ get_or sources k source =
     sym (get_or-map (λ (h : Half Rd). gives (made_of h.half)) links k start source (omega (arith, low, many))) ∙ ap (λ ss. get_or ss k source) own in
     let promised : IsReaderDone reads made_of gives (get_or links k start) (reported it) = subst (λ b. IsReaderDone reads made_of gives (get_or links k start) b) there (kept k start body low) in
-    subst (λ s. ReadsOwn s it.reader_end (reads it.reader)) here (read_own reads made_of gives (get_or links k start) it.reader_end (reported it) refl promised)
+    subst (λ s. ReadOwn s it.reader_end (reads it.reader)) here (read_own reads made_of gives (get_or links k start) it.reader_end (reported it) refl promised)
+
+-- so of all links
+pub links_read_own : {Rd W A O : Type 0} (reads : Rd → ReadHalf) (made_of : Rd → O) (gives : O → Source) (links : List (Half Rd)) (sources : List Source) (bodies : List (Ended A ReaderEnd Rd))
+    (report : Report Rd W A) → map (λ (h : Half Rd). gives (made_of h.half)) links ≡ sources → length bodies ≡ length links → map reader_reported report.links.items ≡ bodies
+    → EachKeeps (IsReaderDone reads made_of gives) links bodies → LinksReadOwn reads sources report
+links_read_own reads made_of gives links sources bodies report own many is kept =
+    let each = each_read_own reads made_of gives links sources bodies report own many is kept in
+    record {
+      first = λ k source link below. (each k source link below).0;
+      whole = λ k source link below. (each k source link below).1.0;
+      failed = λ k source link below. (each k source link below).1.1;
+    }
 
 -- the halves of a report were split from the links that those were split from with which the threads began
 pub are_made_of : {Rd W A O : Type 0} (reads : Rd → ReadHalf) (reader_of : Rd → O) (gives : O → Source) (writes : W → WrittenHalf) (writer_of : W → O) (reading : List (Half Rd)) (writing : List (Half W))

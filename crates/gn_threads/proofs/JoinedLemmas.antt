@@ -1,15 +1,18 @@
 -- Of threads that were joined, each kept its promise.
-use Rattle.std.proofs.Common.{◌≡◌, ◌<◌, ℕ, suc, List, [], ◌∷◌, ◌++◌, length, map, take, get_or, refl, sym, ap, ◌∙◌, subst, arith}
+use Rattle.std.proofs.Common.{◌≡◌, ◌<◌, ℕ, suc, List, [], ◌∷◌, ◌++◌, length, map, take, get_or, refl, sym, ap, ◌∙◌, subst, Vec, Result, Ok, vec_items, vec_len, arith}
+use Rattle.std.specs.Prelude.{IfOk}
 use Rattle.std.proofs.lemmas.List.{append-nil, append_assoc, get_or-map, length-map, nil_from_length}
 use Rattle.std.proofs.lemmas.Simd.{map-map}
 use Rattle.std.proofs.Math.Seq.{take-length}
+use Rattle.std.specs.PromisedHandle.{KeepsEach}
+use Rattle.std.specs.declared.thread.PromisedHandle.{PromisedHandle}
 use Rattle.gn_threads.specs.Joined.{EachKeeps}
 
 pub some_of : {X : Type 0} (xs : List X) → 0 < length xs → X
 some_of [] below = absurd (omega arith)
 some_of (x ∷ xs) below = x
 
-pub keeps_each : {H D K B : Type 0} (role_of : H → K) (body_of : D → B) (P : K → B → Type 0) (hs : List H) (ds : List D) → length ds ≡ length hs
+keeps_each : {H D K B : Type 0} (role_of : H → K) (body_of : D → B) (P : K → B → Type 0) (hs : List H) (ds : List D) → length ds ≡ length hs
     → ((i : ℕ) (d : D) → i < length hs → (h : H) × (h ≡ get_or hs i h) × P (role_of h) (body_of (get_or ds i d)))
     → EachKeeps P (map role_of hs) (map body_of ds)
 keeps_each {H} {D} {K} role_of body_of P hs ds many each k role body below =
@@ -19,6 +22,17 @@ keeps_each {H} {D} {K} role_of body_of P hs ds many each k role body below =
     let there = get_or-map body_of ds k d body low in
     let here = get_or-map role_of hs k at.0 role (omega (arith, low, many)) in
     subst (λ b. P (get_or (map role_of hs) k role) b) (sym there) (subst (λ (r : K). P r (body_of (get_or ds k d))) (ap role_of at.1 ∙ sym here) at.2)
+
+-- so where these threads were all joined, and each keeps its promise
+pub keeps_promised : {T P K B A E : Type 0} (role_of : P → K) (body_of : T → B) (Q : K → B → Type 0) (hs : Vec (PromisedHandle T P) A) (joined : Result (Vec T A) E) (done : Vec T A) → joined ≡ Ok done
+    → IfOk joined (λ all. vec_len all ≡ vec_len hs) → IfOk joined (λ all. KeepsEach (record { kept_by = λ p d. Q (role_of p) (body_of d) }) (vec_len hs) (vec_items hs) (vec_items all))
+    → EachKeeps Q (map (λ (h : PromisedHandle T P). role_of h.promise) (vec_items hs)) (map body_of (vec_items done))
+keeps_promised {T} {P} {K} {B} {A} {E} role_of body_of Q hs joined done is all_many all_each =
+    let many : vec_len done ≡ vec_len hs = subst (λ (r : Result (Vec T A) E). IfOk r (λ (all : Vec T A). vec_len all ≡ vec_len hs)) is all_many in
+    let each = subst (λ (r : Result (Vec T A) E). IfOk r (λ (all : Vec T A). KeepsEach (record { kept_by = λ (p : P) (d : T). Q (role_of p) (body_of d) }) (vec_len hs) (vec_items hs) (vec_items all))) is all_each in
+    keeps_each (λ (h : PromisedHandle T P). role_of h.promise) body_of Q (vec_items hs) (vec_items done) (omega (arith, many, hs.ok, done.ok)) (λ i d low.
+    let at = (each i d (omega (arith, low, hs.ok))).1 in
+    (at.handle, at.handle_is, at.kept))
 
 -- each keeps also what follows of that, of its link's part and of what its body says
 pub keeps_less : {K J B D : Type 0} (part : K → J) (view : B → D) (P : K → B → Type 0) (Q : J → D → Type 0) (links : List K) (bodies : List B) → length bodies ≡ length links

@@ -4,4 +4,7 @@ pub mod JoinedLemmas
 pub mod ReceiptLemmas
 pub mod HoldsLemmas
 mod LoopLemmas
+mod ReportedLemmas
 mod UnstartedLemmas
+mod DoneLemmas
+mod HouseLemmas

@@ -1,5 +1,6 @@
 -- Unstarted, one for each role, and the threads that were started from them.
-use Rattle.std.proofs.Common.{◌≡◌, ◌<◌, ◌+◌, ◌++◌, ◌∷◌, ℕ, List, [], length, map, take, get_or, ap, sym, ◌∙◌}
+use Rattle.std.proofs.Common.{◌≡◌, ◌<◌, ◌+◌, ◌++◌, ◌∷◌, ℕ, Bool, false, List, [], Result, Ok, Err, length, map, take, get_or, ap, sym, ◌∙◌}
+use Rattle.std.specs.Prelude.{OnOk, is_err}
 use Rattle.std.proofs.lemmas.List.{append_assoc, length-map, map-append, take_more}
 use Rattle.std.proofs.Math.Seq.{take-append_seam}
 use Rattle.std.proofs.lemmas.Simd.{map-map}
@@ -26,3 +27,14 @@ one_more_come start made before after s o old new one is head =
 pub first_come : {H O : Type 0} (made : H → O) (hs : List H) (left all : List O) (n : ℕ) → map made hs ++ left ≡ all → length hs ≡ n → map made hs ≡ take n all
 first_come made hs left all n whole many =
     sym (take-append_seam (map made hs) left) ∙ ap (λ k. take k (map made hs ++ left)) (length-map hs made ∙ many) ∙ ap (take n) whole
+
+-- what a call ensures where it goes well holds where it didn't fail
+pub went_well : {T E P : Type 0} (r : Result T E) (failed : Bool) → failed ≡ is_err r → failed ≡ false → OnOk r P → P
+went_well (Ok x) failed same well holds = holds
+went_well (Err e) failed same well holds = absurd (cc)
+
+-- with the thread that was started for it, the starts are those of one thread more
+pub one_thread_more : {H S : Type 0} (start : H → S) (before room after : List H) (h : H) (s : S) → room ≡ before → after ≡ room ++ h ∷ [] → start h ≡ s
+    → map start after ≡ map start before ++ s ∷ []
+one_thread_more start before room after h s same is own =
+    ap (λ hs. map start hs) is ∙ map-append start room (h ∷ []) ∙ ap (λ hs. map start hs ++ start h ∷ []) same ∙ ap (λ x. map start before ++ x ∷ []) own

@@ -1,5 +1,5 @@
 -- What a fault of a run says.
-use Rattle.std.specs.Prelude.{◌≡◌, ℕ, ◌+◌, ◌<◌, ⊤, Bool, true, false, List, length, Option, Some, None, Result, Ok, Err}
+use Rattle.std.specs.Prelude.{◌≡◌, ℕ, ◌+◌, ◌<◌, ⊤, Bool, true, false, List, length, Option, Some, None, Result, Err}
 use Rattle.std.specs.List.{slice_get}
 use Rattle.gn_links.specs.declared.split.SplitFault.{SplitFault}
 use Rattle.gn_links.specs.declared.split.SplitFault.TheVariants as split
@@ -34,15 +34,12 @@ abbrev pub IsWholeFault : List Bool → ℕ → RunFault → Type 0
 IsWholeFault may_not_split workers (Link k) = slice_get may_not_split k ≡ Some true
 IsWholeFault may_not_split workers fault = IsFaultOf (length may_not_split) workers fault
 
--- whether a body ended because the history was full
-abbrev pub is_full : {E : Type 0} → Result E BodyFault → Bool
-is_full (Err body.HistoryFull) = true
-is_full end = false
-
--- whether a body ended out of memory
-abbrev pub is_out_of_memory : {E : Type 0} → Result E BodyFault → Bool
-is_out_of_memory (Err body.NoMemory) = true
-is_out_of_memory end = false
+-- whether a body ended with this fault
+abbrev pub is_ended_with : {E : Type 0} → BodyFault → Result E BodyFault → Bool
+is_ended_with body.HistoryFull (Err body.HistoryFull) = true
+is_ended_with body.NoMemory (Err body.NoMemory) = true
+is_ended_with body.Refused (Err body.Refused) = true
+is_ended_with fault end = false
 
 -- the fault of a run in which a body ended with a full history, or not, and a body ended out of memory, or not
 abbrev pub stop_of : Bool → Bool → Option RunFault

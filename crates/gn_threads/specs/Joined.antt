@@ -1,11 +1,21 @@
 -- What a run has of its threads once all are joined.
-use Rattle.std.specs.Prelude.{◌≡◌, ◌<◌, ℕ, List, length, map, slice_index_or, take, vec_len}
+use Rattle.std.specs.Prelude.{◌≡◌, ◌<◌, ℕ, Bool, ◌||◌, List, length, map, slice_index_or, take, vec_len}
+use Rattle.std.specs.List.{list_any}
 use Rattle.gn_shake.specs.declared.role.Role.{Role}
+use Rattle.gn_bodies.specs.declared.ends.BodyFault.{BodyFault}
 use Rattle.gn_bodies.specs.declared.ends.ReaderEnd.{ReaderEnd}
 use Rattle.gn_bodies.specs.declared.ends.WriterEnd.{WriterEnd}
 use Rattle.gn_threads.specs.declared.done.Done.{Done}
-use Rattle.gn_links.specs.Views.{ReadHalf, WrittenHalf}
+use Rattle.gn_links.specs.Halves.{ReadHalf, WrittenHalf}
 use Rattle.gn_bodies.specs.Done.{Half, Ended, ReaderKeeps, WriterKeeps, reader_ended, writer_ended}
+use Rattle.gn_threads.specs.Faults.{is_ended_with}
+
+-- whether one of all bodies of a run ended with this fault
+abbrev pub any_ended_with : {Rd W B A : Type 0} → BodyFault → Done Rd W B A → Bool
+any_ended_with fault done =
+    list_any (λ d. is_ended_with fault d.end) done.readers.items
+    || list_any (λ d. is_ended_with fault d.end) done.writers.items
+    || list_any (λ d. is_ended_with fault d.end) done.workers.items
 
 -- each body keeps what it promises of its link, which stands at the same place
 abbrev pub EachKeeps : {K B : Type 0} → (K → B → Type 0) → List K → List B → Type 0

@@ -1,7 +1,7 @@
 //! Where the links of a run come from.
 
 ghost use Rattle.std.specs.Prelude.{◌≡◌, ◌<◌, ◌∷◌, ℕ, Bool, List, map, IfErr, IfOk};
-ghost use Rattle.gn_links.specs.Views.{IsNewReader, IsNewWriter};
+ghost use Rattle.gn_links.specs.Halves.{IsNewReader, IsNewWriter};
 ghost use Rattle.gn_threads.specs.Faults.{IsArrivingFault};
 
 use crate::fault::RunFault;

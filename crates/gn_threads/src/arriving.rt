@@ -1,14 +1,14 @@
 //! A run whose links come one after another.
 
 ghost use Rattle.std.specs.Prelude.{◌≡◌, ◌+◌, ◌*◌, ◌≤◌, ◌↔◌, None, length, map, reverse, take, IfErr, IfOk, IfSome};
-ghost use Rattle.gn_rules.specs.Legal.{IsLegal};
+ghost use Rattle.gn_rules.specs.Answer.{IsLegal};
 ghost use Rattle.gn_rules.specs.Limits.{IsCrew, most_links};
 ghost use Rattle.gn_threads.specs.declared.fault.RunFault.TheVariants.{BadWorkers};
 ghost use Rattle.gn_threads.specs.Faults.{IsArrivingFault};
 ghost use Rattle.gn_threads.specs.Headline.{AreMadeOf, Holds, LinksReadOwn};
 
 use crate::arrivals::Arrivals;
-use crate::confirming::history_left;
+use crate::confirming::keep_history;
 use crate::fault::RunFault;
 use crate::finishing::finish;
 use crate::opening::{Opening, open_run};
@@ -156,7 +156,9 @@ where
         (take (length roles.now) (V.coming arrivals)) report) }
     ensures kept { IfSome history.new (λ steps. IsLegal config.now (reverse steps.items)) }
 {
-    let opening = open_run::<B, C, A>(alloc, blank, stage, config, roles, workers)?;
+    let Ok(opening) = open_run::<B, C, A>(alloc, blank, stage, config, roles, workers) else {
+        return Err(RunFault::NoMemory);
+    };
     let Opening {
         service,
         actors,
@@ -164,13 +166,16 @@ where
         outlets,
         desk,
     } = opening;
-    let (unstarted, house) = unstarted_of(alloc, roles, intakes, outlets, actors)?;
+    let Ok(made) = unstarted_of(alloc, roles, intakes, outlets, actors) else {
+        return Err(RunFault::NoMemory);
+    };
+    let (unstarted, house) = made;
     let joined = start_and_join(rt, alloc, &service, gate, arrivals, unstarted);
     let hub = service.into_hub();
     match joined {
         Ok(done) => finish(rt, alloc, config, roles, hub, desk, done, house, history),
         Err(fault) => {
-            *history = history_left(config, hub);
+            keep_history(config, hub, history);
             Err(fault)
         }
     }

@@ -19,7 +19,7 @@ ghost use Rattle.std.specs.Prelude.{
 };
 ghost use Rattle.std.specs.List.{sum_by};
 ghost use Rattle.gn_report.specs.Actors.{receipts_of};
-ghost use Rattle.gn_rules.specs.Legal.{IsLegal};
+ghost use Rattle.gn_rules.specs.Answer.{IsLegal};
 ghost use Rattle.gn_rules.specs.Statistics.{stats_of};
 ghost use Rattle.gn_threads.specs.Faults.{IsFaultOf};
 ghost use Rattle.gn_threads.specs.Reported.{reader_reported, writer_reported};
@@ -104,19 +104,20 @@ fn close<L: Ledger, C: RouterCore<A>, A: Allocator + Copy>(
     }
 }
 
-/// What stands of the history of a run that stopped; nothing, where its router hasn't the configuration of the call.
-pub(crate) fn history_left<L: Ledger, C: RouterCore<A>, A: Allocator + Copy>(
+/// Keeps what stands of the history of a run that stopped; nothing, where its router hasn't the configuration of the call.
+pub(crate) fn keep_history<L: Ledger, C: RouterCore<A>, A: Allocator + Copy>(
     config: &Config,
     hub: Hub<C, L, A>,
-) -> Option<Vec<Step<A>, A>>
-    ensures { IfSome result (λ history. IsLegal config.now (reverse history.items)) }
+    history: &mut Option<Vec<Step<A>, A>>,
+)
+    ensures { IfSome history.new (λ steps. IsLegal config.now (reverse steps.items)) }
 {
     let Closed {
-        history,
+        history: steps,
         is_configured,
         ..
     } = close(config, hub);
-    if is_configured { Some(history) } else { None }
+    *history = if is_configured { Some(steps) } else { None };
 }
 
 /// The report of a run, compared with its ledger, its history and the configuration of the call. `unconfirmed` is a worker

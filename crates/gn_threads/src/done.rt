@@ -1,14 +1,15 @@
 //! What the bodies of a run gave back.
 
 ghost use Rattle.gn_rules.specs.Limits.{most_workers};
-ghost use Rattle.std.specs.Prelude.{◌≡◌, ◌+◌, ◌<◌, ◌≤◌, ◌||◌, ℕ, None, length, slice_index_or, true, IfSome, IsOk, is_err};
-ghost use Rattle.std.specs.List.{list_any};
+ghost use Rattle.std.specs.Prelude.{◌≡◌, ◌+◌, ◌<◌, ◌≤◌, ℕ, None, length, slice_index_or, true, IfSome, IsOk, is_err};
+ghost use Rattle.gn_bodies.specs.declared.ends.BodyFault.TheVariants.{HistoryFull, NoMemory};
 ghost use Rattle.gn_bodies.specs.declared.worker.WorkerDone.{WorkerDone};
-ghost use Rattle.gn_threads.specs.Faults as faults;
+ghost use Rattle.gn_threads.specs.Faults.{stop_of};
+ghost use Rattle.gn_threads.specs.Joined as joined;
 
-use crate::ended::{any_full, any_out_of_memory};
+use crate::ended::any_ended_with;
 use crate::fault::RunFault;
-use gn_bodies::{ReaderDone, WorkerDone, WriterDone};
+use gn_bodies::{BodyFault, ReaderDone, WorkerDone, WriterDone};
 use gn_links::{LinkReader, LinkWriter};
 use gn_stage::Site;
 use std::alloc::{Allocator, Global};
@@ -23,41 +24,23 @@ pub(crate) struct Done<Rd, W, B: Site + Ledger, A: Allocator = Global> {
 }
 
 impl<Rd: LinkReader, W: LinkWriter, B: Site + Ledger, A: Allocator> Done<Rd, W, B, A> {
-    /// Whether a body ended because the history was full.
-    fn has_full(&self) -> bool
-        ensures { result ≡ (list_any (λ d. faults.is_full d.end) self.now.readers.items
-            || list_any (λ d. faults.is_full d.end) self.now.writers.items
-            || list_any (λ d. faults.is_full d.end) self.now.workers.items) }
+    /// Whether a body ended with this fault.
+    fn has(&self, fault: BodyFault) -> bool
+        ensures { result ≡ joined.any_ended_with fault self.now }
     {
-        any_full(self.readers.as_slice())
-            || any_full(self.writers.as_slice())
-            || any_full(self.workers.as_slice())
-    }
-
-    /// Whether a body ended out of memory.
-    fn has_no_memory(&self) -> bool
-        ensures { result ≡ (list_any (λ d. faults.is_out_of_memory d.end) self.now.readers.items
-            || list_any (λ d. faults.is_out_of_memory d.end) self.now.writers.items
-            || list_any (λ d. faults.is_out_of_memory d.end) self.now.workers.items) }
-    {
-        any_out_of_memory(self.readers.as_slice())
-            || any_out_of_memory(self.writers.as_slice())
-            || any_out_of_memory(self.workers.as_slice())
+        any_ended_with(self.readers.as_slice(), fault)
+            || any_ended_with(self.writers.as_slice(), fault)
+            || any_ended_with(self.workers.as_slice(), fault)
     }
 
     /// The fault of a run of which a body was stopped: a full history comes before memory.
     pub(crate) fn stop(&self) -> Option<RunFault>
-        ensures { result ≡ faults.stop_of
-            (list_any (λ d. faults.is_full d.end) self.now.readers.items
-            || list_any (λ d. faults.is_full d.end) self.now.writers.items
-            || list_any (λ d. faults.is_full d.end) self.now.workers.items)
-            (list_any (λ d. faults.is_out_of_memory d.end) self.now.readers.items
-            || list_any (λ d. faults.is_out_of_memory d.end) self.now.writers.items
-            || list_any (λ d. faults.is_out_of_memory d.end) self.now.workers.items) }
+        ensures { result ≡ stop_of (joined.any_ended_with HistoryFull self.now)
+            (joined.any_ended_with NoMemory self.now) }
     {
-        if self.has_full() {
+        if self.has(BodyFault::HistoryFull) {
             Some(RunFault::HistoryFull)
-        } else if self.has_no_memory() {
+        } else if self.has(BodyFault::NoMemory) {
             Some(RunFault::NoMemory)
         } else {
             None

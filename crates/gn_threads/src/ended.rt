@@ -2,6 +2,7 @@
 
 ghost use Rattle.std.specs.Prelude.{◌≡◌, Bool};
 ghost use Rattle.std.specs.List.{list_any};
+ghost use Rattle.gn_bodies.specs.declared.ends.BodyFault.{BodyFault};
 ghost use Rattle.gn_threads.specs.Faults as faults;
 
 use gn_bodies::{BodyFault, ReaderDone, WorkerDone, WriterDone};
@@ -10,95 +11,60 @@ use gn_stage::Site;
 use std::alloc::Allocator;
 use std::sync::ledger::Ledger;
 
-/// Whether a body ended because the history was full.
-fn is_full<E>(end: &Result<E, BodyFault>) -> bool
-    ensures { result ≡ faults.is_full end.now }
+/// Whether a body ended with this fault.
+fn is_ended_with<E>(end: &Result<E, BodyFault>, fault: BodyFault) -> bool
+    ensures { result ≡ faults.is_ended_with fault end.now }
 {
-    matches!(end, Err(BodyFault::HistoryFull))
-}
-
-/// Whether a body ended out of memory.
-fn is_out_of_memory<E>(end: &Result<E, BodyFault>) -> bool
-    ensures { result ≡ faults.is_out_of_memory end.now }
-{
-    matches!(end, Err(BodyFault::NoMemory))
+    match fault {
+        BodyFault::HistoryFull => matches!(end, Err(BodyFault::HistoryFull)),
+        BodyFault::NoMemory => matches!(end, Err(BodyFault::NoMemory)),
+        BodyFault::Refused => matches!(end, Err(BodyFault::Refused)),
+    }
 }
 
 /// What the body of a thread gives back.
 pub(crate) trait Body: Drop {
-    /// Whether it ended because the history was full.
-    ghost found_full: { Self → Bool };
+    /// Whether it ended with this fault.
+    ghost ended_with: { BodyFault → Self → Bool };
 
-    /// Whether it ended out of memory.
-    ghost found_no_memory: { Self → Bool };
-
-    /// Whether it ended because the history was full.
-    fn found_full(&self) -> bool
-        ensures { result ≡ found_full self.now };
-
-    /// Whether it ended out of memory.
-    fn found_no_memory(&self) -> bool
-        ensures { result ≡ found_no_memory self.now };
+    /// Whether it ended with this fault.
+    fn ended_with(&self, fault: BodyFault) -> bool
+        ensures { result ≡ ended_with fault self.now };
 }
 
 impl<Rd: LinkReader, B: Site + Ledger, A: Allocator> Body for ReaderDone<Rd, B, A> {
-    ghost use Rattle.gn_threads.specs.Faults.{is_full, is_out_of_memory};
+    ghost use Rattle.gn_threads.specs.Faults.{is_ended_with};
 
-    ghost found_full = { λ done. is_full done.end };
+    ghost ended_with = { λ fault done. is_ended_with fault done.end };
 
-    ghost found_no_memory = { λ done. is_out_of_memory done.end };
-
-    fn found_full(&self) -> bool {
-        is_full(&self.end)
-    }
-
-    fn found_no_memory(&self) -> bool {
-        is_out_of_memory(&self.end)
+    fn ended_with(&self, fault: BodyFault) -> bool {
+        is_ended_with(&self.end, fault)
     }
 }
 
 impl<W: LinkWriter, L: Ledger, A: Allocator> Body for WriterDone<W, L, A> {
-    ghost use Rattle.gn_threads.specs.Faults.{is_full, is_out_of_memory};
+    ghost use Rattle.gn_threads.specs.Faults.{is_ended_with};
 
-    ghost found_full = { λ done. is_full done.end };
+    ghost ended_with = { λ fault done. is_ended_with fault done.end };
 
-    ghost found_no_memory = { λ done. is_out_of_memory done.end };
-
-    fn found_full(&self) -> bool {
-        is_full(&self.end)
-    }
-
-    fn found_no_memory(&self) -> bool {
-        is_out_of_memory(&self.end)
+    fn ended_with(&self, fault: BodyFault) -> bool {
+        is_ended_with(&self.end, fault)
     }
 }
 
 impl<B: Site + Ledger, A: Allocator> Body for WorkerDone<B, A> {
-    ghost use Rattle.gn_threads.specs.Faults.{is_full, is_out_of_memory};
+    ghost use Rattle.gn_threads.specs.Faults.{is_ended_with};
 
-    ghost found_full = { λ done. is_full done.end };
+    ghost ended_with = { λ fault done. is_ended_with fault done.end };
 
-    ghost found_no_memory = { λ done. is_out_of_memory done.end };
-
-    fn found_full(&self) -> bool {
-        is_full(&self.end)
-    }
-
-    fn found_no_memory(&self) -> bool {
-        is_out_of_memory(&self.end)
+    fn ended_with(&self, fault: BodyFault) -> bool {
+        is_ended_with(&self.end, fault)
     }
 }
 
-/// Whether one of these bodies ended because the history was full.
-pub(crate) fn any_full<T: Body>(bodies: &[T]) -> bool
-    ensures { result ≡ list_any T.found_full bodies.now }
+/// Whether one of these bodies ended with this fault.
+pub(crate) fn any_ended_with<T: Body>(bodies: &[T], fault: BodyFault) -> bool
+    ensures { result ≡ list_any (T.ended_with fault) bodies.now }
 {
-    bodies.iter().any(|body| body.found_full())
-}
-
-/// Whether one of these bodies ended out of memory.
-pub(crate) fn any_out_of_memory<T: Body>(bodies: &[T]) -> bool
-    ensures { result ≡ list_any T.found_no_memory bodies.now }
-{
-    bodies.iter().any(|body| body.found_no_memory())
+    bodies.iter().any(move |body| body.ended_with(fault))
 }

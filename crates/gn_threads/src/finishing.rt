@@ -2,7 +2,7 @@
 
 ghost use Rattle.std.specs.Prelude.{◌≡◌, ◌+◌, ◌*◌, ◌<◌, ℕ, None, length, map, reverse, slice_index_or, vec_len, IfErr, IfOk, IfSome, IsOk};
 ghost use Rattle.gn_bodies.specs.declared.worker.WorkerDone.{WorkerDone};
-ghost use Rattle.gn_rules.specs.Legal.{IsLegal};
+ghost use Rattle.gn_rules.specs.Answer.{IsLegal};
 ghost use Rattle.gn_threads.specs.Faults.{IsFaultOf};
 ghost use Rattle.gn_threads.specs.Reported.{HasBodies, reader_result};
 ghost use Rattle.gn_threads.specs.Headline.{Holds};
@@ -10,7 +10,7 @@ ghost use Rattle.gn_bodies.specs.Done.{reader_ended, halved, writer_ended};
 ghost use Rattle.gn_threads.specs.Joined.{KeepEnds};
 ghost use Rattle.gn_threads.specs.Shares.{AreCounted};
 
-use crate::confirming::{history_left, least, report};
+use crate::confirming::{keep_history, least, report};
 use crate::done::{Done, first_refused};
 use crate::fault::RunFault;
 use crate::house::route_left;
@@ -60,7 +60,7 @@ pub(crate) fn finish<
     ensures kept { IfSome history.new (λ steps. IsLegal config.now (reverse steps.items)) }
 {
     if let Some(fault) = done.stop() {
-        *history = history_left(config, hub);
+        keep_history(config, hub, history);
         return Err(fault);
     }
     let Done {
@@ -71,15 +71,21 @@ pub(crate) fn finish<
     let first = 2 * roles.len() as u32;
     let number = first + workers.len() as u32;
     let worker = first_refused(workers.as_slice(), first);
-    let (readers, intakes) = send_home(alloc, readers)?;
-    let (worked, outlets) = report_workers(alloc, workers)?;
+    let Ok(sent) = send_home(alloc, readers) else {
+        return Err(RunFault::NoMemory);
+    };
+    let Ok(made) = report_workers(alloc, workers) else {
+        return Err(RunFault::NoMemory);
+    };
+    let (readers, intakes) = sent;
+    let (worked, outlets) = made;
     let (mut hub, mut house) = (hub, house);
     let idle = match settle(
         rt, alloc, &mut hub, &mut house, desk, intakes, outlets, number,
     ) {
         Ok(idle) => idle,
         Err(fault) => {
-            *history = history_left(config, hub);
+            keep_history(config, hub, history);
             return Err(fault);
         }
     };

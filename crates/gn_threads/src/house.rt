@@ -21,7 +21,9 @@ fn route_left_job<C: RouterCore<A>, L: Ledger, A: Allocator + Copy>(
 {
     let Job { ticket, descriptor } = job;
     let checked = Checked::new(descriptor);
-    match hub.route(me, ticket, &checked) {
+    let answer = hub.route(me, ticket, &checked);
+    drop(checked);
+    match answer {
         Ok(()) => Ok(()),
         Err(refusal) => Err(BodyFault::from(refusal)),
     }

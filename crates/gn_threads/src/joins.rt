@@ -1,16 +1,17 @@
 //! The threads of a run that have started, and how they are joined.
 
 ghost use Rattle.std.specs.Prelude.{◌≡◌, [], ℕ, map, vec_len, if◌then◌else◌, IfErr, IfOk};
+ghost use Rattle.std.specs.PromisedHandle.{KeepsEach};
 ghost use Rattle.gn_threads.specs.declared.fault.RunFault.TheVariants.{HistoryFull, NoMemory};
 ghost use Rattle.gn_threads.specs.Faults.{IsFaultOf};
-ghost use Rattle.gn_bodies.specs.Done.{half_of, IsReaderDone, IsWriterDone, reader_ended, writer_ended};
-ghost use Rattle.gn_threads.specs.Joined.{AreJoined, EachKeeps};
+ghost use Rattle.gn_bodies.specs.Done.{half_of, IsReaderDone, IsWriterDone};
+ghost use Rattle.gn_threads.specs.Joined.{AreJoined};
 
 use crate::done::Done;
-use crate::ended::{Body, any_full};
+use crate::ended::{Body, any_ended_with};
 use crate::fault::RunFault;
 use crate::start::{ReaderHandle, WorkerHandle, WriterHandle};
-use gn_bodies::{ReaderDone, WorkerDone, WriterDone};
+use gn_bodies::BodyFault;
 use gn_hub::Service;
 use gn_links::{LinkReader, LinkWriter};
 use gn_rules::RouterCore;
@@ -36,7 +37,7 @@ fn join_all<T: Body, P: Promise<T>, A: Allocator, R: Threads>(
     let mut found_full = false;
     for handle in handles {
         let done = handle.join(rt);
-        found_full |= done.found_full();
+        found_full |= done.ended_with(BodyFault::HistoryFull);
     }
     Lost { found_full }
 }
@@ -44,7 +45,7 @@ fn join_all<T: Body, P: Promise<T>, A: Allocator, R: Threads>(
 /// Whether one of these bodies found a full history.
 fn found_full<T: Body, A: Allocator>(joined: &Result<Vec<T, A>, Lost>) -> bool {
     match joined {
-        Ok(done) => any_full(done.as_slice()),
+        Ok(done) => any_ended_with(done.as_slice(), BodyFault::HistoryFull),
         Err(lost) => lost.found_full,
     }
 }
@@ -60,46 +61,13 @@ fn fault_of(found_full: bool) -> RunFault
     }
 }
 
-/// Joins the readers, also where there is no memory for what they give back.
-fn join_readers<Rd: LinkReader, B: Site + Ledger, A: Allocator + Copy, R: Threads>(
+/// Joins each of these threads, also where there is no memory for what they give back.
+fn join_each<T: Body, P: Promise<T>, A: Allocator + Copy, R: Threads>(
     rt: &R,
-    handles: Vec<ReaderHandle<Rd, B, A>, A>,
-) -> Result<Vec<ReaderDone<Rd, B, A>, A>, Lost>
+    handles: Vec<PromisedHandle<T, P>, A>,
+) -> Result<Vec<T, A>, Lost>
     ensures many { IfOk result (λ done. vec_len done ≡ vec_len handles) }
-    ensures kept { IfOk result (λ done. EachKeeps
-        (IsReaderDone Rd.state Rd.made_of Rd.gives)
-        (map (λ h. half_of h.promise.start.value.role h.promise.start.value.reader) handles.items)
-        (map reader_ended done.items)) }
-{
-    match thread::join_promised(rt, handles) {
-        Ok(done) => Ok(done),
-        Err(refused) => Err(join_all(rt, refused.value)),
-    }
-}
-
-/// Joins the writers, also where there is no memory for what they give back.
-fn join_writers<W: LinkWriter, L: Ledger, A: Allocator + Copy, R: Threads>(
-    rt: &R,
-    handles: Vec<WriterHandle<W, L, A>, A>,
-) -> Result<Vec<WriterDone<W, L, A>, A>, Lost>
-    ensures many { IfOk result (λ done. vec_len done ≡ vec_len handles) }
-    ensures kept { IfOk result (λ done. EachKeeps
-        (IsWriterDone W.state W.made_of)
-        (map (λ h. half_of h.promise.start.value.role h.promise.start.value.writer) handles.items)
-        (map writer_ended done.items)) }
-{
-    match thread::join_promised(rt, handles) {
-        Ok(done) => Ok(done),
-        Err(refused) => Err(join_all(rt, refused.value)),
-    }
-}
-
-/// Joins the workers, also where there is no memory for what they give back.
-fn join_workers<B: Site + Ledger, A: Allocator + Copy, R: Threads>(
-    rt: &R,
-    handles: Vec<WorkerHandle<B, A>, A>,
-) -> Result<Vec<WorkerDone<B, A>, A>, Lost>
-    ensures many { IfOk result (λ done. vec_len done ≡ vec_len handles) }
+    ensures each { IfOk result (λ done. KeepsEach P.Promise (vec_len handles) handles.items done.items) }
 {
     match thread::join_promised(rt, handles) {
         Ok(done) => Ok(done),
@@ -162,9 +130,9 @@ impl<Rd: LinkReader, W: LinkWriter, B: Site + Ledger, A: Allocator + Copy> Handl
             writers,
             workers,
         } = self;
-        let readers = join_readers(rt, readers);
-        let writers = join_writers(rt, writers);
-        let workers = join_workers(rt, workers);
+        let readers = join_each(rt, readers);
+        let writers = join_each(rt, writers);
+        let workers = join_each(rt, workers);
         let is_full = found_full(&readers) || found_full(&writers) || found_full(&workers);
         let (Ok(readers), Ok(writers), Ok(workers)) = (readers, writers, workers) else {
             return Err(fault_of(is_full));

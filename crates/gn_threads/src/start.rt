@@ -1,7 +1,7 @@
 //! How the threads of a run are started, and what each promises.
 
-ghost use Rattle.std.specs.Prelude.{◌≡◌, ◌+◌, ◌++◌, ◌∷◌, [], true, map, vec_len, IfSome};
-ghost use Rattle.gn_links.specs.Views.{IsNewReader, IsNewWriter};
+ghost use Rattle.std.specs.Prelude.{◌≡◌, ◌+◌, ◌++◌, ◌∷◌, [], true, map, vec_len};
+ghost use Rattle.gn_links.specs.Halves.{IsNewReader, IsNewWriter};
 ghost use Rattle.gn_bodies.specs.Done.{half_of, IsReaderDone, IsWriterDone, reader_ended, writer_ended};
 ghost use Rattle.gn_bodies.specs.Events.{link_events};
 
@@ -164,6 +164,33 @@ fn run_worker<B: Site + Ledger, C: RouterCore<A> + Drop, G: Gate, A: Allocator +
     worker_body(rt, service, actor, worker, gate, outlet)
 }
 
+/// Starts a thread of this scope that keeps this promise. False where none can be made.
+fn start_thread<
+    's,
+    E,
+    T: Send + Drop + 's,
+    P: Promise<T> + Drop,
+    F: FnOnce() -> T + Send + Drop + 's,
+    A: Allocator,
+>(scope: &Scope<'s, E>, promise: P, body: F, handles: &mut Vec<PromisedHandle<T, P>, A>) -> bool
+    requires runs { F.pre body }
+    requires keeps { (r : T) → F.post body r → P.kept_by promise r }
+    ensures promises { result ≡ true → map (λ h. h.promise) handles.new.items
+        ≡ map (λ h. h.promise) handles.old.items ++ promise ∷ [] }
+    ensures many { result ≡ true → vec_len handles.new ≡ vec_len handles.old + 1 }
+{
+    if handles.reserve(1).is_err() {
+        return false;
+    }
+    match scope.spawn_with(promise, body) {
+        Ok(handle) => {
+            handles.push_reserved(handle);
+            true
+        }
+        Err(_) => false,
+    }
+}
+
 /// What each thread of a run is started with.
 #[derive(Drop)]
 pub(crate) struct Starter<'s, E, C: RouterCore<A> + Drop, B: Ledger, G, A: Allocator + Copy, R> {
@@ -183,21 +210,6 @@ impl<
     A: Allocator + Copy + Send + Sync + 's,
     R: Threads + Wait + Sync + 's,
 > Starter<'s, E, C, B, G, A, R> {
-    /// The thread of a reader; `None`, where none can be made.
-    fn spawn_reader<Rd: LinkReader + Send + 's>(
-        &self,
-        promise: Reads<Rd, B, A>,
-        start: ReaderStart<Rd, B, A>,
-    ) -> Option<ReaderHandle<Rd, B, A>>
-        requires { promise.start.value ≡ start }
-        ensures { IfSome result (λ h. h.promise ≡ promise) }
-    {
-        let (rt, alloc, service, gate) = (self.rt, self.alloc, self.service, self.gate);
-        self.scope
-            .spawn_with(promise, move || run_reader(rt, alloc, service, gate, start))
-            .ok()
-    }
-
     /// Starts a reader. False where no thread can be made.
     pub(crate) fn start_reader<Rd: LinkReader + Send + 's>(
         &self,
@@ -207,35 +219,16 @@ impl<
         ensures { result ≡ true → map (λ h. h.promise.start.value) handles.new.items
             ≡ map (λ h. h.promise.start.value) handles.old.items ++ start ∷ [] }
     {
-        if handles.reserve(1).is_err() {
-            drop(start);
-            return false;
-        }
         let promise = Reads {
             start: Snapshot::of(&start),
         };
-        match self.spawn_reader(promise, start) {
-            Some(handle) => {
-                handles.push_reserved(handle);
-                true
-            }
-            None => false,
-        }
-    }
-
-    /// The thread of a writer; `None`, where none can be made.
-    fn spawn_writer<W: LinkWriter + Send + 's>(
-        &self,
-        promise: Writes<W, B, A>,
-        start: WriterStart<W, B, A>,
-    ) -> Option<WriterHandle<W, B, A>>
-        requires { promise.start.value ≡ start }
-        ensures { IfSome result (λ h. h.promise ≡ promise) }
-    {
         let (rt, alloc, service, gate) = (self.rt, self.alloc, self.service, self.gate);
-        self.scope
-            .spawn_with(promise, move || run_writer(rt, alloc, service, gate, start))
-            .ok()
+        start_thread(
+            self.scope,
+            promise,
+            move || run_reader(rt, alloc, service, gate, start),
+            handles,
+        )
     }
 
     /// Starts a writer. False where no thread can be made.
@@ -247,28 +240,16 @@ impl<
         ensures { result ≡ true → map (λ h. h.promise.start.value) handles.new.items
             ≡ map (λ h. h.promise.start.value) handles.old.items ++ start ∷ [] }
     {
-        if handles.reserve(1).is_err() {
-            drop(start);
-            return false;
-        }
         let promise = Writes {
             start: Snapshot::of(&start),
         };
-        match self.spawn_writer(promise, start) {
-            Some(handle) => {
-                handles.push_reserved(handle);
-                true
-            }
-            None => false,
-        }
-    }
-
-    /// The thread of a worker; `None`, where none can be made.
-    fn spawn_worker(&self, start: WorkerStart<B, A>) -> Option<WorkerHandle<B, A>> {
-        let (rt, service, gate) = (self.rt, self.service, self.gate);
-        self.scope
-            .spawn_with(Works, move || run_worker(rt, service, gate, start))
-            .ok()
+        let (rt, alloc, service, gate) = (self.rt, self.alloc, self.service, self.gate);
+        start_thread(
+            self.scope,
+            promise,
+            move || run_writer(rt, alloc, service, gate, start),
+            handles,
+        )
     }
 
     /// Starts a worker. False where no thread can be made.
@@ -279,17 +260,13 @@ impl<
     ) -> bool
         ensures { result ≡ true → vec_len handles.new ≡ vec_len handles.old + 1 }
     {
-        if handles.reserve(1).is_err() {
-            drop(start);
-            return false;
-        }
-        match self.spawn_worker(start) {
-            Some(handle) => {
-                handles.push_reserved(handle);
-                true
-            }
-            None => false,
-        }
+        let (rt, service, gate) = (self.rt, self.service, self.gate);
+        start_thread(
+            self.scope,
+            Works,
+            move || run_worker(rt, service, gate, start),
+            handles,
+        )
     }
 
     /// Starts all workers, in order. False where a thread can't be made: then those before it have started.

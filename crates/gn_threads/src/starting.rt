@@ -1,7 +1,7 @@
 //! How all bodies of a run are started and joined.
 
 ghost use Rattle.std.specs.Prelude.{◌≡◌, ◌<◌, ◌++◌, ◌∷◌, [], ℕ, All, Bool, true, map, vec_len, IfErr, IfOk, OnOk};
-ghost use Rattle.gn_links.specs.Views.{IsNewReader, IsNewWriter};
+ghost use Rattle.gn_links.specs.Halves.{IsNewReader, IsNewWriter};
 ghost use Rattle.gn_threads.specs.Faults.{IsArrivingFault};
 ghost use Rattle.gn_threads.specs.Joined.{AreJoinedOf};
 ghost use Rattle.gn_bodies.specs.Done.{IsReaderDone, IsWriterDone};

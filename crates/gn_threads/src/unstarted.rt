@@ -2,7 +2,7 @@
 
 ghost use Rattle.gn_rules.specs.Limits.{most_links, most_workers};
 ghost use Rattle.std.specs.Prelude.{◌≡◌, ◌+◌, ◌*◌, ◌<◌, ◌≤◌, [], All, length, map, vec_len, IfOk};
-ghost use Rattle.gn_links.specs.Views.{IsNewReader, IsNewWriter};
+ghost use Rattle.gn_links.specs.Halves.{IsNewReader, IsNewWriter};
 ghost use Rattle.gn_hub.specs.ActorState.{AreNew};
 
 use crate::actors::UnstartedActors;

@@ -7,9 +7,7 @@ use Rattle.gn_wire.specs.declared.kind.Kind.{Kind}
 use Rattle.gn_wire.specs.declared.kind.Kind.TheVariants.{Ping, Pong, Push, Query, QueryHit, Unknown}
 use Rattle.gn_wire.specs.declared.header.Header.{Header}
 use Rattle.gn_wire.specs.declared.kind.Guid.{Guid}
-use Rattle.gn_wire.specs.Kinds.{code_of}
-use Rattle.gn_wire.specs.Lengths.{fault_of, IsDescriptor}
-use Rattle.gn_wire.specs.Packet.{Packet}
+use Rattle.gn_wire.specs.Packet.{code_of, fault_of, IsDescriptor, Packet}
 use Rattle.gn_wire.specs.Encoding.{header_bytes, header_of, header_at, bytes_of, EncodingsPart}
 use Rattle.gn_wire.proofs.HeaderLemmas.{header_at-header_bytes}
 

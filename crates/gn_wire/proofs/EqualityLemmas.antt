@@ -8,7 +8,7 @@ use Rattle.gn_wire.specs.declared.kind.Guid.{Guid}
 use Rattle.gn_wire.specs.declared.kind.Kind.{Kind}
 use Rattle.gn_wire.specs.declared.kind.Kind.TheVariants.{Ping, Pong, Push, Query, QueryHit, Unknown}
 use Rattle.gn_wire.specs.Equality.{SameIsEqual}
-use Rattle.gn_wire.specs.Keys.{is_same_key, is_same_packet, key_numbers, key_of, kind_numbers}
+use Rattle.gn_wire.specs.Keys.{is_same_key, is_same_packet, key_of, kind_numbers}
 use Rattle.gn_wire.specs.Packet.{Packet}
 
 both : (a b : Bool) → (a && b) ≡ true → (a ≡ true) × (b ≡ true)
@@ -35,7 +35,7 @@ kind_read QueryHit rest = refl
 kind_read (Unknown code) rest = refl
 
 same_numbers : (a b : Key) → is_same_key a b ≡ true → ◌≡◌ {A = Kind × List ℕ} (a.kind, a.id.0) (b.kind, b.id.0)
-same_numbers a b h = sym (kind_read a.kind a.id.0) ∙ ap kind_from ((bytes_decides (key_numbers a) (key_numbers b)).0 h) ∙ kind_read b.kind b.id.0
+same_numbers a b h = sym (kind_read a.kind a.id.0) ∙ ap kind_from ((bytes_decides (kind_numbers a.kind ++ a.id.0) (kind_numbers b.kind ++ b.id.0)).0 h) ∙ kind_read b.kind b.id.0
 
 abbrev id_of : List ℕ → Guid
 id_of bytes = record { 0 = bytes }
@@ -61,7 +61,7 @@ same_packet d e h =
     packet_from d e (same_numbers (key_of d) (key_of e) ttl.0) (exact_unsigned_eq d.ttl e.ttl ttl.1) (exact_unsigned_eq d.hops e.hops hops.1) ((bytes_decides d.payload e.payload).0 payload.1)
 
 key_is_itself : (a : Key) → is_same_key a a ≡ true
-key_is_itself a = (bytes_decides (key_numbers a) (key_numbers a)).1 refl
+key_is_itself a = (bytes_decides (kind_numbers a.kind ++ a.id.0) (kind_numbers a.kind ++ a.id.0)).1 refl
 
 pub packet_is_itself : (d : Packet) → is_same_packet d d ≡ true
 packet_is_itself d =

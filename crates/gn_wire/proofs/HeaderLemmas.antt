@@ -9,7 +9,7 @@ use Rattle.byteorder.specs.Endian.{little_bytes, little_number}
 use Rattle.byteorder.specs.Numbers.{little_number-reads_back}
 use Rattle.gn_wire.specs.declared.header.Header.{Header}
 use Rattle.gn_wire.specs.declared.kind.Kind.{Kind}
-use Rattle.gn_wire.specs.Kinds.{code_of, kind_of, IsStored}
+use Rattle.gn_wire.specs.Packet.{code_of, kind_of, IsStored}
 use Rattle.gn_wire.specs.Encoding.{header_bytes, header_at}
 use Rattle.gn_wire.proofs.KindLemmas.{code_of-kind_of}
 use Rattle.std.proofs.lemmas.Grind.{common_steps}

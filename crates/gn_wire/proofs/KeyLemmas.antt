@@ -1,5 +1,5 @@
 -- The equality of keys is the derived one, and an equivalence.
-use Rattle.std.proofs.Common.{◌≡◌, refl}
+use Rattle.std.proofs.Common.{◌≡◌, ◌++◌, refl}
 use Rattle.std.specs.Cmp.{IsEquivalence}
 use Rattle.std.specs.Cmp.Lexicographic.{nat_list_eq_equiv}
 use Rattle.gn_wire.specs.declared.kind.Guid.{Guid}
@@ -7,7 +7,7 @@ use Rattle.gn_wire.specs.declared.kind.Kind.{Kind}
 use Rattle.gn_wire.specs.declared.kind.Kind.TheVariants.{Ping, Pong, Push, Query, QueryHit, Unknown}
 use Rattle.gn_wire.specs.declared.key.Key.{Key}
 use Rattle.gn_wire.specs.contracts.key.KeyPartialEq.TheImpl as derived
-use Rattle.gn_wire.specs.Keys.{is_same_key, key_numbers}
+use Rattle.gn_wire.specs.Keys.{is_same_key, kind_numbers}
 
 -- what the derived `==` computes, kind by kind
 same_at : (a b : Kind) (x y : Guid) → (derived.eq-value).it (record { kind = a; id = x }) (record { kind = b; id = y }) ≡ is_same_key (record { kind = a; id = x }) (record { kind = b; id = y })
@@ -29,7 +29,7 @@ same_test = λ i a b. same_key a b i
 
 pub key_laws : IsEquivalence is_same_key
 key_laws = record {
-  refl = λ a. nat_list_eq_equiv.refl (key_numbers a);
-  symm = λ a b. nat_list_eq_equiv.symm (key_numbers a) (key_numbers b);
-  congr = λ a b c. nat_list_eq_equiv.congr (key_numbers a) (key_numbers b) (key_numbers c);
+  refl = λ a. nat_list_eq_equiv.refl (kind_numbers a.kind ++ a.id.0);
+  symm = λ a b. nat_list_eq_equiv.symm (kind_numbers a.kind ++ a.id.0) (kind_numbers b.kind ++ b.id.0);
+  congr = λ a b c. nat_list_eq_equiv.congr (kind_numbers a.kind ++ a.id.0) (kind_numbers b.kind ++ b.id.0) (kind_numbers c.kind ++ c.id.0);
 }

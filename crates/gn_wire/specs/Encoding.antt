@@ -1,11 +1,10 @@
 -- The bytes of a header and of a descriptor.
-use Rattle.std.specs.Prelude.{◌≡◌, ◌<◌, ◌^◌, ℕ, List, [], ◌∷◌, ◌++◌, length, take, drop, slice_index, None, Result, Ok}
+use Rattle.std.specs.Prelude.{◌≡◌, ◌<◌, ◌^◌, ℕ, List, [], ◌∷◌, ◌++◌, length, take, drop, slice_index, None, Result, Ok, Err}
+use Rattle.std.specs.Option.{option_map_or}
 use Rattle.byteorder.specs.Endian.{little_bytes, little_number}
 use Rattle.gn_wire.specs.declared.header.FrameFault.{FrameFault}
 use Rattle.gn_wire.specs.declared.header.Header.{Header}
-use Rattle.gn_wire.specs.Kinds.{code_of, kind_of, IsStored}
-use Rattle.gn_wire.specs.Lengths.{fault_of, unless_fault, IsDescriptor}
-use Rattle.gn_wire.specs.Packet.{Packet}
+use Rattle.gn_wire.specs.Packet.{code_of, kind_of, IsStored, fault_of, IsDescriptor, Packet}
 
 -- the 23 bytes of a header: ID, payload descriptor, TTL, Hops, and the length in four bytes, the least first
 abbrev pub header_bytes : Header → List ℕ
@@ -21,7 +20,7 @@ packet_from h payload = record { id = h.id; kind = h.kind; ttl = h.ttl; hops = h
 
 -- the encoding of a descriptor: its header, then its payload
 abbrev pub bytes_of : Packet → List ℕ
-bytes_of d = header_bytes (header_of d) ++ d.payload
+bytes_of d = header_bytes (record { id = d.id; kind = d.kind; ttl = d.ttl; hops = d.hops; length = length d.payload }) ++ d.payload
 
 -- the header that 23 bytes say, each field at its place
 abbrev pub header_at : List ℕ → Header
@@ -30,7 +29,7 @@ header_at bytes =
 
 -- what is read: the header, where its length is valid, else the fault
 abbrev pub reading : List ℕ → Result Header FrameFault
-reading bytes = let h = header_at bytes in unless_fault (fault_of h.kind h.length) h
+reading bytes = let h = header_at bytes in option_map_or Err (fault_of h.kind h.length) (Ok h)
 
 -- a header: an ID of 16 bytes, a kind as descriptors store it, and a valid length that four bytes hold
 pub record IsHeader (h : Header) : Type 0 where

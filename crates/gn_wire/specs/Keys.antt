@@ -20,13 +20,9 @@ kind_numbers Query = 3 ∷ []
 kind_numbers QueryHit = 4 ∷ []
 kind_numbers (Unknown code) = 5 ∷ code ∷ []
 
--- a key as numbers: its kind's, then its ID
-abbrev pub key_numbers : Key → List ℕ
-key_numbers key = kind_numbers key.kind ++ key.id.0
-
 -- two keys are the same where kind and ID are
 abbrev pub is_same_key : Key → Key → Bool
-is_same_key a b = pointwise nat_eq (key_numbers a) (key_numbers b)
+is_same_key a b = pointwise nat_eq (kind_numbers a.kind ++ a.id.0) (kind_numbers b.kind ++ b.id.0)
 
 -- what a descriptor is remembered by
 abbrev pub key_of : Packet → Key

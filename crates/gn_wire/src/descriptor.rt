@@ -1,6 +1,7 @@
 //! A descriptor: its header's fields and its payload, of a valid length.
 
-ghost use Rattle.std.specs.Prelude.{◌≡◌, ◌<◌, ◌+◌, ◌++◌, length, take, None, IsTrue, ◌↔◌, MatchOption, true, false, IfOk, OnOk, OnErr, vec_len, vec_capacity};
+ghost use Rattle.std.specs.Prelude.{◌≡◌, ◌<◌, ◌+◌, ◌++◌, length, take, None, IsTrue, ◌↔◌, MatchOption, Ok, Err, true, false, IfOk, OnOk, OnErr, vec_len, vec_capacity};
+ghost use Rattle.std.specs.Option.{option_map_or};
 
 use crate::append::whole_or_none;
 use crate::header::{FrameFault, Header, length_fault, write_header};
@@ -21,11 +22,9 @@ pub struct Descriptor<A: Allocator = Global> {
 }
 
 impl<A: Allocator> Model for Descriptor<A> {
-    ghost use Rattle.gn_wire.specs.Packet.{Packet};
+    ghost use Rattle.gn_wire.specs.Packet.{IsDescriptor, Packet};
 
     ghost Value = { Packet };
-
-    ghost use Rattle.gn_wire.specs.Lengths.{IsDescriptor};
 
     ghost view = { λ d. record { id = d.id; kind = d.kind; ttl = d.ttl; hops = d.hops; payload = d.payload } };
 
@@ -34,11 +33,8 @@ impl<A: Allocator> Model for Descriptor<A> {
 }
 
 impl<A: Allocator> Descriptor<A> {
-    ghost use Rattle.gn_wire.specs.Forward.{forward_of, is_expired, life_left};
+    ghost use Rattle.gn_wire.specs.Packet.{IsDescriptor, IsStored, Packet, code_of, fault_of, forward_of, is_expired, kind_of, life_left, packet_fault};
     ghost use Rattle.gn_wire.specs.Keys.{is_same_packet, key_of};
-    ghost use Rattle.gn_wire.specs.Kinds.{IsStored, code_of, kind_of};
-    ghost use Rattle.gn_wire.specs.Lengths.{IsDescriptor, fault_of, packet_fault, unless_fault};
-    ghost use Rattle.gn_wire.specs.Packet.{Packet};
     ghost use Rattle.gn_wire.specs.Encoding.{bytes_of, header_of, packet_from};
 
     /// A descriptor of these parts, where the payload's length is valid; else the fault. The kind is kept as the one
@@ -52,7 +48,7 @@ impl<A: Allocator> Descriptor<A> {
     ) -> Result<Self, FrameFault>
         ensures { let kind = kind_of (code_of kind) in
             let d : Packet = record { id = id; kind = kind; ttl = ttl; hops = hops; payload = payload } in
-            result ≡ unless_fault (packet_fault d) d }
+            result ≡ option_map_or Err (packet_fault d) (Ok d) }
     {
         let kind = Kind::of(kind.code());
         let length = u32::try_from(payload.len()).unwrap_or(u32::MAX);
@@ -72,7 +68,7 @@ impl<A: Allocator> Descriptor<A> {
     /// the header says isn't looked at.
     pub fn from_header(header: Header, payload: Bytes<A>) -> Result<Self, FrameFault>
         ensures { let d = packet_from (record header { kind = kind_of (code_of header.kind) }) payload in
-            result ≡ unless_fault (packet_fault d) d }
+            result ≡ option_map_or Err (packet_fault d) (Ok d) }
     {
         Descriptor::new(header.id, header.kind, header.ttl, header.hops, payload)
     }

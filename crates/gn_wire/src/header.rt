@@ -1,7 +1,7 @@
 //! The 23 bytes that a descriptor begins with.
 
 ghost use Rattle.std.specs.Prelude.{◌≡◌, IfOk};
-ghost use Rattle.gn_wire.specs.Lengths.{fault_of};
+ghost use Rattle.gn_wire.specs.Packet.{fault_of};
 ghost use Rattle.gn_wire.specs.Encoding.{IsHeader, header_at, header_bytes, reading};
 
 use crate::kind::{Guid, Kind};

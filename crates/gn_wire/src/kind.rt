@@ -1,7 +1,7 @@
 //! What a descriptor is, and the ID that its sender gave it.
 
 ghost use Rattle.std.specs.Prelude.{◌≡◌};
-ghost use Rattle.gn_wire.specs.Kinds.{code_of, kind_of};
+ghost use Rattle.gn_wire.specs.Packet.{code_of, kind_of};
 
 /// The 16 bytes of an ID: a descriptor's, or a servent's.
 #[derive(Clone, Copy, Debug, PartialEq, Eq, Hash)]

@@ -1,6 +1,6 @@
 -- What clap's words mean for this command.
 use Rattle.std.proofs.Common.{◌≡◌, ◌∙◌, ◌&&◌, inl, inr, refl, sym, subst, true≢false, ap, Bool, true, false, List, [], ◌∷◌, Option, Some, None}
-use Rattle.std.specs.Prelude.{Box, codes, is_some, map, option_and_then, option_map, not, unwrap_or, if◌then◌else◌}
+use Rattle.std.specs.Prelude.{Box, Err, IfOk, IsOkAnd, Ok, Result, codes, is_some, map, option_and_then, option_map, not, unwrap_or, if◌then◌else◌}
 use Rattle.std.specs.Box.{box_value}
 use Rattle.std.specs.Borrow.{Bor}
 use Rattle.std.specs.Option.{option_map_or}
@@ -10,7 +10,7 @@ use Rattle.clap.specs.Simple.{subcommand_rows}
 use Rattle.clap.specs.Walk.{first_of, rows_of}
 use Rattle.clap.specs.Kinds.{HasKind, IsAmong, Kinds, or_else}
 use Rattle.clap.specs.Values.{kind_of}
-use Rattle.clap.specs.Words.{App, HasMatchesOf, IsParsedFrom, Row, Text, app_of, is_simple, fault_of, subcommand_of, subcommand_rows_of}
+use Rattle.clap.specs.Words.{App, HasMatchesOf, IsParsedFrom, Row, Text, app_of, is_simple, fault_of, shape_of, subcommand_of, subcommand_rows_of, with_subcommand}
 use Rattle.clap.specs.Faults.{is_simple_and_free}
 use Rattle.clap.specs.declared.builder.command.Command.{Command}
 use Rattle.clap.specs.declared.builder.command.Command.TheViews.{out-Command}
@@ -59,6 +59,14 @@ plain_words = record {
   far = refl;
   long = λ peer. refl;
 }
+
+-- a subcommand that could be made stands after those before it
+pub subcommand_made : {E : Type 0} (old app sub : App) (made after : Result Command E) → old ≡ app → IfOk made (λ c. app_of c ≡ sub)
+    → IfOk after (λ both. IsOkAnd made (λ c. app_of both ≡ with_subcommand old (shape_of c))) → IfOk after (λ both. app_of both ≡ with_subcommand app sub.top)
+subcommand_made old app sub (Ok c) (Ok both) is known more =
+    more ∙ ap (λ s. with_subcommand old s) (ap (λ (a : App). a.top) known) ∙ ap (λ a. with_subcommand a sub.top) is
+subcommand_made old app sub (Err e) (Ok both) is known more = absurd more
+subcommand_made old app sub made (Err e) is known more = tt
 
 -- a flag's value, as it is got, says whether the flag is set
 pub flag_read : (o : Option (Bor Text)) (f : Found) (id : Text) → option_map (λ s. s.now) o ≡ first_value f id

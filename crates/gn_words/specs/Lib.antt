@@ -1,3 +1,4 @@
+-- What is promised: contracts of public functions rest on it.
 pub mod Options
-pub mod Serving
+pub mod ServeOptions
 pub mod Words

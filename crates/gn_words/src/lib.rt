@@ -8,5 +8,5 @@ mod shown;
 mod unread;
 mod words;
 
-pub use request::{Peer, Request, Serving};
+pub use request::{Peer, Request, ServeOptions};
 pub use words::{plain_words_are_read, read_words};

@@ -5,24 +5,10 @@ ghost use Rattle.std.specs.List.{slice_split};
 ghost use Rattle.clap.specs.Words.{found_of, rows_of};
 ghost use Rattle.gn_rules.specs.Limits.{IsWithin, most};
 ghost use Rattle.gn_text.specs.Bytes.{guid_of};
-ghost use Rattle.gn_words.specs.Options.{
-  IsReadAs,
-  limits_of,
-  number_asked,
-  number_between,
-  peer_at,
-  peer_of,
-  peer_of_parts,
-  peers_after,
-  peers_in,
-  peers_of,
-  servent_of,
-  serving_of,
-  workers_of,
-};
+ghost use Rattle.gn_words.specs.Options.{IsReadAs, limits_of, number_asked, number_between, peer_at, peer_of, peer_of_parts, peers_after, peers_in, peers_of, servent_of, serving_of, workers_of};
 
 use crate::help;
-use crate::request::{Peer, Serving};
+use crate::request::{Peer, ServeOptions};
 use crate::unread::Unread;
 use crate::words::is_set;
 use clap::ArgMatches;
@@ -248,7 +234,7 @@ fn limits_of(options: &ArgMatches<'_>) -> Result<Limits, Unread>
 }
 
 /// What the options of a serve ask for, where each is within its limits.
-pub(crate) fn serving_of(alloc: Global, options: &ArgMatches<'_>) -> Result<Serving, Unread>
+pub(crate) fn serving_of(alloc: Global, options: &ArgMatches<'_>) -> Result<ServeOptions, Unread>
     ensures { IsReadAs (λ s. s) (serving_of (rows_of (found_of options.now))) result }
 {
     let port = port_of(options)?;
@@ -257,7 +243,7 @@ pub(crate) fn serving_of(alloc: Global, options: &ArgMatches<'_>) -> Result<Serv
     let servent = servent_of(options)?;
     let peers = peers_of(alloc, options)?;
     let limits = limits_of(options)?;
-    Ok(Serving {
+    Ok(ServeOptions {
         port,
         accept,
         workers,

@@ -22,7 +22,7 @@ pub enum Request {
     /// The same, and how far the run is is said as it goes on.
     Watched(u32),
     /// A router is run over TCP, and its history is written.
-    Serve(Serving),
+    Serve(ServeOptions),
 }
 
 /// A peer on this machine, which is called.
@@ -35,7 +35,7 @@ pub struct Peer {
 
 /// A run over TCP, as its options ask for it.
 #[derive(Debug, Drop)]
-pub struct Serving {
+pub struct ServeOptions {
     /// The port that the router listens on.
     pub port: u16,
     /// How many peers may call.
@@ -70,10 +70,10 @@ pub struct Serving {
     pub progress: bool,
 }
 
-impl Model for Serving {
+impl Model for ServeOptions {
     ghost use Rattle.std.specs.Prelude.{◌+◌, ◌≤◌, length};
     ghost use Rattle.gn_rules.specs.Limits.{IsCrew, IsWithin, most, most_links};
-    ghost use Rattle.gn_words.specs.Serving.{AskedServe};
+    ghost use Rattle.gn_words.specs.ServeOptions.{AskedServe};
 
     ghost Value = { AskedServe };
 

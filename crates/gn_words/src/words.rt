@@ -1,34 +1,24 @@
 //! The words of a command line.
 
-ghost use Rattle.std.specs.Prelude.{◌≡◌, Some, IfOk, IfErr, codes, map, false};
+ghost use Rattle.std.specs.Prelude.{◌≡◌, Some, IfOk, IfErr, IsOkAnd, codes, map, false};
 ghost use Rattle.std.specs.Option.{option_map_or};
 ghost use Rattle.std.specs.Str.{bytes_eq};
-ghost use Rattle.clap.specs.Words.{app_of, found_of, kind_of, new_app, rows_of, rule_of, with_rule, HasKind};
+ghost use Rattle.clap.specs.Words.{
+  app_of,
+  found_of,
+  kind_of,
+  new_app,
+  rows_of,
+  rule_of,
+  shape_of,
+  with_rule,
+  with_subcommand,
+  HasKind,
+};
 ghost use Rattle.clap.specs.declared.builder.command.Command.TheViews.{out-Command as fields_of};
 ghost use Rattle.clap.specs.declared.error.kind.ErrorKind.TheVariants.{ValueValidation};
 ghost use Rattle.gn_words.specs.Options.{IsReadAs, is_set};
-ghost use Rattle.gn_words.specs.Words.{
-  PlainWordsAreRead,
-  audit_app,
-  bare_app,
-  calling_app,
-  default_rule,
-  flag_rule,
-  gn_app,
-  kinds_of,
-  limited_app,
-  load_app,
-  repeated_rule,
-  replay_app,
-  ruled_app,
-  request_named,
-  request_of,
-  serve_app,
-  served_app,
-  stopped_app,
-  texts_app,
-  value_rule,
-};
+ghost use Rattle.gn_words.specs.Words.{PlainWordsAreRead, audit_app, bare_app, calling_app, default_rule, flag_rule, gn_app, kinds_of, limited_app, load_app, repeated_rule, replay_app, ruled_app, request_named, request_of, serve_app, served_app, stopped_app, texts_app, value_rule};
 
 use crate::help;
 use crate::options::{serving_of, workers_of};
@@ -257,22 +247,41 @@ fn bare_command<'a>(alloc: Global) -> Command<'a>
         .subcommand_required(true)
 }
 
+/// A command with one subcommand more, where that could be made.
+fn with_subcommand<'a>(
+    command: Command<'a>,
+    made: Result<Command<'a>, AllocError>,
+) -> Result<Command<'a>, AllocError>
+    requires globals { IfOk made (λ subcommand. (fields_of subcommand).has_globals ≡ false) }
+    ensures { IfOk result (λ both. IsOkAnd made.entry (λ subcommand.
+        app_of both ≡ with_subcommand (app_of command.entry) (shape_of subcommand))) }
+{
+    match made {
+        Ok(subcommand) => command.subcommand(subcommand),
+        Err(fault) => {
+            drop(command);
+            Err(fault)
+        }
+    }
+}
+
 /// The command `gn` with its subcommands that start no threads.
 fn texts_command<'a>(alloc: Global) -> Result<Command<'a>, AllocError>
     ensures { IfOk result (λ command. app_of command ≡ texts_app) }
 {
-    bare_command(alloc)
-        .subcommand(replay_command(alloc)?)?
-        .subcommand(audit_command(alloc)?)?
-        .subcommand(show_command(alloc)?)
+    let replays = with_subcommand(bare_command(alloc), replay_command(alloc))?;
+    let audits = with_subcommand(replays, audit_command(alloc))?;
+    let shows = with_subcommand(audits, show_command(alloc))?;
+    Ok(shows)
 }
 
 fn gn_command<'a>(alloc: Global) -> Result<Command<'a>, AllocError>
     ensures { IfOk result (λ command. app_of command ≡ gn_app) }
 {
-    texts_command(alloc)?
-        .subcommand(load_command(alloc)?)?
-        .subcommand(serve_command(alloc)?)
+    let texts = texts_command(alloc)?;
+    let loads = with_subcommand(texts, load_command(alloc))?;
+    let serves = with_subcommand(loads, serve_command(alloc))?;
+    Ok(serves)
 }
 
 fn is_true(value: Option<&str>) -> bool
@@ -311,12 +320,15 @@ fn request_named(alloc: Global, name: &str, options: &ArgMatches<'_>) -> Result<
 fn mistake(alloc: Global, name: &str, text: &str) -> Result<Error, AllocError>
     ensures { IfOk result (λ error. kind_of error ≡ ValueValidation) }
 {
-    let mut command = match name {
-        "show" => show_command(alloc)?,
-        "serve" => serve_command(alloc)?,
-        _ => load_command(alloc)?,
+    let made = match name {
+        "show" => show_command(alloc),
+        "serve" => serve_command(alloc),
+        _ => load_command(alloc),
     };
-    command.error(ErrorKind::ValueValidation, text)
+    let mut command = made?;
+    let error = command.error(ErrorKind::ValueValidation, text);
+    drop(command);
+    error
 }
 
 /// What the words ask for, the first of them the program's name. An `Err` says what else they are: a call for help or

@@ -3,5 +3,4 @@
 pub use Rattle.gn_links.specs.Halves
 pub use Rattle.gn_links.specs.Memory
 pub use Rattle.gn_links.specs.Split
-pub use Rattle.gn_links.specs.Views
 pub use Rattle.gn_tcp.specs.Tcp

@@ -2,5 +2,5 @@
 
 pub use Rattle.gn_program.specs.Commands
 pub use Rattle.gn_words.specs.Options
-pub use Rattle.gn_words.specs.Serving
+pub use Rattle.gn_words.specs.ServeOptions
 pub use Rattle.gn_words.specs.Words

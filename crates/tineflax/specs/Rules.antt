@@ -7,11 +7,8 @@ pub use Rattle.gn_rules.specs.Flight
 pub use Rattle.gn_rules.specs.History
 pub use Rattle.gn_rules.specs.Kept
 pub use Rattle.gn_rules.specs.Laws
-pub use Rattle.gn_rules.specs.Legal
 pub use Rattle.gn_rules.specs.Legality
 pub use Rattle.gn_rules.specs.Limits
-pub use Rattle.gn_rules.specs.Live
-pub use Rattle.gn_rules.specs.Mine
 pub use Rattle.gn_rules.specs.Output
 pub use Rattle.gn_rules.specs.Runs
 pub use Rattle.gn_rules.specs.SeenEntries

@@ -1,5 +1,5 @@
 use Rattle.std.proofs.Common.{take, reverse}
-use Rattle.gn_rules.specs.Legal.{IsLegal}
+use Rattle.gn_rules.specs.Answer.{IsLegal}
 use Rattle.gn_legal.proofs.legal.Given as goal
 
 abbrev pub invariant-loop-i : goal.invariant-loop-i

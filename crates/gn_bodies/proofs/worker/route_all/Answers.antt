@@ -1,8 +1,18 @@
-use Rattle.std.proofs.Common.{◌∙◌, ap}
+use Rattle.std.proofs.Common.{◌∙◌, ap, refl}
+use Rattle.gn_bodies.specs.Events.{link_events}
 use Rattle.gn_bodies.specs.Jobs.{routes_of}
 use Rattle.gn_bodies.proofs.EventLemmas.{link_events-route, number-route}
-use Rattle.gn_bodies.proofs.JobLemmas.{routes_more}
+use Rattle.gn_bodies.proofs.JobLemmas.{routes_more, routes_none}
+use Rattle.gn_bodies.proofs.ReadingLemmas.{none_done}
 use Rattle.gn_bodies.proofs.worker.route_all.Goals as goal
+
+pub loop-init : goal.loop-init
+loop-init g c = record {
+  number = refl;
+  home = refl;
+  routes = none_done c.args.me.now c.requires.none;
+  each = λ _. routes_none (routes_of c.args.outlet.now.jobs) c.args.me.now c.requires.none;
+}
 
 pub loop-preserved : goal.loop-preserved
 loop-preserved g c =
@@ -16,3 +26,22 @@ loop-preserved g c =
       routes = link_events-route job.ticket c.loop.me c.route_job.new.me routed ∙ was.routes;
       each = λ clean. routes_more (routes_of c.args.outlet.now.jobs) job c.loop.outlet c.take.new.self c.loop.me c.route_job.new.me taken routed (was.each clean);
     }
+
+pub loop-preserved-in-Err : goal.loop-preserved-in-Err
+loop-preserved-in-Err g c =
+    let was = c.loop.invariant in
+    record {
+      number = ap (λ w. w.number) c.in-Err.ensures ∙ was.number;
+      home = ap (λ outlet. outlet.number) c.in-Some-take.ensures ∙ was.home;
+      routes = ap link_events c.in-Err.ensures ∙ was.routes;
+      each = λ clean. absurd (cc);
+    }
+
+pub returns-then-is_stop-clause-number : goal.returns-then-is_stop-clause-number
+returns-then-is_stop-clause-number g c = ap (λ w. w.number) c.in-Err.ensures ∙ c.loop.invariant.number
+
+pub returns-then-is_stop-clause-home : goal.returns-then-is_stop-clause-home
+returns-then-is_stop-clause-home g c = ap (λ outlet. outlet.number) c.in-Some-take.ensures ∙ c.loop.invariant.home
+
+pub returns-then-is_stop-clause-routes : goal.returns-then-is_stop-clause-routes
+returns-then-is_stop-clause-routes g c = ap link_events c.in-Err.ensures ∙ c.loop.invariant.routes

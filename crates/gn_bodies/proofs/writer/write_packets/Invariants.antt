@@ -1,7 +1,8 @@
 use Rattle.std.proofs.Common.{◌≡◌, true}
 use Rattle.std.specs.List.{concat}
 use Rattle.gn_bodies.specs.Events.{packets_of}
-use Rattle.gn_bodies.specs.Written.{AreTakes, texts}
+use Rattle.gn_bodies.specs.Written.{AreTakes}
+use Rattle.gn_bodies.proofs.WrittenLemmas.{texts}
 use Rattle.gn_bodies.proofs.writer.write_packets.Given as goal
 
 abbrev pub invariant-loop : goal.invariant-loop

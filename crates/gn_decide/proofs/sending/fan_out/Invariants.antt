@@ -1,6 +1,6 @@
 use Rattle.std.proofs.Common.{◌≡◌}
 use Rattle.std.specs.List.{fold}
-use Rattle.gn_rules.specs.Live.{live_connections}
+use Rattle.gn_rules.specs.History.{live_connections}
 use Rattle.gn_decide.specs.Made.{made_packet}
 use Rattle.gn_decide.specs.Others.{to_others}
 use Rattle.gn_decide.proofs.sending.fan_out.Given as goal

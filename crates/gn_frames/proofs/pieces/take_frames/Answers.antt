@@ -1,5 +1,5 @@
 use Rattle.std.proofs.Common.{sym, ap, ◌∙◌}
-use Rattle.gn_frames.specs.Head.{head_of}
+use Rattle.gn_frames.specs.Frames.{head_of}
 use Rattle.gn_frames.proofs.PiecesLemmas.{taken_open, taken_faulty}
 use Rattle.gn_frames.proofs.pieces.take_frames.Goals as goal
 

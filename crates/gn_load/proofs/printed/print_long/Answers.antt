@@ -1,4 +1,4 @@
-use Rattle.std.proofs.Common.{refl, ◌++◌, ◌∙◌}
+use Rattle.std.proofs.Common.{refl}
 use Rattle.gn_load.proofs.PrintLemmas.{both_written, cause_handed, on_err, part_of, then_cut}
 use Rattle.gn_load.specs.declared.printed.PrintFault.TheVariants.{Write}
 use Rattle.gn_load.proofs.printed.print_long.Goals as goal

@@ -1,6 +1,8 @@
 use Rattle.std.proofs.Common.{length, inr, subst}
+use Rattle.std.specs.Io.KnownBytes.{Appends}
+use Rattle.gn_capture.specs.Histories.{history_text}
 use Rattle.gn_load.specs.Printed.{IsPrintFault}
-use Rattle.gn_load.proofs.ServedLemmas.{kept_written, written, written_part}
+use Rattle.gn_load.proofs.ServedLemmas.{kept_written, memory_is_other, run_is, write_is_other, written, written_part}
 use Rattle.gn_load.proofs.served.serve_history.Goals as goal
 
 pub returns-in-Ok-print_history-clause-written : goal.returns-in-Ok-print_history-clause-written
@@ -16,7 +18,7 @@ returns-in-Ok-print_history-clause-written g c =
 pub returns-in-Err-clause-stopped : goal.returns-in-Err-clause-stopped
 returns-in-Err-clause-stopped g c =
     kept_written g.row.A.Denot c.args.serving.now.is_kept c.args.config.now (length c.args.peers.now) c.args.accept c.args.workers c.in-Err.field-0.fault
-    (g.W.Sink.state c.args.sink.now).written (g.W.Sink.state c.keep.new.sink).written c.keep.ensures
+    (g.W.Sink.state c.args.sink.now).written (g.W.Sink.state c.print_kept.new.sink).written c.print_kept.ensures
 
 pub returns-in-Err-Write-clause-fault : goal.returns-in-Err-Write-clause-fault
 returns-in-Err-Write-clause-fault g c = λ crew.
@@ -41,3 +43,26 @@ returns-clause-stopped g c =
     inr (written_part config calls c.args.accept report c.args.workers
     ran.holds c.deref.result.now
     (g.W.Sink.state c.args.sink.now).written (g.W.Sink.state c.print_history.new.sink).written c.deref.ensures.value c.in-Err-NoMemory.ensures.err)
+
+pub returns-in-Err-clause-bad_workers : goal.returns-in-Err-clause-bad_workers
+returns-in-Err-clause-bad_workers g c = run_is c.in-Err.field-0.fault _ c.in-Err.ensures.bad_workers
+
+pub returns-in-Err-clause-fault : goal.returns-in-Err-clause-fault
+returns-in-Err-clause-fault g c = c.in-Err.ensures.fault
+
+pub returns-in-Ok-print_history-clause-workers : goal.returns-in-Ok-print_history-clause-workers
+returns-in-Ok-print_history-clause-workers g c = c.in-Ok.ensures.workers
+
+pub returns-in-Ok-print_history-clause-report : goal.returns-in-Ok-print_history-clause-report
+returns-in-Ok-print_history-clause-report g c =
+    subst (λ steps. Appends (g.W.Sink.state c.args.sink.now).written (g.W.Sink.state c.print_history.new.sink).written (history_text c.args.config.now steps)) c.deref.ensures.value
+    c.in-Ok-print_history.ensures.ok
+
+pub returns-in-Ok-print_history-clause-unfailed : goal.returns-in-Ok-print_history-clause-unfailed
+returns-in-Ok-print_history-clause-unfailed g c = c.in-Ok-print_history.ensures.unfailed
+
+pub returns-in-Err-Write-clause-bad_workers : goal.returns-in-Err-Write-clause-bad_workers
+returns-in-Err-Write-clause-bad_workers g c = write_is_other c.args.workers c.in-Ok.ensures.workers
+
+pub returns-clause-bad_workers : goal.returns-clause-bad_workers
+returns-clause-bad_workers g c = memory_is_other c.args.workers c.in-Ok.ensures.workers

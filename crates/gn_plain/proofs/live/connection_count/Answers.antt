@@ -1,5 +1,5 @@
 use Rattle.std.proofs.Common.{◌∙◌, ap, arith, is_some, length}
-use Rattle.gn_rules.specs.Live.{connections}
+use Rattle.gn_rules.specs.History.{connections}
 use Rattle.gn_plain.proofs.CountLemmas.{at_most_one, connections_more, one_if, walked}
 use Rattle.gn_plain.proofs.live.connection_count.Goals as goal
 

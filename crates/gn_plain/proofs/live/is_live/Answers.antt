@@ -1,6 +1,5 @@
 use Rattle.std.proofs.Common.{◌∙◌, ◌||◌, ◌&&◌, ap, not}
-use Rattle.gn_rules.specs.History.{connected_of, is_at, is_close}
-use Rattle.gn_rules.specs.Live.{live}
+use Rattle.gn_rules.specs.History.{connected_of, is_at, is_close, live}
 use Rattle.gn_plain.proofs.CountLemmas.{test_more, walked}
 use Rattle.gn_plain.proofs.live.is_live.Goals as goal
 

@@ -1,5 +1,5 @@
 use Rattle.std.proofs.Common.{◌∙◌, ap, arith, filter, length, reverse}
-use Rattle.gn_rules.specs.Live.{connections, live}
+use Rattle.gn_rules.specs.History.{connections, live}
 use Rattle.gn_plain.proofs.CountLemmas.{at_most_one, connections_more_of, one_if, walked}
 use Rattle.gn_plain.proofs.live.live_count.Goals as goal
 

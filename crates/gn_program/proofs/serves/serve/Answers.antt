@@ -3,7 +3,7 @@ use Rattle.std.specs.declared.alloc.Global.{Global}
 use Rattle.gn_load.specs.Served.{HasServeStopped}
 use Rattle.gn_threads.specs.declared.fault.RunFault.TheVariants.{Listen, NoMemory}
 use Rattle.gn_program.specs.Commands.{IsServing}
-use Rattle.gn_words.specs.Serving.{AskedServe}
+use Rattle.gn_words.specs.ServeOptions.{AskedServe}
 use Rattle.gn_program.proofs.ServeLemmas.{answered, failed, unserved}
 use Rattle.gn_program.proofs.serves.serve.Goals as goal
 

@@ -2,9 +2,10 @@ use Rattle.std.proofs.Common.{◌≡◌, ◌≤◌, ◌∙◌, ap, subst, sym, t
 use Rattle.std.specs.List.{count_by, list_all}
 use Rattle.std.proofs.lemmas.Bool.{le-leb, leb-true}
 use Rattle.gn_rules.specs.declared.receipt.Receipt.{Receipt}
-use Rattle.gn_rules.specs.Mine.{mine}
+use Rattle.gn_rules.specs.History.{mine}
 use Rattle.gn_laws.specs.Owners.{is_readers}
-use Rattle.gn_report.specs.BodyEnds.{conn_made, is_connect, is_reader_end}
+use Rattle.gn_report.specs.BodyEnds.{is_connect, is_reader_end}
+use Rattle.gn_report.proofs.ConnLemmas.{conn_made}
 use Rattle.gn_report.proofs.ComparedLemmas.{clash, reader_by_end}
 use Rattle.gn_report.proofs.compared.is_reader_confirmed.Goals as goal
 use Rattle.gn_report.proofs.compared.is_reader_confirmed.Goals.{then-is_own, else-is_own, then-is_same_conn, else-is_same_conn, then-are_readers, else-are_readers}

@@ -2,7 +2,7 @@ use Rattle.std.proofs.Common.{◌≡◌, ◌∙◌, List, ap, sym, true}
 use Rattle.std.specs.List.{list_all}
 use Rattle.gn_rules.specs.declared.receipt.Receipt.{Receipt}
 use Rattle.gn_rules.specs.declared.receipt.Step.{Step}
-use Rattle.gn_rules.specs.Mine.{mine}
+use Rattle.gn_rules.specs.History.{mine}
 use Rattle.gn_laws.specs.Owners.{is_writers}
 use Rattle.gn_report.specs.BodyEnds.{is_settled}
 use Rattle.gn_report.proofs.ComparedLemmas.{clash, writer_by_end}

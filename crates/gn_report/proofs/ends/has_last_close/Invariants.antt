@@ -1,6 +1,7 @@
 use Rattle.std.proofs.Common.{◌≡◌, drop}
 use Rattle.std.specs.List.{list_any}
-use Rattle.gn_report.specs.BodyEnds.{is_settled, is_last_close}
+use Rattle.gn_report.specs.BodyEnds.{is_settled}
+use Rattle.gn_report.proofs.ComparedLemmas.{is_last_close}
 use Rattle.gn_report.proofs.ends.has_last_close.Given as goal
 
 abbrev pub invariant-loop-receipt : goal.invariant-loop-receipt

@@ -1,7 +1,7 @@
 use Rattle.std.proofs.Common.{◌∙◌, ◌+◌, ap, drop, refl, sym}
 use Rattle.std.specs.Option.{option_or}
 use Rattle.std.proofs.lemmas.List.{at_drop_all}
-use Rattle.gn_report.specs.BodyEnds.{conn_made}
+use Rattle.gn_report.proofs.ConnLemmas.{conn_made}
 use Rattle.gn_report.proofs.ComparedLemmas.{made_here}
 use Rattle.gn_report.proofs.events.conn_of.Goals as goal
 

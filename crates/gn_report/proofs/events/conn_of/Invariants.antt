@@ -1,5 +1,5 @@
 use Rattle.std.proofs.Common.{◌≡◌, drop}
-use Rattle.gn_report.specs.BodyEnds.{conn_made}
+use Rattle.gn_report.proofs.ConnLemmas.{conn_made}
 use Rattle.gn_report.proofs.events.conn_of.Given as goal
 
 abbrev pub invariant-loop-r : goal.invariant-loop-r

@@ -1,5 +1,5 @@
 use Rattle.std.proofs.Common.{◌≡◌, ◌+◌, ◌-◌, drop, length}
-use Rattle.gn_shake.specs.Greeting.{matching}
+use Rattle.gn_shake.specs.Shaking.{matching}
 use Rattle.gn_shake.proofs.shake.common_length.Given as goal
 
 abbrev pub invariant-loop-n : goal.invariant-loop-n

@@ -1,5 +1,5 @@
 use Rattle.std.proofs.Common.{◌∙◌, reverse, sym, subst}
-use Rattle.gn_rules.specs.Legal.{IsLegal}
+use Rattle.gn_rules.specs.Answer.{IsLegal}
 use Rattle.gn_threads.proofs.confirming.close.Goals as goal
 
 pub returns-clause-legal : goal.returns-clause-legal

@@ -3,8 +3,9 @@ use Rattle.std.specs.Prelude.{IfSome}
 use Rattle.gn_report.specs.Actors.{actors}
 use Rattle.gn_report.specs.BodyEnds.{is_settled}
 use Rattle.gn_report.specs.Flaw.{IsFlaw}
+use Rattle.gn_report.proofs.ConfirmedLemmas.{house_at, worker_at}
 use Rattle.gn_threads.proofs.FaultLemmas.{least_below}
-use Rattle.gn_threads.proofs.HoldsLemmas.{flaw_below, links_hold, others_route, own_steps, routes_each_once}
+use Rattle.gn_threads.proofs.HoldsLemmas.{flaw_below, links_hold, own_steps, routes_each_once}
 use Rattle.gn_threads.proofs.confirming.confirmed.Goals as goal
 
 pub returns-in-None-clause-holds : goal.returns-in-None-clause-holds
@@ -19,9 +20,11 @@ returns-in-None-clause-holds g c =
       legal = legal;
       counted = c.requires.counted.0;
       own = own_steps (is_settled it.history.items) roles it settled;
+      only = (house_at (is_settled it.history.items) roles it settled).only;
       each = (sym c.requires.roles, omega (arith, it.workers.ok));
       links = links_hold s g.Rd.LinkReader.state g.W.LinkWriter.state roles it legal settled c.requires.ends.readers c.requires.ends.writers;
-      others = others_route roles it settled;
+      worker = worker_at (is_settled it.history.items) roles it settled;
+      house = house_at (is_settled it.history.items) roles it settled;
       routed = routes_each_once s roles it legal settled;
       stats = c.requires.counted.1;
     }

@@ -2,6 +2,7 @@ use Rattle.std.proofs.Common.{◌∙◌, ◌+◌, length, vec_len, ap, arith}
 use Rattle.std.proofs.lemmas.Result.{IfOk-weaker}
 use Rattle.gn_threads.proofs.FaultLemmas.{answer_below, number_below}
 use Rattle.gn_threads.proofs.ReceiptLemmas.{receipts_counted}
+use Rattle.gn_threads.proofs.ReportedLemmas.{links_kept}
 use Rattle.gn_threads.proofs.confirming.report.Goals as goal
 
 pub confirmed-requires-clause-counted : goal.confirmed-requires-clause-counted
@@ -38,3 +39,18 @@ returns-clause-fault g c = c.confirmed.ensures.fault
 
 pub returns-clause-holds : goal.returns-clause-holds
 returns-clause-holds g c = c.confirmed.ensures.holds
+
+pub overflow_cast-number : goal.overflow_cast-number
+overflow_cast-number g c = omega (arith, c.requires.counted.each.0, c.requires.counted.few.0, c.len.ensures)
+
+pub overflow_mul-number : goal.overflow_mul-number
+overflow_mul-number g c = omega (arith, c.requires.counted.each.0, c.requires.counted.few.0, c.len.ensures)
+
+pub overflow_cast-number-2 : goal.overflow_cast-number-2
+overflow_cast-number-2 g c = omega (arith, c.requires.counted.few.1, c.len-2.ensures)
+
+pub overflow_add-number : goal.overflow_add-number
+overflow_add-number g c = omega (arith, c.requires.counted.each.0, c.requires.counted.few.0, c.requires.counted.few.1, c.len.ensures, c.len-2.ensures)
+
+pub returns-clause-links : goal.returns-clause-links
+returns-clause-links g c = links_kept c.confirmed.result _ _ c.confirmed.ensures.same

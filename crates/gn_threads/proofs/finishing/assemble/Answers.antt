@@ -1,8 +1,9 @@
-use Rattle.std.proofs.Common.{◌∙◌, map, sym, subst, vec_len}
+use Rattle.std.proofs.Common.{◌∙◌, ap, arith, map, sym, subst, vec_len}
+use Rattle.std.proofs.lemmas.Result.{IfOk-weaker}
 use Rattle.gn_bodies.specs.Done.{halved, writer_ended}
 use Rattle.gn_threads.specs.Faults.{IsFaultOf}
 use Rattle.gn_threads.specs.Joined.{KeepEnds}
-use Rattle.gn_threads.specs.Reported.{reader_result, reader_reported, writer_reported}
+use Rattle.gn_threads.specs.Reported.{HasBodies, reader_result, reader_reported, writer_reported}
 use Rattle.gn_threads.proofs.FaultLemmas.{handed_on}
 use Rattle.gn_threads.proofs.JoinedLemmas.{known_alike}
 use Rattle.gn_threads.proofs.finishing.assemble.Goals as goal
@@ -35,3 +36,16 @@ returns-clause-holds g c = c.report.ensures.holds
 
 pub returns-clause-clean : goal.returns-clause-clean
 returns-clause-clean g c = c.report.ensures.clean
+
+pub report_links-requires : goal.report_links-requires
+report_links-requires g c = record {
+  many = c.requires.counted.each.1 ∙ sym c.requires.counted.each.0;
+  few = omega (arith, c.requires.counted.each.0, c.requires.counted.few.0);
+}
+
+pub returns-clause-bodies : goal.returns-clause-bodies
+returns-clause-bodies g c =
+    IfOk-weaker _ _ (λ report. HasBodies (map reader_result c.args.readers.items) (map writer_ended c.args.writers.items) report)
+    (λ report same.
+    record { readers = ap (λ ls. map reader_reported ls) same ∙ c.in_ok-linked.ensures.readers; writers = ap (λ ls. map writer_reported ls) same ∙ c.in_ok-linked.ensures.writers })
+    c.report.ensures.links

@@ -21,25 +21,25 @@ pub assemble-requires-clause-counted : goal.assemble-requires-clause-counted
 assemble-requires-clause-counted g c =
     let was = c.requires.counted in
     record {
-      few = (was.few.0, omega (arith, was.few.1, c.in_ok-worked.ensures.many));
-      each = (c.in_ok-readers.ensures.many ∙ was.each.0, was.each.1);
-      parts = omega (arith, was.parts, c.in_ok-worked.ensures.many);
+      few = (was.few.0, omega (arith, was.few.1, c.in-Ok-report_workers.ensures.many));
+      each = (c.in-Ok.ensures.many ∙ was.each.0, was.each.1);
+      parts = omega (arith, was.parts, c.in-Ok-report_workers.ensures.many);
     }
 
 pub assemble-requires-clause-ends : goal.assemble-requires-clause-ends
 assemble-requires-clause-ends g c =
     subst (λ bodies. KeepEnds c.args.roles.now bodies (map (λ d. halved g.W.LinkWriter.state (writer_ended d)) c.args.done.writers.items))
-    (sym (known_alike reader_result reader_ended (halved g.Rd.LinkReader.state) _ c.args.done.readers.items c.in_ok-readers.ensures.readers)) c.requires.ends
+    (sym (known_alike reader_result reader_ended (halved g.Rd.LinkReader.state) _ c.args.done.readers.items c.in-Ok.ensures.readers)) c.requires.ends
 
 pub assemble-requires-clause-unconfirmed : goal.assemble-requires-clause-unconfirmed
 assemble-requires-clause-unconfirmed g c =
-    let n = length c.args.roles.now + length c.args.roles.now + vec_len c.in_ok-worked.worked.receipts + 1 in
+    let n = length c.args.roles.now + length c.args.roles.now + vec_len c.in-Ok-report_workers.made.0.receipts + 1 in
     let long = ap length c.as_slice.ensures.value in
-    answer_below c.first_refused-worker.result c.in-Ok.idle c.least-unconfirmed.result n (below_more c.first_refused-worker.result _ n (omega (arith, long, c.args.done.workers.ok, c.in_ok-worked.ensures.many)) c.first_refused-worker.ensures.some)
-    (number_below c.in-Ok.idle _ n (omega (arith, c.len.ensures, c.in_ok-worked.ensures.many)) c.in-Ok.ensures.house) c.least-unconfirmed.ensures.some
+    answer_below c.first_refused-worker.result c.in-Ok-settle.idle c.least-unconfirmed.result n (below_more c.first_refused-worker.result _ n (omega (arith, long, c.args.done.workers.ok, c.in-Ok-report_workers.ensures.many)) c.first_refused-worker.ensures.some)
+    (number_below c.in-Ok-settle.idle _ n (omega (arith, c.len.ensures, c.in-Ok-report_workers.ensures.many)) c.in-Ok-settle.ensures.house) c.least-unconfirmed.ensures.some
 
 pub returns-clause-fault : goal.returns-clause-fault
-returns-clause-fault g c = subst (λ n. IfErr c.assemble.result (λ fault. IsFaultOf (length c.args.roles.now) n fault)) c.in_ok-worked.ensures.many c.assemble.ensures.fault
+returns-clause-fault g c = subst (λ n. IfErr c.assemble.result (λ fault. IsFaultOf (length c.args.roles.now) n fault)) c.in-Ok-report_workers.ensures.many c.assemble.ensures.fault
 
 pub returns-clause-clean : goal.returns-clause-clean
 returns-clause-clean g c =
@@ -49,8 +49,13 @@ returns-clause-clean g c =
 
 pub returns-clause-holds : goal.returns-clause-holds
 returns-clause-holds g c =
-    subst (λ n. IfOk c.assemble.result (λ report. Holds g.Rd.LinkReader.state g.W.LinkWriter.state c.args.config.now c.args.roles.now n report)) c.in_ok-worked.ensures.many c.assemble.ensures.holds
+    subst (λ n. IfOk c.assemble.result (λ report. Holds g.Rd.LinkReader.state g.W.LinkWriter.state c.args.config.now c.args.roles.now n report)) c.in-Ok-report_workers.ensures.many c.assemble.ensures.holds
 
 pub returns-clause-bodies : goal.returns-clause-bodies
 returns-clause-bodies g c =
-    subst (λ bodies. IfOk c.assemble.result (λ report. HasBodies bodies (map writer_ended c.args.done.writers.items) report)) c.in_ok-readers.ensures.readers c.assemble.ensures.bodies
+    subst (λ bodies. IfOk c.assemble.result (λ report. HasBodies bodies (map writer_ended c.args.done.writers.items) report)) c.in-Ok.ensures.readers c.assemble.ensures.bodies
+
+pub first_refused-worker-requires : goal.first_refused-worker-requires
+first_refused-worker-requires g c = record {
+  few = (omega (arith, c.len.ensures, c.requires.counted.few.0), omega (arith, ap length c.as_slice.ensures.value, c.args.done.workers.ok, c.requires.counted.few.1));
+}

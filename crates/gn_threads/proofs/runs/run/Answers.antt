@@ -1,4 +1,4 @@
-use Rattle.std.proofs.Common.{◌≡◌, length, map, ap, subst, sym, rules, ◌∙◌}
+use Rattle.std.proofs.Common.{◌≡◌, length, map, ap, arith, subst, sym, rules, ◌∙◌}
 use Rattle.std.specs.Prelude.{IfOk}
 use Rattle.std.specs.Vec.Iter.{into_iter_items}
 use Rattle.std.proofs.lemmas.List.{length-map}
@@ -29,7 +29,7 @@ returns-clause-holds g c =
 pub returns-clause-bytes : goal.returns-clause-bytes
 returns-clause-bytes g c =
     let origins = c.in_ok-split.ensures.made in
-    let gives : into_iter_items c.into_iter.result ≡ c.in_ok-split.split.links.items = search rules in
+    let gives : into_iter_items c.into_iter.result ≡ c.in_ok-split.split.links.items = c.into_iter.ensures.rest in
     let many = ap length (c.as_slice.ensures.value ∙ c.in_ok-split.ensures.roles) ∙ length-map c.args.links.items g.K.Link.role_of in
     let first = all_come g.K.Link.origin_of c.args.links.items (map (λ link. g.K.Reader.LinkReader.made_of link.reader) (into_iter_items c.into_iter.result)) _ (ap (λ ls. map (λ link. g.K.Reader.LinkReader.made_of link.reader) ls) gives ∙ origins) many in
     subst (λ sources. IfOk c.run_arriving.result (λ report. LinksReadOwn g.K.Reader.LinkReader.state sources report)) (ap (map g.K.Reader.LinkReader.gives) first ∙ map-map g.K.Reader.LinkReader.gives g.K.Link.origin_of c.args.links.items) c.run_arriving.ensures.bytes
@@ -37,7 +37,16 @@ returns-clause-bytes g c =
 pub returns-clause-made : goal.returns-clause-made
 returns-clause-made g c =
     let origins = c.in_ok-split.ensures.made in
-    let gives : into_iter_items c.into_iter.result ≡ c.in_ok-split.split.links.items = search rules in
+    let gives : into_iter_items c.into_iter.result ≡ c.in_ok-split.split.links.items = c.into_iter.ensures.rest in
     let many = ap length (c.as_slice.ensures.value ∙ c.in_ok-split.ensures.roles) ∙ length-map c.args.links.items g.K.Link.role_of in
     let first = all_come g.K.Link.origin_of c.args.links.items (map (λ link. g.K.Reader.LinkReader.made_of link.reader) (into_iter_items c.into_iter.result)) _ (ap (λ ls. map (λ link. g.K.Reader.LinkReader.made_of link.reader) ls) gives ∙ origins) many in
     subst (λ made. IfOk c.run_arriving.result (λ report. AreMadeOf g.K.Reader.LinkReader.made_of g.K.Writer.LinkWriter.made_of made report)) first c.run_arriving.ensures.made
+
+pub split_all-requires : goal.split_all-requires
+split_all-requires g c = record { few = omega (arith, c.requires.few) }
+
+pub returns-clause-workers : goal.returns-clause-workers
+returns-clause-workers g c = c.run_arriving.ensures.workers
+
+pub returns-clause-bad_workers : goal.returns-clause-bad_workers
+returns-clause-bad_workers g c = c.run_arriving.ensures.bad_workers

@@ -7,8 +7,8 @@ returns-in-None-clause-row g c role b row = unconnected_row role c.args.end c.ar
 
 pub returns-in-Some-clause-row : goal.returns-in-Some-clause-row
 returns-in-Some-clause-row g c role b row =
-    connected_row role c.args.end c.args.connection c.in-Some.c _ _ b c.in-Some.is (λ here. closed_row role c.args.end c.in-Some.c _ _ b (search rules) here c.close.ensures.closed) row
+    connected_row role c.args.end c.args.connection c.in-Some.c _ _ b c.in-Some.is (λ here. closed_row c.args.end c.in-Some.c _ _ _ (search rules) here c.close.ensures.closed) row
 
 pub returns-in-Some-2-clause-row : goal.returns-in-Some-2-clause-row
 returns-in-Some-2-clause-row g c role b row =
-    connected_row role c.args.end c.args.connection _ _ _ b c.in-Some-2.is (λ here. open_row role c.args.end _ _ b (search rules) here) row
+    connected_row role c.args.end c.args.connection _ _ _ b c.in-Some-2.is (λ here. open_row c.args.end _ _ _ (search rules) here) row

@@ -1,5 +1,5 @@
 use Rattle.std.proofs.Common.{rules, List, [], ℕ, sym, subst, append-nil}
-use Rattle.gn_shake.specs.Roles.{greeting_of}
+use Rattle.gn_shake.specs.Greeting.{greeting_of}
 use Rattle.gn_bodies.specs.Reading.{IsTaken}
 use Rattle.gn_bodies.proofs.ReadingLemmas.{accepted, just_joined}
 use Rattle.gn_bodies.proofs.handler.ReaderHandler.connect_and_take.Goals as goal

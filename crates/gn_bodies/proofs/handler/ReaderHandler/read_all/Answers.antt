@@ -2,6 +2,37 @@ use Rattle.std.proofs.Common.{rules, refl, ◌≡◌, ◌∙◌, ◌++◌, ap, s
 use Rattle.gn_bodies.proofs.ReadingLemmas.{alone_of_reading, bytes_not_failed, bytes_source, conn_of_reading, end_not_failed, ended_row, failed_row, nothing_read, turns_row}
 use Rattle.gn_bodies.proofs.handler.ReaderHandler.read_all.Goals as goal
 
+pub loop-init : goal.loop-init
+loop-init g c = record {
+  numbers = (refl, refl);
+  settled = λ jobs is. is;
+  has = c.in-More.ensures.piece.connection;
+  is = λ _. rw c.requires.new.none c.in-More.ensures.taken;
+  made = refl;
+  own = nothing_read (g.Rd.LinkReader.gives (g.Rd.LinkReader.made_of c.args.reader.now)) _ c.requires.new;
+  pieces = c.requires.new.unread;
+  failures = c.requires.new.unfailed;
+}
+
+pub loop-preserved : goal.loop-preserved
+loop-preserved g c =
+    let was = c.loop.invariant in
+    let before = g.Rd.LinkReader.state c.loop.reader in
+    let did = c.in-Ok.ensures.state in
+    let taken = c.in-More-take_bytes.ensures in
+    record {
+      numbers = (taken.piece.numbers.0 ∙ was.numbers.0, taken.piece.numbers.1 ∙ was.numbers.1);
+      settled = λ jobs is. taken.piece.settled jobs (was.settled jobs is);
+      has = taken.piece.connection;
+      is = λ known.
+          let is_known : before.is_known ≡ true = sym did.known ∙ known in
+          rw (did.bytes is_known) (taken.taken c.args.role before.bytes (was.is is_known));
+      made = c.read.ensures.made ∙ was.made;
+      own = c.read.ensures.prefix;
+      pieces = search rules;
+      failures = did.failures ∙ was.failures;
+    }
+
 pub returns-in-End-clause-read : goal.returns-in-End-clause-read
 returns-in-End-clause-read g c = record {
   connection = c.in-End.ensures.piece.connection;
@@ -15,7 +46,10 @@ pub returns-in-End-take_bytes-clause-read : goal.returns-in-End-take_bytes-claus
 returns-in-End-take_bytes-clause-read g c = record {
   connection = c.in-End-take_bytes.ensures.piece.connection;
   alone = c.in-End-take_bytes.ensures.piece.alone;
-  row = search rules;
+  row = λ known.
+      let before = g.Rd.LinkReader.state c.loop.reader in
+      let is_known : before.is_known ≡ true = sym c.in-Ok.ensures.state.known ∙ known in
+      rw (c.in-Ok.ensures.state.bytes is_known) (c.in-End-take_bytes.ensures.taken c.args.role before.bytes (c.loop.invariant.is is_known));
   counts = bytes_source c.in-End-take_bytes.end _ c.in-End-take_bytes.ensures.piece.ends;
   failed = bytes_not_failed c.in-End-take_bytes.end c.in-End-take_bytes.ensures.piece.ends;
 }

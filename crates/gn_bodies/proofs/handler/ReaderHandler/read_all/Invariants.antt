@@ -1,5 +1,5 @@
 use Rattle.std.proofs.Common.{◌≡◌, true}
-use Rattle.gn_links.specs.Views.{IsReadFrom}
+use Rattle.gn_links.specs.Halves.{IsReadFrom}
 use Rattle.gn_bodies.specs.Admitting.{HasSameNumbers, StaysSettled}
 use Rattle.gn_bodies.specs.Reading.{HasConnection, IsReading}
 use Rattle.gn_bodies.proofs.handler.ReaderHandler.read_all.Given as goal

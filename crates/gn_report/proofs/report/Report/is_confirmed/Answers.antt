@@ -1,6 +1,6 @@
 use Rattle.std.proofs.Common.{◌≡◌, ◌+◌, ◌∙◌, List, ap, arith, length, refl, rules, sym}
 use Rattle.gn_rules.specs.declared.receipt.Step.{Step}
-use Rattle.gn_rules.specs.Mine.{mine}
+use Rattle.gn_rules.specs.History.{mine}
 use Rattle.gn_report.specs.declared.report.LinkReport.{LinkReport}
 use Rattle.gn_report.specs.BodyEnds.{is_settled}
 use Rattle.gn_report.proofs.PlaceLemmas.{house_is, reader_is, worker_is, worker_own, writer_is, writer_own}

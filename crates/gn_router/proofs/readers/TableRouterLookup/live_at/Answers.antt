@@ -1,5 +1,5 @@
 use Rattle.std.proofs.Common.{◌∙◌, reverse}
-use Rattle.gn_rules.specs.Live.{live_connections}
+use Rattle.gn_rules.specs.History.{live_connections}
 use Rattle.gn_router.proofs.ReadLemmas.{item_at, alive, number_known}
 use Rattle.gn_router.proofs.readers.TableRouterLookup.live_at.Goals as goal
 

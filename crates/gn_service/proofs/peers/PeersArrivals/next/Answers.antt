@@ -1,4 +1,5 @@
 use Rattle.std.proofs.Common.{rules}
+use Rattle.gn_threads.proofs.FaultLemmas.{handed_on as fault_of}
 use Rattle.gn_service.proofs.FaultLemmas.{handed_on}
 use Rattle.gn_service.proofs.RoleLemmas.{one_left}
 use Rattle.gn_service.proofs.peers.PeersArrivals.next.Goals as goal
@@ -9,3 +10,6 @@ returns-clause-made g c = (one_left c.args.self.now.called.now c.args.self.now.n
 pub returns-in_err-register-clause-fault : goal.returns-in_err-register-clause-fault
 returns-in_err-register-clause-fault g c =
     handed_on c.args.link c.from_residual-in_err-register.result c.in_err-register.field-0.0 c.from_residual-in_err-register.ensures.1 c.in_err-register.ensures
+
+pub returns-in_err-meet-clause-fault : goal.returns-in_err-meet-clause-fault
+returns-in_err-meet-clause-fault g c = fault_of _ c.from_residual.result _ c.from_residual.ensures.1 c.in_err-meet.ensures.fault

@@ -59,3 +59,6 @@ returns-clause-written g c = c.loop-reading.invariant.written
 
 pub returns-clause-workers : goal.returns-clause-workers
 returns-clause-workers g c = c.loop-reading.invariant.workers
+
+pub unreachable-requires : goal.unreachable-requires
+unreachable-requires g c = omega (arith, c.loop-reading.invariant.many, c.in-Some.ensures.steps.1, c.in_default.ensures.cases.0)
