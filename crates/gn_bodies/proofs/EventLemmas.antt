@@ -1,5 +1,6 @@
 -- One receipt more.
-use Rattle.std.proofs.Common.{◌≡◌, ◌⊎◌, inl, inr, ℕ, Bool, true, not, List, [], ◌∷◌, ◌++◌, filter, is_some, map, Option, Some, None, refl, ap, ◌∙◌, sym, append-nil}
+use Rattle.std.proofs.Common.{◌≡◌, ◌⊎◌, inl, inr, ℕ, Bool, true, not, List, [], ◌∷◌, ◌++◌, filter, is_some, map, Option, Some, None, Ok, Err, refl, ap, ◌∙◌, sym, append-nil}
+use Rattle.std.specs.Prelude.{IfErr, OnOk, Result}
 use Rattle.std.proofs.lemmas.List.{map-append}
 use Rattle.gn_wire.specs.Packet.{Packet}
 use Rattle.gn_rules.specs.declared.event.Event.{Event}
@@ -16,6 +17,8 @@ use Rattle.gn_stage.specs.Jobs.{Queued}
 use Rattle.gn_hub.specs.ActorState.{ActorState, receipt, with_receipt}
 use Rattle.gn_rules.specs.Fits.{replies}
 use Rattle.gn_hub.specs.Receipts.{HasDrained, HasReceipt}
+use Rattle.gn_bodies.specs.declared.piece.Halt.{Halt}
+use Rattle.gn_bodies.specs.declared.piece.Halt.TheVariants as halt
 use Rattle.gn_bodies.specs.Admitting.{HasAdmitted, KeepsConnection}
 use Rattle.gn_bodies.specs.Events.{events_of, link_events, link_events_in, connection_of, packets_of, MayClose}
 use Rattle.gn_bodies.specs.ReaderRows.{WithClose}
@@ -126,6 +129,16 @@ pub admitted_events : {A : Type 0} (c : ℕ) (d : Packet) (job : Option Queued) 
 admitted_events c d None me us (index, inl got) = link_events-receipt me us (receipt index (Admit c d) Busy) got
 admitted_events c d None me us (index, inr got) = link_events-receipt me us (receipt index (Admit c d) Crowded) got
 admitted_events c d (Some job) me us (index, same, got) = link_events-receipt me us (receipt index (Admit c d) (Admitted job.ticket)) got
+
+-- what holds in any case holds of an Ok
+pub on_ok_any : {T E : Type 0} (r : Result T E) (P : Type 0) → P → OnOk r P
+on_ok_any (Ok x) P holds = holds
+on_ok_any (Err e) P holds = tt
+
+-- what never is, is nothing to answer for
+pub never_not_live : (X : Type 0) (r : Result (Unit {0}) Halt) → IfErr r (λ why. why ≡ halt.NotLive → ⊥) → IfErr r (λ why. why ≡ halt.NotLive → X)
+never_not_live X (Ok x) never = tt
+never_not_live X (Err why) never = λ is. absurd (never is)
 
 -- what a close does
 closed_reply : {A : Type 0} (c : ℕ) (reply : Reply A) → replies (Close c) reply ≡ true → (count : ℕ) × (reply ≡ Closed count)

@@ -1,5 +1,5 @@
 -- The jobs that receipts leave, with one receipt more.
-use Rattle.std.proofs.Common.{◌≡◌, inl, inr, ℕ, Bool, true, false, cond, List, [], ◌∷◌, ◌++◌, map, Some, None, refl, ap, ◌∙◌, sym, append_assoc, append-nil, arith, nat_eq}
+use Rattle.std.proofs.Common.{◌≡◌, inl, inr, ℕ, Bool, true, false, cond, List, [], ◌∷◌, ◌++◌, map, Option, Some, None, refl, ap, ◌∙◌, sym, subst, append_assoc, append-nil, arith, nat_eq}
 use Rattle.std.proofs.lemmas.List.{map-append}
 use Rattle.gn_wire.specs.Packet.{Packet}
 use Rattle.gn_rules.specs.declared.event.Event.{Event}
@@ -11,7 +11,7 @@ use Rattle.gn_stage.specs.Ends.{End, with_job}
 use Rattle.gn_stage.specs.Jobs.{Queued}
 use Rattle.gn_hub.specs.ActorState.{ActorState, receipt, with_receipt}
 use Rattle.gn_hub.specs.Receipts.{HasReceipt}
-use Rattle.gn_bodies.specs.Admitting.{Admitting, HasAdmitted, IsOwed, IsSettled}
+use Rattle.gn_bodies.specs.Admitting.{Admitting, HasAdmitted, HasOnlyConnected, IsOwed, IsSettled}
 use Rattle.gn_bodies.specs.Events.{MayClose, events_of}
 use Rattle.gn_bodies.specs.Jobs.{is_route, is_routed_next, is_route_of, job_by, jobs_left, routes_of}
 use Rattle.gn_bodies.proofs.EventLemmas.{events-route}
@@ -67,6 +67,13 @@ pub close_jobs : {A : Type 0} (c : ℕ) (me us : ActorState A) → MayClose c me
 close_jobs c me us (inl same) = ap (λ w. jobs_left w.receipts) same
 close_jobs c me us (inr (index, count, got)) = left_none me us (receipt index (Close c) (Closed count)) got refl refl
 
+-- a close leaves all settled
+pub close_settled : {A : Type 0} (c : ℕ) (jobs : List Queued) (old me us : Admitting A) → me ≡ old → MayClose c me.actor us.actor → us.intake ≡ me.intake → us.is_refused ≡ me.is_refused
+    → IsSettled jobs old → IsSettled jobs us
+close_settled {A} c jobs old me us first closed intake refused settled other =
+    let here : IsSettled jobs me = subst (λ (v : Admitting A). IsSettled jobs v) (sym first) settled in
+    ap (λ w. w.jobs) intake ∙ here (sym refused ∙ other) ∙ ap (λ left. jobs ++ left) (sym (close_jobs c me.actor us.actor closed))
+
 pub away_jobs : {A : Type 0} (c : ℕ) (d : Packet) (me us : ActorState A) → HasAdmitted c d None me us → jobs_left us.receipts ≡ jobs_left me.receipts
 away_jobs c d me us (index, inl got) = left_none me us (receipt index (Admit c d) Busy) got refl refl
 away_jobs c d me us (index, inr got) = left_none me us (receipt index (Admit c d) Crowded) got refl refl
@@ -75,30 +82,55 @@ pub first_jobs : {A : Type 0} (me us : ActorState A) → HasReceipt Connect me u
 first_jobs me us (index, reply, fits, got) none =
     ap (λ w. jobs_left w.receipts) got ∙ jobs_left-push me.receipts (receipt index Connect reply) refl ∙ ap (λ w. jobs_left w ++ []) none
 
+-- an actor that did nothing leaves all settled
+pub kept_settled : {A : Type 0} (jobs : List Queued) (old me us : Admitting A) → me ≡ old → us.actor ≡ me.actor → us.intake ≡ me.intake → us.is_refused ≡ me.is_refused → IsSettled jobs old → IsSettled jobs us
+kept_settled {A} jobs old me us first actor intake refused settled other =
+    let here : IsSettled jobs me = subst (λ (v : Admitting A). IsSettled jobs v) (sym first) settled in
+    ap (λ w. w.jobs) intake ∙ here (sym refused ∙ other) ∙ ap (λ w. jobs ++ jobs_left w.receipts) (sym actor)
+
+-- so does one that only connected
+pub connected_settled : {A : Type 0} (made : Option ℕ) (jobs : List Queued) (old me us : Admitting A) → me ≡ old → old.actor.receipts ≡ [] → HasOnlyConnected made us.actor → us.intake ≡ me.intake
+    → us.is_refused ≡ me.is_refused → IsSettled jobs old → IsSettled jobs us
+connected_settled {A} made jobs old me us first none did intake refused settled other =
+    let here : IsSettled jobs me = subst (λ (v : Admitting A). IsSettled jobs v) (sym first) settled in
+    let start : me.actor.receipts ≡ [] = ap (λ v. v.actor.receipts) first ∙ none in
+    ap (λ w. w.jobs) intake ∙ here (sym refused ∙ other) ∙ ap (λ w. jobs ++ jobs_left w) start ∙ ap (λ left. jobs ++ left) (sym did.none_left)
+
 -- an admitted job is owed
-pub owed : {A : Type 0} (c : ℕ) (d : Packet) (job : Queued) (jobs : List Queued) (me us : Admitting A) → HasAdmitted c d (Some job) me.actor us.actor
-    → us.intake ≡ me.intake → us.is_refused ≡ me.is_refused → IsSettled jobs me → IsOwed jobs job us
-owed c d job jobs me us (index, same, got) intake refused settled = record {
-  index = index;
-  connection = c;
-  earlier = me.actor.receipts;
-  last = ap (λ w. w.receipts) got ∙ ap (λ p. me.actor.receipts ++ receipt index (Admit c p) (Admitted job.ticket) ∷ []) (sym same);
-  settled = λ other. ap (λ w. w.jobs) intake ∙ settled (sym refused ∙ other);
-}
+pub owed : {A : Type 0} (c : ℕ) (d : Packet) (job : Queued) (jobs : List Queued) (old me us : Admitting A) → me ≡ old → HasAdmitted c d (Some job) me.actor us.actor
+    → us.intake ≡ me.intake → us.is_refused ≡ me.is_refused → IsSettled jobs old → IsOwed jobs job us
+owed {A} c d job jobs old me us first (index, same, got) intake refused settled =
+    let here : IsSettled jobs me = subst (λ (v : Admitting A). IsSettled jobs v) (sym first) settled in
+    record {
+      index = index;
+      connection = c;
+      earlier = me.actor.receipts;
+      last = ap (λ w. w.receipts) got ∙ ap (λ p. me.actor.receipts ++ receipt index (Admit c p) (Admitted job.ticket) ∷ []) (sym same);
+      settled = λ other. ap (λ w. w.jobs) intake ∙ here (sym refused ∙ other);
+    }
+
+-- where none was, all that was settled is
+pub away_settled : {A : Type 0} (c : ℕ) (d : Packet) (jobs : List Queued) (old me us : Admitting A) → me ≡ old → HasAdmitted c d None me.actor us.actor
+    → us.intake ≡ me.intake → us.is_refused ≡ me.is_refused → IsSettled jobs old → IsSettled jobs us
+away_settled {A} c d jobs old me us first away intake refused settled other =
+    let here : IsSettled jobs me = subst (λ (v : Admitting A). IsSettled jobs v) (sym first) settled in
+    ap (λ w. w.jobs) intake ∙ here (sym refused ∙ other) ∙ ap (λ left. jobs ++ left) (sym (away_jobs c d me.actor us.actor away))
 
 -- once it is put, all is settled
-pub settled_put : {A : Type 0} (jobs : List Queued) (job : Queued) (me us : Admitting A) → IsOwed jobs job me → us.actor ≡ me.actor → us.is_refused ≡ me.is_refused
+pub settled_put : {A : Type 0} (jobs : List Queued) (job : Queued) (old me us : Admitting A) → me ≡ old → IsOwed jobs job old → us.actor ≡ me.actor → us.is_refused ≡ me.is_refused
     → us.intake.jobs ≡ me.intake.jobs ++ job ∷ [] → IsSettled jobs us
-settled_put jobs job me us is actor refused put other =
+settled_put {A} jobs job old me us first was actor refused put other =
+    let is : IsOwed jobs job me = subst (λ (v : Admitting A). IsOwed jobs job v) (sym first) was in
     let r = receipt is.index (Admit is.connection job.descriptor) (Admitted job.ticket) in
     let left : jobs_left us.actor.receipts ≡ jobs_left is.earlier ++ job ∷ [] =
     ap (λ w. jobs_left w.receipts) actor ∙ ap jobs_left is.last ∙ jobs_left-push is.earlier r refl in
     put ∙ ap (λ w. w ++ job ∷ []) (is.settled (sym refused ∙ other)) ∙ append_assoc jobs (jobs_left is.earlier) (job ∷ []) ∙ ap (λ w. jobs ++ w) (sym left)
 
 -- once it is routed, too
-pub settled_routed : {A : Type 0} (jobs : List Queued) (job : Queued) (t : ℕ) (me us : Admitting A) → t ≡ job.ticket → IsOwed jobs job me → HasReceipt (Route t) me.actor us.actor
+pub settled_routed : {A : Type 0} (jobs : List Queued) (job : Queued) (t : ℕ) (old me us : Admitting A) → me ≡ old → t ≡ job.ticket → IsOwed jobs job old → HasReceipt (Route t) me.actor us.actor
     → us.is_refused ≡ me.is_refused → us.intake ≡ me.intake → IsSettled jobs us
-settled_routed jobs job t me us ticket is (index, reply, fits, got) refused intake other =
+settled_routed {A} jobs job t old me us first ticket was (index, reply, fits, got) refused intake other =
+    let is : IsOwed jobs job me = subst (λ (v : Admitting A). IsOwed jobs job v) (sym first) was in
     let left : jobs_left us.actor.receipts ≡ jobs_left is.earlier =
     ap (λ w. jobs_left w.receipts) got ∙ ap (λ w. jobs_left (w ++ receipt index (Route t) reply ∷ [])) is.last
     ∙ ap (λ u. jobs_left ((is.earlier ++ receipt is.index (Admit is.connection job.descriptor) (Admitted job.ticket) ∷ []) ++ receipt index (Route u) reply ∷ [])) ticket

@@ -1,5 +1,5 @@
 -- A reader's bytes so far.
-use Rattle.std.proofs.Common.{◌≡◌, ℕ, ◌<◌, All, true, false, List, [], ◌∷◌, ◌++◌, length, map, take, drop, Option, Some, None, refl, sym, ap, ◌∙◌, subst, append_assoc}
+use Rattle.std.proofs.Common.{◌≡◌, ℕ, ◌<◌, All, Bool, true, false, List, [], ◌∷◌, ◌++◌, length, map, take, drop, Option, Some, None, refl, sym, ap, ◌∙◌, subst, append_assoc}
 use Rattle.std.proofs.lemmas.List.{drop_at}
 use Rattle.std.proofs.lemmas.List.Elements.{All-nil}
 use Rattle.gn_wire.specs.declared.header.FrameFault.{FrameFault}
@@ -13,18 +13,21 @@ use Rattle.std.specs.Prelude.{IfOk, OnOk, Result}
 use Rattle.gn_rules.specs.declared.event.Event.{Event}
 use Rattle.gn_rules.specs.declared.receipt.Receipt.{Receipt}
 use Rattle.gn_bodies.specs.declared.ends.BodyFault.{BodyFault}
-use Rattle.gn_bodies.specs.Admitting.{Admitting, KeepsConnection}
+use Rattle.gn_bodies.specs.Admitting.{Admitting, HasOnlyConnected, KeepsConnection}
 use Rattle.gn_bodies.specs.Done.{Half, IsReaderDone, ReaderKeeps, ReadsAs}
 use Rattle.gn_bodies.specs.declared.ends.ReaderEnd.{ReaderEnd}
 use Rattle.gn_bodies.specs.declared.ends.ReaderEnd.TheVariants.{Bytes, Fault, ReadFailed, Turns, GreetingRefused, GreetingCut, TooMany, NotLive}
 use Rattle.gn_shake.specs.declared.role.Role.{Role}
+use Rattle.gn_bodies.specs.declared.piece.Piece.{Piece}
+use Rattle.gn_bodies.specs.declared.piece.Piece.TheVariants as piece
 use Rattle.gn_bodies.specs.declared.piece.Reading.{Reading}
 use Rattle.gn_bodies.specs.declared.piece.Reading.TheVariants as reading
 use Rattle.gn_hub.specs.ActorState.{ActorState}
 use Rattle.gn_bodies.specs.Events.{events_of, link_events, link_events_in, connection_of}
 use Rattle.gn_links.specs.Halves.{Source, IsNewReader, IsReadFrom, ReadHalf}
 use Rattle.gn_bodies.specs.ReaderRows.{ConnectedRow, ReaderRow, SourceRow, WithClose}
-use Rattle.gn_bodies.specs.Reading.{HasConnection, IsOffering, IsReading, ReadRow, OpenRow, reading_connection, end_of_bytes, is_of_bytes, closes}
+use Rattle.gn_bodies.specs.Reading.{EndsReading, HasConnection, HasReadOn, HasReadPieces, HasTakenPiece, IsJoined, IsOffering, IsReading, IsTaken, ReadRow, OpenRow, reading_connection, end_of_bytes, end_of_turns, is_of_bytes, closes}
+use Rattle.gn_bodies.proofs.JobLemmas.{connected_settled, kept_settled}
 
 -- a stream that begins with the greeting has it accepted
 pub accepted : GreetingIsKnown → (role : Role) (b s : List ℕ) → b ≡ greeting_of role ++ s → greeting_state (greeting_of role) b ≡ Done
@@ -221,3 +224,66 @@ pub closed_alone : {A : Type 0} (made : Option ℕ) (before after : Admitting A)
 closed_alone {A} made before after is alone none now =
     let no : made ≡ None = sym is ∙ now in
     subst (λ (h : Admitting A). events_of h.actor ≡ link_events h.actor) (sym (none no)) (alone no)
+
+-- a reader that awaits the greeting, or is joined, reads as one
+pub read_greeting : {A : Type 0} (role : Role) (r : Reading A) (shake : Shaking) (b : List ℕ) (me : ActorState A) → r ≡ reading.Greeting shake → IsReading role r b me
+    → IsReading {A = A} role (reading.Greeting shake) b me
+read_greeting {A} role r shake b me is was = subst (λ (q : Reading A). IsReading role q b me) is was
+
+pub read_joined : {A : Type 0} (role : Role) (r : Reading A) (c : ℕ) (frames : Option (List ℕ)) (b : List ℕ) (me : ActorState A) → r ≡ reading.Joined c frames → IsReading role r b me
+    → IsJoined role b c frames me
+read_joined {A} role r c frames b me is was = subst (λ (q : Reading A). IsReading role q b me) is was
+
+-- a reader that couldn't connect stops
+pub piece_refused : {A : Type 0} (f : BodyFault) (old me us : Admitting A) → me ≡ old → us.actor ≡ me.actor → us.intake ≡ me.intake → us.is_refused ≡ me.is_refused
+    → HasTakenPiece (piece.Stop f) old us
+piece_refused f old me us first actor intake refused = record {
+  numbers = (ap (λ w. w.number) actor ∙ ap (λ v. v.actor.number) first, ap (λ w. w.number) intake ∙ ap (λ v. v.intake.number) first);
+  settled = λ jobs is. kept_settled jobs old me us first actor intake refused is;
+  connection = tt;
+  ends = tt;
+  alone = tt;
+}
+
+-- a piece that is taken once the reader has connected
+pub piece_connected : {A : Type 0} (made : Option ℕ) (p : Piece A) (old me us them : Admitting A) → me ≡ old → old.actor.receipts ≡ [] → us.actor.number ≡ me.actor.number
+    → HasOnlyConnected made us.actor → us.intake ≡ me.intake → us.is_refused ≡ me.is_refused → HasTakenPiece p us them → HasTakenPiece p old them
+piece_connected made p old me us them first none number did intake refused taken = record {
+  numbers = (taken.numbers.0 ∙ number ∙ ap (λ v. v.actor.number) first, taken.numbers.1 ∙ ap (λ w. w.number) intake ∙ ap (λ v. v.intake.number) first);
+  settled = λ jobs is. taken.settled jobs (connected_settled made jobs old me us first none did intake refused is);
+  connection = taken.connection;
+  ends = taken.ends;
+  alone = taken.alone;
+}
+
+-- a piece that was taken, after so many
+pub pieces_taken : {A : Type 0} (role : Role) (p : Piece A) (before after : Admitting A) (half : ReadHalf) (may_fail : Bool) (count : ℕ) → HasTakenPiece p before after
+    → (half.is_known ≡ true → IsTaken role p half.bytes after.actor) → half.pieces ≡ count → half.failures ≡ 0 → HasReadPieces role p after.actor half may_fail count
+pieces_taken role (piece.More r) before after half may_fail count did is pieces unfailed = record { has = did.connection; is = is; pieces = pieces; unfailed = unfailed }
+pieces_taken role (piece.End made end) before after half may_fail count did is pieces unfailed = record {
+  connection = did.connection;
+  alone = did.alone;
+  row = is;
+  counts = bytes_source end half did.ends;
+  failed = bytes_not_failed end did.ends;
+}
+pieces_taken role (piece.Stop f) before after half may_fail count did is pieces unfailed = tt
+
+-- a reader that goes on
+pub pieces_more : {A : Type 0} (role : Role) (p : Piece A) (r : Reading A) (me : ActorState A) (half : ReadHalf) (may_fail : Bool) (count : ℕ) → p ≡ piece.More r
+    → HasReadPieces role p me half may_fail count → HasReadOn role r me half count
+pieces_more {A} role p r me half may_fail count is did = subst (λ (q : Piece A). HasReadPieces role q me half may_fail count) is did
+
+-- one that reads no more: a piece ended it, or its turns are over
+pub pieces_ended : {A : Type 0} (role : Role) (p : Piece A) (me : ActorState A) (half : ReadHalf) (may_fail : Bool) (count : ℕ) → GreetingIsKnown
+    → ((r : Reading A) → p ≡ piece.More r → count ≡ 1000000) → HasReadPieces role p me half may_fail count
+    → IfOk (end_of_turns p) (λ e. EndsReading role e.1 e.0 me half may_fail)
+pieces_ended role (piece.More r) me half may_fail count known over did = record {
+  connection = conn_of_reading r me did.has;
+  alone = λ none. alone_of_reading r me did.has none;
+  row = λ is_known. turns_row known role r half.bytes me (did.is is_known) did.has;
+  counts = did.pieces ∙ over r refl;
+  failed = λ ends. absurd (cc);
+}
+pieces_ended role (piece.End made end) me half may_fail count known over did = did
+pieces_ended role (piece.Stop f) me half may_fail count known over did = tt

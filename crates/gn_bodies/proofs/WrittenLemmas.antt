@@ -1,6 +1,6 @@
 -- What was written piece by piece.
 use Rattle.std.proofs.Common.{◌≡◌, ℕ, ◌+◌, List, [], ◌∷◌, ◌++◌, take, drop, map, ap, ◌∙◌, sym, refl, append_assoc, append-nil}
-use Rattle.std.proofs.Common.{◌⊎◌, inl, inr, Bool, true, false, if◌then◌else◌, Option, Some, None, subst}
+use Rattle.std.proofs.Common.{◌⊎◌, inl, inr, Bool, true, false, if◌then◌else◌, Option, Some, None, Ok, Err, subst}
 use Rattle.std.specs.Prelude.{IfOk, Result}
 use Rattle.std.proofs.Math.Seq.{take-add}
 use Rattle.std.proofs.lemmas.Result.{IfOk-weaker}
@@ -21,10 +21,11 @@ use Rattle.gn_shake.specs.Greeting.{is_calling, request_text}
 use Rattle.gn_rules.specs.declared.event.Event.TheVariants.{Take}
 use Rattle.gn_rules.specs.declared.reply.Reply.TheVariants.{Taken}
 use Rattle.gn_hub.specs.ActorState.{ActorState, receipt, with_receipt}
-use Rattle.gn_hub.specs.Receipts.{HasTaken}
+use Rattle.gn_hub.specs.Receipts.{HasDrained}
 use Rattle.gn_bodies.specs.Events.{packets_of, MayClose}
 use Rattle.gn_laws.specs.Owners as laws
-use Rattle.gn_bodies.specs.Written.{AreTakes, FoundNone, HasAsked, HasWrittenText, PacketSteps, WriterSteps, opening_texts}
+use Rattle.gn_bodies.specs.Writing.{HasWrittenPacket, WritesOn, WritesPackets}
+use Rattle.gn_bodies.specs.Written.{AreTakes, HasWrittenText, PacketSteps, WriterSteps, opening_texts}
 use Rattle.gn_bodies.proofs.EventLemmas.{drained_packets, events-receipt, packets-receipt}
 
 pub written_on : (t u s text piece : List ℕ) (n m : ℕ) → piece ≡ drop n text → t ≡ s ++ take n text → u ≡ t ++ take m piece → u ≡ s ++ take (n + m) text
@@ -99,34 +100,89 @@ takes_more c index packet me us got was =
     let r = receipt index (Take c) (Taken packet) in
     events-receipt me us r got ∙ ap (λ w. w ++ Take c ∷ []) was ∙ sym (map-append (λ p. Take c) (packets_of me) (packet ∷ [])) ∙ ap (λ w. map (λ p. Take c) w) (sym (packets-receipt me us r got))
 
--- a writer that asked, and goes on, took a packet
-pub asked_more : {A : Type 0} (asked : Option WriterEnd) (c : ℕ) (me us : ActorState A) → asked ≡ None → HasAsked asked c me us → HasTaken c me us
-asked_more asked c me us is did = subst (λ (w : Option WriterEnd). HasAsked w c me us) is did
+-- how a writer on connection c ends that found no packet: it closed the drained connection, or did nothing
+abbrev pub FoundNone : {A : Type 0} → WriterEnd → ℕ → ActorState A → ActorState A → Type 0
+FoundNone Drained c me us = HasDrained c me us
+FoundNone Closed c me us = us ≡ me
+FoundNone WriteFailed c me us = ⊥
+FoundNone NeverOpened c me us = ⊥
 
--- one that ends found none
-pub asked_last : {A : Type 0} (asked : Option WriterEnd) (end : WriterEnd) (c : ℕ) (me us : ActorState A) → asked ≡ Some end → HasAsked asked c me us → FoundNone end c me us
-asked_last asked end c me us is did = subst (λ (w : Option WriterEnd). HasAsked w c me us) is did
-
--- a writer that found no packet has written all that it took
-pub found_written : {A : Type 0} (role : Role) (end : WriterEnd) (c : ℕ) (me us : ActorState A) (half : WrittenHalf) → FoundNone end c me us
-    → (half.is_known ≡ true → half.bytes ≡ concat (texts role (packets_of me))) → WritesAs role end (packets_of us) half
-found_written role Drained c me us half found was = record {
-  row = λ known. was known ∙ ap (λ packets. concat (texts role packets)) (sym (drained_packets c me us found));
-  hurt = λ ends. absurd (cc);
+-- it has written all that it took
+pub found_none : {A : Type 0} (role : Role) (end : WriterEnd) (c : ℕ) (me us : ActorState A) (half : WrittenHalf) → FoundNone end c me us → WritesPackets role Closed c me half
+    → WritesPackets role end c us half
+found_none role Drained c me us half found was = record {
+  written = record {
+    row = λ known. was.written.row known ∙ ap (λ packets. concat (texts role packets)) (sym (drained_packets c me us found));
+    hurt = λ ends. absurd (cc);
+  };
+  steps = (me, was.steps, found);
 }
-found_written role Closed c me us half found was = record {
-  row = λ known. was known ∙ ap (λ w. concat (texts role (packets_of w))) (sym found);
-  hurt = λ ends. absurd (cc);
-}
-found_written role WriteFailed c me us half found was = absurd found
-found_written role NeverOpened c me us half found was = absurd found
+found_none {A} role Closed c me us half found was = subst (λ (w : ActorState A). WritesPackets role Closed c w half) (sym found) was
+found_none role WriteFailed c me us half found was = absurd found
+found_none role NeverOpened c me us half found was = absurd found
 
--- and did nothing else
-pub found_steps : {A : Type 0} (end : WriterEnd) (c : ℕ) (me us : ActorState A) → FoundNone end c me us → AreTakes c me → PacketSteps end c us
-found_steps Drained c me us found was = (me, was, found)
-found_steps {A} Closed c me us found was = subst (λ (w : ActorState A). AreTakes c w) (sym found) was
-found_steps WriteFailed c me us found was = absurd found
-found_steps NeverOpened c me us found was = absurd found
+-- a packet was taken, and written whole
+pub packet_written : {A : Type 0} (role : Role) (c index : ℕ) (packet : Packet) (me us : ActorState A) (text : List ℕ) (is_all : Bool) (before after : WrittenHalf)
+    → us ≡ with_receipt me (receipt index (Take c) (Taken packet)) → text ≡ bytes_of packet → HasWrittenText is_all text before after → is_all ≡ true
+    → WritesPackets role Closed c me before → WritesPackets role Closed c us after
+packet_written role c index packet me us text is_all before after got same did whole was = record {
+  written = record {
+    row = λ known.
+        let is_known : before.is_known ≡ true = sym did.known ∙ known in
+        encoded_more role (packets_of me) (packets_of us) before.bytes after.bytes packet (packets-receipt me us (receipt index (Take c) (Taken packet)) got) (was.written.row is_known)
+        (did.all whole is_known ∙ ap (λ w. before.bytes ++ w) same);
+    hurt = λ ends. absurd (cc);
+  };
+  steps = takes_more c index packet me us got was.steps;
+}
+
+-- or in part
+pub packet_broken : {A : Type 0} (role : Role) (c index : ℕ) (packet : Packet) (me us : ActorState A) (text : List ℕ) (is_all : Bool) (before after : WrittenHalf)
+    → us ≡ with_receipt me (receipt index (Take c) (Taken packet)) → text ≡ bytes_of packet → HasWrittenText is_all text before after → is_all ≡ false
+    → WritesPackets role Closed c me before → WritesPackets role WriteFailed c us after
+packet_broken role c index packet me us text is_all before after got same did fails was = record {
+  written = record {
+    row = λ known.
+        let is_known : before.is_known ≡ true = sym did.known ∙ known in
+        let (n, more) = did.part fails is_known in
+        encoded_part role (packets_of me) (packets_of us) before.bytes after.bytes packet n (packets-receipt me us (receipt index (Take c) (Taken packet)) got) (was.written.row is_known)
+        (more ∙ ap (λ w. before.bytes ++ take n w) same);
+    hurt = λ _. did.hurt fails;
+  };
+  steps = takes_more c index packet me us got was.steps;
+}
+
+-- a text that was written so far is this one
+pub same_text : (is_all all : Bool) (text other : List ℕ) (before after : WrittenHalf) → is_all ≡ all → text ≡ other → HasWrittenText is_all text before after → HasWrittenText all other before after
+same_text is_all all text other before after is same did =
+    subst (λ (b : Bool). HasWrittenText b other before after) is (subst (λ (t : List ℕ). HasWrittenText is_all t before after) same did)
+
+-- a packet was taken, and written whole or in part
+pub packet_done : {A : Type 0} (role : Role) (c index : ℕ) (packet : Packet) (me us : ActorState A) (text : List ℕ) (end : Option (Result WriterEnd BodyFault)) (before after : WrittenHalf)
+    → us ≡ with_receipt me (receipt index (Take c) (Taken packet)) → text ≡ bytes_of packet → HasWrittenPacket end text before after → WritesPackets role Closed c me before → WritesOn role end c us after
+packet_done role c index packet me us text None before after got same did was = packet_written role c index packet me us text true before after got same did refl was
+packet_done role c index packet me us text (Some (Ok WriteFailed)) before after got same did was = packet_broken role c index packet me us text false before after got same did refl was
+packet_done role c index packet me us text (Some (Ok Drained)) before after got same did was = absurd did
+packet_done role c index packet me us text (Some (Ok Closed)) before after got same did was = absurd did
+packet_done role c index packet me us text (Some (Ok NeverOpened)) before after got same did was = absurd did
+packet_done role c index packet me us text (Some (Err fault)) before after got same did was = tt
+
+-- a writer that did nothing on its connection yet
+pub opened : {A : Type 0} (role : Role) (end : WriterEnd) (c : ℕ) (me : ActorState A) (half : WrittenHalf) → me.receipts ≡ [] → WritesAs role end [] half → PacketSteps end c me
+    → WritesPackets role end c me half
+opened role end c me half none did steps =
+    let no : packets_of me ≡ [] = ap laws.packets_of none in
+    record { written = subst (λ packets. WritesAs role end packets half) (sym no) did; steps = steps }
+
+-- a writer that goes on
+pub writes_more : {A : Type 0} (role : Role) (asked : Option (Result WriterEnd BodyFault)) (c : ℕ) (me : ActorState A) (half : WrittenHalf) → asked ≡ None → WritesOn role asked c me half
+    → WritesPackets role Closed c me half
+writes_more role asked c me half is did = subst (λ (w : Option (Result WriterEnd BodyFault)). WritesOn role w c me half) is did
+
+-- one that ends
+pub writes_last : {A : Type 0} (role : Role) (asked : Option (Result WriterEnd BodyFault)) (end : Result WriterEnd BodyFault) (c : ℕ) (me : ActorState A) (half : WrittenHalf) → asked ≡ Some end
+    → WritesOn role asked c me half → IfOk end (λ e. WritesPackets role e c me half)
+writes_last role asked end c me half is did = subst (λ (w : Option (Result WriterEnd BodyFault)). WritesOn role w c me half) is did
 
 -- a writer that closes nothing more is done with its steps
 pub steps_kept : {A : Type 0} (end : WriterEnd) (c : ℕ) (me : ActorState A) → PacketSteps end c me → WriterSteps end c me
@@ -135,10 +191,26 @@ steps_kept Closed c me steps = steps
 steps_kept WriteFailed c me steps = (me, steps, inl refl)
 steps_kept NeverOpened c me steps = absurd steps
 
--- so is one that closes where a write failed
-pub steps_closed : {A : Type 0} (end : WriterEnd) (c : ℕ) (me us : ActorState A) → end ≡ WriteFailed → PacketSteps end c me → MayClose c me us → WriterSteps end c us
-steps_closed {A} end c me us is steps closes =
-    subst (λ (e : WriterEnd). WriterSteps e c us) (sym is) (me, subst (λ (e : WriterEnd). PacketSteps e c me) is steps, closes)
+-- what an end says of what was written, and of its steps, where nothing more is closed
+pub ends_written : {A : Type 0} (role : Role) (end : Result WriterEnd BodyFault) (c : ℕ) (me : ActorState A) (half : WrittenHalf) → IfOk end (λ e. WritesPackets role e c me half)
+    → IfOk end (λ e. WritesAs role e (packets_of me) half)
+ends_written role end c me half did = IfOk-weaker end (λ e. WritesPackets role e c me half) _ (λ e here. here.written) did
+
+pub ends_kept : {A : Type 0} (role : Role) (end : Result WriterEnd BodyFault) (c : ℕ) (me : ActorState A) (half : WrittenHalf) → IfOk end (λ e. WritesPackets role e c me half)
+    → IfOk end (λ e. (d : ℕ) × WriterSteps e d me)
+ends_kept role end c me half did = IfOk-weaker end (λ e. WritesPackets role e c me half) _ (λ e here. (c, steps_kept e c me here.steps)) did
+
+-- where a write failed, what was written, and its steps, where the connection is closed
+pub broke_written : {A : Type 0} (role : Role) (end : Result WriterEnd BodyFault) (c : ℕ) (me us : ActorState A) (half : WrittenHalf) → packets_of us ≡ packets_of me
+    → IfOk end (λ e. WritesPackets role e c me half) → IfOk end (λ e. WritesAs role e (packets_of us) half)
+broke_written role end c me us half same did =
+    IfOk-weaker end (λ e. WritesPackets role e c me half) _ (λ e here. subst (λ packets. WritesAs role e packets half) (sym same) here.written) did
+
+pub broke_steps : {A : Type 0} (role : Role) (end : Result WriterEnd BodyFault) (c : ℕ) (me us : ActorState A) (half : WrittenHalf) → end ≡ Ok WriteFailed → MayClose c me us
+    → IfOk end (λ e. WritesPackets role e c me half) → IfOk end (λ e. (d : ℕ) × WriterSteps e d us)
+broke_steps {A} role end c me us half is closed did =
+    let here : WritesPackets role WriteFailed c me half = subst (λ (r : Result WriterEnd BodyFault). IfOk r (λ e. WritesPackets role e c me half)) is did in
+    subst (λ (r : Result WriterEnd BodyFault). IfOk r (λ e. (d : ℕ) × WriterSteps e d us)) (sym is) (c, (me, here.steps, closed))
 
 -- a writer that is finished keeps what its end says
 pub finished_writer : {A W O : Type 0} (state : W → WrittenHalf) (made_of : W → O) (link : Half W) (receipts : List (Receipt A)) (before after : W) (end : Result WriterEnd BodyFault)

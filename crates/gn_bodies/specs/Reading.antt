@@ -1,7 +1,8 @@
 -- What a reader keeps of its link, piece by piece.
-use Rattle.std.specs.Prelude.{◌≡◌, ◌<◌, ℕ, Bool, true, false, List, [], ◌∷◌, ◌++◌, drop, length, map, take, Option, Some, None, ⊤}
+use Rattle.std.specs.Prelude.{◌≡◌, ◌<◌, ℕ, Bool, true, false, List, [], ◌∷◌, ◌++◌, drop, length, map, take, Option, Some, None, Result, Ok, Err, ⊤}
 use Rattle.gn_rules.specs.declared.event.Event.{Event}
 use Rattle.gn_rules.specs.declared.event.Event.TheVariants.{Admit, Connect}
+use Rattle.gn_wire.specs.declared.header.FrameFault.{FrameFault}
 use Rattle.gn_frames.specs.Frames.{Frames, frames_of}
 use Rattle.gn_frames.specs.Reassembly.{held_of}
 use Rattle.gn_shake.specs.declared.role.Role.{Role}
@@ -10,10 +11,11 @@ use Rattle.gn_shake.specs.Greeting.{greeting_state, greeting_of}
 use Rattle.gn_shake.specs.Shaking.{shake_of}
 use Rattle.gn_links.specs.Halves.{ReadHalf}
 use Rattle.gn_hub.specs.ActorState.{ActorState}
+use Rattle.gn_bodies.specs.declared.ends.BodyFault.{BodyFault}
 use Rattle.gn_bodies.specs.declared.ends.ReaderEnd.{ReaderEnd}
 use Rattle.gn_bodies.specs.declared.ends.ReaderEnd.TheVariants.{Bytes, Fault, ReadFailed, Turns, GreetingCut, NotLive}
-use Rattle.gn_bodies.specs.declared.piece.Delivery.{Delivery}
-use Rattle.gn_bodies.specs.declared.piece.Delivery.TheVariants as delivery
+use Rattle.gn_bodies.specs.declared.piece.Halt.{Halt}
+use Rattle.gn_bodies.specs.declared.piece.Halt.TheVariants as halt
 use Rattle.gn_bodies.specs.declared.piece.Piece.{Piece}
 use Rattle.gn_bodies.specs.declared.piece.Piece.TheVariants as piece
 use Rattle.gn_bodies.specs.declared.piece.Reading.{Reading}
@@ -51,14 +53,6 @@ pub record IsOffering {A : Type 0} (s : List ℕ) (c : ℕ) (frames : Option (Li
   pub clean : (frames_of s).fault ≡ None
   pub events : link_events me ≡ Connect ∷ map (Admit c) (frames_of s).descriptors
 
--- what a piece of these bytes after the greeting did
-abbrev pub IsDelivered : {A : Type 0} → Delivery → List ℕ → ℕ → Option (List ℕ) → ActorState A → Type 0
-IsDelivered delivery.More s c frames me = IsOffering s c frames me
-IsDelivered (delivery.Fault f) s c frames me = ((frames_of s).fault ≡ Some f) × (link_events me ≡ Connect ∷ map (Admit c) (frames_of s).descriptors)
-IsDelivered delivery.NotLive s c frames me =
-    (n : ℕ) × (n < length (frames_of s).descriptors) × (link_events me ≡ Connect ∷ map (Admit c) (take n (frames_of s).descriptors))
-IsDelivered (delivery.Stop f) s c frames me = ⊤
-
 -- the bytes of a joined link are its greeting and what came after it, all of which is offered
 pub record IsJoined {A : Type 0} (role : Role) (b : List ℕ) (c : ℕ) (frames : Option (List ℕ)) (me : ActorState A) : Type 0 where
   pub stream : List ℕ
@@ -95,6 +89,14 @@ end_of_bytes (reading.Joined c frames) = Bytes
 abbrev pub HasConnection : {A : Type 0} → Reading A → ActorState A → Type 0
 HasConnection (reading.Greeting shake) me = me.receipts ≡ []
 HasConnection (reading.Joined c frames) me = connection_of me ≡ Some c
+
+-- what a piece of a connected link did, by what its reassembler keeps, how its descriptors were admitted, and the fault that
+-- comes after them
+abbrev pub piece_of : {A : Type 0} → ℕ → Option (List ℕ) → Result (Unit {0}) Halt → Option FrameFault → Piece A
+piece_of c frames (Ok u) None = piece.More (reading.Joined c frames)
+piece_of c frames (Ok u) (Some f) = piece.End (Some c) (Fault f)
+piece_of c frames (Err halt.NotLive) fault = piece.End (Some c) NotLive
+piece_of c frames (Err (halt.Stop f)) fault = piece.Stop f
 
 -- what a piece leaves of the connection
 abbrev pub HasConnectionAfter : {A : Type 0} → Piece A → ActorState A → Type 0
@@ -136,3 +138,23 @@ abbrev pub IsTaken : {A : Type 0} → Role → Piece A → List ℕ → ActorSta
 IsTaken role (piece.More r) b me = IsReading role r b me
 IsTaken role (piece.End made end) b me = ReadRow role end made (link_events me) b
 IsTaken role (piece.Stop f) b me = ⊤
+
+-- a reader that goes on after so many pieces: it has its connection, it keeps what its bytes leave of it, where they are
+-- known, and no read failed
+pub record HasReadOn {A : Type 0} (role : Role) (r : Reading A) (me : ActorState A) (half : ReadHalf) (count : ℕ) : Type 0 where
+  pub has : HasConnection r me
+  pub is : half.is_known ≡ true → IsReading role r half.bytes me
+  pub pieces : half.pieces ≡ count
+  pub unfailed : half.failures ≡ 0
+
+-- what so many pieces did, of a link of which a read may fail or not
+abbrev pub HasReadPieces : {A : Type 0} → Role → Piece A → ActorState A → ReadHalf → Bool → ℕ → Type 0
+HasReadPieces role (piece.More r) me half may_fail count = HasReadOn role r me half count
+HasReadPieces role (piece.End made end) me half may_fail count = EndsReading role end made me half may_fail
+HasReadPieces role (piece.Stop f) me half may_fail count = ⊤
+
+-- how a reader ends that reads no more after a piece: as the piece ended it, or because its turns are over
+abbrev pub end_of_turns : {A : Type 0} → Piece A → Result (Option ℕ × ReaderEnd) BodyFault
+end_of_turns (piece.More r) = Ok (reading_connection r, Turns)
+end_of_turns (piece.End made end) = Ok (made, end)
+end_of_turns (piece.Stop f) = Err f

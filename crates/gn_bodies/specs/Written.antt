@@ -7,7 +7,7 @@ use Rattle.gn_shake.specs.declared.role.Role.TheVariants.{Accepting, Calling, Pl
 use Rattle.gn_shake.specs.Greeting.{is_calling, request_text, consent_text}
 use Rattle.gn_links.specs.Halves.{WrittenHalf}
 use Rattle.gn_hub.specs.ActorState.{ActorState}
-use Rattle.gn_hub.specs.Receipts.{HasDrained, HasTaken}
+use Rattle.gn_hub.specs.Receipts.{HasDrained}
 use Rattle.gn_bodies.specs.declared.ends.WriterEnd.{WriterEnd}
 use Rattle.gn_bodies.specs.declared.ends.WriterEnd.TheVariants.{Drained, WriteFailed, Closed, NeverOpened}
 use Rattle.gn_bodies.specs.Events.{events_of, packets_of, MayClose}
@@ -34,18 +34,6 @@ pub record HasWrittenText (is_all : Bool) (text : List ℕ) (before after : Writ
   pub all : is_all ≡ true → before.is_known ≡ true → after.bytes ≡ before.bytes ++ text
   pub part : is_all ≡ false → before.is_known ≡ true → (n : ℕ) × (after.bytes ≡ before.bytes ++ take n text)
   pub hurt : is_all ≡ false → (0 < after.failures) ⊎ (after.is_stuck ≡ true)
-
--- how a writer on connection c ends that found no packet: it closed the drained connection, or did nothing
-abbrev pub FoundNone : {A : Type 0} → WriterEnd → ℕ → ActorState A → ActorState A → Type 0
-FoundNone Drained c me us = HasDrained c me us
-FoundNone Closed c me us = us ≡ me
-FoundNone WriteFailed c me us = ⊥
-FoundNone NeverOpened c me us = ⊥
-
--- what a writer on connection c did that asked for a packet: it took one, or found none, and ends
-abbrev pub HasAsked : {A : Type 0} → Option WriterEnd → ℕ → ActorState A → ActorState A → Type 0
-HasAsked None c me us = HasTaken c me us
-HasAsked (Some end) c me us = FoundNone end c me us
 
 -- an actor took packets of connection c, and did nothing else
 abbrev pub AreTakes : {A : Type 0} → ℕ → ActorState A → Type 0

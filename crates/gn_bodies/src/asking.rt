@@ -1,14 +1,14 @@
 //! The calls on the service that the bodies make, by what they do to the actor.
 
-ghost use Rattle.std.specs.Prelude.{◌≡◌, [], ℕ, Some, true, IfErr, IfOk, MatchResult, OnErr};
+ghost use Rattle.std.specs.Prelude.{◌≡◌, [], ℕ, Some, IfOk, MatchResult, OnErr};
 ghost use Rattle.gn_rules.specs.declared.event.Event.TheVariants.{Admit, Route};
 ghost use Rattle.gn_wire.specs.Packet.{Packet};
-ghost use Rattle.gn_rules.specs.Fits.{refuses};
 ghost use Rattle.gn_hub.specs.Receipts.{HasReceipt};
 ghost use Rattle.gn_bodies.specs.Admitting.{HasAdmitted, HasOnlyConnected};
 ghost use Rattle.gn_bodies.specs.Events.{packets_of, MayClose};
 
 use crate::ends::BodyFault;
+use crate::piece::Halt;
 use gn_hub::{Actor, Service};
 use gn_links::{Gate, Made};
 use gn_payload::Checked;
@@ -21,26 +21,38 @@ use std::sync::ledger::Ledger;
 
 /// Admits a descriptor, which comes back as a job with its ticket. None at a threshold, that of all connections or its
 /// own: the descriptor is gone.
-pub(crate) fn admit<C: RouterCore<A> + Drop, L: Ledger, A: Allocator + Copy, R: Wait>(
+pub(crate) fn admit<G: Gate, C: RouterCore<A> + Drop, L: Ledger, A: Allocator + Copy, R: Wait>(
     rt: &R,
     service: &Service<C, L, A>,
+    gate: &G,
     me: &mut Actor<L, A>,
     c: ConnId,
     descriptor: Descriptor<A>,
-) -> Result<Option<Job<A>>, Refusal>
+) -> Result<Option<Job<A>>, Halt>
     ensures ok { IfOk result (λ job. HasAdmitted c descriptor job me.old me.new) }
-    ensures err { IfErr result (λ refusal. (refuses {A = A} (Admit c descriptor) refusal ≡ true) × (me.new ≡ me.old)) }
+    ensures err { OnErr result (me.new ≡ me.old) }
 {
+    let link = me.number();
     let event = Event::Admit(c, descriptor);
     if let Err(refusal) = service.call(rt, me, &event) {
         drop(event);
-        return Err(refusal);
+        return Err(halt_of(refusal));
     }
     let Some(ticket) = me.last_reply().admitted() else {
         drop(event);
+        gate.made(link, Made::Busy);
         return Ok(None);
     };
+    gate.made(link, Made::Admitted(ticket));
     Ok(job_of(ticket, event))
+}
+
+/// Why no more descriptors are admitted where one was refused so.
+fn halt_of(refusal: Refusal) -> Halt {
+    match refusal {
+        Refusal::NotLive => Halt::NotLive,
+        _ => Halt::Stop(BodyFault::from(refusal)),
+    }
 }
 
 /// The job of an event that was admitted.
@@ -59,11 +71,13 @@ pub(crate) fn route<C: RouterCore<A> + Drop, L: Ledger, A: Allocator + Copy, R: 
     service: &Service<C, L, A>,
     me: &mut Actor<L, A>,
     ticket: Ticket,
-    checked: &Checked<A>,
+    checked: Checked<A>,
 ) -> Result<(), BodyFault>
     ensures { MatchResult result (λ _. HasReceipt (Route ticket) me.old me.new) (λ _. me.new ≡ me.old) }
 {
-    match service.route(rt, me, ticket, checked) {
+    let answer = service.route(rt, me, ticket, &checked);
+    drop(checked);
+    match answer {
         Ok(()) => Ok(()),
         Err(refusal) => Err(BodyFault::from(refusal)),
     }

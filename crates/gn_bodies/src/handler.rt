@@ -1,20 +1,18 @@
-//! A reader at work: how it connects, admits descriptors, and puts their jobs.
+//! A reader at work: how it admits descriptors, and puts their jobs.
 
-ghost use Rattle.std.specs.Prelude.{◌≡◌, ◌∷◌, ◌++◌, ◌<◌, [], ℕ, List, length, map, take, IfErr, IfOk, OnOk};
+ghost use Rattle.std.specs.Prelude.{◌≡◌, ◌∷◌, ◌++◌, ◌<◌, [], ℕ, List, length, map, take, IfErr, OnOk};
 ghost use Rattle.gn_rules.specs.declared.event.Event.TheVariants.{Admit};
 ghost use Rattle.gn_stage.specs.Jobs.{Queued};
 ghost use Rattle.gn_bodies.specs.declared.piece.Halt.TheVariants as halt;
-ghost use Rattle.gn_bodies.specs.Admitting.{GoesOn, HasOnlyConnected, HasSameNumbers, IsOwed, IsSettled, KeepsConnection, StaysSettled};
+ghost use Rattle.gn_bodies.specs.Admitting.{GoesOn, HasSameNumbers, IsOwed, IsSettled, KeepsConnection};
 ghost use Rattle.gn_bodies.specs.Events.{link_events};
-ghost use Rattle.gn_bodies.specs.ReaderRows.{WithClose};
 
-use crate::asking::{admit, close, connect, route};
-use crate::ends::BodyFault;
+use crate::asking::{admit, route};
 use crate::piece::Halt;
 use gn_hub::{Actor, Service};
 use gn_links::{Gate, Made};
 use gn_payload::Checked;
-use gn_rules::{ConnId, Refusal, RouterCore};
+use gn_rules::{ConnId, RouterCore};
 use gn_stage::{Intake, Job, Site};
 use gn_wire::Descriptor;
 use std::alloc::{Allocator, Global};
@@ -55,16 +53,6 @@ impl<'s, G: Gate, B: Site + Ledger, C: RouterCore<A> + Drop, A: Allocator + Copy
     C,
     A,
 > {
-    /// Connects the link. The connection, or none where too many are live.
-    pub(crate) fn connect<R: Wait>(&mut self, rt: &R) -> Result<Option<ConnId>, BodyFault>
-        requires none { self.old.actor.receipts ≡ [] }
-        ensures numbers { HasSameNumbers self.old self.new }
-        ensures connected { IfOk result (λ made. HasOnlyConnected made self.new.actor) }
-        ensures settled { StaysSettled self.old self.new }
-    {
-        connect(rt, self.service, self.gate, &mut self.actor)
-    }
-
     /// Admits a descriptor, and puts its job, or routes it where it is handed back.
     fn admit<R: Wait>(&mut self, rt: &R, c: ConnId, descriptor: Descriptor<A>) -> Result<(), Halt>
         ensures goes_on { GoesOn self.old self.new }
@@ -72,49 +60,34 @@ impl<'s, G: Gate, B: Site + Ledger, C: RouterCore<A> + Drop, A: Allocator + Copy
         ensures not_live { IfErr result (λ why. why ≡ halt.NotLive
             → link_events self.new.actor ≡ link_events self.old.actor) }
     {
-        match admit(rt, self.service, &mut self.actor, c, descriptor) {
-            Ok(Some(job)) => {
-                self.gate
-                    .made(self.actor.number(), Made::Admitted(job.ticket));
-                match self.put(rt, job) {
-                    Ok(()) => Ok(()),
-                    Err(fault) => Err(Halt::Stop(fault)),
-                }
-            }
-            Ok(None) => {
-                self.gate.made(self.actor.number(), Made::Busy);
-                Ok(())
-            }
-            Err(Refusal::NotLive) => Err(Halt::NotLive),
-            Err(refusal) => Err(Halt::Stop(BodyFault::from(refusal))),
+        match admit(rt, self.service, self.gate, &mut self.actor, c, descriptor) {
+            Ok(Some(job)) => self.put(rt, job),
+            Ok(None) => Ok(()),
+            Err(why) => Err(why),
         }
     }
 
     /// Puts the job that was admitted last, or routes it where it is handed back. A route that is refused is marked.
-    fn put<R: Wait>(&mut self, rt: &R, job: Job<A>) -> Result<(), BodyFault>
+    fn put<R: Wait>(&mut self, rt: &R, job: Job<A>) -> Result<(), Halt>
         ensures numbers { HasSameNumbers self.old self.new }
         ensures connection { KeepsConnection self.old.actor self.new.actor }
         ensures events { link_events self.new.actor ≡ link_events self.old.actor }
         ensures settled { (before : List Queued) → IsOwed before job self.old → IsSettled before self.new }
+        ensures stops { IfErr result (λ why. why ≡ halt.NotLive → ⊥) }
     {
         let Err(back) = self.intake.put(rt, job) else {
             return Ok(());
         };
         let Job { ticket, descriptor } = back;
         let checked = Checked::new(descriptor);
-        let answer = route(rt, self.service, &mut self.actor, ticket, &checked);
-        drop(checked);
-        match answer {
+        match route(rt, self.service, &mut self.actor, ticket, checked) {
             Ok(()) => {
                 self.gate.made(self.actor.number(), Made::Routed);
                 Ok(())
             }
             Err(fault) => {
                 self.is_refused = true;
-                if fault.is_stop() {
-                    return Err(fault);
-                }
-                Ok(())
+                Halt::at_stop(fault)
             }
         }
     }
@@ -138,14 +111,5 @@ impl<'s, G: Gate, B: Site + Ledger, C: RouterCore<A> + Drop, A: Allocator + Copy
             }
         }
         Ok(())
-    }
-
-    /// Closes the connection, if it is still live.
-    pub(crate) fn close<R: Wait>(&mut self, rt: &R, c: ConnId) -> Result<(), BodyFault>
-        ensures goes_on { GoesOn self.old self.new }
-        ensures closed { WithClose c (link_events self.new.actor) (link_events self.old.actor) }
-    {
-        let link = self.actor.number();
-        close(rt, self.service, self.gate, &mut self.actor, link, c)
     }
 }

@@ -28,17 +28,19 @@ pub(crate) enum Halt {
     Stop(BodyFault),
 }
 
-/// What the bytes of a connected link did.
-#[derive(Clone, Copy)]
-pub(crate) enum Delivery {
-    /// All descriptors were admitted.
-    More,
-    /// They were, and a fault comes after them.
-    Fault(FrameFault),
-    /// The connection was found closed.
-    NotLive,
-    /// The body stops.
-    Stop(BodyFault),
+impl Halt {
+    ghost use Rattle.std.specs.Prelude.{◌≡◌, IfErr};
+    ghost use Rattle.gn_bodies.specs.declared.piece.Halt.TheVariants as halt;
+
+    /// Why no more are admitted after this fault: it stops the body, unless the body goes on to its end.
+    pub(crate) fn at_stop(fault: BodyFault) -> Result<(), Halt>
+        ensures { IfErr result (λ why. why ≡ halt.NotLive → ⊥) }
+    {
+        if fault.is_stop() {
+            return Err(Halt::Stop(fault));
+        }
+        Ok(())
+    }
 }
 
 /// What a piece did.
@@ -76,6 +78,47 @@ impl<A: Allocator> Reading<A> {
         match self {
             Reading::Greeting(_) => ReaderEnd::GreetingCut,
             Reading::Joined { .. } => ReaderEnd::Bytes,
+        }
+    }
+}
+
+impl<A: Allocator> Piece<A> {
+    ghost use Rattle.std.specs.Prelude.{◌≡◌};
+    ghost use Rattle.gn_bodies.specs.Reading.{end_of_turns, piece_of};
+
+    /// What a piece of a connected link did, by how its descriptors were admitted and the fault that comes after them.
+    pub(crate) fn of_admitted(
+        connection: ConnId,
+        frames: Reassembler<A>,
+        admitted: Result<(), Halt>,
+        fault: Option<FrameFault>,
+    ) -> Piece<A>
+        ensures { result ≡ piece_of connection frames admitted fault }
+    {
+        match admitted {
+            Ok(()) => match fault {
+                None => Piece::More(Reading::Joined { connection, frames }),
+                Some(fault) => Piece::End {
+                    connection: Some(connection),
+                    end: ReaderEnd::Fault(fault),
+                },
+            },
+            Err(Halt::NotLive) => Piece::End {
+                connection: Some(connection),
+                end: ReaderEnd::NotLive,
+            },
+            Err(Halt::Stop(why)) => Piece::Stop(why),
+        }
+    }
+
+    /// How a reader ends that reads no more: as the piece ended it, or because as many reads gave bytes as may be.
+    pub(crate) fn into_end(self) -> Result<(Option<ConnId>, ReaderEnd), BodyFault>
+        ensures { result ≡ end_of_turns self }
+    {
+        match self {
+            Piece::More(reading) => Ok((reading.into_connection(), ReaderEnd::Turns)),
+            Piece::End { connection, end } => Ok((connection, end)),
+            Piece::Stop(why) => Err(why),
         }
     }
 }

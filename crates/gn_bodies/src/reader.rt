@@ -10,6 +10,7 @@ ghost use Rattle.gn_bodies.specs.Jobs.{jobs_left};
 ghost use Rattle.gn_bodies.specs.ReaderRows.{ReaderRow};
 ghost use Rattle.gn_bodies.specs.Reading.{EndsReading, HasTakenPiece, IsTaken, ReadRow, closes};
 
+use crate::asking::close;
 use crate::ends::{BodyFault, ReaderEnd, fail_at_stop};
 use crate::handler::ReaderHandler;
 use crate::piece::{Piece, Reading};
@@ -56,7 +57,6 @@ impl<'s, G: Gate, B: Site + Ledger, C: RouterCore<A> + Drop, A: Allocator + Copy
     }
 
     /// Reads to the end, and closes nothing.
-    #[tactic(auto, using(crate::proofs::ReadingLemmas::nothing_read))]
     fn read_all<Rd: LinkReader, R: Wait>(
         &mut self,
         rt: &R,
@@ -73,27 +73,15 @@ impl<'s, G: Gate, B: Site + Ledger, C: RouterCore<A> + Drop, A: Allocator + Copy
             (Rd.gives (Rd.made_of reader.new)).may_fail) }
     {
         gn_shake::greeting_is_known();
-        let mut reading = match self.begin(rt, role) {
-            Piece::More(reading) => reading,
-            Piece::End { connection, end } => return Ok((connection, end)),
-            Piece::Stop(why) => return Err(why),
-        };
         let mut buffer = [0u8; 4096];
+        let mut piece = self.begin(rt, role);
         for _ in 0..TURNS {
-            match reader.read(rt, &mut buffer) {
-                Err(_) => return Ok((reading.into_connection(), ReaderEnd::ReadFailed)),
-                Ok(0) => {
-                    let end = reading.end_of_bytes();
-                    return Ok((reading.into_connection(), end));
-                }
-                Ok(n) => match self.take_bytes(rt, reading, &buffer[..n]) {
-                    Piece::More(later) => reading = later,
-                    Piece::End { connection, end } => return Ok((connection, end)),
-                    Piece::Stop(why) => return Err(why),
-                },
-            }
+            piece = match piece {
+                Piece::More(reading) => self.read_piece(rt, reader, reading, &mut buffer),
+                ended => return ended.into_end(),
+            };
         }
-        Ok((reading.into_connection(), ReaderEnd::Turns))
+        piece.into_end()
     }
 
     /// Closes the connection at an end that closes it, and shuts the door where there is none.
@@ -108,12 +96,15 @@ impl<'s, G: Gate, B: Site + Ledger, C: RouterCore<A> + Drop, A: Allocator + Copy
         ensures row { (role : Role) (b : List ℕ) → ReadRow role end connection (link_events self.old.actor) b
             → ReaderRow role end connection (link_events self.new.actor) b }
     {
+        let link = self.actor.number();
         match connection {
             None => {
-                self.service.shut(rt, self.actor.number());
+                self.service.shut(rt, link);
                 Ok(())
             }
-            Some(c) if closes(end) => self.close(rt, c),
+            Some(c) if closes(end) => {
+                close(rt, self.service, self.gate, &mut self.actor, link, c)
+            }
             Some(_) => Ok(()),
         }
     }
@@ -133,12 +124,14 @@ impl<'s, G: Gate, B: Site + Ledger, C: RouterCore<A> + Drop, A: Allocator + Copy
         ensures put { OnOk result (self.old.is_refused ≡ false
             → self.new.intake.jobs ≡ self.old.intake.jobs ++ jobs_left self.new.actor.receipts) }
     {
-        let (connection, end) = self.read_all(rt, reader, role)?;
-        self.close_at(rt, connection, end)?;
-        if self.is_refused {
-            return Err(BodyFault::Refused);
+        match self.read_all(rt, reader, role) {
+            Ok((connection, end)) => match self.close_at(rt, connection, end) {
+                Ok(()) if self.is_refused => Err(BodyFault::Refused),
+                Ok(()) => Ok(end),
+                Err(why) => Err(why),
+            },
+            Err(why) => Err(why),
         }
-        Ok(end)
     }
 }
 

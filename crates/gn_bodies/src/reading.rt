@@ -1,18 +1,20 @@
 //! How a reader takes the bytes of its link.
 
-ghost use Rattle.std.specs.Prelude.{◌≡◌, ◌++◌, [], ℕ, List, Some};
+ghost use Rattle.std.specs.Prelude.{◌≡◌, ◌+◌, ◌<◌, ◌++◌, [], ℕ, List, Some};
 ghost use Rattle.gn_shake.specs.declared.role.Role.{Role};
 ghost use Rattle.gn_shake.specs.Greeting.{greeting_of};
+ghost use Rattle.gn_links.specs.Halves.{IsReadFrom};
 ghost use Rattle.gn_bodies.specs.declared.piece.Reading.TheVariants as reading;
-ghost use Rattle.gn_bodies.specs.Admitting.{GoesOn};
+ghost use Rattle.gn_bodies.specs.Admitting.{HasSameNumbers, StaysSettled};
 ghost use Rattle.gn_bodies.specs.Events.{connection_of};
-ghost use Rattle.gn_bodies.specs.Reading.{HasConnection, HasTakenPiece, IsDelivered, IsOffering, IsReading, IsTaken};
+ghost use Rattle.gn_bodies.specs.Reading.{HasConnection, HasReadOn, HasReadPieces, HasTakenPiece, IsOffering, IsReading, IsTaken};
 
+use crate::asking::connect;
 use crate::ends::{BodyFault, ReaderEnd};
 use crate::handler::ReaderHandler;
-use crate::piece::{Delivery, Halt, Piece, Reading};
+use crate::piece::{Piece, Reading};
 use gn_frames::{Fed, Reassembler};
-use gn_links::Gate;
+use gn_links::{Gate, LinkReader};
 use gn_rules::{ConnId, RouterCore};
 use gn_shake::{Shake, ShakeState};
 use gn_stage::Site;
@@ -27,23 +29,46 @@ impl<'s, G: Gate, B: Site + Ledger, C: RouterCore<A> + Drop, A: Allocator + Copy
     C,
     A,
 > {
-    /// Takes a piece of a link.
-    pub(crate) fn take_bytes<R: Wait>(
+    /// Reads once, and takes the piece that was read.
+    pub(crate) fn read_piece<Rd: LinkReader, R: Wait>(
         &mut self,
         rt: &R,
+        reader: &mut Rd,
         reading: Reading<A>,
-        piece: &[u8],
+        buffer: &mut [u8; 4096],
     ) -> Piece<A>
         requires connection { HasConnection reading self.old.actor }
-        ensures piece { HasTakenPiece result self.old self.new }
-        ensures taken { (role : Role) (b : List ℕ) → IsReading role reading b self.old.actor
-            → IsTaken role result (b ++ piece.now) self.new.actor }
+        ensures numbers { HasSameNumbers self.old self.new }
+        ensures settled { StaysSettled self.old self.new }
+        ensures made { Rd.made_of reader.new ≡ Rd.made_of reader.old }
+        ensures own { IsReadFrom (Rd.gives (Rd.made_of reader.new)) (Rd.state reader.new) }
+        ensures read { (role : Role) (count : ℕ) → count < 1000000
+            → HasReadOn role reading self.old.actor (Rd.state reader.old) count
+            → HasReadPieces role result self.new.actor (Rd.state reader.new) (Rd.gives (Rd.made_of reader.new)).may_fail
+            (count + 1) }
     {
-        match reading {
-            Reading::Greeting(shake) => self.greet(rt, shake, piece),
-            Reading::Joined { connection, frames } => self.deliver_on(
-                rt, connection, frames, piece,
-            ),
+        gn_shake::greeting_is_known();
+        match reader.read(rt, buffer) {
+            Err(_) => Piece::End {
+                connection: reading.into_connection(),
+                end: ReaderEnd::ReadFailed,
+            },
+            Ok(0) => {
+                let end = reading.end_of_bytes();
+                Piece::End {
+                    connection: reading.into_connection(),
+                    end,
+                }
+            }
+            Ok(n) => {
+                let piece = &buffer[..n];
+                match reading {
+                    Reading::Greeting(shake) => self.greet(rt, shake, piece),
+                    Reading::Joined { connection, frames } => {
+                        self.deliver_on(rt, connection, frames, piece)
+                    }
+                }
+            }
         }
     }
 
@@ -76,7 +101,7 @@ impl<'s, G: Gate, B: Site + Ledger, C: RouterCore<A> + Drop, A: Allocator + Copy
             → IsTaken role result b self.new.actor }
     {
         gn_shake::greeting_is_known();
-        match self.connect(rt) {
+        match connect(rt, self.service, self.gate, &mut self.actor) {
             Err(why) => Piece::Stop(why),
             Ok(None) => Piece::End {
                 connection: None,
@@ -103,49 +128,13 @@ impl<'s, G: Gate, B: Site + Ledger, C: RouterCore<A> + Drop, A: Allocator + Copy
             → IsTaken role result (b ++ piece.now) self.new.actor }
     {
         gn_shake::greeting_is_known();
-        let mut frames = frames;
-        match self.deliver(rt, c, &mut frames, piece) {
-            Delivery::More => Piece::More(Reading::Joined {
-                connection: c,
-                frames,
-            }),
-            Delivery::Fault(fault) => Piece::End {
-                connection: Some(c),
-                end: ReaderEnd::Fault(fault),
-            },
-            Delivery::NotLive => Piece::End {
-                connection: Some(c),
-                end: ReaderEnd::NotLive,
-            },
-            Delivery::Stop(why) => Piece::Stop(why),
-        }
-    }
-
-    /// Takes a piece of a connected link.
-    fn deliver<R: Wait>(
-        &mut self,
-        rt: &R,
-        c: ConnId,
-        frames: &mut Reassembler<A>,
-        piece: &[u8],
-    ) -> Delivery
-        ensures goes_on { GoesOn self.old self.new }
-        ensures delivered { (s : List ℕ) → IsOffering s c frames.old self.old.actor
-            → IsDelivered result (s ++ piece.now) c frames.new self.new.actor }
-    {
         gn_frames::pieces_are_one_stream();
+        let mut frames = frames;
         let Ok(fed) = frames.feed(piece) else {
-            return Delivery::Stop(BodyFault::NoMemory);
+            return Piece::Stop(BodyFault::NoMemory);
         };
         let Fed { descriptors, fault } = fed;
-        match self.admit_all(rt, c, descriptors) {
-            Ok(()) => {}
-            Err(Halt::NotLive) => return Delivery::NotLive,
-            Err(Halt::Stop(why)) => return Delivery::Stop(why),
-        }
-        match fault {
-            Some(fault) => Delivery::Fault(fault),
-            None => Delivery::More,
-        }
+        let admitted = self.admit_all(rt, c, descriptors);
+        Piece::of_admitted(c, frames, admitted, fault)
     }
 }

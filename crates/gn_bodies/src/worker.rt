@@ -39,7 +39,7 @@ fn route_job<G: Gate, C: RouterCore<A> + Drop, L: Ledger, A: Allocator + Copy, R
     let Job { ticket, descriptor } = job;
     let checked = Checked::new(descriptor);
     gate.enter(rt, worker, ticket);
-    route(rt, service, me, ticket, &checked)
+    route(rt, service, me, ticket, checked)
 }
 
 /// Routes the jobs to their end.
@@ -57,22 +57,19 @@ fn route_all<G: Gate, B: Site + Ledger, C: RouterCore<A> + Drop, A: Allocator + 
     ensures routes { link_events me.new ≡ [] }
     ensures each { OnOk result (routes_of outlet.new.jobs ≡ routes_of outlet.old.jobs ++ events_of me.new) }
 {
-    let mut is_refused = false;
+    let mut end: Result<(), BodyFault> = Ok(());
     for _ in rt.forever() {
         let Some(job) = outlet.take(rt) else {
-            break;
+            return end;
         };
         if let Err(fault) = route_job(rt, service, me, worker, gate, job) {
             if fault.is_stop() {
                 return Err(fault);
             }
-            is_refused = true;
+            end = Err(fault);
         }
     }
-    if is_refused {
-        return Err(BodyFault::Refused);
-    }
-    Ok(())
+    unreachable!()
 }
 
 /// The body of a worker: it takes each job, checks its payload, passes the gate, and routes it. Where it ended well, it

@@ -1,13 +1,14 @@
 //! The body of a writer.
 
 ghost use Rattle.std.specs.Prelude.{◌≡◌, [], ℕ, false, true, IfOk, OnOk};
-ghost use Rattle.std.specs.List.{concat};
 ghost use Rattle.gn_wire.specs.Encoding.{bytes_of};
 ghost use Rattle.gn_links.specs.Halves.{IsNewWriter};
+ghost use Rattle.gn_shake.specs.declared.role.Role.{Role};
 ghost use Rattle.gn_bodies.specs.declared.ends.WriterEnd.TheVariants.{Closed, NeverOpened, WriteFailed};
 ghost use Rattle.gn_bodies.specs.Done.{IsWriterDone, WritesAs, half_of, writer_ended};
 ghost use Rattle.gn_bodies.specs.Events.{packets_of};
-ghost use Rattle.gn_bodies.specs.Written.{HasAsked, HasWrittenText, PacketSteps, WriterSteps, opening_texts};
+ghost use Rattle.gn_bodies.specs.Writing.{HasWrittenPacket, WritesOn, WritesPackets};
+ghost use Rattle.gn_bodies.specs.Written.{HasWrittenText, WriterSteps};
 
 use crate::asking::close;
 use crate::ends::{BodyFault, WriterEnd, fail_at_stop};
@@ -45,32 +46,6 @@ fn write_text<W: LinkWriter, R: Wait>(rt: &R, writer: &mut W, text: &[u8]) -> bo
     true
 }
 
-/// Takes the link's next packet. None where one was taken; else how the writer ends that found none.
-fn take_next<G: Gate, C: RouterCore<A> + Drop, L: Ledger, A: Allocator + Copy, R: Wait>(
-    rt: &R,
-    service: &Service<C, L, A>,
-    gate: &G,
-    me: &mut Actor<L, A>,
-    link: u32,
-    c: ConnId,
-) -> Result<Option<WriterEnd>, BodyFault>
-    ensures number { me.new.number ≡ me.old.number }
-    ensures asked { IfOk result (λ end. HasAsked end c me.old me.new) }
-{
-    match service.next_out(rt, me, c) {
-        Ok(Outgoing::Packet) => {
-            gate.made(link, Made::Taken);
-            Ok(None)
-        }
-        Ok(Outgoing::Drained) => {
-            gate.made(link, Made::Closed);
-            Ok(Some(WriterEnd::Drained))
-        }
-        Ok(Outgoing::Closed) => Ok(Some(WriterEnd::Closed)),
-        Err(refusal) => Err(BodyFault::from(refusal)),
-    }
-}
-
 /// Puts the encoding of a packet in place of a text. An `Err` is out of memory.
 fn encode_into<A: Allocator>(
     packet: &Descriptor<A>,
@@ -83,23 +58,27 @@ fn encode_into<A: Allocator>(
     packet.write_to(text)
 }
 
-/// Encodes a packet, and writes it. False where a write failed, or took nothing. An `Err` is out of memory.
+/// Encodes a packet, and writes it. None where all of it was written; else how the body ends.
 fn write_packet<W: LinkWriter, A: Allocator, R: Wait>(
     rt: &R,
     writer: &mut W,
     packet: &Descriptor<A>,
     text: &mut Vec<u8, A>,
-) -> Result<bool, AllocError>
+) -> Option<Result<WriterEnd, BodyFault>>
     ensures made { W.made_of writer.new ≡ W.made_of writer.old }
-    ensures state { IfOk result (λ is_all. HasWrittenText is_all (bytes_of packet.now) (W.state writer.old)
-        (W.state writer.new)) }
+    ensures state { HasWrittenPacket result (bytes_of packet.now) (W.state writer.old) (W.state writer.new) }
 {
-    encode_into(packet, text)?;
-    Ok(write_text(rt, writer, text.as_slice()))
+    let Ok(()) = encode_into(packet, text) else {
+        return Some(Err(BodyFault::NoMemory));
+    };
+    if !write_text(rt, writer, text.as_slice()) {
+        return Some(Ok(WriterEnd::WriteFailed));
+    }
+    None
 }
 
-/// Takes, encodes and writes each packet. `text` holds the encoding of one at a time.
-fn write_packets<
+/// Takes the link's next packet, and writes it. None where all of it was written; else how the body ends.
+fn write_next<
     W: LinkWriter,
     G: Gate,
     C: RouterCore<A> + Drop,
@@ -113,29 +92,26 @@ fn write_packets<
     me: &mut Actor<L, A>,
     link: u32,
     writer: &mut W,
-    role: Role,
     c: ConnId,
     text: &mut Vec<u8, A>,
-) -> Result<WriterEnd, BodyFault>
-    requires none { me.old.receipts ≡ [] }
-    requires opened { (W.state writer.old).is_known ≡ true
-        → (W.state writer.old).bytes ≡ concat (opening_texts role) }
+) -> Option<Result<WriterEnd, BodyFault>>
     ensures number { me.new.number ≡ me.old.number }
     ensures made { W.made_of writer.new ≡ W.made_of writer.old }
-    ensures written { IfOk result (λ end. WritesAs role end (packets_of me.new) (W.state writer.new)) }
-    ensures steps { IfOk result (λ end. PacketSteps end c me.new) }
+    ensures written { (role : Role) → WritesPackets role Closed c me.old (W.state writer.old)
+        → WritesOn role result c me.new (W.state writer.new) }
 {
-    for _ in rt.forever() {
-        if let Some(end) = take_next(rt, service, gate, me, link, c)? {
-            return Ok(end);
+    match service.next_out(rt, me, c) {
+        Ok(Outgoing::Packet) => {
+            gate.made(link, Made::Taken);
+            write_packet(rt, writer, me.last_taken(), text)
         }
-        match write_packet(rt, writer, me.last_taken(), text) {
-            Ok(true) => {}
-            Ok(false) => return Ok(WriterEnd::WriteFailed),
-            Err(_) => return Err(BodyFault::NoMemory),
+        Ok(Outgoing::Drained) => {
+            gate.made(link, Made::Closed);
+            Some(Ok(WriterEnd::Drained))
         }
+        Ok(Outgoing::Closed) => Some(Ok(WriterEnd::Closed)),
+        Err(refusal) => Some(Err(BodyFault::from(refusal))),
     }
-    unreachable!()
 }
 
 /// Writes the request of a calling link. False where a write failed, or took nothing.
@@ -162,6 +138,42 @@ fn write_consent<W: LinkWriter, R: Wait>(rt: &R, writer: &mut W, role: Role) -> 
         Role::Accepting => write_text(rt, writer, gn_shake::consent()),
         Role::Calling | Role::Plain => true,
     }
+}
+
+/// Writes the consent of an accepting link, and then each packet that it takes. `text` holds the encoding of one at a time.
+fn write_packets<
+    W: LinkWriter,
+    G: Gate,
+    C: RouterCore<A> + Drop,
+    L: Ledger,
+    A: Allocator + Copy,
+    R: Wait,
+>(
+    rt: &R,
+    service: &Service<C, L, A>,
+    gate: &G,
+    me: &mut Actor<L, A>,
+    link: u32,
+    writer: &mut W,
+    role: Role,
+    c: ConnId,
+    text: &mut Vec<u8, A>,
+) -> Result<WriterEnd, BodyFault>
+    requires none { me.old.receipts ≡ [] }
+    requires called { WritesAs role NeverOpened [] (W.state writer.old) }
+    ensures number { me.new.number ≡ me.old.number }
+    ensures made { W.made_of writer.new ≡ W.made_of writer.old }
+    ensures written { IfOk result (λ end. WritesPackets role end c me.new (W.state writer.new)) }
+{
+    if !write_consent(rt, writer, role) {
+        return Ok(WriterEnd::WriteFailed);
+    }
+    for _ in rt.forever() {
+        if let Some(end) = write_next(rt, service, gate, me, link, writer, c, text) {
+            return end;
+        }
+    }
+    unreachable!()
 }
 
 /// Opens the link, writes, and closes it where a write failed.
@@ -195,15 +207,11 @@ fn write_link<
     let Some(c) = service.meet(rt, link) else {
         return Ok(WriterEnd::NeverOpened);
     };
-    if !write_consent(rt, writer, role) {
-        close(rt, service, gate, me, link, c)?;
-        return Ok(WriterEnd::WriteFailed);
-    }
-    let end = write_packets(rt, service, gate, me, link, writer, role, c, text)?;
-    if let WriterEnd::WriteFailed = end {
+    let end = write_packets(rt, service, gate, me, link, writer, role, c, text);
+    if let Ok(WriterEnd::WriteFailed) = end {
         close(rt, service, gate, me, link, c)?;
     }
-    Ok(end)
+    end
 }
 
 /// The body of a writer: it writes the request of a calling link, waits until the link has connected, writes the consent of

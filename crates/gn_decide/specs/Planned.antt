@@ -1,11 +1,15 @@
 -- The reply that a plan stands for.
-use Rattle.std.specs.Prelude.{nat_lt, List, [], ◌∷◌, Result, Ok, Err}
+use Rattle.std.specs.Prelude.{◌≡◌, ℕ, nat_lt, List, [], ◌∷◌, Result, Ok, Err}
+use Rattle.gn_wire.specs.Packet.{Packet}
 use Rattle.gn_rules.specs.declared.config.Config.{Config}
 use Rattle.gn_rules.specs.declared.receipt.Step.{Step}
 use Rattle.gn_rules.specs.declared.refusal.Refusal.{Refusal}
 use Rattle.gn_rules.specs.declared.reply.Reply.{Reply}
 use Rattle.gn_rules.specs.declared.reply.Reply.TheVariants as reply
 use Rattle.gn_rules.specs.declared.sends.Sending.{Sending}
+use Rattle.gn_rules.specs.Answer.{decision_reply}
+use Rattle.gn_rules.specs.Decision.{Decision}
+use Rattle.gn_rules.specs.Flight.{Admission}
 use Rattle.gn_rules.specs.Sending.{fanout, flood_sends}
 use Rattle.gn_decide.specs.declared.plan.Outgoing.{Outgoing}
 use Rattle.gn_decide.specs.declared.plan.Outgoing.TheVariants.{Nothing, One, Flood, Each}
@@ -32,3 +36,9 @@ plan_reply s past (Sent sends) = reply.Sent (outgoing_sends s past sends)
 abbrev pub planned : {A : Type 0} → Config → List (Step A) → Result (Plan A) Refusal → Result (Reply A) Refusal
 planned s past (Ok plan) = Ok (plan_reply s past plan)
 planned s past (Err refusal) = Err refusal
+
+-- a plan for a descriptor that this connection admitted stands for what a rule decides of it
+abbrev pub Decides : {A : Type 0} → Config → List (Step A) → ℕ → Packet → (Admission → Decision) → Plan A → Type 0
+Decides s past origin packet rule plan =
+    let a : Admission = record { origin = origin; packet = packet } in
+    plan_reply s past plan ≡ decision_reply s past a (rule a)

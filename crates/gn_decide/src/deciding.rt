@@ -3,11 +3,9 @@
 ghost use Rattle.std.specs.Prelude.{◌≡◌};
 ghost use Rattle.gn_wire.specs.Keys.{key_of};
 ghost use Rattle.gn_wire.specs.declared.kind.Kind.TheVariants.{Ping, Push};
-ghost use Rattle.gn_rules.specs.Answer.{decision_reply};
 ghost use Rattle.gn_rules.specs.Decision as rules;
-ghost use Rattle.gn_rules.specs.Flight.{Admission};
 ghost use Rattle.gn_rules.specs.SeenEntries as seen_entries;
-ghost use Rattle.gn_decide.specs.Planned.{plan_reply};
+ghost use Rattle.gn_decide.specs.Planned.{Decides};
 
 use crate::lookup::Lookup;
 use crate::made::{Forwarded, Made};
@@ -24,10 +22,8 @@ fn checks<'a, A: Allocator, L: Lookup<A>>(
     packet: &'a Descriptor<A>,
     r: ConnId,
 ) -> Plan<'a, A>
-    ensures { let a : Admission = record { origin = origin; packet = packet.now } in
-        plan_reply (L.settings past.now) (L.past past.now) result
-        ≡ decision_reply (L.settings past.now) (L.past past.now) a
-        (rules.checks (L.settings past.now) (L.past past.now) a r) }
+    ensures { Decides (L.settings past.now) (L.past past.now) origin packet.now
+        (λ a. rules.checks (L.settings past.now) (L.past past.now) a r) result }
 {
     let Some(waiting) = past.output(r) else {
         return Plan::Ready(Reply::Dropped(DropReason::RouteGone));
@@ -54,10 +50,8 @@ fn decide_request<'a, A: Allocator, L: Lookup<A>>(
     origin: ConnId,
     packet: &'a Descriptor<A>,
 ) -> Plan<'a, A>
-    ensures { let a : Admission = record { origin = origin; packet = packet.now } in
-        plan_reply (L.settings past.now) (L.past past.now) result
-        ≡ decision_reply (L.settings past.now) (L.past past.now) a
-        (rules.decide_sound (L.settings past.now) (L.past past.now) a Ping) }
+    ensures { Decides (L.settings past.now) (L.past past.now) origin packet.now
+        (λ a. rules.decide_sound (L.settings past.now) (L.past past.now) a Ping) result }
 {
     if is_remembered(past, packet) {
         return Plan::Ready(Reply::Dropped(DropReason::Duplicate));
@@ -73,10 +67,10 @@ fn decide_reply<'a, A: Allocator, L: Lookup<A>>(
     packet: &'a Descriptor<A>,
     request: Kind,
 ) -> Plan<'a, A>
-    ensures { let a : Admission = record { origin = origin; packet = packet.now } in
-        plan_reply (L.settings past.now) (L.past past.now) result
-        ≡ decision_reply (L.settings past.now) (L.past past.now) a (rules.decide_reply (L.settings past.now) (L.past past.now) a
-        (seen_entries.source (L.settings past.now) (L.past past.now) (record { kind = request; id = packet.now.id }))) }
+    ensures { Decides (L.settings past.now) (L.past past.now) origin packet.now
+        (λ a. rules.decide_reply (L.settings past.now) (L.past past.now) a
+        (seen_entries.source (L.settings past.now) (L.past past.now)
+        (record { kind = request; id = packet.now.id }))) result }
 {
     let key = Key {
         kind: request,
@@ -96,10 +90,8 @@ fn decide_push<'a, A: Allocator, L: Lookup<A>>(
     packet: &'a Descriptor<A>,
 ) -> Plan<'a, A>
     requires { packet.now.kind ≡ Push }
-    ensures { let a : Admission = record { origin = origin; packet = packet.now } in
-        plan_reply (L.settings past.now) (L.past past.now) result
-        ≡ decision_reply (L.settings past.now) (L.past past.now) a
-        (rules.decide_sound (L.settings past.now) (L.past past.now) a Push) }
+    ensures { Decides (L.settings past.now) (L.past past.now) origin packet.now
+        (λ a. rules.decide_sound (L.settings past.now) (L.past past.now) a Push) result }
 {
     if is_remembered(past, packet) {
         return Plan::Ready(Reply::Dropped(DropReason::Duplicate));
@@ -120,10 +112,8 @@ fn decide_sound<'a, A: Allocator, L: Lookup<A>>(
     origin: ConnId,
     packet: &'a Descriptor<A>,
 ) -> Plan<'a, A>
-    ensures { let a : Admission = record { origin = origin; packet = packet.now } in
-        plan_reply (L.settings past.now) (L.past past.now) result
-        ≡ decision_reply (L.settings past.now) (L.past past.now) a
-        (rules.decide_sound (L.settings past.now) (L.past past.now) a packet.now.kind) }
+    ensures { Decides (L.settings past.now) (L.past past.now) origin packet.now
+        (λ a. rules.decide_sound (L.settings past.now) (L.past past.now) a packet.now.kind) result }
 {
     match packet.kind() {
         Kind::Ping | Kind::Query => decide_request(past, origin, packet),
@@ -141,10 +131,8 @@ pub fn decide<'a, A: Allocator, L: Lookup<A>>(
     packet: &'a Descriptor<A>,
     verdict: Verdict,
 ) -> Plan<'a, A>
-    ensures { let a : Admission = record { origin = origin; packet = packet.now } in
-        plan_reply (L.settings past.now) (L.past past.now) result
-        ≡ decision_reply (L.settings past.now) (L.past past.now) a
-        (rules.decide_checked (L.settings past.now) (L.past past.now) a verdict) }
+    ensures { Decides (L.settings past.now) (L.past past.now) origin packet.now
+        (λ a. rules.decide_checked (L.settings past.now) (L.past past.now) a verdict) result }
 {
     match verdict {
         Verdict::UnknownKind => Plan::Ready(Reply::Dropped(DropReason::UnknownKind)),

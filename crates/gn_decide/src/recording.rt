@@ -7,8 +7,48 @@ ghost use Rattle.gn_rules.specs.declared.reply.Reply.{Reply};
 
 use crate::recorder::Recorder;
 use gn_payload::Checked;
-use gn_rules::{Event, Receipt, Refusal, Reply, Step, Ticket};
+use gn_rules::{Event, Receipt, Refusal, Reply, Ticket};
 use std::alloc::{AllocError, Allocator};
+
+/// The receipt of the step with this index, with copies of its event and its reply. An `Err` is out of memory.
+fn receipt_of<A: Allocator + Copy>(
+    alloc: A,
+    index: u32,
+    event: &Event<A>,
+    reply: &Reply<A>,
+) -> Result<Receipt<A>, AllocError>
+    ensures { IfOk result (λ receipt. receipt ≡ record { index = index; event = event.now; reply = reply.now }) }
+{
+    Ok(Receipt {
+        index,
+        event: event.copy()?,
+        reply: reply.copy(alloc)?,
+    })
+}
+
+/// Adds the step of a copy of an event and the rules' reply. An `Err` is out of memory, and changes nothing.
+fn add_copy<A: Allocator + Copy, R: Recorder<A>>(
+    router: &mut R,
+    actor: u32,
+    event: &Event<A>,
+    reply: Reply<A>,
+) -> Result<(), AllocError>
+    requires { rules.answer (R.settings router.old) (reverse (R.steps router.old)) event.now ≡ Ok reply }
+    ensures step { OnOk result (R.steps router.new
+        ≡ R.steps router.old ++ record { actor = actor; event = event.now; reply = reply } ∷ []) }
+    ensures err { OnErr result (R.steps router.new ≡ R.steps router.old) }
+    ensures settings { R.settings router.new ≡ R.settings router.old }
+{
+    let mut reply = reply;
+    let Ok(mut event) = event.copy() else {
+        drop(reply);
+        return Err(AllocError);
+    };
+    let appended = router.append(actor, &mut event, &mut reply);
+    drop(event);
+    drop(reply);
+    appended
+}
 
 /// Adds the step of an event and the rules' reply, and gives its receipt. An `Err` is out of memory, and changes
 /// nothing.
@@ -17,20 +57,27 @@ fn add_with_receipt<A: Allocator + Copy, R: Recorder<A>>(
     actor: u32,
     event: &Event<A>,
     reply: Reply<A>,
-) -> Result<Receipt<A>, AllocError>
+) -> Result<Receipt<A>, Refusal>
     requires { rules.answer (R.settings router.old) (reverse (R.steps router.old)) event.now ≡ Ok reply }
+    ensures answer { rules.Finds (rules.reply_of result) (Ok reply) }
     ensures step { IfOk result (λ receipt. R.steps router.new
-        ≡ R.steps router.old ++ record { actor = actor; event = event.now; reply = reply } ∷ []) }
-    ensures receipt { IfOk result (λ receipt. receipt
-        ≡ record { index = length (R.steps router.old); event = event.now; reply = reply }) }
+        ≡ R.steps router.old ++ record { actor = actor; event = event.now; reply = receipt.reply } ∷ []) }
+    ensures index { IfOk result (λ receipt. receipt.index ≡ length (R.steps router.old)) }
+    ensures event { IfOk result (λ receipt. receipt.event ≡ event.now) }
     ensures err { OnErr result (R.steps router.new ≡ R.steps router.old) }
     ensures settings { R.settings router.new ≡ R.settings router.old }
 {
-    let index = router.next_index();
-    let (mut step, receipt) = Step::with_receipt(router.alloc(), index, actor, event, reply)?;
-    let appended = router.append(actor, &mut step.event, &mut step.reply);
-    drop(step);
-    appended.and(Ok(receipt))
+    let Ok(receipt) = receipt_of(router.alloc(), router.next_index(), event, &reply) else {
+        drop(reply);
+        return Err(Refusal::NoMemory);
+    };
+    match add_copy(router, actor, event, reply) {
+        Ok(()) => Ok(receipt),
+        Err(_) => {
+            drop(receipt);
+            Err(Refusal::NoMemory)
+        }
+    }
 }
 
 /// Answers an event: where it gets a reply, its step is the last of the history. A refusal changes nothing.
@@ -49,7 +96,7 @@ pub fn apply<A: Allocator + Copy, R: Recorder<A>>(
     ensures settings { R.settings router.new ≡ R.settings router.old }
 {
     let reply = router.answer(event)?;
-    Ok(add_with_receipt(router, actor, event, reply)?)
+    add_with_receipt(router, actor, event, reply)
 }
 
 /// As `apply`, with the event for keeps and without a receipt. A refusal leaves the event where it was.
@@ -92,7 +139,7 @@ pub fn route<A: Allocator + Copy, R: Recorder<A>>(
 {
     let reply = router.checked_answer(ticket, checked)?;
     let event = Event::Route(ticket);
-    let receipt = add_with_receipt(router, actor, &event, reply);
+    let answer = add_with_receipt(router, actor, &event, reply);
     drop(event);
-    Ok(receipt?)
+    answer
 }

@@ -151,12 +151,16 @@ impl<C: RouterCore<A>, L: Ledger, A: Allocator + Copy> Hub<C, L, A> {
             (λ refusal. (is_step (due self.old c) ≡ true) × IsStop refusal self.old
             × (self.new ≡ self.old) × (me.new ≡ me.old)) }
     {
-        if !self.core.is_live(c) || self.failed {
+        if self.failed {
             return Ok(Some(Outgoing::Closed));
         }
+        // Nothing waits for a connection that isn't live.
         if self.core.waiting(c) != 0 {
             self.call_with(me, Event::Take(c))?;
             return Ok(Some(Outgoing::Packet));
+        }
+        if !self.core.is_live(c) {
+            return Ok(Some(Outgoing::Closed));
         }
         if self.closing() {
             self.call_with(me, Event::Close(c))?;

@@ -11,9 +11,11 @@ use crate::answered::Answered;
 use crate::hub::Hub;
 use crate::mark::Door;
 use crate::next::Outgoing;
+use crossbeam_utils::CachePadded;
 use gn_payload::Checked;
 use gn_rules::{ConnId, Event, Refusal, RouterCore, Ticket};
 use std::alloc::{Allocator, Global};
+use std::hint::spin_loop;
 use std::sync::ledger::Ledger;
 use std::sync::{Condvar, Mutex, MutexGuard, Wait};
 use std::thread::yield_now;
@@ -21,11 +23,17 @@ use std::thread::yield_now;
 /// How often a thread tries to take the lock before it sleeps.
 const TRIES: u32 = 32;
 
+/// How many looks are a try.
+const LOOKS: u32 = 8;
+
 /// The hub under one lock, and the condition variable that is notified where a change may have brought what a thread waits
 /// for: a door, a packet, the end of a connection, the closing of the run, or its failure.
+///
+/// Threads that try the lock write its word. The hub stands on cache lines of its own, so that they don't take one away from
+/// who has the lock.
 #[derive(Drop)]
 pub struct Service<C: RouterCore<A> + Drop, L: Ledger, A: Allocator + Copy = Global> {
-    hub: Mutex<Hub<C, L, A>>,
+    hub: Mutex<CachePadded<Hub<C, L, A>>>,
     changed: Condvar,
 }
 
@@ -33,15 +41,27 @@ impl<C: RouterCore<A> + Drop, L: Ledger, A: Allocator + Copy> Service<C, L, A> {
     /// A hub under a lock of its own.
     pub(crate) fn over(hub: Hub<C, L, A>) -> Self {
         Service {
-            hub: Mutex::new(hub),
+            hub: Mutex::new(CachePadded::new(hub)),
             changed: Condvar::new(),
         }
     }
 
-    /// The hub. A thread that finds it taken lets others run and tries again, so many times, before it sleeps.
-    fn lock<R: Wait>(&self, rt: &R) -> MutexGuard<'_, Hub<C, L, A>> {
-        for _ in 0..TRIES {
+    /// The hub, where it is found free within so many looks.
+    fn spin(&self) -> Option<MutexGuard<'_, CachePadded<Hub<C, L, A>>>> {
+        for _ in 0..LOOKS {
             if let Some(hub) = self.hub.try_lock() {
+                return Some(hub);
+            }
+            spin_loop();
+        }
+        None
+    }
+
+    /// The hub. A thread that finds it taken looks some times more, then lets others run and tries again, so many times, before
+    /// it sleeps.
+    fn lock<R: Wait>(&self, rt: &R) -> MutexGuard<'_, CachePadded<Hub<C, L, A>>> {
+        for _ in 0..TRIES {
+            if let Some(hub) = self.spin() {
                 return hub;
             }
             yield_now();
@@ -180,6 +200,6 @@ impl<C: RouterCore<A> + Drop, L: Ledger, A: Allocator + Copy> Service<C, L, A> {
     /// The hub, without its lock.
     pub fn into_hub(self) -> Hub<C, L, A> {
         let Service { hub, changed: _ } = self;
-        hub.into_inner()
+        hub.into_inner().into_inner()
     }
 }

@@ -18,13 +18,11 @@ use Rattle.gn_rules.specs.declared.config.Config.{Config}
 use Rattle.gn_rules.specs.declared.event.Event.{Event}
 use Rattle.gn_rules.specs.declared.event.Event.TheVariants.{Connect, Close, Admit, Route, Take, Originate}
 use Rattle.gn_rules.specs.declared.receipt.Step.{Step}
-use Rattle.gn_rules.specs.declared.reply.Decision.{Decision}
-use Rattle.gn_rules.specs.declared.reply.Decision.TheVariants.{Drop, Local, Flood, Forward}
 use Rattle.gn_rules.specs.declared.reply.DropReason.TheVariants as reason
 use Rattle.gn_rules.specs.declared.reply.Reply.{Reply}
 use Rattle.gn_rules.specs.declared.sends.Sending.{Sending}
 use Rattle.gn_rules.specs.Answer.{answer, decision_reply, IsLegal}
-use Rattle.gn_rules.specs.Decision.{checks, decide, decide_checked, decide_reply, decide_sound}
+use Rattle.gn_rules.specs.Decision.{Decision, Drop, Local, Flood, Forward, checks, decide, decide_checked, decide_reply, decide_sound}
 use Rattle.gn_rules.specs.Flight.{Admission}
 use Rattle.gn_rules.specs.History.{connected_of, is_at, is_close, is_take, sends_of, connections, live}
 use Rattle.gn_rules.specs.Output.{queued, queued_to, takes}

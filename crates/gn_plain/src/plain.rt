@@ -13,6 +13,7 @@ use gn_payload::Checked;
 use gn_rules::{Config, ConnId, Event, Receipt, Refusal, Reply, RouterCore, Stats, Step, Ticket};
 use std::alloc::{AllocError, Allocator, Global};
 use std::marker::Model;
+use std::mem;
 
 /// A router that keeps its history and the tickets in flight, and searches its history for every answer.
 #[derive(Drop)]
@@ -77,8 +78,8 @@ impl<A: Allocator + Copy> Recorder<A> for PlainRouter<A> {
         follow(&mut self.flying, event, reply);
         self.history.push_reserved(Step {
             actor,
-            event: event.take(),
-            reply: reply.take(),
+            event: mem::replace(event, Event::Connect),
+            reply: mem::replace(reply, Reply::TooMany),
         });
         Ok(())
     }

@@ -7,7 +7,7 @@ ghost use Rattle.clap.specs.Kinds.{IsAmong};
 ghost use Rattle.clap.specs.Words.{kind_of};
 ghost use Rattle.clap.specs.declared.error.kind.ErrorKind.{ErrorKind as Kind};
 ghost use Rattle.clap.specs.declared.error.kind.ErrorKind.TheVariants.{OutOfMemory};
-ghost use Rattle.gn_program.specs.Commands.{Does, IsTurnedAway, IsUnread, audit_status, load_status, replay_status, serve_status, show_status};
+ghost use Rattle.gn_program.specs.Commands.{Does, IsTurnedAway, IsUnread, Loads, audit_status, load_status, replay_status, serve_status, show_status};
 ghost use Rattle.gn_io.specs.Streams.{streams};
 ghost use Rattle.gn_words.specs.Words.{kinds_of, request_of};
 ghost use Rattle.gn_words.specs.declared.request.Request.{Request as Asked};
@@ -103,6 +103,25 @@ fn end_serve<F: Sink>(faults: &mut F, answer: Result<(), ServeFault>) -> u8
     }
 }
 
+/// Does a load under this watch, and gives the status.
+fn load<R: Threads + Wait + Sync, G: Watch + Sync, S: Source, W: Sink, F: Sink>(
+    rt: &R,
+    alloc: Global,
+    workers: u32,
+    watch: &G,
+    reader: &mut S,
+    writer: &mut W,
+    faults: &mut F,
+) -> u8
+    ensures { Loads workers
+        (streams (S.state reader.old) (S.state reader.new) (W.state writer.old) (W.state writer.new)) result }
+{
+    let answer = load_watched::<Global, TableRouter, R, G, S, W>(
+        rt, alloc, workers, watch, reader, writer,
+    );
+    end_load(faults, answer)
+}
+
 /// Does what is asked for, and gives the status.
 fn obey<
     C: RouterCore<Global> + Drop,
@@ -147,22 +166,10 @@ fn obey<
         }
         Request::Show(view) => end_show(faults, show(alloc, view, reader, writer)),
         Request::Load(workers) => {
-            let answer = load_watched::<Global, TableRouter, R, Unwatched<G>, S, W>(
-                rt,
-                alloc,
-                workers,
-                &Unwatched(watch),
-                reader,
-                writer,
-            );
-            end_load(faults, answer)
+            let unwatched = Unwatched(watch);
+            load(rt, alloc, workers, &unwatched, reader, writer, faults)
         }
-        Request::Watched(workers) => {
-            let answer = load_watched::<Global, TableRouter, R, G, S, W>(
-                rt, alloc, workers, watch, reader, writer,
-            );
-            end_load(faults, answer)
-        }
+        Request::Watched(workers) => load(rt, alloc, workers, watch, reader, writer, faults),
         Request::Serve(serving) if serving.progress => {
             let answer = serve(rt, alloc, &serving, watch, writer, faults);
             end_serve(faults, answer)

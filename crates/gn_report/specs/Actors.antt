@@ -1,12 +1,12 @@
 -- The actors of a run of n links and V workers: actor k below n reads link k, actor n + k writes it, actor 2n + j is worker j, and actor
 -- 2n + V is the house, which started the run.
-use Rattle.std.specs.Prelude.{◌≡◌, ◌<◌, ◌+◌, ℕ, Bool, false, ◌||◌, not, List, [], ◌∷◌, ◌++◌, length, map, slice_index_or, Vec}
+use Rattle.std.specs.Prelude.{◌≡◌, ◌<◌, ◌+◌, ℕ, Bool, false, List, [], ◌∷◌, ◌++◌, length, map, slice_index_or, Vec}
 use Rattle.std.specs.List.{list_all, slice_get}
 use Rattle.std.specs.Option.{option_map_or}
 use Rattle.gn_rules.specs.declared.receipt.Receipt.{Receipt}
 use Rattle.gn_rules.specs.declared.receipt.Step.{Step}
 use Rattle.gn_shake.specs.declared.role.Role.{Role}
-use Rattle.gn_shake.specs.Greeting.{is_calling}
+use Rattle.gn_shake.specs.Greeting as greeting
 use Rattle.gn_rules.specs.History.{mine, step_of}
 use Rattle.gn_report.specs.declared.report.LinkReport.{LinkReport}
 use Rattle.gn_report.specs.declared.report.Report.{Report}
@@ -36,6 +36,6 @@ pub record AreOwn {Rd W A : Type 0} (report : Report Rd W A) : Type 0 where
       → (slice_index_or report.workers.items j d).items ≡ mine report.history.items (length report.links.items + length report.links.items + j)
   pub house : report.house.items ≡ mine report.history.items (length report.links.items + length report.links.items + length report.workers.items)
 
--- whether actor a is a reader that the run waits for before it ends: those of links that don't call are, or each, where all links call
+-- whether actor a is a reader that the run waits for before it ends
 abbrev pub is_awaited : List Role → ℕ → Bool
-is_awaited roles a = option_map_or (λ role. list_all is_calling roles || not (is_calling role)) (slice_get roles a) false
+is_awaited roles a = option_map_or (greeting.is_awaited (list_all greeting.is_calling roles)) (slice_get roles a) false

@@ -5,6 +5,7 @@ use gn_decide::{Lookup, Recorder, apply, enter, find, find_checked, is_answered,
 use gn_payload::Checked;
 use gn_rules::{Config, ConnId, Event, Receipt, Refusal, Reply, RouterCore, Stats, Step, Ticket};
 use std::alloc::{AllocError, Allocator};
+use std::mem;
 
 impl<A: Allocator + Copy> Recorder<A> for TableRouter<A> {
     ghost settings = { λ r. r.settings };
@@ -38,8 +39,8 @@ impl<A: Allocator + Copy> Recorder<A> for TableRouter<A> {
         self.tables.follow(self.alloc, event, reply)?;
         self.history.push_reserved(Step {
             actor,
-            event: event.take(),
-            reply: reply.take(),
+            event: mem::replace(event, Event::Connect),
+            reply: mem::replace(reply, Reply::TooMany),
         });
         Ok(())
     }

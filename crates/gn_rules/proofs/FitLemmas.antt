@@ -9,12 +9,10 @@ use Rattle.gn_rules.specs.declared.event.Event.TheVariants.{Connect, Close, Admi
 use Rattle.gn_rules.specs.declared.receipt.Step.{Step}
 use Rattle.gn_rules.specs.declared.refusal.Refusal.{Refusal}
 use Rattle.gn_rules.specs.declared.refusal.Refusal.TheVariants.{HistoryFull, NotLive, NoTicket, Strange, NothingWaiting, BadOrigin, Remembered, NoMemory}
-use Rattle.gn_rules.specs.declared.reply.Decision.{Decision}
-use Rattle.gn_rules.specs.declared.reply.Decision.TheVariants.{Drop}
 use Rattle.gn_rules.specs.declared.reply.Reply.{Reply}
 use Rattle.gn_rules.specs.declared.reply.Reply.TheVariants.{Connected, TooMany, Closed, Admitted, Busy, Crowded, Taken, Sent}
 use Rattle.gn_rules.specs.Answer.{answer, decision_reply, event_answer, may_originate, unless_strange, Finds}
-use Rattle.gn_rules.specs.Decision.{decide}
+use Rattle.gn_rules.specs.Decision.{Decision, Drop, decide}
 use Rattle.gn_rules.specs.Fits.{is_fit, replies, AnswersFit, CheckedAnswersFit}
 use Rattle.gn_rules.specs.Flight.{Admission, flying, flying_from, in_flight, tickets}
 use Rattle.gn_rules.specs.History.{live, connections, live_connections}

@@ -9,11 +9,9 @@ use Rattle.gn_rules.specs.declared.config.Config.{Config}
 use Rattle.gn_rules.specs.declared.event.Event.{Event}
 use Rattle.gn_rules.specs.declared.event.Event.TheVariants.{Connect, Close, Admit, Route, Take, Originate}
 use Rattle.gn_rules.specs.declared.receipt.Step.{Step}
-use Rattle.gn_rules.specs.declared.reply.Decision.{Decision}
-use Rattle.gn_rules.specs.declared.reply.Decision.TheVariants.{Drop}
 use Rattle.gn_rules.specs.declared.reply.Reply.{Reply}
 use Rattle.gn_rules.specs.Answer.{answer, decision_reply, IsLegal}
-use Rattle.gn_rules.specs.Decision.{decide}
+use Rattle.gn_rules.specs.Decision.{Decision, Drop, decide}
 use Rattle.gn_rules.specs.Flight.{Admission, admission, admission_of, flying, flying_after, is_route, is_routed, tickets}
 use Rattle.gn_rules.specs.History.{admitted_of, is_at, ticket_of}
 use Rattle.gn_rules.proofs.AnswerLemmas.{answered}

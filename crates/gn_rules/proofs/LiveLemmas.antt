@@ -7,11 +7,9 @@ use Rattle.gn_rules.specs.declared.config.Config.{Config}
 use Rattle.gn_rules.specs.declared.event.Event.{Event}
 use Rattle.gn_rules.specs.declared.event.Event.TheVariants.{Connect, Close, Admit, Route, Take, Originate}
 use Rattle.gn_rules.specs.declared.receipt.Step.{Step}
-use Rattle.gn_rules.specs.declared.reply.Decision.{Decision}
-use Rattle.gn_rules.specs.declared.reply.Decision.TheVariants.{Drop}
 use Rattle.gn_rules.specs.declared.reply.Reply.{Reply}
 use Rattle.gn_rules.specs.Answer.{answer, decision_reply, IsLegal}
-use Rattle.gn_rules.specs.Decision.{decide}
+use Rattle.gn_rules.specs.Decision.{Decision, Drop, decide}
 use Rattle.gn_rules.specs.Flight.{Admission}
 use Rattle.gn_rules.specs.History.{connected_of, live, connections}
 use Rattle.gn_rules.specs.Laws.{LiveConnectionsRise}

@@ -13,11 +13,9 @@ use Rattle.gn_rules.specs.declared.receipt.Receipt.{Receipt}
 use Rattle.gn_rules.specs.declared.receipt.Step.{Step}
 use Rattle.gn_rules.specs.declared.refusal.Refusal.{Refusal}
 use Rattle.gn_rules.specs.declared.refusal.Refusal.TheVariants.{HistoryFull, NotLive, NoTicket, Strange, NothingWaiting, BadOrigin, Remembered, NoMemory}
-use Rattle.gn_rules.specs.declared.reply.Decision.{Decision}
-use Rattle.gn_rules.specs.declared.reply.Decision.TheVariants.{Drop, Local, Flood, Forward}
 use Rattle.gn_rules.specs.declared.reply.Reply.{Reply}
 use Rattle.gn_rules.specs.declared.reply.Reply.TheVariants.{Connected, TooMany, Closed, Admitted, Busy, Crowded, Routed, Dropped, Taken, Sent}
-use Rattle.gn_rules.specs.Decision.{decide}
+use Rattle.gn_rules.specs.Decision.{Decision, Drop, Local, Flood, Forward, decide}
 use Rattle.gn_rules.specs.Flight.{Admission, tickets, flying, flying_from, in_flight}
 use Rattle.gn_rules.specs.History.{live, connections, live_connections}
 use Rattle.gn_rules.specs.Output.{out}

@@ -11,13 +11,24 @@ use Rattle.gn_payload.specs.Fields.{push_servent}
 use Rattle.gn_payload.specs.Reading.{verdict_of}
 use Rattle.gn_rules.specs.declared.config.Config.{Config}
 use Rattle.gn_rules.specs.declared.receipt.Step.{Step}
-use Rattle.gn_rules.specs.declared.reply.Decision.{Decision}
-use Rattle.gn_rules.specs.declared.reply.Decision.TheVariants.{Drop, Local, Flood, Forward}
+use Rattle.gn_rules.specs.declared.reply.DropReason.{DropReason}
 use Rattle.gn_rules.specs.declared.reply.DropReason.TheVariants as reason
 use Rattle.gn_rules.specs.Flight.{Admission}
 use Rattle.gn_rules.specs.History.{live}
 use Rattle.gn_rules.specs.Servents.{servent_route}
 use Rattle.gn_rules.specs.SeenEntries.{source, is_remembered}
+
+-- what becomes of a descriptor that is routed, before any packet is made
+pub data Decision : Type 0 where
+  -- it is dropped
+  Drop : DropReason → Decision
+  -- it is for the local servent alone
+  Local : Decision
+  -- it is for the local servent and, unless it is expired, for each other live connection; a Ping is answered with the own
+  -- Pong too
+  Flood : Decision
+  -- it is passed on to one connection
+  Forward : ℕ → Decision
 
 -- the checks of a route to the connection r: it is live, it isn't where the descriptor came from, and the descriptor isn't
 -- expired

@@ -1,3 +1,4 @@
+-- What is promised: contracts of public functions rest on it.
 pub mod Answer
 pub mod Decision
 pub mod Fits

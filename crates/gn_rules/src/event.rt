@@ -4,7 +4,6 @@ ghost use Rattle.std.specs.Prelude.{◌≡◌, IfOk};
 
 use gn_wire::Descriptor;
 use std::alloc::{AllocError, Allocator, Global};
-use std::mem;
 
 /// A connection's number. They count from 1; 0 names the local servent.
 pub type ConnId = u32;
@@ -32,13 +31,6 @@ pub enum Event<A: Allocator = Global> {
 impl<A: Allocator> Event<A> {
     ghost use Rattle.gn_rules.specs.History.{is_close, is_take, ticket_of};
     ghost use Rattle.gn_rules.specs.Flight.{is_route};
-
-    /// Takes the event out of its place, where a Connect stays.
-    pub fn take(&mut self) -> Event<A>
-        ensures { result ≡ self.old }
-    {
-        mem::replace(self, Event::Connect)
-    }
 
     /// The ticket that it routes.
     pub fn ticket(&self) -> Option<Ticket>

@@ -27,7 +27,7 @@ pub use limits::{MOST_LINKS, MOST_WORKERS, Numbers};
 pub use packets::{may_originate, own_pong};
 pub use receipt::{Receipt, Step};
 pub use refusal::Refusal;
-pub use reply::{Decision, DropReason, Reply};
+pub use reply::{DropReason, Reply};
 pub use router_core::RouterCore;
 pub use runs::run_events;
 pub use same::{is_same_config, is_same_event, is_same_reply, is_step_of};

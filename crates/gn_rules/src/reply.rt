@@ -6,7 +6,6 @@ use crate::event::{ConnId, Ticket};
 use crate::sends::{Sending, Sends};
 use gn_wire::{Descriptor, Kind};
 use std::alloc::{AllocError, Allocator, Global};
-use std::mem;
 
 /// Why a descriptor isn't sent on.
 #[derive(Clone, Copy, Debug, PartialEq, Eq)]
@@ -25,20 +24,6 @@ pub enum DropReason {
     BackToSender,
     /// It came with TTL 0 or 1, or with Hops 255.
     Expired,
-}
-
-/// What becomes of a routed descriptor, before any packet is made.
-#[derive(Clone, Copy, Debug, PartialEq, Eq)]
-pub enum Decision {
-    /// It is dropped.
-    Drop(DropReason),
-    /// It is for the local servent alone.
-    Local,
-    /// It is for the local servent and, unless it is expired, for each other live connection; a Ping is answered with the
-    /// own Pong too.
-    Flood,
-    /// It is passed on to one connection.
-    Forward(ConnId),
 }
 
 /// What a router answers to an event.
@@ -69,13 +54,6 @@ pub enum Reply<A: Allocator = Global> {
 impl<A: Allocator> Reply<A> {
     ghost use Rattle.gn_rules.specs.History.{admitted_of, connected_of, is_routed_reply, is_sent_reply, dropped_of, sends_of};
     ghost use Rattle.gn_rules.specs.SeenEntries.{keeps};
-
-    /// Takes the reply out of its place, where a TooMany stays.
-    pub fn take(&mut self) -> Reply<A>
-        ensures { result ≡ self.old }
-    {
-        mem::replace(self, Reply::TooMany)
-    }
 
     /// The connection that it made.
     pub fn connected(&self) -> Option<ConnId>

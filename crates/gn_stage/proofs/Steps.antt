@@ -4,7 +4,7 @@ use mathlib.Core.Option.{some, none, some-injective, some-ne-none}
 use lib.ListN.{get_elem?}
 use Rattle.atomic_table.proofs.Lists.{at_set}
 use Rattle.crossbeam_channel.specs.Fifo.{Pushes, Pops, Forks, Merges, Learns}
-use Rattle.gn_stage.specs.Rule.{Role, of_desk, of_intake, of_outlet, joined, owned, jobs_of, Past, Fits, Kept, Known, AreHome, new_desk, new_intake, new_outlet, spent, with_item, with_intake, with_outlet, with_intake_home, with_outlet_home}
+use Rattle.gn_stage.specs.Rule.{Role, of_desk, of_intake, of_outlet, joined, owned, jobs_of, Past, Fits, Invariant, Known, AreHome, new_desk, new_intake, new_outlet, spent, with_item, with_intake, with_outlet, with_intake_home, with_outlet_home}
 use Rattle.gn_stage.specs.Lessons.{IsRunning, IsDraining, Drained}
 use Rattle.gn_stage.proofs.Owners.{owned_by-mine, owned_by-other, jobs_of-push}
 use Rattle.gn_stage.proofs.Sides.{seat_set, seat_here, seat_else, free_apart, seats_apart, still_held, side_more, side_made, side_home, side_begins, side_free, all_free}
@@ -41,7 +41,7 @@ module _ {J : Type 0} where
   few_more : (d items : List J) (x : J) (n room most : ℕ) → d ≡ [] → length items < n → room ≡ n → room ≤ most → length d + length (items ++ x ∷ []) ≤ most
   few_more d items x n room most none_drained short e le = rw none_drained (let l = length-append items (x ∷ []) in omega arith)
 
-  pub puts : (n port : ℕ) (v : Known J) (x : J) → v.role ≡ of_intake → v.room ≡ n → Pushes Kept n port v x (λ w. w ≡ with_item v x)
+  pub puts : (n port : ℕ) (v : Known J) (x : J) → v.role ≡ of_intake → v.room ≡ n → Pushes Invariant n port v x (λ w. w ≡ with_item v x)
   puts n port v x is room items views short h at =
       let p = h.past in
       let mine = (h.fits port v at).as_intake is in
@@ -73,7 +73,7 @@ module _ {J : Type 0} where
   order_taken : (q t d items : List J) (x : J) → d ≡ [] → q ≡ (t ++ d) ++ (x ∷ items) → q ≡ ((t ++ x ∷ []) ++ d) ++ items
   order_taken q t d items x none_drained e = rw none_drained (rw none_drained at e ∙ simp (append_assoc, append-nil))
 
-  pub takes : (port : ℕ) (v : Known J) → v.role ≡ of_outlet → Pops Kept port v (λ x w. w ≡ with_item v x)
+  pub takes : (port : ℕ) (v : Known J) → v.role ≡ of_outlet → Pops Invariant port v (λ x w. w ≡ with_item v x)
   takes port v is x items views h at =
       let p = h.past in
       let mine = (h.fits port v at).as_outlet is in
@@ -105,7 +105,7 @@ module _ {J : Type 0} where
   order_drained : (q t d items : List J) (x : J) → q ≡ (t ++ d) ++ (x ∷ items) → q ≡ (t ++ (d ++ x ∷ [])) ++ items
   order_drained q t d items x e = e ∙ simp append_assoc
 
-  pub drains : (port : ℕ) (v : Known J) → v.role ≡ of_desk → AreHome v.ins → AreHome v.outs → Pops Kept port v (Drained v)
+  pub drains : (port : ℕ) (v : Known J) → v.role ≡ of_desk → AreHome v.ins → AreHome v.outs → Pops Invariant port v (Drained v)
   drains port v is all_in all_out x items views h at =
       let p = h.past in
       let mine = (h.fits port v at).as_desk is in
@@ -137,14 +137,14 @@ module _ {J : Type 0} where
         (refl, few_drained),
       )
 
-  pub runs : (port : ℕ) (v : Known J) → v.role ≡ of_outlet → Learns Kept port v (IsRunning v.end)
+  pub runs : (port : ℕ) (v : Known J) → v.role ≡ of_outlet → Learns Invariant port v (IsRunning v.end)
   runs port v is items views h at =
       let p = h.past in
       let mine = (h.fits port v at).as_outlet is in
       let none_drained = h.outs_last v.end.number port mine.0 in
       record { put = p.put; taken = p.taken; order = h.order ∙ ap (λ l. l ++ items) (ap (λ d. jobs_of p.taken ++ d) none_drained ∙ append-nil (jobs_of p.taken)); mine = mine.1 }
 
-  pub learns : (port : ℕ) (v : Known J) → v.role ≡ of_desk → AreHome v.ins → AreHome v.outs → Learns Kept port v (IsDraining v)
+  pub learns : (port : ℕ) (v : Known J) → v.role ≡ of_desk → AreHome v.ins → AreHome v.outs → Learns Invariant port v (IsDraining v)
   learns port v is all_in all_out items views h at =
       let p = h.past in
       let mine = (h.fits port v at).as_desk is in record {
@@ -159,7 +159,7 @@ module _ {J : Type 0} where
   alone zero u n e = n refl
   alone (suc j) u n e = some-ne-none u (sym e)
 
-  pub begins : Kept {J = J} [] (new_desk ∷ [])
+  pub begins : Invariant {J = J} [] (new_desk ∷ [])
   begins =
       let past : Past J = record { put = []; taken = []; drained = []; in_seat = λ k. none; out_seat = λ k. none; desk = 0; room = 0 } in
       let first : Fits past 0 new_desk = record { as_intake = λ i. absurd (unlike of_desk of_intake (λ (e : 0 ≡ 1). omega arith) i); as_outlet = λ i. absurd (unlike of_desk of_outlet (λ (e : 0 ≡ 2). omega arith) i); as_desk = λ i. record { here = refl; drained = refl; room = refl; ins = side_begins; outs = side_begins } } in
@@ -172,7 +172,7 @@ module _ {J : Type 0} where
         fits = all_set (Fits past) (new_desk ∷ []) 0 new_desk first (λ j u other e. absurd (alone j u other e));
       }
 
-  pub makes_intake : (room port : ℕ) (v : Known J) → v.role ≡ of_desk → v.end.jobs ≡ [] → Forks Kept port v (with_intake room v) (new_intake room v.ins.made)
+  pub makes_intake : (room port : ℕ) (v : Known J) → v.role ≡ of_desk → v.end.jobs ≡ [] → Forks Invariant port v (with_intake room v) (new_intake room v.ins.made)
   makes_intake room port v is empty items views h at =
       let p = h.past in
       let mine = (h.fits port v at).as_desk is in
@@ -207,7 +207,7 @@ module _ {J : Type 0} where
             });
       }
 
-  pub makes_outlet : (room port : ℕ) (v : Known J) → v.role ≡ of_desk → v.end.jobs ≡ [] → Forks Kept port v (with_outlet v) (new_outlet room v.outs.made)
+  pub makes_outlet : (room port : ℕ) (v : Known J) → v.role ≡ of_desk → v.end.jobs ≡ [] → Forks Invariant port v (with_outlet v) (new_outlet room v.outs.made)
   makes_outlet room port v is empty items views h at =
       let p = h.past in
       let mine = (h.fits port v at).as_desk is in
@@ -242,7 +242,7 @@ module _ {J : Type 0} where
             });
       }
 
-  pub joins_intake : (port : ℕ) (v : Known J) (other : ℕ) (w : Known J) → v.role ≡ of_desk → w.role ≡ of_intake → Merges Kept port v other w (with_intake_home v w.end) spent
+  pub joins_intake : (port : ℕ) (v : Known J) (other : ℕ) (w : Known J) → v.role ≡ of_desk → w.role ≡ of_intake → Merges Invariant port v other w (with_intake_home v w.end) spent
   joins_intake port v other w is home items views h at two at' =
       let p = h.past in
       let mine = (h.fits port v at).as_desk is in
@@ -273,7 +273,7 @@ module _ {J : Type 0} where
         fits = all_set (Fits past) vs other spent (record { as_intake = λ i. absurd (unlike joined of_intake (λ (e : 3 ≡ 1). omega arith) i); as_outlet = λ i. absurd (unlike joined of_outlet (λ (e : 3 ≡ 2). omega arith) i); as_desk = λ i. absurd (unlike joined of_desk (λ (e : 3 ≡ 0). omega arith) i) }) (λ j y off e. now j y e off);
       }
 
-  pub joins_outlet : (port : ℕ) (v : Known J) (other : ℕ) (w : Known J) → v.role ≡ of_desk → w.role ≡ of_outlet → Merges Kept port v other w (with_outlet_home v w.end) spent
+  pub joins_outlet : (port : ℕ) (v : Known J) (other : ℕ) (w : Known J) → v.role ≡ of_desk → w.role ≡ of_outlet → Merges Invariant port v other w (with_outlet_home v w.end) spent
   joins_outlet port v other w is home items views h at two at' =
       let p = h.past in
       let mine = (h.fits port v at).as_desk is in

@@ -160,7 +160,7 @@ pub record Fits {J : Type 0} (p : Past J) (port : ℕ) (v : Known J) : Type 0 wh
 
 -- what was put is what outlets took, what the desk drained, and what the queue holds. The desk drains once no end is out,
 -- and the queue never holds more than its room.
-pub record Kept {J : Type 0} (items : List J) (views : List (Known J)) : Type 0 where
+pub record Invariant {J : Type 0} (items : List J) (views : List (Known J)) : Type 0 where
   pub past : Past J
   pub order : jobs_of past.put ≡ (jobs_of past.taken ++ past.drained) ++ items
   pub ins_last : (k port : ℕ) → past.in_seat k ≡ some port → past.drained ≡ []

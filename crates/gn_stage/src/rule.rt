@@ -23,9 +23,9 @@ impl Model for View {
 pub struct Law;
 
 impl<A: Allocator> Protocol<Job<A>, View> for Law {
-    ghost use Rattle.gn_stage.specs.Rule.{Kept, new_desk};
+    ghost use Rattle.gn_stage.specs.Rule.{Invariant, new_desk};
 
-    ghost holds = { Kept };
+    ghost holds = { Invariant };
 
     ghost first = { new_desk };
 }

@@ -5,11 +5,11 @@ use Rattle.std.proofs.lemmas.List.{append_assoc, length-map, map-append, take_mo
 use Rattle.std.proofs.Math.Seq.{take-append_seam}
 use Rattle.std.proofs.lemmas.Simd.{map-map}
 
--- with one more, they are those of one role more
-pub one_more_role : {P X : Type 0} (role : P → X) (before after : List P) (p : P) (roles : List X) (k : ℕ) (d : X) → after ≡ before ++ p ∷ []
-    → k < length roles → role p ≡ get_or roles k d → map role before ≡ take k roles → map role after ≡ take (k + 1) roles
-one_more_role role before after p roles k d is below here so =
-    ap (λ ps. map role ps) is ∙ map-append role before (p ∷ []) ∙ ap (λ rs. rs ++ role p ∷ []) so ∙ ap (λ r. take k roles ++ r ∷ []) here ∙ sym (take_more roles k d below)
+-- with one thread more, the roles are the first of one role more
+pub one_more_of : {H X : Type 0} (role : H → X) (before after : List H) (r : X) (roles : List X) (k : ℕ) (d : X) → map role after ≡ map role before ++ r ∷ []
+    → k < length roles → r ≡ get_or roles k d → map role before ≡ take k roles → map role after ≡ take (k + 1) roles
+one_more_of role before after r roles k d is below here so =
+    is ∙ ap (λ rs. rs ++ r ∷ []) so ∙ ap (λ x. take k roles ++ x ∷ []) here ∙ sym (take_more roles k d below)
 
 -- with one thread more, the roles are those of one start more
 pub one_more_start : {H S X : Type 0} (start : H → S) (role : S → X) (before after : List H) (s : S) (r : X) → map start after ≡ map start before ++ s ∷ [] → role s ≡ r

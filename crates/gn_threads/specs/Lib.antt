@@ -1,7 +1,9 @@
+-- What is promised: contracts of public functions rest on it.
 pub mod Faults
+pub mod Headline
+-- Words of the proofs.
 pub mod Joined
 pub mod Actors
 pub mod Shares
 pub mod House
 pub mod Reported
-pub mod Headline

@@ -1,7 +1,8 @@
 //! The actors of a run that have no body yet.
 
-ghost use Rattle.std.specs.Prelude.{◌≡◌, ◌<◌, ◌+◌, ◌^◌, ℕ, vec_len, slice_index_or};
-ghost use Rattle.gn_hub.specs.ActorState.{ActorState, new_actor};
+ghost use Rattle.std.specs.Prelude.{◌≡◌, ◌<◌, ◌+◌, ◌^◌, vec_len};
+ghost use Rattle.gn_hub.specs.ActorState.{new_actor};
+ghost use Rattle.gn_threads.specs.Actors.{AreActorsFrom};
 
 use gn_hub::Actor;
 use std::alloc::{Allocator, Global};
@@ -9,7 +10,7 @@ use std::marker::Model;
 use std::sync::ledger::Ledger;
 use std::vec::IntoIter;
 
-/// The actors of a run that have no body yet, in the order of their numbers.
+/// Actors of a run that have no body yet, in the order of their numbers.
 #[derive(Drop)]
 pub(crate) struct UnstartedActors<L: Ledger, A: Allocator = Global> {
     next: u32,
@@ -29,14 +30,14 @@ impl<L: Ledger, A: Allocator> Model for UnstartedActors<L, A> {
 }
 
 impl<L: Ledger, A: Allocator> UnstartedActors<L, A> {
-    /// All actors of a run.
-    pub(crate) fn new(actors: Vec<Actor<L, A>, A>) -> Self
-        requires new { (k : ℕ) (d : ActorState A) → k < vec_len actors → slice_index_or actors.items k d ≡ new_actor k }
-        requires few { vec_len actors < 2 ^ 32 }
-        ensures { result ≡ record { next = 0; left = vec_len actors } }
+    /// These actors, of which the first has this number.
+    pub(crate) fn new(first: u32, actors: Vec<Actor<L, A>, A>) -> Self
+        requires actors { AreActorsFrom first actors.items }
+        requires few { first + vec_len actors < 2 ^ 32 }
+        ensures { result ≡ record { next = first; left = vec_len actors } }
     {
         UnstartedActors {
-            next: 0,
+            next: first,
             rest: actors.into_iter(),
         }
     }

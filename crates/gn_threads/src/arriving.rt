@@ -14,7 +14,6 @@ use crate::finishing::finish;
 use crate::opening::{Opening, open_run};
 use crate::starting::start_and_join;
 use crate::stopped::Stopped;
-use crate::unstarted::unstarted_of;
 use gn_links::Gate;
 use gn_report::Report;
 use gn_rules::{Config, MOST_WORKERS, RouterCore, Step};
@@ -161,15 +160,10 @@ where
     };
     let Opening {
         service,
-        actors,
-        intakes,
-        outlets,
+        unstarted,
+        house,
         desk,
     } = opening;
-    let Ok(made) = unstarted_of(alloc, roles, intakes, outlets, actors) else {
-        return Err(RunFault::NoMemory);
-    };
-    let (unstarted, house) = made;
     let joined = start_and_join(rt, alloc, &service, gate, arrivals, unstarted);
     let hub = service.into_hub();
     match joined {

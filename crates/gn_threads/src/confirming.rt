@@ -131,7 +131,7 @@ pub(crate) fn report<
 >(
     config: &Config,
     roles: &[Role],
-    hub: Hub<C, L, A>,
+    mut hub: Hub<C, L, A>,
     linked: Linked<Rd, W, L, A>,
     worked: Worked<L, A>,
     house: Actor<L, A>,
@@ -155,7 +155,6 @@ pub(crate) fn report<
     } = worked;
     let number = 2 * links.len() as u32 + receipts.len() as u32;
     let (house, share) = house.into_parts();
-    let mut hub = hub;
     add_up(&mut hub, shares, others, share);
     let closed = close(config, hub);
     let Closed {

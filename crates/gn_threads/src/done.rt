@@ -28,9 +28,10 @@ impl<Rd: LinkReader, W: LinkWriter, B: Site + Ledger, A: Allocator> Done<Rd, W, 
     fn has(&self, fault: BodyFault) -> bool
         ensures { result ≡ joined.any_ended_with fault self.now }
     {
-        any_ended_with(self.readers.as_slice(), fault)
-            || any_ended_with(self.writers.as_slice(), fault)
-            || any_ended_with(self.workers.as_slice(), fault)
+        let readers = any_ended_with(self.readers.as_slice(), fault);
+        let writers = any_ended_with(self.writers.as_slice(), fault);
+        let workers = any_ended_with(self.workers.as_slice(), fault);
+        readers | writers | workers
     }
 
     /// The fault of a run of which a body was stopped: a full history comes before memory.

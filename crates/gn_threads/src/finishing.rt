@@ -26,8 +26,8 @@ use std::alloc::Allocator;
 use std::sync::Wait;
 use std::sync::ledger::Ledger;
 
-/// Settles the stage of a run whose threads are joined, has the house route the rest, and reports. Where a body or the house was
-/// stopped, what stands of the history is kept.
+/// Settles the stage of a run whose threads are joined, has the house route the rest, and reports. Where the house was stopped,
+/// what stands of the history is kept.
 pub(crate) fn finish<
     B: Site + Ledger,
     C: RouterCore<A> + Drop,
@@ -40,10 +40,10 @@ pub(crate) fn finish<
     alloc: A,
     config: &Config,
     roles: &[Role],
-    hub: Hub<C, B, A>,
+    mut hub: Hub<C, B, A>,
     desk: Desk<B, A>,
     done: Done<Rd, W, B, A>,
-    house: Actor<B, A>,
+    mut house: Actor<B, A>,
     history: &mut Option<Vec<Step<A>, A>>,
 ) -> Result<Report<Rd, W, A>, RunFault>
     requires none { history.old ≡ None }
@@ -59,10 +59,6 @@ pub(crate) fn finish<
         → IsOk (slice_index_or done.workers.items k d).end) }
     ensures kept { IfSome history.new (λ steps. IsLegal config.now (reverse steps.items)) }
 {
-    if let Some(fault) = done.stop() {
-        keep_history(config, hub, history);
-        return Err(fault);
-    }
     let Done {
         readers,
         writers,
@@ -79,7 +75,6 @@ pub(crate) fn finish<
     };
     let (readers, intakes) = sent;
     let (worked, outlets) = made;
-    let (mut hub, mut house) = (hub, house);
     let idle = match settle(
         rt, alloc, &mut hub, &mut house, desk, intakes, outlets, number,
     ) {

@@ -112,11 +112,11 @@ impl<Rd: LinkReader, W: LinkWriter, B: Site + Ledger, A: Allocator + Copy> Handl
         let readers = join_all(rt, readers);
         let writers = join_all(rt, writers);
         let workers = join_all(rt, workers);
-        fault_of(readers.found_full || writers.found_full || workers.found_full)
+        fault_of(readers.found_full | writers.found_full | workers.found_full)
     }
 
-    /// Joins all threads. Where there is no memory for what they give back, the fault is a full history that one of them found,
-    /// or else memory.
+    /// Joins all threads. Where a body was stopped, or there is no memory for what they give back, the fault is a full history
+    /// that one of them found, or else memory.
     pub(crate) fn join<R: Threads>(self, rt: &R) -> Result<Done<Rd, W, B, A>, RunFault>
         ensures joined { IfOk result (λ done. AreJoined
             (IsReaderDone Rd.state Rd.made_of Rd.gives) (IsWriterDone W.state W.made_of)
@@ -133,14 +133,18 @@ impl<Rd: LinkReader, W: LinkWriter, B: Site + Ledger, A: Allocator + Copy> Handl
         let readers = join_each(rt, readers);
         let writers = join_each(rt, writers);
         let workers = join_each(rt, workers);
-        let is_full = found_full(&readers) || found_full(&writers) || found_full(&workers);
+        let is_full = found_full(&readers) | found_full(&writers) | found_full(&workers);
         let (Ok(readers), Ok(writers), Ok(workers)) = (readers, writers, workers) else {
             return Err(fault_of(is_full));
         };
-        Ok(Done {
+        let done = Done {
             readers,
             writers,
             workers,
-        })
+        };
+        match done.stop() {
+            Some(fault) => Err(fault),
+            None => Ok(done),
+        }
     }
 }

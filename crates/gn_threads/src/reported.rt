@@ -9,7 +9,7 @@ ghost use Rattle.gn_threads.specs.Shares.{amount_of, parts_of};
 
 use crate::fault::RunFault;
 use crate::shares::Shares;
-use gn_bodies::{BodyFault, ReaderDone, ReaderEnd, WorkerDone, WriterDone};
+use gn_bodies::{BodyFault, ReaderDone, ReaderEnd, WorkerDone, WriterDone, WriterEnd};
 use gn_hub::Actor;
 use gn_links::{LinkReader, LinkWriter};
 use gn_report::{LinkReport, conn_of};
@@ -52,8 +52,9 @@ pub(crate) fn send_home<Rd: LinkReader, B: Site + Ledger, A: Allocator + Copy>(
     ensures many { IfOk result (λ sent. vec_len sent.0 ≡ vec_len readers) }
     ensures readers { IfOk result (λ sent. map reader_result sent.0.items ≡ map reader_ended readers.items) }
 {
-    let mut homed = Vec::new(alloc);
-    let mut homes = Vec::new(alloc);
+    let count = readers.len();
+    let mut homed = Vec::with_capacity(alloc, count)?;
+    let mut homes = Vec::with_capacity(alloc, count)?;
     for done in readers {
         let ReaderDone {
             actor,
@@ -62,8 +63,8 @@ pub(crate) fn send_home<Rd: LinkReader, B: Site + Ledger, A: Allocator + Copy>(
             home,
             end,
         } = done;
-        homed.push(ReaderResult { actor, reader, end })?;
-        homes.push(home)?;
+        homed.push_reserved(ReaderResult { actor, reader, end });
+        homes.push_reserved(home);
     }
     Ok((homed, homes))
 }
@@ -95,8 +96,7 @@ impl<Rd: LinkReader, W: LinkWriter, L: Ledger, A: Allocator + Copy> Linked<Rd, W
         ensures writer { IfOk result (λ linked. map writer_reported linked.links.items
             ≡ map writer_reported self.links.items ++ writer_ended writer ∷ []) }
     {
-        let reader_end = ended(reader.end, link)?;
-        let writer_end = ended(writer.end, links + link)?;
+        let (reader_end, writer_end) = ends_of(reader.end, writer.end, link, links)?;
         let ReaderResult {
             actor: reading,
             reader,
@@ -141,6 +141,22 @@ fn ended<E>(end: Result<E, BodyFault>, actor: u32) -> Result<E, RunFault>
     }
 }
 
+/// The ends of the two bodies of this link, of so many in all.
+fn ends_of(
+    reader: Result<ReaderEnd, BodyFault>,
+    writer: Result<WriterEnd, BodyFault>,
+    link: u32,
+    links: u32,
+) -> Result<(ReaderEnd, WriterEnd), RunFault>
+    requires { (link < links) × (links ≤ most_links) }
+    ensures ok { IfOk result (λ ends. (reader ≡ Ok ends.0) × (writer ≡ Ok ends.1)) }
+    ensures fault { IfErr result (λ fault. (workers : ℕ) → IsFaultOf links workers fault) }
+{
+    let reader_end = ended(reader, link)?;
+    let writer_end = ended(writer, links + link)?;
+    Ok((reader_end, writer_end))
+}
+
 /// What the readers and writers of all links gave back. A reader that was refused a route has no end to report: that is a
 /// fault. A writer makes no route, so none is refused one.
 pub(crate) fn report_links<Rd: LinkReader, W: LinkWriter, L: Ledger, A: Allocator + Copy>(
@@ -179,15 +195,16 @@ pub(crate) fn report_workers<B: Site + Ledger, A: Allocator + Copy>(
     ensures many { IfOk result (λ made. vec_len made.0.receipts ≡ vec_len workers) }
     ensures receipts { IfOk result (λ made. map receipt_list made.0.receipts.items ≡ map receipts_given workers.items) }
 {
-    let mut receipts = Vec::new(alloc);
-    let mut homes = Vec::new(alloc);
+    let count = workers.len();
+    let mut receipts = Vec::with_capacity(alloc, count)?;
+    let mut homes = Vec::with_capacity(alloc, count)?;
     let mut shares = Shares::new();
     for worker in workers {
         let WorkerDone { actor, home, .. } = worker;
         let (own, share) = actor.into_parts();
         shares = shares.add(share);
-        receipts.push(own)?;
-        homes.push(home)?;
+        receipts.push_reserved(own);
+        homes.push_reserved(home);
     }
     Ok((Worked { receipts, shares }, homes))
 }

@@ -1,10 +1,12 @@
 //! How the threads of a run are started, and what each promises.
 
-ghost use Rattle.std.specs.Prelude.{◌≡◌, ◌+◌, ◌++◌, ◌∷◌, [], true, map, vec_len};
+ghost use Rattle.gn_rules.specs.Limits.{most_workers};
+ghost use Rattle.std.specs.Prelude.{◌≡◌, ◌+◌, ◌++◌, ◌∷◌, ◌≤◌, [], true, map, vec_len};
 ghost use Rattle.gn_links.specs.Halves.{IsNewReader, IsNewWriter};
 ghost use Rattle.gn_bodies.specs.Done.{half_of, IsReaderDone, IsWriterDone, reader_ended, writer_ended};
 ghost use Rattle.gn_bodies.specs.Events.{link_events};
 
+use crate::actors::UnstartedActors;
 use gn_bodies::{ReaderDone, WorkerDone, WriterDone, reader_body, worker_body, writer_body};
 use gn_hub::{Actor, Service};
 use gn_links::{Gate, LinkReader, LinkWriter};
@@ -272,16 +274,25 @@ impl<
     /// Starts all workers, in order. False where a thread can't be made: then those before it have started.
     pub(crate) fn start_workers(
         &self,
-        starts: Vec<WorkerStart<B, A>, A>,
+        mut actors: UnstartedActors<B, A>,
+        outlets: Vec<Outlet<B, A>, A>,
         handles: &mut Vec<WorkerHandle<B, A>, A>,
     ) -> bool
+        requires each { (actors.left ≡ vec_len outlets) × (vec_len outlets ≤ most_workers) }
         requires none { handles.old.items ≡ [] }
-        ensures { result ≡ true → vec_len handles.new ≡ vec_len starts }
+        ensures { result ≡ true → vec_len handles.new ≡ vec_len outlets }
     {
-        for start in starts {
+        let mut worker = 0u32;
+        for outlet in outlets {
+            let start = WorkerStart {
+                actor: actors.next(),
+                worker,
+                outlet,
+            };
             if !self.start_worker(start, handles) {
                 return false;
             }
+            worker += 1;
         }
         true
     }

@@ -1,6 +1,6 @@
 //! How all bodies of a run are started and joined.
 
-ghost use Rattle.std.specs.Prelude.{◌≡◌, ◌<◌, ◌++◌, ◌∷◌, [], ℕ, All, Bool, true, map, vec_len, IfErr, IfOk, OnOk};
+ghost use Rattle.std.specs.Prelude.{◌≡◌, ◌<◌, ◌++◌, ◌∷◌, [], ℕ, Bool, true, length, map, vec_len, IfErr, IfOk, OnOk};
 ghost use Rattle.gn_links.specs.Halves.{IsNewReader, IsNewWriter};
 ghost use Rattle.gn_threads.specs.Faults.{IsArrivingFault};
 ghost use Rattle.gn_threads.specs.Joined.{AreJoinedOf};
@@ -11,7 +11,7 @@ use crate::done::Done;
 use crate::fault::RunFault;
 use crate::joins::Handles;
 use crate::start::{ReaderStart, Starter, WriterStart};
-use crate::unstarted::{Unstarted, UnstartedReader, UnstartedWriter};
+use crate::unstarted::{Unstarted, UnstartedLink, UnstartedLinks};
 use gn_hub::Service;
 use gn_links::{Gate, LinkReader, LinkWriter};
 use gn_rules::RouterCore;
@@ -77,17 +77,16 @@ impl<
     fn start_link<V: Arrivals>(
         &self,
         arrivals: &mut V,
-        reading: UnstartedReader<B, A>,
-        writing: UnstartedWriter<B, A>,
+        unstarted: UnstartedLink<B, A>,
         handles: &mut Handles<V::Reader, V::Writer, B, A>,
     ) -> Result<(), RunFault>
     where
         V::Reader: Send + 's,
         V::Writer: Send + 's,
         ensures readers { OnOk result (map (λ h. h.promise.start.value.role) handles.new.readers.items
-            ≡ map (λ h. h.promise.start.value.role) handles.old.readers.items ++ reading.role ∷ []) }
+            ≡ map (λ h. h.promise.start.value.role) handles.old.readers.items ++ unstarted.role ∷ []) }
         ensures writers { OnOk result (map (λ h. h.promise.start.value.role) handles.new.writers.items
-            ≡ map (λ h. h.promise.start.value.role) handles.old.writers.items ++ writing.role ∷ []) }
+            ≡ map (λ h. h.promise.start.value.role) handles.old.writers.items ++ unstarted.role ∷ []) }
         ensures read { OnOk result (map (λ h. V.Reader.made_of h.promise.start.value.reader) handles.new.readers.items
             ++ V.coming arrivals.new
             ≡ map (λ h. V.Reader.made_of h.promise.start.value.reader) handles.old.readers.items ++ V.coming arrivals.old) }
@@ -95,20 +94,18 @@ impl<
             ++ V.coming arrivals.new
             ≡ map (λ h. V.Writer.made_of h.promise.start.value.writer) handles.old.writers.items ++ V.coming arrivals.old) }
         ensures workers { handles.new.workers ≡ handles.old.workers }
-        ensures fault { IfErr result (λ fault. (links workers : ℕ) → reading.link < links
+        ensures fault { IfErr result (λ fault. (links workers : ℕ) → unstarted.link < links
             → IsArrivingFault V.has_peers links workers fault) }
     {
-        let coming = self.next_link(arrivals, reading.link, reading.role);
+        let coming = self.next_link(arrivals, unstarted.link, unstarted.role);
         match coming {
             Err(fault) => {
-                drop(reading);
-                drop(writing);
+                drop(unstarted);
                 Err(fault)
             }
             Ok(halves) => {
                 let (reader, writer) = halves;
-                let reading = reading.with(reader);
-                let writing = writing.with(writer);
+                let (reading, writing) = unstarted.with(reader, writer);
                 if self.start_bodies(reading, writing, handles) {
                     Ok(())
                 } else {
@@ -123,36 +120,31 @@ impl<
     fn start_links<V: Arrivals>(
         &self,
         arrivals: &mut V,
-        readers: Vec<UnstartedReader<B, A>, A>,
-        writers: Vec<UnstartedWriter<B, A>, A>,
+        roles: &[Role],
+        mut unstarted: UnstartedLinks<B, A>,
         handles: &mut Handles<V::Reader, V::Writer, B, A>,
     ) -> Result<(), RunFault>
     where
         V::Reader: Send + 's,
         V::Writer: Send + 's,
-        requires links { (vec_len writers ≡ vec_len readers) × All (λ p. p.link < vec_len readers) readers.items }
+        requires links { (unstarted.next ≡ 0) × (unstarted.left ≡ length roles.now) }
         requires none { (handles.old.readers.items ≡ []) × (handles.old.writers.items ≡ []) }
-        ensures readers { OnOk result (map (λ h. h.promise.start.value.role) handles.new.readers.items
-            ≡ map (λ p. p.role) readers.items) }
-        ensures writers { OnOk result (map (λ h. h.promise.start.value.role) handles.new.writers.items
-            ≡ map (λ p. p.role) writers.items) }
+        ensures readers { OnOk result (map (λ h. h.promise.start.value.role) handles.new.readers.items ≡ roles.now) }
+        ensures writers { OnOk result (map (λ h. h.promise.start.value.role) handles.new.writers.items ≡ roles.now) }
         ensures read { OnOk result (map (λ h. V.Reader.made_of h.promise.start.value.reader) handles.new.readers.items
             ++ V.coming arrivals.new ≡ V.coming arrivals.old) }
         ensures written { OnOk result (map (λ h. V.Writer.made_of h.promise.start.value.writer) handles.new.writers.items
             ++ V.coming arrivals.new ≡ V.coming arrivals.old) }
         ensures workers { handles.new.workers ≡ handles.old.workers }
         ensures fault { IfErr result (λ fault. (workers : ℕ)
-            → IsArrivingFault V.has_peers (vec_len readers) workers fault) }
+            → IsArrivingFault V.has_peers (length roles.now) workers fault) }
     {
-        let mut writers = writers.into_iter();
-        for reading in readers {
-            let Some(writing) = writers.next() else {
-                unreachable!()
-            };
-            match self.start_link(arrivals, reading, writing, handles) {
+        for role in roles {
+            let next = unstarted.next(*role);
+            match self.start_link(arrivals, next, handles) {
                 Ok(()) => {}
                 Err(fault) => {
-                    drop(writers);
+                    drop(unstarted);
                     return Err(fault);
                 }
             }
@@ -161,10 +153,10 @@ impl<
     }
 
     /// Starts the workers, and then the two bodies of each link as soon as it has come.
-    fn start_all<V: Arrivals>(
+    fn start_all<'r, V: Arrivals>(
         &self,
         arrivals: &mut V,
-        unstarted: Unstarted<B, A>,
+        unstarted: Unstarted<'r, B, A>,
         handles: &mut Handles<V::Reader, V::Writer, B, A>,
     ) -> Result<(), RunFault>
     where
@@ -173,47 +165,46 @@ impl<
         requires none { (handles.old.readers.items ≡ []) × (handles.old.writers.items ≡ [])
             × (handles.old.workers.items ≡ []) }
         ensures readers { OnOk result (map (λ h. h.promise.start.value.role) handles.new.readers.items
-            ≡ map (λ p. p.role) unstarted.readers.items) }
+            ≡ unstarted.entry.roles.now) }
         ensures writers { OnOk result (map (λ h. h.promise.start.value.role) handles.new.writers.items
-            ≡ map (λ p. p.role) unstarted.writers.items) }
+            ≡ unstarted.entry.roles.now) }
         ensures read { OnOk result (map (λ h. V.Reader.made_of h.promise.start.value.reader) handles.new.readers.items
             ++ V.coming arrivals.new ≡ V.coming arrivals.old) }
         ensures written { OnOk result (map (λ h. V.Writer.made_of h.promise.start.value.writer) handles.new.writers.items
             ++ V.coming arrivals.new ≡ V.coming arrivals.old) }
-        ensures workers { OnOk result (vec_len handles.new.workers ≡ vec_len unstarted.workers) }
+        ensures workers { OnOk result (vec_len handles.new.workers ≡ vec_len unstarted.entry.outlets) }
         ensures fault { IfErr result (λ fault. (workers : ℕ)
-            → IsArrivingFault V.has_peers (vec_len unstarted.readers) workers fault) }
+            → IsArrivingFault V.has_peers (length unstarted.entry.roles.now) workers fault) }
     {
         let Unstarted {
-            readers,
-            writers,
+            roles,
+            links,
             workers,
+            outlets,
         } = unstarted;
-        if !self.start_workers(workers, &mut handles.workers) {
-            drop(readers);
-            drop(writers);
+        if !self.start_workers(workers, outlets, &mut handles.workers) {
+            drop(links);
             return Err(RunFault::NoMemory);
         }
-        self.start_links(arrivals, readers, writers, handles)
+        self.start_links(arrivals, roles, links, handles)
     }
 
     /// Starts all bodies and joins them. Where a link doesn't come, or a thread can't be made, the run fails, and each thread
     /// that started is joined.
-    fn run_all<V: Arrivals>(
+    fn run_all<'r, V: Arrivals>(
         &self,
         mut arrivals: V,
-        unstarted: Unstarted<B, A>,
+        unstarted: Unstarted<'r, B, A>,
     ) -> Result<Done<V::Reader, V::Writer, B, A>, RunFault>
     where
         V::Reader: Send + 's,
         V::Writer: Send + 's,
         ensures joined { IfOk result (λ done. AreJoinedOf
             (IsReaderDone V.Reader.state V.Reader.made_of V.Reader.gives) (IsWriterDone V.Writer.state V.Writer.made_of)
-            V.Reader.made_of V.Writer.made_of
-            (map (λ p. p.role) unstarted.readers.items) (map (λ p. p.role) unstarted.writers.items)
-            (V.coming arrivals) (vec_len unstarted.workers) done) }
+            V.Reader.made_of V.Writer.made_of unstarted.entry.roles.now (V.coming arrivals)
+            (vec_len unstarted.entry.outlets) done) }
         ensures fault { IfErr result (λ fault. (workers : ℕ)
-            → IsArrivingFault V.has_peers (vec_len unstarted.readers) workers fault) }
+            → IsArrivingFault V.has_peers (length unstarted.entry.roles.now) workers fault) }
     {
         let mut handles = Handles::new(self.alloc);
         match self.start_all(&mut arrivals, unstarted, &mut handles) {
@@ -239,6 +230,7 @@ fn first(fault: RunFault, found: RunFault) -> RunFault
 
 /// Runs all bodies at once, to their ends. Whatever the fault, none of them runs on.
 pub(crate) fn start_and_join<
+    'r,
     V: Arrivals,
     B: Site + Ledger + Send + Sync,
     C: RouterCore<A> + Drop + Send,
@@ -251,18 +243,17 @@ pub(crate) fn start_and_join<
     service: &Service<C, B, A>,
     gate: &G,
     arrivals: V,
-    unstarted: Unstarted<B, A>,
+    unstarted: Unstarted<'r, B, A>,
 ) -> Result<Done<V::Reader, V::Writer, B, A>, RunFault>
 where
     V::Reader: Send,
     V::Writer: Send,
     ensures joined { IfOk result (λ done. AreJoinedOf
         (IsReaderDone V.Reader.state V.Reader.made_of V.Reader.gives) (IsWriterDone V.Writer.state V.Writer.made_of)
-        V.Reader.made_of V.Writer.made_of
-        (map (λ p. p.role) unstarted.readers.items) (map (λ p. p.role) unstarted.writers.items)
-        (V.coming arrivals) (vec_len unstarted.workers) done) }
+        V.Reader.made_of V.Writer.made_of unstarted.entry.roles.now (V.coming arrivals)
+        (vec_len unstarted.entry.outlets) done) }
     ensures fault { IfErr result (λ fault. (workers : ℕ)
-        → IsArrivingFault V.has_peers (vec_len unstarted.readers) workers fault) }
+        → IsArrivingFault V.has_peers (length unstarted.entry.roles.now) workers fault) }
 {
     thread::scope(thread::scope_env(), rt, |scope| {
         let starter = Starter {

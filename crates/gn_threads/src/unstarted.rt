@@ -1,203 +1,158 @@
-//! What the bodies of a link start from that hasn't come yet.
+//! What the bodies of a run start from before its links have come.
 
 ghost use Rattle.gn_rules.specs.Limits.{most_links, most_workers};
-ghost use Rattle.std.specs.Prelude.{◌≡◌, ◌+◌, ◌*◌, ◌<◌, ◌≤◌, [], All, length, map, vec_len, IfOk};
+ghost use Rattle.std.specs.Prelude.{◌≡◌, ◌+◌, ◌*◌, ◌<◌, ◌≤◌, [], length, vec_len, IfOk};
 ghost use Rattle.gn_links.specs.Halves.{IsNewReader, IsNewWriter};
 ghost use Rattle.gn_hub.specs.ActorState.{AreNew};
 
 use crate::actors::UnstartedActors;
-use crate::start::{ReaderStart, WorkerStart, WriterStart};
+use crate::start::{ReaderStart, WriterStart};
 use gn_hub::Actor;
 use gn_links::{LinkReader, LinkWriter};
 use gn_shake::Role;
 use gn_stage::{Intake, Outlet, Site};
 use std::alloc::{AllocError, Allocator, Global};
+use std::marker::Model;
 use std::sync::ledger::Ledger;
+use std::vec::IntoIter;
 
-/// What the body of a reader starts from, but for the half of its link.
+/// What the two bodies of a link start from, but for its halves.
 #[derive(Drop)]
-pub(crate) struct UnstartedReader<B: Site + Ledger, A: Allocator = Global> {
-    pub actor: Actor<B, A>,
+pub(crate) struct UnstartedLink<B: Site + Ledger, A: Allocator = Global> {
+    pub reading: Actor<B, A>,
+    pub writing: Actor<B, A>,
     pub link: u32,
     pub role: Role,
     pub intake: Intake<B, A>,
-    pub ghost number: { actor.number ≡ link },
-    pub ghost none: { actor.receipts ≡ [] },
+    pub ghost number: { reading.number ≡ link },
+    pub ghost none: { (reading.receipts ≡ []) × (writing.receipts ≡ []) },
 }
 
-impl<B: Site + Ledger, A: Allocator> UnstartedReader<B, A> {
-    /// An actor that is to read this link.
-    fn new(actor: Actor<B, A>, link: u32, role: Role, intake: Intake<B, A>) -> Self
-        requires number { actor.number ≡ link }
-        requires none { actor.receipts ≡ [] }
-        ensures { (result.link ≡ link) × (result.role ≡ role) }
+impl<B: Site + Ledger, A: Allocator> UnstartedLink<B, A> {
+    /// What they start from, with the halves.
+    pub(crate) fn with<Rd: LinkReader, W: LinkWriter>(
+        self,
+        reader: Rd,
+        writer: W,
+    ) -> (ReaderStart<Rd, B, A>, WriterStart<W, B, A>)
+        requires new { IsNewReader (Rd.state reader) × IsNewWriter (W.state writer) }
+        ensures reader { (result.0.role ≡ self.role) × (result.0.reader ≡ reader) }
+        ensures writer { (result.1.role ≡ self.role) × (result.1.writer ≡ writer) }
     {
-        UnstartedReader {
-            actor,
-            link,
-            role,
-            intake,
-        }
-    }
-
-    /// With the half of its link.
-    pub(crate) fn with<Rd: LinkReader>(self, reader: Rd) -> ReaderStart<Rd, B, A>
-        requires { IsNewReader (Rd.state reader) }
-        ensures { (result.role ≡ self.role) × (result.reader ≡ reader) }
-    {
-        let UnstartedReader {
-            actor,
+        let UnstartedLink {
+            reading,
+            writing,
             link,
             role,
             intake,
         } = self;
-        ReaderStart {
-            actor,
+        let reading = ReaderStart {
+            actor: reading,
             link,
             role,
             reader,
+            intake,
+        };
+        let writing = WriterStart {
+            actor: writing,
+            link,
+            role,
+            writer,
+        };
+        (reading, writing)
+    }
+}
+
+/// What the bodies of the links start from that haven't come yet, in the order of the links.
+#[derive(Drop)]
+pub(crate) struct UnstartedLinks<B: Site + Ledger, A: Allocator = Global> {
+    readers: UnstartedActors<B, A>,
+    writers: UnstartedActors<B, A>,
+    intakes: IntoIter<Intake<B, A>, A>,
+}
+
+impl<B: Site + Ledger, A: Allocator> Model for UnstartedLinks<B, A> {
+    ghost use Rattle.std.specs.Prelude.{◌≡◌};
+    ghost use Rattle.std.specs.Vec.Iter.{into_iter_len};
+    ghost use Rattle.gn_threads.specs.Actors.{Turn};
+
+    ghost Value = { Turn };
+
+    ghost view = { λ w. w.readers };
+
+    ghost invariant = { λ w. (w.writers.left ≡ w.readers.left) × (into_iter_len w.intakes ≡ w.readers.left) };
+}
+
+impl<B: Site + Ledger, A: Allocator> UnstartedLinks<B, A> {
+    /// What those of the next link start from, which shall begin in this role.
+    pub(crate) fn next(&mut self, role: Role) -> UnstartedLink<B, A>
+        requires { 0 < self.old.left }
+        ensures link { (result.link ≡ self.old.next) × (result.role ≡ role) }
+        ensures turn { (self.new.next ≡ self.old.next + 1) × (self.new.left + 1 ≡ self.old.left) }
+    {
+        let Some(intake) = self.intakes.next() else {
+            unreachable!()
+        };
+        let reading = self.readers.next();
+        let writing = self.writers.next();
+        let link = reading.number();
+        UnstartedLink {
+            reading,
+            writing,
+            link,
+            role,
             intake,
         }
     }
 }
 
-/// What the body of a writer starts from, but for the half of its link.
+/// What the bodies of a run start from before its links have come.
 #[derive(Drop)]
-pub(crate) struct UnstartedWriter<L: Ledger, A: Allocator = Global> {
-    pub actor: Actor<L, A>,
-    pub link: u32,
-    pub role: Role,
-    pub ghost none: { actor.receipts ≡ [] },
+pub(crate) struct Unstarted<'r, B: Site + Ledger, A: Allocator = Global> {
+    /// The roles in which the links shall begin.
+    pub roles: &'r [Role],
+    pub links: UnstartedLinks<B, A>,
+    pub workers: UnstartedActors<B, A>,
+    pub outlets: Vec<Outlet<B, A>, A>,
+    pub ghost all: { (links.next ≡ 0) × (links.left ≡ length roles.now) },
+    pub ghost each: { workers.left ≡ vec_len outlets },
+    pub ghost few: { vec_len outlets ≤ most_workers },
 }
 
-impl<L: Ledger, A: Allocator> UnstartedWriter<L, A> {
-    /// With the half of its link.
-    pub(crate) fn with<W: LinkWriter>(self, writer: W) -> WriterStart<W, L, A>
-        requires { IsNewWriter (W.state writer) }
-        ensures { (result.role ≡ self.role) × (result.writer ≡ writer) }
-    {
-        let UnstartedWriter { actor, link, role } = self;
-        WriterStart {
-            actor,
-            link,
-            role,
-            writer,
-        }
-    }
-}
-
-/// What the bodies of a run start from whose links haven't come yet.
-#[derive(Drop)]
-pub(crate) struct Unstarted<B: Site + Ledger, A: Allocator = Global> {
-    pub readers: Vec<UnstartedReader<B, A>, A>,
-    pub writers: Vec<UnstartedWriter<B, A>, A>,
-    pub workers: Vec<WorkerStart<B, A>, A>,
-    pub ghost many: { vec_len writers ≡ vec_len readers },
-    pub ghost links: { All (λ p. p.link < vec_len readers) readers.items },
-}
-
-/// What the bodies of a run start from, where its links shall have these roles; and the house, which is the last actor.
-pub(crate) fn unstarted_of<B: Site + Ledger, A: Allocator + Copy>(
-    alloc: A,
-    roles: &[Role],
+/// What the bodies of a run start from that has these roles, these actors and these ends of its stage; and the house, which
+/// is the last actor.
+pub(crate) fn unstarted_of<'r, B: Site + Ledger, A: Allocator + Copy>(
+    roles: &'r [Role],
+    actors: Vec<Actor<B, A>, A>,
     intakes: Vec<Intake<B, A>, A>,
     outlets: Vec<Outlet<B, A>, A>,
-    actors: Vec<Actor<B, A>, A>,
-) -> Result<(Unstarted<B, A>, Actor<B, A>), AllocError>
+) -> Result<(Unstarted<'r, B, A>, Actor<B, A>), AllocError>
     requires many { vec_len intakes ≡ length roles.now }
-    requires few { (length roles.now ≤ most_links) × (vec_len outlets ≤ most_workers) }
-    requires actors { AreNew (2 * length roles.now + vec_len outlets + 1) actors.items }
-    ensures readers { IfOk result (λ made. map (λ p. p.role) made.0.readers.items ≡ roles.now) }
-    ensures writers { IfOk result (λ made. map (λ p. p.role) made.0.writers.items ≡ roles.now) }
-    ensures workers { IfOk result (λ made. vec_len made.0.workers ≡ vec_len outlets) }
-    ensures many { IfOk result (λ made. vec_len made.0.readers ≡ length roles.now) }
+    requires few { (vec_len intakes ≤ most_links) × (vec_len outlets ≤ most_workers) }
+    requires actors { AreNew (2 * vec_len intakes + vec_len outlets + 1) actors.items }
+    ensures roles { IfOk result (λ made. made.0.roles.now ≡ roles.now) }
+    ensures workers { IfOk result (λ made. vec_len made.0.outlets ≡ vec_len outlets) }
 {
-    let mut actors = UnstartedActors::new(actors);
-    let readers = unstarted_readers(alloc, roles, intakes, &mut actors)?;
-    let writers = unstarted_writers(alloc, roles, &mut actors)?;
-    let workers = worker_starts(alloc, outlets, &mut actors)?;
-    let unstarted = Unstarted {
+    let many = intakes.len() as u32;
+    let mut readers = actors;
+    let mut writers = readers.split_off(many as usize)?;
+    let mut workers = writers.split_off(many as usize)?;
+    let Some(house) = workers.pop() else {
+        unreachable!()
+    };
+    let readers = UnstartedActors::new(0, readers);
+    let writers = UnstartedActors::new(many, writers);
+    let workers = UnstartedActors::new(2 * many, workers);
+    let links = UnstartedLinks {
         readers,
         writers,
-        workers,
+        intakes: intakes.into_iter(),
     };
-    Ok((unstarted, actors.next()))
-}
-
-/// What the readers start from: the first actors, in the order of the links.
-fn unstarted_readers<B: Site + Ledger, A: Allocator + Copy>(
-    alloc: A,
-    roles: &[Role],
-    intakes: Vec<Intake<B, A>, A>,
-    actors: &mut UnstartedActors<B, A>,
-) -> Result<Vec<UnstartedReader<B, A>, A>, AllocError>
-    requires first { actors.old.next ≡ 0 }
-    requires few { length roles.now ≤ most_links }
-    requires enough { (length roles.now ≤ actors.old.left) × (vec_len intakes ≡ length roles.now) }
-    ensures roles { IfOk result (λ unstarted. map (λ p. p.role) unstarted.items ≡ roles.now) }
-    ensures many { IfOk result (λ unstarted. vec_len unstarted ≡ length roles.now) }
-    ensures links { IfOk result (λ unstarted. All (λ p. p.link < length roles.now) unstarted.items) }
-    ensures left { IfOk result (λ _. actors.new.left + length roles.now ≡ actors.old.left) }
-{
-    let mut unstarted = Vec::new(alloc);
-    let mut intakes = intakes.into_iter();
-    let mut link = 0u32;
-    for role in roles {
-        let Some(intake) = intakes.next() else {
-            unreachable!()
-        };
-        let reader = UnstartedReader::new(actors.next(), link, *role, intake);
-        unstarted.push(reader)?;
-        link += 1;
-    }
-    Ok(unstarted)
-}
-
-/// What the writers start from: the next actors, in the order of the links.
-fn unstarted_writers<L: Ledger, A: Allocator + Copy>(
-    alloc: A,
-    roles: &[Role],
-    actors: &mut UnstartedActors<L, A>,
-) -> Result<Vec<UnstartedWriter<L, A>, A>, AllocError>
-    requires few { length roles.now ≤ most_links }
-    requires enough { length roles.now ≤ actors.old.left }
-    ensures roles { IfOk result (λ unstarted. map (λ p. p.role) unstarted.items ≡ roles.now) }
-    ensures many { IfOk result (λ unstarted. vec_len unstarted ≡ length roles.now) }
-    ensures left { IfOk result (λ _. actors.new.left + length roles.now ≡ actors.old.left) }
-{
-    let mut unstarted = Vec::new(alloc);
-    let mut link = 0u32;
-    for role in roles {
-        unstarted.push(UnstartedWriter {
-            actor: actors.next(),
-            link,
-            role: *role,
-        })?;
-        link += 1;
-    }
-    Ok(unstarted)
-}
-
-/// What the workers start from: the next actors.
-fn worker_starts<B: Site + Ledger, A: Allocator + Copy>(
-    alloc: A,
-    outlets: Vec<Outlet<B, A>, A>,
-    actors: &mut UnstartedActors<B, A>,
-) -> Result<Vec<WorkerStart<B, A>, A>, AllocError>
-    requires few { vec_len outlets ≤ most_workers }
-    requires enough { vec_len outlets ≤ actors.old.left }
-    ensures many { IfOk result (λ starts. vec_len starts ≡ vec_len outlets) }
-    ensures left { IfOk result (λ _. actors.new.left + vec_len outlets ≡ actors.old.left) }
-{
-    let mut starts = Vec::new(alloc);
-    let mut worker = 0u32;
-    for outlet in outlets {
-        starts.push(WorkerStart {
-            actor: actors.next(),
-            worker,
-            outlet,
-        })?;
-        worker += 1;
-    }
-    Ok(starts)
+    let unstarted = Unstarted {
+        roles,
+        links,
+        workers,
+        outlets,
+    };
+    Ok((unstarted, house))
 }

@@ -90,7 +90,7 @@ fn seconds_of(options: &ArgMatches<'_>, option: &str, mistake: &'static str) -> 
 fn steps_of(options: &ArgMatches<'_>) -> Result<u32, Unread>
     ensures { IsReadAs (λ n. n) (number_asked (codes "steps") 1 most.steps (rows_of (found_of options.now))) result }
 {
-    match number_asked(options, "steps", 1, 1_000_000) {
+    match number_asked(options, "steps", 1, Numbers::MOST.steps) {
         Some(steps) => Ok(steps),
         None => Err(Unread::Mistake("--steps takes a number of 1 to 1000000")),
     }

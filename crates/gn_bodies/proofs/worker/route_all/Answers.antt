@@ -1,4 +1,5 @@
 use Rattle.std.proofs.Common.{◌∙◌, ap, refl}
+use Rattle.std.proofs.lemmas.Result.{on_ok_weaker}
 use Rattle.gn_bodies.specs.Events.{link_events}
 use Rattle.gn_bodies.specs.Jobs.{routes_of}
 use Rattle.gn_bodies.proofs.EventLemmas.{link_events-route, number-route}
@@ -11,7 +12,7 @@ loop-init g c = record {
   number = refl;
   home = refl;
   routes = none_done c.args.me.now c.requires.none;
-  each = λ _. routes_none (routes_of c.args.outlet.now.jobs) c.args.me.now c.requires.none;
+  each = routes_none (routes_of c.args.outlet.now.jobs) c.args.me.now c.requires.none;
 }
 
 pub loop-preserved : goal.loop-preserved
@@ -24,7 +25,7 @@ loop-preserved g c =
       number = number-route job.ticket c.loop.me c.route_job.new.me routed ∙ was.number;
       home = ap (λ outlet. outlet.number) taken ∙ was.home;
       routes = link_events-route job.ticket c.loop.me c.route_job.new.me routed ∙ was.routes;
-      each = λ clean. routes_more (routes_of c.args.outlet.now.jobs) job c.loop.outlet c.take.new.self c.loop.me c.route_job.new.me taken routed (was.each clean);
+      each = on_ok_weaker c.loop.end (λ before. routes_more (routes_of c.args.outlet.now.jobs) job c.loop.outlet c.take.new.self c.loop.me c.route_job.new.me taken routed before) was.each;
     }
 
 pub loop-preserved-in-Err : goal.loop-preserved-in-Err
@@ -34,7 +35,7 @@ loop-preserved-in-Err g c =
       number = ap (λ w. w.number) c.in-Err.ensures ∙ was.number;
       home = ap (λ outlet. outlet.number) c.in-Some-take.ensures ∙ was.home;
       routes = ap link_events c.in-Err.ensures ∙ was.routes;
-      each = λ clean. absurd (cc);
+      each = tt;
     }
 
 pub returns-then-is_stop-clause-number : goal.returns-then-is_stop-clause-number
@@ -45,3 +46,7 @@ returns-then-is_stop-clause-home g c = ap (λ outlet. outlet.number) c.in-Some-t
 
 pub returns-then-is_stop-clause-routes : goal.returns-then-is_stop-clause-routes
 returns-then-is_stop-clause-routes g c = ap link_events c.in-Err.ensures ∙ c.loop.invariant.routes
+
+pub returns-in_default-clause-each : goal.returns-in_default-clause-each
+returns-in_default-clause-each g c =
+    on_ok_weaker c.loop.end (λ before. ap (λ outlet. routes_of outlet.jobs) c.in_default.ensures.0 ∙ before) c.loop.invariant.each

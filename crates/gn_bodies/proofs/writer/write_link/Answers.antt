@@ -1,12 +1,10 @@
-use Rattle.std.proofs.Common.{◌≡◌, [], ◌∙◌, ap, sym, subst, append-nil, inl, refl}
-use Rattle.std.specs.List.{concat}
+use Rattle.std.proofs.Common.{rules, ◌≡◌, [], ◌∙◌, ap, sym, subst, inl, refl}
 use Rattle.gn_bodies.specs.declared.ends.WriterEnd.TheVariants.{NeverOpened, WriteFailed}
 use Rattle.gn_bodies.specs.Done.{WritesAs}
 use Rattle.gn_bodies.specs.Events.{packets_of}
-use Rattle.gn_bodies.specs.Written.{opening_texts}
 use Rattle.gn_laws.specs.Owners as laws
 use Rattle.gn_bodies.proofs.EventLemmas.{close_number}
-use Rattle.gn_bodies.proofs.WrittenLemmas.{steps_closed, steps_kept, takes_none}
+use Rattle.gn_bodies.proofs.WrittenLemmas.{broke_steps, broke_written, ends_kept, ends_written, takes_none}
 use Rattle.gn_bodies.proofs.writer.write_link.Goals as goal
 
 pub returns-then-not-write_request-clause-number : goal.returns-then-not-write_request-clause-number
@@ -37,67 +35,52 @@ returns-in_default-clause-written g c =
 pub returns-in_default-clause-steps : goal.returns-in_default-clause-steps
 returns-in_default-clause-steps g c = (0, c.requires.none)
 
+pub write_packets-end-requires-clause-none : goal.write_packets-end-requires-clause-none
+write_packets-end-requires-clause-none g c = c.requires.none
+
+pub write_packets-end-requires-clause-called : goal.write_packets-end-requires-clause-called
+write_packets-end-requires-clause-called g c = c.write_request.ensures.all c.if-not-write_request.false
+
 pub returns-in_err-close-clause-number : goal.returns-in_err-close-clause-number
-returns-in_err-close-clause-number g c = close_number c.in-Some.c c.args.me.now c.close.new.me c.close.ensures.closed
+returns-in_err-close-clause-number g c = close_number c.in-Some.c c.write_packets-end.new.me c.close.new.me c.close.ensures.closed ∙ c.write_packets-end.ensures.number
 
 pub returns-in_err-close-clause-made : goal.returns-in_err-close-clause-made
-returns-in_err-close-clause-made g c = c.write_consent.ensures.made ∙ c.write_request.ensures.made
+returns-in_err-close-clause-made g c = c.write_packets-end.ensures.made ∙ c.write_request.ensures.made
 
-pub returns-then-not-write_consent-clause-number : goal.returns-then-not-write_consent-clause-number
-returns-then-not-write_consent-clause-number g c = close_number c.in-Some.c c.args.me.now c.close.new.me c.close.ensures.closed
+pub returns-in_ok-close-clause-number : goal.returns-in_ok-close-clause-number
+returns-in_ok-close-clause-number g c = close_number c.in-Some.c c.write_packets-end.new.me c.close.new.me c.close.ensures.closed ∙ c.write_packets-end.ensures.number
 
-pub returns-then-not-write_consent-clause-made : goal.returns-then-not-write_consent-clause-made
-returns-then-not-write_consent-clause-made g c = c.write_consent.ensures.made ∙ c.write_request.ensures.made
+pub returns-in_ok-close-clause-made : goal.returns-in_ok-close-clause-made
+returns-in_ok-close-clause-made g c = c.write_packets-end.ensures.made ∙ c.write_request.ensures.made
 
-pub returns-then-not-write_consent-clause-written : goal.returns-then-not-write_consent-clause-written
-returns-then-not-write_consent-clause-written g c =
-    let none : packets_of c.close.new.me ≡ [] = c.close.ensures.packets ∙ ap laws.packets_of c.requires.none in
-    subst (λ packets. WritesAs c.args.role WriteFailed packets (g.W.LinkWriter.state c.write_consent.new.writer)) (sym none) (c.write_consent.ensures.part c.if-not-write_consent.true)
+pub returns-in_ok-close-clause-written : goal.returns-in_ok-close-clause-written
+returns-in_ok-close-clause-written g c =
+    broke_written c.args.role c.write_packets-end.result c.in-Some.c c.write_packets-end.new.me c.close.new.me (g.W.LinkWriter.state c.write_packets-end.new.writer) c.close.ensures.packets c.write_packets-end.ensures.written
 
-pub returns-then-not-write_consent-clause-steps : goal.returns-then-not-write_consent-clause-steps
-returns-then-not-write_consent-clause-steps g c = (c.in-Some.c, (c.args.me.now, takes_none c.in-Some.c c.args.me.now c.requires.none, c.close.ensures.closed))
+pub returns-in_ok-close-clause-steps : goal.returns-in_ok-close-clause-steps
+returns-in_ok-close-clause-steps g c =
+    broke_steps c.args.role c.write_packets-end.result c.in-Some.c c.write_packets-end.new.me c.close.new.me (g.W.LinkWriter.state c.write_packets-end.new.writer) (search rules) c.close.ensures.closed c.write_packets-end.ensures.written
 
-pub write_packets-requires-clause-none : goal.write_packets-requires-clause-none
-write_packets-requires-clause-none g c = c.requires.none
+pub returns-in-Some-clause-number : goal.returns-in-Some-clause-number
+returns-in-Some-clause-number g c = c.write_packets-end.ensures.number
 
-pub write_packets-requires-clause-opened : goal.write_packets-requires-clause-opened
-write_packets-requires-clause-opened g c = λ known.
-    (c.write_consent.ensures.all c.if-not-write_consent.false).row known ∙ ap concat (append-nil (opening_texts c.args.role))
+pub returns-in-Some-clause-made : goal.returns-in-Some-clause-made
+returns-in-Some-clause-made g c = c.write_packets-end.ensures.made ∙ c.write_request.ensures.made
 
-pub returns-in_err-end-clause-number : goal.returns-in_err-end-clause-number
-returns-in_err-end-clause-number g c = c.write_packets.ensures.number
+pub returns-in-Some-clause-written : goal.returns-in-Some-clause-written
+returns-in-Some-clause-written g c = ends_written c.args.role c.write_packets-end.result c.in-Some.c c.write_packets-end.new.me (g.W.LinkWriter.state c.write_packets-end.new.writer) c.write_packets-end.ensures.written
 
-pub returns-in_err-end-clause-made : goal.returns-in_err-end-clause-made
-returns-in_err-end-clause-made g c = c.write_packets.ensures.made ∙ c.write_consent.ensures.made ∙ c.write_request.ensures.made
+pub returns-in-Some-clause-steps : goal.returns-in-Some-clause-steps
+returns-in-Some-clause-steps g c = ends_kept c.args.role c.write_packets-end.result c.in-Some.c c.write_packets-end.new.me (g.W.LinkWriter.state c.write_packets-end.new.writer) c.write_packets-end.ensures.written
 
-pub returns-in_err-close-2-clause-number : goal.returns-in_err-close-2-clause-number
-returns-in_err-close-2-clause-number g c = close_number c.in-Some.c c.write_packets.new.me c.close-in-WriteFailed.new.me c.close-in-WriteFailed.ensures.closed ∙ c.write_packets.ensures.number
+pub returns-in-Some-2-clause-number : goal.returns-in-Some-2-clause-number
+returns-in-Some-2-clause-number g c = c.write_packets-end.ensures.number
 
-pub returns-in_err-close-2-clause-made : goal.returns-in_err-close-2-clause-made
-returns-in_err-close-2-clause-made g c = c.write_packets.ensures.made ∙ c.write_consent.ensures.made ∙ c.write_request.ensures.made
+pub returns-in-Some-2-clause-made : goal.returns-in-Some-2-clause-made
+returns-in-Some-2-clause-made g c = c.write_packets-end.ensures.made ∙ c.write_request.ensures.made
 
-pub returns-in_ok-close-2-clause-number : goal.returns-in_ok-close-2-clause-number
-returns-in_ok-close-2-clause-number g c = close_number c.in-Some.c c.write_packets.new.me c.close-in-WriteFailed.new.me c.close-in-WriteFailed.ensures.closed ∙ c.write_packets.ensures.number
+pub returns-in-Some-2-clause-written : goal.returns-in-Some-2-clause-written
+returns-in-Some-2-clause-written g c = ends_written c.args.role c.write_packets-end.result c.in-Some.c c.write_packets-end.new.me (g.W.LinkWriter.state c.write_packets-end.new.writer) c.write_packets-end.ensures.written
 
-pub returns-in_ok-close-2-clause-made : goal.returns-in_ok-close-2-clause-made
-returns-in_ok-close-2-clause-made g c = c.write_packets.ensures.made ∙ c.write_consent.ensures.made ∙ c.write_request.ensures.made
-
-pub returns-in_ok-close-2-clause-written : goal.returns-in_ok-close-2-clause-written
-returns-in_ok-close-2-clause-written g c =
-    subst (λ packets. WritesAs c.args.role c.in_ok-end.end packets (g.W.LinkWriter.state c.write_packets.new.writer)) (sym c.close-in-WriteFailed.ensures.packets) c.in_ok-end.ensures.written
-
-pub returns-in_ok-close-2-clause-steps : goal.returns-in_ok-close-2-clause-steps
-returns-in_ok-close-2-clause-steps g c =
-    (c.in-Some.c, steps_closed c.in_ok-end.end c.in-Some.c c.write_packets.new.me c.close-in-WriteFailed.new.me c.in-WriteFailed.is c.in_ok-end.ensures.steps c.close-in-WriteFailed.ensures.closed)
-
-pub returns-in_default-end-clause-number : goal.returns-in_default-end-clause-number
-returns-in_default-end-clause-number g c = c.write_packets.ensures.number
-
-pub returns-in_default-end-clause-made : goal.returns-in_default-end-clause-made
-returns-in_default-end-clause-made g c = c.write_packets.ensures.made ∙ c.write_consent.ensures.made ∙ c.write_request.ensures.made
-
-pub returns-in_default-end-clause-written : goal.returns-in_default-end-clause-written
-returns-in_default-end-clause-written g c = c.in_ok-end.ensures.written
-
-pub returns-in_default-end-clause-steps : goal.returns-in_default-end-clause-steps
-returns-in_default-end-clause-steps g c = (c.in-Some.c, steps_kept c.in_ok-end.end c.in-Some.c c.write_packets.new.me c.in_ok-end.ensures.steps)
+pub returns-in-Some-2-clause-steps : goal.returns-in-Some-2-clause-steps
+returns-in-Some-2-clause-steps g c = ends_kept c.args.role c.write_packets-end.result c.in-Some.c c.write_packets-end.new.me (g.W.LinkWriter.state c.write_packets-end.new.writer) c.write_packets-end.ensures.written

@@ -15,43 +15,43 @@ finish-requires-clause-ends g c =
     let all = c.in-Ok-joined.ensures.joined in
     record {
       readers = readers_keep g.V.Reader.LinkReader.state g.V.Reader.LinkReader.made_of g.V.Reader.LinkReader.gives all.reading _ c.in-Ok-joined.done.readers.items
-          (all.reading_roles ∙ c.in-Ok-unstarted_of.ensures.readers) (omega (arith, c.in-Ok-joined.done.readers.ok, all.joined.read)) all.joined.readers;
+          (all.reading_roles ∙ c.in-Ok.ensures.roles) (omega (arith, c.in-Ok-joined.done.readers.ok, all.joined.read)) all.joined.readers;
       writers = writers_keep g.V.Writer.LinkWriter.state g.V.Writer.LinkWriter.made_of all.writing _ c.in-Ok-joined.done.writers.items
-          (all.writing_roles ∙ c.in-Ok-unstarted_of.ensures.writers) (omega (arith, c.in-Ok-joined.done.writers.ok, all.joined.written)) all.joined.writers;
+          (all.writing_roles ∙ c.in-Ok.ensures.roles) (omega (arith, c.in-Ok-joined.done.writers.ok, all.joined.written)) all.joined.writers;
     }
 
 pub finish-requires-clause-counted : goal.finish-requires-clause-counted
 finish-requires-clause-counted g c =
     let all = c.in-Ok-joined.ensures.joined in
-    let worked : vec_len c.in-Ok-joined.done.workers ≡ c.args.workers = all.joined.worked ∙ c.in-Ok-unstarted_of.ensures.workers ∙ c.in-Ok.ensures.ends.1 in
+    let worked : vec_len c.in-Ok-joined.done.workers ≡ c.args.workers = all.joined.worked ∙ c.in-Ok.ensures.workers in
     record {
       few = (c.requires.few.0, omega (arith, worked, c.requires.few.1.greatest));
       each = (
-        all.joined.read ∙ sym (length-map all.reading (λ l. l.role)) ∙ ap length (all.reading_roles ∙ c.in-Ok-unstarted_of.ensures.readers),
-        all.joined.written ∙ sym (length-map all.writing (λ l. l.role)) ∙ ap length (all.writing_roles ∙ c.in-Ok-unstarted_of.ensures.writers),
+        all.joined.read ∙ sym (length-map all.reading (λ l. l.role)) ∙ ap length (all.reading_roles ∙ c.in-Ok.ensures.roles),
+        all.joined.written ∙ sym (length-map all.writing (λ l. l.role)) ∙ ap length (all.writing_roles ∙ c.in-Ok.ensures.roles),
       );
       parts = omega (arith, worked, c.requires.blank.1, c.requires.blank.2);
     }
 
 pub returns-in-Err-clause-fault : goal.returns-in-Err-clause-fault
 returns-in-Err-clause-fault g c =
-    subst (λ n. IsArrivingFault g.V.Arrivals.has_peers n c.args.workers c.in-Err.fault) c.in-Ok-unstarted_of.ensures.many (c.in-Err.ensures.fault c.args.workers)
+    subst (λ roles. IsArrivingFault g.V.Arrivals.has_peers (length roles) c.args.workers c.in-Err.fault) c.in-Ok.ensures.roles (c.in-Err.ensures.fault c.args.workers)
 
 pub returns-in-Ok-joined-clause-fault : goal.returns-in-Ok-joined-clause-fault
 returns-in-Ok-joined-clause-fault g c =
     err_in_arriving g.V.Arrivals.has_peers (length c.args.roles.now) c.args.workers c.finish.result
-    (subst (λ n. IfErr c.finish.result (λ fault. IsFaultOf (length c.args.roles.now) n fault)) (c.in-Ok-joined.ensures.joined.joined.worked ∙ c.in-Ok-unstarted_of.ensures.workers ∙ c.in-Ok.ensures.ends.1) c.finish.ensures.fault)
+    (subst (λ n. IfErr c.finish.result (λ fault. IsFaultOf (length c.args.roles.now) n fault)) (c.in-Ok-joined.ensures.joined.joined.worked ∙ c.in-Ok.ensures.workers) c.finish.ensures.fault)
 
 pub returns-in-Ok-joined-clause-holds : goal.returns-in-Ok-joined-clause-holds
 returns-in-Ok-joined-clause-holds g c =
-    subst (λ n. IfOk c.finish.result (λ report. Holds g.V.Reader.LinkReader.state g.V.Writer.LinkWriter.state c.args.config.now c.args.roles.now n report)) (c.in-Ok-joined.ensures.joined.joined.worked ∙ c.in-Ok-unstarted_of.ensures.workers ∙ c.in-Ok.ensures.ends.1) c.finish.ensures.holds
+    subst (λ n. IfOk c.finish.result (λ report. Holds g.V.Reader.LinkReader.state g.V.Writer.LinkWriter.state c.args.config.now c.args.roles.now n report)) (c.in-Ok-joined.ensures.joined.joined.worked ∙ c.in-Ok.ensures.workers) c.finish.ensures.holds
 
 pub returns-in-Ok-joined-clause-bytes : goal.returns-in-Ok-joined-clause-bytes
 returns-in-Ok-joined-clause-bytes g c =
     let all = c.in-Ok-joined.ensures.joined in
     let bodies = map reader_ended c.in-Ok-joined.done.readers.items in
     let many : length bodies ≡ length all.reading = omega (arith, length-map c.in-Ok-joined.done.readers.items reader_ended, c.in-Ok-joined.done.readers.ok, all.joined.read) in
-    let first = ap (λ roles. take (length roles) (g.V.Arrivals.coming c.args.arrivals)) c.in-Ok-unstarted_of.ensures.readers in
+    let first = ap (λ roles. take (length roles) (g.V.Arrivals.coming c.args.arrivals)) c.in-Ok.ensures.roles in
     let own = sym (map-map g.V.Reader.LinkReader.gives (λ h. g.V.Reader.LinkReader.made_of h.half) all.reading) ∙ ap (map g.V.Reader.LinkReader.gives) (all.reading_made ∙ first) in
     IfOk-weaker _ _ _ (λ report has. links_read_own g.V.Reader.LinkReader.state g.V.Reader.LinkReader.made_of g.V.Reader.LinkReader.gives all.reading _ bodies report own many has.readers all.joined.readers) c.finish.ensures.bodies
 
@@ -62,8 +62,7 @@ returns-in-Ok-joined-clause-made g c =
     let written = map writer_ended c.in-Ok-joined.done.writers.items in
     let many : length read ≡ length all.reading = omega (arith, length-map c.in-Ok-joined.done.readers.items reader_ended, c.in-Ok-joined.done.readers.ok, all.joined.read) in
     let more : length written ≡ length all.writing = omega (arith, length-map c.in-Ok-joined.done.writers.items writer_ended, c.in-Ok-joined.done.writers.ok, all.joined.written) in
-    let first = ap (λ roles. take (length roles) (g.V.Arrivals.coming c.args.arrivals)) c.in-Ok-unstarted_of.ensures.readers in
-    let also = ap (λ roles. take (length roles) (g.V.Arrivals.coming c.args.arrivals)) c.in-Ok-unstarted_of.ensures.writers in
+    let first = ap (λ roles. take (length roles) (g.V.Arrivals.coming c.args.arrivals)) c.in-Ok.ensures.roles in
     IfOk-weaker _ _ _
-    (λ report has. are_made_of g.V.Reader.LinkReader.state g.V.Reader.LinkReader.made_of g.V.Reader.LinkReader.gives g.V.Writer.LinkWriter.state g.V.Writer.LinkWriter.made_of all.reading all.writing read written _ report (all.reading_made ∙ first) (all.writing_made ∙ also) many more all.joined.readers all.joined.writers has.readers has.writers)
+    (λ report has. are_made_of g.V.Reader.LinkReader.state g.V.Reader.LinkReader.made_of g.V.Reader.LinkReader.gives g.V.Writer.LinkWriter.state g.V.Writer.LinkWriter.made_of all.reading all.writing read written _ report (all.reading_made ∙ first) (all.writing_made ∙ first) many more all.joined.readers all.joined.writers has.readers has.writers)
     c.finish.ensures.bodies

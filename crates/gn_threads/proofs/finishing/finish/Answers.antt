@@ -7,12 +7,9 @@ use Rattle.gn_bodies.specs.Done.{reader_ended, halved, writer_ended}
 use Rattle.gn_threads.specs.Joined.{KeepEnds}
 use Rattle.gn_threads.specs.Headline.{Holds}
 use Rattle.gn_threads.specs.Reported.{HasBodies, reader_result}
-use Rattle.gn_threads.proofs.FaultLemmas.{answer_below, below_more, number_below, of_stop}
+use Rattle.gn_threads.proofs.FaultLemmas.{answer_below, below_more, number_below}
 use Rattle.gn_threads.proofs.JoinedLemmas.{known_alike}
 use Rattle.gn_threads.proofs.finishing.finish.Goals as goal
-
-pub returns-in-Some-clause-fault : goal.returns-in-Some-clause-fault
-returns-in-Some-clause-fault g c = of_stop _ _ c.in-Some.fault c.in-Some.ensures _ _
 
 pub returns-in-Err-clause-fault : goal.returns-in-Err-clause-fault
 returns-in-Err-clause-fault g c = c.in-Err.ensures.fault _ _ (omega (arith, c.len.ensures))

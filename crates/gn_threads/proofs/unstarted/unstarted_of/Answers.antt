@@ -1,50 +1,66 @@
-use Rattle.std.proofs.Common.{◌∙◌, ap, arith, sym}
+use Rattle.std.proofs.Common.{◌*◌, ap, arith, refl}
 use Rattle.gn_threads.specs.Actors.{Turn}
+use Rattle.gn_threads.proofs.ActorLemmas.{first_numbered, numbered_all, rest_numbered}
 use Rattle.gn_threads.proofs.unstarted.unstarted_of.Goals as goal
 
-pub new-actors-requires : goal.new-actors-requires
-new-actors-requires g c = record {
-  new = λ k d below. c.requires.actors.each k d (omega (arith, below, c.requires.actors.long, c.args.actors.ok));
-  few = omega (arith, c.requires.actors.long, c.args.actors.ok, c.requires.few.0, c.requires.few.1);
-}
+pub split_off-requires : goal.split_off-requires
+split_off-requires g c = omega (arith, c.len-many.ensures, c.requires.actors.long, c.args.actors.ok)
 
-pub unstarted_readers-requires : goal.unstarted_readers-requires
-unstarted_readers-requires g c = record {
-  first = ap (λ (turn : Turn). turn.next) c.new-actors.ensures;
-  few = c.requires.few.0;
-  enough = (omega (arith, ap (λ (turn : Turn). turn.left) c.new-actors.ensures, c.requires.actors.long, c.args.actors.ok), c.requires.many);
-}
+pub split_off-requires-2 : goal.split_off-requires-2
+split_off-requires-2 g c = omega (arith, c.len-many.ensures, c.requires.actors.long, c.args.actors.ok, c.in_ok-writers.ensures.tail_len)
 
-pub unstarted_writers-requires : goal.unstarted_writers-requires
-unstarted_writers-requires g c = record {
-  few = c.requires.few.0;
-  enough = omega (arith, ap (λ (turn : Turn). turn.left) c.new-actors.ensures, c.requires.actors.long, c.args.actors.ok, c.in_ok-readers.ensures.left);
-}
+pub unreachable-requires : goal.unreachable-requires
+unreachable-requires g c =
+    omega (arith, c.len-many.ensures, c.requires.actors.long, c.args.actors.ok, c.in_default.ensures.cases.0, c.in_ok-writers.ensures.tail_len, c.in_ok-workers.ensures.tail_len)
 
-pub worker_starts-requires : goal.worker_starts-requires
-worker_starts-requires g c = record {
-  few = c.requires.few.1;
-  enough = omega (arith, ap (λ (turn : Turn). turn.left) c.new-actors.ensures, c.requires.actors.long, c.args.actors.ok, c.in_ok-readers.ensures.left, c.in_ok-writers.ensures.left);
-}
+pub new-readers-requires : goal.new-readers-requires
+new-readers-requires g c =
+    let all = numbered_all c.args.actors.items (λ k d below. c.requires.actors.each k d (omega (arith, below, c.requires.actors.long))) in
+    record {
+      actors = first_numbered 0 c.len-many.result c.args.actors.items _ c.in_ok-writers.ensures.items all;
+      few = omega (arith, c.in_ok-writers.ensures.len, c.len-many.ensures, c.requires.few.0);
+    }
 
-pub next-requires : goal.next-requires
-next-requires g c =
-    omega (arith, ap (λ (turn : Turn). turn.left) c.new-actors.ensures, c.requires.actors.long, c.args.actors.ok, c.in_ok-readers.ensures.left, c.in_ok-writers.ensures.left, c.in_ok-workers.ensures.left)
+pub new-writers-requires : goal.new-writers-requires
+new-writers-requires g c =
+    let many = c.len-many.result in
+    let all = numbered_all c.args.actors.items (λ k d below. c.requires.actors.each k d (omega (arith, below, c.requires.actors.long))) in
+    let rest = rest_numbered 0 many many c.args.actors.items _ c.in_ok-writers.ensures.tail (omega arith) all in
+    record {
+      actors = first_numbered many many _ _ c.in_ok-workers.ensures.items rest;
+      few = omega (arith, c.in_ok-workers.ensures.len, c.len-many.ensures, c.requires.few.0);
+    }
+
+pub new-workers-requires : goal.new-workers-requires
+new-workers-requires g c =
+    let many = c.len-many.result in
+    let all = numbered_all c.args.actors.items (λ k d below. c.requires.actors.each k d (omega (arith, below, c.requires.actors.long))) in
+    let rest = rest_numbered 0 many many c.args.actors.items _ c.in_ok-writers.ensures.tail (omega arith) all in
+    let last = rest_numbered many many (2 * many) _ _ c.in_ok-workers.ensures.tail (omega arith) rest in
+    record {
+      actors = first_numbered (2 * many) _ _ _ c.pop.ensures.rest last;
+      few = omega (arith, c.len-many.ensures, c.requires.few.0, c.requires.few.1, c.requires.actors.long, c.args.actors.ok, c.in-Some.ensures.len, c.in_ok-writers.ensures.tail_len, c.in_ok-workers.ensures.tail_len);
+    }
+
+pub invariant_of-links : goal.invariant_of-links
+invariant_of-links g c =
+    let read = ap (λ (turn : Turn). turn.left) c.new-readers.ensures in (
+      omega (arith, ap (λ (turn : Turn). turn.left) c.new-writers.ensures, read, c.in_ok-writers.ensures.len, c.in_ok-workers.ensures.len),
+      omega (arith, c.into_iter.ensures.len, read, c.in_ok-writers.ensures.len, c.len-many.ensures),
+    )
 
 pub invariant_of-unstarted : goal.invariant_of-unstarted
 invariant_of-unstarted g c = record {
-  many = c.in_ok-writers.ensures.many ∙ sym c.in_ok-readers.ensures.many;
-  links = λ k d below. omega (arith, c.in_ok-readers.ensures.links k d below, c.in_ok-readers.ensures.many);
+  all = (
+    ap (λ (turn : Turn). turn.next) c.new-readers.ensures,
+    omega (arith, ap (λ (turn : Turn). turn.left) c.new-readers.ensures, c.in_ok-writers.ensures.len, c.len-many.ensures, c.requires.many),
+  );
+  each = omega (arith, ap (λ (turn : Turn). turn.left) c.new-workers.ensures, c.len-many.ensures, c.requires.actors.long, c.args.actors.ok, c.in-Some.ensures.len, c.in_ok-writers.ensures.tail_len, c.in_ok-workers.ensures.tail_len);
+  few = c.requires.few.1;
 }
 
-pub returns-clause-readers : goal.returns-clause-readers
-returns-clause-readers g c = c.in_ok-readers.ensures.roles
-
-pub returns-clause-writers : goal.returns-clause-writers
-returns-clause-writers g c = c.in_ok-writers.ensures.roles
+pub returns-clause-roles : goal.returns-clause-roles
+returns-clause-roles g c = refl
 
 pub returns-clause-workers : goal.returns-clause-workers
-returns-clause-workers g c = c.in_ok-workers.ensures.many
-
-pub returns-clause-many : goal.returns-clause-many
-returns-clause-many g c = c.in_ok-readers.ensures.many
+returns-clause-workers g c = refl

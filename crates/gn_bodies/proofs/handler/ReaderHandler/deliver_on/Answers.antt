@@ -1,16 +1,12 @@
-use Rattle.std.proofs.Common.{◌++◌}
-use Rattle.gn_bodies.proofs.ReadingLemmas.{whole_more, fault_row, not_live_row}
+use Rattle.gn_bodies.proofs.DeliveryLemmas.{admitted_piece, admitted_taken, streamed}
 use Rattle.gn_bodies.proofs.handler.ReaderHandler.deliver_on.Goals as goal
 
-pub returns-in-More-clause-taken : goal.returns-in-More-clause-taken
-returns-in-More-clause-taken g c role b s whole was =
-    record { stream = s ++ c.args.piece.now; whole = whole_more role b s c.args.piece.now whole; offering = c.in-More.ensures.delivered s was }
+pub returns-clause-piece : goal.returns-clause-piece
+returns-clause-piece g c =
+    rw c.of_admitted.ensures (admitted_piece c.args.c c.feed.new.self c.admit_all-admitted.result c.in-Ok.fed.fault c.args.self.now c.admit_all-admitted.new.self c.requires.connection c.admit_all-admitted.ensures.goes_on)
 
-pub returns-in-Fault-clause-taken : goal.returns-in-Fault-clause-taken
-returns-in-Fault-clause-taken g c role b s whole was =
-    let (ends, events) = c.in-Fault.ensures.delivered s was in
-    fault_row c.greeting_is_known.ensures role (b ++ c.args.piece.now) (s ++ c.args.piece.now) c.args.c c.in-Fault.fault c.deliver.new.self.actor (whole_more role b s c.args.piece.now whole) ends events
-
-pub returns-in-NotLive-clause-taken : goal.returns-in-NotLive-clause-taken
-returns-in-NotLive-clause-taken g c role b s whole was =
-    not_live_row c.greeting_is_known.ensures role (b ++ c.args.piece.now) (s ++ c.args.piece.now) c.args.c c.deliver.new.self.actor (whole_more role b s c.args.piece.now whole) (c.in-NotLive.ensures.delivered s was)
+pub returns-clause-taken : goal.returns-clause-taken
+returns-clause-taken g c role b s whole was =
+    let is = streamed s c.args.piece.now c.args.frames c.in-Ok.fed.descriptors.items c.in-Ok.fed.fault c.feed.new.self c.pieces_are_one_stream.ensures was.held c.in-Ok.ensures.ok in
+    rw c.of_admitted.ensures (admitted_taken c.greeting_is_known.ensures role b s c.args.piece.now c.args.c c.in-Ok.fed.descriptors.items c.feed.new.self c.admit_all-admitted.result c.in-Ok.fed.fault c.args.self.now.actor
+    c.admit_all-admitted.new.self.actor whole is was.events c.admit_all-admitted.ensures.ok c.admit_all-admitted.ensures.not_live)

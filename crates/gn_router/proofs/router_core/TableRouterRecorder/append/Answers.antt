@@ -15,5 +15,5 @@ pub invariant_of-self-2 : goal.invariant_of-self-2
 invariant_of-self-2 g c =
     let answered : answer c.self.inside.config (reverse c.self.inside.history.items) c.args.event.now ≡ Ok c.args.reply.now =
     subst (λ v. answer v.settings (reverse v.steps) c.args.event.now ≡ Ok c.args.reply.now) (sym c.self.view_is) c.requires in
-    rw (c.push_reserved.ensures.items, c.take.ensures, c.take-2.ensures, c.in_ok-reserve.ensures.items, past_push c.self.inside.history.items _, c.in_ok-follow.ensures.ok)
+    rw (c.push_reserved.ensures.items, c.replace.ensures.value, c.replace-2.ensures.value, c.in_ok-reserve.ensures.items, past_push c.self.inside.history.items _, c.in_ok-follow.ensures.ok)
     (follows c.self.inside.config (reverse c.self.inside.history.items) c.self.inside.tables c.self.invariant c.args.actor c.args.event.now c.args.reply.now answered)

@@ -2,15 +2,18 @@ use Rattle.std.proofs.Common.{arith, subst, vec_items, vec_len}
 use Rattle.std.specs.Prelude.{◌≡◌, IfOk}
 use Rattle.std.proofs.lemmas.List.{length-map}
 use Rattle.gn_bodies.specs.Done.{half_of, IsReaderDone, IsWriterDone, reader_ended, writer_ended}
-use Rattle.gn_threads.proofs.FaultLemmas.{of_lost}
+use Rattle.gn_threads.proofs.FaultLemmas.{of_lost, of_stop}
 use Rattle.gn_threads.proofs.JoinedLemmas.{keeps_promised}
 use Rattle.gn_threads.proofs.joins.Handles.join.Goals as goal
 
 pub returns-in_default-clause-fault : goal.returns-in_default-clause-fault
 returns-in_default-clause-fault g c = of_lost _ _ c.fault_of.ensures
 
-pub returns-clause-joined : goal.returns-clause-joined
-returns-clause-joined g c =
+pub returns-in-Some-clause-fault : goal.returns-in-Some-clause-fault
+returns-in-Some-clause-fault g c = of_stop _ _ c.in-Some.fault c.in-Some.ensures
+
+pub returns-in-None-clause-joined : goal.returns-in-None-clause-joined
+returns-in-None-clause-joined g c =
     let reading = c.args.self.readers in
     let writing = c.args.self.writers in
     let done = c.in-Ok-Ok-Ok in

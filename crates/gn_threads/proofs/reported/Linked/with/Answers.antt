@@ -5,13 +5,11 @@ use Rattle.gn_threads.proofs.FaultLemmas.{handed_on}
 use Rattle.gn_threads.proofs.ReportedLemmas.{ended_alike, one_as, shares_more}
 use Rattle.gn_threads.proofs.reported.Linked.with.Goals as goal
 
-pub returns-in_err-reader_end-clause-fault : goal.returns-in_err-reader_end-clause-fault
-returns-in_err-reader_end-clause-fault g c =
-    handed_on _ c.from_residual.result _ c.from_residual.ensures.1 (λ workers. c.in_err-reader_end.ensures.fault c.args.links workers (omega (arith, c.requires)))
+pub ends_of-requires : goal.ends_of-requires
+ends_of-requires g c = c.requires
 
-pub returns-in_err-writer_end-clause-fault : goal.returns-in_err-writer_end-clause-fault
-returns-in_err-writer_end-clause-fault g c =
-    handed_on _ c.from_residual-in_err-writer_end.result _ c.from_residual-in_err-writer_end.ensures.1 (λ workers. c.in_err-writer_end.ensures.fault c.args.links workers (omega (arith, c.requires)))
+pub returns-in_err-reader_end-clause-fault : goal.returns-in_err-reader_end-clause-fault
+returns-in_err-reader_end-clause-fault g c = handed_on _ c.from_residual.result _ c.from_residual.ensures.1 c.in_err-reader_end.ensures.fault
 
 pub returns-clause-many : goal.returns-clause-many
 returns-clause-many g c = c.in_ok-push.ensures.len
@@ -19,15 +17,12 @@ returns-clause-many g c = c.in_ok-push.ensures.len
 pub returns-clause-reader : goal.returns-clause-reader
 returns-clause-reader g c =
     one_as reader_reported (vec_items c.args.self.links) (vec_items c.push.new.self) _ _ c.in_ok-push.ensures.items
-    (ended_alike _ _ c.args.reader.reader _ _ c.into_parts-reader_receipts.ensures.receipts c.in_ok-reader_end.ensures.ok)
+    (ended_alike _ _ c.args.reader.reader _ _ c.into_parts-reader_receipts.ensures.receipts c.in_ok-reader_end.ensures.ok.0)
 
 pub returns-clause-writer : goal.returns-clause-writer
 returns-clause-writer g c =
     one_as writer_reported (vec_items c.args.self.links) (vec_items c.push.new.self) _ _ c.in_ok-push.ensures.items
-    (ended_alike _ _ c.args.writer.writer _ _ c.into_parts-writer_receipts.ensures.receipts c.in_ok-writer_end.ensures.ok)
-
-pub overflow_add-links : goal.overflow_add-links
-overflow_add-links g c = omega (arith, c.requires)
+    (ended_alike _ _ c.args.writer.writer _ _ c.into_parts-writer_receipts.ensures.receipts c.in_ok-reader_end.ensures.ok.1)
 
 pub returns-in_err-push-clause-fault : goal.returns-in_err-push-clause-fault
 returns-in_err-push-clause-fault g c = handed_on _ c.from_residual-in_err-push.result NoMemory c.from_residual-in_err-push.ensures.1 (λ workers. tt)

@@ -9,10 +9,10 @@ use Rattle.gn_threads.proofs.UnstartedLemmas.{first_come}
 use Rattle.gn_threads.proofs.start.Starter.run_all.Goals as goal
 
 pub returns-clause-fault : goal.returns-clause-fault
-returns-clause-fault g c = λ workers. c.first.ensures g.V.Arrivals.has_peers (vec_len c.args.unstarted.readers) workers (c.in-Err.ensures.fault workers) (in_arriving g.V.Arrivals.has_peers (vec_len c.args.unstarted.readers) workers _ (c.give_up-found.ensures (vec_len c.args.unstarted.readers) workers))
+returns-clause-fault g c = λ workers. c.first.ensures g.V.Arrivals.has_peers (length c.args.unstarted.roles.now) workers (c.in-Err.ensures.fault workers) (in_arriving g.V.Arrivals.has_peers (length c.args.unstarted.roles.now) workers _ (c.give_up-found.ensures (length c.args.unstarted.roles.now) workers))
 
 pub returns-in-Ok-clause-fault : goal.returns-in-Ok-clause-fault
-returns-in-Ok-clause-fault g c = each_in_arriving g.V.Arrivals.has_peers (vec_len c.args.unstarted.readers) c.join.result c.join.ensures.fault
+returns-in-Ok-clause-fault g c = each_in_arriving g.V.Arrivals.has_peers (length c.args.unstarted.roles.now) c.join.result c.join.ensures.fault
 
 pub returns-in-Ok-clause-joined : goal.returns-in-Ok-clause-joined
 returns-in-Ok-clause-joined g c =
@@ -21,7 +21,7 @@ returns-in-Ok-clause-joined g c =
     let handles = c.start_all.new.handles in
     let reading = map (λ h. half_of h.promise.start.value.role h.promise.start.value.reader) handles.readers.items in
     let writing = map (λ h. half_of h.promise.start.value.role h.promise.start.value.writer) handles.writers.items in
-    IfOk-weaker _ _ (λ done. AreJoinedOf reads writes g.V.Reader.LinkReader.made_of g.V.Writer.LinkWriter.made_of (map (λ p. p.role) c.args.unstarted.readers.items) (map (λ p. p.role) c.args.unstarted.writers.items) (g.V.Arrivals.coming c.args.arrivals) (vec_len c.args.unstarted.workers) done)
+    IfOk-weaker _ _ (λ done. AreJoinedOf reads writes g.V.Reader.LinkReader.made_of g.V.Writer.LinkWriter.made_of c.args.unstarted.roles.now (g.V.Arrivals.coming c.args.arrivals) (vec_len c.args.unstarted.outlets) done)
     (λ done joined.
     record {
       reading = reading;
