@@ -1,5 +1,5 @@
 -- What a writer's end says of its receipts, of the packets that it took, and of the bytes that it wrote.
-use Rattle.std.specs.Prelude.{◌≡◌, ◌<◌, ◌⊎◌, ℕ, Bool, true, false, if◌then◌else◌, List, [], ◌∷◌, ◌++◌, take, map, Option, Some, None}
+use Rattle.std.specs.Prelude.{◌≡◌, ◌<◌, ◌⊎◌, ℕ, Bool, true, false, if◌then◌else◌, List, [], ◌∷◌, ◌++◌, take, map}
 use Rattle.std.specs.List.{concat}
 use Rattle.gn_rules.specs.declared.event.Event.TheVariants.{Take}
 use Rattle.gn_shake.specs.declared.role.Role.{Role}

@@ -1,6 +1,6 @@
 //! One line of a capture.
 
-ghost use Rattle.std.specs.Prelude.{◌≡◌, Ok, map};
+ghost use Rattle.std.specs.Prelude.{Ok, map};
 ghost use Rattle.gn_capture.specs.declared.line.Line.TheVariants.{Originate};
 ghost use Rattle.gn_text.specs.Lines.{fields_of};
 ghost use Rattle.gn_capture.specs.CaptureLines.{fields_say, line_of};

@@ -2,9 +2,8 @@
 
 ghost use Rattle.std.specs.Prelude.{◌≡◌, ◌==◌, ◌&&◌, Ok, IfOk, length, nat_le, not};
 ghost use Rattle.gn_wire.specs.Packet.{Packet};
-ghost use Rattle.gn_payload.specs.Reading.{verdict_of};
 ghost use Rattle.gn_rules.specs.Answer as rules;
-ghost use Rattle.gn_rules.specs.Flight.{Admission, flying_from, in_flight};
+ghost use Rattle.gn_rules.specs.Flight.{flying_from, in_flight};
 ghost use Rattle.gn_rules.specs.declared.event.Event.TheVariants.{Connect, Close, Admit, Route, Take, Originate};
 ghost use Rattle.gn_decide.specs.Planned.{plan_reply, planned};
 

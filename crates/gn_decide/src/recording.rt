@@ -115,9 +115,7 @@ pub fn enter<A: Allocator + Copy, R: Recorder<A>>(
     ensures settings { R.settings router.new ≡ R.settings router.old }
 {
     let mut reply = router.answer(event)?;
-    let appended = router.append(actor, event, &mut reply);
-    drop(reply);
-    appended?;
+    router.append(actor, event, &mut reply)?;
     Ok(())
 }
 

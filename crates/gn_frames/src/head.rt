@@ -1,6 +1,6 @@
 //! What stands at the head of a slice of bytes.
 
-ghost use Rattle.std.specs.Prelude.{◌≡◌, ◌<◌, ◌≤◌, None, length};
+ghost use Rattle.std.specs.Prelude.{◌≡◌, ◌<◌, None, length};
 ghost use Rattle.gn_wire.specs.Packet.{IsStored, fault_of};
 ghost use Rattle.gn_wire.specs.Encoding.{packet_from};
 ghost use Rattle.gn_frames.specs.Frames.{head_of};

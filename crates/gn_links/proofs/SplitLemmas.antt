@@ -1,5 +1,5 @@
 -- A list whose first so many elements are gone, and what was made of those.
-use Rattle.std.proofs.Common.{◌≡◌, ℕ, suc, zero, ◌+◌, List, [], ◌∷◌, ◌++◌, drop, length, map, ap, arith, subst, sym, ◌∙◌, Option, Some}
+use Rattle.std.proofs.Common.{◌≡◌, ℕ, suc, zero, ◌+◌, List, [], ◌∷◌, ◌++◌, drop, length, map, ap, arith, subst, sym, ◌∙◌, Some}
 use Rattle.std.specs.Prelude.{Bool, true}
 use Rattle.std.specs.List.{slice_get}
 use Rattle.std.specs.Option.{option_map}

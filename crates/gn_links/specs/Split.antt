@@ -1,5 +1,5 @@
 -- What a fault of links that are taken apart says.
-use Rattle.std.specs.Prelude.{◌≡◌, ℕ, Bool, true, List, Some, ⊤}
+use Rattle.std.specs.Prelude.{◌≡◌, Bool, true, List, Some, ⊤}
 use Rattle.std.specs.List.{slice_get}
 use Rattle.gn_links.specs.declared.split.SplitFault.{SplitFault}
 use Rattle.gn_links.specs.declared.split.SplitFault.TheVariants.{Link, NoMemory}

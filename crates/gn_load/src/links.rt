@@ -1,6 +1,6 @@
 //! The links that the lines of a capture make.
 
-ghost use Rattle.std.specs.Prelude.{◌≡◌, ◌++◌, ◌∷◌, [], MatchResult, OnOk};
+ghost use Rattle.std.specs.Prelude.{◌≡◌, [], MatchResult, OnOk};
 ghost use Rattle.gn_text.specs.Faults.{IsRead, IsRefused};
 ghost use Rattle.gn_load.specs.Links.{given, line_taken, links_from};
 

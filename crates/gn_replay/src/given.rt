@@ -22,9 +22,7 @@ pub(crate) fn enter<A: Allocator + Copy, C: RouterCore<A>>(
     ensures settings { C.settings core.new ≡ C.settings core.old }
 {
     let mut event = event;
-    let entered = core.enter(actor, &mut event);
-    drop(event);
-    entered
+    core.enter(actor, &mut event)
 }
 
 /// Adds a step whose reply is the rules' answer. An `Err` is out of memory.
@@ -37,7 +35,5 @@ pub(crate) fn add<A: Allocator + Copy, C: RouterCore<A>>(
     ensures settings { C.settings core.new ≡ C.settings core.old }
 {
     let mut step = step;
-    let added = core.add(&mut step);
-    drop(step);
-    added
+    core.add(&mut step)
 }

@@ -1,6 +1,6 @@
 //! The comparison of a report with its own history, actor by actor.
 
-ghost use Rattle.std.specs.Prelude.{◌≡◌, ◌+◌, ◌-◌, ◌<◌, ◌≤◌, ◌↔◌, IsTrue, None, true, ℕ, length, nat_lt, reverse, is_some, slice_index_or};
+ghost use Rattle.std.specs.Prelude.{◌≡◌, ◌+◌, ◌-◌, ◌<◌, ◌↔◌, IsTrue, None, true, ℕ, length, nat_lt, reverse};
 ghost use Rattle.std.specs.List.{list_all};
 ghost use Rattle.gn_rules.specs.declared.config.Config.{Config};
 ghost use Rattle.gn_rules.specs.Answer.{IsLegal};

@@ -1,6 +1,6 @@
 //! Which events and replies an actor's receipts have.
 
-ghost use Rattle.std.specs.Prelude.{◌≡◌, ◌==◌, ◌&&◌, length, if◌then◌else◌, is_some, true, None};
+ghost use Rattle.std.specs.Prelude.{◌≡◌, ◌==◌, ◌&&◌, length, if◌then◌else◌, is_some, None};
 ghost use Rattle.std.specs.List.{count_by, filter_map, list_all, list_any, slice_get};
 ghost use Rattle.gn_rules.specs.History.{closed_of, connected_of, is_at, is_close, ticket_of};
 ghost use Rattle.gn_laws.specs.Owners.{is_readers, is_writers};

@@ -1,9 +1,9 @@
 //! Whether receipts are an actor's own steps.
 
-ghost use Rattle.std.specs.Prelude.{◌≡◌, ◌==◌, ◌≤◌, ◌<◌, ◌↔◌, IsTrue, [], true, length, slice_index_or};
+ghost use Rattle.std.specs.Prelude.{◌≡◌, ◌==◌, ◌<◌, ◌↔◌, IsTrue, [], true, slice_index_or};
 ghost use Rattle.std.specs.List.{count_by};
 ghost use Rattle.gn_rules.specs.declared.receipt.Step.{Step};
-ghost use Rattle.gn_rules.specs.History.{mine, step_of};
+ghost use Rattle.gn_rules.specs.History.{mine};
 ghost use Rattle.gn_laws.specs.Owners.{AreFitting};
 ghost use Rattle.gn_report.specs.Actors as actors;
 ghost use Rattle.gn_report.specs.Actors.{AreOwn, Stands};

@@ -1,6 +1,6 @@
 //! The router's own servent, and the numbers that bound it.
 
-ghost use Rattle.std.specs.Prelude.{◌≡◌, ◌↔◌, IsTrue, IfOk, IfErr};
+ghost use Rattle.std.specs.Prelude.{◌↔◌, IsTrue, IfOk, IfErr};
 ghost use Rattle.gn_rules.specs.Limits.{AreWithin, IsWithin};
 
 use crate::limits::Numbers;

@@ -1,6 +1,6 @@
 //! A history shown from stream to stream.
 
-ghost use Rattle.std.specs.Prelude.{◌≡◌, ◌≤◌, Some, length, IfErr, IfSome, IsOk, OnOk};
+ghost use Rattle.std.specs.Prelude.{◌≤◌, Some, length, IfErr, IfSome, IsOk, OnOk};
 ghost use Rattle.gn_capture.specs.Histories.{history_of};
 ghost use Rattle.gn_io.specs.Input.{input_limit};
 ghost use Rattle.gn_io.specs.Streams.{NoWriteFailed, streams};

@@ -1,9 +1,9 @@
 -- What the passes of a stage learn from its rule.
-use Rattle.std.specs.Prelude.{◌≡◌, ℕ, ◌≤◌, List, [], ◌++◌, length}
+use Rattle.std.specs.Prelude.{◌≡◌, ◌≤◌, List, ◌++◌, length}
 use Rattle.crossbeam_channel.specs.Fifo.{Held}
 use Rattle.gn_stage.specs.Ends.{End}
-use Rattle.gn_stage.specs.Rule.{Owned, Known, Gathered, FitsSide, jobs_of, owned_by, with_item}
-use mathlib.Core.Option.{Option, none}
+use Rattle.gn_stage.specs.Rule.{Owned, Known, FitsSide, jobs_of, owned_by, with_item}
+use mathlib.Core.Option.{none}
 
 -- of an outlet: all that was put, in order, is what was taken and then what the queue holds, and of what was taken the
 -- outlet's jobs are its own

@@ -1,5 +1,5 @@
 -- Which stage an end belongs to.
-use Rattle.std.specs.Prelude.{◌≡◌, ℕ, List, []}
+use Rattle.std.specs.Prelude.{◌≡◌, ℕ, []}
 use Rattle.atomic_table.specs.declared.badge.Badge.{Badge}
 use Rattle.atomic_table.specs.Seated.{TableId}
 use Rattle.crossbeam_channel.specs.declared.flavors.array.Key.{Key}

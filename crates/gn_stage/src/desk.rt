@@ -30,7 +30,7 @@ pub struct Desk<S: Site, A: Allocator = Global> {
 }
 
 impl<S: Site, A: Allocator> Model for Desk<S, A> {
-    ghost use Rattle.std.specs.Prelude.{◌≡◌, ◌≤◌};
+    ghost use Rattle.std.specs.Prelude.{◌≡◌};
     ghost use Rattle.crossbeam_channel.specs.Ends.{receives_on, sends_on};
     ghost use Rattle.gn_stage.specs.Ends.{Layout};
     ghost use Rattle.gn_stage.specs.Opened.{IsLineOf, IsPassOf, knows};

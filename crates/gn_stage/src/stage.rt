@@ -36,7 +36,7 @@ pub struct Stage<A: Allocator = Global> {
 impl<A: Allocator> Model for Stage<A> {
     ghost use Rattle.std.specs.Prelude.{◌≡◌, []};
     ghost use Rattle.crossbeam_channel.specs.Ends.{receives_on, sends_on};
-    ghost use Rattle.gn_stage.specs.Opened.{Opened, IsLineOf, IsPassOf, knows};
+    ghost use Rattle.gn_stage.specs.Opened.{Opened, IsLineOf, knows};
     ghost use Rattle.gn_stage.specs.Rule.{new_desk};
     ghost use Rattle.gn_stage.specs.Jobs.{Queued};
 

@@ -7,11 +7,11 @@ ghost use Rattle.gn_text.specs.Steps.{event_text};
 use crate::packet::push_packet;
 use crate::push::push_named;
 use gn_rules::Event;
-use gn_wire::whole_or_none;
 use std::alloc::{AllocError, Allocator};
 
-/// Appends an event. An `Err` is out of memory, and leaves what stood there before as it was.
-fn write_event<A: Allocator, B: Allocator>(
+/// Appends an event as it stands before the `=` of a step's line. An `Err` is out of memory, and leaves what stood there
+/// before as it was.
+pub(crate) fn write_event<A: Allocator, B: Allocator>(
     out: &mut Vec<u8, B>,
     event: &Event<A>,
 ) -> Result<(), AllocError>
@@ -33,17 +33,4 @@ fn write_event<A: Allocator, B: Allocator>(
             push_packet(out, packet)
         }
     }
-}
-
-/// Appends an event as it stands before the `=` of a step's line. An `Err` is out of memory, and changes nothing.
-pub(crate) fn push_event<A: Allocator, B: Allocator>(
-    out: &mut Vec<u8, B>,
-    event: &Event<A>,
-) -> Result<(), AllocError>
-    ensures ok { OnOk result (out.new.items ≡ out.old.items ++ event_text event.now) }
-    ensures err { OnErr result (out.new.items ≡ out.old.items) }
-{
-    let start = out.len();
-    let written = write_event(out, event);
-    whole_or_none(out, start, written)
 }

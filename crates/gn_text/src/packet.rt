@@ -4,7 +4,7 @@
 ghost use Rattle.std.specs.Prelude.{◌≡◌, ◌+◌, ◌-◌, ◌≤◌, ◌++◌, codes, decimal, length, slice_range, take, IfSome, OnOk, OnErr};
 ghost use Rattle.gn_text.specs.Steps.{mark_text, packet_text, sends_text};
 
-use crate::push::{push_hex, push_named};
+use crate::push::{push_hex_of_both, push_named};
 use gn_rules::Sending;
 use gn_wire::{Descriptor, whole_or_none, write_header};
 use std::alloc::{AllocError, Allocator};
@@ -18,10 +18,11 @@ pub(crate) fn push_packet<A: Allocator, B: Allocator>(
     ensures ok { OnOk result (out.new.items ≡ out.old.items ++ packet_text packet.now) }
     ensures err { OnErr result (out.new.items ≡ out.old.items) }
 {
-    let start = out.len();
-    push_hex(out, &write_header(&packet.header()))?;
-    let written = push_hex(out, packet.payload().as_slice());
-    whole_or_none(out, start, written)
+    push_hex_of_both(
+        out,
+        &write_header(&packet.header()),
+        packet.payload().as_slice(),
+    )
 }
 
 /// Puts what stands at a place, from the first index up to the second, in place of what stands from `start` on.

@@ -1,6 +1,6 @@
 //! Numbers and bytes as they are written.
 
-ghost use Rattle.std.specs.Prelude.{◌≡◌, ◌<◌, ◌*◌, ◌++◌, decimal, length, slice_index, OnErr, OnOk};
+ghost use Rattle.std.specs.Prelude.{◌≡◌, ◌<◌, ◌+◌, ◌*◌, ◌++◌, decimal, length, slice_index, OnErr, OnOk};
 ghost use Rattle.hex.specs.Hex.{encode_lower, lower_digits};
 
 use gn_wire::whole_or_none;
@@ -60,17 +60,44 @@ fn put_digits(bytes: &[u8], digits: &mut [u8])
     }
 }
 
-/// Appends bytes in hex digits of lower case, two for each byte. An `Err` is out of memory, and changes nothing.
+/// Puts the hex digits of bytes and then those of more bytes in place of what stands there.
+#[tactic(auto, using(crate::proofs::HexLemmas::joined))]
+fn put_both(head: &[u8], back: &[u8], digits: &mut [u8])
+    requires { length digits.old ≡ 2 * length head.now + 2 * length back.now }
+    ensures { digits.new ≡ encode_lower (head.now ++ back.now) }
+{
+    let (front, rest) = digits.split_at_mut(2 * head.len());
+    put_digits(head, front);
+    put_digits(back, rest);
+}
+
+/// Appends bytes and then more bytes in hex digits of lower case, two for each byte, in room that is made once. An `Err`
+/// is out of memory, and changes nothing.
 #[tactic(auto, using(std::proofs::lemmas::Slice::overwrites, std::proofs::lemmas::List::with_items_is, std::proofs::lemmas::List::places))]
+pub(crate) fn push_hex_of_both<B: Allocator>(
+    out: &mut Vec<u8, B>,
+    head: &[u8],
+    back: &[u8],
+) -> Result<(), AllocError>
+    ensures ok { OnOk result (out.new.items ≡ out.old.items ++ encode_lower (head.now ++ back.now)) }
+    ensures err { OnErr result (out.new.items ≡ out.old.items) }
+{
+    let start = out.len();
+    let Some(middle) = start.checked_add(2 * head.len()) else {
+        return Err(AllocError);
+    };
+    let Some(end) = middle.checked_add(2 * back.len()) else {
+        return Err(AllocError);
+    };
+    out.resize(end, 0)?;
+    put_both(head, back, &mut out.as_mut_slice()[start..]);
+    Ok(())
+}
+
+/// Appends bytes in hex digits of lower case, two for each byte. An `Err` is out of memory, and changes nothing.
 pub fn push_hex<B: Allocator>(out: &mut Vec<u8, B>, bytes: &[u8]) -> Result<(), AllocError>
     ensures ok { OnOk result (out.new.items ≡ out.old.items ++ encode_lower bytes.now) }
     ensures err { OnErr result (out.new.items ≡ out.old.items) }
 {
-    let start = out.len();
-    let Some(end) = start.checked_add(2 * bytes.len()) else {
-        return Err(AllocError);
-    };
-    out.resize(end, 0)?;
-    put_digits(bytes, &mut out.as_mut_slice()[start..]);
-    Ok(())
+    push_hex_of_both(out, &[], bytes)
 }

@@ -28,7 +28,7 @@ fn routed_name(local: bool) -> &'static [u8]
 }
 
 /// Appends a reply. An `Err` is out of memory, and leaves what stood there before as it was.
-fn write_reply<A: Allocator, B: Allocator>(
+pub(crate) fn write_reply<A: Allocator, B: Allocator>(
     out: &mut Vec<u8, B>,
     reply: &Reply<A>,
 ) -> Result<(), AllocError>

@@ -69,9 +69,16 @@ fn add(
     event: Event,
     reply: Reply,
 ) -> Result<Receipt, Fail> {
-    let made = Step::with_receipt(alloc, index, actor, &event, reply);
-    drop(event);
-    let (step, receipt) = made?;
+    let receipt = Receipt {
+        index,
+        event: event.copy()?,
+        reply: reply.copy(alloc)?,
+    };
+    let step = Step {
+        actor,
+        event,
+        reply,
+    };
     match history.push(step) {
         Ok(()) => Ok(receipt),
         Err(back) => {

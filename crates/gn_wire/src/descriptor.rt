@@ -33,7 +33,7 @@ impl<A: Allocator> Model for Descriptor<A> {
 }
 
 impl<A: Allocator> Descriptor<A> {
-    ghost use Rattle.gn_wire.specs.Packet.{IsDescriptor, IsStored, Packet, code_of, fault_of, forward_of, is_expired, kind_of, life_left, packet_fault};
+    ghost use Rattle.gn_wire.specs.Packet.{IsDescriptor, Packet, code_of, forward_of, is_expired, kind_of, life_left, packet_fault};
     ghost use Rattle.gn_wire.specs.Keys.{is_same_packet, key_of};
     ghost use Rattle.gn_wire.specs.Encoding.{bytes_of, header_of, packet_from};
 

@@ -1,4 +1,4 @@
-use Rattle.std.proofs.Common.{◌∙◌, ap, reverse, sym, take}
+use Rattle.std.proofs.Common.{◌∙◌, ap, sym}
 use Rattle.gn_rules.specs.Statistics.{counter_of, raised, stats_of}
 use Rattle.gn_rules.proofs.PastLemmas.{past_more}
 use Rattle.gn_plain.proofs.CounterLemmas.{may_rise}

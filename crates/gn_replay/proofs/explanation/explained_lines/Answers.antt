@@ -1,4 +1,4 @@
-use Rattle.std.proofs.Common.{◌∙◌, ap, refl}
+use Rattle.std.proofs.Common.{refl}
 use Rattle.gn_replay.proofs.ExplainedLemmas.{explained_legal, explained_wrong, wrong_in_text}
 use Rattle.gn_replay.proofs.explanation.explained_lines.Goals as goal
 

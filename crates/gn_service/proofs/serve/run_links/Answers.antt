@@ -1,4 +1,4 @@
-use Rattle.std.proofs.Common.{◌≡◌, ◌+◌, length, subst, rules}
+use Rattle.std.proofs.Common.{◌+◌, length, subst, rules}
 use Rattle.std.specs.Prelude.{IfOk}
 use Rattle.gn_threads.specs.Headline.{AreMadeOf}
 use Rattle.gn_service.proofs.RoleLemmas.{all_of}

@@ -1,4 +1,4 @@
-use Rattle.std.proofs.Common.{[], ◌∷◌, ◌++◌, ◌∙◌, ap, refl, sym, subst, Option}
+use Rattle.std.proofs.Common.{[], ◌∷◌, ◌++◌, ◌∙◌, ap, refl, subst, Option}
 use Rattle.gn_rules.specs.declared.event.Event.TheVariants.{Admit}
 use Rattle.gn_stage.specs.Jobs.{Queued}
 use Rattle.gn_bodies.specs.Admitting.{Admitting, HasAdmitted}
