@@ -1,7 +1,10 @@
 -- What a reader admits, and what it does with the jobs.
-use Rattle.std.specs.Prelude.{◌≡◌, ◌⊎◌, ℕ, Bool, false, List, [], ◌∷◌, ◌++◌, Option, Some, None}
+use Rattle.std.specs.Prelude.{◌≡◌, ◌⊎◌, ℕ, Bool, true, false, List, [], ◌∷◌, ◌++◌, Option, Some, None}
+use Rattle.gn_rules.specs.Fits.{refuses}
 use Rattle.gn_rules.specs.declared.event.Event.TheVariants.{Admit, Connect}
 use Rattle.gn_rules.specs.declared.receipt.Receipt.{Receipt}
+use Rattle.gn_rules.specs.declared.refusal.Refusal.{Refusal}
+use Rattle.gn_rules.specs.declared.refusal.Refusal.TheVariants as refusal
 use Rattle.gn_rules.specs.declared.reply.Reply.TheVariants.{Admitted, Busy, Crowded}
 use Rattle.gn_stage.specs.Ends.{End}
 use Rattle.gn_stage.specs.Jobs.{Queued}
@@ -9,6 +12,9 @@ use Rattle.gn_wire.specs.Packet.{Packet}
 use Rattle.gn_hub.specs.ActorState.{ActorState, receipt, with_receipt}
 use Rattle.gn_bodies.specs.Events.{connection_of, events_of, link_events}
 use Rattle.gn_bodies.specs.Jobs.{jobs_left}
+use Rattle.gn_bodies.specs.Stops.{fault_of}
+use Rattle.gn_bodies.specs.declared.piece.Halt.{Halt}
+use Rattle.gn_bodies.specs.declared.piece.Halt.TheVariants.{NotLive, Stop}
 
 -- a reader's actor, its intake, and whether a job that was handed back was refused its route
 pub record Admitting (A : Type 0) : Type 0 where
@@ -53,6 +59,16 @@ HasAdmitted c d None me us =
     ⊎ (us ≡ with_receipt me (receipt index (Admit c d) Crowded)))
 HasAdmitted c d (Some job) me us =
     (index : ℕ) × (job.descriptor ≡ d) × (us ≡ with_receipt me (receipt index (Admit c d) (Admitted job.ticket)))
+
+-- why no more are admitted after this refusal: the connection was found closed, or the body stops
+abbrev pub halt_of : Refusal → Halt
+halt_of refusal.NotLive = NotLive
+halt_of refusal = Stop (fault_of refusal)
+
+-- an admission was refused as an Admit may be, so that no more are admitted, and the actor is as it was
+abbrev pub HasHalted : {A : Type 0} → ℕ → Packet → Halt → ActorState A → ActorState A → Type 0
+HasHalted {A} c d why me us =
+    (refusal : Refusal) × (refuses {A = A} (Admit c d) refusal ≡ true) × (why ≡ halt_of refusal) × (us ≡ me)
 
 -- its last receipt admitted this job, which is to be put or routed, and all before is settled
 pub record IsOwed {A : Type 0} (before : List Queued) (job : Queued) (me : Admitting A) : Type 0 where

@@ -1,10 +1,10 @@
 //! The calls on the service that the bodies make, by what they do to the actor.
 
-ghost use Rattle.std.specs.Prelude.{◌≡◌, [], ℕ, Some, IfOk, MatchResult, OnErr};
+ghost use Rattle.std.specs.Prelude.{◌≡◌, [], ℕ, Some, IfErr, IfOk, MatchResult, OnErr};
 ghost use Rattle.gn_rules.specs.declared.event.Event.TheVariants.{Admit, Route};
 ghost use Rattle.gn_wire.specs.Packet.{Packet};
 ghost use Rattle.gn_hub.specs.Receipts.{HasReceipt};
-ghost use Rattle.gn_bodies.specs.Admitting.{HasAdmitted, HasOnlyConnected};
+ghost use Rattle.gn_bodies.specs.Admitting.{HasAdmitted, HasHalted, HasOnlyConnected, halt_of};
 ghost use Rattle.gn_bodies.specs.Events.{packets_of, MayClose};
 
 use crate::ends::BodyFault;
@@ -30,7 +30,7 @@ pub(crate) fn admit<G: Gate, C: RouterCore<A> + Drop, L: Ledger, A: Allocator + 
     descriptor: Descriptor<A>,
 ) -> Result<Option<Job<A>>, Halt>
     ensures ok { IfOk result (λ job. HasAdmitted c descriptor job me.old me.new) }
-    ensures err { OnErr result (me.new ≡ me.old) }
+    ensures err { IfErr result (λ why. HasHalted c descriptor why me.old me.new) }
 {
     let link = me.number();
     let event = Event::Admit(c, descriptor);
@@ -48,7 +48,9 @@ pub(crate) fn admit<G: Gate, C: RouterCore<A> + Drop, L: Ledger, A: Allocator + 
 }
 
 /// Why no more descriptors are admitted where one was refused so.
-fn halt_of(refusal: Refusal) -> Halt {
+fn halt_of(refusal: Refusal) -> Halt
+    ensures { result ≡ halt_of refusal }
+{
     match refusal {
         Refusal::NotLive => Halt::NotLive,
         _ => Halt::Stop(BodyFault::from(refusal)),
