@@ -10,7 +10,6 @@ use gn_wire::{Descriptor, whole_or_none, write_header};
 use std::alloc::{AllocError, Allocator};
 
 /// Appends a descriptor's header and then its payload, in hex digits. An `Err` is out of memory, and changes nothing.
-#[tactic(auto, using(crate::proofs::HexLemmas::joined, crate::proofs::KeptLemmas::kept))]
 pub(crate) fn push_packet<A: Allocator, B: Allocator>(
     out: &mut Vec<u8, B>,
     packet: &Descriptor<A>,

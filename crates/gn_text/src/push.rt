@@ -62,13 +62,13 @@ fn put_digits(bytes: &[u8], digits: &mut [u8])
 
 /// Puts the hex digits of bytes and then those of more bytes in place of what stands there.
 #[tactic(auto, using(crate::proofs::HexLemmas::joined))]
-fn put_both(head: &[u8], back: &[u8], digits: &mut [u8])
-    requires { length digits.old ≡ 2 * length head.now + 2 * length back.now }
-    ensures { digits.new ≡ encode_lower (head.now ++ back.now) }
+fn put_both(head: &[u8], tail: &[u8], digits: &mut [u8])
+    requires { length digits.old ≡ 2 * length head.now + 2 * length tail.now }
+    ensures { digits.new ≡ encode_lower (head.now ++ tail.now) }
 {
     let (front, rest) = digits.split_at_mut(2 * head.len());
     put_digits(head, front);
-    put_digits(back, rest);
+    put_digits(tail, rest);
 }
 
 /// Appends bytes and then more bytes in hex digits of lower case, two for each byte, in room that is made once. An `Err`
@@ -77,20 +77,20 @@ fn put_both(head: &[u8], back: &[u8], digits: &mut [u8])
 pub(crate) fn push_hex_of_both<B: Allocator>(
     out: &mut Vec<u8, B>,
     head: &[u8],
-    back: &[u8],
+    tail: &[u8],
 ) -> Result<(), AllocError>
-    ensures ok { OnOk result (out.new.items ≡ out.old.items ++ encode_lower (head.now ++ back.now)) }
+    ensures ok { OnOk result (out.new.items ≡ out.old.items ++ encode_lower (head.now ++ tail.now)) }
     ensures err { OnErr result (out.new.items ≡ out.old.items) }
 {
     let start = out.len();
     let Some(middle) = start.checked_add(2 * head.len()) else {
         return Err(AllocError);
     };
-    let Some(end) = middle.checked_add(2 * back.len()) else {
+    let Some(end) = middle.checked_add(2 * tail.len()) else {
         return Err(AllocError);
     };
     out.resize(end, 0)?;
-    put_both(head, back, &mut out.as_mut_slice()[start..]);
+    put_both(head, tail, &mut out.as_mut_slice()[start..]);
     Ok(())
 }
 
