@@ -1,22 +1,41 @@
 //! The program `gn`: its command line, with the standard streams.
 #![tactic(auto)]
 
-use gn_io::{ReaderSource, WriterSink};
+mod streams;
+
+use gn_io::{ReaderSource, Sink, WriterSink, write_all};
 use gn_program::{command_with, refuse_words};
 use gn_progress::Progress;
 use gn_router::{TableRouter, Unfreed};
+use std::cell::Cell;
 use std::env::Env;
 use std::process::ExitCode;
 use std::{env, io};
+use streams::{Noted, Unbroken, Why, is_broken, open_all};
+
+/// The status where whoever reads the output has gone: that of a program which the system ends for it.
+const BROKEN: u8 = 141;
 
 fn words_of<R: Env + AllocGlobal>(rt: &R) -> io::Result<Vec<String>> {
     Ok(env::args(rt)?.collect(rt.alloc())?)
 }
 
+/// Writes what the system said of a stream, where it said something.
+fn say_why<R: AllocGlobal, F: Sink>(rt: &R, faults: &mut F, stream: &str, why: &Why) {
+    if let Some(kind) = why.get()
+        && let Ok(line) = format!(in rt.alloc(); "{stream}: {kind}\n")
+    {
+        let _ = write_all(faults, line.as_bytes());
+    }
+}
+
 fn main(rt: HostRuntime) -> ExitCode {
-    let mut reader = ReaderSource::new(rt.stdin());
-    let mut writer = WriterSink::new(rt.stdout());
-    let mut faults = WriterSink::new(rt.stderr());
+    open_all(&rt);
+    let input: Why = Cell::new(None);
+    let output: Why = Cell::new(None);
+    let mut reader = ReaderSource::new(Noted::new(rt.stdin(), &input));
+    let mut writer = WriterSink::new(Noted::new(rt.stdout(), &output));
+    let mut faults = WriterSink::new(Unbroken::new(rt.stderr(), &output));
     let progress = Progress::new(&rt, rt.stderr());
     let status = match words_of(&rt) {
         Ok(words) => command_with::<Unfreed<TableRouter>, _, _, _, _, _, _>(
@@ -30,5 +49,12 @@ fn main(rt: HostRuntime) -> ExitCode {
         ),
         Err(error) => refuse_words(&error, &mut faults),
     };
+    if is_broken(&output) {
+        return ExitCode::from(BROKEN);
+    }
+    if status != 0 {
+        say_why(&rt, &mut faults, "standard input", &input);
+        say_why(&rt, &mut faults, "standard output", &output);
+    }
     ExitCode::from(status)
 }

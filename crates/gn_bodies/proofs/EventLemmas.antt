@@ -1,6 +1,6 @@
 -- One receipt more.
 use Rattle.std.proofs.Common.{◌≡◌, ◌⊎◌, inl, inr, ℕ, Bool, true, not, List, [], ◌∷◌, ◌++◌, filter, is_some, map, Option, Some, None, Ok, Err, refl, ap, ◌∙◌, sym, append-nil}
-use Rattle.std.specs.Prelude.{IfErr, OnOk, Result}
+use Rattle.std.specs.Prelude.{IfErr, MatchResult, OnOk, Result}
 use Rattle.std.proofs.lemmas.List.{map-append}
 use Rattle.gn_wire.specs.Packet.{Packet}
 use Rattle.gn_rules.specs.declared.event.Event.{Event}
@@ -16,11 +16,12 @@ use Rattle.gn_laws.specs.Owners as laws
 use Rattle.gn_stage.specs.Jobs.{Queued}
 use Rattle.gn_hub.specs.ActorState.{ActorState, receipt, with_receipt}
 use Rattle.gn_rules.specs.Fits.{replies}
-use Rattle.gn_hub.specs.Receipts.{HasDrained, HasReceipt}
+use Rattle.gn_hub.specs.Receipts.{HasClosed, HasDrained, HasReceipt}
+use Rattle.gn_bodies.specs.declared.ends.BodyFault.{BodyFault}
 use Rattle.gn_bodies.specs.declared.piece.Halt.{Halt}
 use Rattle.gn_bodies.specs.declared.piece.Halt.TheVariants as halt
 use Rattle.gn_bodies.specs.Admitting.{HasAdmitted, KeepsConnection}
-use Rattle.gn_bodies.specs.Events.{events_of, link_events, link_events_in, connection_of, packets_of, MayClose}
+use Rattle.gn_bodies.specs.Events.{events_of, link_events, link_events_in, connection_of, packets_of}
 use Rattle.gn_bodies.specs.ReaderRows.{WithClose}
 
 link_events-push : {A : Type 0} (rs : List (Receipt A)) (r : Receipt A) → link_events_in (rs ++ r ∷ []) ≡ link_events_in rs ++ link_events_in (r ∷ [])
@@ -140,23 +141,15 @@ pub never_not_live : (X : Type 0) (r : Result (Unit {0}) Halt) → IfErr r (λ w
 never_not_live X (Ok x) never = tt
 never_not_live X (Err why) never = λ is. absurd (never is)
 
--- what a close does
-closed_reply : {A : Type 0} (c : ℕ) (reply : Reply A) → replies (Close c) reply ≡ true → (count : ℕ) × (reply ≡ Closed count)
-closed_reply c (Connected d) fits = absurd (cc)
-closed_reply c TooMany fits = absurd (cc)
-closed_reply c (Closed count) fits = (count, refl)
-closed_reply c (Admitted t) fits = absurd (cc)
-closed_reply c Busy fits = absurd (cc)
-closed_reply c Crowded fits = absurd (cc)
-closed_reply c (Routed sends local) fits = absurd (cc)
-closed_reply c (Dropped reason) fits = absurd (cc)
-closed_reply c (Taken p) fits = absurd (cc)
-closed_reply c (Sent sends) fits = absurd (cc)
+-- an actor got no receipt, or one of a close
+abbrev pub MayClose : {A : Type 0} → ℕ → ActorState A → ActorState A → Type 0
+MayClose {A} c me us = (us ≡ me) ⊎ ((index count : ℕ) × (us ≡ with_receipt me (receipt index (Close c) (Closed count))))
 
-pub closed_once : {A : Type 0} (c : ℕ) (me us : ActorState A) → HasReceipt (Close c) me us → MayClose c me us
-closed_once c me us (index, reply, fits, got) =
-    let (count, is) = closed_reply c reply fits in
-    inr (index, count, got ∙ ap (λ r. with_receipt me (receipt index (Close c) r)) is)
+-- what a close does
+pub may_close : {A : Type 0} (c : ℕ) (answer : Result (Option ℕ) BodyFault) (me us : ActorState A) → MatchResult answer (λ found. HasClosed c found me us) (λ _. us ≡ me) → MayClose c me us
+may_close c (Ok None) me us (index, count, got) = inr (index, count, got)
+may_close c (Ok (Some found)) me us (is, same) = inl same
+may_close c (Err fault) me us same = inl same
 
 pub close_number : {A : Type 0} (c : ℕ) (me us : ActorState A) → MayClose c me us → us.number ≡ me.number
 close_number c me us (inl same) = ap (λ w. w.number) same
@@ -173,6 +166,10 @@ close_events c me us (inr (index, count, got)) = inr (link_events-receipt me us 
 pub close_packets : {A : Type 0} (c : ℕ) (me us : ActorState A) → MayClose c me us → packets_of us ≡ packets_of me
 close_packets c me us (inl same) = ap packets_of same
 close_packets c me us (inr (index, count, got)) = packets-receipt me us (receipt index (Close c) (Closed count)) got ∙ append-nil (packets_of me)
+
+pub closed_packets : {A : Type 0} (c : ℕ) (found : Option ℕ) (me us : ActorState A) → HasClosed c found me us → packets_of us ≡ packets_of me
+closed_packets c None me us (index, count, got) = close_packets c me us (inr (index, count, got))
+closed_packets c (Some found) me us (is, same) = close_packets c me us (inl same)
 
 pub drained_packets : {A : Type 0} (c : ℕ) (me us : ActorState A) → HasDrained c me us → packets_of us ≡ packets_of me
 drained_packets c me us (index, got) = packets-receipt me us (receipt index (Close c) (Closed 0)) got ∙ append-nil (packets_of me)

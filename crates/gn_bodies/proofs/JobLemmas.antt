@@ -1,5 +1,6 @@
 -- The jobs that receipts leave, with one receipt more.
 use Rattle.std.proofs.Common.{◌≡◌, inl, inr, ℕ, Bool, true, false, cond, List, [], ◌∷◌, ◌++◌, map, Option, Some, None, refl, ap, ◌∙◌, sym, subst, append_assoc, append-nil, arith, nat_eq}
+use Rattle.std.specs.Prelude.{MatchResult, Result}
 use Rattle.std.proofs.lemmas.List.{map-append}
 use Rattle.gn_wire.specs.Packet.{Packet}
 use Rattle.gn_rules.specs.declared.event.Event.{Event}
@@ -10,11 +11,12 @@ use Rattle.gn_rules.specs.declared.reply.Reply.TheVariants.{Connected, TooMany, 
 use Rattle.gn_stage.specs.Ends.{End, with_job}
 use Rattle.gn_stage.specs.Jobs.{Queued}
 use Rattle.gn_hub.specs.ActorState.{ActorState, receipt, with_receipt}
-use Rattle.gn_hub.specs.Receipts.{HasReceipt}
-use Rattle.gn_bodies.specs.Admitting.{Admitting, HasAdmitted, HasOnlyConnected, IsOwed, IsSettled}
-use Rattle.gn_bodies.specs.Events.{MayClose, events_of}
+use Rattle.gn_hub.specs.Receipts.{HasClosed, HasReceipt}
+use Rattle.gn_bodies.specs.declared.ends.BodyFault.{BodyFault}
+use Rattle.gn_bodies.specs.Admitting.{Admitting, GoesOn, HasAdmitted, HasOnlyConnected, IsOwed, IsSettled}
+use Rattle.gn_bodies.specs.Events.{connection_of, events_of}
 use Rattle.gn_bodies.specs.Jobs.{is_route, is_routed_next, is_route_of, job_by, jobs_left, routes_of}
-use Rattle.gn_bodies.proofs.EventLemmas.{events-route}
+use Rattle.gn_bodies.proofs.EventLemmas.{MayClose, close_connection, close_number, events-route, may_close}
 
 no_route : {A : Type 0} (reply : Reply A) (event : Event A) → is_route event ≡ false → is_route_of reply event ≡ false
 no_route (Connected c) event other = refl
@@ -73,6 +75,17 @@ pub close_settled : {A : Type 0} (c : ℕ) (jobs : List Queued) (old me us : Adm
 close_settled {A} c jobs old me us first closed intake refused settled other =
     let here : IsSettled jobs me = subst (λ (v : Admitting A). IsSettled jobs v) (sym first) settled in
     ap (λ w. w.jobs) intake ∙ here (sym refused ∙ other) ∙ ap (λ left. jobs ++ left) (sym (close_jobs c me.actor us.actor closed))
+
+-- a reader that closes goes on
+pub closing : {A : Type 0} (c : ℕ) (answer : Result (Option ℕ) BodyFault) (old me us : Admitting A) → me ≡ old → MatchResult answer (λ found. HasClosed c found me.actor us.actor) (λ _. us.actor ≡ me.actor)
+    → us.intake ≡ me.intake → us.is_refused ≡ me.is_refused → GoesOn old us
+closing {A} c answer old me us first did intake refused =
+    let closed = may_close c answer me.actor us.actor did in
+    record {
+      numbers = (close_number c me.actor us.actor closed ∙ ap (λ v. v.actor.number) first, ap (λ w. w.number) intake ∙ ap (λ v. v.intake.number) first);
+      connection = λ d was. close_connection c me.actor us.actor closed d (ap (λ v. connection_of v.actor) first ∙ was);
+      settled = λ jobs is. close_settled c jobs old me us first closed intake refused is;
+    }
 
 pub away_jobs : {A : Type 0} (c : ℕ) (d : Packet) (me us : ActorState A) → HasAdmitted c d None me us → jobs_left us.receipts ≡ jobs_left me.receipts
 away_jobs c d me us (index, inl got) = left_none me us (receipt index (Admit c d) Busy) got refl refl

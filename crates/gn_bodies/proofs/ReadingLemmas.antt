@@ -25,8 +25,8 @@ use Rattle.gn_bodies.specs.declared.piece.Reading.TheVariants as reading
 use Rattle.gn_hub.specs.ActorState.{ActorState}
 use Rattle.gn_bodies.specs.Events.{events_of, link_events, link_events_in, connection_of}
 use Rattle.gn_links.specs.Halves.{Source, IsNewReader, IsReadFrom, ReadHalf}
-use Rattle.gn_bodies.specs.ReaderRows.{ConnectedRow, ReaderRow, SourceRow, WithClose}
-use Rattle.gn_bodies.specs.Reading.{EndsReading, HasConnection, HasReadOn, HasReadPieces, HasTakenPiece, IsJoined, IsOffering, IsReading, IsTaken, ReadRow, OpenRow, reading_connection, end_of_bytes, end_of_turns, is_of_bytes, closes}
+use Rattle.gn_bodies.specs.ReaderRows.{ConnectedRow, ReaderRow, SourceRow, WithClose, closes}
+use Rattle.gn_bodies.specs.Reading.{EndsReading, HasConnection, HasReadOn, HasReadPieces, HasTakenPiece, IsJoined, IsOffering, IsReading, IsTaken, ReadRow, OpenRow, reading_connection, end_of_bytes, end_of_turns, is_of_bytes}
 use Rattle.gn_bodies.proofs.JobLemmas.{connected_settled, kept_settled}
 
 -- a stream that begins with the greeting has it accepted

@@ -21,8 +21,8 @@ use Rattle.gn_shake.specs.Greeting.{is_calling, request_text}
 use Rattle.gn_rules.specs.declared.event.Event.TheVariants.{Take}
 use Rattle.gn_rules.specs.declared.reply.Reply.TheVariants.{Taken}
 use Rattle.gn_hub.specs.ActorState.{ActorState, receipt, with_receipt}
-use Rattle.gn_hub.specs.Receipts.{HasDrained}
-use Rattle.gn_bodies.specs.Events.{packets_of, MayClose}
+use Rattle.gn_hub.specs.Receipts.{HasClosed, HasDrained}
+use Rattle.gn_bodies.specs.Events.{packets_of}
 use Rattle.gn_laws.specs.Owners as laws
 use Rattle.gn_bodies.specs.Writing.{HasWrittenPacket, WritesOn, WritesPackets}
 use Rattle.gn_bodies.specs.Written.{AreTakes, HasWrittenText, PacketSteps, WriterSteps, opening_texts}
@@ -185,32 +185,19 @@ pub writes_last : {A : Type 0} (role : Role) (asked : Option (Result WriterEnd B
 writes_last role asked end c me half is did = subst (λ (w : Option (Result WriterEnd BodyFault)). WritesOn role w c me half) is did
 
 -- a writer that closes nothing more is done with its steps
-pub steps_kept : {A : Type 0} (end : WriterEnd) (c : ℕ) (me : ActorState A) → PacketSteps end c me → WriterSteps end c me
-steps_kept Drained c me steps = steps
-steps_kept Closed c me steps = steps
-steps_kept WriteFailed c me steps = (me, steps, inl refl)
-steps_kept NeverOpened c me steps = absurd steps
+pub steps_kept : {A : Type 0} (role : Role) (end : WriterEnd) (c : ℕ) (found : Option ℕ) (me : ActorState A) → ¬ (end ≡ WriteFailed) → PacketSteps end c me → WriterSteps role end c found me
+steps_kept role Drained c found me other steps = steps
+steps_kept role Closed c found me other steps = steps
+steps_kept role WriteFailed c found me other steps = absurd (other refl)
+steps_kept role NeverOpened c found me other steps = absurd steps
 
--- what an end says of what was written, and of its steps, where nothing more is closed
-pub ends_written : {A : Type 0} (role : Role) (end : Result WriterEnd BodyFault) (c : ℕ) (me : ActorState A) (half : WrittenHalf) → IfOk end (λ e. WritesPackets role e c me half)
-    → IfOk end (λ e. WritesAs role e (packets_of me) half)
-ends_written role end c me half did = IfOk-weaker end (λ e. WritesPackets role e c me half) _ (λ e here. here.written) did
-
-pub ends_kept : {A : Type 0} (role : Role) (end : Result WriterEnd BodyFault) (c : ℕ) (me : ActorState A) (half : WrittenHalf) → IfOk end (λ e. WritesPackets role e c me half)
-    → IfOk end (λ e. (d : ℕ) × WriterSteps e d me)
-ends_kept role end c me half did = IfOk-weaker end (λ e. WritesPackets role e c me half) _ (λ e here. (c, steps_kept e c me here.steps)) did
-
--- where a write failed, what was written, and its steps, where the connection is closed
-pub broke_written : {A : Type 0} (role : Role) (end : Result WriterEnd BodyFault) (c : ℕ) (me us : ActorState A) (half : WrittenHalf) → packets_of us ≡ packets_of me
-    → IfOk end (λ e. WritesPackets role e c me half) → IfOk end (λ e. WritesAs role e (packets_of us) half)
-broke_written role end c me us half same did =
-    IfOk-weaker end (λ e. WritesPackets role e c me half) _ (λ e here. subst (λ packets. WritesAs role e packets half) (sym same) here.written) did
-
-pub broke_steps : {A : Type 0} (role : Role) (end : Result WriterEnd BodyFault) (c : ℕ) (me us : ActorState A) (half : WrittenHalf) → end ≡ Ok WriteFailed → MayClose c me us
-    → IfOk end (λ e. WritesPackets role e c me half) → IfOk end (λ e. (d : ℕ) × WriterSteps e d us)
-broke_steps {A} role end c me us half is closed did =
-    let here : WritesPackets role WriteFailed c me half = subst (λ (r : Result WriterEnd BodyFault). IfOk r (λ e. WritesPackets role e c me half)) is did in
-    subst (λ (r : Result WriterEnd BodyFault). IfOk r (λ e. (d : ℕ) × WriterSteps e d us)) (sym is) (c, (me, here.steps, closed))
+-- so is one whose write failed, once it has closed its connection, or found it closed
+pub steps_closed : {A : Type 0} (role : Role) (end : WriterEnd) (c : ℕ) (found : Option ℕ) (me us : ActorState A) → end ≡ WriteFailed → PacketSteps end c me → HasClosed c found me us
+    → WriterSteps role end c found us
+steps_closed role Drained c found me us is steps closed = absurd (cc)
+steps_closed role Closed c found me us is steps closed = absurd (cc)
+steps_closed role WriteFailed c found me us is steps closed = inr (me, steps, closed)
+steps_closed role NeverOpened c found me us is steps closed = absurd (cc)
 
 -- a writer that is finished keeps what its end says
 pub finished_writer : {A W O : Type 0} (state : W → WrittenHalf) (made_of : W → O) (link : Half W) (receipts : List (Receipt A)) (before after : W) (end : Result WriterEnd BodyFault)

@@ -29,7 +29,3 @@ connection_of me = known_conn me.receipts
 -- the packets that an actor took, in order
 abbrev pub packets_of : {A : Type 0} → ActorState A → List Packet
 packets_of me = laws.packets_of me.receipts
-
--- an actor got no receipt, or one of a close
-abbrev pub MayClose : {A : Type 0} → ℕ → ActorState A → ActorState A → Type 0
-MayClose {A} c me us = (us ≡ me) ⊎ ((index count : ℕ) × (us ≡ with_receipt me (receipt index (Close c) (Closed count))))

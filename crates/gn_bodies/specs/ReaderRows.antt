@@ -1,6 +1,6 @@
 -- The descriptors of a link's bytes, after its greeting; and what the end of a reader says of its events, of the bytes that it
 -- read, and of its link.
-use Rattle.std.specs.Prelude.{◌≡◌, ◌<◌, ◌⊎◌, ℕ, true, List, [], ◌∷◌, ◌++◌, drop, length, map, take, Option, Some, None, ⊤}
+use Rattle.std.specs.Prelude.{◌≡◌, ◌<◌, ◌⊎◌, ℕ, Bool, true, false, List, [], ◌∷◌, ◌++◌, drop, length, map, take, Option, Some, None, ⊤}
 use Rattle.gn_rules.specs.declared.event.Event.{Event}
 use Rattle.gn_rules.specs.declared.event.Event.TheVariants.{Admit, Connect, Close}
 use Rattle.gn_frames.specs.Frames.{Frames, frames_of}
@@ -8,6 +8,9 @@ use Rattle.gn_shake.specs.declared.role.Role.{Role}
 use Rattle.gn_shake.specs.declared.shake.ShakeState.TheVariants.{More, Done, Refused}
 use Rattle.gn_shake.specs.Greeting.{greeting_state, greeting_of}
 use Rattle.gn_links.specs.Halves.{ReadHalf}
+use Rattle.gn_hub.specs.ActorState.{ActorState}
+use Rattle.gn_hub.specs.Receipts.{HasClosed}
+use Rattle.gn_bodies.specs.Events.{connection_of}
 use Rattle.gn_bodies.specs.declared.ends.ReaderEnd.{ReaderEnd}
 use Rattle.gn_bodies.specs.declared.ends.ReaderEnd.TheVariants.{Bytes, Fault, ReadFailed, Turns, GreetingRefused, GreetingCut, TooMany, NotLive}
 
@@ -38,6 +41,19 @@ ReaderRow role GreetingRefused None es b = (greeting_state (greeting_of role) b 
 ReaderRow role GreetingCut None es b = (greeting_state (greeting_of role) b ≡ More) × (es ≡ [])
 ReaderRow role TooMany None es b = (greeting_state (greeting_of role) b ≡ Done) × (es ≡ Connect ∷ [])
 ReaderRow role end None es b = ⊥
+
+-- whether a connected reader closes its connection at this end
+abbrev pub closes : ReaderEnd → Bool
+closes (Fault f) = true
+closes ReadFailed = true
+closes Turns = true
+closes end = false
+
+-- where a connected reader ends so, the last that it did is that it closed its connection; or that was found closed, as this
+-- says
+abbrev pub HasClosedAt : {A : Type 0} → ReaderEnd → Option ℕ → ActorState A → Type 0
+HasClosedAt {A} end found me =
+    closes end ≡ true → (c : ℕ) → connection_of me ≡ Some c → (before : ActorState A) × HasClosed c found before me
 
 -- what the end says of the half, which was new: it ended, a read failed, or so many reads gave bytes
 abbrev pub SourceRow : ReaderEnd → ReadHalf → Type 0

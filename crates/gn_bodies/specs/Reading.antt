@@ -40,13 +40,6 @@ ReadRow role end (Some c) es b =
     (greeting_state (greeting_of role) b ≡ Done) × OpenRow end c es (frames_of (drop (length (greeting_of role)) b))
 ReadRow role end None es b = ReaderRow role end None es b
 
--- whether a connected reader closes its connection at this end
-abbrev pub closes : ReaderEnd → Bool
-closes (Fault f) = true
-closes ReadFailed = true
-closes Turns = true
-closes end = false
-
 -- a reader that connected as c has admitted all that its bytes after the greeting offer, and they have no fault
 pub record IsOffering {A : Type 0} (s : List ℕ) (c : ℕ) (frames : Option (List ℕ)) (me : ActorState A) : Type 0 where
   pub held : frames ≡ held_of (frames_of s)

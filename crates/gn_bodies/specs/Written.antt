@@ -1,5 +1,5 @@
 -- What a writer's end says of its receipts, of the packets that it took, and of the bytes that it wrote.
-use Rattle.std.specs.Prelude.{◌≡◌, ◌<◌, ◌⊎◌, ℕ, Bool, true, false, if◌then◌else◌, List, [], ◌∷◌, ◌++◌, take, map}
+use Rattle.std.specs.Prelude.{◌≡◌, ◌<◌, ◌⊎◌, ℕ, Bool, true, false, if◌then◌else◌, List, [], ◌∷◌, ◌++◌, take, map, Option}
 use Rattle.std.specs.List.{concat}
 use Rattle.gn_rules.specs.declared.event.Event.TheVariants.{Take}
 use Rattle.gn_shake.specs.declared.role.Role.{Role}
@@ -7,10 +7,10 @@ use Rattle.gn_shake.specs.declared.role.Role.TheVariants.{Accepting, Calling, Pl
 use Rattle.gn_shake.specs.Greeting.{is_calling, request_text, consent_text}
 use Rattle.gn_links.specs.Halves.{WrittenHalf}
 use Rattle.gn_hub.specs.ActorState.{ActorState}
-use Rattle.gn_hub.specs.Receipts.{HasDrained}
+use Rattle.gn_hub.specs.Receipts.{HasClosed, HasDrained}
 use Rattle.gn_bodies.specs.declared.ends.WriterEnd.{WriterEnd}
 use Rattle.gn_bodies.specs.declared.ends.WriterEnd.TheVariants.{Drained, WriteFailed, Closed, NeverOpened}
-use Rattle.gn_bodies.specs.Events.{events_of, packets_of, MayClose}
+use Rattle.gn_bodies.specs.Events.{events_of, packets_of}
 
 -- the texts before the packets, once connected
 abbrev pub opening_texts : Role → List (List ℕ)
@@ -47,8 +47,12 @@ PacketSteps WriteFailed c me = AreTakes c me
 PacketSteps NeverOpened c me = ⊥
 
 -- what the end says of the steps of a writer on connection c: it took from it alone, and closed it alone
-abbrev pub WriterSteps : {A : Type 0} → WriterEnd → ℕ → ActorState A → Type 0
-WriterSteps {A} Drained c me = (before : ActorState A) × AreTakes c before × HasDrained c before me
-WriterSteps Closed c me = AreTakes c me
-WriterSteps {A} WriteFailed c me = (before : ActorState A) × AreTakes c before × MayClose c before me
-WriterSteps NeverOpened c me = me.receipts ≡ []
+abbrev pub WriterSteps : {A : Type 0} → Role → WriterEnd → ℕ → Option ℕ → ActorState A → Type 0
+WriterSteps {A} role Drained c found me = (before : ActorState A) × AreTakes c before × HasDrained c before me
+WriterSteps role Closed c found me = AreTakes c me
+-- it did nothing where the request of a link that calls couldn't be written; else it closed the connection, or that was found
+-- closed, as this says
+WriterSteps {A} role WriteFailed c found me =
+    ((is_calling role ≡ true) × (me.receipts ≡ []))
+    ⊎ ((before : ActorState A) × AreTakes c before × HasClosed c found before me)
+WriterSteps role NeverOpened c found me = me.receipts ≡ []

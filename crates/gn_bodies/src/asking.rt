@@ -3,13 +3,12 @@
 ghost use Rattle.std.specs.Prelude.{◌≡◌, [], ℕ, Some, IfErr, IfOk, MatchResult, OnErr};
 ghost use Rattle.gn_rules.specs.declared.event.Event.TheVariants.{Admit, Route};
 ghost use Rattle.gn_wire.specs.Packet.{Packet};
-ghost use Rattle.gn_hub.specs.Receipts.{HasReceipt};
+ghost use Rattle.gn_hub.specs.Receipts.{HasClosed, HasReceipt};
 ghost use Rattle.gn_bodies.specs.Admitting.{HasAdmitted, HasHalted, HasOnlyConnected, halt_of};
-ghost use Rattle.gn_bodies.specs.Events.{packets_of, MayClose};
 
 use crate::ends::BodyFault;
 use crate::piece::Halt;
-use gn_hub::{Actor, Service};
+use gn_hub::{Actor, FoundClosed, Service};
 use gn_links::{Gate, Made};
 use gn_payload::Checked;
 use gn_rules::{ConnId, Event, Refusal, RouterCore, Ticket};
@@ -116,7 +115,7 @@ pub(crate) fn connect<G: Gate, C: RouterCore<A> + Drop, L: Ledger, A: Allocator 
     }
 }
 
-/// Closes the connection of a link, if it is still live.
+/// Closes the connection of a link. Where it isn't live any more, what says so comes back.
 pub(crate) fn close<G: Gate, C: RouterCore<A> + Drop, L: Ledger, A: Allocator + Copy, R: Wait>(
     rt: &R,
     service: &Service<C, L, A>,
@@ -124,19 +123,16 @@ pub(crate) fn close<G: Gate, C: RouterCore<A> + Drop, L: Ledger, A: Allocator + 
     me: &mut Actor<L, A>,
     link: u32,
     c: ConnId,
-) -> Result<(), BodyFault>
-    ensures closed { MayClose c me.old me.new }
-    ensures packets { packets_of me.new ≡ packets_of me.old }
+) -> Result<Option<FoundClosed>, BodyFault>
+    ensures closed { MatchResult result (λ found. HasClosed c found me.old me.new) (λ _. me.new ≡ me.old) }
 {
-    let event = Event::Close(c);
-    let answer = service.call(rt, me, &event);
-    drop(event);
-    match answer {
-        Ok(()) => {
-            gate.made(link, Made::Closed);
-            Ok(())
+    match service.close(rt, me, c) {
+        Ok(found) => {
+            if found.is_none() {
+                gate.made(link, Made::Closed);
+            }
+            Ok(found)
         }
-        Err(Refusal::NotLive) => Ok(()),
         Err(refusal) => Err(BodyFault::from(refusal)),
     }
 }

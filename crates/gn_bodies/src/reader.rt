@@ -5,16 +5,16 @@ ghost use Rattle.gn_shake.specs.declared.role.Role.{Role};
 ghost use Rattle.gn_links.specs.Halves.{IsNewReader, IsReadFrom};
 ghost use Rattle.gn_bodies.specs.Admitting.{GoesOn, HasSameNumbers, StaysSettled};
 ghost use Rattle.gn_bodies.specs.Done.{IsReaderDone, half_of, reader_ended};
-ghost use Rattle.gn_bodies.specs.Events.{link_events};
+ghost use Rattle.gn_bodies.specs.Events.{connection_of, link_events};
 ghost use Rattle.gn_bodies.specs.Jobs.{jobs_left};
-ghost use Rattle.gn_bodies.specs.ReaderRows.{ReaderRow};
-ghost use Rattle.gn_bodies.specs.Reading.{EndsReading, HasTakenPiece, IsTaken, ReadRow, closes};
+ghost use Rattle.gn_bodies.specs.ReaderRows.{HasClosedAt, ReaderRow, closes};
+ghost use Rattle.gn_bodies.specs.Reading.{EndsReading, HasTakenPiece, IsTaken, ReadRow};
 
 use crate::asking::close;
 use crate::ends::{BodyFault, ReaderEnd, fail_at_stop};
 use crate::handler::ReaderHandler;
 use crate::piece::{Piece, Reading};
-use gn_hub::{Actor, Service};
+use gn_hub::{Actor, FoundClosed, Service};
 use gn_links::{Gate, Half, LinkReader};
 use gn_rules::{ConnId, RouterCore};
 use gn_shake::{Role, Shake};
@@ -31,6 +31,8 @@ pub struct ReaderDone<Rd, B: Site + Ledger, A: Allocator = Global> {
     pub reader: Rd,
     pub home: IntakeHome<B, A>,
     pub end: Result<ReaderEnd, BodyFault>,
+    /// What says that the connection was found closed, where it was to be closed at this end.
+    pub found_closed: Option<FoundClosed>,
 }
 
 /// The most reads of a link that give bytes.
@@ -90,11 +92,13 @@ impl<'s, G: Gate, B: Site + Ledger, C: RouterCore<A> + Drop, A: Allocator + Copy
         rt: &R,
         connection: Option<ConnId>,
         end: ReaderEnd,
+        found: &mut Option<FoundClosed>,
     ) -> Result<(), BodyFault>
         ensures goes_on { GoesOn self.old self.new }
         ensures none { connection ≡ None → self.new ≡ self.old }
         ensures row { (role : Role) (b : List ℕ) → ReadRow role end connection (link_events self.old.actor) b
             → ReaderRow role end connection (link_events self.new.actor) b }
+        ensures closed { OnOk result (connection_of self.new.actor ≡ connection → HasClosedAt end found.new self.new.actor) }
     {
         let link = self.actor.number();
         match connection {
@@ -103,7 +107,8 @@ impl<'s, G: Gate, B: Site + Ledger, C: RouterCore<A> + Drop, A: Allocator + Copy
                 Ok(())
             }
             Some(c) if closes(end) => {
-                close(rt, self.service, self.gate, &mut self.actor, link, c)
+                *found = close(rt, self.service, self.gate, &mut self.actor, link, c)?;
+                Ok(())
             }
             Some(_) => Ok(()),
         }
@@ -115,6 +120,7 @@ impl<'s, G: Gate, B: Site + Ledger, C: RouterCore<A> + Drop, A: Allocator + Copy
         rt: &R,
         reader: &mut Rd,
         role: Role,
+        found: &mut Option<FoundClosed>,
     ) -> Result<ReaderEnd, BodyFault>
         requires new { IsNewReader (Rd.state reader.old) }
         requires none { self.old.actor.receipts ≡ [] }
@@ -123,9 +129,10 @@ impl<'s, G: Gate, B: Site + Ledger, C: RouterCore<A> + Drop, A: Allocator + Copy
             (record { receipts = self.new.actor.receipts; half = reader.new; end = result }) }
         ensures put { OnOk result (self.old.is_refused ≡ false
             → self.new.intake.jobs ≡ self.old.intake.jobs ++ jobs_left self.new.actor.receipts) }
+        ensures closed { IfOk result (λ end. HasClosedAt end found.new self.new.actor) }
     {
         match self.read_all(rt, reader, role) {
-            Ok((connection, end)) => match self.close_at(rt, connection, end) {
+            Ok((connection, end)) => match self.close_at(rt, connection, end, found) {
                 Ok(()) if self.is_refused => Err(BodyFault::Refused),
                 Ok(()) => Ok(end),
                 Err(why) => Err(why),
@@ -148,6 +155,7 @@ fn closes(end: ReaderEnd) -> bool
 /// The body of a reader: it awaits the greeting, connects, and admits what its bytes offer, in order. The job of each admitted
 /// descriptor is put, or routed by the reader itself where the intake hands it back. The gate learns of each step.
 ///
+/// Where a read failed, at a fault of the bytes and after as many reads as may be it closes the connection, or finds it closed.
 /// The link's door is shut where it doesn't connect, and a stop fails the run. In any case the reader is done, and the
 /// link's reader and the intake are finished.
 pub fn reader_body<
@@ -175,6 +183,7 @@ pub fn reader_body<
     ensures done { IsReaderDone Rd.state Rd.made_of Rd.gives (half_of role reader) (reader_ended result) }
     ensures put { OnOk result.end (result.home.jobs ≡ intake.jobs ++ jobs_left result.actor.receipts) }
     ensures finished { Rd.is_finished result.reader ≡ true }
+    ensures closed { IfOk result.end (λ end. HasClosedAt end result.found_closed result.actor) }
 {
     let mut reader = reader;
     let mut me = ReaderHandler {
@@ -185,7 +194,8 @@ pub fn reader_body<
         intake,
         is_refused: false,
     };
-    let end = me.read_link(rt, &mut reader, role);
+    let mut found_closed = None;
+    let end = me.read_link(rt, &mut reader, role, &mut found_closed);
     fail_at_stop(rt, service, gate, &end);
     service.reader_done(rt, link);
     reader.finish(rt);
@@ -197,5 +207,6 @@ pub fn reader_body<
         reader,
         home: intake.finish(),
         end,
+        found_closed,
     }
 }

@@ -3,6 +3,7 @@
 ghost use Rattle.std.specs.Prelude.{◌≡◌, [], ℕ, false, true, IfOk, OnOk};
 ghost use Rattle.gn_wire.specs.Encoding.{bytes_of};
 ghost use Rattle.gn_links.specs.Halves.{IsNewWriter};
+ghost use Rattle.gn_shake.specs.Greeting.{is_calling};
 ghost use Rattle.gn_shake.specs.declared.role.Role.{Role};
 ghost use Rattle.gn_bodies.specs.declared.ends.WriterEnd.TheVariants.{Closed, NeverOpened, WriteFailed};
 ghost use Rattle.gn_bodies.specs.Done.{IsWriterDone, WritesAs, half_of, writer_ended};
@@ -12,7 +13,7 @@ ghost use Rattle.gn_bodies.specs.Written.{HasWrittenText, WriterSteps};
 
 use crate::asking::close;
 use crate::ends::{BodyFault, WriterEnd, fail_at_stop};
-use gn_hub::{Actor, Outgoing, Service};
+use gn_hub::{Actor, FoundClosed, Outgoing, Service};
 use gn_links::{Gate, Half, LinkWriter, Made};
 use gn_rules::{ConnId, RouterCore};
 use gn_shake::Role;
@@ -28,6 +29,8 @@ pub struct WriterDone<W, L: Ledger, A: Allocator = Global> {
     pub role: Role,
     pub writer: W,
     pub end: Result<WriterEnd, BodyFault>,
+    /// What says that the connection was found closed, where a write had failed.
+    pub found_closed: Option<FoundClosed>,
 }
 
 /// Writes all of a text. False where a write failed, or took nothing.
@@ -120,6 +123,7 @@ fn write_request<W: LinkWriter, R: Wait>(rt: &R, writer: &mut W, role: Role) -> 
     ensures made { W.made_of writer.new ≡ W.made_of writer.old }
     ensures all { result ≡ true → WritesAs role NeverOpened [] (W.state writer.new) }
     ensures part { result ≡ false → WritesAs role WriteFailed [] (W.state writer.new) }
+    ensures calls { result ≡ false → is_calling role ≡ true }
 {
     match role {
         Role::Calling => write_text(rt, writer, gn_shake::request()),
@@ -193,13 +197,14 @@ fn write_link<
     role: Role,
     writer: &mut W,
     text: &mut Vec<u8, A>,
+    found: &mut Option<FoundClosed>,
 ) -> Result<WriterEnd, BodyFault>
     requires none { me.old.receipts ≡ [] }
     requires new { (W.state writer.old).bytes ≡ [] }
     ensures number { me.new.number ≡ me.old.number }
     ensures made { W.made_of writer.new ≡ W.made_of writer.old }
     ensures written { IfOk result (λ end. WritesAs role end (packets_of me.new) (W.state writer.new)) }
-    ensures steps { IfOk result (λ end. (c : ℕ) × WriterSteps end c me.new) }
+    ensures steps { IfOk result (λ end. (c : ℕ) × WriterSteps role end c found.new me.new) }
 {
     if !write_request(rt, writer, role) {
         return Ok(WriterEnd::WriteFailed);
@@ -207,16 +212,16 @@ fn write_link<
     let Some(c) = service.meet(rt, link) else {
         return Ok(WriterEnd::NeverOpened);
     };
-    let end = write_packets(rt, service, gate, me, link, writer, role, c, text);
-    if let Ok(WriterEnd::WriteFailed) = end {
-        close(rt, service, gate, me, link, c)?;
+    let end = write_packets(rt, service, gate, me, link, writer, role, c, text)?;
+    if let WriterEnd::WriteFailed = end {
+        *found = close(rt, service, gate, me, link, c)?;
     }
-    end
+    Ok(end)
 }
 
 /// The body of a writer: it writes the request of a calling link, waits until the link has connected, writes the consent of
-/// an accepting one, and then each packet that it takes. It closes the connection where a write failed. The gate learns of each
-/// step.
+/// an accepting one, and then each packet that it takes. Where a write failed it closes the connection, or finds it closed. The
+/// gate learns of each step.
 ///
 /// A stop fails the run. In any case the link's writer is finished.
 pub fn writer_body<
@@ -240,10 +245,11 @@ pub fn writer_body<
     requires new { IsNewWriter (W.state writer) }
     ensures same { (result.actor.number ≡ actor.number) × (result.role ≡ role) }
     ensures done { IsWriterDone W.state W.made_of (half_of role writer) (writer_ended result) }
-    ensures steps { IfOk result.end (λ end. (c : ℕ) × WriterSteps end c result.actor) }
+    ensures steps { IfOk result.end (λ end. (c : ℕ) × WriterSteps role end c result.found_closed result.actor) }
 {
     let (mut actor, mut writer) = (actor, writer);
     let mut text = Vec::new(alloc);
+    let mut found_closed = None;
     let end = write_link(
         rt,
         service,
@@ -253,6 +259,7 @@ pub fn writer_body<
         role,
         &mut writer,
         &mut text,
+        &mut found_closed,
     );
     drop(text);
     fail_at_stop(rt, service, gate, &end);
@@ -263,5 +270,6 @@ pub fn writer_body<
         role,
         writer,
         end,
+        found_closed,
     }
 }

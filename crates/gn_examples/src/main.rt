@@ -2,17 +2,21 @@
 #![tactic(auto)]
 
 mod faults;
+mod neighbours;
+mod progressed;
 mod streams;
+mod watched;
 
 use gn_io::{ReaderSource, WriterSink};
 use gn_program::{command, refuse_words};
+use neighbours::Neighbour;
 use std::io::{ErrorKind, StdinLock};
 use std::net::{Ipv4Addr, Net, SocketAddr, TcpListener, TcpStream};
 use std::rt::Files;
 use std::sync::Wait;
 use std::thread::Threads;
 use std::time::Clock;
-use std::{fs, io};
+use std::{fs, io, str, thread};
 use streams::{Given, Taken};
 
 /// A port that is taken while a serve asks for it.
@@ -47,6 +51,40 @@ fn answer<
     }
 }
 
+/// The same, beside the router's neighbour, where there is one: it calls the router, or the router calls it.
+fn answer_beside<
+    R: Threads
+        + Wait
+        + Net<Listener = TcpListener, Stream = TcpStream>
+        + Clock
+        + Input<Reader = StdinLock<'static>>
+        + Sync
+        + AllocGlobal,
+>(
+    rt: &R,
+    words: &[&str],
+    input: Given<'_>,
+    fails: (bool, bool),
+    neighbour: Option<Neighbour<'_>>,
+) -> Answered {
+    let Some(neighbour) = neighbour else {
+        return answer(rt, words, input, fails);
+    };
+    let called = port_of(words, "--peer=127.0.0.1:");
+    let port = if called == 0 {
+        port_of(words, "--port=")
+    } else {
+        called
+    };
+    // that a neighbour fails shows in what the router says
+    let (_, answered) = thread::join(
+        rt,
+        || neighbour.act(rt, port).is_ok(),
+        || answer(rt, words, input, fails),
+    );
+    answered
+}
+
 /// The largest input, and a byte more.
 const TOO_LARGE: usize = 67_108_865;
 
@@ -59,17 +97,47 @@ fn text_of<R: Files + AllocGlobal>(rt: &R, name: &str) -> io::Result<Vec<u8>> {
     }
 }
 
-/// Whether a text is as stated: empty at `-` and where its stream fails, at `begins:FILE` it begins as the file, and else it
-/// is the file's.
+/// Whether a text is a pattern's: its parts between stars in this order, with anything between them.
+fn is_like(text: &str, pattern: &str) -> bool {
+    let mut rest = Some(text);
+    let mut is_first = true;
+    for part in pattern.split('*') {
+        rest = match rest {
+            Some(rest) if is_first => rest.strip_prefix(part),
+            Some(rest) => rest.split_once(part).map(|found| found.1),
+            None => None,
+        };
+        is_first = false;
+    }
+    rest == Some("")
+}
+
+/// Whether a text is as stated: empty at `-` and where its stream fails, at `begins:FILE` it begins as the file, at
+/// `like:FILE` it is that of the pattern there, and else it is the file's.
 fn is_as<R: Files + AllocGlobal>(rt: &R, text: &[u8], stated: &str) -> io::Result<bool> {
-    Ok(match stated.strip_prefix("begins:") {
-        Some(name) => text.starts_with(text_of(rt, name)?.as_slice()),
-        None => text == text_of(rt, stated)?.as_slice(),
-    })
+    match stated.split_once(":") {
+        Some(("begins", name)) => Ok(text.starts_with(text_of(rt, name)?.as_slice())),
+        Some(("like", name)) => {
+            let pattern = fs::read_to_string(rt, name)?;
+            Ok(str::from_utf8(text).is_ok_and(|text| is_like(text, pattern.as_str())))
+        }
+        _ => Ok(text == text_of(rt, stated)?.as_slice()),
+    }
+}
+
+/// The port that an option of the words names, as `--port=6346` or `--peer=127.0.0.1:6346`; 0, where none does.
+fn port_of(words: &[&str], option: &str) -> u16 {
+    for word in words {
+        if let Some(port) = word.strip_prefix(option) {
+            return port.parse().unwrap_or(0);
+        }
+    }
+    0
 }
 
 /// Whether a command answers as a case says: by its status, its input, what is printed, the faults, and its words. Each of
-/// the three streams `fails`, or is as stated for its text; at `audit:..` the verdict of what is printed is.
+/// the three streams `fails`, or is as stated for its text; at `audit:..` the verdict of what is printed is. In place of an input
+/// may stand what the router's neighbour does, and with what bytes, as `sends:FILE`.
 fn is_as_wanted<
     R: Threads
         + Wait
@@ -84,14 +152,20 @@ fn is_as_wanted<
     let [status, input, printed, faults, words @ ..] = fields.as_slice() else {
         return Ok(false);
     };
-    let given = text_of(rt, input)?;
-    let given = Given::new(given.as_slice(), *input == "fails");
+    let bytes = text_of(rt, input.split_once(":").map_or(*input, |named| named.1))?;
+    let neighbour = input
+        .split_once(":")
+        .and_then(|named| Neighbour::of(named.0, bytes.as_slice()));
+    let given = match neighbour {
+        Some(_) => Given::new(&[], false),
+        None => Given::new(bytes.as_slice(), *input == "fails"),
+    };
     let fails = (*printed == "fails", *faults == "fails");
     let Answered {
         status: ended,
         printed: text,
         faults: faulted,
-    } = answer(rt, words, given, fails);
+    } = answer_beside(rt, words, given, fails, neighbour);
     let is_printed = match printed.strip_prefix("audit:") {
         Some(verdict) => {
             let history = Given::new(text.as_slice(), false);
@@ -139,6 +213,14 @@ fn main(rt: HostRuntime) -> io::Result<()> {
         let are_refused = are_refused(&rt, kind, status, fault)?;
         print(&rt, fault, are_refused)?;
     }
+    let are_shown = progressed::are_shown(&rt);
+    print(&rt, "progress is shown in its lines", are_shown)?;
+    let are_told = watched::are_told(&rt)?;
+    print(
+        &rt,
+        "a watch is told of what it is asked to watch",
+        are_told,
+    )?;
     let are_written = faults::are_written(&rt)?;
     print(&rt, "each fault has its line", are_written)
 }

@@ -1,5 +1,5 @@
 -- What the calls that take the lock do to their actor.
-use Rattle.std.specs.Prelude.{◌≡◌, ℕ, Bool, true, false, List, [], ◌∷◌, ◌++◌}
+use Rattle.std.specs.Prelude.{◌≡◌, ℕ, Bool, true, false, List, [], ◌∷◌, ◌++◌, Option, Some, None}
 use Rattle.gn_wire.specs.Packet.{Packet}
 use Rattle.gn_rules.specs.declared.event.Event.{Event}
 use Rattle.gn_rules.specs.declared.event.Event.TheVariants.{Close, Take}
@@ -23,6 +23,11 @@ HasTaken {A} c me us = (index : ℕ) × (packet : Packet) × (us ≡ with_receip
 -- an actor got a receipt of a close that discarded nothing
 abbrev pub HasDrained : {A : Type 0} → ℕ → ActorState A → ActorState A → Type 0
 HasDrained {A} c me us = (index : ℕ) × (us ≡ with_receipt me (receipt index (Close c) (Closed 0)))
+
+-- an actor closed a connection, and got a receipt of it; or, without a receipt, the connection was found closed, as this says
+abbrev pub HasClosed : {A : Type 0} → ℕ → Option ℕ → ActorState A → ActorState A → Type 0
+HasClosed {A} c None me us = (index count : ℕ) × (us ≡ with_receipt me (receipt index (Close c) (Closed count)))
+HasClosed c (Some found) me us = (found ≡ c) × (us ≡ me)
 
 -- an actor's last receipt is of this packet, which was taken
 abbrev pub HasTakenLast : {A : Type 0} → Packet → ActorState A → Type 0

@@ -5,12 +5,14 @@ ghost use Rattle.gn_rules.specs.declared.receipt.Receipt.{Receipt};
 ghost use Rattle.gn_rules.specs.declared.event.Event.TheVariants.{Connect, Route};
 ghost use Rattle.std.specs.List.{list_any};
 ghost use Rattle.gn_rules.specs.Fits.{refuses};
-ghost use Rattle.gn_rules.specs.History.{sends_of};
-ghost use Rattle.gn_hub.specs.Receipts.{HasDrained, HasReceipt, HasTaken, is_stop};
+ghost use Rattle.gn_rules.specs.History.{live, sends_of};
+ghost use Rattle.gn_hub.specs.HubState.{past_of};
+ghost use Rattle.gn_hub.specs.Receipts.{HasClosed, HasDrained, HasReceipt, HasTaken, is_stop};
 ghost use Rattle.gn_hub.specs.Waking.{LeavesWaiting, closes, may_wake};
 ghost use Rattle.gn_hub.specs.declared.next.Outgoing.TheVariants.{Packet, Drained, Closed};
 
 use crate::actor::Actor;
+use crate::found::FoundClosed;
 use crate::hub::Hub;
 use crate::next::Outgoing;
 use gn_payload::Checked;
@@ -119,6 +121,32 @@ impl<C: RouterCore<A>, L: Ledger, A: Allocator + Copy> Hub<C, L, A> {
             },
             Ok(None) => Answered {
                 answer: Ok(None),
+                wakes: false,
+            },
+            Err(refusal) => Answered::refused(refusal),
+        }
+    }
+
+    /// `close`, for the lock. The end of a connection is what somebody waits for.
+    pub(crate) fn close_answered(
+        &mut self,
+        me: &mut Actor<L, A>,
+        c: ConnId,
+    ) -> Answered<Option<FoundClosed>>
+        ensures answer { MatchResult result.answer
+            (λ found. HasClosed c found me.old me.new)
+            (λ refusal. (is_stop refusal ≡ true) × (me.new ≡ me.old)) }
+        ensures found { IfOk result.answer (λ found. found ≡ Some c → live (past_of self.old) c ≡ false) }
+        ensures quiet { result.wakes ≡ false → LeavesWaiting self.old self.new }
+    {
+        answers_fit::<A>();
+        match self.call_with(me, Event::Close(c)) {
+            Ok(()) => Answered {
+                answer: Ok(None),
+                wakes: true,
+            },
+            Err(Refusal::NotLive) => Answered {
+                answer: Ok(Some(FoundClosed::of(c))),
                 wakes: false,
             },
             Err(refusal) => Answered::refused(refusal),

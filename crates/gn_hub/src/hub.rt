@@ -78,7 +78,7 @@ impl<C: RouterCore<A>, L: Ledger, A: Allocator + Copy> Hub<C, L, A> {
     }
 
     /// As `call`, of an event that nobody needs any more.
-    fn call_with(&mut self, me: &mut Actor<L, A>, event: Event<A>) -> Result<(), Refusal>
+    pub(crate) fn call_with(&mut self, me: &mut Actor<L, A>, event: Event<A>) -> Result<(), Refusal>
         ensures { MatchResult result
             (λ _. HasStepped (answer_now self.old event) event self.old me.old self.new me.new)
             (λ refusal. IsRefusal refusal (answer_now self.old event) × (self.new ≡ self.old) × (me.new ≡ me.old)) }

@@ -3,6 +3,7 @@
 
 mod actor;
 mod answered;
+mod found;
 mod hub;
 mod mark;
 mod next;
@@ -10,6 +11,7 @@ mod opening;
 mod service;
 
 pub use actor::Actor;
+pub use found::FoundClosed;
 pub use gn_shake::Role;
 pub use hub::Hub;
 pub use mark::{Door, Mark};

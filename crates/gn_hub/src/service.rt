@@ -4,10 +4,11 @@ ghost use Rattle.std.specs.Prelude.{◌≡◌, true, false, IfOk, IfErr, MatchRe
 ghost use Rattle.gn_rules.specs.declared.event.Event.TheVariants.{Connect, Route};
 ghost use Rattle.gn_rules.specs.Fits.{refuses};
 ghost use Rattle.gn_hub.specs.declared.next.Outgoing.TheVariants.{Packet, Drained, Closed};
-ghost use Rattle.gn_hub.specs.Receipts.{HasDrained, HasReceipt, HasTaken, is_stop};
+ghost use Rattle.gn_hub.specs.Receipts.{HasClosed, HasDrained, HasReceipt, HasTaken, is_stop};
 
 use crate::actor::Actor;
 use crate::answered::Answered;
+use crate::found::FoundClosed;
 use crate::hub::Hub;
 use crate::mark::Door;
 use crate::next::Outgoing;
@@ -113,6 +114,23 @@ impl<C: RouterCore<A> + Drop, L: Ledger, A: Allocator + Copy> Service<C, L, A> {
     {
         me.make_room()?;
         let Answered { answer, wakes } = self.lock(rt).connect_answered(me, link);
+        self.wake(wakes);
+        answer
+    }
+
+    /// An actor's Close of a connection. Where that isn't live any more, what says so comes back, and no step is made.
+    pub fn close<R: Wait>(
+        &self,
+        rt: &R,
+        me: &mut Actor<L, A>,
+        c: ConnId,
+    ) -> Result<Option<FoundClosed>, Refusal>
+        ensures { MatchResult result
+            (λ found. HasClosed c found me.old me.new)
+            (λ refusal. (is_stop refusal ≡ true) × (me.new ≡ me.old)) }
+    {
+        me.make_room()?;
+        let Answered { answer, wakes } = self.lock(rt).close_answered(me, c);
         self.wake(wakes);
         answer
     }

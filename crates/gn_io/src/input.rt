@@ -2,7 +2,7 @@
 
 ghost use Rattle.std.specs.Prelude.{◌≡◌, ◌≤◌, length, IfOk, IfErr, IfSome, OnOk};
 ghost use Rattle.gn_io.specs.Input.{input_limit, IsInputFault};
-ghost use Rattle.gn_io.specs.Streams.{NoReadFailed};
+ghost use Rattle.gn_io.specs.Streams.{NoReadFailed, text_between};
 
 use crate::source::Source;
 use std::alloc::Allocator;
@@ -27,7 +27,8 @@ pub fn read_input<A: Allocator, S: Source>(
     alloc: A,
     source: &mut S,
 ) -> Result<Vec<u8, A>, InputFault>
-    ensures all { IfOk result (λ input. IfSome (S.state source.old).rest (λ bytes. input.items ≡ bytes)) }
+    ensures all { IfOk result (λ input. IfSome (text_between (S.state source.old) (S.state source.new))
+        (λ bytes. input.items ≡ bytes)) }
     ensures short { IfOk result (λ input. length input.items ≤ input_limit) }
     ensures unfailed { OnOk result (NoReadFailed (S.state source.old) (S.state source.new)) }
     ensures fault { IfErr result (λ fault. IsInputFault fault (S.state source.old) (S.state source.new)) }

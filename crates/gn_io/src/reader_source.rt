@@ -1,17 +1,21 @@
 //! A reader of std as a source.
 
-ghost use Rattle.std.specs.Prelude.{◌≡◌};
+ghost use Rattle.std.specs.Prelude.{◌≡◌, []};
 
 use crate::fault::IoFault;
 use crate::source::Source;
+use gn_trail::{Told, read_told};
 use std::io::Read;
 
-/// A source over a reader of std: a slice, a `Cursor`, a standard stream. The bytes of the last are not known.
+/// A source over a reader of std: a slice, a `Cursor`, a standard stream. Which bytes the last will give isn't known, but which
+/// it gave is.
 #[derive(Drop)]
 pub struct ReaderSource<R: Read> {
     reader: R,
     failures: u64,
     given: u64,
+    /// The bytes that it gave.
+    told: Told,
 }
 
 impl<R: Read> ReaderSource<R> {
@@ -20,20 +24,27 @@ impl<R: Read> ReaderSource<R> {
         ensures reader { result.reader ≡ reader }
         ensures failures { result.failures ≡ 0 }
         ensures given { result.given ≡ 0 }
+        ensures told { result.told ≡ [] }
     {
         ReaderSource {
             reader,
             failures: 0,
             given: 0,
+            told: Told::new(),
         }
     }
 }
 
 impl<R: Read> Source for ReaderSource<R> {
-    ghost state = { λ s. record { rest = R.remaining s.reader; failures = s.failures; given = s.given } };
+    ghost state = { λ s. record {
+      rest = R.remaining s.reader;
+      told = s.told;
+      failures = s.failures;
+      given = s.given;
+    } };
 
     fn read(&mut self, room: &mut [u8]) -> Result<usize, IoFault> {
-        match self.reader.read(room) {
+        match read_told(&mut self.reader, &mut self.told, room) {
             Ok(n) => {
                 self.given = self.given.saturating_add(n as u64);
                 Ok(n)

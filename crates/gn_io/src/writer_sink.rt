@@ -1,17 +1,25 @@
 //! A writer of std as a sink.
 
-ghost use Rattle.std.specs.Prelude.{◌≡◌};
+ghost use Rattle.std.specs.Prelude.{◌≡◌, []};
+ghost use Rattle.gn_io.specs.Streams.{held_or_told};
 
 use crate::fault::IoFault;
 use crate::sink::Sink;
+use gn_trail::{Told, write_told};
 use std::io::Write;
+use std::snapshot::Snapshot;
 
-/// A sink over a writer of std: a vector, a standard stream. The bytes of the last are not known.
+/// A sink over a writer of std: a vector, a standard stream. Its bytes are those that the writer holds; those that it took, where
+/// the writer doesn't say what it holds.
 #[derive(Drop)]
 pub struct WriterSink<W: Write> {
     writer: W,
     failures: u64,
     stalls: u64,
+    /// The writer as it was at first.
+    begun: Snapshot<W>,
+    /// The bytes that it took.
+    told: Told,
 }
 
 impl<W: Write> WriterSink<W> {
@@ -20,11 +28,16 @@ impl<W: Write> WriterSink<W> {
         ensures writer { result.writer ≡ writer }
         ensures failures { result.failures ≡ 0 }
         ensures stalls { result.stalls ≡ 0 }
+        ensures begun { result.begun.value ≡ writer }
+        ensures told { result.told ≡ [] }
     {
+        let begun = Snapshot::of(&writer);
         WriterSink {
             writer,
             failures: 0,
             stalls: 0,
+            begun,
+            told: Told::new(),
         }
     }
 
@@ -37,10 +50,14 @@ impl<W: Write> WriterSink<W> {
 }
 
 impl<W: Write> Sink for WriterSink<W> {
-    ghost state = { λ s. record { written = W.contents s.writer; failures = s.failures; stalls = s.stalls } };
+    ghost state = { λ s. record {
+      written = held_or_told (W.contents s.begun.value) (W.contents s.writer) s.told;
+      failures = s.failures;
+      stalls = s.stalls;
+    } };
 
     fn write(&mut self, piece: &[u8]) -> Result<usize, IoFault> {
-        match self.writer.write(piece) {
+        match write_told(&mut self.writer, &mut self.told, piece) {
             Ok(n) => {
                 if n == 0 && !piece.is_empty() {
                     self.stalls = self.stalls.saturating_add(1);

@@ -1,6 +1,7 @@
 //! Who watches a run while it goes on.
 
 use crate::gate::{Gate, NoGate};
+use std::io::ErrorKind;
 use std::net::SocketAddr;
 
 /// A gate that learns when the run of a load begins, or that of a serve, and when it has ended; it is left what a load made.
@@ -13,6 +14,9 @@ pub trait Watch: Gate {
 
     /// A link of a serve has come: the peer at this address called, or was called.
     fn came(&self, _link: u32, _peer: SocketAddr) {}
+
+    /// The peer at this address can't be called, over this link: what the system said. The run ends for that.
+    fn not_called(&self, _link: u32, _peer: SocketAddr, _why: ErrorKind) {}
 
     /// The run has ended, well or not, or there is none.
     fn end(&self) {}

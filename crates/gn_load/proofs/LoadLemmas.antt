@@ -9,7 +9,7 @@ use Rattle.std.specs.Result.{IsErrAnd, IsOkAnd}
 use Rattle.gn_io.specs.declared.input.InputFault.{InputFault}
 use Rattle.gn_io.specs.declared.input.InputFault.TheVariants as input_fault
 use Rattle.gn_io.specs.Input.{IsInputFault, input_limit}
-use Rattle.gn_io.specs.Streams.{Streams}
+use Rattle.gn_io.specs.Streams.{Streams, text_of}
 use Rattle.gn_links.specs.Memory.{Memory, MemoryReading, MemoryWriting, half_read, half_written, source_of}
 use Rattle.gn_rules.specs.declared.config.Own.{Own}
 use Rattle.gn_rules.specs.Limits.{IsCrew}
@@ -63,15 +63,15 @@ stopped_unread A workers input_fault.NoMemory rest old = inl (kept old)
 
 -- the fault of an input that was read and has no history is one of its load
 pub unloaded : {X L : Type 0} (workers : ℕ) (fault : LoadFault) (text : List ℕ) (read : List ℕ → Result (X × List L) CaptureFault) (s : Streams)
-    → IfSome s.source.rest (λ bytes. text ≡ bytes) → length text ≤ input_limit → IsRunLoadFault workers fault (read text) → IsLoadFault workers fault read s
+    → IfSome (text_of s) (λ bytes. text ≡ bytes) → length text ≤ input_limit → IsRunLoadFault workers fault (read text) → IsLoadFault workers fault read s
 unloaded workers (Text replay.Read) text read s whole short is = absurd is
 unloaded workers (Text replay.TooLarge) text read s whole short is = absurd is
 unloaded workers (Text (replay.Capture fault)) text read s whole short is =
-    of_known s.source.rest text (λ bytes. (length bytes ≤ input_limit) × (read bytes ≡ Err fault)) whole (short, is)
+    of_known (text_of s) text (λ bytes. (length bytes ≤ input_limit) × (read bytes ≡ Err fault)) whole (short, is)
 unloaded workers (Text replay.Write) text read s whole short is = absurd is
 unloaded workers (Text replay.NoMemory) text read s whole short is = tt
 unloaded workers (Run fault) text read s whole short is =
-    of_known s.source.rest text (λ bytes. (length bytes ≤ input_limit) × IsOkAnd (read bytes) (λ loaded. IsRunFault (length loaded.1) workers fault)) whole (short, is)
+    of_known (text_of s) text (λ bytes. (length bytes ≤ input_limit) × IsOkAnd (read bytes) (λ loaded. IsRunFault (length loaded.1) workers fault)) whole (short, is)
 
 -- and nothing was written
 pub stopped_unloaded : {X L : Type 0} (A : Type 0) (workers : ℕ) (fault : LoadFault) (read : Result (X × List L) CaptureFault) (rest old : Option (List ℕ))

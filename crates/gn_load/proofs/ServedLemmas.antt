@@ -1,5 +1,5 @@
 -- The history of a run over TCP.
-use Rattle.std.proofs.Common.{◌≡◌, ◌↔◌, ◌+◌, ℕ, Bool, true, List, [], reverse, refl, ap, subst, inl, inr, Option, Some, None, OnOk, OnErr, Result, Ok, Err, append-nil}
+use Rattle.std.proofs.Common.{◌≡◌, ◌↔◌, ◌+◌, ℕ, Bool, true, List, [], length, reverse, refl, ap, subst, inl, inr, Option, Some, None, OnOk, OnErr, Result, Ok, Err, append-nil}
 use Rattle.gn_io.specs.Parts.{AppendsPart}
 use Rattle.gn_load.specs.declared.printed.PrintFault.{PrintFault}
 use Rattle.gn_rules.specs.Answer.{IsLegal}
@@ -9,63 +9,80 @@ use Rattle.gn_rules.specs.declared.receipt.Step.{Step}
 use Rattle.gn_tcp.specs.Tcp.{TcpReading, TcpWriting, half_read, half_written}
 use Rattle.gn_report.specs.declared.report.Report.{Report}
 use Rattle.gn_capture.specs.Histories.{history_text}
-use Rattle.gn_threads.specs.Headline.{Holds}
+use Rattle.gn_threads.specs.Headline.{AreMadeOf, AreOfOne, Holds}
 use Rattle.gn_threads.specs.declared.fault.RunFault.{RunFault}
 use Rattle.gn_threads.specs.declared.fault.RunFault.TheVariants.{Audit, BadWorkers, Call, HistoryFull, Link, Listen, NoMemory, Stage}
 use Rattle.std.specs.Io.KnownBytes.{Appends, Keeps}
+use Rattle.std.specs.declared.net.socket_addr.SocketAddr.{SocketAddr}
 use Rattle.gn_load.specs.Served.{AppendsServed, AppendsServedPart, HasKept, HasServeStopped, IsServedText}
+use Rattle.gn_load.specs.declared.serve_fault.ServeFault.{ServeFault}
 use Rattle.gn_load.specs.declared.serve_fault.ServeFault.TheVariants.{Run, Write}
-use Rattle.gn_service.specs.Links.{roles_of}
+use Rattle.gn_service.specs.Links.{origins_of, roles_of}
 
 -- bytes that stay are kept
 pub kept : (old : Option (List ℕ)) → Keeps old old
 kept None = _
 kept (Some xs) = refl
 
-module _ {A : Type 0} (s : Config) (calls accept : ℕ) (report : Report TcpReading TcpWriting A) where
+module _ {A : Type 0} (s : Config) (peers : List SocketAddr) (accept workers : ℕ) (report : Report TcpReading TcpWriting A)
+    (holds : Holds half_read half_written s (roles_of (length peers) (length peers + accept)) workers report)
+    (made : AreMadeOf (λ half. half.origin) (λ half. half.origin) (origins_of peers (length peers + accept)) report)
+    (one_socket : AreOfOne (λ half. half.socket) (λ half. half.socket) report) where
   -- the text of its history
-  pub served : (workers : ℕ) → Holds half_read half_written s (roles_of calls (calls + accept)) workers report → IsServedText A s calls accept workers (history_text s report.history.items)
-  served workers holds = record { report = report; holds = holds; printed = refl }
+  served : IsServedText A s peers accept workers (history_text s report.history.items)
+  served = record { report = report; holds = holds; made = made; one_socket = one_socket; printed = refl }
 
   -- it was written
-  pub written : (workers : ℕ) → Holds half_read half_written s (roles_of calls (calls + accept)) workers report
-      → (steps : List (Step A)) (old new : Option (List ℕ)) → steps ≡ report.history.items → Appends old new (history_text s steps)
-      → AppendsServed A s calls accept workers old new
-  written workers holds steps old new same whole =
-      (history_text s report.history.items, served workers holds, subst (λ (xs : List (Step A)). Appends old new (history_text s xs)) same whole)
+  pub written : (steps : List (Step A)) (old new : Option (List ℕ)) → steps ≡ report.history.items → Appends old new (history_text s steps)
+      → AppendsServed A s peers accept workers old new
+  written steps old new same whole =
+      (history_text s report.history.items, served, subst (λ (xs : List (Step A)). Appends old new (history_text s xs)) same whole)
 
   -- a prefix of it was
-  pub written_part : (workers : ℕ) → Holds half_read half_written s (roles_of calls (calls + accept)) workers report
-      → (steps : List (Step A)) (old new : Option (List ℕ)) → steps ≡ report.history.items → AppendsPart old new (history_text s steps)
-      → AppendsServedPart A s calls accept workers old new
-  written_part workers holds steps old new same part =
-      (history_text s report.history.items, served workers holds, subst (λ (xs : List (Step A)). AppendsPart old new (history_text s xs)) same part)
+  pub written_part : (steps : List (Step A)) (old new : Option (List ℕ)) → steps ≡ report.history.items → AppendsPart old new (history_text s steps)
+      → AppendsServedPart A s peers accept workers old new
+  written_part steps old new same part =
+      (history_text s report.history.items, served, subst (λ (xs : List (Step A)). AppendsPart old new (history_text s xs)) same part)
 
 -- a history that is kept was written, whole or up to where that failed
-pub kept_part : {A : Type 0} (s : Config) (is_kept : Bool) (steps : List (Step A)) (old new : Option (List ℕ)) (r : Result (Unit {0}) PrintFault)
-    → is_kept ≡ true → IsLegal s (reverse steps) → OnOk r (Appends old new (history_text s steps)) → OnErr r (AppendsPart old new (history_text s steps))
-    → HasKept A is_kept s old new
-kept_part s is_kept steps old new (Ok done) set legal whole part =
-    inr (set, history_text s steps, record { steps = steps; legal = legal; printed = refl }, ([], (history_text s steps, whole, append-nil (history_text s steps))))
-kept_part s is_kept steps old new (Err fault) set legal whole part =
-    inr (set, history_text s steps, record { steps = steps; legal = legal; printed = refl }, part)
+pub kept_part : {A : Type 0} (s : Config) (is_kept : Bool) (fault : RunFault) (steps : List (Step A)) (old new : Option (List ℕ)) (r : Result (Unit {0}) PrintFault)
+    → is_kept ≡ true → IsLegal s (reverse steps) → (fault ≡ HistoryFull → length steps ≡ s.numbers.steps) → OnOk r (Appends old new (history_text s steps)) → OnErr r (AppendsPart old new (history_text s steps))
+    → HasKept A is_kept s fault old new
+kept_part s is_kept fault steps old new (Ok done) set legal full whole part =
+    inr (set, history_text s steps, record { steps = steps; legal = legal; full = full; printed = refl }, ([], (history_text s steps, whole, append-nil (history_text s steps))))
+kept_part s is_kept fault steps old new (Err e) set legal full whole part =
+    inr (set, history_text s steps, record { steps = steps; legal = legal; full = full; printed = refl }, part)
 
 -- where a run has no report, what is kept of its history was written
-pub kept_written : (A : Type 0) (is_kept : Bool) (s : Config) (calls accept workers : ℕ) (fault : RunFault) (old new : Option (List ℕ))
-    → HasKept A is_kept s old new → HasServeStopped A is_kept s calls accept workers (Run fault) old new
-kept_written A is_kept s calls accept workers BadWorkers old new has = has
-kept_written A is_kept s calls accept workers Listen old new has = has
-kept_written A is_kept s calls accept workers (Call peer) old new has = has
-kept_written A is_kept s calls accept workers (Link link) old new has = has
-kept_written A is_kept s calls accept workers HistoryFull old new has = has
-kept_written A is_kept s calls accept workers NoMemory old new has = inl has
-kept_written A is_kept s calls accept workers (Stage fault) old new has = has
-kept_written A is_kept s calls accept workers (Audit actor) old new has = has
+pub kept_written : (A : Type 0) (Part : Option (List ℕ) → Option (List ℕ) → Type 0) (is_kept : Bool) (s : Config) (fault : RunFault) (old new : Option (List ℕ))
+    → HasKept A is_kept s fault old new → HasServeStopped A Part is_kept s (Run fault) old new
+kept_written A Part is_kept s BadWorkers old new has = has
+kept_written A Part is_kept s Listen old new has = has
+kept_written A Part is_kept s (Call peer) old new has = has
+kept_written A Part is_kept s (Link link) old new has = has
+kept_written A Part is_kept s HistoryFull old new has = has
+kept_written A Part is_kept s NoMemory old new has = inl has
+kept_written A Part is_kept s (Stage fault) old new has = has
+kept_written A Part is_kept s (Audit actor) old new has = has
 
 -- or nothing
-pub none_written : (A : Type 0) (is_kept : Bool) (s : Config) (calls accept workers : ℕ) (fault : RunFault) (old : Option (List ℕ))
-    → HasServeStopped A is_kept s calls accept workers (Run fault) old old
-none_written A is_kept s calls accept workers fault old = kept_written A is_kept s calls accept workers fault old old (inl (kept old))
+pub none_written : (A : Type 0) (Part : Option (List ℕ) → Option (List ℕ) → Type 0) (is_kept : Bool) (s : Config) (fault : RunFault) (old : Option (List ℕ))
+    → HasServeStopped A Part is_kept s (Run fault) old old
+none_written A Part is_kept s fault old = kept_written A Part is_kept s fault old old (inl (kept old))
+
+-- what was written is said, too, by less of a history with a report
+pub stopped_less : (A : Type 0) (Part Less : Option (List ℕ) → Option (List ℕ) → Type 0) (is_kept : Bool) (s : Config) (fault : ServeFault) (old new : Option (List ℕ))
+    → (Part old new → Less old new) → HasServeStopped A Part is_kept s fault old new → HasServeStopped A Less is_kept s fault old new
+stopped_less A Part Less is_kept s Write old new less has = less has
+stopped_less A Part Less is_kept s (Run NoMemory) old new less (inl has) = inl has
+stopped_less A Part Less is_kept s (Run NoMemory) old new less (inr has) = inr (less has)
+stopped_less A Part Less is_kept s (Run BadWorkers) old new less has = has
+stopped_less A Part Less is_kept s (Run Listen) old new less has = has
+stopped_less A Part Less is_kept s (Run (Call peer)) old new less has = has
+stopped_less A Part Less is_kept s (Run (Link link)) old new less has = has
+stopped_less A Part Less is_kept s (Run HistoryFull) old new less has = has
+stopped_less A Part Less is_kept s (Run (Stage fault)) old new less has = has
+stopped_less A Part Less is_kept s (Run (Audit actor)) old new less has = has
 
 -- a fault of a run is BadWorkers where the serve's is
 pub run_is : (fault : RunFault) (P : Type 0) → (fault ≡ BadWorkers) ↔ P → (Run fault ≡ Run BadWorkers) ↔ P

@@ -30,4 +30,4 @@ IsRunLoadFault workers (Run fault) read = IsOkAnd read (λ loaded. IsRunFault (l
 abbrev pub IsLoadFault : {X L : Type 0} → ℕ → LoadFault → (List ℕ → Result (X × List L) CaptureFault) → Streams → Type 0
 IsLoadFault workers (Text fault) read s = IsReplayFault fault read s
 IsLoadFault workers (Run fault) read s =
-    IsInputThat s.source (λ text. IsOkAnd (read text) (λ loaded. IsRunFault (length loaded.1) workers fault))
+    IsInputThat s (λ text. IsOkAnd (read text) (λ loaded. IsRunFault (length loaded.1) workers fault))

@@ -3,7 +3,7 @@
 ghost use Rattle.std.specs.Prelude.{◌≤◌, length, IfOk, IfErr, IfSome, IsOk, OnOk};
 ghost use Rattle.gn_capture.specs.Histories.{history_text};
 ghost use Rattle.gn_io.specs.Input.{input_limit};
-ghost use Rattle.gn_io.specs.Streams.{NoneFailed, streams};
+ghost use Rattle.gn_io.specs.Streams.{NoneFailed, streams, text_between};
 ghost use Rattle.gn_load.specs.Faults.{IsLoadFault, IsRunLoadFault};
 ghost use Rattle.gn_load.specs.Loads.{AppendsLoad, HasStopped, IsLoadText, load_of};
 
@@ -61,13 +61,16 @@ pub fn load<
     S: Source,
     W: Sink,
 >(rt: &R, alloc: A, workers: u32, source: &mut S, sink: &mut W) -> Result<(), LoadFault>
-    ensures short { OnOk result (IfSome (S.state source.old).rest (λ text. length text ≤ input_limit)) }
-    ensures valid { OnOk result (IfSome (S.state source.old).rest (λ text. IsOk (load_of A text))) }
-    ensures written { OnOk result (IfSome (S.state source.old).rest (λ text.
+    ensures short { OnOk result (
+        IfSome (text_between (S.state source.old) (S.state source.new)) (λ text. length text ≤ input_limit)) }
+    ensures valid { OnOk result (
+        IfSome (text_between (S.state source.old) (S.state source.new)) (λ text. IsOk (load_of A text))) }
+    ensures written { OnOk result (IfSome (text_between (S.state source.old) (S.state source.new)) (λ text.
         AppendsLoad A workers text (W.state sink.old).written (W.state sink.new).written)) }
     ensures unfailed { OnOk result (NoneFailed
         (streams (S.state source.old) (S.state source.new) (W.state sink.old) (W.state sink.new))) }
-    ensures stopped { IfErr result (λ fault. HasStopped A workers fault (S.state source.old).rest
+    ensures stopped { IfErr result (λ fault.
+        HasStopped A workers fault (text_between (S.state source.old) (S.state source.new))
         (W.state sink.old).written (W.state sink.new).written) }
     ensures fault { IfErr result (λ fault. IsLoadFault workers fault (load_of A)
         (streams (S.state source.old) (S.state source.new) (W.state sink.old) (W.state sink.new))) }
@@ -84,13 +87,16 @@ pub fn load_watched<
     S: Source,
     W: Sink,
 >(rt: &R, alloc: A, workers: u32, watch: &G, source: &mut S, sink: &mut W) -> Result<(), LoadFault>
-    ensures short { OnOk result (IfSome (S.state source.old).rest (λ text. length text ≤ input_limit)) }
-    ensures valid { OnOk result (IfSome (S.state source.old).rest (λ text. IsOk (load_of A text))) }
-    ensures written { OnOk result (IfSome (S.state source.old).rest (λ text.
+    ensures short { OnOk result (
+        IfSome (text_between (S.state source.old) (S.state source.new)) (λ text. length text ≤ input_limit)) }
+    ensures valid { OnOk result (
+        IfSome (text_between (S.state source.old) (S.state source.new)) (λ text. IsOk (load_of A text))) }
+    ensures written { OnOk result (IfSome (text_between (S.state source.old) (S.state source.new)) (λ text.
         AppendsLoad A workers text (W.state sink.old).written (W.state sink.new).written)) }
     ensures unfailed { OnOk result (NoneFailed
         (streams (S.state source.old) (S.state source.new) (W.state sink.old) (W.state sink.new))) }
-    ensures stopped { IfErr result (λ fault. HasStopped A workers fault (S.state source.old).rest
+    ensures stopped { IfErr result (λ fault.
+        HasStopped A workers fault (text_between (S.state source.old) (S.state source.new))
         (W.state sink.old).written (W.state sink.new).written) }
     ensures fault { IfErr result (λ fault. IsLoadFault workers fault (load_of A)
         (streams (S.state source.old) (S.state source.new) (W.state sink.old) (W.state sink.new))) }

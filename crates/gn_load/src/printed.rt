@@ -1,9 +1,9 @@
 //! A history, written in blocks.
 
-ghost use Rattle.std.specs.Prelude.{◌≡◌, ◌++◌, IfErr, IfOk, OnErr, OnOk};
+ghost use Rattle.std.specs.Prelude.{◌≡◌, ◌<◌, ◌++◌, length, IfErr, IfOk, OnErr, OnOk};
 ghost use Rattle.std.specs.Io.KnownBytes.{Appends};
 ghost use Rattle.gn_capture.specs.Histories.{history_text, steps_text};
-ghost use Rattle.gn_io.specs.Parts.{AppendsPart, LeavesToWrite};
+ghost use Rattle.gn_io.specs.Parts.{AppendsPart, LeavesToWrite, block_size};
 ghost use Rattle.gn_io.specs.Streams.{NoWriteFailed};
 ghost use Rattle.gn_load.specs.Printed.{IsPrintFault};
 ghost use Rattle.gn_text.specs.Header.{header_text};
@@ -55,6 +55,7 @@ fn print_long<B: Allocator, W: Sink>(
 ) -> Result<(), PrintFault>
     ensures ok { OnOk result (LeavesToWrite (W.state sink.old).written (W.state sink.new).written block.new
         (block.old ++ line.now)) }
+    ensures small { OnOk result (length block.new < block_size) }
     ensures err { OnErr result (AppendsPart (W.state sink.old).written (W.state sink.new).written
         (block.old ++ line.now)) }
     ensures cause { IfErr result (λ fault. IsPrintFault fault (W.state sink.old) (W.state sink.new)) }
@@ -74,6 +75,7 @@ fn print_step<A: Allocator, B: Allocator, W: Sink>(
 ) -> Result<(), PrintFault>
     ensures ok { OnOk result (LeavesToWrite (W.state sink.old).written (W.state sink.new).written block.new
         (block.old ++ step_text step.now)) }
+    ensures small { OnOk result (length block.new < block_size) }
     ensures err { OnErr result (AppendsPart (W.state sink.old).written (W.state sink.new).written
         (block.old ++ step_text step.now)) }
     ensures cause { IfErr result (λ fault. IsPrintFault fault (W.state sink.old) (W.state sink.new)) }
@@ -98,6 +100,7 @@ fn print_steps<A: Allocator, B: Allocator, W: Sink>(
 ) -> Result<(), PrintFault>
     ensures ok { OnOk result (LeavesToWrite (W.state sink.old).written (W.state sink.new).written block.new
         (block.old ++ steps_text steps.now)) }
+    ensures small { OnOk result (length block.old < block_size → length block.new < block_size) }
     ensures err { OnErr result (AppendsPart (W.state sink.old).written (W.state sink.new).written
         (block.old ++ steps_text steps.now)) }
     ensures cause { IfErr result (λ fault. IsPrintFault fault (W.state sink.old) (W.state sink.new)) }

@@ -1,14 +1,17 @@
 //! A run over TCP, and the history of it, written.
 
-ghost use Rattle.std.specs.Prelude.{◌≡◌, ◌+◌, ◌≤◌, ◌↔◌, length, reverse, IfErr, IfOk, IfSome, OnOk};
+ghost use Rattle.std.specs.Prelude.{◌≡◌, ◌≢◌, ◌+◌, ◌≤◌, ◌↔◌, [], true, length, reverse, IfErr, IfOk, IfSome, OnOk};
 ghost use Rattle.gn_rules.specs.Answer.{IsLegal};
 ghost use Rattle.std.specs.Io.KnownBytes.{Appends};
 ghost use Rattle.gn_capture.specs.Histories.{history_text};
 ghost use Rattle.gn_io.specs.Streams.{NoWriteFailed};
 ghost use Rattle.gn_rules.specs.Limits.{IsCrew, most_links};
-ghost use Rattle.gn_threads.specs.declared.fault.RunFault.TheVariants.{BadWorkers};
+ghost use Rattle.gn_threads.specs.declared.fault.RunFault.TheVariants.{BadWorkers, HistoryFull};
+ghost use Rattle.gn_threads.specs.Headline.{AreMadeOf, AreOfOne, Holds};
+ghost use Rattle.gn_service.specs.Links.{origins_of, roles_of};
+ghost use Rattle.gn_tcp.specs.Tcp.{half_read, half_written};
 ghost use Rattle.gn_load.specs.declared.serve_fault.ServeFault.TheVariants.{Run};
-ghost use Rattle.gn_load.specs.Served.{AppendsServed, HasKept, HasServeStopped, IsServeFault};
+ghost use Rattle.gn_load.specs.Served.{AppendsServed, AppendsServedPart, HasKept, HasServeStopped, IsServeFault};
 
 use crate::printed::{PrintFault, print_history};
 use crate::serve_fault::ServeFault;
@@ -21,23 +24,25 @@ use std::sync::Wait;
 use std::thread::Threads;
 use std::time::Clock;
 
-/// Writes what stands of the history of a run that stopped after its first step, where it is to be kept. That it can't be
-/// written changes no fault.
+/// Writes what stands of the history of a run that stopped at this fault after its first step, where it is to be kept: all of it, but
+/// at an `Err`.
 fn print_kept<A: Allocator + Copy, W: Sink>(
     alloc: A,
     config: &Config,
     is_kept: bool,
+    fault: RunFault,
     history: Option<Vec<Step<A>, A>>,
     sink: &mut W,
-)
-    requires { IfSome history (λ steps. IsLegal config.now (reverse steps.items)) }
-    ensures { HasKept A is_kept config.now (W.state sink.old).written (W.state sink.new).written }
+) -> Result<(), PrintFault>
+    requires legal { IfSome history (λ steps. IsLegal config.now (reverse steps.items)) }
+    requires full { fault ≡ HistoryFull → IfSome history (λ steps. length steps.items ≡ config.now.numbers.steps) }
+    ensures whole { OnOk result (is_kept ≡ true → IfSome history (λ steps. steps.items ≢ []
+        → Appends (W.state sink.old).written (W.state sink.new).written (history_text config.now steps.items))) }
+    ensures kept { HasKept A is_kept config.now fault (W.state sink.old).written (W.state sink.new).written }
 {
-    let Some(steps) = history else {
-        return;
-    };
-    if is_kept && !steps.is_empty() {
-        let _ = print_history(alloc, config, &steps, sink);
+    match history {
+        Some(steps) if is_kept && !steps.is_empty() => print_history(alloc, config, &steps, sink),
+        _ => Ok(()),
     }
 }
 
@@ -68,13 +73,18 @@ pub fn serve_history<
     ensures bad_workers { IfErr result (λ fault. (fault ≡ Run BadWorkers) ↔ (¬ IsCrew workers)) }
     ensures fault { IfErr result (λ fault. IsCrew workers → IsServeFault (length peers.now + accept) workers fault
         (W.state sink.old) (W.state sink.new)) }
-    ensures written { OnOk result (AppendsServed A config.now (length peers.now) accept workers
+    ensures written { OnOk result (AppendsServed A config.now peers.now accept workers
         (W.state sink.old).written (W.state sink.new).written) }
     ensures report { IfOk result (λ report. Appends (W.state sink.old).written (W.state sink.new).written
         (history_text config.now report.history.items)) }
     ensures unfailed { OnOk result (NoWriteFailed (W.state sink.old) (W.state sink.new)) }
-    ensures stopped { IfErr result (λ fault. HasServeStopped A serving.now.is_kept config.now (length peers.now) accept workers fault
-        (W.state sink.old).written (W.state sink.new).written) }
+    ensures holds { IfOk result (λ report. Holds half_read half_written config.now
+        (roles_of (length peers.now) (length peers.now + accept)) workers report) }
+    ensures made { IfOk result (λ report. AreMadeOf (λ half. half.origin) (λ half. half.origin)
+        (origins_of peers.now (length peers.now + accept)) report) }
+    ensures one_socket { IfOk result (λ report. AreOfOne (λ half. half.socket) (λ half. half.socket) report) }
+    ensures stopped { IfErr result (λ fault. HasServeStopped A (AppendsServedPart A config.now peers.now accept workers)
+        serving.now.is_kept config.now fault (W.state sink.old).written (W.state sink.new).written) }
 {
     let answer = serve_kept::<C, G, A, R>(
         rt, alloc, listener, config, accept, peers, serving, workers, watch,
@@ -83,7 +93,8 @@ pub fn serve_history<
     let report = match answer {
         Ok(report) => report,
         Err(Stopped { fault, history }) => {
-            print_kept(alloc, config, serving.is_kept, history, sink);
+            // that it can't be written changes no fault
+            let _ = print_kept(alloc, config, serving.is_kept, fault, history, sink);
             return Err(ServeFault::Run(fault));
         }
     };

@@ -1,12 +1,13 @@
 -- What a command does: what replay, audit, show, load or serve answers to its input and output, and the status that stands for it.
-use Rattle.std.specs.Prelude.{◌≡◌, ◌≢◌, ◌⊎◌, ◌≤◌, ◌+◌, ◌∷◌, [], ℕ, length, IfSome, IsOk, Result, Ok, Err, IfOk, IfErr, OnOk}
+use Rattle.std.specs.Prelude.{◌≡◌, ◌≢◌, ◌⊎◌, ◌≤◌, ◌+◌, ◌∷◌, [], ℕ, List, Option, length, IfSome, IsOk, Result, Ok, Err, IfOk, IfErr, OnOk}
 use Rattle.std.specs.declared.alloc.Global.{Global}
+use Rattle.std.specs.declared.net.socket_addr.SocketAddr.{SocketAddr}
 use Rattle.clap.specs.declared.error.kind.ErrorKind.{ErrorKind}
 use Rattle.clap.specs.declared.error.kind.ErrorKind.TheVariants.{DisplayHelp, DisplayVersion, OutOfMemory}
 use Rattle.gn_replay.specs.Faults.{IsAnswerOn}
 use Rattle.gn_replay.specs.declared.fault.ReplayFault.{ReplayFault}
 use Rattle.gn_io.specs.Input.{input_limit}
-use Rattle.gn_io.specs.Streams.{NoneFailed, NoWriteFailed, SinkState, Streams}
+use Rattle.gn_io.specs.Streams.{NoneFailed, NoWriteFailed, SinkState, Streams, text_of}
 use Rattle.gn_capture.specs.Captures.{capture_of}
 use Rattle.gn_replay.specs.Replays.{AppendsReplay, HasStopped, IsCounted}
 use Rattle.gn_replay.specs.declared.replays.Exit.{Exit}
@@ -19,7 +20,8 @@ use Rattle.gn_show.specs.declared.form.View.{View}
 use Rattle.gn_load.specs.Faults.{IsLoadFault}
 use Rattle.gn_load.specs.Loads.{AppendsLoad, HasStopped as HasLoadStopped, load_of}
 use Rattle.gn_load.specs.declared.fault.LoadFault.{LoadFault}
-use Rattle.gn_load.specs.Served.{AppendsServed, HasServeStopped, IsServeFault}
+use Rattle.gn_load.specs.Served.{AppendsServed, AppendsServedPart, HasServeStopped, IsServeFault}
+use Rattle.gn_program.specs.Peers.{AreAt}
 use Rattle.gn_load.specs.declared.serve_fault.ServeFault.{ServeFault}
 use Rattle.gn_rules.specs.Settings.{IsMadeOf}
 use Rattle.gn_rules.specs.declared.config.Config.{Config}
@@ -35,52 +37,52 @@ use Rattle.gn_words.specs.declared.request.Request.TheVariants.{Replay, History,
 -- the text
 pub record IsReplayAnswer (s : Streams) (answer : Result Exit ReplayFault) : Type 0 where
   pub answered : IsAnswerOn (capture_of {A = Global}) s answer
-  pub written : OnOk answer (IfSome s.source.rest (λ text.
+  pub written : OnOk answer (IfSome (text_of s) (λ text.
       AppendsReplay Global text s.sink.written s.sink_new.written))
-  pub counted : IfOk answer (λ exit. IfSome s.source.rest (λ text. IsCounted Global text exit))
-  pub stopped : IfErr answer (λ fault. HasStopped Global fault s.source.rest s.sink.written s.sink_new.written)
+  pub counted : IfOk answer (λ exit. IfSome (text_of s) (λ text. IsCounted Global text exit))
+  pub stopped : IfErr answer (λ fault. HasStopped Global fault (text_of s) s.sink.written s.sink_new.written)
 
 -- what replay_history answers: as replay, with the history text of the input in place of its replay text
 pub record IsHistoryAnswer (s : Streams) (answer : Result Exit ReplayFault) : Type 0 where
   pub answered : IsAnswerOn (capture_of {A = Global}) s answer
-  pub written : OnOk answer (IfSome s.source.rest (λ text.
+  pub written : OnOk answer (IfSome (text_of s) (λ text.
       AppendsHistory Global text s.sink.written s.sink_new.written))
-  pub counted : IfOk answer (λ exit. IfSome s.source.rest (λ text. IsCounted Global text exit))
-  pub stopped : IfErr answer (λ fault. HasHistoryStopped Global fault s.source.rest s.sink.written s.sink_new.written)
+  pub counted : IfOk answer (λ exit. IfSome (text_of s) (λ text. IsCounted Global text exit))
+  pub stopped : IfErr answer (λ fault. HasHistoryStopped Global fault (text_of s) s.sink.written s.sink_new.written)
 
 -- what audit answers: the input was a history, no longer than it may be, and the line of its verdict was written; or it
 -- stopped, at a fault that the streams confirm, and what was written then is a prefix of the line
 pub record IsAuditAnswer (s : Streams) (answer : Result Legality ReplayFault) : Type 0 where
   pub answered : IsAnswerOn (history_of {A = Global}) s answer
-  pub written : IfOk answer (λ legality. IfSome s.source.rest (λ text.
+  pub written : IfOk answer (λ legality. IfSome (text_of s) (λ text.
       AppendsVerdict Global text legality s.sink.written s.sink_new.written))
-  pub stopped : IfErr answer (λ fault. HasAuditStopped Global fault s.source.rest s.sink.written s.sink_new.written)
+  pub stopped : IfErr answer (λ fault. HasAuditStopped Global fault (text_of s) s.sink.written s.sink_new.written)
 
 -- what audit_explained answers: as audit, with the lines that explain a wrong step after the line of the verdict
 pub record IsExplainAnswer (s : Streams) (answer : Result Legality ReplayFault) : Type 0 where
   pub answered : IsAnswerOn (history_of {A = Global}) s answer
-  pub written : IfOk answer (λ legality. IfSome s.source.rest (λ text.
+  pub written : IfOk answer (λ legality. IfSome (text_of s) (λ text.
       AppendsExplained Global text legality s.sink.written s.sink_new.written))
-  pub stopped : IfErr answer (λ fault. HasExplainedStopped Global fault s.source.rest s.sink.written s.sink_new.written)
+  pub stopped : IfErr answer (λ fault. HasExplainedStopped Global fault (text_of s) s.sink.written s.sink_new.written)
 
 -- what show answers: the input was a history, no longer than it may be, and what is shown of it was written; or it stopped,
 -- at a fault that the streams confirm, and what was written then is a prefix of that
 pub record IsShowAnswer (view : View) (s : Streams) (answer : Result (Unit {0}) ReplayFault) : Type 0 where
   pub answered : IsAnswerOn (history_of {A = Global}) s answer
-  pub written : OnOk answer (IfSome s.source.rest (λ text. AppendsShown view text s.sink.written s.sink_new.written))
-  pub stopped : IfErr answer (λ fault. HasShowStopped view fault s.source.rest s.sink.written s.sink_new.written)
+  pub written : OnOk answer (IfSome (text_of s) (λ text. AppendsShown view text s.sink.written s.sink_new.written))
+  pub stopped : IfErr answer (λ fault. HasShowStopped view fault (text_of s) s.sink.written s.sink_new.written)
 
 -- what load answers: the input was a capture of lines that a load takes, no longer than it may be, no read and no write
 -- failed, and the history of a run with so many workers over the links of those lines was written; or it stopped, at a
 -- fault that the streams confirm, and what was written then is a prefix of such a history
 pub record IsLoadAnswer (workers : ℕ) (s : Streams) (answer : Result (Unit {0}) LoadFault) : Type 0 where
-  pub short : OnOk answer (IfSome s.source.rest (λ text. length text ≤ input_limit))
-  pub valid : OnOk answer (IfSome s.source.rest (λ text. IsOk (load_of Global text)))
+  pub short : OnOk answer (IfSome (text_of s) (λ text. length text ≤ input_limit))
+  pub valid : OnOk answer (IfSome (text_of s) (λ text. IsOk (load_of Global text)))
   pub unfailed : OnOk answer (NoneFailed s)
-  pub written : OnOk answer (IfSome s.source.rest (λ text.
+  pub written : OnOk answer (IfSome (text_of s) (λ text.
       AppendsLoad Global workers text s.sink.written s.sink_new.written))
   pub stopped :
-      IfErr answer (λ fault. HasLoadStopped Global workers fault s.source.rest s.sink.written s.sink_new.written)
+      IfErr answer (λ fault. HasLoadStopped Global workers fault (text_of s) s.sink.written s.sink_new.written)
   pub fault : IfErr answer (λ fault. IsLoadFault workers fault (load_of Global) s)
 
 -- the own servent of a router that serves: it is on the port of 127.0.0.1 that is asked for, and shares nothing
@@ -108,18 +110,29 @@ IsServing serving settings =
       crowd = serving.crowd;
     }) (own_served serving)
 
--- what serve answers: no write failed, and the history of a run with so many workers, over links to the peers that are
--- called and to so many that call, was written; or it stopped, and what was written then is a prefix of such a history, or of
+-- known bytes grew by the history of a run with so many workers, over links to the peers of the words, which are called, and to so
+-- many that call
+abbrev pub AppendsAsked : AskedServe → Config → Option (List ℕ) → Option (List ℕ) → Type 0
+AppendsAsked serving settings old new =
+    (called : List SocketAddr) × AreAt serving.peers called
+    × AppendsServed Global settings called serving.accept serving.workers old new
+
+-- known bytes grew by a prefix of such a history
+abbrev pub AppendsAskedPart : AskedServe → Config → Option (List ℕ) → Option (List ℕ) → Type 0
+AppendsAskedPart serving settings old new =
+    (called : List SocketAddr) × AreAt serving.peers called
+    × AppendsServedPart Global settings called serving.accept serving.workers old new
+
+-- what serve answers: no write failed, and the history of a run with so many workers, over links to the peers of the words, which
+-- are called, and to so many that call, was written; or it stopped, and what was written then is a prefix of such a history, or of
 -- one that is kept
 pub record IsServeAnswer (serving : AskedServe) (sink sink_new : SinkState) (answer : Result (Unit {0}) ServeFault) : Type 0 where
   pub settings : Config
   pub configured : IsServing serving settings
   pub unfailed : OnOk answer (NoWriteFailed sink sink_new)
-  pub written : OnOk answer (AppendsServed Global settings (length serving.peers) serving.accept serving.workers
-      sink.written sink_new.written)
-  pub stopped : IfErr answer (λ fault.
-      HasServeStopped Global serving.keeps settings (length serving.peers) serving.accept serving.workers fault sink.written
-      sink_new.written)
+  pub written : OnOk answer (AppendsAsked serving settings sink.written sink_new.written)
+  pub stopped : IfErr answer (λ fault. HasServeStopped Global (AppendsAskedPart serving settings) serving.keeps settings
+      fault sink.written sink_new.written)
   pub fault : IfErr answer (λ fault.
       IsServeFault (length serving.peers + serving.accept) serving.workers fault sink sink_new)
 

@@ -1,5 +1,5 @@
 -- The peers of a serve at their addresses.
-use Rattle.std.specs.Prelude.{Option, Some, None}
+use Rattle.std.specs.Prelude.{◌≡◌, List, Option, Some, None, map}
 use Rattle.std.specs.declared.net.socket_addr.SocketAddr.{SocketAddr}
 use Rattle.std.specs.declared.net.socket_addr.SocketAddr.TheVariants.{V4, V6}
 use Rattle.std.specs.Net.Addr.{ipv4_octets}
@@ -10,3 +10,7 @@ use Rattle.gn_words.specs.declared.request.Peer.{Peer}
 abbrev pub peer_at : SocketAddr → Option Peer
 peer_at (V4 address) = Some (record { ip = ipv4_octets (v4_ip address); port = v4_port address })
 peer_at (V6 address) = None
+
+-- the addresses of these peers, in order
+abbrev pub AreAt : List Peer → List SocketAddr → Type 0
+AreAt peers addresses = map peer_at addresses ≡ map Some peers

@@ -15,6 +15,7 @@ ghost use Rattle.gn_words.specs.declared.request.Request.{Request as Asked};
 use crate::fault::Fault;
 use crate::serves::serve;
 use crate::text::write_text;
+use crate::told::Told;
 use crate::unwatched::Unwatched;
 use clap::Error;
 use clap::error::ErrorKind;
@@ -93,13 +94,17 @@ fn end_load<F: Sink>(faults: &mut F, answer: Result<(), LoadFault>) -> u8
     }
 }
 
-/// The status after a serve, whose fault is written.
-fn end_serve<F: Sink>(faults: &mut F, answer: Result<(), ServeFault>) -> u8
+/// The status after a serve, whose fault is written, and below it what the system said.
+fn end_serve<F: Sink>(faults: &mut F, answer: Result<(), ServeFault>, told: Told) -> u8
     ensures { result ≡ serve_status answer }
 {
     match answer {
         Ok(()) => DONE,
-        Err(fault) => write_fault(faults, Fault::from(fault)),
+        Err(fault) => {
+            let status = write_fault(faults, Fault::from(fault));
+            let _ = write_text(faults, told);
+            status
+        }
     }
 }
 
@@ -171,12 +176,14 @@ fn obey<
         }
         Request::Watched(workers) => load(rt, alloc, workers, watch, reader, writer, faults),
         Request::Serve(serving) if serving.progress => {
-            let answer = serve(rt, alloc, &serving, watch, writer, faults);
-            end_serve(faults, answer)
+            let mut told = Told::Nothing;
+            let answer = serve(rt, alloc, &serving, watch, writer, faults, &mut told);
+            end_serve(faults, answer, told)
         }
         Request::Serve(serving) => {
-            let answer = serve(rt, alloc, &serving, &NoGate, writer, faults);
-            end_serve(faults, answer)
+            let mut told = Told::Nothing;
+            let answer = serve(rt, alloc, &serving, &NoGate, writer, faults, &mut told);
+            end_serve(faults, answer, told)
         }
     }
 }

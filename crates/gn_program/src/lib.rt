@@ -7,6 +7,7 @@ mod fault;
 mod reports;
 mod serves;
 mod text;
+mod told;
 mod unwatched;
 
 pub use commands::{command, command_with, refuse_words};

@@ -1,10 +1,14 @@
 //! What became of the links of a run, as it is written.
 
+ghost use Rattle.std.specs.Prelude.{◌≡◌};
+ghost use Rattle.gn_program.specs.Reports.{counts_of, is_offer, is_refusal, is_taking, line_counts};
+ghost use Rattle.gn_program.specs.Reports as texts;
+
 use crate::text::write_text;
 use gn_bodies::{ReaderEnd, WriterEnd};
 use gn_io::{Sink, write_all};
 use gn_report::{LinkReport, Report};
-use gn_rules::{ConnId, Receipt, Reply};
+use gn_rules::{ConnId, Event, Receipt, Reply};
 use gn_tcp::{TcpReader, TcpWriter};
 use gn_text::push_stats;
 use std::alloc::Global;
@@ -12,64 +16,139 @@ use std::fmt;
 use std::fmt::{Display, Formatter, Write};
 use std::net::SocketAddr;
 
-/// What the router did for a link.
+/// What the router did for a link, by the receipts of one of its two threads or of both.
 #[derive(Clone, Copy, Debug)]
-struct EventCounts {
+pub(crate) struct EventCounts {
     /// Descriptors that the link brought.
-    offered: u32,
-    /// Those among them that were refused at the threshold.
-    busy: u32,
+    pub(crate) offered: u64,
+    /// Those among them that were refused at a threshold, that of all or the link's own.
+    pub(crate) busy: u64,
     /// Packets that its writer took.
-    taken: u32,
+    pub(crate) taken: u64,
 }
 
-impl EventCounts {
-    fn count(&mut self, receipts: &[Receipt]) {
-        for receipt in receipts {
-            match receipt.reply {
-                Reply::Admitted(_) => self.offered = self.offered.saturating_add(1),
-                Reply::Busy => {
-                    self.offered = self.offered.saturating_add(1);
-                    self.busy = self.busy.saturating_add(1);
-                }
-                Reply::Taken(_) => self.taken = self.taken.saturating_add(1),
-                _ => {}
-            }
-        }
-    }
-}
+impl Display for EventCounts {
+    ghost use Rattle.std.specs.Prelude.{Some};
+    ghost use Rattle.gn_program.specs.Reports.{counts_text};
 
-/// The line of a link.
-#[derive(Clone, Copy, Debug)]
-struct LinkLine {
-    link: usize,
-    peer: SocketAddr,
-    conn: Option<ConnId>,
-    reader_end: ReaderEnd,
-    writer_end: WriterEnd,
-    counts: EventCounts,
-}
+    ghost output = { λ counts. Some (counts_text counts) };
 
-impl Display for LinkLine {
     fn fmt<W: Write>(&self, f: &mut Formatter<W>) -> fmt::Result {
-        write!(f, "link {} {} connection ", self.link, self.peer)?;
-        match self.conn {
-            Some(conn) => write!(f, "{conn}")?,
-            None => f.write_str("-")?,
-        }
-        let reader = reader_word(self.reader_end);
-        let writer = writer_word(self.writer_end);
-        write!(f, " reader {reader} writer {writer}")?;
-        let EventCounts {
-            offered,
-            busy,
-            taken,
-        } = self.counts;
-        writeln!(f, " offered {offered} busy {busy} taken {taken}")
+        write!(
+            f,
+            "offered {} busy {} taken {}",
+            self.offered, self.busy, self.taken
+        )
     }
 }
 
-fn reader_word(end: ReaderEnd) -> &'static str {
+/// Whether a link brings a descriptor by this event.
+fn is_offer(event: &Event) -> bool
+    ensures { result ≡ is_offer event.now }
+{
+    matches!(event, Event::Admit(..))
+}
+
+/// Whether a descriptor is refused at a threshold by this reply.
+fn is_refusal(reply: &Reply) -> bool
+    ensures { result ≡ is_refusal reply.now }
+{
+    matches!(reply, Reply::Busy | Reply::Crowded)
+}
+
+/// Whether a packet is taken by this reply.
+fn is_taking(reply: &Reply) -> bool
+    ensures { result ≡ is_taking reply.now }
+{
+    matches!(reply, Reply::Taken(_))
+}
+
+/// What these receipts count.
+fn counts_of(receipts: &[Receipt]) -> EventCounts
+    ensures { result ≡ counts_of receipts.now }
+{
+    let mut offered = 0;
+    let mut busy = 0;
+    let mut taken = 0;
+    for receipt in receipts {
+        if is_offer(&receipt.event) {
+            offered += 1;
+        }
+        if is_refusal(&receipt.reply) {
+            busy += 1;
+        }
+        if is_taking(&receipt.reply) {
+            taken += 1;
+        }
+    }
+    EventCounts {
+        offered,
+        busy,
+        taken,
+    }
+}
+
+/// Which link it is: its number, its peer, and its connection, where it got one.
+#[derive(Clone, Copy, Debug)]
+pub(crate) struct Named {
+    pub(crate) link: usize,
+    pub(crate) peer: SocketAddr,
+    pub(crate) conn: Option<ConnId>,
+}
+
+/// A connection's number, or that there is none.
+#[derive(Clone, Copy, Debug)]
+struct Numbered(Option<ConnId>);
+
+impl Display for Numbered {
+    ghost use Rattle.std.specs.Prelude.{Some};
+    ghost use Rattle.gn_program.specs.Reports.{conn_text};
+
+    ghost output = { λ conn. Some (conn_text conn.0) };
+
+    fn fmt<W: Write>(&self, f: &mut Formatter<W>) -> fmt::Result {
+        match self.0 {
+            Some(conn) => write!(f, "{conn}"),
+            None => f.write_str("-"),
+        }
+    }
+}
+
+impl Display for Named {
+    ghost use Rattle.std.specs.Prelude.{Some};
+    ghost use Rattle.gn_program.specs.Reports.{named_text};
+
+    ghost output = { λ named. Some (named_text named) };
+
+    fn fmt<W: Write>(&self, f: &mut Formatter<W>) -> fmt::Result {
+        let conn = Numbered(self.conn);
+        write!(f, "link {} {} connection {conn}", self.link, self.peer)
+    }
+}
+
+/// How a link's two threads ended.
+#[derive(Clone, Copy, Debug)]
+pub(crate) struct Ends {
+    pub(crate) reader: ReaderEnd,
+    pub(crate) writer: WriterEnd,
+}
+
+impl Display for Ends {
+    ghost use Rattle.std.specs.Prelude.{Some};
+    ghost use Rattle.gn_program.specs.Reports.{ends_text};
+
+    ghost output = { λ ends. Some (ends_text ends) };
+
+    fn fmt<W: Write>(&self, f: &mut Formatter<W>) -> fmt::Result {
+        let reader = reader_word(self.reader);
+        let writer = writer_word(self.writer);
+        write!(f, "reader {reader} writer {writer}")
+    }
+}
+
+fn reader_word(end: ReaderEnd) -> &'static str
+    ensures { result.now ≡ texts.reader_word end }
+{
     match end {
         ReaderEnd::Bytes => "bytes",
         ReaderEnd::Fault(_) => "fault",
@@ -82,7 +161,9 @@ fn reader_word(end: ReaderEnd) -> &'static str {
     }
 }
 
-fn writer_word(end: WriterEnd) -> &'static str {
+fn writer_word(end: WriterEnd) -> &'static str
+    ensures { result.now ≡ texts.writer_word end }
+{
     match end {
         WriterEnd::Drained => "drained",
         WriterEnd::WriteFailed => "failed",
@@ -91,26 +172,50 @@ fn writer_word(end: WriterEnd) -> &'static str {
     }
 }
 
-/// The line of this link.
-fn line_of(link: usize, report: &LinkReport<TcpReader<'_>, TcpWriter>) -> LinkLine {
-    let mut counts = EventCounts {
-        offered: 0,
-        busy: 0,
-        taken: 0,
-    };
-    counts.count(&report.reader_receipts);
-    counts.count(&report.writer_receipts);
-    LinkLine {
-        link,
-        peer: report.reader.peer(),
-        conn: report.conn,
-        reader_end: report.reader_end,
-        writer_end: report.writer_end,
-        counts,
+/// The line of a link.
+#[derive(Clone, Copy, Debug)]
+pub(crate) struct LinkLine {
+    pub(crate) named: Named,
+    pub(crate) ends: Ends,
+    pub(crate) counts: EventCounts,
+}
+
+impl Display for LinkLine {
+    ghost use Rattle.std.specs.Prelude.{Some};
+    ghost use Rattle.gn_program.specs.Reports.{link_text};
+
+    ghost output = { λ line. Some (link_text line) };
+
+    fn fmt<W: Write>(&self, f: &mut Formatter<W>) -> fmt::Result {
+        writeln!(f, "{} {} {}", self.named, self.ends, self.counts)
     }
 }
 
-/// Writes a line for each link, and the counters. That it can't be written, or there is no memory for the counters' line,
+/// The line of this link: what its reader brought, and what its writer took.
+fn line_of(link: usize, report: &LinkReport<TcpReader<'_>, TcpWriter>) -> LinkLine
+    ensures link { result.named.link ≡ link }
+    ensures conn { result.named.conn ≡ report.now.conn }
+    ensures reader { result.ends.reader ≡ report.now.reader_end }
+    ensures writer { result.ends.writer ≡ report.now.writer_end }
+    ensures counts { result.counts ≡ line_counts report.now.reader_receipts.items report.now.writer_receipts.items }
+{
+    let brought = counts_of(&report.reader_receipts);
+    let EventCounts { taken, .. } = counts_of(&report.writer_receipts);
+    LinkLine {
+        named: Named {
+            link,
+            peer: report.reader.peer(),
+            conn: report.conn,
+        },
+        ends: Ends {
+            reader: report.reader_end,
+            writer: report.writer_end,
+        },
+        counts: EventCounts { taken, ..brought },
+    }
+}
+
+/// Writes a line for each link whose peer came, and the counters. That it can't be written, or there is no memory for the counters' line,
 /// changes nothing.
 pub(crate) fn write_report<F: Sink>(
     alloc: Global,
@@ -118,7 +223,9 @@ pub(crate) fn write_report<F: Sink>(
     report: &Report<TcpReader<'_>, TcpWriter>,
 ) {
     for (link, done) in report.links.iter().enumerate() {
-        let _ = write_text(faults, line_of(link, done));
+        if !done.reader.is_missing() {
+            let _ = write_text(faults, line_of(link, done));
+        }
     }
     let mut line = Vec::new(alloc);
     if push_stats(&mut line, &report.stats).is_ok() {

@@ -1,20 +1,23 @@
 //! A router that serves, as a command line asks for it.
 
-ghost use Rattle.std.specs.Prelude.{◌≡◌, ◌≢◌, ◌*◌, Some, length, map, IfOk, MatchOption};
+ghost use Rattle.std.specs.Prelude.{◌≡◌, ◌*◌, length, IfOk};
+ghost use Rattle.std.specs.Option.{IsSomeAnd};
+ghost use Rattle.std.specs.Bool.{then_some};
 ghost use Rattle.std.specs.Duration.{as_nanos};
 ghost use Rattle.gn_program.specs.Commands.{IsServeAnswer, IsServing};
-ghost use Rattle.gn_program.specs.Peers.{peer_at};
+ghost use Rattle.gn_program.specs.Limits.{IsLimit, IsStopOf, may_stop};
+ghost use Rattle.gn_program.specs.Peers.{AreAt};
 
 use crate::eof::stop_at_eof;
 use crate::reports::write_report;
 use crate::text::write_text;
+use crate::told::Told;
 use gn_io::Sink;
-use gn_links::Watch;
+use gn_links::{LinkFault, Watch};
 use gn_load::{ServeFault, serve_history};
 use gn_router::TableRouter;
 use gn_rules::{Config, Numbers, Own};
 use gn_service::{Serving, Stop};
-use gn_tcp::listen;
 use gn_threads::RunFault;
 use gn_words::{Peer, ServeOptions};
 use std::alloc::{AllocError, Global};
@@ -66,7 +69,7 @@ fn settings(serving: &ServeOptions) -> Config
 /// The addresses of peers, in order.
 fn addresses(alloc: Global, peers: &[Peer]) -> Result<Vec<SocketAddr>, AllocError>
     ensures many { IfOk result (λ addresses. length addresses.items ≡ length peers.now) }
-    ensures each { IfOk result (λ addresses. map peer_at addresses.items ≡ map Some peers.now) }
+    ensures each { IfOk result (λ addresses. AreAt peers.now addresses.items) }
 {
     let mut addresses = Vec::new(alloc);
     for peer in peers {
@@ -78,8 +81,7 @@ fn addresses(alloc: Global, peers: &[Peer]) -> Result<Vec<SocketAddr>, AllocErro
 
 /// The time limit of so many seconds; none, where there are none.
 fn limit(seconds: u32) -> Option<Duration>
-    ensures { MatchOption result (seconds ≡ 0)
-        (λ limit. (seconds ≢ 0) × (as_nanos limit ≡ seconds * 1_000_000_000)) }
+    ensures { IsLimit seconds result }
 {
     if seconds == 0 {
         None
@@ -89,17 +91,24 @@ fn limit(seconds: u32) -> Option<Duration>
 }
 
 /// Whether anything but its peers stops the router.
-fn may_stop(serving: &ServeOptions) -> bool {
+fn may_stop(serving: &ServeOptions) -> bool
+    ensures { result ≡ may_stop serving.now }
+{
     serving.seconds != 0 || serving.early || serving.until_eof
 }
 
 /// How long the router goes on and waits for its peers, and whether its history is kept.
 fn limits<'s>(serving: &ServeOptions, stop: &'s Stop) -> Serving<'s>
-    ensures { result.is_kept ≡ serving.now.keeps }
+    ensures idle { IsLimit serving.now.idle result.idle }
+    ensures retry { IsLimit serving.now.retry result.retry }
+    ensures grace { IsSomeAnd result.grace (λ time. as_nanos time ≡ serving.now.grace * 1_000_000_000) }
+    ensures stop { result.stop ≡ then_some (may_stop serving.now) stop.entry }
+    ensures kept { result.is_kept ≡ serving.now.keeps }
 {
     Serving {
         idle: limit(serving.idle),
         retry: limit(serving.retry),
+        grace: Some(Duration::from_secs(serving.grace as u64)),
         stop: may_stop(serving).then_some(stop),
         is_kept: serving.keeps,
     }
@@ -110,7 +119,9 @@ fn stop_of<R: Threads + Input<Reader = StdinLock<'static>>>(
     rt: &R,
     alloc: Global,
     serving: &ServeOptions,
-) -> Result<Arc<Stop, Global>, AllocError> {
+) -> Result<Arc<Stop, Global>, AllocError>
+    ensures { IfOk result (λ stop. IsStopOf serving.now stop.value) }
+{
     let stop = Arc::new(alloc, Stop::new(limit(serving.seconds), serving.early))?;
     if serving.until_eof {
         stop_at_eof(rt, &stop)?;
@@ -118,8 +129,24 @@ fn stop_of<R: Threads + Input<Reader = StdinLock<'static>>>(
     Ok(stop)
 }
 
+/// Listens on this port of 127.0.0.1. What the system said of it, where that fails, stays in `told`.
+fn listen<N: Net<Listener = TcpListener, Stream = TcpStream>>(
+    net: &N,
+    port: u16,
+    told: &mut Told,
+) -> Result<TcpListener, LinkFault> {
+    let here = SocketAddr::from((Ipv4Addr::LOCALHOST, port));
+    match net.bind(here) {
+        Ok(listener) => Ok(listener),
+        Err(why) => {
+            *told = Told::Listen(here, why.kind());
+            Err(LinkFault)
+        }
+    }
+}
+
 /// Listens, says so with the faults, runs the router, writes its history, and then what became of its links with the faults,
-/// where that is asked for. It is watched as it runs.
+/// where that is asked for. It is watched as it runs. What the system said of the port stays in `told`.
 pub(crate) fn serve<
     R: Threads
         + Wait
@@ -137,13 +164,14 @@ pub(crate) fn serve<
     watch: &G,
     writer: &mut W,
     faults: &mut F,
+    told: &mut Told,
 ) -> Result<(), ServeFault>
     ensures { IsServeAnswer serving.now (W.state writer.old) (W.state writer.new) result }
 {
     let config = settings(serving);
     let peers = addresses(alloc, &serving.peers)?;
     let stop = stop_of(rt, alloc, serving)?;
-    let Ok(listener) = listen(rt, serving.port) else {
+    let Ok(listener) = listen(rt, serving.port, told) else {
         return Err(ServeFault::Run(RunFault::Listen));
     };
     let _ = write_text(faults, Listening(serving.port));

@@ -32,6 +32,15 @@ pub(crate) struct Seen {
     pub(crate) steps: u32,
 }
 
+impl Seen {
+    /// All that was counted in one number, which rises with each count.
+    pub(crate) fn all(&self) -> u64 {
+        let jobs = u64::from(self.routed) + u64::from(self.admitted) + u64::from(self.busy);
+        jobs.saturating_add(u64::from(self.steps))
+            .saturating_add(self.links)
+    }
+}
+
 impl Counts {
     pub(crate) fn new() -> Self {
         Counts {

@@ -3,5 +3,7 @@
 
 mod counts;
 mod progress;
+mod screen;
 
 pub use progress::Progress;
+pub use screen::Screen;

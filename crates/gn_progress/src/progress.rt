@@ -1,24 +1,28 @@
 //! The gate of a run that says how far the run is.
 
 use crate::counts::{Counts, Seen};
+use crate::screen::Screen;
 use gn_links::{Gate, Half, Made, Watch};
 use std::alloc::{AllocError, Allocator};
-use std::io::{IsTerminal, Stderr, Write};
 use std::mem::ManuallyDrop;
 use std::net::SocketAddr;
 use std::sync::Wait;
 use std::sync::atomic::{AtomicBool, AtomicU32, AtomicU64, Ordering};
-use std::time::{Clock, Instant};
+use std::time::{Clock, Instant, SystemTime, UNIX_EPOCH};
 
 /// The clock is read at each so many jobs of a load, and steps of a serve.
 const LOOK: u32 = 64;
 
+/// Seconds of a day.
+const DAY: u64 = 86_400;
+
 /// A run's gate that holds nobody and counts who passes. Who finds that a second has gone by writes the line of that second: on
-/// a terminal over the line before, else below it. Of a serve it also writes each link that comes and each end.
+/// a terminal over the line before, else below it; and at the end the last one comes again, where something was done since.
+/// Of a serve it also writes each link that comes and each end. Each line has the time of day, in UTC.
 #[derive(Drop)]
-pub struct Progress<'r, R> {
+pub struct Progress<'r, R, O> {
     rt: &'r R,
-    out: Stderr,
+    out: O,
     start: Option<Instant>,
     counts: Counts,
     /// The most steps of a serve's history; 0: it is a load.
@@ -27,6 +31,8 @@ pub struct Progress<'r, R> {
     due: AtomicU64,
     /// Whether the last line is to be written over.
     is_open: AtomicBool,
+    /// What was counted, all in all, as the last line was written; 0: there was none.
+    said: AtomicU64,
 }
 
 /// Writes a number with a comma before each three digits.
@@ -72,9 +78,9 @@ fn half_word(half: Half) -> &'static str {
     }
 }
 
-impl<'r, R: Clock + AllocGlobal> Progress<'r, R> {
+impl<'r, R: Clock + AllocGlobal, O: Screen> Progress<'r, R, O> {
     /// Nothing has passed yet, and the first line is due in a second.
-    pub fn new(rt: &'r R, out: Stderr) -> Self {
+    pub fn new(rt: &'r R, out: O) -> Self {
         Progress {
             rt,
             out,
@@ -83,14 +89,28 @@ impl<'r, R: Clock + AllocGlobal> Progress<'r, R> {
             most: AtomicU32::new(0),
             due: AtomicU64::new(1),
             is_open: AtomicBool::new(false),
+            said: AtomicU64::new(0),
         }
     }
 
     /// Writes a text, where there was memory for it. That it can't be written changes nothing.
     fn write_text(&self, text: Result<String, AllocError>) {
         if let Ok(text) = text {
-            let _ = (&self.out).write_all(text.as_bytes());
+            self.out.show(text.as_str());
         }
+    }
+
+    /// Writes the time of day, where the clock can be read.
+    fn write_time<A: Allocator>(&self, text: &mut String<A>) -> Result<(), AllocError> {
+        let Ok(now) = SystemTime::now(self.rt) else {
+            return Ok(());
+        };
+        let Ok(since) = now.duration_since(UNIX_EPOCH) else {
+            return Ok(());
+        };
+        let seconds = since.as_secs() % DAY;
+        let (hours, minutes, seconds) = (seconds / 3_600, seconds / 60 % 60, seconds % 60);
+        write!(text, " at {hours:02}:{minutes:02}:{seconds:02}")
     }
 
     /// The beginning of a line that stays: below the last one.
@@ -104,14 +124,18 @@ impl<'r, R: Clock + AllocGlobal> Progress<'r, R> {
 
     fn came_line(&self, link: u32, peer: SocketAddr) -> Result<String, AllocError> {
         let mut text = self.below()?;
-        writeln!(text, "link {link} {peer} came")?;
+        write!(text, "link {link} {peer} came")?;
+        self.write_time(&mut text)?;
+        text.push('\n')?;
         Ok(text)
     }
 
     fn ended_line(&self, link: u32, half: Half) -> Result<String, AllocError> {
         let mut text = self.below()?;
         let half = half_word(half);
-        writeln!(text, "link {link} {half} ended")?;
+        write!(text, "link {link} {half} ended")?;
+        self.write_time(&mut text)?;
+        text.push('\n')?;
         Ok(text)
     }
 
@@ -121,6 +145,7 @@ impl<'r, R: Clock + AllocGlobal> Progress<'r, R> {
         let (link, offered) = self.counts.loudest();
         write!(text, "{part} of the steps: link {link} offered most, ")?;
         write_grouped(&mut text, u64::from(offered))?;
+        self.write_time(&mut text)?;
         text.push('\n')?;
         Ok(text)
     }
@@ -133,7 +158,10 @@ impl<'r, R: Clock + AllocGlobal> Progress<'r, R> {
             text.push('\r')?;
         }
         let most = self.most.load(Ordering::SeqCst);
-        write_seen(&mut text, &self.counts.seen(), most)?;
+        let seen = self.counts.seen();
+        self.said.store(seen.all(), Ordering::SeqCst);
+        write_seen(&mut text, &seen, most)?;
+        self.write_time(&mut text)?;
         if !is_over {
             text.push('\n')?;
         }
@@ -189,7 +217,7 @@ impl<'r, R: Clock + AllocGlobal> Progress<'r, R> {
     }
 }
 
-impl<'r, R: Clock + AllocGlobal> Gate for Progress<'r, R> {
+impl<'r, R: Clock + AllocGlobal, O: Screen> Gate for Progress<'r, R, O> {
     fn enter<W: Wait>(&self, _rt: &W, _worker: u32, _ticket: u32) {
         let routed = self.counts.add_routed();
         match self.most.load(Ordering::SeqCst) {
@@ -227,7 +255,7 @@ impl<'r, R: Clock + AllocGlobal> Gate for Progress<'r, R> {
     }
 }
 
-impl<'r, R: Clock + AllocGlobal> Watch for Progress<'r, R> {
+impl<'r, R: Clock + AllocGlobal, O: Screen> Watch for Progress<'r, R, O> {
     fn begin(&self, links: usize) {
         self.counts.set_links(links);
         self.look();
@@ -242,10 +270,14 @@ impl<'r, R: Clock + AllocGlobal> Watch for Progress<'r, R> {
         self.write_text(self.came_line(link, peer));
     }
 
-    /// On a terminal the last line is left.
+    /// The last line comes once more, where there was one and something was done since. On a terminal it is left.
     fn end(&self) {
+        let said = self.said.load(Ordering::SeqCst);
+        if said != 0 && said != self.counts.seen().all() {
+            self.write_text(self.line());
+        }
         if self.is_open.swap(false, Ordering::SeqCst) {
-            let _ = (&self.out).write_all(b"\n");
+            self.out.show("\n");
         }
     }
 

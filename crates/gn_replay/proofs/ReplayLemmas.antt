@@ -5,7 +5,7 @@ use Rattle.std.specs.Result.{IsErrAnd}
 use Rattle.gn_text.specs.declared.fault.CaptureFault.{CaptureFault}
 use Rattle.gn_io.specs.Input.{input_limit}
 use Rattle.gn_io.specs.Parts.{AppendsPart}
-use Rattle.gn_io.specs.Streams.{SinkState, SourceState, streams}
+use Rattle.gn_io.specs.Streams.{SinkState, SourceState, streams, text_between}
 use Rattle.gn_replay.specs.declared.fault.ReplayFault.{ReplayFault}
 use Rattle.gn_replay.specs.declared.fault.ReplayFault.TheVariants as fault
 use Rattle.gn_replay.specs.Faults.{IsReplayFault, input_of}
@@ -88,10 +88,10 @@ of_input_that Says text (Some bytes) is h = subst (λ (z : List ℕ). (length z 
 
 -- what was done with a text was done with the input that it is
 pub fault_of_input : {X : Type 0} (f : ReplayFault) (parsed : List ℕ → Result X CaptureFault) (text : List ℕ) (source source_new : SourceState) (sink sink_new : SinkState)
-    → IfSome source.rest (λ bytes. text ≡ bytes) → IsReplayFault f parsed (streams (input_of text) (input_of text) sink sink_new)
+    → IfSome (text_between source source_new) (λ bytes. text ≡ bytes) → IsReplayFault f parsed (streams (input_of text) (input_of text) sink sink_new)
     → IsReplayFault f parsed (streams source source_new sink sink_new)
 fault_of_input fault.Read parsed text source source_new sink sink_new is h = absurd (grind (arith, h))
 fault_of_input fault.TooLarge parsed text source source_new sink sink_new is h = absurd (grind (arith, h.given))
-fault_of_input (fault.Capture c) parsed text source source_new sink sink_new is h = of_input_that (λ z. parsed z ≡ Err c) text source.rest is h
-fault_of_input fault.Write parsed text source source_new sink sink_new is h = (of_input_that (λ z. IsOk (parsed z)) text source.rest is h.0, h.1)
+fault_of_input (fault.Capture c) parsed text source source_new sink sink_new is h = of_input_that (λ z. parsed z ≡ Err c) text (text_between source source_new) is h
+fault_of_input fault.Write parsed text source source_new sink sink_new is h = (of_input_that (λ z. IsOk (parsed z)) text (text_between source source_new) is h.0, h.1)
 fault_of_input fault.NoMemory parsed text source source_new sink sink_new is h = tt

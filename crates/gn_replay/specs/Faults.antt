@@ -1,12 +1,12 @@
 -- What replays and audits answer, and when they stop.
-use Rattle.std.specs.Prelude.{◌≡◌, ◌≤◌, ℕ, List, length, Some, IfErr, IfSome, IsOk, OnOk, Result, Err}
+use Rattle.std.specs.Prelude.{◌≡◌, ◌≤◌, ℕ, List, [], length, Some, IfErr, IfSome, IsOk, OnOk, Result, Err}
 use Rattle.gn_text.specs.declared.fault.CaptureFault.{CaptureFault}
 use Rattle.gn_text.specs.declared.fault.CaptureRefusal.{CaptureRefusal}
 use Rattle.gn_text.specs.declared.fault.CaptureRefusal.TheVariants as refusal
 use Rattle.gn_io.specs.declared.input.InputFault.{InputFault}
 use Rattle.gn_io.specs.declared.input.InputFault.TheVariants as input
 use Rattle.gn_io.specs.Input.{IsTooLarge, input_limit}
-use Rattle.gn_io.specs.Streams.{HasReadFailed, HasWriteFailed, NoneFailed, SourceState, Streams}
+use Rattle.gn_io.specs.Streams.{HasReadFailed, HasWriteFailed, NoneFailed, SourceState, Streams, text_of}
 use Rattle.gn_replay.specs.declared.fault.ReplayFault.{ReplayFault}
 use Rattle.gn_replay.specs.declared.fault.ReplayFault.TheVariants.{Read, TooLarge, Capture, Write, NoMemory}
 
@@ -23,11 +23,11 @@ of_refusal refusal.NoMemory = NoMemory
 
 -- a source that will give these bytes
 abbrev pub input_of : List ℕ → SourceState
-input_of text = record { rest = Some text; failures = 0; given = 0 }
+input_of text = record { rest = Some text; told = []; failures = 0; given = 0 }
 
--- an input, as far as it is known, is no longer than it may be, and what it says is this
-abbrev pub IsInputThat : SourceState → (List ℕ → Type 0) → Type 0
-IsInputThat source Says = IfSome source.rest (λ text. (length text ≤ input_limit) × Says text)
+-- an input is no longer than it may be, and what it says is this
+abbrev pub IsInputThat : Streams → (List ℕ → Type 0) → Type 0
+IsInputThat s Says = IfSome (text_of s) (λ text. (length text ≤ input_limit) × Says text)
 
 -- when each fault comes, where `parsed` is what a text says: Read where a read failed, TooLarge where there are more
 -- than 67,108,864 bytes, Capture with the very fault of an input that has no more, Write where a write failed or took
@@ -35,15 +35,15 @@ IsInputThat source Says = IfSome source.rest (λ text. (length text ≤ input_li
 abbrev pub IsReplayFault : {X : Type 0} → ReplayFault → (List ℕ → Result X CaptureFault) → Streams → Type 0
 IsReplayFault Read parsed s = HasReadFailed s.source s.source_new
 IsReplayFault TooLarge parsed s = IsTooLarge s.source s.source_new
-IsReplayFault (Capture fault) parsed s = IsInputThat s.source (λ text. parsed text ≡ Err fault)
-IsReplayFault Write parsed s = IsInputThat s.source (λ text. IsOk (parsed text)) × HasWriteFailed s.sink s.sink_new
+IsReplayFault (Capture fault) parsed s = IsInputThat s (λ text. parsed text ≡ Err fault)
+IsReplayFault Write parsed s = IsInputThat s (λ text. IsOk (parsed text)) × HasWriteFailed s.sink s.sink_new
 IsReplayFault NoMemory parsed s = Unit {0}
 
 -- what each replay and audit answers, where `parsed` is what a text says: at Ok the input is no longer than it may be
 -- and has no fault, and no read and no write failed; an Err is a fault that the streams confirm
 pub record IsAnswerOn {X T : Type 0} (parsed : List ℕ → Result X CaptureFault) (s : Streams)
     (answer : Result T ReplayFault) : Type 0 where
-  pub short : OnOk answer (IfSome s.source.rest (λ text. length text ≤ input_limit))
-  pub valid : OnOk answer (IfSome s.source.rest (λ text. IsOk (parsed text)))
+  pub short : OnOk answer (IfSome (text_of s) (λ text. length text ≤ input_limit))
+  pub valid : OnOk answer (IfSome (text_of s) (λ text. IsOk (parsed text)))
   pub unfailed : OnOk answer (NoneFailed s)
   pub fault : IfErr answer (λ fault. IsReplayFault fault parsed s)

@@ -3,7 +3,7 @@
 ghost use Rattle.std.specs.Prelude.{IfOk, IfErr, IfSome};
 ghost use Rattle.gn_replay.specs.Faults.{IsAnswerOn};
 ghost use Rattle.gn_capture.specs.Histories.{history_of};
-ghost use Rattle.gn_io.specs.Streams.{streams};
+ghost use Rattle.gn_io.specs.Streams.{streams, text_between};
 ghost use Rattle.gn_replay.specs.Audits.{AppendsVerdict, HasStopped};
 ghost use Rattle.gn_replay.specs.Explained.{AppendsExplained, HasExplainedStopped};
 
@@ -24,9 +24,9 @@ pub fn audit<A: Allocator + Copy, C: RouterCore<A> + Drop, S: Source, W: Sink>(
 ) -> Result<Legality, ReplayFault>
     ensures answer { IsAnswerOn (history_of {A = A})
         (streams (S.state source.old) (S.state source.new) (W.state sink.old) (W.state sink.new)) result }
-    ensures written { IfOk result (λ legality. IfSome (S.state source.old).rest (λ text.
+    ensures written { IfOk result (λ legality. IfSome (text_between (S.state source.old) (S.state source.new)) (λ text.
         AppendsVerdict A text legality (W.state sink.old).written (W.state sink.new).written)) }
-    ensures stopped { IfErr result (λ fault. HasStopped A fault (S.state source.old).rest
+    ensures stopped { IfErr result (λ fault. HasStopped A fault (text_between (S.state source.old) (S.state source.new))
         (W.state sink.old).written (W.state sink.new).written) }
 {
     let input = read_input(alloc, source)?;
@@ -45,9 +45,10 @@ pub fn audit_explained<A: Allocator + Copy, C: RouterCore<A> + Drop, S: Source, 
 ) -> Result<Legality, ReplayFault>
     ensures answer { IsAnswerOn (history_of {A = A})
         (streams (S.state source.old) (S.state source.new) (W.state sink.old) (W.state sink.new)) result }
-    ensures written { IfOk result (λ legality. IfSome (S.state source.old).rest (λ text.
+    ensures written { IfOk result (λ legality. IfSome (text_between (S.state source.old) (S.state source.new)) (λ text.
         AppendsExplained A text legality (W.state sink.old).written (W.state sink.new).written)) }
-    ensures stopped { IfErr result (λ fault. HasExplainedStopped A fault (S.state source.old).rest
+    ensures stopped { IfErr result (λ fault.
+        HasExplainedStopped A fault (text_between (S.state source.old) (S.state source.new))
         (W.state sink.old).written (W.state sink.new).written) }
 {
     let input = read_input(alloc, source)?;

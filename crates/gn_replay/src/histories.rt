@@ -3,7 +3,7 @@
 ghost use Rattle.std.specs.Prelude.{IfOk, IfErr, IfSome, IsOk, OnOk};
 ghost use Rattle.gn_text.specs.Faults.{IsRefused};
 ghost use Rattle.gn_replay.specs.Faults.{IsAnswerOn};
-ghost use Rattle.gn_io.specs.Streams.{streams};
+ghost use Rattle.gn_io.specs.Streams.{streams, text_between};
 ghost use Rattle.gn_capture.specs.Captures.{capture_of};
 ghost use Rattle.gn_replay.specs.ReplayHistory.{AppendsHistory, HasHistoryStopped, IsHistoryText};
 ghost use Rattle.gn_replay.specs.Replays.{IsCounted};
@@ -46,10 +46,12 @@ pub fn replay_history<A: Allocator + Copy, C: RouterCore<A> + Drop, S: Source, W
 ) -> Result<Exit, ReplayFault>
     ensures answer { IsAnswerOn (capture_of {A = A})
         (streams (S.state source.old) (S.state source.new) (W.state sink.old) (W.state sink.new)) result }
-    ensures written { OnOk result (IfSome (S.state source.old).rest (λ text.
+    ensures written { OnOk result (IfSome (text_between (S.state source.old) (S.state source.new)) (λ text.
         AppendsHistory A text (W.state sink.old).written (W.state sink.new).written)) }
-    ensures counted { IfOk result (λ exit. IfSome (S.state source.old).rest (λ text. IsCounted A text exit)) }
-    ensures stopped { IfErr result (λ fault. HasHistoryStopped A fault (S.state source.old).rest
+    ensures counted { IfOk result (λ exit.
+        IfSome (text_between (S.state source.old) (S.state source.new)) (λ text. IsCounted A text exit)) }
+    ensures stopped { IfErr result (λ fault.
+        HasHistoryStopped A fault (text_between (S.state source.old) (S.state source.new))
         (W.state sink.old).written (W.state sink.new).written) }
 {
     let text = read_input(alloc, source)?;

@@ -3,7 +3,7 @@
 ghost use Rattle.std.specs.Prelude.{◌≡◌, ◌≤◌, Some, length, IfOk, IfErr, IfSome, IsOk, OnOk};
 ghost use Rattle.gn_replay.specs.Faults.{IsAnswerOn, IsReplayFault, input_of};
 ghost use Rattle.gn_io.specs.Input.{input_limit};
-ghost use Rattle.gn_io.specs.Streams.{NoWriteFailed, streams};
+ghost use Rattle.gn_io.specs.Streams.{NoWriteFailed, streams, text_between};
 ghost use Rattle.gn_capture.specs.Captures.{capture_of};
 ghost use Rattle.gn_replay.specs.Replays.{AppendsReplay, HasStopped, IsCounted};
 
@@ -67,10 +67,11 @@ pub fn replay<A: Allocator + Copy, C: RouterCore<A> + Drop, S: Source, W: Sink>(
 ) -> Result<Exit, ReplayFault>
     ensures answer { IsAnswerOn (capture_of {A = A})
         (streams (S.state source.old) (S.state source.new) (W.state sink.old) (W.state sink.new)) result }
-    ensures written { OnOk result (IfSome (S.state source.old).rest (λ text.
+    ensures written { OnOk result (IfSome (text_between (S.state source.old) (S.state source.new)) (λ text.
         AppendsReplay A text (W.state sink.old).written (W.state sink.new).written)) }
-    ensures counted { IfOk result (λ exit. IfSome (S.state source.old).rest (λ text. IsCounted A text exit)) }
-    ensures stopped { IfErr result (λ fault. HasStopped A fault (S.state source.old).rest
+    ensures counted { IfOk result (λ exit.
+        IfSome (text_between (S.state source.old) (S.state source.new)) (λ text. IsCounted A text exit)) }
+    ensures stopped { IfErr result (λ fault. HasStopped A fault (text_between (S.state source.old) (S.state source.new))
         (W.state sink.old).written (W.state sink.new).written) }
 {
     let text = read_input(alloc, source)?;

@@ -1,13 +1,17 @@
 -- The roles of a run's links, in an array that has room for more; and where the links come from that are still to come.
-use Rattle.std.proofs.Common.{◌≡◌, ◌≤◌, ◌<◌, ◌+◌, ◌-◌, ◌++◌, ◌∷◌, ℕ, zero, suc, List, [], length, take, set, replicate, refl, ap, sym, subst, ◌∙◌, arith, Option, Some, None}
+use Rattle.std.proofs.Common.{◌≡◌, ◌≤◌, ◌<◌, ◌+◌, ◌-◌, ◌++◌, ◌∷◌, ℕ, zero, suc, List, [], length, map, take, set, replicate, refl, ap, sym, subst, ◌∙◌, arith, Option, Some, None}
 use Rattle.std.specs.Borrow.{Bor}
 use Rattle.std.specs.List.{ItemBy, slice_get}
 use Rattle.std.proofs.lemmas.Option.{slice_get_past, slice_get_read}
 use Rattle.std.specs.declared.net.socket_addr.SocketAddr.{SocketAddr}
 use Rattle.gn_shake.specs.declared.role.Role.{Role}
-use Rattle.gn_tcp.specs.Tcp.{TcpLinked}
+use Rattle.gn_tcp.specs.declared.socket.Socket.{Socket}
+use Rattle.gn_report.specs.declared.report.Report.{Report}
+use Rattle.gn_tcp.specs.Tcp.{TcpLinked, TcpReading, TcpWriting}
+use Rattle.gn_threads.specs.Headline.{AreOfOne}
 use Rattle.gn_tcp.specs.declared.origin.TcpOrigin.{TcpOrigin}
 use Rattle.std.proofs.Math.Seq.{take-append-add}
+use Rattle.std.proofs.lemmas.Simd.{map-map}
 use Rattle.std.proofs.lemmas.List.{append_assoc, length-replicate, replicate_more, set_at, take-replicate}
 use Rattle.gn_service.specs.Links.{origins_from}
 
@@ -54,10 +58,18 @@ no_peer peers k found item is =
     let there = subst (λ (o : Option (Bor SocketAddr)). ItemBy (λ (x : Bor SocketAddr). x.now) peers k k o) is item in
     slice_get_past peers k there.3
 
--- a link that has no number yet, in a role, to a peer that is called or not
-abbrev pub unnumbered : Role → Option SocketAddr → TcpLinked
-unnumbered role called = record { role = role; origin = record { link = 0; called = called } }
+-- where a link comes from that has no number yet, of a peer that was called or not
+abbrev pub unnumbered : Option SocketAddr → TcpOrigin
+unnumbered called = record { link = 0; called = called }
 
 -- such a link by its own role, to the peer of its place
-pub met_as : (found : TcpLinked) (role own : Role) (called peer : Option SocketAddr) → found ≡ unnumbered own peer → role ≡ own → called ≡ peer → found ≡ unnumbered role called
-met_as found role own called peer is same there = is ∙ ap (λ r. unnumbered r peer) (sym same) ∙ ap (λ p. unnumbered role p) (sym there)
+pub met_as : (found : TcpLinked) (role own : Role) (called peer : Option SocketAddr) → (found.role ≡ own) × (found.origin ≡ unnumbered peer) → role ≡ own → called ≡ peer
+    → (found.role ≡ role) × (found.origin ≡ unnumbered called)
+met_as found role own called peer is same there = (is.0 ∙ sym same, is.1 ∙ ap unnumbered (sym there))
+
+-- where both halves of each link say the same of it, they say the same of its socket
+pub socket_of_one : {A : Type 0} (report : Report TcpReading TcpWriting A) → AreOfOne {O = TcpOrigin × Socket} (λ half. (half.origin, half.socket)) (λ half. (half.origin, half.socket)) report
+    → AreOfOne (λ half. half.socket) (λ half. half.socket) report
+socket_of_one report one =
+    let socket : TcpOrigin × Socket → Socket = λ both. both.1 in
+    sym (map-map socket (λ link. (link.writer.origin, link.writer.socket)) report.links.items) ∙ ap (map socket) one ∙ map-map socket (λ link. (link.reader.origin, link.reader.socket)) report.links.items

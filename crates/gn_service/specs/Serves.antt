@@ -7,8 +7,8 @@ use Rattle.gn_rules.specs.declared.config.Config.{Config}
 use Rattle.gn_report.specs.declared.report.Report.{Report}
 use Rattle.gn_tcp.specs.Tcp.{TcpReading, TcpWriting, half_read, half_written}
 use Rattle.gn_threads.specs.Faults.{IsArrivingFault}
-use Rattle.gn_threads.specs.Headline.{AreMadeOf, Holds}
-use Rattle.gn_threads.specs.declared.fault.RunFault.TheVariants.{BadWorkers}
+use Rattle.gn_threads.specs.Headline.{AreMadeOf, AreOfOne, Holds}
+use Rattle.gn_threads.specs.declared.fault.RunFault.TheVariants.{BadWorkers, HistoryFull}
 use Rattle.gn_threads.specs.declared.stopped.Stopped.{Stopped}
 use Rattle.gn_service.specs.Links.{origins_of, roles_of}
 
@@ -19,5 +19,7 @@ pub record IsServed {A : Type 0} (s : Config) (peers : List SocketAddr) (accept 
   pub bad_workers : IfErr answer (λ stopped. (stopped.fault ≡ BadWorkers) ↔ (¬ IsCrew workers))
   pub fault : IfErr answer (λ stopped. IsCrew workers → IsArrivingFault true (length peers + accept) workers stopped.fault)
   pub kept : IfErr answer (λ stopped. IfSome stopped.history (λ history. IsLegal s (reverse history.items)))
+  pub full : IfErr answer (λ stopped. stopped.fault ≡ HistoryFull → IfSome stopped.history (λ history. length history.items ≡ s.numbers.steps))
   pub holds : IfOk answer (λ report. Holds half_read half_written s (roles_of (length peers) (length peers + accept)) workers report)
   pub made : IfOk answer (λ report. AreMadeOf (λ half. half.origin) (λ half. half.origin) (origins_of peers (length peers + accept)) report)
+  pub one_socket : IfOk answer (λ report. AreOfOne (λ half. half.socket) (λ half. half.socket) report)

@@ -1,68 +1,88 @@
 //! The gate of a run over TCP, which stops the run where it has to end.
 
-use crate::stop::Stop;
+use crate::owed::{Nearness, Owed};
+use crate::stops::Stops;
 use gn_links::{Gate, Half, Made};
+use gn_rules::Numbers;
+use std::alloc::{Allocator, Global};
 use std::sync::Wait;
-use std::sync::atomic::{AtomicU32, Ordering};
+use std::time::Clock;
 
 /// Passes all on to who watches the run. It stops the run once that has failed, so that it waits for no caller any more; and
-/// once so many steps are made or owed.
+/// once so many steps are made or owed. It tells the run's links apart that have ended.
 #[derive(Drop)]
-pub(crate) struct Counted<'a, G> {
+pub(crate) struct Counted<'a, G, R, A: Allocator = Global> {
+    rt: &'a R,
     watch: &'a G,
-    stop: &'a Stop,
-    last: Option<u32>,
-    /// The steps that were made, and a route for each descriptor in flight.
-    steps: AtomicU32,
+    stops: &'a Stops<'a, A>,
+    /// `None`: no number of steps stops the run.
+    owed: Option<Owed>,
 }
 
-impl<'a, G> Counted<'a, G> {
-    /// The gate of a run that has made no steps of so many.
-    pub(crate) fn new(watch: &'a G, stop: &'a Stop, most: u32) -> Self {
-        Counted {
+impl<'a, G, R, A: Allocator> Counted<'a, G, R, A> {
+    /// The gate of a run with this configuration and so many links, which has made no steps.
+    pub(crate) fn new(
+        rt: &'a R,
+        watch: &'a G,
+        stops: &'a Stops<'a, A>,
+        numbers: &Numbers,
+        links: u32,
+    ) -> Self {
+        let connected = links.min(numbers.neighbours);
+        let owed = if stops.stop.is_early() {
+            Some(Owed::new(numbers.steps, numbers.out, connected))
+        } else {
+            None
+        };
+        let gate = Counted {
+            rt,
             watch,
-            stop,
-            last: stop.last_step(most),
-            steps: AtomicU32::new(0),
+            stops,
+            owed,
+        };
+        if let Some(owed) = &gate.owed {
+            gate.look(owed);
         }
+        gate
     }
 
-    /// So many more steps are made or owed.
-    fn count(&self, more: u32) {
-        if let Some(last) = self.last {
-            let steps = self.steps.fetch_add(more, Ordering::SeqCst);
-            if steps.saturating_add(more) >= last {
-                self.stop.set();
-            }
+    /// Slows the run down where it is near to its last step, and stops it where that might be next.
+    fn look(&self, owed: &Owed) {
+        match owed.nearness() {
+            Nearness::Far => {}
+            Nearness::Near => self.stops.stop.slow_down(),
+            Nearness::Due if self.stops.is_stopped() => {}
+            Nearness::Due => self.stops.stop.set(),
         }
     }
 }
 
-/// How many steps more are made or owed by a step.
-fn added_by(step: Made) -> u32 {
-    match step {
-        Made::Admitted(_) => 2,
-        Made::Routed => 0,
-        _ => 1,
-    }
-}
-
-impl<'a, G: Gate> Gate for Counted<'a, G> {
-    fn enter<R: Wait>(&self, rt: &R, worker: u32, ticket: u32) {
+impl<'a, G: Gate, R: Wait + Clock, A: Allocator> Gate for Counted<'a, G, R, A> {
+    fn enter<W: Wait>(&self, rt: &W, worker: u32, ticket: u32) {
         self.watch.enter(rt, worker, ticket);
+        if let Some(owed) = &self.owed {
+            owed.routed();
+            self.look(owed);
+        }
     }
 
     fn made(&self, link: u32, step: Made) {
         self.watch.made(link, step);
-        self.count(added_by(step));
+        if let Some(owed) = &self.owed {
+            owed.made(step);
+            self.look(owed);
+        }
     }
 
+    /// Who watches learns of the links that came.
     fn ended(&self, link: u32, half: Half) {
-        self.watch.ended(link, half);
+        if self.stops.ended(self.rt, link, half) {
+            self.watch.ended(link, half);
+        }
     }
 
     fn failed(&self) {
         self.watch.failed();
-        self.stop.set();
+        self.stops.fail();
     }
 }

@@ -3,6 +3,8 @@
 #![tactic(auto)]
 
 mod counted;
+mod live;
+mod owed;
 mod peers;
 mod serve;
 mod serving;

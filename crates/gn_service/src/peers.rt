@@ -8,22 +8,23 @@ ghost use Rattle.gn_threads.specs.Faults.{IsArrivingFault};
 ghost use Rattle.gn_service.specs.Links.{roles_of};
 
 use crate::serving::Serving;
-use crate::stops::{Stops, call_own};
+use crate::stops::Stops;
 use gn_links::{Link, LinkFault, Watch};
 use gn_rules::MOST_LINKS;
 use gn_shake::Role;
-use gn_tcp::{TcpLink, TcpOrigin, TcpReader, TcpWriter};
+use gn_tcp::{Socket, TcpLink, TcpOrigin, TcpReader, TcpStopper, TcpWriter, Unmet};
 use gn_threads::{Arrivals, RunFault};
 use std::alloc::{Allocator, Global};
+use std::io::ErrorKind;
 use std::net::{Net, SocketAddr, TcpListener, TcpStream};
 use std::sync::Wait;
 use std::thread;
 use std::time::{Clock, Duration, Instant};
 
-/// Seconds for which a call that may be made again waits for its answer.
+/// Seconds for which a call waits for its answer.
 const CALL: u64 = 1;
 
-/// Milliseconds that are waited before a peer is called again.
+/// Milliseconds that are waited before a peer is called again, or the system asked for a handle.
 const PAUSE: u64 = 50;
 
 /// The peers that are called, in order, and where the others call.
@@ -78,71 +79,141 @@ impl<
     G: Watch,
     A: Allocator,
 > Peers<'a, 's, N, G, A> {
-    /// Calls a peer, again until it listens, the time for that is over or the run is stopped.
-    fn call(&self, peer: SocketAddr) -> Result<TcpLink<'static>, LinkFault>
-        ensures { IfOk result (λ found. found ≡
-            record { role = Calling; origin = record { link = 0; called = Some peer } }) }
+    /// This fault, for which the links that have come are let go at once.
+    fn failing(&self, fault: RunFault) -> RunFault
+        ensures { result ≡ fault }
     {
-        let (Some(limit), Ok(begun)) = (self.serving.retry, Instant::now(self.net)) else {
-            return TcpLink::call(self.net, peer);
-        };
+        self.stops.fail();
+        fault
+    }
+
+    /// Waits a moment, after which a call, or a handle, may be had.
+    fn pause(&self) {
+        thread::sleep(self.net, Duration::from_millis(PAUSE));
+    }
+
+    /// Whether a peer that couldn't be called is called again, where that began by then.
+    fn calls_again(&self, begun: Option<Instant>) -> bool {
+        match (self.serving.retry, begun) {
+            (Some(limit), Some(begun)) => match begun.elapsed(self.net) {
+                Ok(since) => since < limit,
+                Err(_) => false,
+            },
+            _ => false,
+        }
+    }
+
+    /// Calls the peer of this link, again until it listens or the time for that is over. Where the run is stopped the peer never
+    /// comes.
+    fn call(&self, link: u32, peer: SocketAddr) -> Result<TcpLink<'static>, LinkFault>
+        ensures { IfOk result (λ found. (found.role ≡ Calling)
+            × (found.origin ≡ record { link = 0; called = Some peer })) }
+    {
+        let begun = Instant::now(self.net).ok();
         for _ in 0..u64::MAX {
-            match TcpLink::call_within(self.net, peer, Duration::from_secs(CALL)) {
+            if self.stops.is_stopped() {
+                return Ok(TcpLink::missing(Role::Calling, Some(peer)));
+            }
+            match TcpLink::try_call(self.net, peer, Duration::from_secs(CALL)) {
                 Ok(found) => return Ok(found),
-                Err(_) => match begun.elapsed(self.net) {
-                    Ok(since) if since < limit && !self.stops.is_stopped() => thread::sleep(
-                        self.net,
-                        Duration::from_millis(PAUSE),
-                    ),
-                    _ => break,
-                },
+                Err(_) if self.calls_again(begun) || self.stops.is_stopped() => self.pause(),
+                Err(unmet) => {
+                    self.watch.not_called(link, peer, unmet.why);
+                    break;
+                }
             }
         }
         Err(LinkFault)
     }
 
-    /// Waits for a caller. Where the run is stopped that is nobody but itself, or one that called before.
-    fn accept(&self) -> Result<TcpLink<'static>, LinkFault>
-        ensures { IfOk result (λ found. found ≡
-            record { role = Accepting; origin = record { link = 0; called = None } }) }
-    {
-        if self.stops.is_stopped() {
-            call_own(self.net, self.listener);
-        }
-        TcpLink::accept(self.listener)
+    /// Whether nobody can be accepted, for this reason, but may be later: the system has no handle, or the caller has gone.
+    fn waits_on(unmet: Unmet) -> bool {
+        unmet.wants_handle || unmet.why == ErrorKind::ConnectionAborted
     }
 
-    /// Has the link stopped with the run, where the run may be.
-    fn register(&self, found: &TcpLink<'s>) -> Result<(), RunFault>
-        ensures { IfErr result (λ fault. (links workers : ℕ) → IsArrivingFault true links workers fault) }
+    /// Waits for a caller. Where the run is stopped nobody comes.
+    fn accept(&self) -> Result<TcpLink<'static>, LinkFault>
+        ensures { IfOk result (λ found. (found.role ≡ Accepting)
+            × (found.origin ≡ record { link = 0; called = None })) }
     {
-        if self.serving.stop.is_none() {
-            return Ok(());
+        if !self.stops.has_listener() {
+            return Err(LinkFault);
         }
-        let Ok(stopper) = found.stopper() else {
-            return Err(RunFault::NoMemory);
+        for _ in 0..u64::MAX {
+            if self.stops.is_stopped() {
+                return Ok(TcpLink::missing(Role::Accepting, None));
+            }
+            match TcpLink::try_accept(self.listener) {
+                Ok(found) => return Ok(found),
+                Err(unmet) if Self::waits_on(unmet) || self.stops.is_stopped() => self.pause(),
+                Err(_) => break,
+            }
+        }
+        Err(LinkFault)
+    }
+
+    /// Waits until the link has all handles that it needs, and takes the one that ends it. None where the run is stopped
+    /// meanwhile.
+    fn stopper_of(&self, found: &mut TcpLink<'static>) -> Option<TcpStopper>
+        ensures { found.new ≡ found.old }
+    {
+        for _ in 0..u64::MAX {
+            if found.has_handles() {
+                if let Ok(stopper) = found.stopper() {
+                    return Some(stopper);
+                }
+            }
+            if self.stops.is_stopped() {
+                return None;
+            }
+            self.pause();
+        }
+        None
+    }
+
+    /// The link, which ends with the run. Its peer is let go where the run is stopped before.
+    fn registered(&self, link: u32, found: TcpLink<'static>) -> Result<TcpLink<'static>, RunFault>
+        ensures same { IfOk result (λ same. (same.role ≡ found.entry.role) × (same.origin ≡ found.entry.origin)) }
+        ensures fault { IfErr result (λ fault. (links workers : ℕ) → IsArrivingFault true links workers fault) }
+    {
+        if found.is_missing() {
+            return Ok(found);
+        }
+        let mut found = found;
+        let Some(stopper) = self.stopper_of(&mut found) else {
+            return Ok(found.without_peer());
         };
-        match self.stops.add(self.net, stopper) {
-            Ok(()) => Ok(()),
-            Err(_) => Err(RunFault::NoMemory),
+        match self.stops.add(self.net, link, stopper) {
+            Ok(()) => Ok(found),
+            Err(_) => Err(self.failing(RunFault::NoMemory)),
+        }
+    }
+
+    /// Tells who watches of a link that has come, and calls no more callers in where it was the last.
+    fn tell(&self, link: u32, reader: &TcpReader<'s>) {
+        if self.left == 0 {
+            self.stops.close_listener();
+        }
+        if !reader.is_missing() {
+            self.watch.came(link, reader.peer());
         }
     }
 
     /// Calls the peer of this link, or waits for one that calls.
     fn meet(&self, link: u32, role: Role) -> Result<TcpLink<'static>, RunFault>
-        ensures found { IfOk result (λ found. found ≡
-            record { role = role; origin = record { link = 0; called = slice_get self.now.called.now link } }) }
+        ensures found { IfOk result (λ found. (found.role ≡ role)
+            × (found.origin ≡ record { link = 0; called = slice_get self.now.called.now link })) }
         ensures fault { IfErr result (λ fault. (links workers : ℕ) → link < links
             → IsArrivingFault true links workers fault) }
     {
         match (role, self.called.get(link as usize)) {
-            (Role::Calling, Some(peer)) => match self.call(*peer) {
+            (Role::Calling, Some(peer)) => match self.call(link, *peer) {
                 Ok(found) => Ok(found),
-                Err(_) => Err(RunFault::Call(link)),
+                Err(_) => Err(self.failing(RunFault::Call(link))),
             },
             (Role::Accepting, None) => match self.accept() {
                 Ok(found) => Ok(found),
-                Err(_) => Err(RunFault::Listen),
+                Err(_) => Err(self.failing(RunFault::Listen)),
             },
             _ => Err(RunFault::Link(link)),
         }
@@ -159,13 +230,17 @@ impl<
     ghost use Rattle.gn_service.specs.Links.{origins_from};
     ghost use Rattle.std.specs.Prelude.{true};
 
-    type Origin = TcpOrigin;
+    type Origin = (TcpOrigin, Socket);
+
+    type Foreknown = TcpOrigin;
 
     type Reader = TcpReader<'s>;
 
     type Writer = TcpWriter;
 
     ghost has_peers = { true };
+
+    ghost foreknown = { λ origin. origin.0 };
 
     ghost coming = { λ peers. origins_from peers.called.now peers.next peers.left };
 
@@ -176,18 +251,20 @@ impl<
         if link != self.next {
             return Err(RunFault::Link(link));
         }
+        let found = self.meet(link, role)?;
         let found = self
-            .meet(link, role)?
+            .registered(link, found)?
             .numbered(link)
             .with_idle(self.serving.idle)
-            .with_stop(self.serving.flag());
-        self.register(&found)?;
+            .with_stop(self.serving.flag())
+            .with_brake(self.serving.brake())
+            .lingering();
         let Ok(halves) = found.split() else {
-            return Err(RunFault::Link(link));
+            return Err(self.failing(RunFault::Link(link)));
         };
         self.next = next;
         self.left = left;
-        self.watch.came(link, halves.0.peer());
+        self.tell(link, &halves.0);
         Ok(halves)
     }
 }

@@ -3,9 +3,9 @@
 ghost use Rattle.std.specs.Prelude.{◌≡◌, ◌+◌, ◌≤◌, ◌↔◌, length, reverse, true, IfErr, IfOk, IfSome};
 ghost use Rattle.gn_rules.specs.Answer.{IsLegal};
 ghost use Rattle.gn_rules.specs.Limits.{IsCrew, most_links};
-ghost use Rattle.gn_threads.specs.declared.fault.RunFault.TheVariants.{BadWorkers};
+ghost use Rattle.gn_threads.specs.declared.fault.RunFault.TheVariants.{BadWorkers, HistoryFull};
 ghost use Rattle.gn_threads.specs.Faults.{IsArrivingFault};
-ghost use Rattle.gn_threads.specs.Headline.{AreMadeOf, Holds};
+ghost use Rattle.gn_threads.specs.Headline.{AreMadeOf, AreOfOne, Holds};
 ghost use Rattle.gn_service.specs.Links.{origins_of, roles_of};
 ghost use Rattle.gn_tcp.specs.Tcp.{half_read, half_written};
 ghost use Rattle.gn_service.specs.Serves.{IsServed};
@@ -29,11 +29,14 @@ use std::time::Clock;
 
 /// Runs a router over links to these peers, which it calls in order, and after them to so many others that call the
 /// listener. The bodies of each link start as soon as it has come; it waits for a caller without a time limit, for peers and
-/// what they send and take as `serving` says, and where it has failed for nobody. `watch` learns of each link as it comes, and
-/// each worker passes it before it routes. At most 256 links.
+/// what they send and take as `serving` says, and where it has failed for nobody. The listener is closed once the last has come,
+/// so it is for one run. Where the system has no handle for a caller, it waits until it has. `watch` learns of each link as it
+/// comes, of a peer that can't be called, and each worker passes it before it routes. At most 256 links.
+///
+/// Where it is stopped before all have come, the links of the others have no bytes, and nobody is told of them.
 ///
 /// Of several faults it answers the one that `run` of gn_threads does. Where a call, an accept or a split fails, the bodies that
-/// have started are ended and joined first, and their peers are let go.
+/// have started are ended and joined first, and their peers are let go at once.
 pub fn serve_on<
     's,
     C: RouterCore<A> + Drop + Send,
@@ -60,6 +63,7 @@ pub fn serve_on<
         (roles_of (length peers.now) (length peers.now + accept)) workers report) }
     ensures made { IfOk result (λ report. AreMadeOf (λ half. half.origin) (λ half. half.origin)
         (origins_of peers.now (length peers.now + accept)) report) }
+    ensures one_socket { IfOk result (λ report. AreOfOne (λ half. half.socket) (λ half. half.socket) report) }
 {
     match serve_kept::<C, G, A, R>(
         rt, alloc, listener, config, accept, peers, serving, workers, watch,
@@ -69,7 +73,8 @@ pub fn serve_on<
     }
 }
 
-/// Does the same, and a fault comes with what stands of the history, which is legal by the configuration of the call.
+/// Does the same, and a fault comes with what stands of the history, which is legal by the configuration of the call, and has as
+/// many steps as it may have where the fault is a full history.
 pub fn serve_kept<
     's,
     C: RouterCore<A> + Drop + Send,
@@ -94,21 +99,24 @@ pub fn serve_kept<
         → IsArrivingFault true (length peers.now + accept) workers stopped.fault) }
     ensures kept { IfErr result (λ stopped. IfSome stopped.history (λ history.
         IsLegal config.now (reverse history.items))) }
+    ensures full { IfErr result (λ stopped. stopped.fault ≡ HistoryFull → IfSome stopped.history (λ history.
+        length history.items ≡ config.now.numbers.steps)) }
     ensures holds { IfOk result (λ report. Holds half_read half_written config.now
         (roles_of (length peers.now) (length peers.now + accept)) workers report) }
     ensures made { IfOk result (λ report. AreMadeOf (λ half. half.origin) (λ half. half.origin)
         (origins_of peers.now (length peers.now + accept)) report) }
+    ensures one_socket { IfOk result (λ report. AreOfOne (λ half. half.socket) (λ half. half.socket) report) }
 {
     let own = Stop::new(None, false);
     let stop = match serving.stop {
         Some(stop) => stop,
         None => &own,
     };
-    let stops = Stops::new(alloc, stop);
+    let stops = Stops::new(rt, alloc, stop, serving.grace(), listener);
     let stops = &stops;
     let ((), answer) = thread::join(
         rt,
-        || stops.watch(rt, listener),
+        || stops.watch(rt),
         ||
             requires { accept + length peers.now ≤ most_links }
             ensures { IsServed config.entry.now peers.entry.now accept workers result }
@@ -147,17 +155,23 @@ fn run_links<
         → IsArrivingFault true (length peers.now + accept) workers stopped.fault) }
     ensures kept { IfErr result (λ stopped. IfSome stopped.history (λ history.
         IsLegal config.now (reverse history.items))) }
+    ensures full { IfErr result (λ stopped. stopped.fault ≡ HistoryFull → IfSome stopped.history (λ history.
+        length history.items ≡ config.now.numbers.steps)) }
     ensures holds { IfOk result (λ report. Holds half_read half_written config.now
         (roles_of (length peers.now) (length peers.now + accept)) workers report) }
     ensures made { IfOk result (λ report. AreMadeOf (λ half. half.origin) (λ half. half.origin)
         (origins_of peers.now (length peers.now + accept)) report) }
+    ensures one_socket { IfOk result (λ report. AreOfOne (λ half. half.socket) (λ half. half.socket) report) }
 {
     let links = peers.len() + accept as usize;
     let all = roles_of(peers.len(), links);
     let roles = &all[..links];
-    let steps = config.numbers.steps;
-    watch.open(steps);
-    let gate = Counted::new(watch, stops.stop, steps);
+    let numbers = &config.numbers;
+    watch.open(numbers.steps);
+    if accept == 0 {
+        stops.close_listener();
+    }
+    let gate = Counted::new(rt, watch, stops, numbers, links as u32);
     let arrivals = Peers {
         net: rt,
         listener,

@@ -11,25 +11,44 @@ pub struct Serving<'s> {
     pub idle: Option<Duration>,
     /// A peer that can't be called is called again until so much time has passed; `None`: it is called once.
     pub retry: Option<Duration>,
+    /// How long a neighbour that was let go is still listened to, and how long a run that is stopped goes on; `None`: 5 seconds.
+    pub grace: Option<Duration>,
     /// By what the run is stopped before its peers end it; `None`: by nothing.
     pub stop: Option<&'s Stop>,
     /// Whether what stands of the history of a run that stops at a fault is written.
     pub is_kept: bool,
 }
 
+/// The seconds of grace that a run gives that is told nothing else.
+const GRACE: u64 = 5;
+
 impl Serving<'static> {
-    /// It waits for everything, and goes on until its peers end it.
+    /// It waits for everything, and goes on until its peers end it, which have a grace of 5 seconds then.
     pub const UNLIMITED: Serving<'static> = Serving {
         idle: None,
         retry: None,
+        grace: None,
         stop: None,
         is_kept: false,
     };
 }
 
 impl<'s> Serving<'s> {
+    /// How long the grace is.
+    pub(crate) fn grace(&self) -> Duration {
+        match self.grace {
+            Some(grace) => grace,
+            None => Duration::from_secs(GRACE),
+        }
+    }
+
     /// What is set once the run is stopped, where it may be.
     pub(crate) fn flag(&self) -> Option<&'s AtomicBool> {
         Some(self.stop?.flag())
+    }
+
+    /// What is set once the run's readers have to read little at a time, where it may be.
+    pub(crate) fn brake(&self) -> Option<&'s AtomicBool> {
+        Some(self.stop?.brake())
     }
 }

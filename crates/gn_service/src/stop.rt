@@ -1,30 +1,48 @@
-//! By what a run over TCP is stopped before its peers end it.
+//! What stops a run over TCP before its peers end it.
 
+ghost use Rattle.std.specs.Prelude.{◌≡◌};
+
+use std::marker::Model;
 use std::sync::Wait;
 use std::sync::atomic::{AtomicBool, Ordering};
 use std::thread::Parker;
-use std::time::{Clock, Duration, Instant};
+use std::time::Duration;
 
 /// By what a run over TCP is stopped before its peers end it: a time limit, nine tenths of its steps, or whoever holds this.
 ///
 /// A run that is stopped reads no more, waits for no caller that is still missing, and calls nobody again. What it admitted is
-/// routed and written, so that it answers as a run does that its peers ended. Each is for one run.
+/// routed and written, so that it answers as a run does that its peers ended; a peer that hasn't taken all of it once the run's
+/// grace is over is let go. Each is for one run.
 #[derive(Debug, Drop)]
 pub struct Stop {
     limit: Option<Duration>,
     is_early: bool,
     is_set: AtomicBool,
+    /// Whether the run's readers read little at a time.
+    is_slow: AtomicBool,
     waiter: Parker,
+}
+
+impl Model for Stop {
+    ghost use Rattle.gn_service.specs.Stopping.{Stopping};
+
+    ghost Value = { Stopping };
+
+    ghost view = { λ s. record { limit = s.limit; is_early = s.is_early } };
 }
 
 impl Stop {
     /// It stops the run after so much time; `None`, or where the clock can't be read: at no time. Where it `is_early` it stops the
-    /// run once nine tenths of the steps that it may make are made, or owed as the routes of what is in flight.
-    pub fn new(limit: Option<Duration>, is_early: bool) -> Self {
+    /// run once nine tenths of the steps that it may make are made, or owed as the routes of what is in flight; or earlier, so that
+    /// the packets that may still wait by then find their steps too.
+    pub fn new(limit: Option<Duration>, is_early: bool) -> Self
+        ensures { result ≡ record { limit = limit; is_early = is_early } }
+    {
         Stop {
             limit,
             is_early,
             is_set: AtomicBool::new(false),
+            is_slow: AtomicBool::new(false),
             waiter: Parker::new(),
         }
     }
@@ -39,18 +57,24 @@ impl Stop {
         self.is_set.load(Ordering::SeqCst)
     }
 
+    /// Whether it stops the run before its last steps.
+    pub(crate) fn is_early(&self) -> bool {
+        self.is_early
+    }
+
     /// What is set once the run is stopped.
     pub(crate) fn flag(&self) -> &AtomicBool {
         &self.is_set
     }
 
-    /// After how many steps, made or owed, it stops a run that may make so many; `None`: after none.
-    pub(crate) fn last_step(&self, most: u32) -> Option<u32> {
-        if self.is_early {
-            Some(most / 10 * 9)
-        } else {
-            None
-        }
+    /// What is set once the run's readers have to read little at a time.
+    pub(crate) fn brake(&self) -> &AtomicBool {
+        &self.is_slow
+    }
+
+    /// The run's readers read little at a time from now on.
+    pub(crate) fn slow_down(&self) {
+        self.is_slow.store(true, Ordering::SeqCst);
     }
 
     /// Has who waits look again.
@@ -58,25 +82,29 @@ impl Stop {
         self.waiter.unpark();
     }
 
-    /// How much of its time is left.
-    fn left<R: Clock>(&self, rt: &R, begun: Option<Instant>) -> Option<Duration> {
-        let limit = self.limit?;
-        let since = begun?.elapsed(rt).ok()?;
-        Some(limit.saturating_sub(since))
+    /// Whether its time is over, so long after the run began; where the clock can't be read, it isn't.
+    pub(crate) fn is_due(&self, now: Option<Duration>) -> bool {
+        match (self.limit, now) {
+            (Some(limit), Some(now)) => limit <= now,
+            _ => false,
+        }
     }
 
-    /// Waits until it is set, its time is over, or the run is. One thread of a run waits here.
-    pub(crate) fn wait<R: Wait + Clock>(&self, rt: &R, is_over: &AtomicBool) {
-        let begun = Instant::now(rt).ok();
-        for _ in rt.forever() {
-            if self.is_set() || is_over.load(Ordering::SeqCst) {
-                return;
-            }
-            match self.left(rt, begun) {
-                None => self.waiter.park(rt),
-                Some(left) if left.is_zero() => return,
-                Some(left) => self.waiter.park_timeout(rt, left),
-            }
+    /// Waits until it is woken, or its time is over, or this one is. One thread of a run waits here.
+    pub(crate) fn wait<R: Wait>(&self, rt: &R, now: Option<Duration>, next: Option<Duration>) {
+        let limit = if self.is_set() { None } else { self.limit };
+        match (earlier(limit, next), now) {
+            (Some(at), Some(now)) => self.waiter.park_timeout(rt, at.saturating_sub(now)),
+            _ => self.waiter.park(rt),
         }
+    }
+}
+
+/// The earlier of two times, where there are any.
+pub(crate) fn earlier(one: Option<Duration>, other: Option<Duration>) -> Option<Duration> {
+    match (one, other) {
+        (Some(one), Some(other)) => Some(if one < other { one } else { other }),
+        (one, None) => one,
+        (None, other) => other,
     }
 }

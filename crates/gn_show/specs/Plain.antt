@@ -1,7 +1,9 @@
 -- The line of a step in plain words.
-use Rattle.std.specs.Prelude.{ℕ, Bool, true, false, ◌-◌, ◌==◌, if◌then◌else◌, List, ◌++◌, codes, decimal, length, replicate, take, Option, Some, None}
+use Rattle.std.specs.Prelude.{ℕ, Bool, true, false, ◌-◌, ◌/◌, ◌%◌, ◌==◌, ◌||◌, if◌then◌else◌, List, [], ◌∷◌, ◌++◌, codes, decimal, length, replicate, take, Option, Some, None}
+use Rattle.std.specs.Char.{encode_utf8}
+use Rattle.std.specs.Int.{is_in_range}
 use Rattle.std.specs.List.{flat_map}
-use Rattle.std.specs.Str.{is_utf8}
+use Rattle.std.specs.Str.{chars, is_utf8}
 use Rattle.std.specs.declared.alloc.Global.{Global}
 use Rattle.hex.specs.Hex.{encode_lower}
 use Rattle.serde_json.specs.Data.{string}
@@ -37,9 +39,18 @@ id_words id = encode_lower (take 4 id.0) ++ codes ".."
 abbrev pub place_words : List ℕ → ℕ → List ℕ
 place_words ip port = ip_text ip ++ codes ":" ++ decimal port
 
--- a text in quotes, as in JSON, where it is UTF-8; the bytes of another in hex
+-- a character on which a terminal or a reader of lines may act: U+007F and the controls to U+009F, the separators of lines and of
+-- paragraphs, and the marks of direction
+abbrev pub acts : ℕ → Bool
+acts c = is_in_range 0x7F 0x9F c || c == 0x61C || is_in_range 0x200E 0x200F c || is_in_range 0x2028 0x202E c || is_in_range 0x2066 0x2069 c
+
+-- a character as it stands in quotes; one that acts as JSON escapes it
+abbrev pub char_words : ℕ → List ℕ
+char_words c = if acts c then codes "\\u" ++ encode_lower (c / 256 ∷ c % 256 ∷ []) else encode_utf8 c
+
+-- a text in quotes, as in JSON, where it is UTF-8, with no character that acts; the bytes of another in hex
 abbrev pub text_words : List ℕ → List ℕ
-text_words text = if is_utf8 text then compact_text (string text) else codes "hex " ++ encode_lower text
+text_words text = if is_utf8 text then flat_map char_words (chars (compact_text (string text))) else codes "hex " ++ encode_lower text
 
 -- the payload of a Pong
 abbrev pub pong_words : List ℕ → List ℕ

@@ -2,11 +2,13 @@
 #![tactic(auto, using(std::proofs::Common::append_assoc))]
 
 ghost use Rattle.std.specs.Prelude.{◌≡◌, ◌++◌, ℕ, List, IfOk, OnOk, string_bytes};
+ghost use Rattle.std.specs.List.{flat_map};
+ghost use Rattle.std.specs.Str.{chars};
 ghost use Rattle.serde_json.specs.Data.{string};
 ghost use Rattle.serde_json.specs.Written.{compact_text};
 ghost use Rattle.gn_payload.specs.Grammar.{IsPong, IsPush};
 ghost use Rattle.gn_payload.specs.Views.{query_fields, result_fields};
-ghost use Rattle.gn_show.specs.Plain.{descriptor_words, hit_words, id_words, kind_words, payload_words, place_words, pong_words, push_words, query_words, result_words, results_words, text_words, unread_words};
+ghost use Rattle.gn_show.specs.Plain.{acts, char_words, descriptor_words, hit_words, id_words, kind_words, payload_words, place_words, pong_words, push_words, query_words, result_words, results_words, text_words, unread_words};
 
 use crate::text::utf8;
 use gn_payload::{
@@ -42,14 +44,50 @@ fn quoted(alloc: Global, text: &str) -> Result<String, AllocError>
     quoted
 }
 
-/// Appends a text in quotes as in JSON, so that a line feed in it ends no line; or its bytes in hex.
+/// Whether a terminal or a reader of lines may act on a character.
+fn acts(c: char) -> bool
+    ensures { result ≡ acts c }
+{
+    matches!(
+        c,
+        '\u{7f}'..='\u{9f}'
+            | '\u{61c}'
+            | '\u{200e}'..='\u{200f}'
+            | '\u{2028}'..='\u{202e}'
+            | '\u{2066}'..='\u{2069}'
+    )
+}
+
+/// Appends a character, or how JSON escapes it where it acts.
+fn push_char(out: &mut Vec<u8>, c: char) -> Result<(), AllocError>
+    ensures { OnOk result (out.new.items ≡ out.old.items ++ char_words c) }
+{
+    if !acts(c) {
+        return out.extend_from_slice(c.encode_utf8(&mut [0; 4]).as_bytes());
+    }
+    let code = u32::from(c);
+    out.extend_from_slice(b"\\u")?;
+    push_hex(out, &[(code / 256) as u8, (code % 256) as u8])
+}
+
+/// Appends the characters of a text, of which none acts then.
+fn push_inert(out: &mut Vec<u8>, text: &str) -> Result<(), AllocError>
+    ensures { OnOk result (out.new.items ≡ out.old.items ++ flat_map char_words (chars text.now)) }
+{
+    for c in text.chars() {
+        push_char(out, c)?;
+    }
+    Ok(())
+}
+
+/// Appends a text in quotes as in JSON, so that a line feed in it ends no line and a terminal does nothing; or its bytes in hex.
 fn push_text(alloc: Global, out: &mut Vec<u8>, text: &[u8]) -> Result<(), AllocError>
     ensures { OnOk result (out.new.items ≡ out.old.items ++ text_words text.now) }
 {
     match utf8(text) {
         Some(text) => {
             let quoted = quoted(alloc, text)?;
-            out.extend_from_slice(quoted.as_bytes())
+            push_inert(out, quoted.as_str())
         }
         None => {
             out.extend_from_slice(b"hex ")?;

@@ -3,7 +3,7 @@
 ghost use Rattle.std.specs.Prelude.{◌≤◌, Some, length, IfErr, IfSome, IsOk, OnOk};
 ghost use Rattle.gn_capture.specs.Histories.{history_of};
 ghost use Rattle.gn_io.specs.Input.{input_limit};
-ghost use Rattle.gn_io.specs.Streams.{NoWriteFailed, streams};
+ghost use Rattle.gn_io.specs.Streams.{NoWriteFailed, streams, text_between};
 ghost use Rattle.gn_replay.specs.Faults.{IsAnswerOn, IsReplayFault, input_of};
 ghost use Rattle.gn_show.specs.Shown.{AppendsShown, HasShowStopped};
 
@@ -49,9 +49,10 @@ pub fn show<S: Source, W: Sink>(
 ) -> Result<(), ReplayFault>
     ensures answer { IsAnswerOn (history_of {A = Global})
         (streams (S.state source.old) (S.state source.new) (W.state sink.old) (W.state sink.new)) result }
-    ensures written { OnOk result (IfSome (S.state source.old).rest (λ text.
+    ensures written { OnOk result (IfSome (text_between (S.state source.old) (S.state source.new)) (λ text.
         AppendsShown view text (W.state sink.old).written (W.state sink.new).written)) }
-    ensures stopped { IfErr result (λ fault. HasShowStopped view fault (S.state source.old).rest
+    ensures stopped { IfErr result (λ fault.
+        HasShowStopped view fault (text_between (S.state source.old) (S.state source.new))
         (W.state sink.old).written (W.state sink.new).written) }
 {
     let text = read_input(alloc, source)?;

@@ -5,11 +5,16 @@ mod link;
 mod origin;
 mod patience;
 mod reader;
+mod socket;
 mod stopper;
+mod unmet;
+mod ways;
 mod writer;
 
 pub use link::{TcpLink, listen};
 pub use origin::TcpOrigin;
 pub use reader::TcpReader;
-pub use stopper::TcpStopper;
+pub use socket::Socket;
+pub use stopper::{ListenerStopper, TcpStopper};
+pub use unmet::Unmet;
 pub use writer::TcpWriter;

@@ -1,18 +1,23 @@
 //! A link over TCP: accepted or called, and split into its halves.
 
-ghost use Rattle.std.specs.Prelude.{◌≡◌, IfOk, None, OnOk, Some, true};
+ghost use Rattle.std.specs.Prelude.{◌≡◌, IfOk, IfSome, None, OnOk, Some, true};
 ghost use Rattle.gn_shake.specs.declared.role.Role.TheVariants.{Accepting, Calling};
 ghost use Rattle.gn_tcp.specs.Tcp.{IsLoopback};
 
 use crate::origin::TcpOrigin;
 use crate::patience::Patience;
 use crate::reader::TcpReader;
+use crate::socket::Socket;
 use crate::stopper::TcpStopper;
+use crate::unmet::Unmet;
+use crate::ways::Ways;
 use crate::writer::TcpWriter;
 use gn_links::{Link, LinkFault};
 use gn_shake::Role;
+use std::io::ErrorKind;
 use std::marker::Model;
 use std::net::{Ipv4Addr, Net, SocketAddr, TcpListener, TcpStream};
+use std::snapshot::Snapshot;
 use std::sync::atomic::AtomicBool;
 use std::time::Duration;
 
@@ -27,15 +32,16 @@ pub fn listen<N: Net<Listener = TcpListener, Stream = TcpStream>>(
     }
 }
 
-/// A connected socket, how the link over it begins, and where it comes from. No clause says which bytes go over it.
+/// A connected socket, how the link over it begins, and where it comes from; or a link whose peer never came.
 #[derive(Drop)]
 pub struct TcpLink<'s> {
-    stream: TcpStream,
+    socket: Socket,
+    /// A second handle of the socket, where it was taken before the link is split.
+    other: Option<TcpStream>,
     peer: SocketAddr,
     role: Role,
     origin: TcpOrigin,
-    idle: Option<Duration>,
-    stop: Option<&'s AtomicBool>,
+    ways: Ways<'s>,
 }
 
 impl<'s> Model for TcpLink<'s> {
@@ -43,27 +49,54 @@ impl<'s> Model for TcpLink<'s> {
 
     ghost Value = { TcpLinked };
 
-    ghost view = { λ l. record { role = l.role; origin = l.origin } };
+    ghost view = { λ l. record { role = l.role; origin = l.origin; socket = l.socket } };
 }
 
 impl TcpLink<'static> {
+    /// A link of this role to this peer.
+    fn over(socket: Socket, peer: SocketAddr, role: Role, called: Option<SocketAddr>) -> Self
+        ensures { result ≡ record { role = role; origin = record { link = 0; called = called }; socket = socket } }
+    {
+        TcpLink {
+            socket,
+            other: None,
+            peer,
+            role,
+            origin: TcpOrigin { link: 0, called },
+            ways: Ways::PLAIN,
+        }
+    }
+
+    /// A link whose peer, called or not, never comes. Its bytes are at their end, and its writes fail. The link's number is 0.
+    pub fn missing(role: Role, called: Option<SocketAddr>) -> Self
+        ensures { (result.role ≡ role) × (result.origin ≡ record { link = 0; called = called }) }
+    {
+        let peer = match called {
+            Some(peer) => peer,
+            None => SocketAddr::from((Ipv4Addr::UNSPECIFIED, 0)),
+        };
+        TcpLink::over(Socket::Missing, peer, role, called)
+    }
+
     /// Waits for the next peer that calls, without a time limit. The link's number is 0.
     pub fn accept(listener: &TcpListener) -> Result<Self, LinkFault>
-        ensures { IfOk result (λ link. link ≡ record { role = Accepting; origin = record { link = 0; called = None } }) }
+        ensures { IfOk result (λ link. (link.role ≡ Accepting) × (link.origin ≡ record { link = 0; called = None })) }
+    {
+        match TcpLink::try_accept(listener) {
+            Ok(link) => Ok(link),
+            Err(_) => Err(LinkFault),
+        }
+    }
+
+    /// As `accept`, and says why nobody came.
+    pub fn try_accept(listener: &TcpListener) -> Result<Self, Unmet>
+        ensures { IfOk result (λ link. (link.role ≡ Accepting) × (link.origin ≡ record { link = 0; called = None })) }
     {
         match listener.accept() {
-            Ok((stream, peer)) => Ok(TcpLink {
-                stream,
-                peer,
-                role: Role::Accepting,
-                origin: TcpOrigin {
-                    link: 0,
-                    called: None,
-                },
-                idle: None,
-                stop: None,
-            }),
-            Err(_) => Err(LinkFault),
+            Ok((stream, peer)) => {
+                Ok(TcpLink::over(Socket::Connected(stream), peer, Role::Accepting, None))
+            }
+            Err(error) => Err(Unmet::of(&error)),
         }
     }
 
@@ -72,8 +105,8 @@ impl TcpLink<'static> {
         net: &N,
         peer: SocketAddr,
     ) -> Result<Self, LinkFault>
-        ensures called { IfOk result (λ link. link ≡
-            record { role = Calling; origin = record { link = 0; called = Some peer } }) }
+        ensures called { IfOk result (λ link. (link.role ≡ Calling)
+            × (link.origin ≡ record { link = 0; called = Some peer })) }
         ensures near { OnOk result (IsLoopback peer) }
     {
         if !peer.ip().is_loopback() {
@@ -91,42 +124,85 @@ impl TcpLink<'static> {
         peer: SocketAddr,
         limit: Duration,
     ) -> Result<Self, LinkFault>
-        ensures called { IfOk result (λ link. link ≡
-            record { role = Calling; origin = record { link = 0; called = Some peer } }) }
+        ensures called { IfOk result (λ link. (link.role ≡ Calling)
+            × (link.origin ≡ record { link = 0; called = Some peer })) }
+        ensures near { OnOk result (IsLoopback peer) }
+    {
+        match TcpLink::try_call(net, peer, limit) {
+            Ok(link) => Ok(link),
+            Err(_) => Err(LinkFault),
+        }
+    }
+
+    /// As `call_within`, and says why the peer wasn't reached; `InvalidInput`, where it is on another machine.
+    pub fn try_call<N: Net<Listener = TcpListener, Stream = TcpStream>>(
+        net: &N,
+        peer: SocketAddr,
+        limit: Duration,
+    ) -> Result<Self, Unmet>
+        ensures called { IfOk result (λ link. (link.role ≡ Calling)
+            × (link.origin ≡ record { link = 0; called = Some peer })) }
         ensures near { OnOk result (IsLoopback peer) }
     {
         if !peer.ip().is_loopback() {
-            return Err(LinkFault);
+            return Err(Unmet {
+                why: ErrorKind::InvalidInput,
+                wants_handle: false,
+            });
         }
         match net.connect_timeout(peer, limit) {
             Ok(stream) => Ok(TcpLink::calling(stream, peer)),
-            Err(_) => Err(LinkFault),
+            Err(error) => Err(Unmet::of(&error)),
         }
     }
 
     fn calling(stream: TcpStream, peer: SocketAddr) -> Self
-        ensures { result ≡ record { role = Calling; origin = record { link = 0; called = Some peer } } }
+        ensures { (result.role ≡ Calling) × (result.origin ≡ record { link = 0; called = Some peer }) }
     {
-        TcpLink {
-            stream,
-            peer,
-            role: Role::Calling,
-            origin: TcpOrigin {
-                link: 0,
-                called: Some(peer),
-            },
-            idle: None,
-            stop: None,
-        }
+        TcpLink::over(Socket::Connected(stream), peer, Role::Calling, Some(peer))
+    }
+}
+
+/// A second handle of a link's socket, where it has one and the system gives it.
+fn second(socket: &Socket) -> Option<TcpStream> {
+    match socket {
+        Socket::Connected(stream) => stream.try_clone().ok(),
+        Socket::Missing => None,
     }
 }
 
 impl<'s> TcpLink<'s> {
-    /// Another handle of the link's socket, by which its reading half can be ended. It fails where the system gives none.
+    /// Another handle of the link's socket, by which both of its halves can be ended. It fails where the system gives none.
     pub fn stopper(&self) -> Result<TcpStopper, LinkFault> {
-        match self.stream.try_clone() {
-            Ok(stream) => Ok(TcpStopper::new(stream)),
-            Err(_) => Err(LinkFault),
+        match second(&self.socket) {
+            Some(stream) => Ok(TcpStopper::new(stream)),
+            None => Err(LinkFault),
+        }
+    }
+
+    /// Takes the second handle of the socket that a split needs, where it wasn't taken yet. False where the system gives none.
+    pub fn has_handles(&mut self) -> bool
+        ensures { self.new ≡ self.old }
+    {
+        if self.other.is_none() {
+            self.other = second(&self.socket);
+        }
+        self.other.is_some()
+    }
+
+    /// Whether its peer never comes.
+    pub fn is_missing(&self) -> bool {
+        matches!(self.socket, Socket::Missing)
+    }
+
+    /// The link, whose peer is let go at once: as one that never came.
+    pub fn without_peer(self) -> Self
+        ensures { (result.role ≡ self.entry.role) × (result.origin ≡ self.entry.origin) }
+    {
+        TcpLink {
+            socket: Socket::Missing,
+            other: None,
+            ..self
         }
     }
 
@@ -135,77 +211,80 @@ impl<'s> TcpLink<'s> {
     pub fn with_idle(self, idle: Option<Duration>) -> Self
         ensures { result ≡ self.entry }
     {
-        let TcpLink {
-            stream,
-            peer,
-            role,
-            origin,
-            idle: _,
-            stop,
-        } = self;
-        TcpLink {
-            stream,
-            peer,
-            role,
-            origin,
-            idle,
-            stop,
-        }
+        let ways = Ways { idle, ..self.ways };
+        TcpLink { ways, ..self }
     }
 
     /// The link, whose bytes end once this is set, whatever its peer still sends; `None`: they end with the peer's. A read that
-    /// waits by then goes on waiting: a `stopper` ends it.
-    pub fn with_stop<'t>(self, stop: Option<&'t AtomicBool>) -> TcpLink<'t>
+    /// waits by then ends within a fifth of a second.
+    pub fn with_stop(self, stop: Option<&'s AtomicBool>) -> Self
         ensures { result ≡ self.entry }
     {
-        let TcpLink {
-            stream,
-            peer,
-            role,
-            origin,
-            idle,
-            stop: _,
-        } = self;
-        TcpLink {
-            stream,
-            peer,
-            role,
-            origin,
-            idle,
-            stop,
-        }
+        let ways = Ways { stop, ..self.ways };
+        TcpLink { ways, ..self }
+    }
+
+    /// The link, whose reads complete one descriptor at most once this is set; `None`: they give what there is room for.
+    pub fn with_brake(self, brake: Option<&'s AtomicBool>) -> Self
+        ensures { result ≡ self.entry }
+    {
+        let ways = Ways { brake, ..self.ways };
+        TcpLink { ways, ..self }
+    }
+
+    /// The link, which at its end reads and drops what its peer still sends, so that the peer gets all that was written. Somebody
+    /// has to shut it by its `stopper` where the peer doesn't end.
+    pub fn lingering(self) -> Self
+        ensures { result ≡ self.entry }
+    {
+        let ways = Ways {
+            lingers: true,
+            ..self.ways
+        };
+        TcpLink { ways, ..self }
     }
 
     /// The link, which has this number in its run.
     pub fn numbered(self, link: u32) -> Self
         ensures { result ≡ record self.entry { origin = record self.entry.origin { link = link } } }
     {
-        let TcpLink {
-            stream,
-            peer,
-            role,
-            origin: TcpOrigin { called, .. },
-            idle,
-            stop,
-        } = self;
-        TcpLink {
-            stream,
-            peer,
-            role,
-            origin: TcpOrigin { link, called },
-            idle,
-            stop,
-        }
+        let origin = TcpOrigin {
+            link,
+            ..self.origin
+        };
+        TcpLink { origin, ..self }
     }
 }
 
-/// How long the reader of a link in this role waits, where it has a time limit.
-fn patience_of(idle: Option<Duration>, role: Role) -> Option<Patience> {
-    Some(Patience::new(idle?, role))
+/// The halves' two handles of a socket, of which the first is the one that is given; none where the system gives no second one, or doesn't take the time limits.
+fn handles(
+    socket: Socket,
+    other: Option<TcpStream>,
+    ways: &Ways<'_>,
+    patience: &Patience,
+) -> Option<(Socket, Socket)>
+    ensures { IfSome result (λ handles. handles.0 ≡ socket) }
+{
+    let Socket::Connected(stream) = socket else {
+        return Some((Socket::Missing, Socket::Missing));
+    };
+    if stream.set_read_timeout(patience.turn()).is_err()
+        || stream.set_write_timeout(ways.idle).is_err()
+    {
+        return None;
+    }
+    // A packet is small and waits for no other, so it shan't wait for the acknowledgement of the one before it either.
+    // Where the system doesn't take this, the link is slower and else the same.
+    let _ = stream.set_nodelay(true);
+    let other = match other {
+        Some(other) => other,
+        None => stream.try_clone().ok()?,
+    };
+    Some((Socket::Connected(stream), Socket::Connected(other)))
 }
 
 impl<'s> Link for TcpLink<'s> {
-    type Origin = TcpOrigin;
+    type Origin = (TcpOrigin, Socket);
 
     type Reader = TcpReader<'s>;
 
@@ -213,7 +292,7 @@ impl<'s> Link for TcpLink<'s> {
 
     ghost role_of = { λ l. l.role };
 
-    ghost origin_of = { λ l. l.origin };
+    ghost origin_of = { λ l. (l.origin, l.socket) };
 
     ghost may_not_split = { λ _. true };
 
@@ -224,26 +303,21 @@ impl<'s> Link for TcpLink<'s> {
     /// Fails where the system gives no second handle of the socket, or doesn't take the time limit.
     fn split(self) -> Result<(TcpReader<'s>, TcpWriter), LinkFault> {
         let TcpLink {
-            stream,
+            socket,
+            other,
             peer,
             role,
             origin,
-            idle,
-            stop,
+            ways,
         } = self;
-        if stream.set_read_timeout(idle).is_err() || stream.set_write_timeout(idle).is_err() {
-            return Err(LinkFault);
-        }
-        // A packet is small and waits for no other, so it shan't wait for the acknowledgement of the one before it either.
-        // Where the system doesn't take this, the link is slower and else the same.
-        let _ = stream.set_nodelay(true);
-        let patience = patience_of(idle, role);
-        match stream.try_clone() {
-            Ok(other) => Ok((
-                TcpReader::new(stream, peer, origin, patience, stop),
-                TcpWriter::new(other, origin),
+        let patience = Patience::new(ways.idle, ways.stop.is_some(), role);
+        let one = Snapshot::of(&socket);
+        match handles(socket, other, &ways, &patience) {
+            Some((read, written)) => Ok((
+                TcpReader::new(read, peer, origin, patience, ways),
+                TcpWriter::new(written, one, origin, ways.lingers),
             )),
-            Err(_) => Err(LinkFault),
+            None => Err(LinkFault),
         }
     }
 }

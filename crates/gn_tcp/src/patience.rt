@@ -7,19 +7,31 @@ use std::time::Duration;
 /// The milliseconds that a reader waits at least for more of a greeting.
 const LEAST: u64 = 1;
 
-/// How long a reader with a time limit waits. Until its greeting is whole each wait is at most half of the one before, so that
-/// the greeting has come within little more than twice the limit; from then on each is at most the limit.
+/// The milliseconds after which a reader that may be stopped looks whether it is.
+const LOOK: u64 = 200;
+
+/// How long a reader waits. Where it has a time limit, each wait is at most half of the one before until its greeting is whole,
+/// so that this has come within little more than twice the limit; from then on each is at most the limit. Where the reader may be
+/// stopped, a wait goes on in looks.
 #[derive(Clone, Copy, Debug)]
 pub(crate) struct Patience {
-    limit: Duration,
-    wait: Duration,
+    /// The longest wait; `None`: there is no limit.
+    limit: Option<Duration>,
+    /// How long a wait may be by now.
+    wait: Option<Duration>,
+    /// How much of this wait is left.
+    left: Option<Duration>,
+    /// How long the socket waits at a time.
+    turn: Option<Duration>,
+    /// Whether a wait goes on in looks.
+    looks: bool,
     /// How many bytes of the greeting are missing.
     missing: usize,
 }
 
 impl Patience {
-    /// That of a reader whose first wait is at most the limit.
-    pub(crate) fn new(limit: Duration, role: Role) -> Self {
+    /// That of a reader whose first wait is at most the limit, and which may be stopped or not.
+    pub(crate) fn new(limit: Option<Duration>, looks: bool, role: Role) -> Self {
         let missing = match role {
             Role::Accepting => gn_shake::request().len(),
             Role::Calling => gn_shake::consent().len(),
@@ -28,23 +40,66 @@ impl Patience {
         Patience {
             limit,
             wait: limit,
+            left: limit,
+            turn: turn_of(limit, looks),
+            looks,
             missing,
         }
     }
 
+    /// How long the socket waits at a time, at first.
+    pub(crate) fn turn(&self) -> Option<Duration> {
+        self.turn
+    }
+
     /// So many bytes have come over this socket.
     pub(crate) fn hear(&mut self, stream: &TcpStream, n: usize) {
-        if self.missing == 0 {
-            return;
+        if self.missing > 0 {
+            self.missing = self.missing.saturating_sub(n);
+            self.wait = match self.wait {
+                Some(wait) if self.missing > 0 => Some(half(wait)),
+                _ => self.limit,
+            };
         }
-        self.missing = self.missing.saturating_sub(n);
-        self.wait = if self.missing == 0 {
-            self.limit
-        } else {
-            half(self.wait)
+        self.left = self.wait;
+        self.set_turn(stream);
+    }
+
+    /// The socket has waited for its turn. Whether it may go on to wait.
+    pub(crate) fn goes_on(&mut self, stream: &TcpStream) -> bool {
+        let Some(turn) = self.turn else {
+            return false;
         };
-        // where the system doesn't take it, the wait stays as it was
-        let _ = stream.set_read_timeout(Some(self.wait));
+        if let Some(left) = self.left {
+            let left = left.saturating_sub(turn);
+            if left.is_zero() {
+                return false;
+            }
+            self.left = Some(left);
+            self.set_turn(stream);
+        }
+        true
+    }
+
+    /// Has the socket wait as long at a time as what is left of the wait allows.
+    fn set_turn(&mut self, stream: &TcpStream) {
+        let turn = turn_of(self.left, self.looks);
+        // where the system doesn't take it, the turn stays as it was
+        if turn != self.turn && stream.set_read_timeout(turn).is_ok() {
+            self.turn = turn;
+        }
+    }
+}
+
+/// How long a socket waits at a time, where so much is left of the wait.
+fn turn_of(left: Option<Duration>, looks: bool) -> Option<Duration> {
+    if !looks {
+        return left;
+    }
+    let look = Duration::from_millis(LOOK);
+    match left {
+        Some(left) if left < look => Some(left),
+        _ => Some(look),
     }
 }
 

@@ -1,31 +1,43 @@
 //! The half of a link over TCP that is read.
 
-ghost use Rattle.std.specs.Prelude.{◌≡◌, ◌≤◌, [], false, not, true, length, IfOk};
+ghost use Rattle.std.specs.Prelude.{◌≡◌, ◌≤◌, ◌++◌, [], false, not, true, length, IfOk};
+ghost use Rattle.std.specs.Io.KnownBytes.{ReadConsumes};
+ghost use Rattle.gn_links.specs.Halves.{read_by};
 ghost use Rattle.gn_tcp.specs.Tcp.{half_read};
 
 use crate::origin::TcpOrigin;
 use crate::patience::Patience;
+use crate::socket::Socket;
+use crate::ways::Ways;
 use gn_links::{LinkFault, LinkReader};
+use gn_trail::{Told, read_told};
 use std::io::{ErrorKind, Read};
 use std::marker::Model;
 use std::net::{SocketAddr, TcpStream};
+use std::snapshot::Snapshot;
 use std::sync::Wait;
 use std::sync::atomic::{AtomicBool, Ordering};
+
+/// The most bytes that a read gives under the brake: those of the least descriptor, so that it completes one at most.
+const FEW: usize = 23;
 
 /// Reads from a socket. It gives its handle of the socket up at the end of the bytes, at a read that fails, and where it is
 /// finished: once both halves have, the peer is let go.
 #[derive(Drop)]
 pub struct TcpReader<'s> {
-    stream: Option<TcpStream>,
+    socket: Option<Socket>,
+    /// The one socket of its link.
+    one: Snapshot<Socket>,
+    is_missing: bool,
     peer: SocketAddr,
     origin: TcpOrigin,
-    /// `None`: it waits without a limit.
-    patience: Option<Patience>,
-    /// Once it is set, nothing is read any more.
-    stop: Option<&'s AtomicBool>,
+    patience: Patience,
+    ways: Ways<'s>,
     failures: u64,
     pieces: u64,
     has_ended: bool,
+    /// The bytes that its reads gave.
+    told: Told,
 }
 
 impl<'s> Model for TcpReader<'s> {
@@ -36,7 +48,9 @@ impl<'s> Model for TcpReader<'s> {
 
     ghost view = { λ r. record {
       origin = r.origin;
-      is_open = is_some r.stream;
+      socket = r.one.value;
+      is_open = is_some r.socket;
+      bytes = r.told;
       failures = r.failures;
       pieces = r.pieces;
       has_ended = r.has_ended;
@@ -45,70 +59,172 @@ impl<'s> Model for TcpReader<'s> {
 
 impl<'s> TcpReader<'s> {
     pub(crate) fn new(
-        stream: TcpStream,
+        socket: Socket,
         peer: SocketAddr,
         origin: TcpOrigin,
-        patience: Option<Patience>,
-        stop: Option<&'s AtomicBool>,
+        patience: Patience,
+        ways: Ways<'s>,
     ) -> Self
-        ensures { result ≡
-            record { origin = origin; is_open = true; failures = 0; pieces = 0; has_ended = false } }
+        ensures { result ≡ record {
+          origin = origin;
+          socket = socket;
+          is_open = true;
+          bytes = [];
+          failures = 0;
+          pieces = 0;
+          has_ended = false;
+        } }
     {
         TcpReader {
-            stream: Some(stream),
+            is_missing: matches!(socket, Socket::Missing),
+            one: Snapshot::of(&socket),
+            socket: Some(socket),
             peer,
             origin,
             patience,
-            stop,
+            ways,
             failures: 0,
             pieces: 0,
             has_ended: false,
+            told: Told::new(),
         }
     }
 
-    /// The peer's address, also once the peer was let go.
+    /// The peer's address, also once the peer was let go. Of a peer that never came it is the called one, or 0.0.0.0:0.
     pub fn peer(&self) -> SocketAddr {
         self.peer
+    }
+
+    /// Whether the link's peer never came: the run was stopped before.
+    pub fn is_missing(&self) -> bool {
+        self.is_missing
+    }
+
+    /// The bytes have ended. A stop ends them, but not the peer: where the link lingers the socket is kept until it is finished.
+    fn leave(&mut self)
+        ensures { self.new ≡ record self.old { is_open = self.new.is_open } }
+    {
+        if !(self.ways.lingers && is_set(self.ways.stop)) {
+            self.socket = None;
+        }
     }
 
     /// So many bytes have come, and the next wait has its limit.
     fn hear(&mut self, n: usize)
         ensures { self.new ≡ self.old }
     {
-        if let Some(stream) = &self.stream {
-            if let Some(patience) = &mut self.patience {
-                patience.hear(stream, n);
-            }
+        if let Some(Socket::Connected(stream)) = &self.socket {
+            self.patience.hear(stream, n);
         }
     }
 }
 
-/// Whether nothing is to be read any more.
-fn is_set(stop: Option<&AtomicBool>) -> bool {
-    match stop {
-        Some(stop) => stop.load(Ordering::SeqCst),
+/// Whether this is there and set.
+fn is_set(flag: Option<&AtomicBool>) -> bool {
+    match flag {
+        Some(flag) => flag.load(Ordering::SeqCst),
         None => false,
     }
 }
 
-/// Waits for bytes, again where a signal cut the call short.
-fn read_some<R: Wait>(rt: &R, stream: &mut TcpStream, buffer: &mut [u8]) -> Result<usize, LinkFault>
-    ensures { IfOk result (λ n. n ≤ length buffer.old) }
+/// How many bytes a read gives at most, of so many that there is room for.
+fn room_of(ways: &Ways<'_>, room: usize) -> usize
+    ensures { result ≤ room }
+{
+    if room > FEW && is_set(ways.brake) {
+        FEW
+    } else {
+        room
+    }
+}
+
+/// Waits for bytes, again where a signal cut the call short, and tells those that came: they are the next ones of the stream.
+fn read_some<T: Read, R: Wait>(
+    rt: &R,
+    stream: &mut T,
+    told: &mut Told,
+    buffer: &mut [u8],
+) -> Result<usize, ErrorKind>
+    ensures within { IfOk result (λ n. n ≤ length buffer.old) }
+    ensures read { ReadConsumes (T.remaining stream.old) (T.remaining stream.new) result buffer.new }
+    ensures told { told.new ≡ told.old ++ read_by result buffer.new }
 {
     for _ in rt.forever() {
-        match stream.read(buffer) {
+        match read_told(stream, told, buffer) {
             Ok(n) => return Ok(n),
             Err(why) if why.kind() == ErrorKind::Interrupted => {}
-            Err(_) => break,
+            Err(why) => return Err(why.kind()),
+        }
+    }
+    Err(ErrorKind::Interrupted)
+}
+
+/// Waits for bytes as long as the patience lasts, and tells those that came. It fails too where the stop was set meanwhile.
+fn read_patiently<R: Wait>(
+    rt: &R,
+    stream: &mut TcpStream,
+    told: &mut Told,
+    patience: &mut Patience,
+    ways: &Ways<'_>,
+    buffer: &mut [u8],
+) -> Result<usize, LinkFault>
+    ensures within { IfOk result (λ n. n ≤ length buffer.old) }
+    ensures told { told.new ≡ told.old ++ read_by result buffer.new }
+{
+    for _ in rt.forever() {
+        match read_some(rt, stream, told, buffer) {
+            Ok(n) => return Ok(n),
+            Err(ErrorKind::WouldBlock) if !is_set(ways.stop) && patience.goes_on(stream) => {}
+            Err(_) => return Err(LinkFault),
         }
     }
     Err(LinkFault)
 }
 
-impl<'s> LinkReader for TcpReader<'s> {
-    type Origin = TcpOrigin;
+/// The same, of a few bytes at most where the brake is set. It gives no bytes once the stop is set.
+fn read_room<R: Wait>(
+    rt: &R,
+    stream: &mut TcpStream,
+    told: &mut Told,
+    patience: &mut Patience,
+    ways: &Ways<'_>,
+    buffer: &mut [u8],
+) -> Result<usize, LinkFault>
+    ensures within { IfOk result (λ n. n ≤ length buffer.old) }
+    ensures told { told.new ≡ told.old ++ read_by result buffer.new }
+{
+    if is_set(ways.stop) {
+        return Ok(0);
+    }
+    let room = room_of(ways, buffer.len());
+    match read_patiently(rt, stream, told, patience, ways, &mut buffer[..room]) {
+        Err(_) if is_set(ways.stop) => Ok(0),
+        answer => answer,
+    }
+}
 
-    ghost made_of = { λ r. r.origin };
+/// Reads what a peer still sends, and drops it, until the peer ends or somebody shuts the socket. The peer can't be stuck in its
+/// sending then, and no byte is left unread, for which the system would throw away what the peer hasn't read.
+fn drain<R: Wait>(rt: &R, stream: &mut TcpStream) {
+    let mut dropped = [0u8; 4096];
+    // whoever shuts the socket ends the wait: no look is needed
+    let _ = stream.set_read_timeout(None);
+    for _ in rt.forever() {
+        match stream.read(&mut dropped) {
+            Ok(0) => return,
+            Ok(_) => {}
+            Err(why) => match why.kind() {
+                ErrorKind::Interrupted | ErrorKind::WouldBlock => {}
+                _ => return,
+            },
+        }
+    }
+}
+
+impl<'s> LinkReader for TcpReader<'s> {
+    type Origin = (TcpOrigin, Socket);
+
+    ghost made_of = { λ r. (r.origin, r.socket) };
 
     ghost gives = { λ _. record { is_foretold = false; bytes = []; may_fail = true } };
 
@@ -117,12 +233,21 @@ impl<'s> LinkReader for TcpReader<'s> {
     /// Also where its bytes ended or a read failed: it has given its handle up.
     ghost is_finished = { λ r. not r.is_open };
 
-    /// Gives no bytes once the link's stop is set. Fails too where it waits for longer than the link's time limit allows, and
-    /// where it failed before or was finished.
+    /// Gives no bytes once the link's stop is set, and where the peer never came. Fails too where it waits for longer than the
+    /// link's time limit allows, and where it failed before or was finished.
     fn read<R: Wait>(&mut self, rt: &R, buffer: &mut [u8]) -> Result<usize, LinkFault> {
-        let answer = match &mut self.stream {
-            Some(_) if is_set(self.stop) => Ok(0),
-            Some(stream) => read_some(rt, stream, buffer),
+        let answer = match &mut self.socket {
+            Some(Socket::Connected(stream)) => {
+                read_room(
+                    rt,
+                    stream,
+                    &mut self.told,
+                    &mut self.patience,
+                    &self.ways,
+                    buffer,
+                )
+            }
+            Some(Socket::Missing) => Ok(0),
             None if self.has_ended => Ok(0),
             None => Err(LinkFault),
         };
@@ -134,19 +259,25 @@ impl<'s> LinkReader for TcpReader<'s> {
             Ok(_) => {
                 if !buffer.is_empty() {
                     self.has_ended = true;
-                    self.stream = None;
+                    self.leave();
                 }
             }
             Err(_) => {
                 self.failures = self.failures.saturating_add(1);
-                self.stream = None;
+                self.socket = None;
             }
         }
         answer
     }
 
-    /// What the peer sends from now on, once the writer is finished too, is refused by the system.
-    fn finish<R: Wait>(&mut self, _rt: &R) {
-        self.stream = None;
+    /// Where the link lingers, what the peer still sends is read and dropped first, until it ends or somebody shuts the socket.
+    /// What it sends later, once the writer is finished too, is refused by the system.
+    fn finish<R: Wait>(&mut self, rt: &R) {
+        if self.ways.lingers {
+            if let Some(Socket::Connected(stream)) = &mut self.socket {
+                drain(rt, stream);
+            }
+        }
+        self.socket = None;
     }
 }

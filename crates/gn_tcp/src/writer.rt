@@ -1,23 +1,35 @@
 //! The half of a link over TCP that is written.
 
-ghost use Rattle.std.specs.Prelude.{◌≡◌, ◌≤◌, false, length, IfOk};
+ghost use Rattle.std.specs.Prelude.{◌≡◌, ◌≤◌, ◌++◌, [], false, length, IfOk};
+ghost use Rattle.std.specs.Io.KnownBytes.{WriteAppends};
+ghost use Rattle.gn_links.specs.Halves.{written_by};
 ghost use Rattle.gn_tcp.specs.Tcp.{half_written};
 
 use crate::origin::TcpOrigin;
+use crate::socket::Socket;
 use gn_links::{LinkFault, LinkWriter};
+use gn_trail::{Told, write_told};
 use std::io::{ErrorKind, Write};
 use std::marker::Model;
 use std::net::{Shutdown, TcpStream};
+use std::snapshot::Snapshot;
 use std::sync::Wait;
 
-/// Writes to a socket. Where it is finished it shuts both directions and gives its handle of the socket up: once both halves
-/// have, the peer is let go.
+/// Writes to a socket. Where it is finished it shuts both directions, or that of a peer to which something is still owed alone,
+/// and gives its handle of the socket up: once both halves have, the peer is let go.
 #[derive(Drop)]
 pub struct TcpWriter {
-    stream: Option<TcpStream>,
+    socket: Option<Socket>,
+    /// The one socket of its link, of which it has another handle.
+    one: Snapshot<Socket>,
     origin: TcpOrigin,
+    /// Whether it shuts its own direction alone where the peer may not have read all yet.
+    lingers: bool,
+    has_written: bool,
     failures: u64,
     is_stuck: bool,
+    /// The bytes that its writes took.
+    told: Told,
 }
 
 impl Model for TcpWriter {
@@ -28,54 +40,82 @@ impl Model for TcpWriter {
 
     ghost view = { λ w. record {
       origin = w.origin;
-      is_finished = is_none w.stream;
+      socket = w.one.value;
+      is_finished = is_none w.socket;
+      bytes = w.told;
       failures = w.failures;
       is_stuck = w.is_stuck;
     } };
 }
 
 impl TcpWriter {
-    pub(crate) fn new(stream: TcpStream, origin: TcpOrigin) -> Self
-        ensures { result ≡ record { origin = origin; is_finished = false; failures = 0; is_stuck = false } }
+    /// One that writes to this handle of its link's socket.
+    pub(crate) fn new(
+        socket: Socket,
+        one: Snapshot<Socket>,
+        origin: TcpOrigin,
+        lingers: bool,
+    ) -> Self
+        ensures { result ≡ record {
+          origin = origin;
+          socket = one.value;
+          is_finished = false;
+          bytes = [];
+          failures = 0;
+          is_stuck = false;
+        } }
     {
         TcpWriter {
-            stream: Some(stream),
+            socket: Some(socket),
+            one,
             origin,
+            lingers,
+            has_written: false,
             failures: 0,
             is_stuck: false,
+            told: Told::new(),
         }
     }
 }
 
-/// Waits until the socket takes bytes, again where a signal cut the call short.
-fn write_some<R: Wait>(rt: &R, stream: &mut TcpStream, piece: &[u8]) -> Result<usize, LinkFault>
-    ensures { IfOk result (λ n. n ≤ length piece.now) }
+/// Waits until the stream takes bytes, again where a signal cut the call short, and tells those that it took: the first ones of
+/// the piece.
+fn write_some<T: Write, R: Wait>(
+    rt: &R,
+    stream: &mut T,
+    told: &mut Told,
+    piece: &[u8],
+) -> Result<usize, LinkFault>
+    ensures within { IfOk result (λ n. n ≤ length piece.now) }
+    ensures written { WriteAppends (T.contents stream.old) (T.contents stream.new) result piece.now }
+    ensures told { told.new ≡ told.old ++ written_by result piece.now }
 {
     for _ in rt.forever() {
-        match stream.write(piece) {
+        match write_told(stream, told, piece) {
             Ok(n) => return Ok(n),
             Err(why) if why.kind() == ErrorKind::Interrupted => {}
-            Err(_) => break,
+            Err(_) => return Err(LinkFault),
         }
     }
     Err(LinkFault)
 }
 
 impl LinkWriter for TcpWriter {
-    type Origin = TcpOrigin;
+    type Origin = (TcpOrigin, Socket);
 
-    ghost made_of = { λ w. w.origin };
+    ghost made_of = { λ w. (w.origin, w.socket) };
 
     ghost state = { half_written };
 
-    /// Fails too where it waits for longer than the link's time limit, and where it was finished.
+    /// Fails too where it waits for longer than the link's time limit, where the peer never came, and where it was finished.
     fn write<R: Wait>(&mut self, rt: &R, piece: &[u8]) -> Result<usize, LinkFault> {
-        let answer = match &mut self.stream {
-            Some(stream) => write_some(rt, stream, piece),
-            None => Err(LinkFault),
+        let answer = match &mut self.socket {
+            Some(Socket::Connected(stream)) => write_some(rt, stream, &mut self.told, piece),
+            Some(Socket::Missing) | None => Err(LinkFault),
         };
         match answer {
             Ok(n) => {
+                self.has_written = true;
                 if n == 0 && !piece.is_empty() {
                     self.is_stuck = true;
                 }
@@ -85,13 +125,20 @@ impl LinkWriter for TcpWriter {
         answer
     }
 
-    /// Says to the peer that no more bytes come, and ends the reader's wait for what the peer might still send.
+    /// Says to the peer that no more bytes come. Where all was written, and something was, what the peer may still send is
+    /// waited for, so that the system doesn't throw away what it hasn't read; else that is refused from now on, and the reader's
+    /// wait for it ends.
     fn finish<R: Wait>(&mut self, _rt: &R) {
-        if let Some(stream) = &self.stream {
-            // A writer finishes where its connection is closed, was never opened, or the run has failed: what its reader might
-            // still hear would be refused. It fails where the peer is gone, who needs no word then.
-            let _ = stream.shutdown(Shutdown::Both);
+        if let Some(Socket::Connected(stream)) = &self.socket {
+            let is_owed = self.has_written && self.failures == 0 && !self.is_stuck;
+            let how = if self.lingers && is_owed {
+                Shutdown::Write
+            } else {
+                Shutdown::Both
+            };
+            // it fails where the peer is gone, who needs no word then
+            let _ = stream.shutdown(how);
         }
-        self.stream = None;
+        self.socket = None;
     }
 }

@@ -48,15 +48,16 @@ fn push_all_fed(
     Ok(())
 }
 
-/// The encodings of what a reassembler gives for these bytes, 4,096 at a time, or one by one.
-fn fed(alloc: Global, bytes: &[u8], is_cut: bool) -> Result<Vec<u8>, Fail> {
+/// The encodings of what a reassembler gives for these bytes, 4,096 at a time, or one by one, and how many bytes wait then.
+fn fed(alloc: Global, bytes: &[u8], is_cut: bool) -> Result<(Vec<u8>, usize), Fail> {
     let mut frames = Reassembler::new(alloc)?;
     let mut given = Vec::new(alloc);
     let size = if is_cut { 1 } else { 4096 };
     let pushed = push_all_fed(&mut given, &mut frames, bytes, size);
+    let pending = frames.pending();
     drop(frames);
     match pushed {
-        Ok(()) => Ok(given),
+        Ok(()) => Ok((given, pending)),
         Err(fail) => {
             drop(given);
             Err(fail)
@@ -68,10 +69,9 @@ fn fed(alloc: Global, bytes: &[u8], is_cut: bool) -> Result<Vec<u8>, Fail> {
 fn a_hundred_pings(rt: HostRuntime) -> Result<(), Fail> {
     let bytes = hundred_pings(rt.alloc())?;
     for is_cut in [false, true] {
-        assert_eq!(rt;
-            fed(rt.alloc(), &bytes, is_cut)?.as_slice(),
-            bytes.as_slice()
-        );
+        let (given, pending) = fed(rt.alloc(), &bytes, is_cut)?;
+        assert_eq!(rt; given.as_slice(), bytes.as_slice());
+        assert_eq!(rt; pending, 0);
     }
     Ok(())
 }

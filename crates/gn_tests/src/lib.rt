@@ -33,6 +33,8 @@ mod payload;
 #[cfg(test)]
 mod played;
 #[cfg(test)]
+mod refusals;
+#[cfg(test)]
 mod replays;
 #[cfg(test)]
 mod request_runs;

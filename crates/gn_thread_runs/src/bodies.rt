@@ -8,7 +8,7 @@ mod jobs;
 mod ways_out;
 mod worked;
 
-use fakes::Doorman;
+use fakes::{Doorman, Told};
 use gn_bodies::{
     BodyFault, ReaderEnd, WriterDone, WriterEnd, reader_body, worker_body, writer_body,
 };
@@ -16,7 +16,7 @@ use gn_fixtures::ping;
 use gn_hub::{Actor, Door, Hub, Service};
 use gn_links::{Link, LinkReader, LinkWriter, MemoryLink, MemoryWriter};
 use gn_router::TableRouter;
-use gn_rules::{RouterCore, Step};
+use gn_rules::{Event, RouterCore, Step};
 use gn_shake::Role;
 use gn_stage::{Intake, Job, Outlet, Site, Stage};
 use std::alloc::{Allocator, Global};
@@ -51,14 +51,13 @@ struct Actors<L: Ledger, A: Allocator> {
     worker: Actor<L, A>,
 }
 
-/// The reader, the writer, the worker and the house, but for the last of them, where they have these numbers and no receipts.
+/// The reader, the writer and the worker, where they have these numbers and no receipts.
 fn actors_of<A: Allocator + Copy, L: Ledger>(actors: Vec<Actor<L, A>, A>) -> Option<Actors<L, A>>
     ensures reader { IfSome result (λ all. (all.reader.number ≡ 0) × (all.reader.receipts ≡ [])) }
     ensures writer { IfSome result (λ all. (all.writer.number ≡ 1) × (all.writer.receipts ≡ [])) }
     ensures worker { IfSome result (λ all. (all.worker.number ≡ 2) × (all.worker.receipts ≡ [])) }
 {
     let mut actors = actors;
-    drop(actors.pop());
     let worker = last_actor(&mut actors, 2);
     let writer = last_actor(&mut actors, 1);
     let reader = last_actor(&mut actors, 0);
@@ -92,14 +91,13 @@ type Ends = (
     Result<WriterEnd, BodyFault>,
 );
 
-/// How the bodies of one link ended, who passed the gate last with which ticket, how many admissions and steps and which ends
-/// the gate learned of, and what they left of the run.
+/// How the bodies of one link ended, who passed the gate last with which ticket, of which steps and ends the gate was told, and
+/// what they left of the run.
 #[derive(Drop)]
 struct Ran<W: LinkWriter, A: Allocator = Global> {
     ends: Ends,
     passed: Option<(u32, u32)>,
-    admitted: u32,
-    counted: u32,
+    told: Told,
     ended: (bool, bool),
     writer: W,
     history: Vec<Step<A>, A>,
@@ -108,17 +106,24 @@ struct Ran<W: LinkWriter, A: Allocator = Global> {
     has_failed: bool,
 }
 
-/// What a run of one link is like: the most steps of its history, and the ticket of a job that waits in its queue and that
-/// nobody admitted.
+/// What a run of one link is like.
 #[derive(Clone, Copy)]
 struct Setting {
+    /// The most steps of its history.
     steps: u32,
+    /// The ticket of a job that waits in its queue and that nobody admitted.
     forged: Option<u32>,
+    /// How many connections the house makes before the link, of four that may be live.
+    connected: u32,
+    /// Whether it has no worker.
+    is_alone: bool,
 }
 
 const USUAL: Setting = Setting {
     steps: 100,
     forged: None,
+    connected: 0,
+    is_alone: false,
 };
 
 /// What a gate and a hub know once all bodies have returned, with what those gave back.
@@ -143,8 +148,7 @@ where
     Ran {
         ends: (read, worked, end),
         passed: gate.last.get(),
-        admitted: gate.admitted.get(),
-        counted: gate.steps.get(),
+        told: gate.told.get(),
         ended: gate.ended.get(),
         writer,
         door: hub.door(0),
@@ -154,14 +158,37 @@ where
     }
 }
 
-/// The reader, the worker and the writer of one link, one after the other.
+/// How a worker ends that has this outlet; well, where there is none.
+fn worker_end<A, C, B: Site + Ledger, R: Wait>(
+    rt: &R,
+    service: &Service<C, B, A>,
+    worker: Actor<B, A>,
+    gate: &Doorman,
+    outlet: Option<Outlet<B, A>>,
+) -> Result<(), BodyFault>
+where
+    A: Allocator + Copy,
+    C: RouterCore<A> + Drop,
+    requires { worker.receipts ≡ [] }
+{
+    let Some(outlet) = outlet else {
+        drop(worker);
+        return Ok(());
+    };
+    let done = worker_body(rt, service, worker, WORKER, gate, outlet);
+    let end = done.end;
+    drop(done);
+    end
+}
+
+/// The reader, the worker, where there is one, and the writer of one link, one after the other.
 fn in_turn<A, C, B: Site + Ledger, Rd: LinkReader, W: LinkWriter, R: Wait>(
     rt: &R,
     alloc: A,
     service: Service<C, B, A>,
     actors: Actors<B, A>,
     intake: Intake<B, A>,
-    outlet: Outlet<B, A>,
+    outlet: Option<Outlet<B, A>>,
     role: Role,
     reader: Rd,
     writer: W,
@@ -184,9 +211,7 @@ where
     let done = reader_body(rt, alloc, &service, &gate, a, 0, role, reader, intake);
     let read = done.end;
     drop(done);
-    let done = worker_body(rt, &service, k, WORKER, &gate, outlet);
-    let worked = done.end;
-    drop(done);
+    let worked = worker_end(rt, &service, k, &gate, outlet);
     let wrote = writer_body(rt, alloc, &service, &gate, w, 0, role, writer);
     what_ran(&gate, service.into_hub(), read, worked, wrote)
 }
@@ -217,11 +242,34 @@ fn ends_of<A: Allocator + Copy, S: Site>(
     ends
 }
 
-/// A service of one link and one worker that makes at most so many steps, with its actors.
-fn service_of<A, C, L: Ledger>(
+/// The house makes so many connections.
+fn connect<A, C, L: Ledger, R: Wait>(
+    rt: &R,
+    service: &Service<C, L, A>,
+    house: Option<Actor<L, A>>,
+    count: u32,
+)
+where
+    A: Allocator + Copy,
+    C: RouterCore<A> + Drop,
+{
+    let Some(mut house) = house else {
+        return;
+    };
+    let event = Event::Connect;
+    for _ in 0..count {
+        let _ = service.call(rt, &mut house, &event);
+    }
+    drop(event);
+    drop(house);
+}
+
+/// A service of one link and one worker, of which the house has made its connections, with its other actors.
+fn service_of<A, C, L: Ledger, R: Wait>(
+    rt: &R,
     alloc: A,
     blank: Blank,
-    steps: u32,
+    setting: Setting,
     role: Role,
 ) -> Option<(Service<C, L, A>, Actors<L, A>)>
 where
@@ -233,7 +281,13 @@ where
     ensures writer { IfSome result (λ r. (r.1.writer.number ≡ 1) × (r.1.writer.receipts ≡ [])) }
     ensures worker { IfSome result (λ r. (r.1.worker.number ≡ 2) × (r.1.worker.receipts ≡ [])) }
 {
-    let (service, actors) = crate::hub::service_of::<A, C, L>(alloc, blank, steps, &[role])?;
+    let (service, mut actors) = crate::hub::service_of::<A, C, L>(
+        alloc,
+        blank,
+        setting.steps,
+        &[role],
+    )?;
+    connect(rt, &service, actors.pop(), setting.connected);
     match actors_of(actors) {
         Some(actors) => Some((service, actors)),
         None => {
@@ -241,6 +295,15 @@ where
             None
         }
     }
+}
+
+/// The outlet of a worker; none in a run without workers.
+fn outlet_of<S: Site, A: Allocator>(outlet: Outlet<S, A>, is_alone: bool) -> Option<Outlet<S, A>> {
+    if is_alone {
+        drop(outlet);
+        return None;
+    }
+    Some(outlet)
 }
 
 /// The bodies of one memory link in turn, with the ends of a stage and the actors of a service of their own.
@@ -271,7 +334,7 @@ where
         return None;
     };
     forge(rt, &mut intake, setting.forged);
-    let made = service_of::<A, C, B>(alloc, blank, setting.steps, role);
+    let made = service_of::<A, C, B, R>(rt, alloc, blank, setting, role);
     let Some((service, actors)) = made else {
         drop(intake);
         drop(outlet);
@@ -279,6 +342,7 @@ where
         drop(writer);
         return None;
     };
+    let outlet = outlet_of(outlet, setting.is_alone);
     Some(in_turn(
         rt, alloc, service, actors, intake, outlet, role, reader, writer,
     ))

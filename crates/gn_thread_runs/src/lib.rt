@@ -5,6 +5,8 @@
 #[cfg(test)]
 mod bodies;
 #[cfg(test)]
+mod ends;
+#[cfg(test)]
 mod failing;
 #[cfg(test)]
 mod hub;
@@ -33,4 +35,8 @@ mod stage;
 #[cfg(test)]
 mod tcp;
 #[cfg(test)]
+mod told;
+#[cfg(test)]
 mod wanted;
+#[cfg(test)]
+mod watched;

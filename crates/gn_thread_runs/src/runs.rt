@@ -195,3 +195,13 @@ fn a_link_that_cannot_be_split_is_named(rt: HostRuntime) -> Result<(), Fail> {
     assert_eq!(rt; ran.err(), Some(RunFault::Link(1)));
     Ok(())
 }
+
+#[test]
+fn a_run_has_1_to_64_workers(rt: HostRuntime) -> Result<(), Fail> {
+    for workers in [0, 65] {
+        let links = plain_links(rt.alloc(), 1, 0)?;
+        let ran = table_run(&rt, rt.alloc(), links, workers, &NoGate);
+        assert_eq!(rt; ran.err(), Some(RunFault::BadWorkers), "{workers} workers");
+    }
+    Ok(())
+}

@@ -1,6 +1,6 @@
 //! Runs over the loopback that are called and that call.
 
-use crate::loopback::peers::{LATE, Peer, is_called};
+use crate::loopback::peers::{LATE, Peer, is_given_up};
 use crate::loopback::{DRAINED, TcpReport, have_ended, report_of, serve};
 use crate::wanted::a_listener;
 use gn_bodies::{ReaderEnd, WriterEnd};
@@ -34,7 +34,7 @@ fn two_clients_are_served(rt: HostRuntime) -> Result<(), Fail> {
 }
 
 #[test]
-fn a_stranger_is_let_go(rt: HostRuntime) -> Result<(), Fail> {
+fn a_stranger_is_given_up(rt: HostRuntime) -> Result<(), Fail> {
     let refused = (ReaderEnd::GreetingRefused, WriterEnd::NeverOpened);
     let report = report_of(&rt, rt.alloc(), Peer::Stranger, 100, 2, &Serving::UNLIMITED)?;
     assert_eq!(rt; report.history.len(), 2);
@@ -92,7 +92,7 @@ fn a_peer_that_is_not_there_ends_the_run(rt: HostRuntime) -> Result<(), Fail> {
     );
     assert_eq!(rt; served.err(), Some(RunFault::Call(1)));
     let (mut peer, _) = theirs.accept()?;
-    assert!(rt; is_called(&mut peer, false)?);
+    assert!(rt; is_given_up(&mut peer)?);
     Ok(())
 }
 

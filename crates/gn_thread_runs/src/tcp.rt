@@ -4,7 +4,7 @@ use crate::wanted::a_listener;
 use gn_links::{Link, LinkFault, LinkReader, LinkWriter};
 use gn_tcp::{TcpLink, TcpReader, TcpWriter, listen};
 use std::io::{ErrorKind, Read, Write};
-use std::net::{Net, TcpListener, TcpStream};
+use std::net::{Net, Shutdown, TcpListener, TcpStream};
 use std::test::Fail;
 use std::time::Duration;
 
@@ -91,6 +91,29 @@ fn a_peer_is_let_go_by_a_finished_writer(rt: HostRuntime) -> Result<(), Fail> {
     assert_eq!(rt; reader.read(&rt, &mut [0u8; 8]), Ok(0));
     assert!(rt; is_refused(&mut peer, many.as_slice()));
     assert_eq!(rt; writer.write(&rt, b"more"), Err(LinkFault));
+    Ok(())
+}
+
+/// What was written reaches a peer that goes on sending, though both halves are finished before it reads.
+#[test]
+fn a_peer_that_sends_gets_all(rt: HostRuntime) -> Result<(), Fail> {
+    let listener = a_listener(&rt)?;
+    let mut peer = TcpStream::connect(&rt, listener.local_addr()?)?;
+    let Ok(link) = TcpLink::accept(&listener) else {
+        return Err("a link".into());
+    };
+    let (mut reader, mut writer) = halves(Ok(link.lingering()), None)?;
+    let owed = vec![in rt.alloc(); 7u8; 100_000]?;
+    peer.write_all(b"some")?;
+    assert_eq!(rt; writer.write(&rt, owed.as_slice()), Ok(100_000));
+    writer.finish(&rt);
+    peer.write_all(b"more")?;
+    peer.shutdown(Shutdown::Write)?;
+    reader.finish(&rt);
+    let mut got = vec![in rt.alloc(); 0u8; 100_000]?;
+    peer.read_exact(got.as_mut_slice())?;
+    assert!(rt; got.as_slice() == owed.as_slice());
+    assert_eq!(rt; peer.read(&mut [0u8; 1])?, 0);
     Ok(())
 }
 

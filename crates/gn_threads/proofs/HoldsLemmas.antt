@@ -1,6 +1,6 @@
 -- From what each body keeps and what is compared of a report to the headline.
 use Rattle.std.proofs.Common.{◌≡◌, ◌<◌, ◌+◌, ◌++◌, ℕ, Bool, true, List, length, map, get_or, reverse, take, Option, Some, None, refl, sym, ap, ◌∙◌, subst, arith}
-use Rattle.std.specs.Prelude.{IfOk, IfSome, Ok}
+use Rattle.std.specs.Prelude.{Err, IfOk, IfSome, Ok, Result}
 use Rattle.std.proofs.Math.Seq.{take-length}
 use Rattle.std.proofs.lemmas.Bool.{eqb-true}
 use Rattle.std.proofs.lemmas.List.{append-nil, get_or-map, length-map}
@@ -186,15 +186,40 @@ links_read_own reads made_of gives links sources bodies report own many is kept 
     }
 
 -- the halves of a report were split from the links that those were split from with which the threads began
-pub are_made_of : {Rd W A O : Type 0} (reads : Rd → ReadHalf) (reader_of : Rd → O) (gives : O → Source) (writes : W → WrittenHalf) (writer_of : W → O) (reading : List (Half Rd)) (writing : List (Half W))
-    (read : List (Ended A ReaderEnd Rd)) (written : List (Ended A WriterEnd W)) (origins : List O) (report : Report Rd W A)
-    → map (λ (h : Half Rd). reader_of h.half) reading ≡ origins → map (λ (h : Half W). writer_of h.half) writing ≡ origins → length read ≡ length reading → length written ≡ length writing
+pub are_made_of : {Rd W A O F : Type 0} (reads : Rd → ReadHalf) (reader_of : Rd → O) (gives : O → Source) (writes : W → WrittenHalf) (writer_of : W → O) (foreknown : O → F) (reading : List (Half Rd)) (writing : List (Half W))
+    (read : List (Ended A ReaderEnd Rd)) (written : List (Ended A WriterEnd W)) (coming : List F) (report : Report Rd W A)
+    → map (λ (h : Half Rd). foreknown (reader_of h.half)) reading ≡ coming → map (λ (h : Half W). writer_of h.half) writing ≡ map (λ (h : Half Rd). reader_of h.half) reading → length read ≡ length reading → length written ≡ length writing
     → EachKeeps (IsReaderDone reads reader_of gives) reading read → EachKeeps (IsWriterDone writes writer_of) writing written
-    → map reader_reported report.links.items ≡ read → map writer_reported report.links.items ≡ written → AreMadeOf reader_of writer_of origins report
-are_made_of {Rd} {W} {A} reads reader_of gives writes writer_of reading writing read written origins report own theirs many more kept held is are =
+    → map reader_reported report.links.items ≡ read → map writer_reported report.links.items ≡ written → AreMadeOf (λ r. foreknown (reader_of r)) (λ w. foreknown (writer_of w)) coming report
+are_made_of {Rd} {W} {A} reads reader_of gives writes writer_of foreknown reading writing read written coming report own theirs many more kept held is are =
     record {
-      readers = known_of (IsReaderDone reads reader_of gives) (λ (l : LinkReport Rd W A). reader_reported l) (λ (b : Ended A ReaderEnd Rd). reader_of b.half) (λ (h : Half Rd). reader_of h.half)
-          report.links.items reading read origins (λ link body promised. promised.made) many is kept own;
-      writers = known_of (IsWriterDone writes writer_of) (λ (l : LinkReport Rd W A). writer_reported l) (λ (b : Ended A WriterEnd W). writer_of b.half) (λ (h : Half W). writer_of h.half)
-          report.links.items writing written origins (λ link body promised. promised.made) more are held theirs;
+      readers = known_of (IsReaderDone reads reader_of gives) (λ (l : LinkReport Rd W A). reader_reported l) (λ (b : Ended A ReaderEnd Rd). foreknown (reader_of b.half)) (λ (h : Half Rd). foreknown (reader_of h.half))
+          report.links.items reading read coming (λ link body promised. ap foreknown promised.made) many is kept own;
+      writers = known_of (IsWriterDone writes writer_of) (λ (l : LinkReport Rd W A). writer_reported l) (λ (b : Ended A WriterEnd W). foreknown (writer_of b.half)) (λ (h : Half W). foreknown (writer_of h.half))
+          report.links.items writing written coming (λ link body promised. ap foreknown promised.made) more are held
+          (sym (map-map foreknown (λ (h : Half W). writer_of h.half) writing) ∙ ap (map foreknown) theirs ∙ map-map foreknown (λ (h : Half Rd). reader_of h.half) reading ∙ own);
     }
+
+-- what the readers of a report say of their links is what those said with which the threads began
+pub readers_made_of : {Rd W A O : Type 0} (reads : Rd → ReadHalf) (reader_of : Rd → O) (gives : O → Source) (reading : List (Half Rd)) (read : List (Ended A ReaderEnd Rd)) (report : Report Rd W A)
+    → length read ≡ length reading → EachKeeps (IsReaderDone reads reader_of gives) reading read → map reader_reported report.links.items ≡ read
+    → map (λ link. reader_of link.reader) report.links.items ≡ map (λ (h : Half Rd). reader_of h.half) reading
+readers_made_of {Rd} {W} {A} reads reader_of gives reading read report many kept is =
+    known_of (IsReaderDone reads reader_of gives) (λ (l : LinkReport Rd W A). reader_reported l) (λ (b : Ended A ReaderEnd Rd). reader_of b.half) (λ (h : Half Rd). reader_of h.half)
+    report.links.items reading read _ (λ link body promised. promised.made) many is kept refl
+
+-- the same of the writers
+pub writers_made_of : {Rd W A O : Type 0} (writes : W → WrittenHalf) (writer_of : W → O) (writing : List (Half W)) (written : List (Ended A WriterEnd W)) (report : Report Rd W A)
+    → length written ≡ length writing → EachKeeps (IsWriterDone writes writer_of) writing written → map writer_reported report.links.items ≡ written
+    → map (λ link. writer_of link.writer) report.links.items ≡ map (λ (h : Half W). writer_of h.half) writing
+writers_made_of {Rd} {W} {A} writes writer_of writing written report many kept is =
+    known_of (IsWriterDone writes writer_of) (λ (l : LinkReport Rd W A). writer_reported l) (λ (b : Ended A WriterEnd W). writer_of b.half) (λ (h : Half W). writer_of h.half)
+    report.links.items writing written _ (λ link body promised. promised.made) many is kept refl
+
+-- where it is known from which links the halves were split, it is known what their readers are to give
+pub own_of_known : {Rd W A O E : Type 0} (reads : Rd → ReadHalf) (reader_of : Rd → O) (writer_of : W → O) (gives : O → Source) (origins : List O) (r : Result (Report Rd W A) E)
+    → IfOk r (λ report. AreMadeOf reader_of writer_of origins report) → IfOk r (λ report. LinksReadOwn reads (map (λ link. gives (reader_of link.reader)) report.links.items) report)
+    → IfOk r (λ report. LinksReadOwn reads (map gives origins) report)
+own_of_known reads reader_of writer_of gives origins (Err e) made own = tt
+own_of_known reads reader_of writer_of gives origins (Ok report) made own =
+    subst (λ sources. LinksReadOwn reads sources report) (sym (map-map gives (λ link. reader_of link.reader) report.links.items) ∙ ap (map gives) made.readers) own

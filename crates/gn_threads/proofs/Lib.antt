@@ -8,3 +8,4 @@ mod ReportedLemmas
 mod UnstartedLemmas
 mod DoneLemmas
 mod HouseLemmas
+mod KeptLemmas

@@ -68,6 +68,12 @@ pub record AreMadeOf {Rd W A O : Type 0} (reader_of : Rd → O) (writer_of : W �
   pub readers : map (λ (link : LinkReport Rd W A). reader_of link.reader) report.links.items ≡ origins
   pub writers : map (λ (link : LinkReport Rd W A). writer_of link.writer) report.links.items ≡ origins
 
+-- the two halves in each link's report were split from one link: all that both say of their link is the same, also what was not
+-- known of it before it came
+abbrev pub AreOfOne : {Rd W A O : Type 0} → (Rd → O) → (W → O) → Report Rd W A → Type 0
+AreOfOne reader_of writer_of report =
+    map (λ link. writer_of link.writer) report.links.items ≡ map (λ link. reader_of link.reader) report.links.items
+
 -- all of it, of a run of this configuration with so many workers over links of these roles
 pub record Holds {Rd W A : Type 0} (reads : Rd → ReadHalf) (writes : W → WrittenHalf) (s : Config) (roles : List Role)
     (workers : ℕ) (report : Report Rd W A) : Type 0 where

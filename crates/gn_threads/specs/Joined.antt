@@ -40,14 +40,15 @@ pub record AreJoined {Rd W B A : Type 0} (reads : Half Rd → Ended A ReaderEnd 
   pub written : vec_len done.writers ≡ length writing
   pub worked : vec_len done.workers ≡ workers
 
--- the same of halves of which is known how their links begin, and that they were split from the first of the links that were to come
-pub record AreJoinedOf {Rd W B A O : Type 0} (reads : Half Rd → Ended A ReaderEnd Rd → Type 0)
-    (writes : Half W → Ended A WriterEnd W → Type 0) (read_of : Rd → O) (written_of : W → O) (roles : List Role)
-    (coming : List O) (workers : ℕ) (done : Done Rd W B A) : Type 0 where
+-- the same of halves of which is known how their links begin, that they were split from the first of the links that were to come,
+-- and that a reader and the writer at its place were split from one link
+pub record AreJoinedOf {Rd W B A O F : Type 0} (reads : Half Rd → Ended A ReaderEnd Rd → Type 0)
+    (writes : Half W → Ended A WriterEnd W → Type 0) (read_of : Rd → O) (written_of : W → O) (foreknown : O → F)
+    (roles : List Role) (coming : List F) (workers : ℕ) (done : Done Rd W B A) : Type 0 where
   pub reading : List (Half Rd)
   pub writing : List (Half W)
   pub reading_roles : map (λ (h : Half Rd). h.role) reading ≡ roles
   pub writing_roles : map (λ (h : Half W). h.role) writing ≡ roles
-  pub reading_made : map (λ (h : Half Rd). read_of h.half) reading ≡ take (length roles) coming
-  pub writing_made : map (λ (h : Half W). written_of h.half) writing ≡ take (length roles) coming
+  pub reading_made : map (λ (h : Half Rd). foreknown (read_of h.half)) reading ≡ take (length roles) coming
+  pub writing_made : map (λ (h : Half W). written_of h.half) writing ≡ map (λ (h : Half Rd). read_of h.half) reading
   pub joined : AreJoined reads writes reading writing workers done

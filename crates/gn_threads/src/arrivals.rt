@@ -15,6 +15,9 @@ pub trait Arrivals: Drop {
     /// What the halves of a link say of it.
     type Origin;
 
+    /// What of that is known before the link comes.
+    type Foreknown;
+
     type Reader: LinkReader<Origin = Self::Origin>;
 
     type Writer: LinkWriter<Origin = Self::Origin>;
@@ -22,14 +25,17 @@ pub trait Arrivals: Drop {
     /// Whether peers are called and accepted, either of which may fail.
     ghost has_peers: { Bool };
 
-    /// The links that are still to come, in order, as their halves will say of them.
-    ghost coming: { Self → List Self.Origin };
+    /// What was known of a link before it came.
+    ghost foreknown: { Self.Origin → Self.Foreknown };
+
+    /// What is known of the links that are still to come, in order.
+    ghost coming: { Self → List Self.Foreknown };
 
     /// Waits for the next link, which has this number, counted from 0, and shall begin in this role; and takes it apart.
     fn next(&mut self, link: u32, role: Role) -> Result<(Self::Reader, Self::Writer), RunFault>
         ensures reader { IfOk result (λ h. IsNewReader (Self.Reader.state h.0)) }
         ensures writer { IfOk result (λ h. IsNewWriter (Self.Writer.state h.1)) }
-        ensures made { IfOk result (λ h. (coming self.old ≡ Self.Reader.made_of h.0 ∷ coming self.new)
+        ensures made { IfOk result (λ h. (coming self.old ≡ foreknown (Self.Reader.made_of h.0) ∷ coming self.new)
             × (Self.Writer.made_of h.1 ≡ Self.Reader.made_of h.0)) }
         ensures fault { IfErr result (λ fault. (links workers : ℕ) → link < links
             → IsArrivingFault has_peers links workers fault) };
@@ -47,11 +53,15 @@ impl<K: Link, A: Allocator> Arrivals for Arrived<K, A> {
 
     type Origin = K::Origin;
 
+    type Foreknown = K::Origin;
+
     type Reader = K::Reader;
 
     type Writer = K::Writer;
 
     ghost has_peers = { false };
+
+    ghost foreknown = { λ origin. origin };
 
     ghost coming = { λ arrived. map (λ link. K.Reader.made_of link.reader) (into_iter_items arrived.links) };
 

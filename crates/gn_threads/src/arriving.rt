@@ -3,9 +3,9 @@
 ghost use Rattle.std.specs.Prelude.{◌≡◌, ◌+◌, ◌*◌, ◌≤◌, ◌↔◌, None, length, map, reverse, take, IfErr, IfOk, IfSome};
 ghost use Rattle.gn_rules.specs.Answer.{IsLegal};
 ghost use Rattle.gn_rules.specs.Limits.{IsCrew, most_links};
-ghost use Rattle.gn_threads.specs.declared.fault.RunFault.TheVariants.{BadWorkers};
+ghost use Rattle.gn_threads.specs.declared.fault.RunFault.TheVariants.{BadWorkers, HistoryFull};
 ghost use Rattle.gn_threads.specs.Faults.{IsArrivingFault};
-ghost use Rattle.gn_threads.specs.Headline.{AreMadeOf, Holds, LinksReadOwn};
+ghost use Rattle.gn_threads.specs.Headline.{AreMadeOf, AreOfOne, Holds, LinksReadOwn};
 
 use crate::arrivals::Arrivals;
 use crate::confirming::keep_history;
@@ -52,9 +52,11 @@ where
         → IsArrivingFault V.has_peers (length roles.now) workers fault) }
     ensures holds { IfOk result (λ report. Holds V.Reader.state V.Writer.state config.now roles.now workers report) }
     ensures bytes { IfOk result (λ report. LinksReadOwn V.Reader.state
-        (map V.Reader.gives (take (length roles.now) (V.coming arrivals))) report) }
-    ensures made { IfOk result (λ report. AreMadeOf V.Reader.made_of V.Writer.made_of
+        (map (λ link. V.Reader.gives (V.Reader.made_of link.reader)) report.links.items) report) }
+    ensures made { IfOk result (λ report. AreMadeOf
+        (λ reader. V.foreknown (V.Reader.made_of reader)) (λ writer. V.foreknown (V.Writer.made_of writer))
         (take (length roles.now) (V.coming arrivals)) report) }
+    ensures one { IfOk result (λ report. AreOfOne V.Reader.made_of V.Writer.made_of report) }
 {
     match run_arriving_kept::<C, V, G, A, R>(rt, alloc, config, roles, arrivals, workers, gate) {
         Ok(report) => Ok(report),
@@ -62,7 +64,8 @@ where
     }
 }
 
-/// Does the same, and a fault comes with what stands of the history, which is legal by the configuration of the call.
+/// Does the same, and a fault comes with what stands of the history, which is legal by the configuration of the call, and has as
+/// many steps as it may have where the fault is a full history.
 pub fn run_arriving_kept<
     C: RouterCore<A> + Drop + Send,
     V: Arrivals,
@@ -88,11 +91,15 @@ where
         → IsArrivingFault V.has_peers (length roles.now) workers stopped.fault) }
     ensures kept { IfErr result (λ stopped. IfSome stopped.history (λ history.
         IsLegal config.now (reverse history.items))) }
+    ensures full { IfErr result (λ stopped. stopped.fault ≡ HistoryFull → IfSome stopped.history (λ history.
+        length history.items ≡ config.now.numbers.steps)) }
     ensures holds { IfOk result (λ report. Holds V.Reader.state V.Writer.state config.now roles.now workers report) }
     ensures bytes { IfOk result (λ report. LinksReadOwn V.Reader.state
-        (map V.Reader.gives (take (length roles.now) (V.coming arrivals))) report) }
-    ensures made { IfOk result (λ report. AreMadeOf V.Reader.made_of V.Writer.made_of
+        (map (λ link. V.Reader.gives (V.Reader.made_of link.reader)) report.links.items) report) }
+    ensures made { IfOk result (λ report. AreMadeOf
+        (λ reader. V.foreknown (V.Reader.made_of reader)) (λ writer. V.foreknown (V.Writer.made_of writer))
         (take (length roles.now) (V.coming arrivals)) report) }
+    ensures one { IfOk result (λ report. AreOfOne V.Reader.made_of V.Writer.made_of report) }
 {
     if workers == 0 || workers > MOST_WORKERS {
         return Err(Stopped::before(RunFault::BadWorkers));
@@ -150,10 +157,14 @@ where
     ensures fault { IfErr result (λ fault. IsArrivingFault V.has_peers (length roles.now) workers fault) }
     ensures holds { IfOk result (λ report. Holds V.Reader.state V.Writer.state config.now roles.now workers report) }
     ensures bytes { IfOk result (λ report. LinksReadOwn V.Reader.state
-        (map V.Reader.gives (take (length roles.now) (V.coming arrivals))) report) }
-    ensures made { IfOk result (λ report. AreMadeOf V.Reader.made_of V.Writer.made_of
+        (map (λ link. V.Reader.gives (V.Reader.made_of link.reader)) report.links.items) report) }
+    ensures made { IfOk result (λ report. AreMadeOf
+        (λ reader. V.foreknown (V.Reader.made_of reader)) (λ writer. V.foreknown (V.Writer.made_of writer))
         (take (length roles.now) (V.coming arrivals)) report) }
+    ensures one { IfOk result (λ report. AreOfOne V.Reader.made_of V.Writer.made_of report) }
     ensures kept { IfSome history.new (λ steps. IsLegal config.now (reverse steps.items)) }
+    ensures full { IfErr result (λ fault. fault ≡ HistoryFull
+        → IfSome history.new (λ steps. length steps.items ≡ config.now.numbers.steps)) }
 {
     let Ok(opening) = open_run::<B, C, A>(alloc, blank, stage, config, roles, workers) else {
         return Err(RunFault::NoMemory);
@@ -169,7 +180,7 @@ where
     match joined {
         Ok(done) => finish(rt, alloc, config, roles, hub, desk, done, house, history),
         Err(fault) => {
-            keep_history(config, hub, history);
+            keep_history(config, fault, hub, history);
             Err(fault)
         }
     }

@@ -22,6 +22,7 @@ ghost use Rattle.gn_report.specs.Actors.{receipts_of};
 ghost use Rattle.gn_rules.specs.Answer.{IsLegal};
 ghost use Rattle.gn_rules.specs.Statistics.{stats_of};
 ghost use Rattle.gn_threads.specs.Faults.{IsFaultOf};
+ghost use Rattle.gn_threads.specs.declared.fault.RunFault.TheVariants.{HistoryFull};
 ghost use Rattle.gn_threads.specs.Reported.{reader_reported, writer_reported};
 ghost use Rattle.gn_threads.specs.Headline.{Holds};
 ghost use Rattle.gn_bodies.specs.Done.{halved};
@@ -92,7 +93,7 @@ fn close<L: Ledger, C: RouterCore<A>, A: Allocator + Copy>(
 ) -> Closed<A>
     ensures legal { result.is_configured ≡ true → IsLegal config.now (reverse result.history.items) }
     ensures stats { result.stats ≡ stats_of (reverse result.history.items) }
-    ensures long { length result.history.items ≡ length hub.steps }
+    ensures steps { result.history.items ≡ hub.steps }
 {
     let router = hub.into_router();
     let is_configured = is_same_config(router.config(), config);
@@ -104,20 +105,35 @@ fn close<L: Ledger, C: RouterCore<A>, A: Allocator + Copy>(
     }
 }
 
-/// Keeps what stands of the history of a run that stopped; nothing, where its router hasn't the configuration of the call.
+/// Whether a history has as many steps as it may have, where the run stopped because it is full.
+fn is_as_long(config: &Config, fault: RunFault, steps: usize) -> bool
+    ensures { result ≡ true → fault ≡ HistoryFull → steps ≡ config.now.numbers.steps }
+{
+    match fault {
+        RunFault::HistoryFull => steps == config.numbers.steps as usize,
+        _ => true,
+    }
+}
+
+/// Keeps the history of a run that stopped at this fault: all of its steps. It keeps nothing where its router hasn't the
+/// configuration of the call, or where the fault is that the history is full and it isn't.
 pub(crate) fn keep_history<L: Ledger, C: RouterCore<A>, A: Allocator + Copy>(
     config: &Config,
+    fault: RunFault,
     hub: Hub<C, L, A>,
     history: &mut Option<Vec<Step<A>, A>>,
 )
-    ensures { IfSome history.new (λ steps. IsLegal config.now (reverse steps.items)) }
+    ensures kept { IfSome history.new (λ steps. IsLegal config.now (reverse steps.items)) }
+    ensures own { IfSome history.new (λ steps. steps.items ≡ hub.steps) }
+    ensures full { fault ≡ HistoryFull → IfSome history.new (λ steps. length steps.items ≡ config.now.numbers.steps) }
 {
     let Closed {
         history: steps,
         is_configured,
         ..
     } = close(config, hub);
-    *history = if is_configured { Some(steps) } else { None };
+    let is_kept = is_configured && is_as_long(config, fault, steps.len());
+    *history = if is_kept { Some(steps) } else { None };
 }
 
 /// The report of a run, compared with its ledger, its history and the configuration of the call. `unconfirmed` is a worker

@@ -1,6 +1,6 @@
 //! What the bodies of a run gave back.
 
-ghost use Rattle.gn_rules.specs.Limits.{most_workers};
+ghost use Rattle.gn_rules.specs.Limits.{most_links, most_workers};
 ghost use Rattle.std.specs.Prelude.{◌≡◌, ◌+◌, ◌<◌, ◌≤◌, ℕ, None, length, slice_index_or, true, IfSome, IsOk, is_err};
 ghost use Rattle.gn_bodies.specs.declared.ends.BodyFault.TheVariants.{HistoryFull, NoMemory};
 ghost use Rattle.gn_bodies.specs.declared.worker.WorkerDone.{WorkerDone};
@@ -49,21 +49,22 @@ impl<Rd: LinkReader, W: LinkWriter, B: Site + Ledger, A: Allocator> Done<Rd, W, 
     }
 }
 
-/// The first of these workers that was refused a route, where the first worker is this actor.
+/// The first of these workers that was refused a route, by its number as an actor of a run over so many links.
 pub(crate) fn first_refused<B: Site + Ledger, A: Allocator>(
     workers: &[WorkerDone<B, A>],
-    first: u32,
+    links: u32,
 ) -> Option<u32>
-    requires few { (first ≤ 512) × (length workers.now ≤ most_workers) }
+    requires few { (links ≤ most_links) × (length workers.now ≤ most_workers) }
     ensures none { result ≡ None → (k : ℕ) (d : WorkerDone B A) → k < length workers.now
         → IsOk (slice_index_or workers.now k d).end }
-    ensures some { IfSome result (λ a. a < first + length workers.now) }
-    ensures refused { IfSome result (λ a. (k : ℕ) (d : WorkerDone B A) → first + k ≡ a
+    ensures from { IfSome result (λ a. links + links ≤ a) }
+    ensures some { IfSome result (λ a. a < links + links + length workers.now) }
+    ensures refused { IfSome result (λ a. (k : ℕ) (d : WorkerDone B A) → links + links + k ≡ a
         → is_err (slice_index_or workers.now k d).end ≡ true) }
-    ensures least { IfSome result (λ a. (k : ℕ) (d : WorkerDone B A) → first + k < a
+    ensures least { IfSome result (λ a. (k : ℕ) (d : WorkerDone B A) → links + links + k < a
         → IsOk (slice_index_or workers.now k d).end) }
 {
-    let mut actor = first;
+    let mut actor = 2 * links;
     for worker in workers {
         if worker.end.is_err() {
             return Some(actor);

@@ -4,6 +4,7 @@ ghost use Rattle.std.specs.Prelude.{◌≡◌, ◌+◌, ◌*◌, ◌<◌, ℕ, N
 ghost use Rattle.gn_bodies.specs.declared.worker.WorkerDone.{WorkerDone};
 ghost use Rattle.gn_rules.specs.Answer.{IsLegal};
 ghost use Rattle.gn_threads.specs.Faults.{IsFaultOf};
+ghost use Rattle.gn_threads.specs.declared.fault.RunFault.TheVariants.{HistoryFull};
 ghost use Rattle.gn_threads.specs.Reported.{HasBodies, reader_result};
 ghost use Rattle.gn_threads.specs.Headline.{Holds};
 ghost use Rattle.gn_bodies.specs.Done.{reader_ended, halved, writer_ended};
@@ -26,8 +27,8 @@ use std::alloc::Allocator;
 use std::sync::Wait;
 use std::sync::ledger::Ledger;
 
-/// Settles the stage of a run whose threads are joined, has the house route the rest, and reports. Where the house was stopped,
-/// what stands of the history is kept.
+/// Settles the stage of a run whose threads are joined, has the house route the rest, and reports. Where the house was stopped or
+/// memory ran out, what stands of the history is kept.
 pub(crate) fn finish<
     B: Site + Ledger,
     C: RouterCore<A> + Drop,
@@ -58,19 +59,23 @@ pub(crate) fn finish<
     ensures clean { IfOk result (λ _. (k : ℕ) (d : WorkerDone B A) → k < vec_len done.workers
         → IsOk (slice_index_or done.workers.items k d).end) }
     ensures kept { IfSome history.new (λ steps. IsLegal config.now (reverse steps.items)) }
+    ensures full { IfErr result (λ fault. fault ≡ HistoryFull
+        → IfSome history.new (λ steps. length steps.items ≡ config.now.numbers.steps)) }
 {
     let Done {
         readers,
         writers,
         workers,
     } = done;
-    let first = 2 * roles.len() as u32;
-    let number = first + workers.len() as u32;
-    let worker = first_refused(workers.as_slice(), first);
+    let links = roles.len() as u32;
+    let number = 2 * links + workers.len() as u32;
+    let worker = first_refused(workers.as_slice(), links);
     let Ok(sent) = send_home(alloc, readers) else {
+        keep_history(config, RunFault::NoMemory, hub, history);
         return Err(RunFault::NoMemory);
     };
     let Ok(made) = report_workers(alloc, workers) else {
+        keep_history(config, RunFault::NoMemory, hub, history);
         return Err(RunFault::NoMemory);
     };
     let (readers, intakes) = sent;
@@ -80,7 +85,7 @@ pub(crate) fn finish<
     ) {
         Ok(idle) => idle,
         Err(fault) => {
-            keep_history(config, hub, history);
+            keep_history(config, fault, hub, history);
             return Err(fault);
         }
     };
@@ -95,6 +100,7 @@ pub(crate) fn finish<
         writers,
         worked,
         unconfirmed,
+        history,
     )
 }
 
@@ -137,7 +143,9 @@ fn assemble<L: Ledger, C: RouterCore<A> + Drop, Rd: LinkReader, W: LinkWriter, A
     writers: Vec<WriterDone<W, L, A>, A>,
     worked: Worked<L, A>,
     unconfirmed: Option<u32>,
+    history: &mut Option<Vec<Step<A>, A>>,
 ) -> Result<Report<Rd, W, A>, RunFault>
+    requires none { history.old ≡ None }
     requires counted { AreCounted L.parts (length roles.now) (vec_len readers) (vec_len writers)
         (vec_len worked.receipts) }
     requires ends { KeepEnds roles.now (map (λ d. halved Rd.state (reader_result d)) readers.items)
@@ -149,7 +157,18 @@ fn assemble<L: Ledger, C: RouterCore<A> + Drop, Rd: LinkReader, W: LinkWriter, A
     ensures bodies { IfOk result (λ report.
         HasBodies (map reader_result readers.items) (map writer_ended writers.items) report) }
     ensures clean { IfOk result (λ _. unconfirmed ≡ None) }
+    ensures kept { IfSome history.new (λ steps. IsLegal config.now (reverse steps.items)) }
+    ensures own { IfSome history.new (λ steps. steps.items ≡ hub.steps) }
+    ensures full { IfErr result (λ fault. fault ≡ HistoryFull
+        → IfSome history.new (λ steps. length steps.items ≡ config.now.numbers.steps)) }
 {
-    let linked = report_links(alloc, readers, writers)?;
+    let linked = match report_links(alloc, readers, writers) {
+        Ok(linked) => linked,
+        Err(RunFault::NoMemory) => {
+            keep_history(config, RunFault::NoMemory, hub, history);
+            return Err(RunFault::NoMemory);
+        }
+        Err(fault) => return Err(fault),
+    };
     report(config, roles, hub, linked, worked, house, unconfirmed)
 }

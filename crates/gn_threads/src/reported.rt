@@ -62,6 +62,7 @@ pub(crate) fn send_home<Rd: LinkReader, B: Site + Ledger, A: Allocator + Copy>(
             reader,
             home,
             end,
+            found_closed: _,
         } = done;
         homed.push_reserved(ReaderResult { actor, reader, end });
         homes.push_reserved(home);
@@ -107,6 +108,7 @@ impl<Rd: LinkReader, W: LinkWriter, L: Ledger, A: Allocator + Copy> Linked<Rd, W
             role: _,
             writer,
             end: _,
+            found_closed: _,
         } = writer;
         let (reader_receipts, one) = reading.into_parts();
         let (writer_receipts, other) = writing.into_parts();

@@ -42,7 +42,7 @@ impl<
     ) -> Result<(V::Reader, V::Writer), RunFault>
         ensures reader { IfOk result (λ h. IsNewReader (V.Reader.state h.0)) }
         ensures writer { IfOk result (λ h. IsNewWriter (V.Writer.state h.1)) }
-        ensures made { IfOk result (λ h. (V.coming arrivals.old ≡ V.Reader.made_of h.0 ∷ V.coming arrivals.new)
+        ensures made { IfOk result (λ h. (V.coming arrivals.old ≡ V.foreknown (V.Reader.made_of h.0) ∷ V.coming arrivals.new)
             × (V.Writer.made_of h.1 ≡ V.Reader.made_of h.0)) }
         ensures fault { IfErr result (λ fault. (links workers : ℕ) → link < links
             → IsArrivingFault V.has_peers links workers fault) }
@@ -87,12 +87,14 @@ impl<
             ≡ map (λ h. h.promise.start.value.role) handles.old.readers.items ++ unstarted.role ∷ []) }
         ensures writers { OnOk result (map (λ h. h.promise.start.value.role) handles.new.writers.items
             ≡ map (λ h. h.promise.start.value.role) handles.old.writers.items ++ unstarted.role ∷ []) }
-        ensures read { OnOk result (map (λ h. V.Reader.made_of h.promise.start.value.reader) handles.new.readers.items
-            ++ V.coming arrivals.new
-            ≡ map (λ h. V.Reader.made_of h.promise.start.value.reader) handles.old.readers.items ++ V.coming arrivals.old) }
-        ensures written { OnOk result (map (λ h. V.Writer.made_of h.promise.start.value.writer) handles.new.writers.items
-            ++ V.coming arrivals.new
-            ≡ map (λ h. V.Writer.made_of h.promise.start.value.writer) handles.old.writers.items ++ V.coming arrivals.old) }
+        ensures read { OnOk result (
+            map (λ h. V.foreknown (V.Reader.made_of h.promise.start.value.reader)) handles.new.readers.items ++ V.coming arrivals.new
+            ≡ map (λ h. V.foreknown (V.Reader.made_of h.promise.start.value.reader)) handles.old.readers.items ++ V.coming arrivals.old) }
+        ensures written { OnOk result (
+            map (λ h. V.Writer.made_of h.promise.start.value.writer) handles.old.writers.items
+            ≡ map (λ h. V.Reader.made_of h.promise.start.value.reader) handles.old.readers.items
+            → map (λ h. V.Writer.made_of h.promise.start.value.writer) handles.new.writers.items
+            ≡ map (λ h. V.Reader.made_of h.promise.start.value.reader) handles.new.readers.items) }
         ensures workers { handles.new.workers ≡ handles.old.workers }
         ensures fault { IfErr result (λ fault. (links workers : ℕ) → unstarted.link < links
             → IsArrivingFault V.has_peers links workers fault) }
@@ -131,10 +133,10 @@ impl<
         requires none { (handles.old.readers.items ≡ []) × (handles.old.writers.items ≡ []) }
         ensures readers { OnOk result (map (λ h. h.promise.start.value.role) handles.new.readers.items ≡ roles.now) }
         ensures writers { OnOk result (map (λ h. h.promise.start.value.role) handles.new.writers.items ≡ roles.now) }
-        ensures read { OnOk result (map (λ h. V.Reader.made_of h.promise.start.value.reader) handles.new.readers.items
+        ensures read { OnOk result (map (λ h. V.foreknown (V.Reader.made_of h.promise.start.value.reader)) handles.new.readers.items
             ++ V.coming arrivals.new ≡ V.coming arrivals.old) }
         ensures written { OnOk result (map (λ h. V.Writer.made_of h.promise.start.value.writer) handles.new.writers.items
-            ++ V.coming arrivals.new ≡ V.coming arrivals.old) }
+            ≡ map (λ h. V.Reader.made_of h.promise.start.value.reader) handles.new.readers.items) }
         ensures workers { handles.new.workers ≡ handles.old.workers }
         ensures fault { IfErr result (λ fault. (workers : ℕ)
             → IsArrivingFault V.has_peers (length roles.now) workers fault) }
@@ -168,10 +170,10 @@ impl<
             ≡ unstarted.entry.roles.now) }
         ensures writers { OnOk result (map (λ h. h.promise.start.value.role) handles.new.writers.items
             ≡ unstarted.entry.roles.now) }
-        ensures read { OnOk result (map (λ h. V.Reader.made_of h.promise.start.value.reader) handles.new.readers.items
+        ensures read { OnOk result (map (λ h. V.foreknown (V.Reader.made_of h.promise.start.value.reader)) handles.new.readers.items
             ++ V.coming arrivals.new ≡ V.coming arrivals.old) }
         ensures written { OnOk result (map (λ h. V.Writer.made_of h.promise.start.value.writer) handles.new.writers.items
-            ++ V.coming arrivals.new ≡ V.coming arrivals.old) }
+            ≡ map (λ h. V.Reader.made_of h.promise.start.value.reader) handles.new.readers.items) }
         ensures workers { OnOk result (vec_len handles.new.workers ≡ vec_len unstarted.entry.outlets) }
         ensures fault { IfErr result (λ fault. (workers : ℕ)
             → IsArrivingFault V.has_peers (length unstarted.entry.roles.now) workers fault) }
@@ -201,7 +203,7 @@ impl<
         V::Writer: Send + 's,
         ensures joined { IfOk result (λ done. AreJoinedOf
             (IsReaderDone V.Reader.state V.Reader.made_of V.Reader.gives) (IsWriterDone V.Writer.state V.Writer.made_of)
-            V.Reader.made_of V.Writer.made_of unstarted.entry.roles.now (V.coming arrivals)
+            V.Reader.made_of V.Writer.made_of V.foreknown unstarted.entry.roles.now (V.coming arrivals)
             (vec_len unstarted.entry.outlets) done) }
         ensures fault { IfErr result (λ fault. (workers : ℕ)
             → IsArrivingFault V.has_peers (length unstarted.entry.roles.now) workers fault) }
@@ -250,7 +252,7 @@ where
     V::Writer: Send,
     ensures joined { IfOk result (λ done. AreJoinedOf
         (IsReaderDone V.Reader.state V.Reader.made_of V.Reader.gives) (IsWriterDone V.Writer.state V.Writer.made_of)
-        V.Reader.made_of V.Writer.made_of unstarted.entry.roles.now (V.coming arrivals)
+        V.Reader.made_of V.Writer.made_of V.foreknown unstarted.entry.roles.now (V.coming arrivals)
         (vec_len unstarted.entry.outlets) done) }
     ensures fault { IfErr result (λ fault. (workers : ℕ)
         → IsArrivingFault V.has_peers (length unstarted.entry.roles.now) workers fault) }

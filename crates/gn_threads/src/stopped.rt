@@ -10,7 +10,7 @@ use std::alloc::{Allocator, Global};
 #[derive(Debug, Drop)]
 pub struct Stopped<A: Allocator = Global> {
     pub fault: RunFault,
-    /// The history up to where the run stopped; `None`, where it hasn't begun, or something of it isn't confirmed.
+    /// The history up to where the run stopped, whole; `None`, where it hasn't begun, or something of it isn't confirmed.
     pub history: Option<Vec<Step<A>, A>>,
 }
 

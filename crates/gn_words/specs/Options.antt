@@ -81,8 +81,17 @@ limits_of rows = do
   crowd ← number_asked (codes "crowd") 0 most.crowd rows
   retry ← number_asked (codes "retry") 0 86400 rows
   seconds ← number_asked (codes "for") 0 86400 rows
+  grace ← number_asked (codes "grace") 0 3600 rows
   steps ← number_asked (codes "steps") 1 most.steps rows
-  Some (record { idle = idle; life = life; crowd = crowd; retry = retry; seconds = seconds; steps = steps })
+  Some (record {
+    idle = idle;
+    life = life;
+    crowd = crowd;
+    retry = retry;
+    seconds = seconds;
+    grace = grace;
+    steps = steps;
+  })
 
 -- what the options of a serve ask for, where each is within its limits
 abbrev pub serving_of : List Row → Option AskedServe
@@ -104,6 +113,7 @@ serving_of rows = do
     crowd = limits.crowd;
     retry = limits.retry;
     seconds = limits.seconds;
+    grace = limits.grace;
     early = is_set (codes "stop-early") rows;
     until_eof = is_set (codes "until-eof") rows;
     steps = limits.steps;

@@ -4,7 +4,7 @@ use Rattle.std.specs.Str.{bytes_eq}
 use Rattle.clap.specs.Words.{App, Row, Rule, Text, fault_of, new_app, new_rule, subcommand_of, with_rule, with_subcommand}
 use Rattle.clap.specs.Kinds.{Kinds, or_else}
 use Rattle.clap.specs.declared.builder.action.ArgAction.TheVariants.{Append, Set, SetTrue}
-use Rattle.clap.specs.declared.error.kind.ErrorKind.TheVariants.{ValueValidation}
+use Rattle.clap.specs.declared.error.kind.ErrorKind.TheVariants.{DisplayHelp, InvalidSubcommand, ValueValidation}
 use Rattle.gn_words.specs.Options.{is_set, peer_of, peers_in, serving_of, workers_of}
 use Rattle.gn_words.specs.declared.request.Request.{Request}
 use Rattle.gn_words.specs.declared.request.Request.TheVariants.{Replay, History, Audit, Explain, Show, Load, Watched, Serve}
@@ -32,6 +32,10 @@ show_app = with_rule (with_rule (new_app (codes "show")) (flag_rule (codes "json
 abbrev pub value_rule : Text → Rule
 value_rule name = record (new_rule name) { long = Some name; action = Some Set; value_names = 1; required = true }
 
+-- the option `-w V`, or `--workers V`, which has to be given
+abbrev pub workers_rule : Rule
+workers_rule = record (value_rule (codes "workers")) { short = Some 119 }
+
 -- the option `--NAME VALUE`, which has this value where it isn't given
 abbrev pub default_rule : Text → Text → Rule
 default_rule name default =
@@ -43,13 +47,13 @@ repeated_rule name = record (new_rule name) { long = Some name; action = Some Ap
 
 -- the subcommand `load`: it takes the option `--workers V` and the flag `--progress`
 abbrev pub load_app : App
-load_app = with_rule (with_rule (new_app (codes "load")) (value_rule (codes "workers"))) (flag_rule (codes "progress"))
+load_app = with_rule (with_rule (new_app (codes "load")) workers_rule) (flag_rule (codes "progress"))
 
 -- the subcommand `serve` with the options that have to be given
 abbrev pub served_app : App
 served_app =
     with_rule (with_rule (with_rule (new_app (codes "serve")) (value_rule (codes "port"))) (value_rule (codes "accept")))
-    (value_rule (codes "workers"))
+    workers_rule
 
 -- the own servent's ID where none is given: 47 sixteen times
 abbrev pub usual_servent : Text
@@ -66,11 +70,15 @@ abbrev pub ruled_app : App
 ruled_app =
     with_rule (with_rule calling_app (default_rule (codes "life") (codes "0"))) (default_rule (codes "crowd") (codes "0"))
 
--- the same with the options for how long it calls, how long it goes on, and how many steps it makes
-abbrev pub limited_app : App
-limited_app =
+-- the same with the options for how long it calls, how long it goes on, and how long it has to end
+abbrev pub timed_app : App
+timed_app =
     with_rule (with_rule (with_rule ruled_app (default_rule (codes "retry") (codes "0")))
-    (default_rule (codes "for") (codes "0"))) (default_rule (codes "steps") (codes "1000000"))
+    (default_rule (codes "for") (codes "0"))) (default_rule (codes "grace") (codes "5"))
+
+-- the same with the option for how many steps it makes
+abbrev pub limited_app : App
+limited_app = with_rule timed_app (default_rule (codes "steps") (codes "1000000"))
 
 -- the same with the flags for what else stops it
 abbrev pub stopped_app : App
@@ -82,12 +90,13 @@ serve_app =
     with_rule (with_rule (with_rule stopped_app (flag_rule (codes "keep-history"))) (flag_rule (codes "report")))
     (flag_rule (codes "progress"))
 
--- the command `gn` before it has its subcommands: it has a version, and one of them has to be named; `help` is none
+-- the command `gn` before it has its subcommands: it has a version, and one of them has to be named. It gets one more than
+-- those that it is given, `help`, which asks for no work
 abbrev pub bare_app : App
 bare_app =
     let gn = new_app (codes "gn") in
     record gn {
-      top = record gn.top { has_version = true; disable_help_subcommand = true; subcommand_required = true };
+      top = record gn.top { has_version = true; subcommand_required = true };
     }
 
 -- the command `gn` with the subcommands that start no threads
@@ -173,6 +182,7 @@ pub record PlainWordsAreRead : Type 0 where
   pub load : (program : Text) → request_of (load_words program (codes "4")) ≡ Some (Load 4)
   pub watched : (program : Text) → request_of (progress_words program (codes "4")) ≡ Some (Watched 4)
   pub most : (program : Text) → request_of (load_words program (codes "64")) ≡ Some (Load 64)
+  pub short : (program : Text) → request_of (program ∷ codes "load" ∷ codes "-w" ∷ codes "4" ∷ []) ≡ Some (Load 4)
   pub none : (program : Text) → kinds_of (load_words program (codes "0")) ≡ ValueValidation ∷ []
   pub many : (program : Text) → kinds_of (load_words program (codes "65")) ≡ ValueValidation ∷ []
   -- a serve of one port, with what holds of the options that aren't given
@@ -188,6 +198,7 @@ pub record PlainWordsAreRead : Type 0 where
         crowd = 0;
         retry = 0;
         seconds = 0;
+        grace = 5;
         early = false;
         until_eof = false;
         steps = 1000000;
@@ -201,6 +212,9 @@ pub record PlainWordsAreRead : Type 0 where
       → kinds_of (serve_words program (codes "6346") (codes "129") (codes "1") []) ≡ ValueValidation ∷ []
   pub workers : (program : Text)
       → kinds_of (serve_words program (codes "6346") (codes "1") (codes "65") []) ≡ ValueValidation ∷ []
+  -- help is asked for by a subcommand, which may also say that there is none of a name behind it, and by an option
+  pub help : (program : Text) → kinds_of (program ∷ codes "help" ∷ []) ≡ DisplayHelp ∷ InvalidSubcommand ∷ []
+  pub help_option : (program : Text) → kinds_of (program ∷ codes "serve" ∷ codes "--help" ∷ []) ≡ DisplayHelp ∷ []
   -- a peer of this machine is one that is called; one of another machine is a mistake
   pub near : peer_of (codes "127.0.0.1:6347") ≡ Some (record { ip = 127 ∷ 0 ∷ 0 ∷ 1 ∷ []; port = 6347 })
   pub far : peer_of (codes "10.0.0.1:6347") ≡ None

@@ -13,12 +13,13 @@ Examples:
   gn replay --history < examples/first_ping.capture | gn audit
   gn show < examples/first_ping.history
   gn load --workers 4 < examples/six_links.capture | gn audit
-  gn serve --port 6346 --accept 0 --workers 4
+  gn serve --port 6346 --accept 8 --workers 4 --for 60 > serve.history
 
 docs/FORMATS.md has each line of a capture, a history and the printed texts.
 
 Exit status: 0 where it is done, or the history is legal; 1 where input or output is at fault,
-or the history is wrong; 2 where the command line can't be read.";
+or the history is wrong; 2 where the command line can't be read; 141 where whoever reads standard
+output has gone.";
 
 pub(crate) const REPLAY: &str = "Reads a capture, and prints what the router answers";
 
@@ -120,15 +121,27 @@ Example:
 pub(crate) const SERVE: &str = "Routes for peers on this machine over TCP, and prints the history";
 
 pub(crate) const SERVE_USAGE: &str =
-    "gn serve --port P --accept A --workers V [--servent HEX32] [--peer IP:PORT].. [--idle SECONDS]
-                [--life L] [--crowd Q] [--retry SECONDS] [--for SECONDS] [--steps N] [--stop-early]
-                [--until-eof] [--keep-history] [--report] [--progress]";
+    "gn serve --port P --accept A --workers V [--servent HEX32] [--peer IP:PORT]..
+                [--idle SECONDS] [--retry SECONDS] [--life L] [--crowd Q] [--steps N]
+                [--for SECONDS] [--grace SECONDS] [--stop-early] [--until-eof]
+                [--keep-history] [--report] [--progress]";
+
+/// The headings of the options of a serve.
+pub(crate) const NEIGHBOURS: &str = "Neighbours";
+
+pub(crate) const RULES: &str = "Rules";
+
+pub(crate) const END: &str = "End of the run";
+
+pub(crate) const OUTPUT: &str = "Output";
 
 pub(crate) const PORT: &str = "The port of 127.0.0.1 that peers call, 1 to 65535";
 
-pub(crate) const ACCEPT: &str = "How many peers may call, 0 to 128";
+pub(crate) const ACCEPT: &str =
+    "How many callers are taken in all, 0 to 128, whatever becomes of them";
 
-pub(crate) const SERVENT: &str = "The router's own servent ID, 32 hex digits";
+pub(crate) const SERVENT: &str =
+    "The router's own servent ID, 32 hex digits; by default 47 sixteen times";
 
 pub(crate) const PEER: &str =
     "A peer on this machine that is called, as 127.0.0.1:6347; at most 64";
@@ -137,72 +150,91 @@ pub(crate) const BAD_PEER: &str =
     "--peer takes IP:PORT, an address of this machine, 127.0.0.1 or another that begins with 127, and \
      a port of 1 to 65535";
 
-pub(crate) const IDLE: &str =
-    "Seconds after which a peer that is silent, or takes nothing, is given up, 0 to 86400; 0: never";
+pub(crate) const IDLE: &str = "\
+A peer that is silent, or takes nothing, for so many seconds is given up,
+0 to 86400; 0: never";
 
 pub(crate) const BAD_IDLE: &str = "--idle takes a number of seconds, 0 to 86400";
 
-pub(crate) const LIFE: &str =
-    "What TTL and Hops of a descriptor that is passed on are together at most, 0 to 255; 0: no limit";
+pub(crate) const LIFE: &str = "\
+What TTL and Hops of a descriptor that is passed on are together at most,
+0 to 255; 0: no limit";
 
-pub(crate) const CROWD: &str =
-    "How many descriptors of one peer may be in flight at once, 0 to 4096; 0: as many as of all";
+pub(crate) const CROWD: &str = "\
+How many descriptors of one peer may be in flight at once, 0 to 4096;
+0: as many as of all";
 
-pub(crate) const RETRY: &str =
-    "Seconds for which a peer that doesn't listen yet is called again, 0 to 86400; 0: it is called once";
+pub(crate) const RETRY: &str = "\
+A peer that doesn't listen yet is called again for so many seconds,
+0 to 86400; 0: it is called once";
 
 pub(crate) const BAD_RETRY: &str = "--retry takes a number of seconds, 0 to 86400";
 
-pub(crate) const SECONDS: &str =
-    "Seconds after which the router stops: it reads no more and waits for no caller, but loses nothing \
-     that it admitted, 0 to 86400; 0: never";
+pub(crate) const SECONDS: &str = "\
+The router stops after so many seconds: it reads no more and waits for no
+caller, but writes what it owes, 0 to 86400; 0: never";
 
 pub(crate) const BAD_SECONDS: &str = "--for takes a number of seconds, 0 to 86400";
 
-pub(crate) const STEPS: &str =
-    "The most steps of the history, 1 to 1000000; a run that needs more ends with `fault: history full`";
+pub(crate) const GRACE: &str = "\
+How many seconds a router that stops has to write what it owes, and a peer
+that is let go to take it, 0 to 3600";
 
-pub(crate) const EARLY: &str =
-    "Stops the router as --for does once nine tenths of its most steps are made, with what is in flight";
+pub(crate) const STEPS: &str = "\
+The most steps of the history, 1 to 1000000; a run that needs more ends
+with `fault: history full`";
 
-pub(crate) const UNTIL_EOF: &str =
-    "Stops the router as --for does at the end of standard input, which is read and not looked at";
+pub(crate) const EARLY: &str = "\
+Stops the router as --for does once nine tenths of its most steps are
+made, with what is in flight";
 
-pub(crate) const KEEP: &str =
-    "Prints what stands of the history also where the run stops at a fault, as where it has its most steps";
+pub(crate) const UNTIL_EOF: &str = "\
+Stops the router as --for does at the end of standard input, which is
+read and not looked at";
 
-pub(crate) const REPORT: &str =
-    "Writes on standard error what became of each link, and the counters, once the run has ended";
+pub(crate) const KEEP: &str = "\
+Prints what stands of the history also where the run stops at a fault, as
+where it has its most steps";
 
-pub(crate) const SERVE_PROGRESS: &str =
-    "Writes on standard error each link that comes or ends, once a second how far the router is, and at a \
-     half and nine tenths of its most steps which link offered most";
+pub(crate) const REPORT: &str = "\
+Writes on standard error what became of each link, and the counters, once
+the run has ended";
+
+pub(crate) const SERVE_PROGRESS: &str = "\
+Writes on standard error each link that comes or ends, once a second how
+far the router is, and at a half and nine tenths of its most steps which
+link offered most";
 
 pub(crate) const SERVE_TEXTS: &str = "\
-The peers are called first, in their order, and then A others may call. Each link is greeted and
-read by a thread of its own and written by another, and V workers route what the readers admitted.
-`listening PORT` on standard error says that the router can be called. Once all links have ended,
-standard output is the history of the router, which `gn audit` reads.
+The peers are called first, in their order, and then A others may call: each that does is one of
+the A, whatever becomes of it. Each link is greeted and read by a thread of its own and written by
+another, and V workers route what the readers admitted. `listening PORT` on standard error says that
+the router can be called. Once all links have ended, standard output is the history of the router,
+which `gn audit` reads.
 
 A link ends as its peer closes it. Two routers that call each other and nobody else each wait for
 the other's end: `--idle 2` ends a link of which nothing was heard for 2 seconds. A router waits for
 its A callers without a limit. One whose run has failed, as by a full history, lets its peers go,
-and calls and waits for nobody else. With `--for` it ends after so many seconds in any case, with
-`--until-eof` as standard input ends, with its whole history. A neighbour that has gone keeps its
-place until something is written to it, or `--idle` is over.
+and calls and waits for nobody else. A neighbour that has closed its socket keeps its place until
+something is written to it: `--idle` doesn't free it. It frees that of one which is silent.
+
+Ctrl-C and a kill end the program at once: nothing is printed, and the history is lost, also with
+`--keep-history`. Three ways stop it well, with its whole history: `--for`, in so many seconds;
+`--until-eof`, as standard input ends, by Ctrl-D or as the writer of a pipe ends; `--stop-early`,
+before its most steps. What it owes by then is written, and after the grace it ends in any case.
+examples/gn.service is a unit for a service manager, with a standard input that the manager ends.
 
 A run that would make more than its most steps prints no history, unless `--keep-history` is given:
 one neighbour alone makes a million in a second. With `--stop-early` the router stops before, and
 prints its whole history; what it still has to read of a piece and to write takes the last tenth of
-the steps. An audit reads at most 64 MiB, which are some 600,000 steps of small packets: `--steps
-500000` keeps below it.
+the steps. An audit reads at most 64 MiB, which are some 600,000 steps of small packets, and fewer
+the more neighbours there are: `--steps 300000` keeps below it with 64 of them.
 
 Example: two routers of which the second calls the first, in whichever order they start. Both end
 after 5 seconds.
 
-  gn serve --port 6347 --accept 0 --workers 4 --for 5 --peer 127.0.0.1:6346 --retry 3 \
-    > second.history &
-  gn serve --port 6346 --accept 1 --workers 4 --for 5 > first.history
+  gn serve --port 6347 --accept 0 -w 4 --for 5 --peer 127.0.0.1:6346 --retry 3 > second.history &
+  gn serve --port 6346 --accept 1 -w 4 --for 5 > first.history
   wait
   gn audit < first.history
   gn audit < second.history";

@@ -86,6 +86,16 @@ fn seconds_of(options: &ArgMatches<'_>, option: &str, mistake: &'static str) -> 
     }
 }
 
+/// The seconds that `--grace` asks for, where they are no more than an hour.
+fn grace_of(options: &ArgMatches<'_>) -> Result<u32, Unread>
+    ensures { IsReadAs (λ n. n) (number_asked (codes "grace") 0 3600 (rows_of (found_of options.now))) result }
+{
+    match number_asked(options, "grace", 0, 3_600) {
+        Some(seconds) => Ok(seconds),
+        None => Err(Unread::Mistake("--grace takes a number of seconds, 0 to 3600")),
+    }
+}
+
 /// The steps that `--steps` asks for, where they are no more than a history may have.
 fn steps_of(options: &ArgMatches<'_>) -> Result<u32, Unread>
     ensures { IsReadAs (λ n. n) (number_asked (codes "steps") 1 most.steps (rows_of (found_of options.now))) result }
@@ -215,6 +225,7 @@ struct Limits {
     crowd: u32,
     retry: u32,
     seconds: u32,
+    grace: u32,
     steps: u32,
 }
 
@@ -229,6 +240,7 @@ fn limits_of(options: &ArgMatches<'_>) -> Result<Limits, Unread>
         crowd: crowd_of(options)?,
         retry: seconds_of(options, "retry", help::BAD_RETRY)?,
         seconds: seconds_of(options, "for", help::BAD_SECONDS)?,
+        grace: grace_of(options)?,
         steps: steps_of(options)?,
     })
 }
@@ -254,6 +266,7 @@ pub(crate) fn serving_of(alloc: Global, options: &ArgMatches<'_>) -> Result<Serv
         crowd: limits.crowd,
         retry: limits.retry,
         seconds: limits.seconds,
+        grace: limits.grace,
         early: is_set(options, "stop-early"),
         until_eof: is_set(options, "until-eof"),
         steps: limits.steps,

@@ -56,6 +56,8 @@ pub struct ServeOptions {
     pub retry: u32,
     /// The seconds after which the run is stopped; 0: no time stops it.
     pub seconds: u32,
+    /// The seconds that a run which is stopped has to end.
+    pub grace: u32,
     /// Whether the run is stopped once it has made nine tenths of its steps.
     pub early: bool,
     /// Whether the run is stopped at the end of standard input.
@@ -88,6 +90,7 @@ impl Model for ServeOptions {
       crowd = s.crowd;
       retry = s.retry;
       seconds = s.seconds;
+      grace = s.grace;
       early = s.early;
       until_eof = s.until_eof;
       steps = s.steps;

@@ -18,7 +18,7 @@ ghost use Rattle.clap.specs.Words.{
 ghost use Rattle.clap.specs.declared.builder.command.Command.TheViews.{out-Command as fields_of};
 ghost use Rattle.clap.specs.declared.error.kind.ErrorKind.TheVariants.{ValueValidation};
 ghost use Rattle.gn_words.specs.Options.{IsReadAs, is_set};
-ghost use Rattle.gn_words.specs.Words.{PlainWordsAreRead, audit_app, bare_app, calling_app, default_rule, flag_rule, gn_app, kinds_of, limited_app, load_app, repeated_rule, replay_app, ruled_app, request_named, request_of, serve_app, served_app, stopped_app, texts_app, value_rule};
+ghost use Rattle.gn_words.specs.Words.{PlainWordsAreRead, audit_app, bare_app, calling_app, default_rule, flag_rule, gn_app, kinds_of, limited_app, load_app, repeated_rule, replay_app, ruled_app, request_named, request_of, serve_app, served_app, stopped_app, texts_app, timed_app, value_rule, workers_rule};
 
 use crate::help;
 use crate::options::{serving_of, workers_of};
@@ -34,7 +34,7 @@ use std::convert::AsStr;
 const OWN_SERVENT: &str = "47474747474747474747474747474747";
 
 /// The version that is printed.
-const VERSION: &str = "0.1.0";
+const VERSION: &str = "0.2.0";
 
 pub(crate) fn flag<'a>(alloc: Global, name: &'a str, text: &'a str) -> Arg<'a>
     ensures rule { rule_of result ≡ flag_rule name.now }
@@ -90,6 +90,14 @@ fn audit_command<'a>(alloc: Global) -> Result<Command<'a>, AllocError>
     .arg(flag(alloc, "explain", help::EXPLAIN))
 }
 
+/// The same argument under this heading of help.
+fn under<'a>(heading: &'a str, arg: Arg<'a>) -> Arg<'a>
+    ensures rule { rule_of result ≡ rule_of arg.entry }
+    ensures global { result.global ≡ arg.entry.global }
+{
+    arg.help_heading(heading)
+}
+
 /// An option that has to be given, with a value.
 fn value<'a>(alloc: Global, name: &'a str, shown: &'a str, text: &'a str) -> Arg<'a>
     ensures rule { rule_of result ≡ value_rule name.now }
@@ -134,6 +142,14 @@ fn values<'a>(alloc: Global, name: &'a str, shown: &'a str, text: &'a str) -> Ar
         .help(text)
 }
 
+/// The option `-w`, `--workers V`, which has to be given.
+fn workers<'a>(alloc: Global) -> Arg<'a>
+    ensures rule { rule_of result ≡ workers_rule }
+    ensures local { result.global ≡ false }
+{
+    value(alloc, "workers", "V", help::WORKERS).short('w')
+}
+
 /// A command with two more arguments.
 pub(crate) fn with_both<'a>(
     command: Command<'a>,
@@ -160,8 +176,8 @@ fn load_command<'a>(alloc: Global) -> Result<Command<'a>, AllocError>
         help::LOAD_USAGE,
         help::LOAD_TEXTS,
     );
-    let workers = value(alloc, "workers", "V", help::WORKERS);
-    with_both(command, workers, flag(alloc, "progress", help::PROGRESS))
+    let progress = flag(alloc, "progress", help::PROGRESS);
+    with_both(command, workers(alloc), progress)
 }
 
 /// The subcommand `serve` with the options that have to be given.
@@ -178,7 +194,7 @@ fn served_command<'a>(alloc: Global) -> Result<Command<'a>, AllocError>
     );
     let port = value(alloc, "port", "P", help::PORT);
     let accept = value(alloc, "accept", "A", help::ACCEPT);
-    with_both(command, port, accept)?.arg(value(alloc, "workers", "V", help::WORKERS))
+    with_both(command, port, accept)?.arg(workers(alloc))
 }
 
 /// The subcommand `serve` with the options that say who the router is, whom it calls, and when it gives a peer up.
@@ -188,8 +204,11 @@ fn calling_command<'a>(alloc: Global) -> Result<Command<'a>, AllocError>
 {
     let command = served_command(alloc)?;
     let servent = value_or(alloc, "servent", "HEX32", OWN_SERVENT, help::SERVENT);
+    let servent = servent.hide_default_value(true);
     let peers = values(alloc, "peer", "IP:PORT", help::PEER);
-    with_both(command, servent, peers)?.arg(value_or(alloc, "idle", "SECONDS", "0", help::IDLE))
+    let idle = value_or(alloc, "idle", "SECONDS", "0", help::IDLE);
+    let peers = under(help::NEIGHBOURS, peers);
+    with_both(command, servent, peers)?.arg(under(help::NEIGHBOURS, idle))
 }
 
 /// The same with the options for the numbers of the router's rules.
@@ -200,18 +219,29 @@ fn ruled_command<'a>(alloc: Global) -> Result<Command<'a>, AllocError>
     let command = calling_command(alloc)?;
     let life = value_or(alloc, "life", "L", "0", help::LIFE);
     let crowd = value_or(alloc, "crowd", "Q", "0", help::CROWD);
-    with_both(command, life, crowd)
+    with_both(command, under(help::RULES, life), under(help::RULES, crowd))
 }
 
-/// The same with the options for how long it calls, how long it goes on, and how many steps it makes.
-fn limited_command<'a>(alloc: Global) -> Result<Command<'a>, AllocError>
-    ensures shape { IfOk result (λ command. app_of command ≡ limited_app) }
+/// The same with the options for how long it calls, how long it goes on, and how long it has to end.
+fn timed_command<'a>(alloc: Global) -> Result<Command<'a>, AllocError>
+    ensures shape { IfOk result (λ command. app_of command ≡ timed_app) }
     ensures globals { IfOk result (λ command. (fields_of command).has_globals ≡ false) }
 {
     let command = ruled_command(alloc)?;
     let retry = value_or(alloc, "retry", "SECONDS", "0", help::RETRY);
+    let retry = under(help::NEIGHBOURS, retry);
     let seconds = value_or(alloc, "for", "SECONDS", "0", help::SECONDS);
-    with_both(command, retry, seconds)?.arg(value_or(alloc, "steps", "N", "1000000", help::STEPS))
+    let grace = value_or(alloc, "grace", "SECONDS", "5", help::GRACE);
+    with_both(command, retry, under(help::END, seconds))?.arg(under(help::END, grace))
+}
+
+/// The same with the option for how many steps it makes.
+fn limited_command<'a>(alloc: Global) -> Result<Command<'a>, AllocError>
+    ensures shape { IfOk result (λ command. app_of command ≡ limited_app) }
+    ensures globals { IfOk result (λ command. (fields_of command).has_globals ≡ false) }
+{
+    let steps = value_or(alloc, "steps", "N", "1000000", help::STEPS);
+    timed_command(alloc)?.arg(under(help::RULES, steps))
 }
 
 /// The same with the flags for what else stops it.
@@ -222,7 +252,11 @@ fn stopped_command<'a>(alloc: Global) -> Result<Command<'a>, AllocError>
     let command = limited_command(alloc)?;
     let early = flag(alloc, "stop-early", help::EARLY);
     let until_eof = flag(alloc, "until-eof", help::UNTIL_EOF);
-    with_both(command, early, until_eof)
+    with_both(
+        command,
+        under(help::END, early),
+        under(help::END, until_eof),
+    )
 }
 
 fn serve_command<'a>(alloc: Global) -> Result<Command<'a>, AllocError>
@@ -232,7 +266,13 @@ fn serve_command<'a>(alloc: Global) -> Result<Command<'a>, AllocError>
     let command = stopped_command(alloc)?;
     let keeps = flag(alloc, "keep-history", help::KEEP);
     let report = flag(alloc, "report", help::REPORT);
-    with_both(command, keeps, report)?.arg(flag(alloc, "progress", help::SERVE_PROGRESS))
+    let progress = flag(alloc, "progress", help::SERVE_PROGRESS);
+    with_both(
+        command,
+        under(help::OUTPUT, keeps),
+        under(help::OUTPUT, report),
+    )?
+    .arg(under(help::OUTPUT, progress))
 }
 
 /// The command `gn` before it has its subcommands.
@@ -243,7 +283,6 @@ fn bare_command<'a>(alloc: Global) -> Command<'a>
         .version(VERSION)
         .about(help::ABOUT)
         .after_help(help::EXAMPLES)
-        .disable_help_subcommand(true)
         .subcommand_required(true)
 }
 

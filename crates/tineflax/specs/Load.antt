@@ -3,4 +3,5 @@
 pub use Rattle.gn_load.specs.Faults
 pub use Rattle.gn_load.specs.Links
 pub use Rattle.gn_load.specs.Loads
+pub use Rattle.gn_load.specs.Printed
 pub use Rattle.gn_load.specs.Served

@@ -9,3 +9,4 @@ pub use Rattle.gn_replay.specs.Pieces
 pub use Rattle.gn_replay.specs.ReplayHistory
 pub use Rattle.gn_replay.specs.ReplayText
 pub use Rattle.gn_replay.specs.Replays
+pub use Rattle.gn_replay.specs.Runs

@@ -37,20 +37,25 @@ pub mod frames {
 /// Configurations, events, replies and steps, and what every router promises.
 pub mod rules {
     pub use gn_rules::{
-        BadConfig, Config, ConnId, Counter, DropReason, Event, Field, Legality, Own, Receipt,
-        Refusal, Reply, RouterCore, Sending, Sends, Stats, Step, Ticket, answers_fit,
-        checked_answers_fit, counters_add_up, counters_count, live_connections_rise, may_originate,
-        output_is_untaken, run_events, runs_agree, runs_agree_so_far, runs_stay_legal,
-        servent_route_is_last,
+        BadConfig, Config, ConnId, Counter, DropReason, Event, Field, Legality, MOST_LINKS,
+        MOST_WORKERS, Numbers, Own, Receipt, Refusal, Reply, RouterCore, Sending, Sends, Stats,
+        Step, Ticket, answers_fit, checked_answers_fit, counters_add_up, counters_count,
+        is_same_config, live_connections_rise, may_originate, output_is_untaken, run_events,
+        runs_agree, runs_agree_so_far, runs_stay_legal, servent_route_is_last,
     };
 }
 
-/// Laws of whole histories.
+/// Laws of whole histories, of paths, and of networks.
 pub mod laws {
     pub use gn_laws::{
         admitted_once, closed_stays_closed, connections_count, drained_took_all,
         equal_counts_route_all, links_agree, nothing_after_close, packets_go_to_live,
         queued_is_taken_and_waiting, routed_once, routes_are_replied, tickets_count,
+    };
+    pub use gn_network::runs_make_a_network;
+    pub use gn_paths::{
+        answers_came_back, answers_cross_back, answers_follow, answers_go_back, floods_end,
+        life_falls, not_sent_again, nothing_from_nowhere, pushes_go_back, requests_spread,
     };
 }
 
@@ -76,7 +81,7 @@ pub mod stage {
 
 /// The router under its lock, and the actors that call it.
 pub mod hub {
-    pub use gn_hub::{Actor, Door, Hub, Mark, Next, Outgoing, Service, ServiceFault};
+    pub use gn_hub::{Actor, Door, FoundClosed, Hub, Mark, Next, Outgoing, Service, ServiceFault};
 }
 
 /// Links over memory and over TCP.
@@ -85,7 +90,10 @@ pub mod links {
         Gate, Half, Link, LinkFault, LinkReader, LinkWriter, Made, MemoryLink, MemoryReader,
         MemoryWriter, NoGate, SplitFault, SplitLink, SplitLinks, split_all,
     };
-    pub use gn_tcp::{TcpLink, TcpOrigin, TcpReader, TcpStopper, TcpWriter, listen};
+    pub use gn_tcp::{
+        ListenerStopper, Socket, TcpLink, TcpOrigin, TcpReader, TcpStopper, TcpWriter, Unmet,
+        listen,
+    };
 }
 
 /// What the threads of a run do.

@@ -1,17 +1,33 @@
-//! A gate that knows who passed, how many were admitted and how many steps were made.
+//! A gate that knows who passed, and of which steps it was told.
 
 use gn_links::{Gate, Half, Made};
 use std::cell::Cell;
 use std::sync::Wait;
 
-/// Keeps which worker passed it last, and with which ticket, how many descriptors it knows as admitted, how many steps as made,
-/// and which threads of a link as ended.
+/// The first steps of which a gate was told, a word a step, in order; after the last of them no word.
+pub(super) type Told = [&'static str; 8];
+
+/// Keeps which worker passed it last, and with which ticket, of which steps it was told, and which threads of a link it knows as
+/// ended.
 #[derive(Drop)]
 pub(super) struct Doorman {
     pub(super) last: Cell<Option<(u32, u32)>>,
-    pub(super) admitted: Cell<u32>,
-    pub(super) steps: Cell<u32>,
+    pub(super) told: Cell<Told>,
+    count: Cell<usize>,
     pub(super) ended: Cell<(bool, bool)>,
+}
+
+/// The word for a step of a link's threads.
+fn word_of(step: Made) -> &'static str {
+    match step {
+        Made::Connected => "connected",
+        Made::TooMany => "too many",
+        Made::Admitted(_) => "admitted",
+        Made::Busy => "busy",
+        Made::Routed => "routed",
+        Made::Taken => "taken",
+        Made::Closed => "closed",
+    }
 }
 
 impl Doorman {
@@ -19,28 +35,31 @@ impl Doorman {
     pub(super) fn new() -> Self {
         Doorman {
             last: Cell::new(None),
-            admitted: Cell::new(0),
-            steps: Cell::new(0),
+            told: Cell::new([""; 8]),
+            count: Cell::new(0),
             ended: Cell::new((false, false)),
         }
     }
 
-    fn count(&self) {
-        self.steps.set(self.steps.get().wrapping_add(1));
+    fn tell(&self, word: &'static str) {
+        let count = self.count.get();
+        let mut told = self.told.get();
+        if let Some(place) = told.get_mut(count) {
+            *place = word;
+        }
+        self.told.set(told);
+        self.count.set(count.wrapping_add(1));
     }
 }
 
 impl Gate for Doorman {
     fn enter<R: Wait>(&self, _rt: &R, worker: u32, ticket: u32) {
         self.last.set(Some((worker, ticket)));
-        self.count();
+        self.tell("passed");
     }
 
     fn made(&self, _link: u32, step: Made) {
-        if let Made::Admitted(_) = step {
-            self.admitted.set(self.admitted.get().wrapping_add(1));
-        }
-        self.count();
+        self.tell(word_of(step));
     }
 
     fn ended(&self, _link: u32, half: Half) {

@@ -1,6 +1,6 @@
 //! The worked runs of one link.
 
-use super::{Ran, USUAL, WORKER, run_link};
+use super::{Ran, Setting, USUAL, WORKER, run_link};
 use crate::hub::lines_of;
 use gn_bodies::{ReaderEnd, WriterEnd};
 use gn_fixtures::{OWN_PONG, PING};
@@ -40,8 +40,7 @@ fn has_not_opened(ran: &Ran<MemoryWriter>, read: ReaderEnd, written: &[u8]) -> b
         && ran.history.is_empty()
         && ran.door == Door::Shut
         && ran.passed.is_none()
-        && ran.admitted == 0
-        && ran.counted == 0
+        && ran.told == [""; 8]
         && ran.ended == (true, true)
 }
 
@@ -84,8 +83,20 @@ fn a_link_of_one_ping(rt: HostRuntime) -> Result<(), Fail> {
                 OWN_PONG
             )
         );
-        assert!(rt; ran.passed == Some((WORKER, 0)) && ran.admitted == 1);
-        assert!(rt; ran.counted == 5 && ran.ended == (true, true));
+        assert!(rt; ran.passed == Some((WORKER, 0)) && ran.ended == (true, true));
+        assert!(rt;
+            ran.told
+                == [
+                    "connected",
+                    "admitted",
+                    "passed",
+                    "taken",
+                    "closed",
+                    "",
+                    "",
+                    ""
+                ]
+        );
         let lines = lines_of(alloc, ran.history.as_slice());
         drop(ran);
         let lines = lines?;
@@ -102,5 +113,45 @@ fn a_link_that_never_opens(rt: HostRuntime) -> Result<(), Fail> {
     assert!(rt; never_opens(&rt, alloc, refused, ReaderEnd::GreetingRefused, request()));
     let cut = MemoryLink::new(Role::Accepting, request()[..21].to_vec(alloc)?, 4096);
     assert!(rt; never_opens(&rt, alloc, cut, ReaderEnd::GreetingCut, b""));
+    Ok(())
+}
+
+/// Without a worker the reader routes its Ping itself; and a fifth connection is one too many.
+#[test]
+fn a_gate_is_told_of_each_step(rt: HostRuntime) -> Result<(), Fail> {
+    let alone = Setting {
+        is_alone: true,
+        ..USUAL
+    };
+    let fifth = Setting {
+        connected: 4,
+        ..USUAL
+    };
+    let drained = (ReaderEnd::Bytes, WriterEnd::Drained);
+    let turned_away = (ReaderEnd::TooMany, WriterEnd::NeverOpened);
+    let rows = [
+        (
+            alone,
+            drained,
+            [
+                "connected",
+                "admitted",
+                "routed",
+                "taken",
+                "closed",
+                "",
+                "",
+                "",
+            ],
+        ),
+        (fifth, turned_away, ["too many", "", "", "", "", "", "", ""]),
+    ];
+    for (setting, (reader, writer), told) in rows {
+        let link = MemoryLink::new(Role::Plain, PING.to_vec(rt.alloc())?, 4096);
+        let ran = run_link(&rt, rt.alloc(), setting, link).ok_or("memory")?;
+        assert!(rt; ran.ends == (Ok(reader), Ok(()), Ok(writer)) && ran.told == told);
+        assert_eq!(rt; ran.history.len(), 5);
+        drop(ran);
+    }
     Ok(())
 }

@@ -38,6 +38,10 @@ pub(crate) enum Peer {
     Drips,
     /// Reads nothing, while another floods.
     NeverReads,
+    /// The same, but the other stops the run.
+    Deaf,
+    /// Is let in, finds that nobody else may call, and leaves.
+    Last,
 }
 
 impl Peer {
@@ -48,7 +52,7 @@ impl Peer {
 
     /// Whether its run is over soon after it. One that was flooded with large packets compares megabytes first.
     pub(crate) fn is_brief(self) -> bool {
-        !matches!(self, Peer::NeverReads)
+        !matches!(self, Peer::NeverReads | Peer::Deaf)
     }
 }
 
@@ -204,22 +208,28 @@ fn leaves(client: &mut TcpStream) -> io::Result<bool> {
     Ok(is_let_in & hears_the_end(client)?)
 }
 
-/// A peer that is called. Where it consents it sends a Ping, hears the Pong and sends no more. In any case it hears the end.
-pub(crate) fn is_called(caller: &mut TcpStream, consents: bool) -> io::Result<bool> {
-    let mut is_good = hears(caller, request())?;
-    if consents {
-        caller.write_all(consent())?;
-        caller.write_all(PING)?;
-        caller.shutdown(Shutdown::Write)?;
-        is_good &= hears(caller, OWN_PONG)?;
+/// A peer that is called, and consents: it sends a Ping, hears the Pong and sends no more, and then hears the end.
+fn is_called(caller: &mut TcpStream) -> io::Result<bool> {
+    let is_asked = hears(caller, request())?;
+    caller.write_all(consent())?;
+    caller.write_all(PING)?;
+    caller.shutdown(Shutdown::Write)?;
+    Ok(is_asked & hears(caller, OWN_PONG)? & hears_the_end(caller)?)
+}
+
+/// A peer that is called by a run that fails: it hears the request and the end, or the end before that.
+pub(crate) fn is_given_up(caller: &mut TcpStream) -> io::Result<bool> {
+    match hears(caller, request()) {
+        Ok(is_asked) => Ok(is_asked & hears_the_end(caller)?),
+        Err(why) if why.kind() == ErrorKind::UnexpectedEof => Ok(true),
+        Err(why) => Err(why),
     }
-    Ok(is_good & hears_the_end(caller)?)
 }
 
 /// A peer that the run calls there, and that consents.
-fn called(listener: &TcpListener) -> io::Result<bool> {
+pub(crate) fn called(listener: &TcpListener) -> io::Result<bool> {
     let (mut caller, _) = listener.accept()?;
-    let is_good = is_called(&mut caller, true);
+    let is_good = is_called(&mut caller);
     drop(caller);
     is_good
 }
@@ -239,11 +249,18 @@ fn called_late<N: Net<Listener = TcpListener, Stream = TcpStream> + Clock>(
     }
 }
 
+/// Stops the run, where it may be stopped.
+fn set_stop(serving: &Serving<'_>) {
+    if let Some(stop) = serving.stop {
+        stop.set();
+    }
+}
+
 /// A client that is answered, stops the run or not, and waits for the end.
 fn stays(client: &mut TcpStream, serving: &Serving<'_>, stops: bool) -> io::Result<bool> {
     let is_answered = is_answered(client)?;
-    if let (true, Some(stop)) = (stops, serving.stop) {
-        stop.set();
+    if stops {
+        set_stop(serving);
     }
     Ok(is_answered & hears_the_end(client)?)
 }
@@ -354,16 +371,46 @@ fn never_reads<N: Clock>(
     Ok(is_good & hears_the_end(flooder)?)
 }
 
+/// How many large Queries are sent to a peer that reads nothing, so that its sockets are full.
+const MANY: u16 = 150;
+
+/// Sends more than fills the sockets of another, stops the run, and hears the end.
+fn is_flooded<N: Clock>(
+    clock: &N,
+    flooder: &mut TcpStream,
+    serving: &Serving<'_>,
+) -> io::Result<bool> {
+    let mut is_good = hears(flooder, consent())?;
+    let mut id = [0xb2u8; 16];
+    for number in 0..MANY {
+        id[..2].copy_from_slice(&number.to_le_bytes());
+        is_good &= are_routed(flooder, &id)?;
+        thread::sleep(clock, Duration::from_millis(10));
+    }
+    set_stop(serving);
+    Ok(is_good & hears_the_end(flooder)?)
+}
+
+/// Whether nobody can call there.
+fn is_closed<N: Net<Listener = TcpListener, Stream = TcpStream>>(net: &N, at: SocketAddr) -> bool {
+    match TcpStream::connect(net, at) {
+        Ok(_) => false,
+        Err(why) => why.kind() == ErrorKind::ConnectionRefused,
+    }
+}
+
 /// What two clients do that have greeted.
 fn play_two<N: Clock>(
     clock: &N,
     first: &mut TcpStream,
     second: &mut TcpStream,
     peer: Peer,
+    serving: &Serving<'_>,
 ) -> io::Result<bool> {
     match peer {
         Peer::Two => two(first, second),
         Peer::Turns => in_turn(first, second),
+        Peer::Deaf => is_flooded(clock, second, serving),
         _ => never_reads(clock, first, second),
     }
 }
@@ -382,11 +429,12 @@ fn play_greeted<N: Net<Listener = TcpListener, Stream = TcpStream> + Clock>(
         Peer::Floods => floods(client),
         Peer::ShutsReading => shuts_reading(client),
         Peer::Drips => drips(client),
+        Peer::Last => Ok(leaves(client)? & is_closed(net, at)),
         Peer::Resets => {
             client.write_all(&PING[..10])?;
             Ok(true)
         }
-        _ => play_with_second(net, at, client, peer),
+        _ => play_with_second(net, at, client, peer, serving),
     }
 }
 
@@ -396,9 +444,10 @@ fn play_with_second<N: Net<Listener = TcpListener, Stream = TcpStream> + Clock>(
     at: SocketAddr,
     client: &mut TcpStream,
     peer: Peer,
+    serving: &Serving<'_>,
 ) -> io::Result<bool> {
     let mut second = greeted(net, at)?;
-    let is_good = play_two(net, client, &mut second, peer);
+    let is_good = play_two(net, client, &mut second, peer, serving);
     drop(second);
     is_good
 }

@@ -16,6 +16,7 @@ loop-step-preserved g c = record {
       next_left step_text c.args.steps.now c.loop-step.step-index c.step-item.result c.loop-step-test.true c.step-item.is (g.W.Sink.state c.args.sink.now).written
       (g.W.Sink.state c.loop-step.sink).written (g.W.Sink.state c.print_step.new.sink).written c.args.block.now c.loop-step.block c.print_step.new.block
       c.loop-step.invariant.left c.in_ok-print_step.ensures.ok;
+  small = λ _. c.in_ok-print_step.ensures.small;
   unfailed =
       (c.in_ok-print_step.ensures.writes.0 ∙ c.loop-step.invariant.unfailed.0, c.in_ok-print_step.ensures.writes.1 ∙ c.loop-step.invariant.unfailed.1);
 }

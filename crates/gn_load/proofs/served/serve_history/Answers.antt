@@ -1,24 +1,21 @@
-use Rattle.std.proofs.Common.{length, inr, subst}
+use Rattle.std.proofs.Common.{inr, subst}
 use Rattle.std.specs.Io.KnownBytes.{Appends}
 use Rattle.gn_capture.specs.Histories.{history_text}
 use Rattle.gn_load.specs.Printed.{IsPrintFault}
+use Rattle.gn_load.specs.Served.{AppendsServedPart}
 use Rattle.gn_load.proofs.ServedLemmas.{kept_written, memory_is_other, run_is, write_is_other, written, written_part}
 use Rattle.gn_load.proofs.served.serve_history.Goals as goal
 
 pub returns-in-Ok-print_history-clause-written : goal.returns-in-Ok-print_history-clause-written
 returns-in-Ok-print_history-clause-written g c =
     let ran = c.in-Ok.ensures in
-    let config = c.args.config.now in
-    let calls = length c.args.peers.now in
-    let report = c.in-Ok.report in
-    written config calls c.args.accept report c.args.workers
-    ran.holds c.deref.result.now
+    written c.args.config.now c.args.peers.now c.args.accept c.args.workers c.in-Ok.report ran.holds ran.made ran.one_socket c.deref.result.now
     (g.W.Sink.state c.args.sink.now).written (g.W.Sink.state c.print_history.new.sink).written c.deref.ensures.value c.in-Ok-print_history.ensures.ok
 
 pub returns-in-Err-clause-stopped : goal.returns-in-Err-clause-stopped
 returns-in-Err-clause-stopped g c =
-    kept_written g.row.A.Denot c.args.serving.now.is_kept c.args.config.now (length c.args.peers.now) c.args.accept c.args.workers c.in-Err.field-0.fault
-    (g.W.Sink.state c.args.sink.now).written (g.W.Sink.state c.print_kept.new.sink).written c.print_kept.ensures
+    kept_written g.row.A.Denot (AppendsServedPart g.row.A.Denot c.args.config.now c.args.peers.now c.args.accept c.args.workers) c.args.serving.now.is_kept c.args.config.now c.in-Err.field-0.fault
+    (g.W.Sink.state c.args.sink.now).written (g.W.Sink.state c.print_kept.new.sink).written c.print_kept.ensures.kept
 
 pub returns-in-Err-Write-clause-fault : goal.returns-in-Err-Write-clause-fault
 returns-in-Err-Write-clause-fault g c = λ crew.
@@ -27,21 +24,13 @@ returns-in-Err-Write-clause-fault g c = λ crew.
 pub returns-in-Err-Write-clause-stopped : goal.returns-in-Err-Write-clause-stopped
 returns-in-Err-Write-clause-stopped g c =
     let ran = c.in-Ok.ensures in
-    let config = c.args.config.now in
-    let calls = length c.args.peers.now in
-    let report = c.in-Ok.report in
-    written_part config calls c.args.accept report c.args.workers
-    ran.holds c.deref.result.now
+    written_part c.args.config.now c.args.peers.now c.args.accept c.args.workers c.in-Ok.report ran.holds ran.made ran.one_socket c.deref.result.now
     (g.W.Sink.state c.args.sink.now).written (g.W.Sink.state c.print_history.new.sink).written c.deref.ensures.value c.in-Err-Write.ensures.err
 
 pub returns-clause-stopped : goal.returns-clause-stopped
 returns-clause-stopped g c =
     let ran = c.in-Ok.ensures in
-    let config = c.args.config.now in
-    let calls = length c.args.peers.now in
-    let report = c.in-Ok.report in
-    inr (written_part config calls c.args.accept report c.args.workers
-    ran.holds c.deref.result.now
+    inr (written_part c.args.config.now c.args.peers.now c.args.accept c.args.workers c.in-Ok.report ran.holds ran.made ran.one_socket c.deref.result.now
     (g.W.Sink.state c.args.sink.now).written (g.W.Sink.state c.print_history.new.sink).written c.deref.ensures.value c.in-Err-NoMemory.ensures.err)
 
 pub returns-in-Err-clause-bad_workers : goal.returns-in-Err-clause-bad_workers
@@ -66,3 +55,12 @@ returns-in-Err-Write-clause-bad_workers g c = write_is_other c.args.workers c.in
 
 pub returns-clause-bad_workers : goal.returns-clause-bad_workers
 returns-clause-bad_workers g c = memory_is_other c.args.workers c.in-Ok.ensures.workers
+
+pub returns-in-Ok-print_history-clause-holds : goal.returns-in-Ok-print_history-clause-holds
+returns-in-Ok-print_history-clause-holds g c = c.in-Ok.ensures.holds
+
+pub returns-in-Ok-print_history-clause-made : goal.returns-in-Ok-print_history-clause-made
+returns-in-Ok-print_history-clause-made g c = c.in-Ok.ensures.made
+
+pub returns-in-Ok-print_history-clause-one_socket : goal.returns-in-Ok-print_history-clause-one_socket
+returns-in-Ok-print_history-clause-one_socket g c = c.in-Ok.ensures.one_socket

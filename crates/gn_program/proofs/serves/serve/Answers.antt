@@ -1,6 +1,7 @@
 use Rattle.std.proofs.Common.{◌≡◌, ◌∙◌, Bool, ap, refl, length, subst, sym, Ok}
 use Rattle.std.specs.declared.alloc.Global.{Global}
-use Rattle.gn_load.specs.Served.{HasServeStopped}
+use Rattle.gn_load.specs.Served.{AppendsServedPart, HasServeStopped}
+use Rattle.gn_program.specs.Peers.{AreAt}
 use Rattle.gn_threads.specs.declared.fault.RunFault.TheVariants.{Listen, NoMemory}
 use Rattle.gn_program.specs.Commands.{IsServing}
 use Rattle.gn_words.specs.ServeOptions.{AskedServe}
@@ -26,9 +27,11 @@ returns-in_err-report g c =
     let inside = c.serving.inside in
     let many : length c.deref-3.result.now ≡ length inside.peers.items =
     ap (λ xs. length xs) c.deref-3.ensures.value ∙ c.in_ok-peers.ensures.many ∙ ap (λ xs. length xs) c.deref.ensures.value in
-    let kept : c.limits-limits.result.is_kept ≡ inside.keeps = c.limits-limits.ensures ∙ ap (λ (s : AskedServe). s.keeps) (sym c.serving.view_is) in
+    let at : AreAt inside.peers.items c.deref-3.result.now =
+    subst (λ peers. AreAt peers c.deref-3.result.now) c.deref.ensures.value (subst (λ called. AreAt c.deref.result.now called) (sym c.deref-3.ensures.value) c.in_ok-peers.ensures.each) in
+    let kept : c.limits-limits.result.is_kept ≡ inside.keeps = c.limits-limits.ensures.kept ∙ ap (λ (s : AskedServe). s.keeps) (sym c.serving.view_is) in
     let stopped =
-    subst (λ (keeps : Bool). HasServeStopped Global keeps c.settings-config.result (length c.deref-3.result.now) inside.accept inside.workers c.in_err-report.field-0.0
+    subst (λ (keeps : Bool). HasServeStopped Global (AppendsServedPart Global c.settings-config.result c.deref-3.result.now inside.accept inside.workers) keeps c.settings-config.result c.in_err-report.field-0.0
     (g.W.Sink.state c.args.writer.now).written (g.W.Sink.state c.serve_history.new.sink).written) kept ran.stopped
     in
     rw (← c.serving.view_is) (failed (record {
@@ -42,14 +45,15 @@ returns-in_err-report g c =
       crowd = inside.crowd;
       retry = inside.retry;
       seconds = inside.seconds;
+      grace = inside.grace;
       early = inside.early;
       until_eof = inside.until_eof;
       steps = inside.steps;
       keeps = inside.keeps;
       report = inside.report;
       progress = inside.progress;
-    }) c.settings-config.result (length c.deref-3.result.now) (g.W.Sink.state c.args.writer.now) (g.W.Sink.state c.serve_history.new.sink) c.from_residual-in_err-report.result
-    c.in_err-report.field-0.0 (subst (λ s. IsServing s c.settings-config.result) (sym c.serving.view_is) c.settings-config.ensures) many c.serving.invariant.0
+    }) c.settings-config.result c.deref-3.result.now (g.W.Sink.state c.args.writer.now) (g.W.Sink.state c.serve_history.new.sink) c.from_residual-in_err-report.result
+    c.in_err-report.field-0.0 (subst (λ s. IsServing s c.settings-config.result) (sym c.serving.view_is) c.settings-config.ensures) at many c.serving.invariant.0
     c.from_residual-in_err-report.ensures.1 stopped ran.fault)
 
 pub returns : goal.returns
@@ -58,6 +62,8 @@ returns g c =
     let inside = c.serving.inside in
     let many : length c.deref-3.result.now ≡ length inside.peers.items =
     ap (λ xs. length xs) c.deref-3.ensures.value ∙ c.in_ok-peers.ensures.many ∙ ap (λ xs. length xs) c.deref.ensures.value in
+    let at : AreAt inside.peers.items c.deref-3.result.now =
+    subst (λ peers. AreAt peers c.deref-3.result.now) c.deref.ensures.value (subst (λ called. AreAt c.deref.result.now called) (sym c.deref-3.ensures.value) c.in_ok-peers.ensures.each) in
     rw (← c.serving.view_is) (answered (record {
       port = inside.port;
       accept = inside.accept;
@@ -69,11 +75,12 @@ returns g c =
       crowd = inside.crowd;
       retry = inside.retry;
       seconds = inside.seconds;
+      grace = inside.grace;
       early = inside.early;
       until_eof = inside.until_eof;
       steps = inside.steps;
       keeps = inside.keeps;
       report = inside.report;
       progress = inside.progress;
-    }) c.settings-config.result (length c.deref-3.result.now) (g.W.Sink.state c.args.writer.now) (g.W.Sink.state c.serve_history.new.sink) (Ok tt)
-    (subst (λ s. IsServing s c.settings-config.result) (sym c.serving.view_is) c.settings-config.ensures) many c.serving.invariant.0 ran.unfailed ran.written tt tt)
+    }) c.settings-config.result c.deref-3.result.now (g.W.Sink.state c.args.writer.now) (g.W.Sink.state c.serve_history.new.sink) (Ok tt)
+    (subst (λ s. IsServing s c.settings-config.result) (sym c.serving.view_is) c.settings-config.ensures) at many c.serving.invariant.0 ran.unfailed ran.written tt tt)

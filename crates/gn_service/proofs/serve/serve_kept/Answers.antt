@@ -17,3 +17,9 @@ returns-clause-holds g c = c.join-answer.ensures.second.holds
 
 pub returns-clause-made : goal.returns-clause-made
 returns-clause-made g c = c.join-answer.ensures.second.made
+
+pub returns-clause-full : goal.returns-clause-full
+returns-clause-full g c = c.join-answer.ensures.second.full
+
+pub returns-clause-one_socket : goal.returns-clause-one_socket
+returns-clause-one_socket g c = c.join-answer.ensures.second.one_socket

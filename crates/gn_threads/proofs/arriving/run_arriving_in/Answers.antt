@@ -7,7 +7,7 @@ use Rattle.gn_bodies.specs.Done.{reader_ended, writer_ended}
 use Rattle.gn_threads.specs.Faults.{IsArrivingFault, IsFaultOf}
 use Rattle.gn_threads.specs.Headline.{Holds}
 use Rattle.gn_threads.proofs.FaultLemmas.{err_in_arriving}
-use Rattle.gn_threads.proofs.HoldsLemmas.{are_made_of, links_read_own, readers_keep, writers_keep}
+use Rattle.gn_threads.proofs.HoldsLemmas.{are_made_of, links_read_own, readers_keep, readers_made_of, writers_keep, writers_made_of}
 use Rattle.gn_threads.proofs.arriving.run_arriving_in.Goals as goal
 
 pub finish-requires-clause-ends : goal.finish-requires-clause-ends
@@ -49,11 +49,16 @@ returns-in-Ok-joined-clause-holds g c =
 pub returns-in-Ok-joined-clause-bytes : goal.returns-in-Ok-joined-clause-bytes
 returns-in-Ok-joined-clause-bytes g c =
     let all = c.in-Ok-joined.ensures.joined in
+    let reader_of = g.V.Reader.LinkReader.made_of in
+    let gives = g.V.Reader.LinkReader.gives in
     let bodies = map reader_ended c.in-Ok-joined.done.readers.items in
     let many : length bodies ≡ length all.reading = omega (arith, length-map c.in-Ok-joined.done.readers.items reader_ended, c.in-Ok-joined.done.readers.ok, all.joined.read) in
-    let first = ap (λ roles. take (length roles) (g.V.Arrivals.coming c.args.arrivals)) c.in-Ok.ensures.roles in
-    let own = sym (map-map g.V.Reader.LinkReader.gives (λ h. g.V.Reader.LinkReader.made_of h.half) all.reading) ∙ ap (map g.V.Reader.LinkReader.gives) (all.reading_made ∙ first) in
-    IfOk-weaker _ _ _ (λ report has. links_read_own g.V.Reader.LinkReader.state g.V.Reader.LinkReader.made_of g.V.Reader.LinkReader.gives all.reading _ bodies report own many has.readers all.joined.readers) c.finish.ensures.bodies
+    IfOk-weaker _ _ _
+    (λ report has.
+    let made = readers_made_of g.V.Reader.LinkReader.state reader_of gives all.reading bodies report many all.joined.readers has.readers in
+    let own = sym (map-map gives (λ h. reader_of h.half) all.reading) ∙ ap (map gives) (sym made) ∙ map-map gives (λ link. reader_of link.reader) report.links.items in
+    links_read_own g.V.Reader.LinkReader.state reader_of gives all.reading _ bodies report own many has.readers all.joined.readers)
+    c.finish.ensures.bodies
 
 pub returns-in-Ok-joined-clause-made : goal.returns-in-Ok-joined-clause-made
 returns-in-Ok-joined-clause-made g c =
@@ -64,5 +69,17 @@ returns-in-Ok-joined-clause-made g c =
     let more : length written ≡ length all.writing = omega (arith, length-map c.in-Ok-joined.done.writers.items writer_ended, c.in-Ok-joined.done.writers.ok, all.joined.written) in
     let first = ap (λ roles. take (length roles) (g.V.Arrivals.coming c.args.arrivals)) c.in-Ok.ensures.roles in
     IfOk-weaker _ _ _
-    (λ report has. are_made_of g.V.Reader.LinkReader.state g.V.Reader.LinkReader.made_of g.V.Reader.LinkReader.gives g.V.Writer.LinkWriter.state g.V.Writer.LinkWriter.made_of all.reading all.writing read written _ report (all.reading_made ∙ first) (all.writing_made ∙ first) many more all.joined.readers all.joined.writers has.readers has.writers)
+    (λ report has. are_made_of g.V.Reader.LinkReader.state g.V.Reader.LinkReader.made_of g.V.Reader.LinkReader.gives g.V.Writer.LinkWriter.state g.V.Writer.LinkWriter.made_of g.V.Arrivals.foreknown all.reading all.writing read written _ report (all.reading_made ∙ first) all.writing_made many more all.joined.readers all.joined.writers has.readers has.writers)
+    c.finish.ensures.bodies
+
+pub returns-in-Ok-joined-clause-one : goal.returns-in-Ok-joined-clause-one
+returns-in-Ok-joined-clause-one g c =
+    let all = c.in-Ok-joined.ensures.joined in
+    let read = map reader_ended c.in-Ok-joined.done.readers.items in
+    let written = map writer_ended c.in-Ok-joined.done.writers.items in
+    let many : length read ≡ length all.reading = omega (arith, length-map c.in-Ok-joined.done.readers.items reader_ended, c.in-Ok-joined.done.readers.ok, all.joined.read) in
+    let more : length written ≡ length all.writing = omega (arith, length-map c.in-Ok-joined.done.writers.items writer_ended, c.in-Ok-joined.done.writers.ok, all.joined.written) in
+    IfOk-weaker _ _ _
+    (λ report has. writers_made_of g.V.Writer.LinkWriter.state g.V.Writer.LinkWriter.made_of all.writing written report more all.joined.writers has.writers ∙ all.writing_made
+    ∙ sym (readers_made_of g.V.Reader.LinkReader.state g.V.Reader.LinkReader.made_of g.V.Reader.LinkReader.gives all.reading read report many all.joined.readers has.readers))
     c.finish.ensures.bodies

@@ -9,7 +9,7 @@ pub confirmed-requires-clause-counted : goal.confirmed-requires-clause-counted
 confirmed-requires-clause-counted g c =
     let own = ap length c.into_parts-house.ensures.receipts in (
       receipts_counted c.args.linked.links.items c.args.worked.receipts.items c.into_parts-house.result.0.items
-          ∙ omega (arith, own, c.args.linked.amount, c.args.worked.amount, c.into_parts-house.ensures.share, c.add_up.ensures.total, c.close-closed.ensures.long),
+          ∙ omega (arith, own, c.args.linked.amount, c.args.worked.amount, c.into_parts-house.ensures.share, c.add_up.ensures.total, ap length c.close-closed.ensures.steps),
       c.close-closed.ensures.stats,
     )
 

@@ -23,6 +23,9 @@ returns-then-is_err-clause-none g c = λ none k d low. absurd (cc)
 pub returns-then-is_err-clause-some : goal.returns-then-is_err-clause-some
 returns-then-is_err-clause-some g c = omega (arith, c.loop-worker.invariant.actor, c.loop-worker-test.true)
 
+pub returns-then-is_err-clause-from : goal.returns-then-is_err-clause-from
+returns-then-is_err-clause-from g c = omega (arith, c.loop-worker.invariant.actor)
+
 pub returns-then-is_err-clause-refused : goal.returns-then-is_err-clause-refused
 returns-then-is_err-clause-refused g c = λ k d at.
     at_place (λ (w : WorkerDone g.row.B.Denot g.row.A.Denot). is_err w.end ≡ true) c.args.workers.now c.loop-worker.worker-index c.worker-item.result c.loop-worker-test.true c.worker-item.is

@@ -4,26 +4,29 @@ use Rattle.gn_bodies.specs.Done.{halved, writer_ended}
 use Rattle.gn_threads.specs.Faults.{IsFaultOf}
 use Rattle.gn_threads.specs.Joined.{KeepEnds}
 use Rattle.gn_threads.specs.Reported.{HasBodies, reader_result, reader_reported, writer_reported}
-use Rattle.gn_threads.proofs.FaultLemmas.{handed_on}
+use Rattle.gn_threads.proofs.KeptLemmas.{none_kept}
 use Rattle.gn_threads.proofs.JoinedLemmas.{known_alike}
 use Rattle.gn_threads.proofs.finishing.assemble.Goals as goal
 
 pub report-requires-clause-counted : goal.report-requires-clause-counted
 report-requires-clause-counted g c =
     let was = c.requires.counted in
-    let each = c.in_ok-linked.ensures.many ∙ was.each.0 in
+    let each = c.in-Ok.ensures.many ∙ was.each.0 in
     record { few = was.few; each = (each, each); parts = was.parts }
 
 pub report-requires-clause-ends : goal.report-requires-clause-ends
 report-requires-clause-ends g c =
-    let links = c.in_ok-linked.linked.links.items in
-    let read = sym (known_alike reader_reported reader_result (halved g.Rd.LinkReader.state) links c.args.readers.items c.in_ok-linked.ensures.readers) in
-    let written = sym (known_alike writer_reported writer_ended (halved g.W.LinkWriter.state) links c.args.writers.items c.in_ok-linked.ensures.writers) in
+    let links = c.in-Ok.linked.links.items in
+    let read = sym (known_alike reader_reported reader_result (halved g.Rd.LinkReader.state) links c.args.readers.items c.in-Ok.ensures.readers) in
+    let written = sym (known_alike writer_reported writer_ended (halved g.W.LinkWriter.state) links c.args.writers.items c.in-Ok.ensures.writers) in
     subst (λ bodies. KeepEnds c.args.roles.now (map (λ l. halved g.Rd.LinkReader.state (reader_reported l)) links) bodies) written
     (subst (λ bodies. KeepEnds c.args.roles.now bodies (map (λ d. halved g.W.LinkWriter.state (writer_ended d)) c.args.writers.items)) read c.requires.ends)
 
-pub returns-in_err-linked-clause-fault : goal.returns-in_err-linked-clause-fault
-returns-in_err-linked-clause-fault g c = handed_on _ c.from_residual.result _ c.from_residual.ensures.1 (subst (λ n. IsFaultOf n (vec_len c.args.worked.receipts) c.in_err-linked.field-0.0) c.requires.counted.each.0 (c.in_err-linked.ensures.fault _))
+pub returns-in-Err-NoMemory-clause-fault : goal.returns-in-Err-NoMemory-clause-fault
+returns-in-Err-NoMemory-clause-fault g c = tt
+
+pub returns-in-Err-clause-fault : goal.returns-in-Err-clause-fault
+returns-in-Err-clause-fault g c = subst (λ n. IsFaultOf n (vec_len c.args.worked.receipts) c.in-Err.fault) c.requires.counted.each.0 (c.in-Err.ensures.fault _)
 
 pub report-requires-clause-unconfirmed : goal.report-requires-clause-unconfirmed
 report-requires-clause-unconfirmed g c = c.requires.unconfirmed
@@ -47,5 +50,8 @@ pub returns-clause-bodies : goal.returns-clause-bodies
 returns-clause-bodies g c =
     IfOk-weaker _ _ (λ report. HasBodies (map reader_result c.args.readers.items) (map writer_ended c.args.writers.items) report)
     (λ report same.
-    record { readers = ap (λ ls. map reader_reported ls) same ∙ c.in_ok-linked.ensures.readers; writers = ap (λ ls. map writer_reported ls) same ∙ c.in_ok-linked.ensures.writers })
+    record { readers = ap (λ ls. map reader_reported ls) same ∙ c.in-Ok.ensures.readers; writers = ap (λ ls. map writer_reported ls) same ∙ c.in-Ok.ensures.writers })
     c.report.ensures.links
+
+pub returns-clause-full : goal.returns-clause-full
+returns-clause-full g c = none_kept c.report.result c.args.history.now _ _ c.requires.none

@@ -6,6 +6,7 @@ use Rattle.std.proofs.lemmas.Simd.{map-map}
 use Rattle.gn_rules.specs.Limits.{IsCrew}
 use Rattle.gn_threads.specs.Headline.{AreMadeOf, Holds, LinksReadOwn}
 use Rattle.gn_threads.proofs.FaultLemmas.{err_without_peers, handed_on, not_bad_workers, split_is_fault}
+use Rattle.gn_threads.proofs.HoldsLemmas.{own_of_known}
 use Rattle.gn_threads.proofs.JoinedLemmas.{all_come}
 use Rattle.gn_threads.proofs.runs.run.Goals as goal
 
@@ -32,7 +33,8 @@ returns-clause-bytes g c =
     let gives : into_iter_items c.into_iter.result ≡ c.in_ok-split.split.links.items = c.into_iter.ensures.rest in
     let many = ap length (c.as_slice.ensures.value ∙ c.in_ok-split.ensures.roles) ∙ length-map c.args.links.items g.K.Link.role_of in
     let first = all_come g.K.Link.origin_of c.args.links.items (map (λ link. g.K.Reader.LinkReader.made_of link.reader) (into_iter_items c.into_iter.result)) _ (ap (λ ls. map (λ link. g.K.Reader.LinkReader.made_of link.reader) ls) gives ∙ origins) many in
-    subst (λ sources. IfOk c.run_arriving.result (λ report. LinksReadOwn g.K.Reader.LinkReader.state sources report)) (ap (map g.K.Reader.LinkReader.gives) first ∙ map-map g.K.Reader.LinkReader.gives g.K.Link.origin_of c.args.links.items) c.run_arriving.ensures.bytes
+    let own = own_of_known g.K.Reader.LinkReader.state g.K.Reader.LinkReader.made_of g.K.Writer.LinkWriter.made_of g.K.Reader.LinkReader.gives _ c.run_arriving.result c.run_arriving.ensures.made c.run_arriving.ensures.bytes in
+    subst (λ sources. IfOk c.run_arriving.result (λ report. LinksReadOwn g.K.Reader.LinkReader.state sources report)) (ap (map g.K.Reader.LinkReader.gives) first ∙ map-map g.K.Reader.LinkReader.gives g.K.Link.origin_of c.args.links.items) own
 
 pub returns-clause-made : goal.returns-clause-made
 returns-clause-made g c =

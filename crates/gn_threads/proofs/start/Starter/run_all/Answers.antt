@@ -21,19 +21,18 @@ returns-in-Ok-clause-joined g c =
     let handles = c.start_all.new.handles in
     let reading = map (λ h. half_of h.promise.start.value.role h.promise.start.value.reader) handles.readers.items in
     let writing = map (λ h. half_of h.promise.start.value.role h.promise.start.value.writer) handles.writers.items in
-    IfOk-weaker _ _ (λ done. AreJoinedOf reads writes g.V.Reader.LinkReader.made_of g.V.Writer.LinkWriter.made_of c.args.unstarted.roles.now (g.V.Arrivals.coming c.args.arrivals) (vec_len c.args.unstarted.outlets) done)
+    IfOk-weaker _ _ (λ done. AreJoinedOf reads writes g.V.Reader.LinkReader.made_of g.V.Writer.LinkWriter.made_of g.V.Arrivals.foreknown c.args.unstarted.roles.now (g.V.Arrivals.coming c.args.arrivals) (vec_len c.args.unstarted.outlets) done)
     (λ done joined.
     record {
       reading = reading;
       writing = writing;
       reading_roles = map-map (λ l. l.role) (λ h. half_of h.promise.start.value.role h.promise.start.value.reader) handles.readers.items ∙ c.in-Ok.ensures.readers;
       writing_roles = map-map (λ l. l.role) (λ h. half_of h.promise.start.value.role h.promise.start.value.writer) handles.writers.items ∙ c.in-Ok.ensures.writers;
-      reading_made = map-map (λ l. g.V.Reader.LinkReader.made_of l.half) (λ h. half_of h.promise.start.value.role h.promise.start.value.reader) handles.readers.items
-          ∙ first_come (λ h. g.V.Reader.LinkReader.made_of h.promise.start.value.reader) handles.readers.items _ (g.V.Arrivals.coming c.args.arrivals) _ c.in-Ok.ensures.read
+      reading_made = map-map (λ l. g.V.Arrivals.foreknown (g.V.Reader.LinkReader.made_of l.half)) (λ h. half_of h.promise.start.value.role h.promise.start.value.reader) handles.readers.items
+          ∙ first_come (λ h. g.V.Arrivals.foreknown (g.V.Reader.LinkReader.made_of h.promise.start.value.reader)) handles.readers.items _ (g.V.Arrivals.coming c.args.arrivals) _ c.in-Ok.ensures.read
           (sym (length-map handles.readers.items (λ h. h.promise.start.value.role)) ∙ ap length c.in-Ok.ensures.readers);
       writing_made = map-map (λ l. g.V.Writer.LinkWriter.made_of l.half) (λ h. half_of h.promise.start.value.role h.promise.start.value.writer) handles.writers.items
-          ∙ first_come (λ h. g.V.Writer.LinkWriter.made_of h.promise.start.value.writer) handles.writers.items _ (g.V.Arrivals.coming c.args.arrivals) _ c.in-Ok.ensures.written
-          (sym (length-map handles.writers.items (λ h. h.promise.start.value.role)) ∙ ap length c.in-Ok.ensures.writers);
+          ∙ c.in-Ok.ensures.written ∙ sym (map-map (λ l. g.V.Reader.LinkReader.made_of l.half) (λ h. half_of h.promise.start.value.role h.promise.start.value.reader) handles.readers.items);
       joined = subst (λ n. AreJoined reads writes reading writing n done) c.in-Ok.ensures.workers joined;
     })
     c.join.ensures.joined

@@ -1,4 +1,4 @@
-use Rattle.std.proofs.Common.{◌<◌, ◌∙◌, arith, length, refl, vec_items}
+use Rattle.std.proofs.Common.{◌<◌, ◌∙◌, arith, length, refl, sym, vec_items}
 use Rattle.std.proofs.lemmas.List.{take_all}
 use Rattle.gn_threads.proofs.LoopLemmas.{none_before, none_made}
 use Rattle.gn_threads.proofs.UnstartedLemmas.{one_more_of}
@@ -12,8 +12,8 @@ loop-role-init g c =
       left = omega (arith, c.requires.links.1);
       readers = none_made (λ h. h.promise.start.value.role) (vec_items handles.readers) c.requires.none.0;
       writers = none_made (λ h. h.promise.start.value.role) (vec_items handles.writers) c.requires.none.1;
-      read = none_before (λ h. g.V.Reader.LinkReader.made_of h.promise.start.value.reader) (vec_items handles.readers) (g.V.Arrivals.coming c.args.arrivals.now) c.requires.none.0;
-      written = none_before (λ h. g.V.Writer.LinkWriter.made_of h.promise.start.value.writer) (vec_items handles.writers) (g.V.Arrivals.coming c.args.arrivals.now) c.requires.none.1;
+      read = none_before (λ h. g.V.Arrivals.foreknown (g.V.Reader.LinkReader.made_of h.promise.start.value.reader)) (vec_items handles.readers) (g.V.Arrivals.coming c.args.arrivals.now) c.requires.none.0;
+      written = none_made (λ h. g.V.Writer.LinkWriter.made_of h.promise.start.value.writer) (vec_items handles.writers) c.requires.none.1 ∙ sym (none_made (λ h. g.V.Reader.LinkReader.made_of h.promise.start.value.reader) (vec_items handles.readers) c.requires.none.0);
       workers = refl;
     }
 
@@ -37,7 +37,7 @@ loop-role-preserved g c =
       readers = one_more_of (λ h. h.promise.start.value.role) (vec_items c.loop-role.handles.readers) (vec_items c.start_link.new.handles.readers) c.next-next.result.role c.args.roles.now c.loop-role.role-index _ c.in-Ok.ensures.readers c.loop-role-test.true c.next-next.ensures.link.1 was.readers;
       writers = one_more_of (λ h. h.promise.start.value.role) (vec_items c.loop-role.handles.writers) (vec_items c.start_link.new.handles.writers) c.next-next.result.role c.args.roles.now c.loop-role.role-index _ c.in-Ok.ensures.writers c.loop-role-test.true c.next-next.ensures.link.1 was.writers;
       read = c.in-Ok.ensures.read ∙ was.read;
-      written = c.in-Ok.ensures.written ∙ was.written;
+      written = c.in-Ok.ensures.written was.written;
       workers = c.in-Ok.ensures.workers ∙ was.workers;
     }
 

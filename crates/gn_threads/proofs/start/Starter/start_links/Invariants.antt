@@ -7,7 +7,7 @@ invariant-loop-role g l = record {
   left : l.unstarted.left + l.role-index ≡ length l.roles;
   readers : map (λ h. h.promise.start.value.role) (vec_items l.handles.readers) ≡ take l.role-index l.roles;
   writers : map (λ h. h.promise.start.value.role) (vec_items l.handles.writers) ≡ take l.role-index l.roles;
-  read : map (λ h. g.V.Reader.LinkReader.made_of h.promise.start.value.reader) (vec_items l.handles.readers) ++ g.V.Arrivals.coming l.arrivals ≡ g.V.Arrivals.coming l.initial.arrivals;
-  written : map (λ h. g.V.Writer.LinkWriter.made_of h.promise.start.value.writer) (vec_items l.handles.writers) ++ g.V.Arrivals.coming l.arrivals ≡ g.V.Arrivals.coming l.initial.arrivals;
+  read : map (λ h. g.V.Arrivals.foreknown (g.V.Reader.LinkReader.made_of h.promise.start.value.reader)) (vec_items l.handles.readers) ++ g.V.Arrivals.coming l.arrivals ≡ g.V.Arrivals.coming l.initial.arrivals;
+  written : map (λ h. g.V.Writer.LinkWriter.made_of h.promise.start.value.writer) (vec_items l.handles.writers) ≡ map (λ h. g.V.Reader.LinkReader.made_of h.promise.start.value.reader) (vec_items l.handles.readers);
   workers : l.handles.workers ≡ l.initial.handles.workers;
 }

@@ -6,6 +6,8 @@ returns g c = record {
   bad_workers = c.run_links.ensures.bad_workers;
   fault = c.run_links.ensures.fault;
   kept = c.run_links.ensures.kept;
+  full = c.run_links.ensures.full;
   holds = c.run_links.ensures.holds;
   made = c.run_links.ensures.made;
+  one_socket = c.run_links.ensures.one_socket;
 }

@@ -1,0 +1,4 @@
+pub mod OfferLemmas
+pub mod RunLemmas
+pub mod SpellingLemmas
+pub mod TextLemmas

@@ -1,0 +1,10 @@
+pub mod AgainLemmas
+pub mod FloodLemmas
+pub mod KeptLemmas
+pub mod NetworkLemmas
+pub mod OriginLemmas
+pub mod PathLemmas
+pub mod PushLemmas
+pub mod RequestLemmas
+pub mod SpreadLemmas
+pub mod ToldLemmas

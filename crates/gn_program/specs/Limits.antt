@@ -1,0 +1,21 @@
+-- How long a serve goes on and waits, as its options say it.
+use Rattle.std.specs.Prelude.{◌≡◌, ◌≢◌, ◌*◌, ◌==◌, ◌||◌, ℕ, Bool, Option, MatchOption, not}
+use Rattle.std.specs.Duration.{as_nanos}
+use Rattle.std.specs.declared.time.Duration.{Duration}
+use Rattle.gn_service.specs.Stopping.{Stopping}
+use Rattle.gn_words.specs.ServeOptions.{AskedServe}
+
+-- a time limit is one of so many seconds; none, where there are none
+abbrev pub IsLimit : ℕ → Option Duration → Type 0
+IsLimit seconds limit =
+    MatchOption limit (seconds ≡ 0) (λ time. (seconds ≢ 0) × (as_nanos time ≡ seconds * 1_000_000_000))
+
+-- whether anything but its peers stops a serve: its time, its steps, or the end of standard input
+abbrev pub may_stop : AskedServe → Bool
+may_stop serving = not (serving.seconds == 0) || (serving.early || serving.until_eof)
+
+-- by what a serve is stopped before its peers end it, beside the end of standard input: by its time, which `--for` limits, and
+-- where `--stop-early` says so by its steps
+pub record IsStopOf (serving : AskedServe) (stop : Stopping) : Type 0 where
+  pub limited : IsLimit serving.seconds stop.limit
+  pub early : stop.is_early ≡ serving.early

@@ -1,0 +1,24 @@
+//! What the system said of a fault, on the line below the fault's.
+
+use std::fmt;
+use std::fmt::{Display, Formatter, Write};
+use std::io::ErrorKind;
+use std::net::SocketAddr;
+
+/// What the system said, and of what. Its text is its line, with the line feed.
+#[derive(Clone, Copy, Debug)]
+pub(crate) enum Told {
+    /// It said nothing.
+    Nothing,
+    /// Of listening at this address.
+    Listen(SocketAddr, ErrorKind),
+}
+
+impl Display for Told {
+    fn fmt<W: Write>(&self, f: &mut Formatter<W>) -> fmt::Result {
+        match self {
+            Told::Nothing => Ok(()),
+            Told::Listen(here, why) => writeln!(f, "listen {here}: {why}"),
+        }
+    }
+}

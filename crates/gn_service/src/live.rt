@@ -1,0 +1,128 @@
+//! The links of a run that have come and not ended.
+
+use crate::stop::earlier;
+use gn_links::Half;
+use gn_tcp::TcpStopper;
+use std::alloc::{AllocError, Allocator, Global};
+use std::time::Duration;
+
+/// A link that has come and not ended. Times are since the run began.
+#[derive(Drop)]
+struct Live {
+    link: u32,
+    stopper: TcpStopper,
+    reader_ended: bool,
+    writer_ended: bool,
+    /// When it is shut; `None`: at no time yet.
+    due: Option<Duration>,
+    is_shut: bool,
+}
+
+impl Live {
+    /// A half has ended. Where that is the writer the link is shut at this time.
+    fn end(&mut self, half: Half, due: Duration) {
+        match half {
+            Half::Reader => self.reader_ended = true,
+            Half::Writer => {
+                self.writer_ended = true;
+                self.due = Some(due);
+            }
+        }
+    }
+
+    fn has_ended(&self) -> bool {
+        self.reader_ended && self.writer_ended
+    }
+
+    /// When it is shut, where all are at this time.
+    fn shut_at(&self, until: Option<Duration>) -> Option<Duration> {
+        if self.is_shut {
+            None
+        } else {
+            earlier(self.due, until)
+        }
+    }
+
+    fn shut(&mut self) {
+        self.is_shut = true;
+        self.stopper.shut();
+    }
+}
+
+/// Whether this time has come; where the clock can't be read, it has.
+fn has_come(at: Duration, now: Option<Duration>) -> bool {
+    match now {
+        Some(now) => at <= now,
+        None => true,
+    }
+}
+
+/// The links of a run that have come and not ended, and when all of them are shut.
+#[derive(Drop)]
+pub(crate) struct LiveLinks<A: Allocator = Global> {
+    links: Vec<Option<Live>, A>,
+    until: Option<Duration>,
+}
+
+impl<A: Allocator> LiveLinks<A> {
+    /// No link has come.
+    pub(crate) fn new(alloc: A) -> Self {
+        LiveLinks {
+            links: Vec::new(alloc),
+            until: None,
+        }
+    }
+
+    /// A link has come.
+    pub(crate) fn add(&mut self, link: u32, stopper: TcpStopper) -> Result<(), AllocError> {
+        let live = Live {
+            link,
+            stopper,
+            reader_ended: false,
+            writer_ended: false,
+            due: None,
+            is_shut: false,
+        };
+        self.links.push(Some(live))?;
+        Ok(())
+    }
+
+    /// A half of a link has ended. Its handle is given up where both have; else it is shut at this time, where this is its
+    /// writer. False where the link never came.
+    pub(crate) fn end(&mut self, link: u32, half: Half, due: Duration) -> bool {
+        for slot in &mut self.links {
+            let has_ended = match slot {
+                Some(live) if live.link == link => {
+                    live.end(half, due);
+                    live.has_ended()
+                }
+                _ => continue,
+            };
+            if has_ended {
+                *slot = None;
+            }
+            return true;
+        }
+        false
+    }
+
+    /// All links are shut at this time, or at an earlier one that was said before.
+    pub(crate) fn end_all(&mut self, until: Duration) {
+        self.until = earlier(self.until, Some(until));
+    }
+
+    /// Shuts each link whose time has come. When the next one's comes.
+    pub(crate) fn shut_due(&mut self, now: Option<Duration>) -> Option<Duration> {
+        let mut next = None;
+        let until = self.until;
+        for slot in &mut self.links {
+            if let Some(live) = slot {
+                match live.shut_at(until) {
+                    Some(at) if has_come(at, now) => live.shut(),
+                    at => next = earlier(next, at),
+                }
+            }
+        }
+        next
+    }
+}

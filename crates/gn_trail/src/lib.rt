@@ -1,0 +1,9 @@
+//! Lists that contracts see and the program doesn't have; and streams that are read and written so that contracts see their bytes.
+#![tactic(auto)]
+
+mod heard;
+mod streams;
+mod told;
+
+pub use streams::{read_told, write_told};
+pub use told::Told;
