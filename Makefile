@@ -1,14 +1,17 @@
 # Builds, checks and measures Tineflax with the Rattle toolchain's command `rt`, which has to be on the path.
-.PHONY: help demo check build install examples test bench statement definitions pictures clean
+.PHONY: help demo check build install uninstall examples test bench statement definitions pictures clean
 
 # Where `make install` puts the program: PREFIX/bin/gn.
 PREFIX ?= /usr/local
+# the proved program
+GN = crates/gn/out/gn
 
 help:
 	@echo 'make demo      replays the first example in a minute or so; it proves nothing'
 	@echo 'make check     tries the tests, the examples, the scripts and the documents, in minutes; it proves nothing'
 	@echo 'make build     proves gn and all below it, and leaves the program at crates/gn/out/gn'
-	@echo 'make install   the same, and puts the program at PREFIX/bin/gn (PREFIX=$(PREFIX))'
+	@echo 'make install   the same, and installs gn with its manual page and completions below PREFIX (PREFIX=$(PREFIX))'
+	@echo 'make uninstall removes what make install put there'
 	@echo 'make examples  replays and audits all examples with the proved program, and compares what it prints'
 	@echo 'make test      the merge gate: every proof from nothing, the must-fail edits, the tests, the programs'
 	@echo 'make bench     proves and runs the benchmarks, those of the program gn among them'
@@ -29,11 +32,24 @@ check:
 # Proves `gn` and all below it, independent crates side by side, and leaves the program at crates/gn/out/gn.
 build:
 	@scripts/build gn
-	@crates/gn/out/gn --version >&2
+	@scripts/stamp crates/gn/out/gn | head -n 1 >&2
 
+# Installs the program, its manual page and completions, which are made of what it says at --help, and BUILD: the version, the commit
+# and the toolchain of which it was built, and its sum.
+SHARE = $(DESTDIR)$(PREFIX)/share
 install: build
-	install -d '$(DESTDIR)$(PREFIX)/bin'
-	install -m 755 crates/gn/out/gn '$(DESTDIR)$(PREFIX)/bin/gn'
+	install -d '$(DESTDIR)$(PREFIX)/bin' '$(SHARE)/man/man1' '$(SHARE)/bash-completion/completions' '$(SHARE)/zsh/site-functions' \
+		'$(SHARE)/fish/vendor_completions.d' '$(SHARE)/doc/gn'
+	install -m 755 $(GN) '$(DESTDIR)$(PREFIX)/bin/gn'
+	scripts/manual $(GN) man > '$(SHARE)/man/man1/gn.1'
+	scripts/manual $(GN) bash > '$(SHARE)/bash-completion/completions/gn'
+	scripts/manual $(GN) zsh > '$(SHARE)/zsh/site-functions/_gn'
+	scripts/manual $(GN) fish > '$(SHARE)/fish/vendor_completions.d/gn.fish'
+	scripts/stamp $(GN) | sed 's,  $(GN)$$,  $(PREFIX)/bin/gn,' > '$(SHARE)/doc/gn/BUILD'
+
+uninstall:
+	rm -f '$(DESTDIR)$(PREFIX)/bin/gn' '$(SHARE)/man/man1/gn.1' '$(SHARE)/bash-completion/completions/gn' \
+		'$(SHARE)/zsh/site-functions/_gn' '$(SHARE)/fish/vendor_completions.d/gn.fish' '$(SHARE)/doc/gn/BUILD'
 
 # What the proved program prints of each example is the text beside it.
 examples: build
