@@ -2,12 +2,17 @@
 # Replays each capture of examples/, audits each history with the program that the first argument names, and explains those that
 # have an explanation; compares what it prints with the text beside it: NAME.replay, NAME.verdict, NAME.explained. Loads the
 # capture that is for loads, and audits its history. Compares examples/ with gn_examples' copy too. Ends with status 1 where
-# one differs.
-gn=${1:?the path of gn}
+# one differs. With --copy in place of a program it makes that copy anew, and does no more.
+gn=${1:?the path of gn, or --copy}
 failed=0
 # the gate runs a program over its own copy, since it takes no links
+if [ "$gn" = --copy ]; then
+	find crates/gn_examples/data -maxdepth 1 -type f -delete
+	find examples -maxdepth 1 -type f ! -name '*.pcap' -exec cp -t crates/gn_examples/data {} +
+	exit
+fi
 if ! diff -r -x '*.pcap' -x cases examples crates/gn_examples/data >&2; then
-	echo 'examples/ and crates/gn_examples/data differ' >&2
+	echo 'examples/ and crates/gn_examples/data differ: scripts/examples.sh --copy' >&2
 	failed=1
 fi
 for wanted in examples/*.replay examples/*.verdict examples/*.explained; do
