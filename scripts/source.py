@@ -91,7 +91,12 @@ def definitions_of(crate, file):
         body = "\n".join(lines[first:])
         named = DEFINITION.match(body)
         if named:
-            found[named[2]] = Definition(crate, file, named[1] or "", named[2], joined(words[:first]), body)
+            said = joined(words[:first])
+            if said.startswith("the same ") and found:
+                # it goes on from the definition above it, of which a reader by names doesn't know
+                above = list(found.values())[-1]
+                said = f"{said} (as `{above.name}`: {above.words})"
+            found[named[2]] = Definition(crate, file, named[1] or "", named[2], said, body)
     return found
 
 
