@@ -1,0 +1,47 @@
+"""How each script is called: its options, what it says of itself, and one line for whatever goes wrong."""
+import argparse
+import os
+import sys
+
+
+def fail(text):
+    """Ends the program with one line on standard error, status 1."""
+    print(f"fault: {text}", file=sys.stderr)
+    sys.exit(1)
+
+
+class Parser(argparse.ArgumentParser):
+    """Options of a script, whose help is the text at its top; a mistake is one line, status 2."""
+
+    def __init__(self, text):
+        super().__init__(description=text, formatter_class=argparse.RawDescriptionHelpFormatter, allow_abbrev=False)
+
+    def error(self, message):
+        self.exit(2, f"error: {message}; {self.prog} --help says more\n")
+
+
+def whole(least, most):
+    """Reads a whole number within limits, for an option."""
+
+    def read(text):
+        if not (text.isascii() and text.isdigit() and least <= int(text[:12]) <= most):
+            raise argparse.ArgumentTypeError(f"takes a number of {least} to {most}")
+        return int(text)
+
+    return read
+
+
+def run(main):
+    """Runs a script to its end. A reader that goes away ends it in silence, as does an interrupt."""
+    try:
+        status = main()
+        sys.stdout.flush()
+    except BrokenPipeError:
+        # what is left in the buffer goes nowhere, so that the interpreter's own flush has nothing to say
+        os.dup2(os.open(os.devnull, os.O_WRONLY), sys.stdout.fileno())
+        status = 141
+    except KeyboardInterrupt:
+        status = 130
+    except OSError as error:
+        fail(f"{error.filename}: {error.strerror}" if error.filename else error.strerror or str(error))
+    sys.exit(status)

@@ -1,0 +1,280 @@
+"""Reads TCP streams out of a capture file, pcap or pcapng, for the scripts that study real traffic. It needs no other program.
+
+Segments are put together as TCP says: what comes twice counts once, and what comes too early waits. Link layers: Ethernet with VLAN
+tags, Linux' own two, loopback, and bare IP; IPv4 and IPv6. Fragments of IP are left out, and counted.
+"""
+import struct
+from collections import namedtuple
+from ipaddress import ip_address
+
+from command import fail
+
+# Byte order and units a second, by the first four bytes of a pcap file.
+PCAP = {
+    b"\xd4\xc3\xb2\xa1": ("<", 10**6),
+    b"\xa1\xb2\xc3\xd4": (">", 10**6),
+    b"\x4d\x3c\xb2\xa1": ("<", 10**9),
+    b"\xa1\xb2\x3c\x4d": (">", 10**9),
+}
+SECTION = b"\x0a\x0d\x0d\x0a"
+INTERFACE, SIMPLE, ENHANCED = 1, 3, 6
+RESOLUTION = 9
+# What a frame has before its IP packet, by the link layer's number: the length, and where the protocol stands, -1 where nowhere.
+ETHERNET = 1
+LAYERS = {ETHERNET: (14, 12), 113: (16, 14), 276: (20, 0), 0: (4, -1), 108: (4, -1), 12: (0, -1), 14: (0, -1), 101: (0, -1), 228: (0, -1), 229: (0, -1)}
+VLANS = (b"\x81\x00", b"\x88\xa8")
+INTERNET = (b"\x08\x00", b"\x86\xdd")
+FIN, SYN, RST, ACK = 1, 2, 4, 16
+TCP = 6
+# The headers of IPv6 that may stand before that of TCP: options, routing, and destination's.
+EXTENSIONS = (0, 43, 60)
+
+Frame = namedtuple("Frame", "micros layer data is_whole")
+Segment = namedtuple("Segment", "micros source to number confirmed flags data")
+
+
+class Source:
+    """A file that is read from its start to its end, maybe a pipe."""
+
+    def __init__(self, file, name):
+        self.file, self.name = file, name
+
+    def read(self, size):
+        data = self.file.read(size)
+        if len(data) != size:
+            fail(f"{self.name}: the file is cut short")
+        return data
+
+    def read_or_end(self, size):
+        """So many bytes, or nothing at the end of the file."""
+        data = self.file.read(size)
+        if data and len(data) != size:
+            fail(f"{self.name}: the file is cut short")
+        return data
+
+
+def frames(source):
+    """The frames of a file, in its order."""
+    magic = source.read_or_end(4)
+    if magic in PCAP:
+        yield from frames_of_pcap(source, *PCAP[magic])
+    elif magic == SECTION:
+        yield from frames_of_pcapng(source)
+    else:
+        fail(f"{source.name}: it is no pcap and no pcapng file")
+
+
+def frames_of_pcap(source, order, units):
+    layer = struct.unpack(order + "HHiIII", source.read(20))[-1] & 0xFFFF
+    head = struct.Struct(order + "IIII")
+    while record := source.read_or_end(16):
+        seconds, parts, size, whole = head.unpack(record)
+        yield Frame(seconds * 10**6 + parts * 10**6 // units, layer, source.read(size), size == whole)
+
+
+def blocks(source):
+    """The blocks of a pcapng file behind the first four bytes: byte order, number, and what stands in each."""
+    number, order = SECTION, "<"
+    while number:
+        if number == SECTION:
+            sizes = source.read(8)
+            order = "<" if sizes[4:] == b"\x4d\x3c\x2b\x1a" else ">"
+            size = struct.unpack(order + "I", sizes[:4])[0]
+            yield order, SECTION, sizes[4:] + source.read(size - 16)
+        else:
+            size = struct.unpack(order + "I", source.read(4))[0]
+            yield order, struct.unpack(order + "I", number)[0], source.read(size - 12)
+        source.read(4)
+        number = source.read_or_end(4)
+
+
+def units_of(order, options):
+    """The units a second of an interface's clock, by its options."""
+    while len(options) >= 4:
+        code, size = struct.unpack(order + "HH", options[:4])
+        if code == RESOLUTION and size == 1:
+            power = options[4]
+            return 2 ** (power & 0x7F) if power & 0x80 else 10**power
+        options = options[4 + size + -size % 4 :]
+    return 10**6
+
+
+def frames_of_pcapng(source):
+    interfaces, latest = [], 0
+    for order, number, body in blocks(source):
+        if number == SECTION:
+            interfaces = []
+        elif number == INTERFACE:
+            layer, _, most = struct.unpack(order + "HHI", body[:8])
+            interfaces.append((layer, units_of(order, body[8:]), most))
+        elif number == ENHANCED:
+            at, high, low, size, whole = struct.unpack(order + "IIIII", body[:20])
+            layer, units, _ = interfaces[at]
+            latest = (high << 32 | low) * 10**6 // units
+            yield Frame(latest, layer, body[20 : 20 + size], size == whole)
+        elif number == SIMPLE:
+            # it has no time of its own
+            whole = struct.unpack(order + "I", body[:4])[0]
+            layer, _, most = interfaces[0]
+            size = min(whole, most or whole)
+            yield Frame(latest, layer, body[4 : 4 + size], size == whole)
+
+
+def packet_of(frame):
+    """The IP packet of a frame, None where it has none."""
+    if frame.layer not in LAYERS:
+        fail(f"frames of link layer {frame.layer} can't be read")
+    size, at = LAYERS[frame.layer]
+    data = frame.data
+    while frame.layer == ETHERNET and data[at : at + 2] in VLANS:
+        size, at = size + 4, at + 4
+    if at >= 0 and data[at : at + 2] not in INTERNET:
+        return None
+    return data[size:]
+
+
+def segment_of(frame):
+    """The TCP segment of a frame, None where it has none, and whether it is a fragment of one."""
+    packet = packet_of(frame)
+    if not packet:
+        return None, False
+    if packet[0] >> 4 == 4:
+        size, protocol = (packet[0] & 15) * 4, packet[9]
+        # a length of 0 stands where the card cut the packet up only later
+        length = int.from_bytes(packet[2:4], "big") or len(packet)
+        source, to = packet[12:16], packet[16:20]
+        is_fragment = int.from_bytes(packet[6:8], "big") & 0x3FFF != 0
+    elif packet[0] >> 4 == 6:
+        size, protocol = 40, packet[6]
+        length = 40 + int.from_bytes(packet[4:6], "big") if packet[4:6] != b"\0\0" else len(packet)
+        source, to, is_fragment = packet[8:24], packet[24:40], protocol == 44
+        while protocol in EXTENSIONS:
+            protocol, size = packet[size], size + 8 + packet[size + 1] * 8
+    else:
+        return None, False
+    if protocol != TCP or is_fragment:
+        return None, is_fragment
+    head = packet[size : size + 20]
+    if len(head) < 20:
+        return None, False
+    source_port, to_port, number, confirmed, offset, flags = struct.unpack("!HHIIBB", head[:14])
+    data = packet[size + (offset >> 4) * 4 : length]
+    if not frame.is_whole and len(packet) < length:
+        fail("the packets were cut when they were captured; tcpdump -s 0 keeps them whole")
+    return Segment(frame.micros, (source, source_port), (to, to_port), number, confirmed, flags, data), False
+
+
+def after(number, other):
+    """How far a sequence number lies after another; less than 0 where before it."""
+    return (number - other + 2**31) % 2**32 - 2**31
+
+
+class Direction:
+    """What one end of a stream sends: the number of the byte that is due, and what came before its turn."""
+
+    def __init__(self):
+        self.due, self.early, self.missing = None, {}, 0
+
+    def take(self, number, data):
+        """The bytes that are in order now."""
+        if self.due is None:
+            self.due = number
+        if self.missing:
+            return b""
+        if after(number, self.due) > 0:
+            if len(data) > len(self.early.get(number, b"")):
+                self.early[number] = data
+            return b""
+        parts = [data[-after(number, self.due) :] if number != self.due else data]
+        self.due = (self.due + len(parts[0])) % 2**32
+        while self.early:
+            ready = [it for it in self.early if after(it, self.due) <= 0]
+            if not ready:
+                break
+            for it in ready:
+                part = self.early.pop(it)[-after(it, self.due) or None :] if it != self.due else self.early.pop(it)
+                parts.append(part)
+                self.due = (self.due + len(part)) % 2**32
+        return b"".join(parts)
+
+    def confirm(self, number):
+        """The other end has all before this number: what the file lacks of it never comes."""
+        if self.early and not self.missing and after(number, self.due) > 0:
+            self.missing = min(after(it, self.due) for it in self.early)
+            self.early = {}
+
+
+class Stream:
+    """A TCP stream: who called (None where the file begins later), who sent what, and how it ended."""
+
+    def __init__(self, one, other):
+        self.ends, self.caller, self.first_number = (one, other), None, None
+        self.directions = {one: Direction(), other: Direction()}
+        self.finished = set()
+        self.is_reset = False
+        self.begins = {one: b"", other: b""}
+
+    def other(self, end):
+        return self.ends[1] if end == self.ends[0] else self.ends[0]
+
+
+# The longest beginning of a stream that is looked at to know what it is.
+BEGINNING = 64
+Event = namedtuple("Event", "micros stream what sender data")
+
+
+def events(source):
+    """What happens in the streams of a file, in its order: `opened`, `data` of a sender, `closed` where either end sends no more."""
+    streams, fragments = {}, 0
+    for frame in frames(source):
+        segment, is_fragment = segment_of(frame)
+        fragments += is_fragment
+        if segment is None:
+            continue
+        micros, sender, to, number, confirmed, flags, data = segment
+        key = (sender, to) if sender < to else (to, sender)
+        stream = streams.get(key)
+        is_call = flags & (SYN | ACK) == SYN
+        if stream is None or (is_call and stream.first_number != number and (stream.first_number is not None or stream.finished)):
+            stream = streams[key] = Stream(*key)
+            if not is_call:
+                yield Event(micros, stream, "found", None, b"")
+        direction = stream.directions[sender]
+        if flags & SYN:
+            if is_call and stream.caller is None:
+                stream.caller, stream.first_number = sender, number
+                yield Event(micros, stream, "opened", sender, b"")
+            if direction.due is None:
+                direction.due = (number + 1) % 2**32
+            number = (number + 1) % 2**32
+        if flags & ACK:
+            stream.directions[to].confirm(confirmed)
+        if data:
+            ready = direction.take(number, data)
+            if ready:
+                if len(stream.begins[sender]) < BEGINNING:
+                    stream.begins[sender] += ready[:BEGINNING]
+                yield Event(micros, stream, "data", sender, ready)
+        if flags & (FIN | RST) and sender not in stream.finished and not stream.is_reset:
+            stream.finished.add(sender)
+            stream.is_reset = bool(flags & RST)
+            yield Event(micros, stream, "closed", sender, b"")
+    if fragments:
+        yield Event(0, None, "fragments", None, fragments)
+
+
+def name_of(end):
+    """ADDRESS:PORT of one end of a stream."""
+    address = ip_address(end[0])
+    return f"[{address}]:{end[1]}" if address.version == 6 else f"{address}:{end[1]}"
+
+
+def end_of(text):
+    """ADDRESS and PORT, None where it isn't given, of such a text; None where it can't be read."""
+    host, colon, port = text.rpartition(":")
+    is_bare = not colon or ("[" not in text and text.count(":") > 1) or text.endswith("]")
+    try:
+        address = ip_address((text if is_bare else host).strip("[]")).packed
+        return address, None if is_bare else int(port)
+    except ValueError:
+        return None
