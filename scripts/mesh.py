@@ -1,0 +1,141 @@
+"""Reads the histories of several routers, and joins their connections by what one took and the other was offered."""
+from collections import defaultdict
+from pathlib import Path
+
+from history import SENDS, fail, steps
+
+PING, PONG, PUSH, QUERY, QUERY_HIT = 0x00, 0x01, 0x40, 0x80, 0x81
+KINDS = {PING: "Ping", PONG: "Pong", PUSH: "Push", QUERY: "Query", QUERY_HIT: "Query Hit"}
+# The kind of request that a Pong or a Query Hit answers.
+ANSWERED = {PONG: PING, QUERY_HIT: QUERY}
+NUMBERS = ("neighbours", "seen", "servents", "stage", "out", "steps", "life", "crowd")
+
+
+class Packet:
+    """A descriptor, by its hex."""
+
+    def __init__(self, text):
+        text = text.lower()
+        self.text, self.id, self.payload = text, text[:32], text[46:]
+        self.kind, self.ttl, self.hops = (int(text[at : at + 2], 16) for at in (32, 34, 36))
+
+    @property
+    def key(self):
+        return self.kind, self.id
+
+    @property
+    def name(self):
+        return KINDS.get(self.kind, f"kind {self.kind:02x}")
+
+    @property
+    def servent(self):
+        """The servent of a Query Hit, or the one that a Push names."""
+        return self.payload[-32:] if self.kind == QUERY_HIT else self.payload[:32]
+
+
+class Offer:
+    """A descriptor that a connection offered: at which step, what was answered, and at which step it was routed, and how."""
+
+    def __init__(self, connection, packet, step, answer):
+        self.connection, self.packet, self.step, self.answer = connection, packet, step, answer
+        self.routed_at = self.outcome = None
+        self.sends = []
+
+    @property
+    def is_admitted(self):
+        return self.answer == "admitted"
+
+
+class Send:
+    """A packet that a step sent to a connection: as which of all that were queued to it, or None where it had no room."""
+
+    def __init__(self, step, connection, packet, place):
+        self.step, self.connection, self.packet, self.place = step, connection, packet, place
+
+
+class Router:
+    """A router's history: what each connection offered, what was queued to it, and what was taken from it, in order."""
+
+    def __init__(self, path):
+        lines = Path(path).read_text(encoding="utf-8").splitlines()
+        self.name = Path(path).name.removesuffix(".history")
+        self.steps = [(event, reply.split(" "), reply) for event, reply in steps(lines)]
+        head = [line for line in lines if line and not line.startswith("#")][:3]
+        self.numbers = dict.fromkeys(NUMBERS, 0) | dict(zip(NUMBERS, map(int, head[1].split(" ")[1:])))
+        self.own = head[2].split(" ")[1:]
+        self.offers, self.queued, self.taken = defaultdict(list), defaultdict(list), defaultdict(list)
+        self.originated, self.connections, self.joined, flights = [], [], {}, {}
+        for index, (event, words, reply) in enumerate(self.steps):
+            if event[0] == "connect" and words[0] == "connected":
+                self.connections.append(int(words[1]))
+            elif event[0] == "admit":
+                offer = Offer(int(event[1]), Packet(event[2]), index, words[0])
+                self.offers[offer.connection].append(offer)
+                if offer.is_admitted:
+                    flights[words[1]] = offer
+            elif event[0] == "route":
+                offer = flights.get(event[1])
+                if offer is None:
+                    fail(f"{self.name}: step {index} routes what wasn't admitted")
+                offer.routed_at, offer.outcome, offer.sends = index, words[:2], self.sends_of(index, reply)
+            elif event[0] == "originate":
+                own = Offer(0, Packet(event[1]), index, "sent")
+                own.routed_at, own.outcome, own.sends = index, words[:1], self.sends_of(index, reply)
+                self.originated.append(own)
+            elif event[0] == "take" and words[0] == "taken":
+                self.taken[int(event[1])].append((index, Packet(words[1])))
+
+    def sends_of(self, index, reply):
+        sends = []
+        for to, mark, text in SENDS.findall(reply) if reply.startswith(("routed", "sent")) else ():
+            queue = self.queued[int(to)]
+            sends.append(Send(index, int(to), Packet(text), len(queue) if mark == "+" else None))
+            if mark == "+":
+                queue.append(sends[-1])
+        return sends
+
+    def is_expired(self, packet):
+        """Whether a descriptor isn't passed on, under the limit on its life: at most one forward is left of it, or it has Hops 255."""
+        life = self.numbers["life"]
+        left = min(packet.ttl, max(0, life - packet.hops)) if life else packet.ttl
+        return left <= 1 or packet.hops == 255
+
+    def own_pong(self, ping):
+        """The router's own Pong to a Ping, in hex."""
+        _, address, port, files, kbytes = self.own
+        payload = int(port).to_bytes(2, "little") + bytes(map(int, address.split(".")))
+        payload += int(files).to_bytes(4, "little") + int(kbytes).to_bytes(4, "little")
+        return f"{ping.id}01{min(255, ping.hops + 1):02x}000e000000{payload.hex()}"
+
+
+def carried(giver, c, taker, d):
+    """How many packets went from giver's connection c to taker's d, if what d offered is a beginning of what was taken from c."""
+    offered, taken = taker.offers[d], giver.taken[c]
+    if len(offered) > len(taken) or any(offer.packet.text != packet.text for offer, (_, packet) in zip(offered, taken)):
+        return None
+    return len(offered)
+
+
+def join(routers):
+    """Joins the connections of different routers where each was offered a beginning of what the other took, those first that carried most."""
+    found = []
+    for i, first in enumerate(routers):
+        for j, second in enumerate(routers[i + 1 :], i + 1):
+            for c in first.connections:
+                for d in second.connections:
+                    both = carried(first, c, second, d), carried(second, d, first, c)
+                    if None not in both and sum(both):
+                        found.append((-sum(both), i, c, j, d))
+    for _, i, c, j, d in sorted(found):
+        first, second = routers[i], routers[j]
+        if c not in first.joined and d not in second.joined:
+            first.joined[c], second.joined[d] = (second, d), (first, c)
+
+
+def read(paths):
+    """The routers of these files, joined."""
+    routers = [Router(path) for path in paths]
+    if len({router.name for router in routers}) < len(routers):
+        fail("two histories have one name")
+    join(routers)
+    return routers
