@@ -114,10 +114,10 @@ def text_lines(file=0):
 
 class History:
     """A history as far as it is read: `config` and `own` from the start; with the steps their `time` in seconds (None without a
-    clock), the `number` of the line, and the neighbours in `links`, by the number of the link."""
+    clock), the `number` of the line, and the `neighbours` that are known, by their connection."""
 
     def __init__(self, lines):
-        self.lines, self.number, self.time, self.links = iter(lines), 0, None, {}
+        self.lines, self.number, self.time, self.links, self.neighbours = iter(lines), 0, None, {}, {}
         title = self.head("header", re.compile("gnutella-history ([123])").fullmatch)
         self.version = int(title[1])
         self.config = self.head("config", lambda line: config_of(line, self.version))
@@ -174,8 +174,16 @@ class History:
                 packets.append(reply[6:])
             if not all(map(is_descriptor, packets)):
                 self.fault("field")
+            if reply[:9] == "connected" and int(actor) in self.links:
+                # a link has one connection at most
+                self.neighbours[int(reply[10:])] = self.links.pop(int(actor))
             yield int(actor), event, reply, sends
         self.fault("end")
+
+    def name(self, connection):
+        """What a connection is called: its neighbour's address where that is known."""
+        neighbour = self.neighbours.get(connection)
+        return f"{connection}, {neighbour.address} {neighbour.way}" if neighbour else f"connection {connection}"
 
 
 def steps(lines):
