@@ -3,8 +3,10 @@ from html import escape
 from math import ceil, floor, log10
 
 COLOURS = ("#3b6fd4", "#8fb8f2", "#e4572e", "#f2b134", "#3c9d5b", "#9467a8", "#8c8c8c", "#222222")
+# What isn't told apart by kind.
+PLAIN = ("#5b6f86",)
 WIDTH, HEIGHT = 560, 240
-LEFT, RIGHT, TOP, BOTTOM = 62, 14, 30, 40
+LEFT, RIGHT, TOP, BOTTOM = 62, 26, 30, 40
 BAR_ROW = 20
 
 
@@ -20,6 +22,11 @@ def said(number):
     if number == int(number):
         return f"{int(number):,}"
     return f"{number:,.3g}" if abs(number) < 100 else f"{number:,.0f}"
+
+
+def colour_of(at, names):
+    colours = COLOURS if len(names) > 1 else PLAIN
+    return colours[at % len(colours)]
 
 
 def text(x, y, words, anchor="middle", kind="tick"):
@@ -53,7 +60,8 @@ class Plot:
 
 def legend(names):
     """What each colour is."""
-    items = (f'<span><i style="background:{COLOURS[at % len(COLOURS)]}"></i>{escape(name)}</span>' for at, name in enumerate(names))
+    names = list(names)
+    items = (f'<span><i style="background:{colour_of(at, names)}"></i>{escape(name)}</span>' for at, name in enumerate(names))
     return f'<p class="legend">{"".join(items)}</p>'
 
 
@@ -65,7 +73,7 @@ def areas(title, x_label, edges, rows, names, most=None):
     for at, name in enumerate(names):
         above = [base + row[at] for base, row in zip(below, rows)]
         if above != below:
-            plot.parts.append(area(plot, edges, below, above, COLOURS[at % len(COLOURS)], name))
+            plot.parts.append(area(plot, edges, below, above, colour_of(at, names), name))
         below = above
     step = nice_step(edges[-1] - edges[0], 5)
     value = ceil(edges[0] / step) * step
@@ -94,7 +102,7 @@ def columns(title, x_label, labels, rows, names, most=None):
                 said_here = f"{escape(label)}, {escape(names[at])}: {said(value)}"
                 plot.parts.append(
                     f'<rect x="{left:.1f}" y="{y:.1f}" width="{right - left:.1f}" height="{bottom - y:.1f}" '
-                    f'fill="{COLOURS[at % len(COLOURS)]}"><title>{said_here}</title></rect>'
+                    f'fill="{colour_of(at, names)}"><title>{said_here}</title></rect>'
                 )
                 base += value
         plot.parts.append(text((left + right) / 2, HEIGHT - BOTTOM + 15, label))
@@ -106,14 +114,14 @@ def bars(title, labels, rows, names, most=None):
     room, height = 190, TOP + BAR_ROW * len(labels) + 8
     top = most or max(map(sum, rows), default=0) or 1
     scale = (WIDTH - room - 76) / top
-    parts = [text(room, 16, title, "start", "title")]
+    parts = [text(LEFT, 16, title, "start", "title")]
     for place, (label, row) in enumerate(zip(labels, rows)):
         y, x = TOP + BAR_ROW * place, room
         parts.append(text(room - 6, y + 13, label, "end"))
         for at, value in enumerate(row):
             if value:
                 said_here = f"{escape(label)}, {escape(names[at])}: {said(value)}"
-                colour = COLOURS[at % len(COLOURS)]
+                colour = colour_of(at, names)
                 parts.append(f'<rect x="{x:.1f}" y="{y}" width="{value * scale:.1f}" height="{BAR_ROW - 4}" fill="{colour}"><title>{said_here}</title></rect>')
                 x += value * scale
         parts.append(text(x + 5, y + 13, said(sum(row)), "start"))
