@@ -10,6 +10,15 @@ def fail(text):
     sys.exit(1)
 
 
+# The status of a check that was skipped; the last line that it prints names the Debian packages that it wants.
+SKIPPED = 77
+
+
+def skip(packages):
+    print(", ".join(packages))
+    sys.exit(SKIPPED)
+
+
 class Parser(argparse.ArgumentParser):
     """Options of a script, whose help is the text at its top; a mistake is one line, status 2."""
 
