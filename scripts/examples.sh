@@ -11,7 +11,7 @@ if [ "$gn" = --copy ]; then
 	find examples -maxdepth 1 -type f ! -name '*.pcap' -exec cp -t crates/gn_examples/data {} +
 	exit
 fi
-if ! diff -r -x '*.pcap' -x cases examples crates/gn_examples/data >&2; then
+if ! diff -r -x '*.pcap' -x cases -x conformance examples crates/gn_examples/data >&2; then
 	echo 'examples/ and crates/gn_examples/data differ: scripts/examples.sh --copy' >&2
 	failed=1
 fi
