@@ -143,7 +143,7 @@ h1 { font-size: 1.5em } h2 { font-size: 1.2em; border-top: 1px solid #d5dce4; pa
 .grid { stroke: #e3e8ee } .tick { font-size: 11px; fill: #4a5866 } .title { font-size: 13px; font-weight: 600; fill: #1c2733 }
 .pair { display: grid; grid-template-columns: repeat(auto-fit, minmax(420px, 1fr)); gap: 6px 24px; align-items: start }
 svg { width: 100%; height: auto } table { border-collapse: collapse; font-size: 13px; font-variant-numeric: tabular-nums; margin: .6em 0 }
-th, td { padding: 2px 10px; text-align: right; border-bottom: 1px solid #e8edf2 } th:first-child, td:first-child { text-align: left }
+th, td { padding: 2px 8px; text-align: right; border-bottom: 1px solid #e8edf2 } td { white-space: nowrap } th:first-child, td:first-child { text-align: left }
 .legend span { margin-right: 1.1em; white-space: nowrap; font-size: 13px } .legend i { display: inline-block; width: .8em; height: .8em; margin-right: .35em; border-radius: 2px }
 .note { color: #5a6875; font-size: 13px } .scroll { overflow-x: auto }
 """
