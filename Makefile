@@ -26,7 +26,8 @@ demo:
 	@echo 'demo: nothing is proved here, the program is only compiled and run; make build proves it' >&2
 	@cd crates/gn && rt try -- replay < ../../examples/first_ping.capture
 
-# Tries the tests, the examples, the scripts and the documents. The last line is 'N passed, M failed'.
+# Tries the tests, the examples, the scripts and the documents. The last line is
+# 'N passed, M failed, K skipped'.
 check:
 	@scripts/check
 
