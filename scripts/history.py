@@ -69,10 +69,22 @@ LINK = re.compile(r"# link ([0-9]{1,10}) (\S+) (called|accepted)\n?")
 ID = re.compile("[0-9a-fA-F]{32}")
 
 
+class Sizes(dict):
+    """The digits of a whole descriptor, by those of its kind and of its length; 0 where the length isn't valid."""
+
+    def __missing__(self, digits):
+        length = int.from_bytes(bytes.fromhex(digits[2:]), "little")
+        if length > LONGEST or length != FIXED.get(digits[:2], length):
+            return 0
+        return self.setdefault(digits, HEADER + 2 * length)
+
+
+SIZES = Sizes()
+
+
 def is_descriptor(packet):
     """Whether hex of at least a header is one whole descriptor of a valid length."""
-    length = int.from_bytes(bytes.fromhex(packet[38:46]), "little")
-    return len(packet) == HEADER + 2 * length and length == FIXED.get(packet[32:34], length) and length <= LONGEST
+    return len(packet) == SIZES[packet[32:34] + packet[38:46]]
 
 
 def kind_of(packet):
