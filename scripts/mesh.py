@@ -2,13 +2,12 @@
 from collections import defaultdict
 from pathlib import Path
 
-from history import SENDS, fail, steps
+from command import fail
+from history import History, kind_of, text_lines
 
 PING, PONG, PUSH, QUERY, QUERY_HIT = 0x00, 0x01, 0x40, 0x80, 0x81
-KINDS = {PING: "Ping", PONG: "Pong", PUSH: "Push", QUERY: "Query", QUERY_HIT: "Query Hit"}
 # The kind of request that a Pong or a Query Hit answers.
 ANSWERED = {PONG: PING, QUERY_HIT: QUERY}
-NUMBERS = ("neighbours", "seen", "servents", "stage", "out", "steps", "life", "crowd")
 
 
 class Packet:
@@ -25,7 +24,7 @@ class Packet:
 
     @property
     def name(self):
-        return KINDS.get(self.kind, f"kind {self.kind:02x}")
+        return kind_of(self.text)
 
     @property
     def servent(self):
@@ -57,15 +56,14 @@ class Router:
     """A router's history: what each connection offered, what was queued to it, and what was taken from it, in order."""
 
     def __init__(self, path):
-        lines = Path(path).read_text(encoding="utf-8").splitlines()
         self.name = Path(path).name.removesuffix(".history")
-        self.steps = [(event, reply.split(" "), reply) for event, reply in steps(lines)]
-        head = [line for line in lines if line and not line.startswith("#")][:3]
-        self.numbers = dict.fromkeys(NUMBERS, 0) | dict(zip(NUMBERS, map(int, head[1].split(" ")[1:])))
-        self.own = head[2].split(" ")[1:]
+        with text_lines(path) as lines:
+            history = History(lines)
+            self.config, self.own = history.config, history.own
+            self.steps = [(event, reply.split(" "), sends) for _, event, reply, sends in history.steps()]
         self.offers, self.queued, self.taken = defaultdict(list), defaultdict(list), defaultdict(list)
         self.originated, self.connections, self.joined, flights = [], [], {}, {}
-        for index, (event, words, reply) in enumerate(self.steps):
+        for index, (event, words, sends) in enumerate(self.steps):
             if event[0] == "connect" and words[0] == "connected":
                 self.connections.append(int(words[1]))
             elif event[0] == "admit":
@@ -77,34 +75,32 @@ class Router:
                 offer = flights.get(event[1])
                 if offer is None:
                     fail(f"{self.name}: step {index} routes what wasn't admitted")
-                offer.routed_at, offer.outcome, offer.sends = index, words[:2], self.sends_of(index, reply)
+                self.route(offer, index, words[:2], sends)
             elif event[0] == "originate":
-                own = Offer(0, Packet(event[1]), index, "sent")
-                own.routed_at, own.outcome, own.sends = index, words[:1], self.sends_of(index, reply)
-                self.originated.append(own)
+                self.originated.append(Offer(0, Packet(event[1]), index, "sent"))
+                self.route(self.originated[-1], index, words[:1], sends)
             elif event[0] == "take" and words[0] == "taken":
                 self.taken[int(event[1])].append((index, Packet(words[1])))
 
-    def sends_of(self, index, reply):
-        sends = []
-        for to, mark, text in SENDS.findall(reply) if reply.startswith(("routed", "sent")) else ():
+    def route(self, offer, index, outcome, sends):
+        """What a step sent of what was offered."""
+        offer.routed_at, offer.outcome = index, outcome
+        for to, mark, text in sends:
             queue = self.queued[int(to)]
-            sends.append(Send(index, int(to), Packet(text), len(queue) if mark == "+" else None))
+            offer.sends.append(Send(index, int(to), Packet(text), len(queue) if mark == "+" else None))
             if mark == "+":
-                queue.append(sends[-1])
-        return sends
+                queue.append(offer.sends[-1])
 
     def is_expired(self, packet):
         """Whether a descriptor isn't passed on, under the limit on its life: at most one forward is left of it, or it has Hops 255."""
-        life = self.numbers["life"]
+        life = self.config.life
         left = min(packet.ttl, max(0, life - packet.hops)) if life else packet.ttl
         return left <= 1 or packet.hops == 255
 
     def own_pong(self, ping):
         """The router's own Pong to a Ping, in hex."""
-        _, address, port, files, kbytes = self.own
-        payload = int(port).to_bytes(2, "little") + bytes(map(int, address.split(".")))
-        payload += int(files).to_bytes(4, "little") + int(kbytes).to_bytes(4, "little")
+        payload = self.own.port.to_bytes(2, "little") + bytes(map(int, self.own.address.split(".")))
+        payload += self.own.files.to_bytes(4, "little") + self.own.kilobytes.to_bytes(4, "little")
         return f"{ping.id}01{min(255, ping.hops + 1):02x}000e000000{payload.hex()}"
 
 
