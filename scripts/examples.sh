@@ -3,6 +3,7 @@
 # have an explanation; compares what it prints with the text beside it: NAME.replay, NAME.verdict, NAME.explained. Loads the
 # capture that is for loads, and audits its history. Compares examples/ with gn_examples' copy too. Ends with status 1 where
 # one differs. With --copy in place of a program it makes that copy anew, and does no more.
+case ${1-} in -h | --help) sed -n '2,/^[^#]/s/^# //p' "$0"; exit ;; esac
 gn=${1:?the path of gn, or --copy}
 failed=0
 # the gate runs a program over its own copy, since it takes no links
