@@ -1,5 +1,5 @@
 # Builds, checks and measures Tineflax with the Rattle toolchain's command `rt`, which has to be on the path.
-.PHONY: help demo check build install uninstall examples test bench performance statement definitions pictures clean
+.PHONY: help demo check build install uninstall examples test bench bench_serve performance statement definitions pictures clean
 
 # Where `make install` puts the program: PREFIX/bin/gn.
 PREFIX ?= /usr/local
@@ -15,6 +15,7 @@ help:
 	@echo 'make examples  replays and audits all examples with the proved program, and compares what it prints'
 	@echo 'make test      the merge gate: every proof from nothing, the must-fail edits, the tests, the programs'
 	@echo 'make bench     proves and runs the benchmarks, those of the program gn among them'
+	@echo 'make bench_serve  what the proved program does over sockets, beside a relay in C; wants a C compiler'
 	@echo 'make performance  measures, and writes the tables of docs/PERFORMANCE.md anew'
 	@echo 'make statement  writes docs/STATEMENT.md from the source; with FOR=replay it prints what that function states'
 	@echo 'make definitions  prints each definition that contracts cite, beside its words'
@@ -70,6 +71,10 @@ bench: build
 	for run in 1 2 3; do crates/gn_bench/out/gn_bench stage || exit 1; done
 	scripts/bench_replay crates/gn/out/gn
 	scripts/bench_load crates/gn/out/gn
+
+# How many packets a second the program gn passes on through sockets, and how soon it answers, beside a relay of one thread.
+bench_serve: build
+	scripts/bench_serve crates/gn/out/gn
 
 # The tables of docs/PERFORMANCE.md, of this machine.
 performance: build
