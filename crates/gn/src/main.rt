@@ -6,7 +6,8 @@ mod streams;
 use gn_io::{ReaderSource, Sink, WriterSink, write_all};
 use gn_program::{command_with, refuse_words};
 use gn_progress::Progress;
-use gn_router::{TableRouter, Unfreed};
+use gn_router::{Forgetful, Unfreed};
+use gn_tables::TableRouter;
 use std::cell::Cell;
 use std::env::Env;
 use std::process::ExitCode;
@@ -16,6 +17,7 @@ use streams::{Noted, Unbroken, Why, is_broken, open_all};
 /// The status where whoever reads the output has gone: that of a program which the system ends for it.
 const BROKEN: u8 = 141;
 
+/// The words of the command line, the program's name first.
 fn words_of<R: Env + AllocGlobal>(rt: &R) -> io::Result<Vec<String>> {
     Ok(env::args(rt)?.collect(rt.alloc())?)
 }
@@ -29,6 +31,7 @@ fn say_why<R: AllocGlobal, F: Sink>(rt: &R, faults: &mut F, stream: &str, why: &
     }
 }
 
+/// Does what the words say, and ends with its status.
 fn main(rt: HostRuntime) -> ExitCode {
     open_all(&rt);
     let input: Why = Cell::new(None);
@@ -38,7 +41,7 @@ fn main(rt: HostRuntime) -> ExitCode {
     let mut faults = WriterSink::new(Unbroken::new(rt.stderr(), &output));
     let progress = Progress::new(&rt, rt.stderr());
     let status = match words_of(&rt) {
-        Ok(words) => command_with::<Unfreed<TableRouter>, _, _, _, _, _, _>(
+        Ok(words) => command_with::<Unfreed<TableRouter<_, Forgetful>>, _, _, _, _, _, _>(
             &rt,
             rt.alloc(),
             words.as_slice(),

@@ -43,7 +43,7 @@ pub record ReadsAs {A : Type 0} (role : Role) (end : ReaderEnd) (conn : Option �
   -- its events except the routes, in order, and its bytes are as the table of ends says, where the bytes are known
   pub row : half.is_known ≡ true
       → ReaderRow role end conn (filter (λ event. not (is_some (ticket_of event))) (map (λ r. r.event) receipts)) half.bytes
-  -- the half ended, failed, or gave bytes as often as may be, where the end says so
+  -- the half ended, or a read failed, or as many reads gave bytes as may be, as the end says
   pub counts : SourceRow end half
 
 -- what a writer's end says of the packets that were taken, and of the half that was written

@@ -14,24 +14,27 @@ use Rattle.gn_bodies.specs.Events.{connection_of}
 use Rattle.gn_bodies.specs.declared.ends.ReaderEnd.{ReaderEnd}
 use Rattle.gn_bodies.specs.declared.ends.ReaderEnd.TheVariants.{Bytes, Fault, ReadFailed, Turns, GreetingRefused, GreetingCut, TooMany, NotLive}
 
--- these events are those before, maybe with a close after them
+-- the events are those of `before`, maybe with a Close of c after them
 abbrev pub WithClose : {A : Type 0} → ℕ → List (Event A) → List (Event A) → Type 0
 WithClose c es before = (es ≡ before) ⊎ (es ≡ before ++ Close c ∷ [])
 
--- a reader that connected as c: what its end says of its events except the routes, and of the frames of the bytes that it
--- read after the greeting
+-- the table of ends for a reader that connected as c: what its end says of its events except the routes, and of the frames of
+-- the bytes that it read after the greeting
 abbrev pub ConnectedRow : {A : Type 0} → ReaderEnd → ℕ → List (Event A) → Frames → Type 0
+-- the bytes have no fault; it connected, and admitted each descriptor, in order
 ConnectedRow Bytes c es frames = (frames.fault ≡ None) × (es ≡ Connect ∷ map (Admit c) frames.descriptors)
+-- they end with this fault; it admitted each descriptor before it, and may have closed the connection
 ConnectedRow (Fault f) c es frames = (frames.fault ≡ Some f) × WithClose c es (Connect ∷ map (Admit c) frames.descriptors)
+-- it admitted each descriptor that was whole, and may have closed the connection; so where it ended by Turns
 ConnectedRow ReadFailed c es frames = WithClose c es (Connect ∷ map (Admit c) frames.descriptors)
 ConnectedRow Turns c es frames = WithClose c es (Connect ∷ map (Admit c) frames.descriptors)
--- it admitted the first n of them
+-- it admitted the first n of the descriptors, and not the next
 ConnectedRow NotLive c es frames =
     (n : ℕ) × (n < length frames.descriptors) × (es ≡ Connect ∷ map (Admit c) (take n frames.descriptors))
 ConnectedRow end c es frames = ⊥
 
--- what the end says of the connection, of the events except the routes, and of the bytes that were read; a reader connects
--- only where the greeting is accepted
+-- the table of ends for a reader: what its end says of the connection, of the events except the routes, and of the bytes that were
+-- read. A reader connects only where the greeting is whole; without a connection it made no event, but at TooMany one Connect
 abbrev pub ReaderRow : {A : Type 0} → Role → ReaderEnd → Option ℕ → List (Event A) → List ℕ → Type 0
 ReaderRow role end (Some c) es b =
     (greeting_state (greeting_of role) b ≡ Done) × ConnectedRow end c es (frames_of (drop (length (greeting_of role)) b))
@@ -55,7 +58,8 @@ abbrev pub HasClosedAt : {A : Type 0} → ReaderEnd → Option ℕ → ActorStat
 HasClosedAt {A} end found me =
     closes end ≡ true → (c : ℕ) → connection_of me ≡ Some c → (before : ActorState A) × HasClosed c found before me
 
--- what the end says of the half, which was new: it ended, a read failed, or so many reads gave bytes
+-- what the end says of the half: at Bytes that it ended, at ReadFailed that a read failed, at Turns that as many reads gave bytes as
+-- may be
 abbrev pub SourceRow : ReaderEnd → ReadHalf → Type 0
 SourceRow Bytes half = half.has_ended ≡ true
 SourceRow GreetingCut half = half.has_ended ≡ true

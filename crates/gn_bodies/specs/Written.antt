@@ -12,20 +12,22 @@ use Rattle.gn_bodies.specs.declared.ends.WriterEnd.{WriterEnd}
 use Rattle.gn_bodies.specs.declared.ends.WriterEnd.TheVariants.{Drained, WriteFailed, Closed, NeverOpened}
 use Rattle.gn_bodies.specs.Events.{events_of, packets_of}
 
--- the texts before the packets, once connected
+-- the opening text of a connected link: the request where it calls, the consent where it accepts, none where it is plain
 abbrev pub opening_texts : Role → List (List ℕ)
 opening_texts Accepting = consent_text ∷ []
 opening_texts Calling = request_text ∷ []
 opening_texts Plain = []
 
--- what the end says of what was written, where `texts` are the opening ones and the packets that were taken
+-- the table of ends for a writer: what its end says of what was written, where `texts` are the opening text and the encodings of the
+-- packets that were taken
 abbrev pub WriterRow : WriterEnd → Role → List (List ℕ) → List ℕ → Type 0
+-- all of them; so where it ended as Closed
 WriterRow Drained role texts written = written ≡ concat texts
 WriterRow Closed role texts written = written ≡ concat texts
--- all of them except the last, and a prefix of the last
+-- all of them but the last, and a prefix of the last
 WriterRow WriteFailed role texts written =
     (done : List (List ℕ)) × (last : List ℕ) × (n : ℕ) × (texts ≡ done ++ last ∷ []) × (written ≡ concat done ++ take n last)
--- the request of a link that calls
+-- nothing, but the request where the link calls
 WriterRow NeverOpened role texts written = written ≡ (if is_calling role then request_text else [])
 
 -- what was written of a text: all of it; or a prefix, where a write failed or took nothing

@@ -98,7 +98,8 @@ impl<'s, G: Gate, B: Site + Ledger, C: RouterCore<A> + Drop, A: Allocator + Copy
         ensures none { connection ≡ None → self.new ≡ self.old }
         ensures row { (role : Role) (b : List ℕ) → ReadRow role end connection (link_events self.old.actor) b
             → ReaderRow role end connection (link_events self.new.actor) b }
-        ensures closed { OnOk result (connection_of self.new.actor ≡ connection → HasClosedAt end found.new self.new.actor) }
+        ensures closed { OnOk result (connection_of self.new.actor ≡ connection
+            → HasClosedAt end found.new self.new.actor) }
     {
         let link = self.actor.number();
         match connection {

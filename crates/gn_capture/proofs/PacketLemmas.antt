@@ -1,12 +1,10 @@
 -- The descriptor that bytes encode.
 use Rattle.std.proofs.Common.{◌≡◌, ℕ, ◌-◌, ◌≤◌, ◌<◌, List, length, take, drop, false, true, refl, sym, ap, ◌∙◌, arith, Ok, Err, Some, None, length-drop}
-use Rattle.std.specs.Prelude.{min, nat_lt, ◌==◌}
-use Rattle.std.specs.Option.{option_map_or}
+use Rattle.std.specs.Prelude.{nat_lt, ◌==◌}
 use Rattle.std.proofs.lemmas.Bool.Decides.{nat_tests}
 use Rattle.gn_wire.specs.declared.header.FrameFault.{FrameFault}
 use Rattle.gn_wire.specs.declared.header.Header.{Header}
-use Rattle.gn_wire.specs.declared.kind.Kind.{Kind}
-use Rattle.gn_wire.specs.Packet.{code_of, kind_of, fault_of, packet_fault, Packet}
+use Rattle.gn_wire.specs.Packet.{fault_of}
 use Rattle.gn_wire.specs.Encoding.{IsHeader, packet_from, reading}
 use Rattle.gn_capture.specs.Packets.{IsHeaderAlone, packet_of}
 
@@ -52,16 +50,8 @@ pub header_found : (bs head : List ℕ) (h : Header) → 23 ≤ length bs → he
 header_found bs head h long head_is m ok size =
     record { header = ok; size = omega (arith, size, long); packet = whole_found bs head h long head_is m size }
 
--- a header's descriptor has no fault where the payload has the length that the header says
-pub made_whole : (bs : List ℕ) (h : Header) (payload : List ℕ) → IsHeaderAlone bs h → payload ≡ drop 23 bs
-    → (let e = packet_from (record h { kind = kind_of (code_of h.kind) }) payload in option_map_or Err (packet_fault e) (Ok e))
-    ≡ Ok (packet_from h (drop 23 bs))
-made_whole bs h payload alone is =
-    let of : Kind → Packet = λ k. packet_from (record h { kind = k }) payload in
-    let same : of (kind_of (code_of h.kind)) ≡ packet_from h (drop 23 bs) = ap of (sym alone.header.stored) ∙ ap (packet_from h) is in
-    let long = length-drop 23 bs in
-    let size = alone.size in
-    let below : h.length < 4294967296 = alone.header.length_fits in
-    let fits : min (length (drop 23 bs)) 4294967295 ≡ h.length = omega arith in
-    let valid : packet_fault (packet_from h (drop 23 bs)) ≡ None = ap (fault_of h.kind) fits ∙ alone.header.valid in
-    ap (λ (d : Packet). option_map_or Err (packet_fault d) (Ok d)) same ∙ ap (λ fault. option_map_or Err fault (Ok (packet_from h (drop 23 bs)))) valid
+-- the payload after a header has the length that the header says
+pub whole_valid : (bs : List ℕ) (h : Header) (payload : List ℕ) → IsHeaderAlone bs h → payload ≡ drop 23 bs → fault_of h.kind (length payload) ≡ None
+whole_valid bs h payload alone is =
+    let size : length payload ≡ h.length = omega (arith, alone.size, ap length is, length-drop 23 bs) in
+    rw size alone.header.valid

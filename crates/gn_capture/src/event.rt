@@ -8,6 +8,7 @@ use gn_rules::Event;
 use gn_text::is_word;
 use std::alloc::{AllocError, Allocator};
 
+/// The Admit that the first fields say, and the fields after them. An `Err` is out of memory.
 fn admit_first<'a, 'b, A: Allocator + Copy>(
     alloc: A,
     fields: &'b [&'a [u8]],

@@ -10,14 +10,17 @@ use gn_rules::{Event, Own, Reply, Sending, Step};
 use gn_wire::{Descriptor, write_header};
 use std::alloc::Allocator;
 
+/// A number is within a u32.
 fn number_fits(_number: u32)
     ensures { IsNumber _number }
 {}
 
+/// Bytes are below 256.
 fn bytes_fit(_bytes: &[u8])
     ensures { IsBytes _bytes.now }
 {}
 
+/// So many octets are bytes.
 fn octets_fit<const N: usize>(octets: &[u8; N])
     ensures size { length octets.now ≡ N }
     ensures bytes { IsBytes octets.now }
@@ -25,6 +28,7 @@ fn octets_fit<const N: usize>(octets: &[u8; N])
     bytes_fit(octets);
 }
 
+/// A port is within 16 bits.
 fn port_fits(_port: u16)
     ensures { _port < 2 ^ 16 }
 {}
@@ -37,6 +41,7 @@ fn packet_fits<A: Allocator>(packet: &Descriptor<A>)
     bytes_fit(packet.payload().as_slice());
 }
 
+/// A send is of a number and bytes.
 fn sending_fits<A: Allocator>(sending: &Sending<A>)
     ensures { IsSending sending.now }
 {
@@ -44,6 +49,7 @@ fn sending_fits<A: Allocator>(sending: &Sending<A>)
     packet_fits(&sending.packet);
 }
 
+/// So is each send.
 fn sends_fit<A: Allocator>(sends: &[Sending<A>])
     ensures { AllByRecursion IsSending sends.now }
 {
@@ -52,6 +58,7 @@ fn sends_fit<A: Allocator>(sends: &[Sending<A>])
     }
 }
 
+/// An event is of numbers and bytes.
 fn event_fits<A: Allocator>(event: &Event<A>)
     ensures { IsEvent event.now }
 {
@@ -66,6 +73,7 @@ fn event_fits<A: Allocator>(event: &Event<A>)
     }
 }
 
+/// A reply is of numbers and bytes.
 fn reply_fits<A: Allocator>(reply: &Reply<A>)
     ensures { IsReply reply.now }
 {
@@ -79,6 +87,7 @@ fn reply_fits<A: Allocator>(reply: &Reply<A>)
     }
 }
 
+/// A step is of numbers and bytes.
 fn step_fits<A: Allocator>(step: &Step<A>)
     ensures { IsStep step.now }
 {

@@ -26,11 +26,23 @@ fn read_line<'a, A: Allocator + Copy>(
     if is_word(line, b"end") {
         return Ok(None);
     }
+    fields.clear();
     fields_into(line, fields)?;
     match read_step(alloc, fields.as_slice())? {
         Some(step) => Ok(Some(step)),
         None => Err(CaptureRefusal::at(number, Cause::Field)),
     }
+}
+
+/// As it is read, for who has the lines one by one.
+pub fn read_history_line<'a, A: Allocator + Copy>(
+    alloc: A,
+    fields: &mut Vec<&'a [u8], A>,
+    line: &NumberedLine<'a>,
+) -> Result<Option<Step<A>>, CaptureRefusal>
+    ensures { IsRead (λ x. x) result (line_parsed (line_seen line.now)) }
+{
+    read_line(alloc, fields, line)
 }
 
 /// The steps of a history's text, one after another. They are read as they are asked for, and nothing is kept of those

@@ -22,7 +22,7 @@ mod word;
 
 pub use capture::{Capture, read_capture};
 pub use gn_text::{CaptureFault, CaptureRefusal, Cause};
-pub use history::{HistorySteps, open_history, read_history};
+pub use history::{HistorySteps, open_history, read_history, read_history_line};
 pub use history_written::write_history;
 pub use laws::{read_is_encoded, written_is_read};
 pub use line::{Line, LocalRequest, PieceBytes};

@@ -36,7 +36,7 @@ fn payload_in<A: Allocator + Copy>(bytes: Vec<u8, A>) -> Result<Bytes<A>, AllocE
 }
 
 /// The descriptor that bytes encode, from the first to the last. An `Err` is out of memory.
-#[tactic(auto, using(crate::proofs::PacketLemmas::made_whole))]
+#[tactic(auto, using(crate::proofs::PacketLemmas::whole_valid))]
 fn packet_in<A: Allocator + Copy>(bytes: Vec<u8, A>) -> Result<Option<Descriptor<A>>, AllocError>
     ensures { IfOk result (λ found. found ≡ packet_of bytes.items) }
 {
@@ -44,10 +44,7 @@ fn packet_in<A: Allocator + Copy>(bytes: Vec<u8, A>) -> Result<Option<Descriptor
         return Ok(None);
     };
     let payload = payload_in(bytes)?;
-    match Descriptor::from_header(header, payload) {
-        Ok(descriptor) => Ok(Some(descriptor)),
-        Err(_) => unreachable!(),
-    }
+    Ok(Some(Descriptor::whole(header, payload)))
 }
 
 /// The descriptor that a field encodes, where it encodes a whole one and no more. An `Err` is out of memory.

@@ -72,6 +72,7 @@ pub(crate) fn read_numbered<'a, A: Allocator + Copy>(
 ) -> Result<Line<A>, CaptureRefusal>
     ensures { IsRead (λ line. line) result (numbered number (line_of links (fields_of text.now))) }
 {
+    fields.clear();
     fields_into(text, fields)?;
     match read_line(alloc, links, fields.as_slice()) {
         Ok(line) => Ok(line),

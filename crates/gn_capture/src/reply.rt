@@ -12,6 +12,7 @@ use gn_text::is_word;
 use gn_wire::Descriptor;
 use std::alloc::{AllocError, Allocator};
 
+/// The reason to drop that a word names.
 fn reason_named(field: &[u8]) -> Option<DropReason>
     ensures { result ≡ reason_named field.now }
 {
@@ -34,6 +35,7 @@ fn reason_named(field: &[u8]) -> Option<DropReason>
     }
 }
 
+/// Whether the word is `local` and not `away`; `None` where it is neither.
 fn place_named(field: &[u8]) -> Option<bool>
     ensures { result ≡ place_named field.now }
 {
@@ -46,6 +48,7 @@ fn place_named(field: &[u8]) -> Option<bool>
     }
 }
 
+/// The reason that a single field names.
 fn reason_alone(fields: &[&[u8]]) -> Option<DropReason>
     ensures { result ≡ alone reason_named (map (λ x. x.now) fields.now) }
 {
@@ -55,6 +58,7 @@ fn reason_alone(fields: &[&[u8]]) -> Option<DropReason>
     }
 }
 
+/// The packet that a single field says. An `Err` is out of memory.
 fn packet_alone<A: Allocator + Copy>(
     alloc: A,
     fields: &[&[u8]],
@@ -67,6 +71,7 @@ fn packet_alone<A: Allocator + Copy>(
     }
 }
 
+/// The reply Routed that the fields after `routed` say. An `Err` is out of memory.
 fn read_routed<A: Allocator + Copy>(
     alloc: A,
     fields: &[&[u8]],
@@ -85,6 +90,7 @@ fn read_routed<A: Allocator + Copy>(
     }
 }
 
+/// A reply with packets, of this word and the fields after it. An `Err` is out of memory.
 fn read_packets<A: Allocator + Copy>(
     alloc: A,
     word: &[u8],
@@ -110,6 +116,7 @@ fn read_packets<A: Allocator + Copy>(
     Ok(None)
 }
 
+/// A reply without a number, of this word and the fields after it. An `Err` is out of memory.
 fn read_unnumbered<A: Allocator + Copy>(
     alloc: A,
     word: &[u8],

@@ -11,12 +11,14 @@ use gn_text::{is_word, number};
 use gn_wire::Descriptor;
 use std::alloc::{AllocError, Allocator};
 
+/// Whether a byte is neither of the two marks of a send.
 fn is_unmarked(byte: u8) -> bool
     ensures { result ≡ is_unmarked byte }
 {
     !(byte == b'+' || byte == b'-')
 }
 
+/// Where the first mark of a field stands; its end, where there is none.
 fn mark_place(field: &[u8]) -> usize
     ensures value { result ≡ mark_place field.now }
     ensures bound { result ≤ length field.now }
@@ -45,6 +47,7 @@ fn read_next<A: Allocator + Copy>(
     }
 }
 
+/// The send to the connection that `to` says, of a mark and a packet's hex digits. An `Err` is out of memory.
 fn read_marked<A: Allocator + Copy>(
     alloc: A,
     to: &[u8],
@@ -70,6 +73,7 @@ fn read_marked<A: Allocator + Copy>(
     }
 }
 
+/// The send that a field says. An `Err` is out of memory.
 fn read_sending<A: Allocator + Copy>(
     alloc: A,
     field: &[u8],

@@ -10,6 +10,7 @@ use gn_rules::{Reply, Step};
 use gn_text::is_word;
 use std::alloc::{AllocError, Allocator};
 
+/// The reply that the fields after `=` say. An `Err` is out of memory.
 fn read_answer<A: Allocator + Copy>(
     alloc: A,
     fields: &[&[u8]],

@@ -4,7 +4,7 @@ use crate::streams::{Given, Taken};
 use gn_io::{ReaderSource, WriterSink};
 use gn_links::{Gate, Watch};
 use gn_program::command_with;
-use gn_router::TableRouter;
+use gn_tables::TableRouter;
 use std::io::{self, StdinLock};
 use std::net::{Net, SocketAddr, TcpListener, TcpStream};
 use std::sync::Wait;

@@ -8,7 +8,7 @@ use Rattle.gn_wire.specs.declared.header.FrameFault.{FrameFault}
 use Rattle.gn_frames.specs.declared.head.Head.{Head}
 use Rattle.gn_frames.specs.declared.head.Head.TheVariants.{Open, Faulty, Whole}
 
--- the head: open where bytes are wanting, faulty where the header's length is invalid, else a whole descriptor
+-- what a string of bytes begins with: a whole descriptor; faulty where the header names an invalid length; open where bytes are wanting
 abbrev pub head_of : List ℕ → Head
 head_of s =
     let h = header_at (take 23 s) in

@@ -41,8 +41,5 @@ pub(crate) fn whole<A: Allocator>(header: Header, payload: Bytes<A>) -> Descript
     requires whole { length payload ≡ header.length }
     ensures { result ≡ packet_from header payload }
 {
-    match Descriptor::from_header(header, payload) {
-        Ok(descriptor) => descriptor,
-        Err(_) => unreachable!(),
-    }
+    Descriptor::whole(header, payload)
 }

@@ -246,7 +246,7 @@ impl<C: RouterCore<A>, L: Ledger, A: Allocator + Copy> Hub<C, L, A> {
     pub fn book(&self) -> u64
         ensures { result ≡ length self.now.steps }
     {
-        self.core.history().len() as u64
+        u64::from(self.core.step_count())
     }
 
     /// The router.

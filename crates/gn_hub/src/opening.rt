@@ -10,7 +10,7 @@ use crate::actor::Actor;
 use crate::hub::Hub;
 use crate::mark::Mark;
 use crate::service::Service;
-use gn_rules::{Config, MOST_WORKERS, RouterCore};
+use gn_rules::{Config, FreshRouter, MOST_WORKERS};
 use gn_shake::Role;
 use std::alloc::{AllocError, AllocFailed, Allocator};
 use std::sync::ledger::{Blank, Ledger, Share};
@@ -34,7 +34,7 @@ impl From<AllocError> for ServiceFault {
     }
 }
 
-impl<C: RouterCore<A> + Drop, L: Ledger, A: Allocator + Copy> Service<C, L, A> {
+impl<C: FreshRouter<A> + Drop, L: Ledger, A: Allocator + Copy> Service<C, L, A> {
     /// The service of a run with links of these roles, at most 256, and so many workers, and its actors: the readers in the
     /// order of their links, then the writers, the workers and the house. The ledger has a part for each of them.
     /// `BadWorkers` comes exactly where there aren't 1 to 64 workers.
@@ -61,7 +61,7 @@ impl<C: RouterCore<A> + Drop, L: Ledger, A: Allocator + Copy> Service<C, L, A> {
 }
 
 /// The hub of a run that begins, and the actors.
-fn open<C: RouterCore<A>, L: Ledger, A: Allocator + Copy>(
+fn open<C: FreshRouter<A>, L: Ledger, A: Allocator + Copy>(
     alloc: A,
     blank: Blank,
     config: &Config,

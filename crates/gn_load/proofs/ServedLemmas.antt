@@ -88,6 +88,10 @@ stopped_less A Part Less is_kept s (Run (Audit actor)) old new less has = has
 pub run_is : (fault : RunFault) (P : Type 0) → (fault ≡ BadWorkers) ↔ P → (Run fault ≡ Run BadWorkers) ↔ P
 run_is fault P same = ((λ is. let e : fault ≡ BadWorkers = cc in same.0 e), (λ p. ap (λ (f : RunFault). Run f) (same.1 p)))
 
+-- a full history of the serve is one of the run
+pub is_full : {fault : RunFault} → Run fault ≡ Run HistoryFull → fault ≡ HistoryFull
+is_full is = cc
+
 -- a history that wasn't written is none of the workers
 pub write_is_other : (workers : ℕ) → IsCrew workers → (Write ≡ Run BadWorkers) ↔ (¬ IsCrew workers)
 write_is_other workers within = ((λ is. absurd (cc)), (λ none. absurd (none within)))

@@ -7,6 +7,7 @@ mod links;
 mod loads;
 mod printed;
 mod serve_fault;
+mod serve_stopped;
 mod served;
 
 pub use fault::LoadFault;
@@ -14,4 +15,5 @@ pub use links::links_of;
 pub use loads::{load, load_watched};
 pub use printed::{PrintFault, print_history};
 pub use serve_fault::ServeFault;
-pub use served::serve_history;
+pub use serve_stopped::ServeStopped;
+pub use served::{serve_history, serve_history_kept};

@@ -13,7 +13,7 @@ use crate::printed::{PrintFault, print_history};
 use gn_capture::{Capture, read_capture};
 use gn_io::{Sink, Source, read_input};
 use gn_replay::ReplayFault;
-use gn_rules::{Config, RouterCore};
+use gn_rules::{Config, Historian};
 use gn_service::{MemoryReader, MemoryWriter, NoGate, Report, Watch, run};
 use std::alloc::Allocator;
 use std::sync::Wait;
@@ -23,7 +23,7 @@ use std::thread::Threads;
 /// capture only what its links hold lasts through the run.
 fn run_links<
     A: Allocator + Copy + Send + Sync,
-    C: RouterCore<A> + Drop + Send,
+    C: Historian<A> + Drop + Send,
     R: Threads + Wait + Sync,
     G: Watch + Sync,
 >(
@@ -56,7 +56,7 @@ fn run_links<
 /// of it, any other `Err` leaves nothing. A line that isn't taken is stated where the capture has no other fault.
 pub fn load<
     A: Allocator + Copy + Send + Sync,
-    C: RouterCore<A> + Drop + Send,
+    C: Historian<A> + Drop + Send,
     R: Threads + Wait + Sync,
     S: Source,
     W: Sink,
@@ -81,7 +81,7 @@ pub fn load<
 /// Does the same, and each worker passes this gate before it routes.
 pub fn load_watched<
     A: Allocator + Copy + Send + Sync,
-    C: RouterCore<A> + Drop + Send,
+    C: Historian<A> + Drop + Send,
     R: Threads + Wait + Sync,
     G: Watch + Sync,
     S: Source,

@@ -6,13 +6,12 @@ ghost use Rattle.gn_capture.specs.Histories.{history_text, steps_text};
 ghost use Rattle.gn_io.specs.Parts.{AppendsPart, LeavesToWrite, block_size};
 ghost use Rattle.gn_io.specs.Streams.{NoWriteFailed};
 ghost use Rattle.gn_load.specs.Printed.{IsPrintFault};
-ghost use Rattle.gn_text.specs.Header.{header_text};
 ghost use Rattle.gn_text.specs.Steps.{step_text};
-ghost use Rattle.gn_text.specs.declared.title.Text.TheVariants.{History};
 
 use gn_io::{Block, IoFault, Sink, write_all};
+use gn_replay::history_heading;
 use gn_rules::{Config, Step};
-use gn_text::{Text, push_header, push_step};
+use gn_text::push_step;
 use std::alloc::{AllocError, Allocator};
 
 /// A line of so many bytes or more isn't copied into what waits.
@@ -112,19 +111,6 @@ fn print_steps<A: Allocator, B: Allocator, W: Sink>(
     Ok(())
 }
 
-/// What stands in a history before its steps.
-fn heading<B: Allocator + Copy>(alloc: B, config: &Config) -> Result<Block<B>, AllocError>
-    ensures { IfOk result (λ block. block ≡ header_text History config.now) }
-{
-    let mut line = Vec::new(alloc);
-    push_header(&mut line, Text::History, config)?;
-    let mut block = Block::new(alloc);
-    let added = block.add(&line);
-    drop(line);
-    added?;
-    Ok(block)
-}
-
 /// Writes the text of a history, as `write_history` of gn_capture has it, in blocks of at least 32,768 bytes, the last one
 /// shorter: no more than a block and a line of it are in memory. An `Err` leaves a prefix of the text.
 pub fn print_history<A: Allocator, B: Allocator + Copy, W: Sink>(
@@ -140,7 +126,7 @@ pub fn print_history<A: Allocator, B: Allocator + Copy, W: Sink>(
     ensures cause { IfErr result (λ fault. IsPrintFault fault (W.state sink.old) (W.state sink.new)) }
     ensures unfailed { OnOk result (NoWriteFailed (W.state sink.old) (W.state sink.new)) }
 {
-    let mut block = heading(alloc, config)?;
+    let mut block = history_heading(alloc, config)?;
     let mut line = Vec::new(alloc);
     let printed = print_steps(steps, &mut line, &mut block, sink);
     drop(line);

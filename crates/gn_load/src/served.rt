@@ -15,8 +15,9 @@ ghost use Rattle.gn_load.specs.Served.{AppendsServed, AppendsServedPart, HasKept
 
 use crate::printed::{PrintFault, print_history};
 use crate::serve_fault::ServeFault;
+use crate::serve_stopped::ServeStopped;
 use gn_io::Sink;
-use gn_rules::{Config, RouterCore, Step};
+use gn_rules::{Config, Historian, Step};
 use gn_service::{Report, RunFault, Serving, Stopped, TcpReader, TcpWriter, Watch, serve_kept};
 use std::alloc::Allocator;
 use std::net::{Net, SocketAddr, TcpListener, TcpStream};
@@ -31,17 +32,17 @@ fn print_kept<A: Allocator + Copy, W: Sink>(
     config: &Config,
     is_kept: bool,
     fault: RunFault,
-    history: Option<Vec<Step<A>, A>>,
+    history: &Option<Vec<Step<A>, A>>,
     sink: &mut W,
 ) -> Result<(), PrintFault>
-    requires legal { IfSome history (λ steps. IsLegal config.now (reverse steps.items)) }
-    requires full { fault ≡ HistoryFull → IfSome history (λ steps. length steps.items ≡ config.now.numbers.steps) }
-    ensures whole { OnOk result (is_kept ≡ true → IfSome history (λ steps. steps.items ≢ []
+    requires legal { IfSome history.now (λ steps. IsLegal config.now (reverse steps.items)) }
+    requires full { fault ≡ HistoryFull → IfSome history.now (λ steps. length steps.items ≡ config.now.numbers.steps) }
+    ensures whole { OnOk result (is_kept ≡ true → IfSome history.now (λ steps. steps.items ≢ []
         → Appends (W.state sink.old).written (W.state sink.new).written (history_text config.now steps.items))) }
     ensures kept { HasKept A is_kept config.now fault (W.state sink.old).written (W.state sink.new).written }
 {
     match history {
-        Some(steps) if is_kept && !steps.is_empty() => print_history(alloc, config, &steps, sink),
+        Some(steps) if is_kept && !steps.is_empty() => print_history(alloc, config, steps, sink),
         _ => Ok(()),
     }
 }
@@ -51,9 +52,14 @@ fn print_kept<A: Allocator + Copy, W: Sink>(
 /// kept, what stands of it is written all the same, up to where memory or a write fails; else any other `Err` leaves nothing.
 pub fn serve_history<
     's,
-    C: RouterCore<A> + Drop + Send,
+    C: Historian<A> + Drop + Send,
     A: Allocator + Copy + Send + Sync,
-    R: Threads + Wait + Net<Listener = TcpListener, Stream = TcpStream> + Clock + Sync,
+    R: Threads
+        + Wait
+        + Net<Listener = TcpListener, Stream = TcpStream>
+        + Clock
+        + AllocGlobal
+        + Sync,
     G: Watch + Sync,
     W: Sink,
 >(
@@ -86,6 +92,63 @@ pub fn serve_history<
     ensures stopped { IfErr result (λ fault. HasServeStopped A (AppendsServedPart A config.now peers.now accept workers)
         serving.now.is_kept config.now fault (W.state sink.old).written (W.state sink.new).written) }
 {
+    match serve_history_kept::<C, A, R, G, W>(
+        rt, alloc, listener, config, accept, peers, serving, workers, watch, sink,
+    ) {
+        Ok(report) => Ok(report),
+        Err(stopped) => Err(stopped.fault),
+    }
+}
+
+/// Does the same, and a fault comes with what stands of the history, which is legal by the configuration of the call, and has as
+/// many steps as it may have where the fault is a full history.
+pub fn serve_history_kept<
+    's,
+    C: Historian<A> + Drop + Send,
+    A: Allocator + Copy + Send + Sync,
+    R: Threads
+        + Wait
+        + Net<Listener = TcpListener, Stream = TcpStream>
+        + Clock
+        + AllocGlobal
+        + Sync,
+    G: Watch + Sync,
+    W: Sink,
+>(
+    rt: &R,
+    alloc: A,
+    listener: &TcpListener,
+    config: &Config,
+    accept: u32,
+    peers: &[SocketAddr],
+    serving: &Serving<'s>,
+    workers: u32,
+    watch: &G,
+    sink: &mut W,
+) -> Result<Report<TcpReader<'s>, TcpWriter, A>, ServeStopped<A>>
+    requires few { accept + length peers.now ≤ most_links }
+    ensures workers { OnOk result (IsCrew workers) }
+    ensures bad_workers { IfErr result (λ stopped. (stopped.fault ≡ Run BadWorkers) ↔ (¬ IsCrew workers)) }
+    ensures fault { IfErr result (λ stopped. IsCrew workers → IsServeFault (length peers.now + accept) workers
+        stopped.fault (W.state sink.old) (W.state sink.new)) }
+    ensures written { OnOk result (AppendsServed A config.now peers.now accept workers
+        (W.state sink.old).written (W.state sink.new).written) }
+    ensures report { IfOk result (λ report. Appends (W.state sink.old).written (W.state sink.new).written
+        (history_text config.now report.history.items)) }
+    ensures unfailed { OnOk result (NoWriteFailed (W.state sink.old) (W.state sink.new)) }
+    ensures holds { IfOk result (λ report. Holds half_read half_written config.now
+        (roles_of (length peers.now) (length peers.now + accept)) workers report) }
+    ensures made { IfOk result (λ report. AreMadeOf (λ half. half.origin) (λ half. half.origin)
+        (origins_of peers.now (length peers.now + accept)) report) }
+    ensures one_socket { IfOk result (λ report. AreOfOne (λ half. half.socket) (λ half. half.socket) report) }
+    ensures stopped { IfErr result (λ stopped. HasServeStopped A
+        (AppendsServedPart A config.now peers.now accept workers) serving.now.is_kept config.now stopped.fault
+        (W.state sink.old).written (W.state sink.new).written) }
+    ensures kept { IfErr result (λ stopped. IfSome stopped.history (λ history.
+        IsLegal config.now (reverse history.items))) }
+    ensures full { IfErr result (λ stopped. stopped.fault ≡ Run HistoryFull → IfSome stopped.history (λ history.
+        length history.items ≡ config.now.numbers.steps)) }
+{
     let answer = serve_kept::<C, G, A, R>(
         rt, alloc, listener, config, accept, peers, serving, workers, watch,
     );
@@ -94,13 +157,22 @@ pub fn serve_history<
         Ok(report) => report,
         Err(Stopped { fault, history }) => {
             // that it can't be written changes no fault
-            let _ = print_kept(alloc, config, serving.is_kept, fault, history, sink);
-            return Err(ServeFault::Run(fault));
+            let _ = print_kept(alloc, config, serving.is_kept, fault, &history, sink);
+            return Err(ServeStopped {
+                fault: ServeFault::Run(fault),
+                history,
+            });
         }
     };
     match print_history(alloc, config, &report.history, sink) {
         Ok(()) => Ok(report),
-        Err(PrintFault::Write) => Err(ServeFault::Write),
-        Err(PrintFault::NoMemory) => Err(ServeFault::Run(RunFault::NoMemory)),
+        Err(PrintFault::Write) => Err(ServeStopped {
+            fault: ServeFault::Write,
+            history: Some(report.history),
+        }),
+        Err(PrintFault::NoMemory) => Err(ServeStopped {
+            fault: ServeFault::Run(RunFault::NoMemory),
+            history: Some(report.history),
+        }),
     }
 }

@@ -1,8 +1,7 @@
 //! What writes bytes, and what puts descriptors together from pieces.
 
-use crate::sweep::growths_of_calls;
 use bytes::Bytes;
-use gn_fixtures::{Call, Failure, Heap, OWN_PONG};
+use gn_fixtures::{Call, Failure, Heap, OWN_PONG, growths_of_calls};
 use gn_frames::{FeedRefusal, Reassembler};
 use gn_payload::{
     HitResult, Pong, Push, WriteRefusal, write_hit, write_pong, write_push, write_query,

@@ -1,12 +1,10 @@
 //! What is made anew: nothing stands of it where it isn't.
 
-use crate::sweep::growths_of_calls;
-use gn_fixtures::{Call, Failure, Heap, usual};
+use gn_fixtures::{Call, Failure, Heap, growths_of_calls, usual};
 use gn_frames::Reassembler;
-use gn_plain::PlainRouter;
-use gn_router::TableRouter;
-use gn_rules::{Config, RouterCore};
-use gn_tables::{Flights, Neighbours, SeenTable, ServentTable};
+use gn_rules::{Config, FreshRouter};
+use gn_search::PlainRouter;
+use gn_tables::{Flights, Neighbours, SeenTable, ServentTable, TableRouter};
 use std::alloc::{AllocError, Allocator};
 use std::test::Fail;
 

@@ -2,7 +2,7 @@
 
 use crate::steps::read;
 use gn_fixtures::{Heap, Refused, Turn, Turns, growths};
-use gn_rules::{Config, Event, Receipt, Refusal, RouterCore, run_events};
+use gn_rules::{Config, Event, Historian, Receipt, Refusal, run_events};
 use std::alloc::Allocator;
 use std::marker::PhantomData;
 use std::test::Fail;
@@ -49,7 +49,7 @@ fn turn_of(out_of_memory: u64, has_refused: bool, refused: Refused) -> Turn {
     }
 }
 
-impl<A: Allocator + Copy, C: RouterCore<A> + Drop> Turns<A> for Runs<C> {
+impl<A: Allocator + Copy, C: Historian<A> + Drop> Turns<A> for Runs<C> {
     fn turn(&self, heap: &Heap, alloc: A, refused: Refused) -> Result<Turn, Fail> {
         heap.refuse_none();
         let (config, events) = read_events(alloc, self.history)?;
@@ -67,7 +67,7 @@ impl<A: Allocator + Copy, C: RouterCore<A> + Drop> Turns<A> for Runs<C> {
 }
 
 /// How many growths the events of a history meet together.
-pub(crate) fn growths_of_list<A: Allocator + Copy, C: RouterCore<A> + Drop>(
+pub(crate) fn growths_of_list<A: Allocator + Copy, C: Historian<A> + Drop>(
     heap: &Heap,
     alloc: A,
     history: &'static str,

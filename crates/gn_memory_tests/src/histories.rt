@@ -1,15 +1,5 @@
 //! The runs, each as the text of its history. Each answer in it is worked out by hand from the rules.
 
-/// A Ping is answered and passed on.
-pub(crate) const FIRST_PING: &str = "gnutella-history 1\n\
-config 4 8 4 8 8 100\n\
-own eeeeeeeeeeeeeeeeeeeeeeeeeeeeeeee 127.0.0.1 6346 5 40\n\
-0 connect = connected 1\n\
-0 connect = connected 2\n\
-0 admit 1 a1a1a1a1a1a1a1a1a1a1a1a1a1a1a1a100070000000000 = admitted 0\n\
-0 route 0 = routed local 1+a1a1a1a1a1a1a1a1a1a1a1a1a1a1a1a10101000e000000ca187f0000010500000028000000 2+a1a1a1a1a1a1a1a1a1a1a1a1a1a1a1a100060100000000\n\
-end\n";
-
 /// A Ping with TTL 1 is answered and not passed on.
 pub(crate) const EXPIRED_PING: &str = "gnutella-history 1\n\
 config 4 8 4 8 8 100\n\

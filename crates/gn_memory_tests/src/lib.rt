@@ -1,8 +1,7 @@
-//! Calls and whole runs where each of their growths is refused in turn, and calls that take no memory where all are. Tests alone.
+//! Calls of codecs, tables and routers where each of their growths is refused in turn, and calls that take no memory where all
+//! are. Tests alone.
 #![tactic(auto)]
 
-#[cfg(test)]
-mod bodies;
 #[cfg(test)]
 mod codecs;
 #[cfg(test)]
@@ -12,22 +11,10 @@ mod event_lists;
 #[cfg(test)]
 mod histories;
 #[cfg(test)]
-mod lock;
-#[cfg(test)]
 mod no_memory_taken;
 #[cfg(test)]
 mod rows;
 #[cfg(test)]
-mod runs;
-#[cfg(test)]
-mod serves;
-#[cfg(test)]
-mod stage;
-#[cfg(test)]
 mod steps;
 #[cfg(test)]
-mod sweep;
-#[cfg(test)]
 mod tables;
-#[cfg(test)]
-mod texts;

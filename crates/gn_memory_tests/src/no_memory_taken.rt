@@ -5,18 +5,16 @@ use crate::steps::{Asked, Makes};
 use crate::tables::none_in_flight;
 use bytes::Bytes;
 use gn_fixtures::{Call, Heap, ping};
-use gn_legal::legal;
 use gn_payload::{Checked, Verdict};
-use gn_plain::PlainRouter;
-use gn_router::TableRouter;
-use gn_rules::{Counter, Legality, Reply, RouterCore, Sending, Sends, Step, is_same_reply};
-use gn_tables::Neighbours;
+use gn_rules::{Counter, Historian, Legality, Reply, Sending, Sends, Step, is_same_reply};
+use gn_search::{PlainRouter, legal};
+use gn_tables::{Neighbours, TableRouter};
 use gn_wire::{Descriptor, Guid, Kind};
 use std::alloc::Allocator;
 use std::test::Fail;
 
 /// Whether a router says all that it did in the run before its last step.
-fn says_all<A: Allocator + Copy, C: RouterCore<A>>(core: &C, last: &Step<A>) -> bool {
+fn says_all<A: Allocator + Copy, C: Historian<A>>(core: &C, last: &Step<A>) -> bool {
     core.is_answered(last)
         && core.config().numbers.neighbours == 4
         && core.stats().get(Counter::Routed) == 3
@@ -25,7 +23,7 @@ fn says_all<A: Allocator + Copy, C: RouterCore<A>>(core: &C, last: &Step<A>) -> 
 }
 
 /// A router after a run.
-fn of_a_router<A: Allocator + Copy, C: RouterCore<A> + Drop>(
+fn of_a_router<A: Allocator + Copy, C: Historian<A> + Drop>(
     heap: &Heap,
     alloc: A,
 ) -> Result<bool, Fail> {

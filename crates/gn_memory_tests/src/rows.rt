@@ -3,10 +3,10 @@
 use crate::event_lists::growths_of_list;
 use crate::histories::*;
 use crate::steps::{Asked, growths_of};
-use gn_fixtures::Heap;
-use gn_plain::PlainRouter;
-use gn_router::TableRouter;
-use gn_rules::RouterCore;
+use gn_fixtures::{FIRST_PING, Heap};
+use gn_rules::Historian;
+use gn_search::PlainRouter;
+use gn_tables::TableRouter;
 use std::alloc::{Allocator, Global};
 use std::test::Fail;
 
@@ -87,7 +87,7 @@ const LISTS_IN_HISTORY: [List; 7] = [
 ];
 
 /// Whether each row meets its growths. An `Err` names the first that doesn't.
-fn rows_meet<A: Allocator + Copy, C: RouterCore<A> + Drop>(
+fn rows_meet<A: Allocator + Copy, C: Historian<A> + Drop>(
     out: Global,
     heap: &Heap,
     alloc: A,
@@ -103,7 +103,7 @@ fn rows_meet<A: Allocator + Copy, C: RouterCore<A> + Drop>(
 }
 
 /// The same of lists of events.
-fn lists_meet<A: Allocator + Copy, C: RouterCore<A> + Drop>(
+fn lists_meet<A: Allocator + Copy, C: Historian<A> + Drop>(
     heap: &Heap,
     alloc: A,
     lists: &[List],
@@ -118,7 +118,7 @@ fn lists_meet<A: Allocator + Copy, C: RouterCore<A> + Drop>(
 }
 
 /// The same of both.
-fn meet_all<A: Allocator + Copy, C: RouterCore<A> + Drop>(
+fn meet_all<A: Allocator + Copy, C: Historian<A> + Drop>(
     out: Global,
     heap: &Heap,
     alloc: A,

@@ -1,12 +1,9 @@
 //! One step of a history, made by each of the calls that make one.
 
 use gn_capture::{CaptureRefusal, read_history};
-use gn_fixtures::{Call, Failure, Heap, growths_of_call};
+use gn_fixtures::{Call, Failure, Heap, are_same, growths_of_call, is_same_step};
 use gn_payload::Checked;
-use gn_rules::{
-    Config, Event, Receipt, Refusal, Reply, RouterCore, Step, is_same_event, is_same_reply,
-    is_step_of,
-};
+use gn_rules::{Config, Event, Historian, Receipt, Refusal, Reply, RouterCore, Step, is_step_of};
 use std::alloc::{AllocError, Allocator, Global};
 use std::marker::PhantomData;
 use std::test::Fail;
@@ -26,26 +23,6 @@ pub(crate) fn read<A: Allocator + Copy>(
     history: &str,
 ) -> Result<(Config, Vec<Step<A>, A>), CaptureRefusal> {
     read_history(alloc, history.as_bytes())
-}
-
-/// Whether two steps are the same.
-pub(crate) fn is_same_step<A: Allocator>(step: &Step<A>, other: &Step<A>) -> bool {
-    step.actor == other.actor
-        && is_same_event(&step.event, &other.event)
-        && is_same_reply(&step.reply, &other.reply)
-}
-
-/// Whether two histories are the same.
-pub(crate) fn are_same<A: Allocator>(steps: &[Step<A>], others: &[Step<A>]) -> bool {
-    if steps.len() != others.len() {
-        return false;
-    }
-    for (step, other) in steps.iter().zip(others) {
-        if !is_same_step(step, other) {
-            return false;
-        }
-    }
-    true
 }
 
 /// The descriptor that was admitted under a ticket.
@@ -145,7 +122,7 @@ fn goes_on<A: Allocator + Copy, C: RouterCore<A>>(core: &mut C, steps: &[Step<A>
 }
 
 /// A router that has made these steps.
-fn after<A: Allocator + Copy, C: RouterCore<A> + Drop>(
+fn after<A: Allocator + Copy, C: Historian<A> + Drop>(
     alloc: A,
     config: &Config,
     steps: &[Step<A>],
@@ -158,7 +135,7 @@ fn after<A: Allocator + Copy, C: RouterCore<A> + Drop>(
     }
 }
 
-impl<A: Allocator + Copy, C: RouterCore<A> + Drop> Call<A> for Makes<C> {
+impl<A: Allocator + Copy, C: Historian<A> + Drop> Call<A> for Makes<C> {
     type Subject = Subject<A, C>;
 
     type Answer = Option<Receipt<A>>;
@@ -230,7 +207,7 @@ impl<A: Allocator + Copy, C: RouterCore<A> + Drop> Call<A> for Makes<C> {
 }
 
 /// How many growths each step of a history meets, where this call makes it: of its Routes alone where it is `route`.
-pub(crate) fn growths_of<A: Allocator + Copy, C: RouterCore<A> + Drop>(
+pub(crate) fn growths_of<A: Allocator + Copy, C: Historian<A> + Drop>(
     out: Global,
     heap: &Heap,
     alloc: A,

@@ -3,8 +3,7 @@
 ghost use Rattle.std.specs.Prelude.{◌≡◌, ◌<◌, None};
 ghost use Rattle.std.specs.FinMap as map;
 
-use crate::sweep::growths_of_calls;
-use gn_fixtures::{Call, Failure, Heap, Refused, Turn, Turns, growths, ping};
+use gn_fixtures::{Call, Failure, Heap, Refused, Turn, Turns, growths, growths_of_calls, ping};
 use gn_tables::{Flights, Neighbours, SeenTable, ServentTable};
 use gn_wire::{Descriptor, Guid, Kind};
 use std::alloc::Allocator;

@@ -9,7 +9,7 @@ pub fn answers_cross_back<A: Allocator>()
     ensures { AnswersCrossBack A }
 {}
 
-/// The law that its request crossed the link before it.
+/// The law that the request of an answer crossed their link before the answer did.
 pub fn answers_follow<A: Allocator>()
     ensures { AnswersFollow A }
 {}

@@ -63,7 +63,7 @@ HasReading Query bytes = (q : QueryFields) × IsQuery bytes q
 HasReading QueryHit bytes = (h : HitFields) × IsHit bytes h
 HasReading (Unknown code) bytes = ⊥
 
--- the same as a test: by the length, where that is enough
+-- whether a payload of this kind has a reading; one of an unknown kind has none. Of a Ping, Pong or Push the length tells
 abbrev pub has_reading : Kind → List ℕ → Bool
 has_reading Ping bytes = length bytes == 0
 has_reading Pong bytes = length bytes == 14

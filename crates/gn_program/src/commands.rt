@@ -12,6 +12,7 @@ ghost use Rattle.gn_io.specs.Streams.{streams};
 ghost use Rattle.gn_words.specs.Words.{kinds_of, request_of};
 ghost use Rattle.gn_words.specs.declared.request.Request.{Request as Asked};
 
+use crate::calls::Calls;
 use crate::fault::Fault;
 use crate::serves::serve;
 use crate::text::write_text;
@@ -23,9 +24,10 @@ use gn_io::{Sink, Source};
 use gn_links::{NoGate, Watch};
 use gn_load::{LoadFault, ServeFault, load_watched};
 use gn_replay::{Exit, ReplayFault, audit, audit_explained, replay, replay_history};
-use gn_router::TableRouter;
-use gn_rules::{Legality, RouterCore};
+use gn_router::Forgetful;
+use gn_rules::{FreshRouter, Legality};
 use gn_show::show;
+use gn_tables::TableRouter;
 use gn_words::{Request, read_words};
 use std::alloc::Global;
 use std::convert::AsStr;
@@ -129,12 +131,13 @@ fn load<R: Threads + Wait + Sync, G: Watch + Sync, S: Source, W: Sink, F: Sink>(
 
 /// Does what is asked for, and gives the status.
 fn obey<
-    C: RouterCore<Global> + Drop,
+    C: FreshRouter<Global> + Drop,
     R: Threads
         + Wait
         + Net<Listener = TcpListener, Stream = TcpStream>
         + Clock
         + Input<Reader = StdinLock<'static>>
+        + AllocGlobal
         + Sync,
     G: Watch + Sync,
     S: Source,
@@ -176,13 +179,17 @@ fn obey<
         }
         Request::Watched(workers) => load(rt, alloc, workers, watch, reader, writer, faults),
         Request::Serve(serving) if serving.progress => {
+            let calls = Calls::new(watch);
             let mut told = Told::Nothing;
-            let answer = serve(rt, alloc, &serving, watch, writer, faults, &mut told);
+            let answer = serve(rt, alloc, &serving, &calls, writer, faults, &mut told);
+            let told = calls.told(&answer, told);
             end_serve(faults, answer, told)
         }
         Request::Serve(serving) => {
+            let calls = Calls::new(&NoGate);
             let mut told = Told::Nothing;
-            let answer = serve(rt, alloc, &serving, &NoGate, writer, faults, &mut told);
+            let answer = serve(rt, alloc, &serving, &calls, writer, faults, &mut told);
+            let told = calls.told(&answer, told);
             end_serve(faults, answer, told)
         }
     }
@@ -219,6 +226,7 @@ pub fn command<
         + Net<Listener = TcpListener, Stream = TcpStream>
         + Clock
         + Input<Reader = StdinLock<'static>>
+        + AllocGlobal
         + Sync,
     T: AsStr,
     S: Source,
@@ -233,21 +241,22 @@ pub fn command<
         × IsTurnedAway kind writer.old writer.new result }
     ensures unread { request_of (map T.text words.now) ≡ None → reader.new ≡ reader.old }
 {
-    command_with::<TableRouter, R, NoGate, T, S, W, F>(
+    command_with::<TableRouter<Global, Forgetful>, R, NoGate, T, S, W, F>(
         rt, alloc, words, &NoGate, reader, writer, faults,
     )
 }
 
-/// Does the same, with a replay's and an audit's router of type C, which give back all memory that such a router gives back
-/// when it is dropped; and a load or a serve with `--progress` is watched by `watch`, where `command` says nothing. Each load
+/// Does the same, with a replay's and an audit's router of type C, which gives back all memory that such a router gives back when it
+/// is dropped; and a load or a serve with `--progress` is watched by `watch`, where `command` says nothing. Each load
 /// leaves what it made to `watch`.
 pub fn command_with<
-    C: RouterCore<Global> + Drop,
+    C: FreshRouter<Global> + Drop,
     R: Threads
         + Wait
         + Net<Listener = TcpListener, Stream = TcpStream>
         + Clock
         + Input<Reader = StdinLock<'static>>
+        + AllocGlobal
         + Sync,
     G: Watch + Sync,
     T: AsStr,

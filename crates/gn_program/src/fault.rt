@@ -128,6 +128,7 @@ impl From<ServeFault> for Fault {
     }
 }
 
+/// The word of a cause, as fault lines name it.
 fn cause_word(cause: Cause) -> &'static str
     ensures { result.now ≡ texts.cause_word cause }
 {

@@ -1,6 +1,7 @@
 //! The command line of `gn` as a function of its words, its input and its outputs.
 #![tactic(auto)]
 
+mod calls;
 mod commands;
 mod eof;
 mod fault;

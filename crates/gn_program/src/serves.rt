@@ -15,9 +15,9 @@ use crate::told::Told;
 use gn_io::Sink;
 use gn_links::{LinkFault, Watch};
 use gn_load::{ServeFault, serve_history};
-use gn_router::TableRouter;
 use gn_rules::{Config, Numbers, Own};
 use gn_service::{Serving, Stop};
+use gn_tables::TableRouter;
 use gn_threads::RunFault;
 use gn_words::{Peer, ServeOptions};
 use std::alloc::{AllocError, Global};
@@ -153,6 +153,7 @@ pub(crate) fn serve<
         + Net<Listener = TcpListener, Stream = TcpStream>
         + Clock
         + Input<Reader = StdinLock<'static>>
+        + AllocGlobal
         + Sync,
     G: Watch + Sync,
     W: Sink,

@@ -16,12 +16,14 @@ struct TextSink<'a, W: Sink> {
 }
 
 impl<W: Sink> TextSink<'_, W> {
+    /// Writes what waits.
     fn flush(&mut self) -> Result<(), IoFault> {
         let used = self.used.min(ROOM);
         self.used = 0;
         write_all(self.sink, &self.room[..used])
     }
 
+    /// Adds a text to what waits, which is written each time it fills the room.
     fn push(&mut self, text: &[u8]) -> Result<(), IoFault> {
         for &byte in text {
             if self.used >= ROOM {

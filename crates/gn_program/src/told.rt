@@ -12,6 +12,8 @@ pub(crate) enum Told {
     Nothing,
     /// Of listening at this address.
     Listen(SocketAddr, ErrorKind),
+    /// Of calling this peer.
+    Call(SocketAddr, ErrorKind),
 }
 
 impl Display for Told {
@@ -19,6 +21,7 @@ impl Display for Told {
         match self {
             Told::Nothing => Ok(()),
             Told::Listen(here, why) => writeln!(f, "listen {here}: {why}"),
+            Told::Call(peer, why) => writeln!(f, "call {peer}: {why}"),
         }
     }
 }

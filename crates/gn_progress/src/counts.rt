@@ -42,6 +42,7 @@ impl Seen {
 }
 
 impl Counts {
+    /// Nothing is done yet.
     pub(crate) fn new() -> Self {
         Counts {
             links: AtomicU64::new(0),
@@ -53,6 +54,7 @@ impl Counts {
         }
     }
 
+    /// What was done by now.
     pub(crate) fn seen(&self) -> Seen {
         Seen {
             links: self.links.load(Ordering::SeqCst),
@@ -63,10 +65,12 @@ impl Counts {
         }
     }
 
+    /// So many links are loaded.
     pub(crate) fn set_links(&self, links: usize) {
         self.links.store(links as u64, Ordering::SeqCst);
     }
 
+    /// One more link has come.
     pub(crate) fn add_link(&self) {
         self.links.fetch_add(1, Ordering::SeqCst);
     }
@@ -76,10 +80,12 @@ impl Counts {
         self.routed.fetch_add(1, Ordering::SeqCst)
     }
 
+    /// One more descriptor was admitted.
     pub(crate) fn add_admitted(&self) {
         self.admitted.fetch_add(1, Ordering::SeqCst);
     }
 
+    /// One more descriptor was refused at a threshold.
     pub(crate) fn add_busy(&self) {
         self.busy.fetch_add(1, Ordering::SeqCst);
     }

@@ -71,6 +71,7 @@ fn write_seen<A: Allocator>(
     Ok(())
 }
 
+/// The word of a half's thread.
 fn half_word(half: Half) -> &'static str {
     match half {
         Half::Reader => "reader",
@@ -122,6 +123,7 @@ impl<'r, R: Clock + AllocGlobal, O: Screen> Progress<'r, R, O> {
         Ok(text)
     }
 
+    /// The line of a link that comes.
     fn came_line(&self, link: u32, peer: SocketAddr) -> Result<String, AllocError> {
         let mut text = self.below()?;
         write!(text, "link {link} {peer} came")?;
@@ -130,6 +132,7 @@ impl<'r, R: Clock + AllocGlobal, O: Screen> Progress<'r, R, O> {
         Ok(text)
     }
 
+    /// The line of a thread of a link that ends.
     fn ended_line(&self, link: u32, half: Half) -> Result<String, AllocError> {
         let mut text = self.below()?;
         let half = half_word(half);

@@ -1,30 +1,42 @@
 -- Descriptors that are admitted one by one.
-use Rattle.std.proofs.Common.{◌≡◌, ◌+◌, ℕ, true, false, List, [], ◌∷◌, length, refl, sym, ap, ◌∙◌, arith, subst, append_assoc, append-nil}
+use Rattle.std.proofs.Common.{◌≡◌, ◌+◌, ◌++◌, ℕ, true, false, List, [], ◌∷◌, length, refl, sym, ap, ◌∙◌, arith, subst, append_assoc, append-nil}
 use Rattle.std.proofs.lemmas.Bool.Decides.{nat_tests}
 use Rattle.gn_wire.specs.Packet.{Packet}
 use Rattle.gn_rules.specs.declared.event.Event.TheVariants.{Admit}
+use Rattle.gn_rules.specs.declared.receipt.Step.{Step}
 use Rattle.gn_rules.specs.Answer.{answer}
+use Rattle.gn_replay.specs.declared.form.Form.{Form}
+use Rattle.gn_replay.specs.declared.form.Form.TheVariants.{Steps, Whole}
 use Rattle.gn_replay.specs.declared.outcome.Outcome.{Outcome}
 use Rattle.gn_replay.specs.Events.{Played, nothing, followed, happens, is_not_live}
 use Rattle.gn_replay.specs.Outcomes.{IsOutcome}
 use Rattle.gn_replay.specs.Pieces.{Admits, admits}
-use Rattle.gn_replay.specs.Playing.{Playing, HasAdmitted, after_playing, refused_more}
+use Rattle.gn_replay.specs.Playing.{Playing, HasAdmitted, after_playing, refused_more, said}
 
 -- counts one after the other
 pub refused_both : (a b r : ℕ) → refused_more b (refused_more a r) ≡ refused_more (a + b) r
 refused_both a b r = grind (arith, nat_tests)
 
--- two replays with equal parts are equal
-playing_is : {A : Type 0} (v : Playing A) (p q : Played A) → p.past ≡ q.past → p.text ≡ q.text → p.refusals ≡ q.refusals → after_playing v p ≡ after_playing v q
-playing_is v p q e1 e2 e3 = rw (e1, e2, e3) refl
+-- what is printed of one after the other is what is printed of each
+pub said_both : {A : Type 0} (form : Form) (p q : Played A) → said form (followed p q) ≡ said form p ++ said form q
+said_both Whole p q = refl
+said_both Steps p q = refl
+
+pub said_nothing : {A : Type 0} (form : Form) (past : List (Step A)) → said form (nothing past) ≡ []
+said_nothing Whole past = refl
+said_nothing Steps past = refl
 
 -- one played after the other
 pub after_playing_both : {A : Type 0} (v : Playing A) (p q : Played A) → after_playing (after_playing v p) q ≡ after_playing v (followed p q)
-after_playing_both v p q = rw (append_assoc v.out p.text q.text, refused_both p.refusals q.refusals v.refusals) refl
+after_playing_both v p q =
+    let text : (v.out ++ said v.form p) ++ said v.form q ≡ v.out ++ said v.form (followed p q) =
+    append_assoc v.out (said v.form p) (said v.form q) ∙ ap (λ r. v.out ++ r) (sym (said_both v.form p q)) in
+    ap (λ (n : ℕ). record v { past = q.past; out = (v.out ++ said v.form p) ++ said v.form q; refusals = n }) (refused_both p.refusals q.refusals v.refusals)
+    ∙ ap (λ (out : List ℕ). record v { past = q.past; out = out; refusals = refused_more (p.refusals + q.refusals) v.refusals }) text
 
 -- nothing played
 pub after_playing_nothing : {A : Type 0} (v : Playing A) → after_playing v (nothing v.past) ≡ v
-after_playing_nothing v = rw (append-nil v.out) refl
+after_playing_nothing v = ap (λ (out : List ℕ). record v { out = out }) (ap (λ r. v.out ++ r) (said_nothing v.form v.past) ∙ append-nil v.out)
 
 -- a loop over the descriptors, where those of `left` are still to come
 pub record IsAdmitting {A : Type 0} (before now : Playing A) (c : ℕ) (left all : List Packet) : Type 0 where

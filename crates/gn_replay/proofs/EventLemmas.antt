@@ -1,10 +1,8 @@
 -- Events that are played.
-use Rattle.std.proofs.Common.{◌≡◌, ◌<◌, ◌-◌, ◌∙◌, ℕ, List, [], ◌∷◌, ◌++◌, length, get_or, reverse, slice_get, Result, Ok, Err, Some, ap, arith, length-append, refl, sym}
-use Rattle.std.specs.Prelude.{IfOk, OnOk}
+use Rattle.std.proofs.Common.{◌≡◌, ◌∙◌, ℕ, List, [], ◌∷◌, ◌++◌, reverse, Result, Ok, Err, ap, refl, sym}
+use Rattle.std.specs.Prelude.{OnOk}
 use Rattle.std.specs.declared.alloc.AllocError.{AllocError}
-use Rattle.std.proofs.Math.Seq.{get_or-append_seam}
-use Rattle.std.proofs.lemmas.List.{length-reverse, reverse-append, reverse-reverse}
-use Rattle.std.proofs.lemmas.Option.{get_or_from_slice_get}
+use Rattle.std.proofs.lemmas.List.{reverse-append}
 use Rattle.gn_rules.specs.declared.config.Config.{Config}
 use Rattle.gn_rules.specs.declared.event.Event.{Event}
 use Rattle.gn_rules.specs.declared.receipt.Step.{Step}
@@ -15,9 +13,10 @@ use Rattle.gn_rules.specs.Answer.{Finds, answer}
 use Rattle.gn_text.specs.Refusals.{refusal_text}
 use Rattle.gn_text.specs.Steps.{step_text}
 use Rattle.gn_replay.specs.declared.outcome.Outcome.{Outcome}
-use Rattle.gn_replay.specs.Events.{happens, made}
-use Rattle.gn_replay.specs.Outcomes.{IsOutcome}
-use Rattle.gn_replay.specs.Playing.{Playing, after_playing, refused_more}
+use Rattle.gn_replay.specs.declared.form.Form.{Form}
+use Rattle.gn_replay.specs.declared.form.Form.TheVariants.{Steps, Whole}
+use Rattle.gn_replay.specs.Events.{answered, happens, made, prints, refuses}
+use Rattle.gn_replay.specs.Playing.{Playing, after_playing, refused_more, said}
 
 -- unless memory ran out, what was found is the rules' answer
 pub found : {A : Type 0} (r rules : Result (Reply A) Refusal) → Finds r rules → (r ≡ Err NoMemory → ⊥) → rules ≡ r
@@ -35,53 +34,35 @@ found (Err NoMemory) rules h n = absurd (n refl)
 pub past_push : {X : Type 0} (xs : List X) (x : X) → reverse (xs ++ x ∷ []) ≡ x ∷ reverse xs
 past_push xs x = reverse-append xs (x ∷ [])
 
--- the newest step is the last
-pub last_is : {X : Type 0} (xs before : List X) (x : X) → reverse xs ≡ x ∷ before → xs ≡ reverse before ++ x ∷ []
-last_is xs before x is = sym (reverse-reverse xs) ∙ ap reverse is ∙ reverse-append (x ∷ []) before
+-- a step is made of an event and printed
+pub step_made : {A : Type 0} (v : Playing A) (settings : Config) (before steps : List (Step A)) (out : List ℕ) (event : Event A) (reply : Reply A) → v.past ≡ reverse before
+    → settings ≡ v.settings → steps ≡ before ++ made event reply ∷ [] → out ≡ v.out ++ step_text (made event reply)
+    → record v { settings = settings; past = reverse steps; out = out } ≡ record v { past = made event reply ∷ v.past; out = v.out ++ step_text (made event reply) }
+step_made v settings before steps out event reply past same more text =
+    let is : reverse steps ≡ made event reply ∷ v.past = ap reverse more ∙ past_push before (made event reply) ∙ ap (λ (steps : List (Step _)). made event reply ∷ steps) (sym past) in
+    rw (same, is, text) refl
 
--- the last is the newest
-pub newest_is : {X : Type 0} (xs before : List X) (x y : X) → reverse xs ≡ x ∷ before → Some y ≡ slice_get xs (length xs - 1) → y ≡ x
-newest_is {X} xs before x y is last =
-    let whole : xs ≡ reverse before ++ x ∷ [] = last_is xs before x is in
-    let count : length xs - 1 ≡ length (reverse before) = omega (arith, ap length whole, length-append (reverse before) (x ∷ [])) in
-    sym (get_or_from_slice_get xs (length xs - 1) y x (sym last)) ∙ ap (λ n. get_or xs n x) count
-    ∙ ap (λ (ys : List X). get_or ys (length (reverse before)) x) whole ∙ get_or-append_seam (reverse before) x [] x
+-- a step is printed alike, whatever is printed
+said_step : {A : Type 0} (form : Form) (past : List (Step A)) (event : Event A) (reply : Reply A) → step_text (made event reply) ≡ said form (answered past event (Ok reply))
+said_step Whole past event reply = refl
+said_step Steps past event reply = refl
 
--- the step that was printed was the newest one
-pub step_printed : {A : Type 0} (v : Playing A) (now : List ℕ) (printed : Step A) → now ≡ v.out ++ step_text printed
-    → ((step : Step A) → (before : List (Step A)) → v.past ≡ step ∷ before → printed ≡ step)
-    → (step : Step A) → (before : List (Step A)) → v.past ≡ step ∷ before → record v { out = now } ≡ record v { out = v.out ++ step_text step }
-step_printed v now printed text newest step before is =
-    ap (λ (out : List ℕ). record v { out = out }) (text ∙ ap (λ (s : Step _). v.out ++ step_text s) (newest step before is))
-
--- after a step there is one
-pub some_past : {X : Type 0} (xs before : List X) (x : X) → xs ≡ before ++ x ∷ [] → 0 < length (reverse xs)
-some_past xs before x is = omega (arith, length-reverse xs, ap length is, length-append before (x ∷ []))
-
--- one step more stands, and the configuration stays
-pub entered : {A : Type 0} (v : Playing A) (settings : Config) (past : List (Step A)) (step : Step A) → settings ≡ v.settings → past ≡ step ∷ v.past
-    → record v { settings = settings; past = past } ≡ record v { past = step ∷ v.past }
-entered v settings past step same more = rw (same, more) refl
-
--- a step was made of an event and printed
-pub outcome_then : {A : Type 0} (r : Result Outcome AllocError) (past before : List (Step A)) (step : Step A) (rules : Result (Reply A) Refusal) → past ≡ step ∷ before → rules ≡ Ok step.reply
-    → IfOk r (λ o. (s : Step A) → (b : List (Step A)) → past ≡ s ∷ b → IsOutcome o (Ok s.reply)) → IfOk r (λ o. IsOutcome o rules)
-outcome_then (Ok o) past before step rules is answered h = rw answered (h step before is)
-outcome_then (Err e) past before step rules is answered h = h
-
-pub played_then : {A : Type 0} (r : Result Outcome AllocError) (old now new : Playing A) (event : Event A) (reply : Reply A) → answer old.settings old.past event ≡ Ok reply
-    → now ≡ record old { past = made event reply ∷ old.past }
-    → OnOk r ((step : Step A) → (before : List (Step A)) → now.past ≡ step ∷ before → new ≡ record now { out = now.out ++ step_text step })
+-- a reply was given, and its step was made and printed
+pub played_then : {A : Type 0} (r : Result Outcome AllocError) (old new : Playing A) (event : Event A) (reply : Reply A) → answer old.settings old.past event ≡ Ok reply
+    → OnOk r (new ≡ record old { past = made event reply ∷ old.past; out = old.out ++ step_text (made event reply) })
     → OnOk r (new ≡ after_playing old (happens old.settings old.past event))
-played_then (Ok o) old now new event reply answered is h =
-    let printed = h (made event reply) old.past (ap (λ (v : Playing _). v.past) is) in
-    rw answered (printed ∙ ap (λ (v : Playing _). record v { out = v.out ++ step_text (made event reply) }) is)
-played_then (Err e) old now new event reply answered is h = h
+played_then (Ok o) old new event reply rules h =
+    h ∙ ap (λ (out : List ℕ). record old { past = made event reply ∷ old.past; out = old.out ++ out }) (said_step old.form old.past event reply)
+    ∙ ap (λ (a : Result (Reply _) Refusal). after_playing old (answered old.past event a)) (sym rules)
+played_then (Err e) old new event reply rules h = h
 
--- an event was refused, and the refusal printed
-pub refused_then : {A : Type 0} (r : Result Outcome AllocError) (old new : Playing A) (settings : Config) (past : List (Step A)) (event : Event A) (refusal : Refusal)
-    → settings ≡ old.settings → past ≡ old.past → answer old.settings old.past event ≡ Err refusal
-    → OnOk r (new ≡ record old { settings = settings; past = past; out = old.out ++ refusal_text refusal; refusals = refused_more 1 old.refusals })
-    → OnOk r (new ≡ after_playing old (happens old.settings old.past event))
-refused_then (Ok o) old new settings past event refusal same kept rules h = rw rules (rw (same, kept) at h)
-refused_then (Err e) old new settings past event refusal same kept rules h = h
+-- a refusal is counted, and then said
+said_refusal : {A : Type 0} (form : Form) (past : List (Step A)) (refusal : Refusal) → said form (prints past (refusal_text refusal)) ≡ said form (refuses past refusal)
+said_refusal Whole past refusal = refl
+said_refusal Steps past refusal = refl
+
+pub refusal_counted : {A : Type 0} (old counted new : Playing A) (refusal : Refusal) → counted ≡ record old { refusals = refused_more 1 old.refusals }
+    → new ≡ after_playing counted (prints counted.past (refusal_text refusal)) → new ≡ after_playing old (refuses old.past refusal)
+refusal_counted old counted new refusal is said_it =
+    said_it ∙ ap (λ (v : Playing _). after_playing v (prints v.past (refusal_text refusal))) is
+    ∙ ap (λ (out : List ℕ). record old { out = old.out ++ out; refusals = refused_more 1 old.refusals }) (said_refusal old.form old.past refusal)

@@ -3,10 +3,12 @@ pub mod EventLemmas
 pub mod ExplainedLemmas
 pub mod JudgeLemmas
 pub mod LineLemmas
+pub mod LinesLemmas
 pub mod LinkLemmas
 pub mod OneText
 pub mod PassedLemmas
 pub mod ReplayLemmas
 pub mod RunLemmas
+pub mod SayLemmas
 pub mod StepLines
 pub mod VerdictLemmas

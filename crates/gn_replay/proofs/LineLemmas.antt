@@ -1,10 +1,7 @@
 -- Lines of a capture, one by one.
-use Rattle.std.proofs.Common.{◌≡◌, ◌≤◌, ◌<◌, ◌+◌, ℕ, zero, suc, List, [], ◌∷◌, ◌++◌, length, get_or, Result, Ok, Err, OnOk, refl, sym, ap, ◌∙◌, subst, arith}
+use Rattle.std.proofs.Common.{◌≡◌, ◌≤◌, ◌<◌, ◌+◌, ℕ, zero, suc, List, [], ◌∷◌, ◌++◌, length, get_or, refl, sym, ap, ◌∙◌, subst, arith}
 use Rattle.std.proofs.Math.ListN.{set}
-use Rattle.gn_rules.specs.declared.statistics.Stats.{Stats}
-use Rattle.gn_rules.specs.Statistics.{stats_of}
 use Rattle.gn_text.specs.Links.{ended_text}
-use Rattle.gn_text.specs.Statistics.{stats_text}
 use Rattle.gn_replay.specs.declared.link.Link.{Link}
 use Rattle.gn_replay.specs.declared.link.Link.TheVariants as keep
 use Rattle.gn_replay.specs.Events.{Played, prints}
@@ -132,11 +129,3 @@ pub ruleset lines = (played_event, played_link)
 -- a link that awaits its greeting has no bytes yet
 pub awaiting : {A : Type 0} (v : Playing A) (shake : Shaking) → shake ≡ shake_of request_text [] → HasLinked (keep.Greeting shake) v v (awaits v.past)
 awaiting v shake new = record { played = sym (after_playing_nothing v); state = (new, refl) }
-
--- the counters are printed
-pub counters_printed : {A U E : Type 0} (r : Result U E) (v : Playing A) (now : List ℕ) (stats : Stats) → OnOk r (now ≡ v.out ++ stats_text stats) → stats ≡ stats_of v.past
-    → OnOk r (record v { out = now } ≡ after_playing v (prints v.past (stats_text (stats_of v.past))))
-counters_printed (Err e) v now stats printed is = tt
-counters_printed (Ok u) v now stats printed is =
-    let text : now ≡ v.out ++ stats_text (stats_of v.past) = printed ∙ ap (λ (s : Stats). v.out ++ stats_text s) is in
-    ap (λ (bytes : List ℕ). record v { out = bytes }) text

@@ -1,6 +1,7 @@
 -- A capture that was read, and played.
-use Rattle.std.proofs.Common.{◌≡◌, ◌≤◌, ◌<◌, ◌∙◌, ℕ, List, [], ◌++◌, length, reverse, Option, Some, None, IfSome, IsOk, IfErr, Result, Ok, Err, refl, sym, ap, subst, arith, inr}
-use Rattle.std.proofs.lemmas.List.{length-reverse, reverse-reverse}
+use Rattle.std.proofs.Common.{◌≡◌, ◌≤◌, ◌∙◌, ℕ, List, ◌++◌, codes, length, reverse, Option, Some, None, IfSome, IsOk, IfErr, Result, Ok, Err, refl, sym, ap, subst, arith, inr}
+use Rattle.std.proofs.lemmas.List.{length-reverse}
+use Rattle.std.specs.Io.KnownBytes.{Appends}
 use Rattle.std.specs.Result.{IsErrAnd}
 use Rattle.gn_text.specs.declared.fault.CaptureFault.{CaptureFault}
 use Rattle.gn_io.specs.Input.{input_limit}
@@ -9,22 +10,20 @@ use Rattle.gn_io.specs.Streams.{SinkState, SourceState, streams, text_between}
 use Rattle.gn_replay.specs.declared.fault.ReplayFault.{ReplayFault}
 use Rattle.gn_replay.specs.declared.fault.ReplayFault.TheVariants as fault
 use Rattle.gn_replay.specs.Faults.{IsReplayFault, input_of}
-use Rattle.gn_rules.specs.declared.config.Config.{Config}
 use Rattle.gn_rules.specs.declared.receipt.Step.{Step}
-use Rattle.gn_rules.specs.Answer.{IsLegal}
-use Rattle.gn_rules.proofs.LegalLemmas.{legal_within}
 use Rattle.gn_capture.specs.declared.capture.Capture.{Capture}
 use Rattle.gn_capture.specs.Captures.{Parsed, capture_of, capture_seen}
 use Rattle.gn_capture.specs.Histories.{history_text}
-use Rattle.gn_replay.specs.ReplayHistory.{IsHistoryOf, IsHistoryText}
+use Rattle.gn_replay.specs.ReplayHistory.{AppendsHistory, AppendsHistoryPart, HasHistoryStopped, IsHistoryOf, IsHistoryText}
 use Rattle.gn_replay.specs.declared.replays.Exit.{Exit}
 use Rattle.gn_replay.specs.ReplayText.{IsReplay, IsReplayOf, capture_plays}
 use Rattle.gn_replay.specs.Replays.{AppendsReplay, AppendsReplayPart, HasStopped, IsCounted}
-use Rattle.gn_replay.specs.Runs.{HasRun, IsPlayFault}
-
--- so many steps fit a number
-pub few_steps : {A : Type 0} (s : Config) (steps : List (Step A)) → IsLegal s (reverse steps) → length steps < 4294967296
-few_steps s steps legal = omega (arith, length-reverse steps, legal_within s (reverse steps) legal, s.within.steps.greatest)
+use Rattle.gn_replay.specs.Runs.{HasPrinted, HasRun, IsPlayFault}
+use Rattle.gn_replay.specs.Playing.{refused_more}
+use Rattle.gn_replay.specs.declared.form.Form.TheVariants.{Steps}
+use Rattle.gn_text.specs.Header.{header_text}
+use Rattle.gn_text.specs.declared.title.Text.TheVariants.{History}
+use Rattle.gn_replay.proofs.LinesLemmas.{lines_are}
 
 -- what replay does with a capture that was read
 pub is_replay : {A : Type 0} (text : List ℕ) (capture : Capture A) → capture_of text ≡ Ok (capture_seen capture)
@@ -46,20 +45,52 @@ module _ {A : Type 0} (text : List ℕ) (capture : Capture A) where
       (played.text, (played, is_replay text capture read, refl), run.text)
 
   -- its steps and refusals were counted
-  pub counted : (exit : Exit) (steps : List (Step A)) (count : ℕ) (old new : Option (List ℕ)) → capture_of text ≡ Ok (capture_seen capture)
-      → HasRun (capture_plays capture.config capture.lines.items) (reverse steps) count old new → exit.steps ≡ length steps → exit.refusals ≡ count → IsCounted A text exit
-  counted exit steps count old new read run all refused =
-      (capture_plays capture.config capture.lines.items, is_replay text capture read, all ∙ sym (length-reverse steps) ∙ ap length run.past, refused ∙ run.refusals)
+  pub counted : (exit : Exit) (steps : List (Step A)) (count : ℕ) → capture_of text ≡ Ok (capture_seen capture)
+      → reverse steps ≡ (capture_plays capture.config capture.lines.items).past → count ≡ refused_more (capture_plays capture.config capture.lines.items).refusals 0
+      → exit.steps ≡ length steps → exit.refusals ≡ count → IsCounted A text exit
+  counted exit steps count read past refusals all refused =
+      (capture_plays capture.config capture.lines.items, is_replay text capture read, all ∙ sym (length-reverse steps) ∙ ap length past, refused ∙ refusals)
 
-  -- the history of the router that played it was printed
-  pub history_printed : (before printed : List ℕ) (steps lent : List (Step A)) (count : ℕ) (old new : Option (List ℕ)) → capture_of text ≡ Ok (capture_seen capture)
-      → HasRun (capture_plays capture.config capture.lines.items) (reverse steps) count old new → lent ≡ steps → before ≡ []
-      → printed ≡ before ++ history_text capture.config lent → IsHistoryText A text printed
-  history_printed before printed steps lent count old new read run same empty wrote =
-      let made : lent ≡ reverse (capture_plays capture.config capture.lines.items).past = same ∙ sym (reverse-reverse steps) ∙ ap reverse run.past in
-      let is : printed ≡ history_text capture.config (reverse (capture_plays capture.config capture.lines.items).past) =
-      wrote ∙ ap (λ (xs : List ℕ). xs ++ history_text capture.config lent) empty ∙ ap (history_text capture.config) made in
-      subst (λ (parsed : Result (Parsed A) CaptureFault). IsHistoryOf A parsed printed) (sym read) (capture.config, refl, is)
+  -- its history is that of the router that played it
+  is_history : capture_of text ≡ Ok (capture_seen capture) → IsHistoryText A text (history_text capture.config (reverse (capture_plays capture.config capture.lines.items).past))
+  is_history read =
+      subst (λ (parsed : Result (Parsed A) CaptureFault). IsHistoryOf A parsed (history_text capture.config (reverse (capture_plays capture.config capture.lines.items).past))) (sym read)
+      (capture.config, refl, refl)
+
+  -- the lines of its steps after a heading
+  history_is : (heading : List ℕ) → heading ≡ header_text History capture.config
+      → heading ++ (capture_plays capture.config capture.lines.items).lines ++ codes "end\n" ≡ history_text capture.config (reverse (capture_plays capture.config capture.lines.items).past)
+  history_is heading is =
+      ap (λ h. h ++ (capture_plays capture.config capture.lines.items).lines ++ codes "end\n") is
+      ∙ ap (λ lines. header_text History capture.config ++ lines ++ codes "end\n") (lines_are capture.config capture.lines.items)
+
+  -- that was written
+  pub history_written : (heading : List ℕ) (past : List (Step A)) (count : ℕ) (old new : Option (List ℕ)) → capture_of text ≡ Ok (capture_seen capture) → heading ≡ header_text History capture.config
+      → HasPrinted Steps heading (capture_plays capture.config capture.lines.items) (codes "end\n") past count old new → AppendsHistory A text old new
+  history_written heading past count old new read is run =
+      (history_text capture.config (reverse (capture_plays capture.config capture.lines.items).past), is_history read, subst (λ (bytes : List ℕ). Appends old new bytes) (history_is heading is) run.text)
+
+  -- or only a prefix of it
+  history_cut : (heading : List ℕ) (old new : Option (List ℕ)) → capture_of text ≡ Ok (capture_seen capture) → heading ≡ header_text History capture.config
+      → AppendsPart old new (heading ++ (capture_plays capture.config capture.lines.items).lines ++ codes "end\n") → AppendsHistoryPart A text old new
+  history_cut heading old new read is part =
+      (history_text capture.config (reverse (capture_plays capture.config capture.lines.items).past), is_history read, subst (λ (bytes : List ℕ). AppendsPart old new bytes) (history_is heading is) part)
+
+-- where that stopped, a prefix of the history was written
+history_stopped_so : (A : Type 0) (f : ReplayFault) (text : List ℕ) (sink sink_new : SinkState) (old new : Option (List ℕ)) → length text ≤ input_limit → IsPlayFault f sink sink_new
+    → AppendsHistoryPart A text old new → HasHistoryStopped A f (Some text) old new
+history_stopped_so A fault.Write text sink sink_new old new short is part = part
+history_stopped_so A fault.NoMemory text sink sink_new old new short is part = inr (short, part)
+history_stopped_so A fault.Read text sink sink_new old new short is part = absurd is
+history_stopped_so A fault.TooLarge text sink sink_new old new short is part = absurd is
+history_stopped_so A (fault.Capture c) text sink sink_new old new short is part = absurd is
+
+pub history_stopped : {A T : Type 0} (r : Result T ReplayFault) (f : ReplayFault) (text : List ℕ) (capture : Capture A) (heading : List ℕ) (sink sink_new : SinkState) (old new : Option (List ℕ))
+    → length text ≤ input_limit → IsErrAnd r (λ e. e ≡ f) → IsPlayFault f sink sink_new → capture_of text ≡ Ok (capture_seen capture) → heading ≡ header_text History capture.config
+    → AppendsPart old new (heading ++ (capture_plays capture.config capture.lines.items).lines ++ codes "end\n") → IfErr r (λ e. HasHistoryStopped A e (Some text) old new)
+history_stopped (Ok x) f text capture heading sink sink_new old new short same cause read is part = tt
+history_stopped {A} (Err e) f text capture heading sink sink_new old new short same cause read is part =
+    subst (λ (e : ReplayFault). HasHistoryStopped A e (Some text) old new) (sym same) (history_stopped_so A f text sink sink_new old new short cause (history_cut text capture heading old new read is part))
 
 -- where playing it stopped, a prefix of its replay text was written
 stopped_so : {A : Type 0} (f : ReplayFault) (text : List ℕ) (sink sink_new : SinkState) (old new : Option (List ℕ)) → length text ≤ input_limit → IsPlayFault f sink sink_new

@@ -1,14 +1,15 @@
 -- The history of the router that a capture was replayed on, and what is written of it.
-use Rattle.std.specs.Prelude.{◌≡◌, List, [], ℕ, reverse, Option, IfSome, Result, Ok, Err}
+use Rattle.std.specs.Prelude.{◌≡◌, ◌≤◌, ◌⊎◌, List, [], ℕ, length, reverse, Option, IfSome, Result, Ok, Err}
 use Rattle.std.specs.Io.KnownBytes.{Appends, Keeps}
 use Rattle.gn_rules.specs.declared.config.Config.{Config}
 use Rattle.gn_text.specs.declared.fault.CaptureFault.{CaptureFault}
 use Rattle.gn_text.specs.Settings.{settings_of}
 use Rattle.gn_capture.specs.Captures.{Parsed, capture_of}
 use Rattle.gn_capture.specs.Histories.{history_text}
+use Rattle.gn_io.specs.Input.{input_limit}
 use Rattle.gn_io.specs.Parts.{AppendsPart}
 use Rattle.gn_replay.specs.declared.fault.ReplayFault.{ReplayFault}
-use Rattle.gn_replay.specs.declared.fault.ReplayFault.TheVariants.{Write}
+use Rattle.gn_replay.specs.declared.fault.ReplayFault.TheVariants.{NoMemory, Write}
 use Rattle.gn_replay.specs.ReplayText.{capture_plays}
 
 -- the history text of what was read of an input: none where that is no capture, else the configuration that it states,
@@ -31,7 +32,10 @@ AppendsHistory A input old new = (text : List ℕ) × IsHistoryText A input text
 abbrev pub AppendsHistoryPart : (A : Type 0) → List ℕ → Option (List ℕ) → Option (List ℕ) → Type 0
 AppendsHistoryPart A input old new = (text : List ℕ) × IsHistoryText A input text × AppendsPart old new text
 
--- what was written where it stopped: at Write a prefix of the history text, at any other fault nothing
+-- what was written where it stopped: at Write a prefix of the history text, at NoMemory nothing or that of an input within
+-- the limit, at any other fault nothing
 abbrev pub HasHistoryStopped : (A : Type 0) → ReplayFault → Option (List ℕ) → Option (List ℕ) → Option (List ℕ) → Type 0
 HasHistoryStopped A Write rest old new = IfSome rest (λ input. AppendsHistoryPart A input old new)
+HasHistoryStopped A NoMemory rest old new =
+    IfSome rest (λ input. Keeps old new ⊎ ((length input ≤ input_limit) × AppendsHistoryPart A input old new))
 HasHistoryStopped A fault rest old new = Keeps old new

@@ -11,13 +11,13 @@ use crate::explanation::explained_text;
 use crate::fault::ReplayFault;
 use crate::judged::audit_text;
 use gn_io::{Sink, Source, read_input, write_all};
-use gn_rules::{Legality, RouterCore};
+use gn_rules::{FreshRouter, Legality};
 use std::alloc::Allocator;
 
 /// Reads a history's text whole, asks a new router for each of its steps again, and writes one line: `legal COUNT`, or
 /// `wrong INDEX` with the index of the first step, counted from 0, at which the router does otherwise. Nothing is
 /// written before all is decided. An `Ok` says that no read failed and no write failed or took nothing.
-pub fn audit<A: Allocator + Copy, C: RouterCore<A> + Drop, S: Source, W: Sink>(
+pub fn audit<A: Allocator + Copy, C: FreshRouter<A> + Drop, S: Source, W: Sink>(
     alloc: A,
     source: &mut S,
     sink: &mut W,
@@ -38,7 +38,7 @@ pub fn audit<A: Allocator + Copy, C: RouterCore<A> + Drop, S: Source, W: Sink>(
 /// As `audit`; after `wrong INDEX` it writes two lines more: `line NUMBER: TEXT`, the wrong step's line as it stands in
 /// the history, with its number counted from 1, and `rules: TEXT`, what the rules answer to its event: a reply as after
 /// the `=` of a step, or `refused NAME`.
-pub fn audit_explained<A: Allocator + Copy, C: RouterCore<A> + Drop, S: Source, W: Sink>(
+pub fn audit_explained<A: Allocator + Copy, C: FreshRouter<A> + Drop, S: Source, W: Sink>(
     alloc: A,
     source: &mut S,
     sink: &mut W,

@@ -9,13 +9,14 @@ ghost use Rattle.gn_replay.specs.Explained.{IsAuditExplained, answer_line, expla
 
 use crate::judged::{judge_text, verdict};
 use crate::judgement::{Answer, Judgement};
-use gn_rules::{Legality, RouterCore};
+use gn_rules::{FreshRouter, Legality};
 use gn_text::{CaptureRefusal, NumberedLine, NumberedLines, push_refusal, push_reply};
 use std::alloc::{AllocError, Allocator};
 
 /// How many lines of a history that aren't skipped stand before its steps.
 const LINES_BEFORE: usize = 3;
 
+/// Appends what the rules answer, or `refused` and why. An `Err` is out of memory, and may leave a part of it.
 fn write_answer<A: Allocator>(out: &mut Vec<u8, A>, rules: &Answer<A>) -> Result<(), AllocError>
     ensures { OnOk result (out.new.items ≡ out.old.items ++ answer_line rules.now) }
 {
@@ -28,6 +29,7 @@ fn write_answer<A: Allocator>(out: &mut Vec<u8, A>, rules: &Answer<A>) -> Result
     }
 }
 
+/// Appends the two lines that explain a wrong step. An `Err` is out of memory, and may leave a part of them.
 fn write_explanation<A: Allocator + Copy>(
     alloc: A,
     out: &mut Vec<u8, A>,
@@ -101,7 +103,7 @@ fn explained_lines<A: Allocator + Copy>(
 }
 
 /// The verdict of a new router on the history that a text says, and the lines that state and explain it.
-pub(crate) fn explained_text<A: Allocator + Copy, C: RouterCore<A> + Drop>(
+pub(crate) fn explained_text<A: Allocator + Copy, C: FreshRouter<A> + Drop>(
     alloc: A,
     text: &[u8],
 ) -> Result<(Legality, Vec<u8, A>), CaptureRefusal>

@@ -1,45 +1,69 @@
 //! A capture replayed for the history of its router.
 
-ghost use Rattle.std.specs.Prelude.{IfOk, IfErr, IfSome, IsOk, OnOk};
-ghost use Rattle.gn_text.specs.Faults.{IsRefused};
-ghost use Rattle.gn_replay.specs.Faults.{IsAnswerOn};
-ghost use Rattle.gn_io.specs.Streams.{streams, text_between};
+ghost use Rattle.std.specs.Prelude.{◌≡◌, ◌≤◌, Some, length, IfOk, IfErr, IfSome, IsOk, OnOk};
+ghost use Rattle.gn_replay.specs.Faults.{IsAnswerOn, IsReplayFault, input_of};
+ghost use Rattle.gn_io.specs.Input.{input_limit};
+ghost use Rattle.gn_io.specs.Streams.{NoWriteFailed, streams, text_between};
 ghost use Rattle.gn_capture.specs.Captures.{capture_of};
-ghost use Rattle.gn_replay.specs.ReplayHistory.{AppendsHistory, HasHistoryStopped, IsHistoryText};
+ghost use Rattle.gn_replay.specs.ReplayHistory.{AppendsHistory, HasHistoryStopped};
 ghost use Rattle.gn_replay.specs.Replays.{IsCounted};
+ghost use Rattle.gn_text.specs.Header.{header_text};
+ghost use Rattle.gn_text.specs.declared.title.Text.TheVariants.{History};
 
 use crate::fault::ReplayFault;
+use crate::form::Form;
 use crate::replays::{Exit, exit_of};
-use crate::run::play;
-use gn_capture::{read_capture, write_history};
-use gn_io::{Nowhere, Sink, Source, read_input, write_all};
-use gn_rules::RouterCore;
-use gn_text::CaptureRefusal;
-use std::alloc::Allocator;
+use crate::run::play_as;
+use gn_capture::read_capture;
+use gn_io::{Block, Sink, Source, read_input};
+use gn_rules::{Config, FreshRouter};
+use gn_text::{Text, push_header};
+use std::alloc::{AllocError, Allocator};
 
-/// What replaying a capture's text comes to, and the history of the router that replayed it.
-fn history_text<A: Allocator + Copy, C: RouterCore<A> + Drop>(
+/// What stands in a history before its steps.
+pub fn history_heading<A: Allocator + Copy>(
     alloc: A,
-    text: &[u8],
-) -> Result<(Exit, Vec<u8, A>), CaptureRefusal>
-    ensures valid { IfOk result (λ _. IsOk (capture_of {A = A} text.now)) }
-    ensures history { IfOk result (λ replayed. IsHistoryText A text.now replayed.1.items) }
-    ensures counted { IfOk result (λ replayed. IsCounted A text.now replayed.0) }
-    ensures refused { IfErr result (λ refusal. IsRefused refusal (capture_of {A = A} text.now)) }
+    config: &Config,
+) -> Result<Block<A>, AllocError>
+    ensures { IfOk result (λ block. block ≡ header_text History config.now) }
 {
-    let capture = read_capture(alloc, text)?;
-    let config = capture.config;
-    let Ok(replayed) = play::<A, C, Nowhere>(alloc, capture, &mut Nowhere) else {
-        return Err(CaptureRefusal::NoMemory);
-    };
-    let mut history = Vec::new(alloc);
-    write_history(&config, replayed.core.history(), &mut history)?;
-    Ok((exit_of::<A, C>(&replayed), history))
+    let mut line = Vec::new(alloc);
+    push_header(&mut line, Text::History, config)?;
+    let mut block = Block::new(alloc);
+    let added = block.add(&line);
+    drop(line);
+    added?;
+    Ok(block)
 }
 
-/// Reads a capture whole, plays its lines on a new router, and writes the history of that router, which `audit` reads.
-/// Nothing is written before all is played; `Write` leaves a prefix of the history, any other `Err` nothing.
-pub fn replay_history<A: Allocator + Copy, C: RouterCore<A> + Drop, S: Source, W: Sink>(
+/// Replays a capture that is read whole, for its history. Its text is gone before the first line is played.
+fn replay_steps<A: Allocator + Copy, C: FreshRouter<A> + Drop, W: Sink>(
+    alloc: A,
+    text: Vec<u8, A>,
+    sink: &mut W,
+) -> Result<Exit, ReplayFault>
+    requires { length text.items ≤ input_limit }
+    ensures valid { OnOk result (IsOk (capture_of {A = A} text.items)) }
+    ensures written { OnOk result (AppendsHistory A text.items (W.state sink.old).written (W.state sink.new).written) }
+    ensures counted { IfOk result (λ exit. IsCounted A text.items exit) }
+    ensures writes { OnOk result (NoWriteFailed (W.state sink.old) (W.state sink.new)) }
+    ensures stopped { IfErr result (λ fault. HasHistoryStopped A fault (Some text.items)
+        (W.state sink.old).written (W.state sink.new).written) }
+    ensures fault { IfErr result (λ fault. IsReplayFault fault (capture_of {A = A})
+        (streams (input_of text.items) (input_of text.items) (W.state sink.old) (W.state sink.new))) }
+{
+    let capture = read_capture(alloc, &text)?;
+    drop(text);
+    let heading = history_heading(alloc, &capture.config)?;
+    let replayed = play_as::<A, C, W>(alloc, capture, Form::Steps, heading, b"end\n", sink)?;
+    Ok(exit_of::<A, C>(&replayed))
+}
+
+/// Reads a capture whole, plays its lines on a new router, and writes the history of that router, which `audit` reads: each
+/// step as it is made, in blocks of at least 32,768 bytes, the last one shorter. An `Ok` says that no read failed and no
+/// write failed or took nothing. After an `Err` a prefix of the history was written, and nothing where the capture wasn't read
+/// or has a fault.
+pub fn replay_history<A: Allocator + Copy, C: FreshRouter<A> + Drop, S: Source, W: Sink>(
     alloc: A,
     source: &mut S,
     sink: &mut W,
@@ -55,7 +79,5 @@ pub fn replay_history<A: Allocator + Copy, C: RouterCore<A> + Drop, S: Source, W
         (W.state sink.old).written (W.state sink.new).written) }
 {
     let text = read_input(alloc, source)?;
-    let (exit, history) = history_text::<A, C>(alloc, &text)?;
-    write_all(sink, &history)?;
-    Ok(exit)
+    replay_steps::<A, C, W>(alloc, text, sink)
 }

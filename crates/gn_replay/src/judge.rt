@@ -14,17 +14,16 @@ use gn_rules::{Event, Refusal, RouterCore};
 use gn_text::CaptureRefusal;
 use std::alloc::{AllocError, Allocator};
 
-/// What a router answers to an event. An `Err` is out of memory.
+/// What the rules answer to an event. An `Err` is out of memory.
 #[tactic(auto, using(crate::proofs::EventLemmas::found))]
-fn answer_to<A: Allocator + Copy, C: RouterCore<A>>(
-    core: &mut C,
-    actor: u32,
+fn rules_answer<A: Allocator + Copy, C: RouterCore<A>>(
+    core: &C,
     event: &Event<A>,
 ) -> Result<Answer<A>, AllocError>
-    ensures { IfOk result (λ found. answer (C.settings core.old) (reverse (C.steps core.old)) event.now ≡ found) }
+    ensures { IfOk result (λ found. answer (C.settings core.now) (reverse (C.steps core.now)) event.now ≡ found) }
 {
-    match core.apply(actor, event) {
-        Ok(receipt) => Ok(Ok(receipt.reply)),
+    match core.answer_to(event) {
+        Ok(reply) => Ok(Ok(reply)),
         Err(Refusal::NoMemory) => Err(AllocError),
         Err(refusal) => Ok(Err(refusal)),
     }
@@ -55,7 +54,7 @@ pub(crate) fn judge<A: Allocator + Copy, C: RouterCore<A>>(
     let mut index = 0u32;
     while let Some(step) = steps.next_step()? {
         if !core.is_answered(&step) {
-            let answer = answer_to(core, step.actor, &step.event);
+            let answer = rules_answer(core, &step.event);
             drop(step);
             let rules = answer?;
             pass_left(steps)?;

@@ -9,7 +9,7 @@ ghost use Rattle.gn_replay.specs.Judgements.{IsJudged};
 use crate::judge::judge;
 use crate::judgement::Judgement;
 use gn_capture::open_history;
-use gn_rules::{Legality, RouterCore};
+use gn_rules::{FreshRouter, Legality};
 use gn_text::{CaptureRefusal, push_number};
 use std::alloc::{AllocError, Allocator};
 
@@ -37,7 +37,7 @@ pub(crate) fn verdict<A: Allocator>(
 }
 
 /// What a new router finds of the history that a text says, and how many steps it found right.
-pub(crate) fn judge_text<A: Allocator + Copy, C: RouterCore<A> + Drop>(
+pub(crate) fn judge_text<A: Allocator + Copy, C: FreshRouter<A> + Drop>(
     alloc: A,
     text: &[u8],
 ) -> Result<(Judgement<A>, u32), CaptureRefusal>
@@ -50,7 +50,7 @@ pub(crate) fn judge_text<A: Allocator + Copy, C: RouterCore<A> + Drop>(
 }
 
 /// The verdict of a new router on the history that a text says, and its line.
-pub(crate) fn audit_text<A: Allocator + Copy, C: RouterCore<A> + Drop>(
+pub(crate) fn audit_text<A: Allocator + Copy, C: FreshRouter<A> + Drop>(
     alloc: A,
     text: &[u8],
 ) -> Result<(Legality, Vec<u8, A>), CaptureRefusal>

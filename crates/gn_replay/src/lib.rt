@@ -4,6 +4,7 @@
 mod audits;
 mod explanation;
 mod fault;
+mod form;
 mod given;
 mod histories;
 mod judge;
@@ -17,10 +18,11 @@ mod piece;
 mod playing;
 mod replays;
 mod run;
+mod saying;
 
 pub use audits::{audit, audit_explained};
 pub use fault::ReplayFault;
-pub use histories::replay_history;
+pub use histories::{history_heading, replay_history};
 pub use laws::replay_text_is_one;
 pub use replays::{Exit, replay};
 pub use run::{Replayed, play};

@@ -3,12 +3,9 @@
 ghost use Rattle.std.specs.Prelude.{◌≡◌, ◌<◌, ◌≤◌, ◌+◌, ◌++◌, ◌∷◌, [], List, length, slice_set, IfNone, IfSome, OnOk};
 ghost use Rattle.std.specs.List.{slice_index_or};
 ghost use Rattle.gn_replay.specs.declared.link.Link.TheVariants.{Ended};
-ghost use Rattle.gn_rules.specs.Statistics.{stats_of};
-ghost use Rattle.gn_text.specs.Statistics.{stats_text};
-ghost use Rattle.gn_replay.specs.Events.{prints};
 ghost use Rattle.gn_replay.specs.Links.{AreLinks, LinkState};
 ghost use Rattle.gn_replay.specs.Pieces.{awaits, joins};
-ghost use Rattle.gn_replay.specs.Playing.{HasPlayed, after_playing, with_links};
+ghost use Rattle.gn_replay.specs.Playing.{HasPlayed, with_links};
 ghost use Rattle.gn_replay.specs.ReplayText.{link_added, piece_plays, plays};
 
 use crate::link::Link;
@@ -16,7 +13,6 @@ use crate::playing::Play;
 use gn_capture::Line;
 use gn_rules::{Event, RouterCore};
 use gn_shake::Shake;
-use gn_text::push_stats;
 use std::alloc::{AllocError, Allocator};
 use std::mem;
 
@@ -60,7 +56,7 @@ impl<A: Allocator + Copy, C: RouterCore<A>> Play<A, C> {
             → HasPlayed self.old self.new (piece_plays self.old.settings self.old.past states i piece.now)) }
     {
         let Some(at) = self.place_of(i) else {
-            self.print_ended(i)?;
+            self.say_ended(i)?;
             return Ok(());
         };
         let link = self.take_link(at);
@@ -96,14 +92,6 @@ impl<A: Allocator + Copy, C: RouterCore<A>> Play<A, C> {
         Ok(())
     }
 
-    /// Prints the counters.
-    fn print_counters(&mut self) -> Result<(), AllocError>
-        ensures { OnOk result (self.new ≡ after_playing self.old
-            (prints self.old.past (stats_text (stats_of self.old.past)))) }
-    {
-        push_stats(&mut self.out, &self.core.stats())
-    }
-
     /// Plays one line of a capture. Its text is printed, and not written yet.
     #[tactic(auto, using(crate::proofs::LineLemmas::lines))]
     pub(crate) fn play_line(&mut self, line: &Line<A>) -> Result<(), AllocError>
@@ -120,7 +108,7 @@ impl<A: Allocator + Copy, C: RouterCore<A>> Play<A, C> {
             Line::Originate(request) => {
                 self.play_event(Event::Originate(request.descriptor().copy()?))
             }
-            Line::Stats => self.print_counters(),
+            Line::Stats => self.say_counters(),
         }
     }
 }

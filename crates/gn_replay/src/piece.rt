@@ -3,8 +3,6 @@
 ghost use Rattle.std.specs.Prelude.{◌≡◌, ◌++◌, List, ℕ, None, IfOk, OnOk};
 ghost use Rattle.gn_shake.specs.Greeting.{greeting_state, request_text};
 ghost use Rattle.gn_replay.specs.declared.link.Link.TheVariants.{Greeting, Joined};
-ghost use Rattle.gn_text.specs.Links.{ended_text};
-ghost use Rattle.gn_replay.specs.Events.{prints};
 ghost use Rattle.gn_replay.specs.Links.{IsLink, LinkState, greeting, joined};
 ghost use Rattle.gn_replay.specs.Pieces.{admits, connects, delivers, delivers_these, fault_plays, feeds_link, greets, joins};
 ghost use Rattle.gn_replay.specs.Playing.{HasAdmitted, HasLinked, after_playing};
@@ -14,7 +12,6 @@ use crate::playing::Play;
 use gn_frames::{Fed, FeedRefusal, Reassembler, frames_are_cut};
 use gn_rules::{ConnId, Event, RouterCore};
 use gn_shake::{Shake, ShakeState, pieces_are_one_stream};
-use gn_text::{push_ended, push_frame_fault, push_greeting_refused};
 use gn_wire::{Descriptor, FrameFault};
 use std::alloc::{AllocError, Allocator};
 
@@ -37,12 +34,12 @@ impl<A: Allocator + Copy, C: RouterCore<A>> Play<A, C> {
         Ok(false)
     }
 
-    /// Ends a link that can't have what it was given: prints the fault, and closes the connection.
+    /// Ends a link that can't have what it was given: says the fault, and closes the connection.
     fn end_by(&mut self, i: u32, connection: ConnId, fault: FrameFault) -> Result<(), AllocError>
         ensures { OnOk result (self.new ≡ after_playing self.old
             (fault_plays self.old.settings self.old.past i connection fault)) }
     {
-        push_frame_fault(&mut self.out, i, fault)?;
+        self.say_fault(i, fault)?;
         self.happen(Event::Close(connection))?;
         Ok(())
     }
@@ -129,18 +126,11 @@ impl<A: Allocator + Copy, C: RouterCore<A>> Play<A, C> {
         match shaken.state {
             ShakeState::More => Ok(Link::Greeting(shake)),
             ShakeState::Refused => {
-                push_greeting_refused(&mut self.out, i)?;
+                self.say_greeting_refused(i)?;
                 Ok(Link::Ended)
             }
             ShakeState::Done => self.connect(i, shaken.rest_of(piece)),
         }
-    }
-
-    /// Prints that a link has ended.
-    pub(crate) fn print_ended(&mut self, i: u32) -> Result<(), AllocError>
-        ensures { OnOk result (self.new ≡ after_playing self.old (prints self.old.past (ended_text i))) }
-    {
-        push_ended(&mut self.out, i)
     }
 
     /// Takes a piece of link i.
@@ -155,7 +145,7 @@ impl<A: Allocator + Copy, C: RouterCore<A>> Play<A, C> {
     {
         match link {
             Link::Ended => {
-                self.print_ended(i)?;
+                self.say_ended(i)?;
                 Ok(Link::Ended)
             }
             Link::Greeting(shake) => self.greet(i, shake, piece),

@@ -1,19 +1,18 @@
 //! A replay as it stands, and what an event does to it.
 
-ghost use Rattle.std.specs.Prelude.{◌≡◌, ◌<◌, ◌++◌, ◌∷◌, Err, List, Ok, length, IfOk, OnOk};
+ghost use Rattle.std.specs.Prelude.{◌≡◌, ◌++◌, ◌∷◌, Err, Ok, IfOk, OnOk};
 ghost use Rattle.gn_rules.specs.Answer.{answer};
-ghost use Rattle.gn_rules.specs.declared.receipt.Step.{Step};
-ghost use Rattle.gn_text.specs.Refusals.{refusal_text};
 ghost use Rattle.gn_text.specs.Steps.{step_text};
-ghost use Rattle.gn_replay.specs.Events.{happens};
+ghost use Rattle.gn_replay.specs.Events.{happens, made, refuses};
 ghost use Rattle.gn_replay.specs.Outcomes.{IsOutcome};
-ghost use Rattle.gn_replay.specs.Playing.{after_playing, refused_more};
+ghost use Rattle.gn_replay.specs.Playing.{after_playing};
 
-use crate::given::enter;
+use crate::form::Form;
+use crate::given::add;
 use crate::link::Link;
 use crate::outcome::Outcome;
-use gn_rules::{Event, Refusal, RouterCore};
-use gn_text::{push_refusal, push_step};
+use gn_rules::{Event, Refusal, Reply, RouterCore, Step};
+use gn_text::push_step;
 use std::alloc::{AllocError, Allocator};
 use std::marker::Model;
 
@@ -25,6 +24,7 @@ pub(crate) struct Play<A: Allocator + Copy, C: RouterCore<A>> {
     pub(crate) links: Vec<Link<A>, A>,
     pub(crate) out: Vec<u8, A>,
     pub(crate) refusals: u64,
+    pub(crate) form: Form,
 }
 
 impl<A: Allocator + Copy, C: RouterCore<A>> Model for Play<A, C> {
@@ -34,6 +34,7 @@ impl<A: Allocator + Copy, C: RouterCore<A>> Model for Play<A, C> {
     ghost Value = { Playing A };
 
     ghost view = { λ p. record {
+      form = p.form;
       settings = C.settings p.core;
       past = reverse (C.steps p.core);
       links = p.links.items;
@@ -43,31 +44,34 @@ impl<A: Allocator + Copy, C: RouterCore<A>> Model for Play<A, C> {
 }
 
 impl<A: Allocator + Copy, C: RouterCore<A>> Play<A, C> {
-    /// Prints the step that the router made last.
-    fn print_step(&mut self) -> Result<Outcome, AllocError>
-        requires { 0 < length self.old.past }
-        ensures outcome { IfOk result (λ o. (step : Step A) → (before : List (Step A))
-            → self.old.past ≡ step ∷ before → IsOutcome o (Ok step.reply)) }
-        ensures after { OnOk result ((step : Step A) → (before : List (Step A))
-            → self.old.past ≡ step ∷ before → self.new ≡ record self.old { out = self.old.out ++ step_text step }) }
-    {
-        let Some(step) = self.core.history().last() else {
-            unreachable!()
-        };
-        push_step(&mut self.out, step)?;
-        Ok(Outcome::of_reply(&step.reply))
-    }
-
-    /// Prints a refusal, and counts it.
-    fn print_refusal(&mut self, refusal: Refusal) -> Result<Outcome, AllocError>
-        ensures outcome { IfOk result (λ o. IsOutcome {A = A} o (Err refusal)) }
+    /// Makes the step of an event and the rules' reply, and prints it.
+    #[tactic(auto, using(crate::proofs::EventLemmas::past_push))]
+    fn make_step(&mut self, event: Event<A>, reply: Reply<A>) -> Result<Outcome, AllocError>
+        requires { answer self.old.settings self.old.past event ≡ Ok reply }
+        ensures outcome { IfOk result (λ o. IsOutcome o (Ok reply)) }
         ensures after { OnOk result (self.new ≡ record self.old {
-          out = self.old.out ++ refusal_text refusal;
-          refusals = refused_more 1 self.old.refusals;
+          past = made event reply ∷ self.old.past;
+          out = self.old.out ++ step_text (made event reply);
         }) }
     {
+        let step = Step {
+            actor: 0,
+            event,
+            reply,
+        };
+        push_step(&mut self.out, &step)?;
+        let outcome = Outcome::of_reply(&step.reply);
+        add(&mut self.core, step)?;
+        Ok(outcome)
+    }
+
+    /// Says a refusal, and counts it.
+    fn count_refusal(&mut self, refusal: Refusal) -> Result<Outcome, AllocError>
+        ensures outcome { IfOk result (λ o. IsOutcome {A = A} o (Err refusal)) }
+        ensures after { OnOk result (self.new ≡ after_playing self.old (refuses self.old.past refusal)) }
+    {
         self.refusals = self.refusals.saturating_add(1);
-        push_refusal(&mut self.out, refusal)?;
+        self.say_refusal(refusal)?;
         Ok(Outcome::of_refusal::<A>(refusal))
     }
 
@@ -78,10 +82,10 @@ impl<A: Allocator + Copy, C: RouterCore<A>> Play<A, C> {
         ensures after { OnOk result (self.new ≡ after_playing self.old
             (happens self.old.settings self.old.past event)) }
     {
-        match enter(&mut self.core, 0, event) {
-            Ok(()) => self.print_step(),
+        match self.core.answer_to(&event) {
+            Ok(reply) => self.make_step(event, reply),
             Err(Refusal::NoMemory) => Err(AllocError),
-            Err(refusal) => self.print_refusal(refusal),
+            Err(refusal) => self.count_refusal(refusal),
         }
     }
 

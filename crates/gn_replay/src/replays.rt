@@ -11,7 +11,7 @@ use crate::fault::ReplayFault;
 use crate::run::{Replayed, play};
 use gn_capture::read_capture;
 use gn_io::{Sink, Source, read_input};
-use gn_rules::RouterCore;
+use gn_rules::{FreshRouter, RouterCore};
 use std::alloc::Allocator;
 
 /// What a replay came to, counted.
@@ -24,19 +24,18 @@ pub struct Exit {
 }
 
 /// The counts of what was played.
-#[tactic(auto, using(crate::proofs::ReplayLemmas::few_steps))]
 pub(crate) fn exit_of<A: Allocator + Copy, C: RouterCore<A>>(replayed: &Replayed<C>) -> Exit
     ensures steps { result.steps ≡ length (C.steps replayed.now.core) }
     ensures refusals { result.refusals ≡ replayed.now.refusals }
 {
     Exit {
-        steps: replayed.core.history().len() as u32,
+        steps: replayed.core.step_count(),
         refusals: replayed.refusals,
     }
 }
 
 /// Replays a capture that is read whole. Its text is gone before the first line is played.
-fn replay_text<A: Allocator + Copy, C: RouterCore<A> + Drop, W: Sink>(
+fn replay_text<A: Allocator + Copy, C: FreshRouter<A> + Drop, W: Sink>(
     alloc: A,
     text: Vec<u8, A>,
     sink: &mut W,
@@ -60,7 +59,7 @@ fn replay_text<A: Allocator + Copy, C: RouterCore<A> + Drop, W: Sink>(
 /// Reads a capture whole, plays its lines on a new router, and writes what they print in blocks, as `play` does. An
 /// `Ok` says that no read failed and no write failed or took nothing. After an `Err` a prefix of that text was written,
 /// and nothing where the capture wasn't read or has a fault.
-pub fn replay<A: Allocator + Copy, C: RouterCore<A> + Drop, S: Source, W: Sink>(
+pub fn replay<A: Allocator + Copy, C: FreshRouter<A> + Drop, S: Source, W: Sink>(
     alloc: A,
     source: &mut S,
     sink: &mut W,

@@ -5,13 +5,15 @@ ghost use Rattle.gn_io.specs.Parts.{AppendsPart, WaitsPart};
 ghost use Rattle.gn_io.specs.Streams.{NoWriteFailed};
 ghost use Rattle.gn_replay.specs.Links.{AreLinks, LinkState};
 ghost use Rattle.gn_replay.specs.ReplayText.{capture_plays, plays};
-ghost use Rattle.gn_replay.specs.Runs.{HasPassed, HasRun, HasWritten, IsNew, IsPlayFault};
+ghost use Rattle.gn_replay.specs.Playing.{said};
+ghost use Rattle.gn_replay.specs.Runs.{HasPassed, HasPrinted, HasRun, HasWritten, IsNew, IsPlayFault};
 
 use crate::fault::ReplayFault;
+use crate::form::Form;
 use crate::playing::Play;
 use gn_capture::{Capture, Line};
 use gn_io::{Block, Sink};
-use gn_rules::RouterCore;
+use gn_rules::{FreshRouter, RouterCore};
 use std::alloc::Allocator;
 
 /// What playing a capture came to.
@@ -46,13 +48,14 @@ fn take_last<A: Allocator>(lines: &mut Vec<(u64, Line<A>), A>) -> Option<(u64, L
 }
 
 impl<A: Allocator + Copy, C: RouterCore<A>> Play<A, C> {
+    /// Empties the text of the line that was written.
     fn clear_out(&mut self)
         ensures { self.new ≡ record self.old { out = [] } }
     {
         self.out.clear();
     }
 
-    /// Plays one line. Its text waits after what waited, and is written once that is a block.
+    /// Plays one line. What is printed of it waits after what waited, and is written once that is a block.
     fn write_line<W: Sink>(
         &mut self,
         line: &Line<A>,
@@ -64,7 +67,7 @@ impl<A: Allocator + Copy, C: RouterCore<A>> Play<A, C> {
             (plays self.old.settings self.old.past states line.now)) }
         ensures err { OnErr result ((states : List LinkState) → AreLinks self.old.links states
             → WaitsPart (W.state sink.old).written (W.state sink.new).written block.new
-            (block.old ++ (plays self.old.settings self.old.past states line.now).played.text)) }
+            (block.old ++ said self.old.form (plays self.old.settings self.old.past states line.now).played)) }
         ensures cause { IfErr result (λ fault. IsPlayFault fault (W.state sink.old) (W.state sink.new)) }
         ensures writes { OnOk result (NoWriteFailed (W.state sink.old) (W.state sink.new)) }
     {
@@ -75,19 +78,18 @@ impl<A: Allocator + Copy, C: RouterCore<A>> Play<A, C> {
         Ok(())
     }
 
-    /// Plays lines in order. Their text is written in blocks, and what is over waits.
+    /// Plays lines in order. What is printed of them is written in blocks after what waits, and what is over waits.
     fn pass_lines<W: Sink>(
         &mut self,
         lines: Vec<(u64, Line<A>), A>,
         block: &mut Block<A>,
         sink: &mut W,
     ) -> Result<(), ReplayFault>
-        requires new { IsNew self.old }
-        requires empty { block.old ≡ [] }
-        ensures ok { OnOk result (HasPassed (capture_plays self.old.settings lines.items) self.new.past self.new.refusals
-            (W.state sink.old).written (W.state sink.new).written block.new) }
+        requires { IsNew self.old }
+        ensures ok { OnOk result (HasPassed self.old.form block.old (capture_plays self.old.settings lines.items)
+            self.new.past self.new.refusals (W.state sink.old).written (W.state sink.new).written block.new) }
         ensures err { OnErr result (WaitsPart (W.state sink.old).written (W.state sink.new).written block.new
-            (capture_plays self.old.settings lines.items).text) }
+            (block.old ++ said self.old.form (capture_plays self.old.settings lines.items))) }
         ensures settings { OnOk result (self.new.settings ≡ self.old.settings) }
         ensures cause { IfErr result (λ fault. IsPlayFault fault (W.state sink.old) (W.state sink.new)) }
         ensures writes { OnOk result (NoWriteFailed (W.state sink.old) (W.state sink.new)) }
@@ -102,25 +104,29 @@ impl<A: Allocator + Copy, C: RouterCore<A>> Play<A, C> {
         Ok(())
     }
 
-    /// Plays lines in order, and writes their text in blocks, what is over at the end. Where memory runs out, the text
-    /// of all lines before that is written too.
+    /// Plays lines in order, and writes what is printed of them in blocks, after a beginning and with an ending, what is over
+    /// at the end. Where memory runs out, what is printed of all lines before that is written too.
     fn write_lines<W: Sink>(
         &mut self,
         lines: Vec<(u64, Line<A>), A>,
+        begun: Block<A>,
+        ending: &[u8],
         sink: &mut W,
     ) -> Result<(), ReplayFault>
         requires { IsNew self.old }
-        ensures ok { OnOk result (HasRun (capture_plays self.old.settings lines.items) self.new.past self.new.refusals
-            (W.state sink.old).written (W.state sink.new).written) }
+        ensures ok { OnOk result (HasPrinted self.old.form begun
+            (capture_plays self.old.settings lines.items) ending.now
+            self.new.past self.new.refusals (W.state sink.old).written (W.state sink.new).written) }
         ensures err { OnErr result (AppendsPart (W.state sink.old).written (W.state sink.new).written
-            (capture_plays self.old.settings lines.items).text) }
+            (begun ++ said self.old.form (capture_plays self.old.settings lines.items) ++ ending.now)) }
         ensures settings { OnOk result (self.new.settings ≡ self.old.settings) }
         ensures cause { IfErr result (λ fault. IsPlayFault fault (W.state sink.old) (W.state sink.new)) }
         ensures writes { OnOk result (NoWriteFailed (W.state sink.old) (W.state sink.new)) }
     {
-        let mut block = Block::new(self.alloc);
+        let mut block = begun;
         match self.pass_lines(lines, &mut block, sink) {
             Ok(()) => {
+                block.add(ending)?;
                 block.write_rest(sink)?;
                 Ok(())
             }
@@ -133,10 +139,44 @@ impl<A: Allocator + Copy, C: RouterCore<A>> Play<A, C> {
     }
 }
 
+/// Makes a router as the capture's first lines say, plays its lines on it, each of which is gone then, and writes what is
+/// printed of them in blocks, after a beginning and with an ending.
+pub(crate) fn play_as<A: Allocator + Copy, C: FreshRouter<A> + Drop, W: Sink>(
+    alloc: A,
+    capture: Capture<A>,
+    form: Form,
+    begun: Block<A>,
+    ending: &[u8],
+    sink: &mut W,
+) -> Result<Replayed<C>, ReplayFault>
+    ensures settings { IfOk result (λ replayed. C.settings replayed.core ≡ capture.config) }
+    ensures played { IfOk result (λ replayed. HasPrinted form begun (capture_plays capture.config capture.lines.items)
+        ending.now (reverse (C.steps replayed.core)) replayed.refusals
+        (W.state sink.old).written (W.state sink.new).written) }
+    ensures err { OnErr result (AppendsPart (W.state sink.old).written (W.state sink.new).written
+        (begun ++ said form (capture_plays capture.config capture.lines.items) ++ ending.now)) }
+    ensures writes { OnOk result (NoWriteFailed (W.state sink.old) (W.state sink.new)) }
+    ensures cause { IfErr result (λ fault. IsPlayFault fault (W.state sink.old) (W.state sink.new)) }
+{
+    let mut play = Play {
+        alloc,
+        core: C::make(alloc, &capture.config)?,
+        links: Vec::new(alloc),
+        out: Vec::new(alloc),
+        refusals: 0,
+        form,
+    };
+    play.write_lines(capture.lines, begun, ending, sink)?;
+    Ok(Replayed {
+        core: play.core,
+        refusals: play.refusals,
+    })
+}
+
 /// Makes a router as the capture's first lines say, plays its lines on it, each of which is gone then, and writes what
 /// they print in blocks of at least 32,768 bytes, the last one shorter. An `Err` is a write that failed or took nothing,
 /// or out of memory: a prefix of that text was written.
-pub fn play<A: Allocator + Copy, C: RouterCore<A> + Drop, W: Sink>(
+pub fn play<A: Allocator + Copy, C: FreshRouter<A> + Drop, W: Sink>(
     alloc: A,
     capture: Capture<A>,
     sink: &mut W,
@@ -149,16 +189,5 @@ pub fn play<A: Allocator + Copy, C: RouterCore<A> + Drop, W: Sink>(
     ensures writes { OnOk result (NoWriteFailed (W.state sink.old) (W.state sink.new)) }
     ensures cause { IfErr result (λ fault. IsPlayFault fault (W.state sink.old) (W.state sink.new)) }
 {
-    let mut play = Play {
-        alloc,
-        core: C::make(alloc, &capture.config)?,
-        links: Vec::new(alloc),
-        out: Vec::new(alloc),
-        refusals: 0,
-    };
-    play.write_lines(capture.lines, sink)?;
-    Ok(Replayed {
-        core: play.core,
-        refusals: play.refusals,
-    })
+    play_as::<A, C, W>(alloc, capture, Form::Whole, Block::new(alloc), b"", sink)
 }

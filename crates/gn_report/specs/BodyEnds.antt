@@ -46,14 +46,14 @@ abbrev pub is_turned_away : {A : Type 0} → Event A → Reply A → Bool
 is_turned_away Connect TooMany = true
 is_turned_away event reply = false
 
--- whether a writer of this end may have closed its connection while the run waited for its reader: after a failed write, or, on a link
--- that calls in a run whose links don't all call, once it was drained
+-- whether a writer of this end may have closed its connection before its reader had ended: after a failed write; or, on a link that
+-- calls, once it was drained, where not all links of the run call
 abbrev pub may_close_first : Bool → Role → WriterEnd → Bool
 may_close_first all_call role WriteFailed = true
 may_close_first all_call role Drained = is_calling role && not all_call
 may_close_first all_call role end = false
 
--- whether a reader's end is confirmed; `first` says that its writer may have closed first
+-- whether a reader's end is right by the history and its receipts; `first` says that its writer may have closed first
 abbrev pub is_reader_end : {A : Type 0} → List (Step A) → ℕ → Bool → List (Receipt A) → ReaderEnd → Option ℕ → Bool
 -- it closed nothing
 is_reader_end steps writer first own reader.Bytes (Some c) = not (list_any (λ r. is_close c r.event) own)
@@ -66,7 +66,7 @@ is_reader_end steps writer first own reader.Turns None = true
 -- it made no event
 is_reader_end steps writer first own reader.GreetingRefused conn = length own == 0
 is_reader_end steps writer first own reader.GreetingCut conn = length own == 0
--- all that it did was a Connect that was replied TooMany
+-- its one event was a Connect that was replied TooMany
 is_reader_end steps writer first own reader.TooMany conn =
     (length own == 1) && list_all (λ r. is_turned_away r.event r.reply) own
 -- the link's writer closed first
@@ -74,10 +74,10 @@ is_reader_end steps writer first own reader.NotLive (Some c) =
     first && list_any (λ step. (step.actor == writer) && is_close c step.event) steps
 is_reader_end steps writer first own end conn = false
 
--- whether a writer's end is confirmed. `settled` says after how many steps nothing is in flight
+-- whether a writer's end is right by the history and its receipts; `settled` says after how many steps nothing is in flight
 abbrev pub is_writer_end : {A : Type 0} → (ℕ → Bool) → List Role → List (Step A) → ℕ → Role → List (Receipt A) → WriterEnd → Option ℕ → Bool
--- it closed a drained connection: a Close(c) replied Closed(0), made where nothing was in flight, and after every step of the readers
--- that the run waits for
+-- it closed its connection, by a Close(c) replied Closed(0), when nothing was in flight, and after every step of the readers that the
+-- run waits for
 is_writer_end settled roles steps writer role own Drained (Some c) =
     list_any
     (λ r. is_close c r.event && is_at 0 (closed_of r.reply) && settled r.index
@@ -86,7 +86,7 @@ is_writer_end settled roles steps writer role own Drained (Some c) =
 -- another actor closed its connection
 is_writer_end settled roles steps writer role own Closed (Some c) =
     list_any (λ step. not (step.actor == writer) && is_close c step.event) steps
--- it failed in the request text of a link that calls, or somebody closed its connection
+-- it failed in the request of a link that calls, and made no event; or somebody closed its connection
 is_writer_end settled roles steps writer role own WriteFailed (Some c) =
     (is_calling role && (length own == 0)) || list_any (λ step. is_close c step.event) steps
 is_writer_end settled roles steps writer role own WriteFailed None = is_calling role && (length own == 0)

@@ -1,4 +1,4 @@
--- What is compared of a report, actor by actor, and what is answered.
+-- What a report is compared with, actor by actor, and what is answered.
 use Rattle.std.specs.Prelude.{◌≡◌, ◌≤◌, ◌<◌, ◌+◌, ◌-◌, ℕ, Bool, true, if◌then◌else◌, nat_lt, List, length, reverse, slice_index_or, Option, Some, None, Vec, MatchBool, is_some}
 use Rattle.std.specs.List.{count_by, filter_map, list_all, slice_get}
 use Rattle.gn_rules.specs.declared.receipt.Receipt.{Receipt}
@@ -14,7 +14,7 @@ use Rattle.gn_report.specs.declared.report.Report.{Report}
 use Rattle.gn_report.specs.Actors.{actors}
 use Rattle.gn_report.specs.BodyEnds.{is_connect, is_reader_end, is_writer_end, may_close_first}
 
--- what is compared of the reader of link k, whose writer is actor `writer`
+-- what the history confirms of the reader of link k, whose writer is actor `writer`
 pub record ReaderConfirmed {Rd W A : Type 0} (steps : List (Step A)) (all_call : Bool) (k writer : ℕ) (role : Role) (link : LinkReport Rd W A) : Type 0 where
   -- its receipts are its own steps
   pub own : link.reader_receipts.items ≡ mine steps k
@@ -25,35 +25,35 @@ pub record ReaderConfirmed {Rd W A : Type 0} (steps : List (Step A)) (all_call :
   pub events : list_all (λ r. is_readers link.conn r.event) link.reader_receipts.items ≡ true
   -- it connected at most once
   pub once : count_by (λ r. is_connect r.event) link.reader_receipts.items ≤ 1
-  -- its end goes with the connection, with the Close of it, and with the writer's end
+  -- its end is right by its connection, by who closed that, and by the writer's end
   pub end : is_reader_end steps writer (may_close_first all_call role link.writer_end) link.reader_receipts.items link.reader_end link.conn ≡ true
 
--- what is compared of the writer of a link, which is actor a
+-- what the history confirms of the writer of a link, which is actor a
 pub record WriterConfirmed {Rd W A : Type 0} (settled : ℕ → Bool) (roles : List Role) (steps : List (Step A)) (a : ℕ) (role : Role) (link : LinkReport Rd W A) : Type 0 where
   -- its receipts are its own steps
   pub own : link.writer_receipts.items ≡ mine steps a
   -- its events are Take and Close of the connection
   pub events : list_all (λ r. is_writers link.conn r.event) link.writer_receipts.items ≡ true
-  -- its end goes with the connection and with the Close of it
+  -- its end is right by its connection and by who closed that
   pub end : is_writer_end settled roles steps a role link.writer_receipts.items link.writer_end link.conn ≡ true
 
--- what is compared of a worker, which is actor a
+-- what the history confirms of a worker, which is actor a
 pub record WorkerConfirmed {A : Type 0} (steps : List (Step A)) (a : ℕ) (receipts : List (Receipt A)) : Type 0 where
   -- its receipts are its own steps
   pub own : receipts ≡ mine steps a
   -- its events are Route
   pub events : list_all (λ r. is_some (ticket_of r.event)) receipts ≡ true
 
--- what is compared of the house, which is the last actor, a: also what no other actor is named for
+-- what the history confirms of the house, which is the last actor, a, and of the run as a whole
 pub record HouseConfirmed {A : Type 0} (settled : ℕ → Bool) (steps : List (Step A)) (a : ℕ) (receipts : List (Receipt A)) : Type 0 where
-  -- what is compared of a worker
+  -- all that it confirms of a worker: the house routes what workers left
   pub worker : WorkerConfirmed steps a receipts
   -- no step is of an actor that the run doesn't have
   pub only : list_all (λ step. nat_lt step.actor (a + 1)) steps ≡ true
   -- each admitted ticket is routed: nothing is in flight at the end
   pub tickets : settled (length steps) ≡ true
 
--- what is compared of actor a. `settled` says after how many steps nothing is in flight
+-- what the history confirms of actor a. `settled` says after how many steps nothing is in flight
 abbrev pub IsConfirmed : {Rd W A : Type 0} → (ℕ → Bool) → List Role → Report Rd W A → ℕ → Type 0
 IsConfirmed {Rd} {W} {A} settled roles report a =
     let steps = report.history.items in

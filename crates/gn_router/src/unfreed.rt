@@ -3,7 +3,10 @@
 ghost use Rattle.std.specs.Mem.{manually_drop_value};
 
 use gn_payload::Checked;
-use gn_rules::{Config, ConnId, Event, Receipt, Refusal, RouterCore, Stats, Step, Ticket};
+use gn_rules::{
+    Config, ConnId, Event, FreshRouter, Historian, Receipt, Refusal, Reply, RouterCore, Stats,
+    Step, Ticket,
+};
 use std::alloc::{AllocError, Allocator};
 use std::mem::ManuallyDrop;
 
@@ -19,10 +22,8 @@ impl<A: Allocator + Copy, C: RouterCore<A> + Drop> RouterCore<A> for Unfreed<C> 
 
     ghost steps = { λ u. C.steps (manually_drop_value u.router) };
 
-    fn make(alloc: A, config: &Config) -> Result<Self, AllocError> {
-        Ok(Unfreed {
-            router: ManuallyDrop::new(C::make(alloc, config)?),
-        })
+    fn answer_to(&self, event: &Event<A>) -> Result<Reply<A>, Refusal> {
+        self.router.answer_to(event)
     }
 
     fn apply(&mut self, actor: u32, event: &Event<A>) -> Result<Receipt<A>, Refusal> {
@@ -54,12 +55,12 @@ impl<A: Allocator + Copy, C: RouterCore<A> + Drop> RouterCore<A> for Unfreed<C> 
         self.router.config()
     }
 
-    fn history(&self) -> &[Step<A>] {
-        self.router.history()
+    fn step_count(&self) -> u32 {
+        self.router.step_count()
     }
 
-    fn into_history(self) -> Vec<Step<A>, A> {
-        ManuallyDrop::into_inner(self.router).into_history()
+    fn is_legal(&self) {
+        self.router.is_legal();
     }
 
     fn stats(&self) -> Stats {
@@ -80,5 +81,23 @@ impl<A: Allocator + Copy, C: RouterCore<A> + Drop> RouterCore<A> for Unfreed<C> 
 
     fn waiting(&self, c: ConnId) -> u32 {
         self.router.waiting(c)
+    }
+}
+
+impl<A: Allocator + Copy, C: FreshRouter<A> + Drop> FreshRouter<A> for Unfreed<C> {
+    fn make(alloc: A, config: &Config) -> Result<Self, AllocError> {
+        Ok(Unfreed {
+            router: ManuallyDrop::new(C::make(alloc, config)?),
+        })
+    }
+}
+
+impl<A: Allocator + Copy, C: Historian<A> + Drop> Historian<A> for Unfreed<C> {
+    fn history(&self) -> &[Step<A>] {
+        self.router.history()
+    }
+
+    fn into_history(self) -> Vec<Step<A>, A> {
+        ManuallyDrop::into_inner(self.router).into_history()
     }
 }

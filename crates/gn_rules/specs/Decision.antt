@@ -60,12 +60,12 @@ decide_sound s past a Push =
     else option_map_or (checks s past a) (servent_route s past (push_servent a.packet.payload)) (Drop reason.NoRoute)
 decide_sound s past a (Unknown code) = Drop reason.UnknownKind
 
--- by what checking its payload says
+-- what becomes of a descriptor whose payload was checked: it is dropped unless it is sound
 abbrev pub decide_checked : {A : Type 0} → Config → List (Step A) → Admission → Verdict → Decision
 decide_checked s past a UnknownKind = Drop reason.UnknownKind
 decide_checked s past a Malformed = Drop reason.Malformed
 decide_checked s past a Sound = decide_sound s past a a.packet.kind
 
--- what becomes of a descriptor that is routed
+-- what becomes of a descriptor that is routed, its payload checked
 abbrev pub decide : {A : Type 0} → Config → List (Step A) → Admission → Decision
 decide s past a = decide_checked s past a (verdict_of a.packet)

@@ -15,8 +15,8 @@ use Rattle.gn_rules.specs.declared.reply.Reply.TheVariants.{Dropped, Routed, Sen
 use Rattle.gn_rules.specs.declared.receipt.Step.{Step}
 use Rattle.gn_rules.specs.Flight.{admission}
 
--- whether a route with this reply is kept: of a Ping or Query where it was routed, of a Push unless it was malformed or a
--- duplicate, of replies never
+-- whether the descriptor of a route with this reply is kept, to be remembered: of a Ping or Query where it was routed, of a
+-- Push unless it was malformed or a duplicate, of replies never
 abbrev pub keeps : {A : Type 0} → Kind → Reply A → Bool
 keeps Ping (Routed sends local) = true
 keeps Query (Routed sends local) = true

@@ -74,7 +74,7 @@ count_in counter.Expired n = n.expired
 count_in counter.Taken n = n.taken
 count_in counter.Sent n = n.sent
 
--- statistics with one more of a counter
+-- the statistics with one counter raised by one
 abbrev pub raised : Counter → Stats → Stats
 raised counter.Connected n = record n { connected = n.connected + 1 }
 raised counter.TooMany n = record n { toomany = n.toomany + 1 }

@@ -72,7 +72,8 @@ impl<A: Allocator> Event<A> {
         }
     }
 
-    /// An equal event. An `Err` is out of memory.
+    /// An equal event. An `Err` is out of memory. It is inlined, so that the copy is made where it is kept.
+    #[inline(always)]
     pub fn copy(&self) -> Result<Event<A>, AllocError>
         ensures { IfOk result (λ e. e ≡ self.now) }
     {

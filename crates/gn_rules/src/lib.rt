@@ -3,6 +3,8 @@
 
 mod config;
 mod event;
+mod fresh;
+mod historian;
 mod laws;
 mod legality;
 mod limits;
@@ -18,6 +20,8 @@ mod statistics;
 
 pub use config::{BadConfig, Config, Field, Own};
 pub use event::{ConnId, Event, Ticket};
+pub use fresh::FreshRouter;
+pub use historian::Historian;
 pub use laws::{
     answers_fit, checked_answers_fit, counters_add_up, counters_count, live_connections_rise,
     output_is_untaken, runs_agree, runs_agree_so_far, runs_stay_legal, servent_route_is_last,

@@ -22,7 +22,7 @@ pub enum DropReason {
     RouteGone,
     /// Its route back leads to the connection that delivered it.
     BackToSender,
-    /// It came with TTL 0 or 1, or with Hops 255.
+    /// It came with TTL 0 or 1, with Hops 255, or with at most 1 left of its life, where that is limited.
     Expired,
 }
 

@@ -15,6 +15,7 @@ use crate::config::Config;
 use crate::event::{ConnId, Event, Ticket};
 use crate::receipt::{Receipt, Step};
 use crate::refusal::Refusal;
+use crate::reply::Reply;
 use crate::statistics::Stats;
 use gn_payload::Checked;
 use std::alloc::{AllocError, Allocator};
@@ -27,10 +28,9 @@ pub trait RouterCore<A: Allocator + Copy> {
     /// Its history, in order.
     ghost steps: { Self → List (Step A) };
 
-    /// A router with no steps. An `Err` is out of memory.
-    fn make(alloc: A, config: &Config) -> Result<Self, AllocError>
-        ensures settings { IfOk result (λ router. settings router ≡ config.now) }
-        ensures empty { IfOk result (λ router. steps router ≡ []) };
+    /// The answer to an event, which is no step: a reply, the rules' refusal, or out of memory where the rules give a reply.
+    fn answer_to(&self, event: &Event<A>) -> Result<Reply<A>, Refusal>
+        ensures { Finds result (answer (settings self.now) (reverse (steps self.now)) event.now) };
 
     /// Answers an event. A refusal is no step and changes nothing; out of memory is the last, and comes only where the
     /// rules give a reply.
@@ -90,15 +90,13 @@ pub trait RouterCore<A: Allocator + Copy> {
     fn config(&self) -> &Config
         ensures { result.now ≡ settings self.now };
 
-    /// The steps, in order.
-    fn history(&self) -> &[Step<A>]
-        ensures value { result.now ≡ steps self.now }
-        ensures legal { IsLegal (settings self.now) (reverse (steps self.now)) };
+    /// How many steps there are.
+    fn step_count(&self) -> u32
+        ensures { result ≡ length (steps self.now) };
 
-    /// The steps, in order, for keeps.
-    fn into_history(self) -> Vec<Step<A>, A>
-        ensures value { result.items ≡ steps self }
-        ensures legal { IsLegal (settings self) (reverse (steps self)) };
+    /// Each reply is the rules' answer after the steps before it.
+    fn is_legal(&self)
+        ensures { IsLegal (settings self.now) (reverse (steps self.now)) };
 
     /// How many steps had each reply.
     fn stats(&self) -> Stats

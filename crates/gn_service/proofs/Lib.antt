@@ -1,2 +1,3 @@
 mod RoleLemmas
 mod FaultLemmas
+mod ServedLemmas

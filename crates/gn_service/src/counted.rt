@@ -48,9 +48,10 @@ impl<'a, G, R, A: Allocator> Counted<'a, G, R, A> {
 
     /// Slows the run down where it is near to its last step, and stops it where that might be next.
     fn look(&self, owed: &Owed) {
-        match owed.nearness() {
+        let brake = self.stops.stop.brake();
+        match owed.nearness(brake.in_hand()) {
             Nearness::Far => {}
-            Nearness::Near => self.stops.stop.slow_down(),
+            Nearness::Near => brake.set(),
             Nearness::Due if self.stops.is_stopped() => {}
             Nearness::Due => self.stops.stop.set(),
         }
@@ -70,6 +71,9 @@ impl<'a, G: Gate, R: Wait + Clock, A: Allocator> Gate for Counted<'a, G, R, A> {
         self.watch.made(link, step);
         if let Some(owed) = &self.owed {
             owed.made(step);
+            if let Made::Admitted(_) | Made::Busy = step {
+                self.stops.stop.brake().offered(link);
+            }
             self.look(owed);
         }
     }

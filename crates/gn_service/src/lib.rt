@@ -2,10 +2,14 @@
 //! links, gates, actors, bodies and reports.
 #![tactic(auto)]
 
+mod asked;
+mod calling;
 mod counted;
+mod failing;
 mod live;
 mod owed;
 mod peers;
+mod registering;
 mod serve;
 mod serving;
 mod stop;

@@ -89,18 +89,21 @@ impl Owed {
         self.steps.fetch_add(steps, Ordering::SeqCst);
     }
 
-    /// How near the run is to its last step.
-    pub(crate) fn nearness(&self) -> Nearness {
+    /// How near the run is to its last step, where its readers have so many descriptors in hand.
+    pub(crate) fn nearness(&self, in_hand: u64) -> Nearness {
         let queues = seen(&self.connections).saturating_mul(self.out);
         let flying = seen(&self.in_flight).saturating_mul(self.links);
         let packets = seen(&self.waiting).min(queues).saturating_add(flying);
         let steps = self.steps.load(Ordering::SeqCst);
         let owed = steps.saturating_add(packets);
-        // a descriptor of each link: its admission, its route, and a packet for each link
-        let read = self.links.saturating_mul(self.links.saturating_add(2));
+        // a descriptor's admission, its route, and a packet for each link
+        let each = self.links.saturating_add(2);
+        // a descriptor of each link
+        let read = self.links.saturating_mul(each);
+        let held = owed.saturating_add(in_hand.saturating_mul(each));
         let nine_tenths = self.most / 10 * 9;
-        // one that each has in hand, and one that each has just given
-        if steps >= nine_tenths || owed.saturating_add(read.saturating_mul(2)) >= self.most {
+        // those in hand, one that each link has just given, and one that it is about to give
+        if steps >= nine_tenths || held.saturating_add(read.saturating_mul(2)) >= self.most {
             Nearness::Due
         } else if owed.saturating_add(read.saturating_mul(PIECE)) >= nine_tenths {
             Nearness::Near

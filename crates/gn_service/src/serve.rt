@@ -10,14 +10,16 @@ ghost use Rattle.gn_service.specs.Links.{origins_of, roles_of};
 ghost use Rattle.gn_tcp.specs.Tcp.{half_read, half_written};
 ghost use Rattle.gn_service.specs.Serves.{IsServed};
 
+use crate::calling::Callers;
 use crate::counted::Counted;
+use crate::failing::{call_fault, failed_at, failed_too};
 use crate::peers::{Peers, roles_of};
 use crate::serving::Serving;
 use crate::stop::Stop;
 use crate::stops::Stops;
 use gn_links::Watch;
 use gn_report::Report;
-use gn_rules::{Config, RouterCore};
+use gn_rules::{Config, Historian};
 use gn_tcp::{TcpReader, TcpWriter};
 use gn_threads::{RunFault, Stopped, run_arriving_kept};
 use std::alloc::Allocator;
@@ -27,22 +29,28 @@ use std::thread;
 use std::thread::Threads;
 use std::time::Clock;
 
-/// Runs a router over links to these peers, which it calls in order, and after them to so many others that call the
-/// listener. The bodies of each link start as soon as it has come; it waits for a caller without a time limit, for peers and
-/// what they send and take as `serving` says, and where it has failed for nobody. The listener is closed once the last has come,
+/// Runs a router over links to these peers, which it calls, and to so many others that call the listener. Peers are called all at
+/// once and beside the others: nobody waits for one that isn't there yet. The bodies of each link start as soon as it has come, those
+/// of a peer at once; it waits for a caller without a time limit, for peers and what they send and take as `serving` says, and
+/// where it has failed for nobody. The listener is closed once the last has come,
 /// so it is for one run. Where the system has no handle for a caller, it waits until it has. `watch` learns of each link as it
 /// comes, of a peer that can't be called, and each worker passes it before it routes. At most 256 links.
 ///
 /// Where it is stopped before all have come, the links of the others have no bytes, and nobody is told of them.
 ///
-/// Of several faults it answers the one that `run` of gn_threads does. Where a call, an accept or a split fails, the bodies that
-/// have started are ended and joined first, and their peers are let go at once.
+/// Of several faults it answers the one that `run` of gn_threads does, and of several peers that can't be called the first. Where a
+/// call, an accept or a split fails, the bodies that have started are ended and joined first, and their peers are let go at once.
 pub fn serve_on<
     's,
-    C: RouterCore<A> + Drop + Send,
+    C: Historian<A> + Drop + Send,
     G: Watch + Sync,
     A: Allocator + Copy + Send + Sync,
-    R: Threads + Wait + Net<Listener = TcpListener, Stream = TcpStream> + Clock + Sync,
+    R: Threads
+        + Wait
+        + Net<Listener = TcpListener, Stream = TcpStream>
+        + Clock
+        + AllocGlobal
+        + Sync,
 >(
     rt: &R,
     alloc: A,
@@ -77,10 +85,15 @@ pub fn serve_on<
 /// many steps as it may have where the fault is a full history.
 pub fn serve_kept<
     's,
-    C: RouterCore<A> + Drop + Send,
+    C: Historian<A> + Drop + Send,
     G: Watch + Sync,
     A: Allocator + Copy + Send + Sync,
-    R: Threads + Wait + Net<Listener = TcpListener, Stream = TcpStream> + Clock + Sync,
+    R: Threads
+        + Wait
+        + Net<Listener = TcpListener, Stream = TcpStream>
+        + Clock
+        + AllocGlobal
+        + Sync,
 >(
     rt: &R,
     alloc: A,
@@ -116,12 +129,12 @@ pub fn serve_kept<
     let stops = &stops;
     let ((), answer) = thread::join(
         rt,
-        || stops.watch(rt),
+        || watch_and_call(rt, serving, stops, watch),
         ||
             requires { accept + length peers.now ≤ most_links }
             ensures { IsServed config.entry.now peers.entry.now accept workers result }
         {
-            run_links::<C, G, A, R>(
+            run_called::<C, G, A, R>(
                 rt, alloc, listener, config, accept, peers, serving, workers, watch, stops,
             )
         },
@@ -129,13 +142,74 @@ pub fn serve_kept<
     answer
 }
 
-/// Runs a router over these links, which `stops` ends where the run is stopped.
-fn run_links<
-    's,
-    C: RouterCore<A> + Drop + Send,
+/// Watches a run, and calls its peers, until it is over.
+fn watch_and_call<
     G: Watch + Sync,
     A: Allocator + Copy + Send + Sync,
     R: Threads + Wait + Net<Listener = TcpListener, Stream = TcpStream> + Clock + Sync,
+>(rt: &R, serving: &Serving<'_>, stops: &Stops<'_, A>, watch: &G) {
+    let serving = *serving;
+    thread::scope(thread::scope_env(), rt, |scope| {
+        let callers = Callers {
+            net: rt,
+            scope,
+            serving,
+            stops,
+            watch,
+        };
+        callers.watch();
+    });
+}
+
+/// Runs a router over these links. Where one of its calls fails the run has failed, whatever it answers.
+fn run_called<
+    's,
+    C: Historian<A> + Drop + Send,
+    G: Watch + Sync,
+    A: Allocator + Copy + Send + Sync,
+    R: Threads
+        + Wait
+        + Net<Listener = TcpListener, Stream = TcpStream>
+        + Clock
+        + AllocGlobal
+        + Sync,
+>(
+    rt: &R,
+    alloc: A,
+    listener: &TcpListener,
+    config: &Config,
+    accept: u32,
+    peers: &[SocketAddr],
+    serving: &Serving<'s>,
+    workers: u32,
+    watch: &G,
+    stops: &Stops<'_, A>,
+) -> Result<Report<TcpReader<'s>, TcpWriter, A>, Stopped<A>>
+    requires few { accept + length peers.now ≤ most_links }
+    ensures { IsServed config.now peers.now accept workers result }
+{
+    let answer = run_links::<C, G, A, R>(
+        rt, alloc, listener, config, accept, peers, serving, workers, watch, stops,
+    );
+    match (answer, call_fault(stops, peers.len())) {
+        (answer, None) => answer,
+        (Ok(report), Some(fault)) => Err(failed_at(report, fault)),
+        (Err(stopped), Some(fault)) => Err(failed_too(stopped, fault)),
+    }
+}
+
+/// Runs a router over these links, which `stops` ends where the run is stopped.
+fn run_links<
+    's,
+    C: Historian<A> + Drop + Send,
+    G: Watch + Sync,
+    A: Allocator + Copy + Send + Sync,
+    R: Threads
+        + Wait
+        + Net<Listener = TcpListener, Stream = TcpStream>
+        + Clock
+        + AllocGlobal
+        + Sync,
 >(
     rt: &R,
     alloc: A,
@@ -174,6 +248,7 @@ fn run_links<
     let gate = Counted::new(rt, watch, stops, numbers, links as u32);
     let arrivals = Peers {
         net: rt,
+        cells: rt.alloc(),
         listener,
         called: peers,
         next: 0,

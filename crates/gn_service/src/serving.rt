@@ -1,6 +1,7 @@
 //! How long a run over TCP goes on, and waits for its peers.
 
 use crate::stop::Stop;
+use gn_tcp::Brake;
 use std::sync::atomic::AtomicBool;
 use std::time::Duration;
 
@@ -48,7 +49,7 @@ impl<'s> Serving<'s> {
     }
 
     /// What is set once the run's readers have to read little at a time, where it may be.
-    pub(crate) fn brake(&self) -> Option<&'s AtomicBool> {
+    pub(crate) fn brake(&self) -> Option<&'s Brake> {
         Some(self.stop?.brake())
     }
 }

@@ -2,6 +2,7 @@
 
 ghost use Rattle.std.specs.Prelude.{◌≡◌};
 
+use gn_tcp::Brake;
 use std::marker::Model;
 use std::sync::Wait;
 use std::sync::atomic::{AtomicBool, Ordering};
@@ -18,8 +19,8 @@ pub struct Stop {
     limit: Option<Duration>,
     is_early: bool,
     is_set: AtomicBool,
-    /// Whether the run's readers read little at a time.
-    is_slow: AtomicBool,
+    /// What has the run's readers read little at a time.
+    brake: Brake,
     waiter: Parker,
 }
 
@@ -42,7 +43,7 @@ impl Stop {
             limit,
             is_early,
             is_set: AtomicBool::new(false),
-            is_slow: AtomicBool::new(false),
+            brake: Brake::new(),
             waiter: Parker::new(),
         }
     }
@@ -68,13 +69,8 @@ impl Stop {
     }
 
     /// What is set once the run's readers have to read little at a time.
-    pub(crate) fn brake(&self) -> &AtomicBool {
-        &self.is_slow
-    }
-
-    /// The run's readers read little at a time from now on.
-    pub(crate) fn slow_down(&self) {
-        self.is_slow.store(true, Ordering::SeqCst);
+    pub(crate) fn brake(&self) -> &Brake {
+        &self.brake
     }
 
     /// Has who waits look again.

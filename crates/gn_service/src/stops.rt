@@ -1,12 +1,13 @@
 //! How a run over TCP is stopped before its peers end it, and how its links are let go.
 
+use crate::asked::Asked;
 use crate::live::LiveLinks;
 use crate::stop::Stop;
 use gn_links::Half;
 use gn_tcp::{ListenerStopper, TcpStopper};
 use std::alloc::{AllocError, Allocator, Global};
 use std::net::TcpListener;
-use std::sync::atomic::{AtomicBool, Ordering};
+use std::sync::atomic::{AtomicBool, AtomicU64, Ordering};
 use std::sync::{Mutex, Wait};
 use std::time::{Clock, Duration, Instant};
 
@@ -21,7 +22,15 @@ pub(crate) struct Stops<'a, A: Allocator = Global> {
     /// `None`, where the system gave no handle for it.
     listener: Option<ListenerStopper>,
     links: Mutex<LiveLinks<A>>,
+    /// The calls that nobody has begun yet.
+    calls: Mutex<Vec<Asked, A>>,
+    /// How many calls were asked for.
+    asked: AtomicU64,
     has_failed: AtomicBool,
+    /// The least link whose peer can't be called; `u64::MAX`: there is none.
+    uncalled: AtomicU64,
+    /// Whether memory was refused for a called link.
+    lacks_memory: AtomicBool,
     is_over: AtomicBool,
 }
 
@@ -33,20 +42,83 @@ impl<'a, A: Allocator> Stops<'a, A> {
         stop: &'a Stop,
         grace: Duration,
         listener: &TcpListener,
-    ) -> Self {
+    ) -> Self
+    where
+        A: Copy,
+    {
         Stops {
             stop,
             grace,
             begun: Instant::now(rt).ok(),
             listener: ListenerStopper::of(listener).ok(),
             links: Mutex::new(LiveLinks::new(alloc)),
+            calls: Mutex::new(Vec::new(alloc)),
+            asked: AtomicU64::new(0),
             has_failed: AtomicBool::new(false),
+            uncalled: AtomicU64::new(u64::MAX),
+            lacks_memory: AtomicBool::new(false),
             is_over: AtomicBool::new(false),
         }
     }
 
     pub(crate) fn is_stopped(&self) -> bool {
         self.stop.is_set()
+    }
+
+    /// Whether no peer is called any more: the run is stopped, and not because one can't be called, at which each of the others is called
+    /// to its end.
+    pub(crate) fn lets_go(&self) -> bool {
+        self.is_stopped() && self.uncalled().is_none()
+    }
+
+    /// The least link whose peer can't be called.
+    pub(crate) fn uncalled(&self) -> Option<u32> {
+        u32::try_from(self.uncalled.load(Ordering::SeqCst)).ok()
+    }
+
+    /// Whether memory was refused for a called link.
+    pub(crate) fn lacks_memory(&self) -> bool {
+        self.lacks_memory.load(Ordering::SeqCst)
+    }
+
+    /// A peer is to be called by somebody.
+    pub(crate) fn ask<R: Wait>(&self, rt: &R, asked: Asked) -> Result<(), AllocError> {
+        self.calls.lock(rt).push(asked)?;
+        self.asked.fetch_add(1, Ordering::SeqCst);
+        self.stop.wake();
+        Ok(())
+    }
+
+    /// How many calls were asked for.
+    pub(crate) fn asked(&self) -> u64 {
+        self.asked.load(Ordering::SeqCst)
+    }
+
+    /// A call that nobody has begun, which the caller begins.
+    pub(crate) fn next_call<R: Wait>(&self, rt: &R) -> Option<Asked> {
+        self.calls.lock(rt).pop()
+    }
+
+    /// The peer of this link can't be called, for which the run fails.
+    pub(crate) fn give_up_call(&self, link: u32) {
+        self.uncalled.fetch_min(u64::from(link), Ordering::SeqCst);
+        self.fail();
+    }
+
+    /// Memory was refused for a called link, for which the run fails.
+    pub(crate) fn lack_memory(&self) {
+        self.lacks_memory.store(true, Ordering::SeqCst);
+        self.fail();
+    }
+
+    /// Whether the run is over.
+    pub(crate) fn is_over(&self) -> bool {
+        self.is_over.load(Ordering::SeqCst)
+    }
+
+    /// Whether the run has failed.
+    pub(crate) fn has_failed(&self) -> bool {
+        self.has_failed.load(Ordering::SeqCst)
     }
 
     /// Whether who waits for a caller can be called away.
@@ -109,7 +181,7 @@ impl<'a, A: Allocator> Stops<'a, A> {
     /// The run is stopped: nobody is accepted, and its links are shut once the grace is over, or now, where it has failed.
     fn stop_links<R: Wait>(&self, rt: &R, now: Option<Duration>) {
         self.stop.set();
-        let until = if self.has_failed.load(Ordering::SeqCst) {
+        let until = if self.has_failed() {
             Duration::ZERO
         } else {
             self.grace_end(now)
@@ -118,19 +190,13 @@ impl<'a, A: Allocator> Stops<'a, A> {
         self.close_listener();
     }
 
-    /// Waits until the run is over. Meanwhile it stops the run where its time is over, and shuts each link whose peer has had its
-    /// grace.
-    pub(crate) fn watch<R: Wait + Clock>(&self, rt: &R) {
-        for _ in rt.forever() {
-            if self.is_over.load(Ordering::SeqCst) {
-                return;
-            }
-            let now = self.now(rt);
-            if self.is_stopped() || self.stop.is_due(now) {
-                self.stop_links(rt, now);
-            }
-            let next = self.links.lock(rt).shut_due(now);
-            self.stop.wait(rt, now, next);
+    /// Stops the run where its time is over, shuts each link whose peer has had its grace, and waits until there is more to do.
+    pub(crate) fn turn<R: Wait + Clock>(&self, rt: &R) {
+        let now = self.now(rt);
+        if self.is_stopped() || self.stop.is_due(now) {
+            self.stop_links(rt, now);
         }
+        let next = self.links.lock(rt).shut_due(now);
+        self.stop.wait(rt, now, next);
     }
 }

@@ -13,6 +13,7 @@ use gn_wire::Descriptor;
 use serde_json::{Map, Value, put};
 use std::alloc::{AllocError, Global};
 
+/// Adds the members of a descriptor.
 fn put_descriptor(
     alloc: Global,
     members: &mut Members,
@@ -40,6 +41,7 @@ pub(crate) fn descriptor_value(alloc: Global, descriptor: &Descriptor) -> Result
     Ok(Value::Object(members))
 }
 
+/// Adds the members of a send.
 fn put_sending(alloc: Global, members: &mut Members, sending: &Sending) -> Result<(), AllocError>
     requires { members_view members.old.entries ≡ no_members }
     ensures { OnOk result (object (members_view members.new.entries) ≡ sending_data sending.now) }
@@ -50,6 +52,7 @@ fn put_sending(alloc: Global, members: &mut Members, sending: &Sending) -> Resul
     put_flag(alloc, members, "queued", sending.queued)
 }
 
+/// A send, with its descriptor.
 fn sending_value(alloc: Global, sending: &Sending) -> Result<Value, AllocError>
     ensures { IfOk result (λ value. view value ≡ sending_data sending.now) }
 {

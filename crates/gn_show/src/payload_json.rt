@@ -16,6 +16,7 @@ use gn_wire::Kind;
 use serde_json::{Map, Value, put};
 use std::alloc::{AllocError, Global};
 
+/// Adds the members of a Pong.
 fn put_pong(alloc: Global, members: &mut Members, pong: &Pong) -> Result<(), AllocError>
     requires { members_view members.old.entries ≡ no_members }
     ensures { OnOk result ((bytes : List ℕ) → IsPong bytes pong.now
@@ -27,6 +28,7 @@ fn put_pong(alloc: Global, members: &mut Members, pong: &Pong) -> Result<(), All
     put_number(alloc, members, "port", u32::from(pong.port))
 }
 
+/// Adds the members of a Push.
 fn put_push(alloc: Global, members: &mut Members, push: &Push) -> Result<(), AllocError>
     requires { members_view members.old.entries ≡ no_members }
     ensures { OnOk result ((bytes : List ℕ) → IsPush bytes push.now
@@ -38,6 +40,7 @@ fn put_push(alloc: Global, members: &mut Members, push: &Push) -> Result<(), All
     put_hex(alloc, members, "servent", &push.servent.0)
 }
 
+/// Adds the members of a Query.
 fn put_query(alloc: Global, members: &mut Members, query: &Query<'_>) -> Result<(), AllocError>
     requires { members_view members.old.entries ≡ no_members }
     ensures { OnOk result (object (members_view members.new.entries) ≡ query_data (query_fields query.now)) }
@@ -50,6 +53,7 @@ fn put_query(alloc: Global, members: &mut Members, query: &Query<'_>) -> Result<
     }
 }
 
+/// Adds the members of one result of a Query Hit.
 fn put_result(alloc: Global, members: &mut Members, found: &HitResult<'_>) -> Result<(), AllocError>
     requires { members_view members.old.entries ≡ no_members }
     ensures { OnOk result (object (members_view members.new.entries) ≡ result_data (result_fields found.now)) }
@@ -63,6 +67,7 @@ fn put_result(alloc: Global, members: &mut Members, found: &HitResult<'_>) -> Re
     }
 }
 
+/// One result of a Query Hit.
 fn result_value(alloc: Global, found: &HitResult<'_>) -> Result<Value, AllocError>
     ensures { IfOk result (λ value. view value ≡ result_data (result_fields found.now)) }
 {
@@ -71,6 +76,7 @@ fn result_value(alloc: Global, found: &HitResult<'_>) -> Result<Value, AllocErro
     Ok(Value::Object(members))
 }
 
+/// The results of a Query Hit, in order.
 fn results_value(alloc: Global, hit: &QueryHit<'_>) -> Result<Vec<Value>, AllocError>
     ensures { IfOk result (λ values. items_view values.items ≡ items_of (map result_data hit.now.results)) }
 {
@@ -81,6 +87,7 @@ fn results_value(alloc: Global, hit: &QueryHit<'_>) -> Result<Vec<Value>, AllocE
     Ok(values)
 }
 
+/// Adds the members of a Query Hit.
 fn put_hit(alloc: Global, members: &mut Members, hit: &QueryHit<'_>) -> Result<(), AllocError>
     requires { members_view members.old.entries ≡ no_members }
     ensures { OnOk result (object (members_view members.new.entries) ≡ hit_data hit.now) }
@@ -94,6 +101,7 @@ fn put_hit(alloc: Global, members: &mut Members, hit: &QueryHit<'_>) -> Result<(
     put_hex(alloc, members, "trailer_hex", hit.trailer())
 }
 
+/// Adds the bytes of a payload without a reading.
 fn put_unread(alloc: Global, members: &mut Members, payload: &[u8]) -> Result<(), AllocError>
     requires { members_view members.old.entries ≡ no_members }
     ensures { OnOk result (object (members_view members.new.entries) ≡ unread_data payload.now) }
@@ -101,6 +109,7 @@ fn put_unread(alloc: Global, members: &mut Members, payload: &[u8]) -> Result<()
     put_hex(alloc, members, "unread_hex", payload)
 }
 
+/// Adds the members of a payload of this kind.
 #[tactic(auto, using(crate::proofs::ValueLemmas::readings))]
 fn put_payload(
     alloc: Global,

@@ -51,6 +51,7 @@ fn push_aligned(out: &mut Vec<u8>, width: usize, text: &[u8]) -> Result<(), Allo
     push_spaces(out, width.saturating_sub(text.len()))
 }
 
+/// Appends an event in words.
 fn push_event(alloc: Global, out: &mut Vec<u8>, event: &Event) -> Result<(), AllocError>
     ensures { OnOk result (out.new.items ≡ out.old.items ++ event_words event.now) }
 {
@@ -72,6 +73,7 @@ fn push_event(alloc: Global, out: &mut Vec<u8>, event: &Event) -> Result<(), All
     }
 }
 
+/// Appends sends, in order.
 fn push_sends(alloc: Global, out: &mut Vec<u8>, sends: &[Sending]) -> Result<(), AllocError>
     ensures { OnOk result (out.new.items ≡ out.old.items ++ sends_words sends.now) }
 {
@@ -84,6 +86,7 @@ fn push_sends(alloc: Global, out: &mut Vec<u8>, sends: &[Sending]) -> Result<(),
     Ok(())
 }
 
+/// Appends a reply in words.
 fn push_reply(alloc: Global, out: &mut Vec<u8>, reply: &Reply) -> Result<(), AllocError>
     ensures { OnOk result (out.new.items ≡ out.old.items ++ reply_words reply.now) }
 {

@@ -19,6 +19,7 @@ use gn_wire::{Descriptor, Guid, Kind};
 use serde_json::Value;
 use std::alloc::{AllocError, Global};
 
+/// Appends the first four bytes of an ID.
 fn push_id(out: &mut Vec<u8>, id: Guid) -> Result<(), AllocError>
     ensures { OnOk result (out.new.items ≡ out.old.items ++ id_words id) }
 {
@@ -26,6 +27,7 @@ fn push_id(out: &mut Vec<u8>, id: Guid) -> Result<(), AllocError>
     out.extend_from_slice(b"..")
 }
 
+/// Appends an address and its port.
 fn push_place(out: &mut Vec<u8>, ip: [u8; 4], port: u16) -> Result<(), AllocError>
     ensures { OnOk result (out.new.items ≡ out.old.items ++ place_words ip port) }
 {
@@ -96,6 +98,7 @@ fn push_text(alloc: Global, out: &mut Vec<u8>, text: &[u8]) -> Result<(), AllocE
     }
 }
 
+/// Appends what a Pong says.
 fn push_pong(out: &mut Vec<u8>, pong: &Pong) -> Result<(), AllocError>
     ensures { OnOk result ((bytes : List ℕ) → IsPong bytes pong.now
         → out.new.items ≡ out.old.items ++ pong_words bytes) }
@@ -109,6 +112,7 @@ fn push_pong(out: &mut Vec<u8>, pong: &Pong) -> Result<(), AllocError>
     out.extend_from_slice(b" kB")
 }
 
+/// Appends what a Push says.
 fn push_push(out: &mut Vec<u8>, push: &Push) -> Result<(), AllocError>
     ensures { OnOk result ((bytes : List ℕ) → IsPush bytes push.now
         → out.new.items ≡ out.old.items ++ push_words bytes) }
@@ -121,6 +125,7 @@ fn push_push(out: &mut Vec<u8>, push: &Push) -> Result<(), AllocError>
     push_place(out, push.ip, push.port)
 }
 
+/// Appends what a Query says.
 fn push_query(alloc: Global, out: &mut Vec<u8>, query: &Query<'_>) -> Result<(), AllocError>
     ensures { OnOk result (out.new.items ≡ out.old.items ++ query_words (query_fields query.now)) }
 {
@@ -130,6 +135,7 @@ fn push_query(alloc: Global, out: &mut Vec<u8>, query: &Query<'_>) -> Result<(),
     push_number(out, u32::from(query.speed))
 }
 
+/// Appends one result of a Query Hit.
 fn push_result(alloc: Global, out: &mut Vec<u8>, found: &HitResult<'_>) -> Result<(), AllocError>
     ensures { OnOk result (out.new.items ≡ out.old.items ++ result_words (result_fields found.now)) }
 {
@@ -142,6 +148,7 @@ fn push_result(alloc: Global, out: &mut Vec<u8>, found: &HitResult<'_>) -> Resul
     out.extend_from_slice(b" bytes")
 }
 
+/// Appends the results of a Query Hit, in order.
 fn push_results(alloc: Global, out: &mut Vec<u8>, hit: &QueryHit<'_>) -> Result<(), AllocError>
     ensures { OnOk result (out.new.items ≡ out.old.items ++ results_words hit.now.results) }
 {
@@ -151,6 +158,7 @@ fn push_results(alloc: Global, out: &mut Vec<u8>, hit: &QueryHit<'_>) -> Result<
     Ok(())
 }
 
+/// Appends what a Query Hit says.
 fn push_hit(alloc: Global, out: &mut Vec<u8>, hit: &QueryHit<'_>) -> Result<(), AllocError>
     ensures { OnOk result (out.new.items ≡ out.old.items ++ hit_words hit.now) }
 {
@@ -171,6 +179,7 @@ fn push_unread(out: &mut Vec<u8>, payload: &[u8]) -> Result<(), AllocError>
     push_hex(out, payload)
 }
 
+/// Appends what the payload of a descriptor of this kind says.
 #[tactic(auto, using(crate::proofs::ValueLemmas::readings))]
 fn push_payload(
     alloc: Global,
@@ -202,6 +211,7 @@ fn push_payload(
     }
 }
 
+/// Appends a kind in words.
 fn push_kind(out: &mut Vec<u8>, kind: Kind) -> Result<(), AllocError>
     ensures { OnOk result (out.new.items ≡ out.old.items ++ kind_words kind) }
 {

@@ -69,6 +69,7 @@ fn put_whole(
     put_text(alloc, members, "kind", kind)
 }
 
+/// An Admit, with its connection and its descriptor.
 fn put_admit(
     alloc: Global,
     members: &mut Members,
@@ -84,6 +85,7 @@ fn put_admit(
     put_text(alloc, members, "kind", "admit")
 }
 
+/// Adds the members of an event.
 fn put_event(alloc: Global, members: &mut Members, event: &Event) -> Result<(), AllocError>
     requires { members_view members.old.entries ≡ no_members }
     ensures { OnOk result (object (members_view members.new.entries) ≡ event_data event.now) }
@@ -98,6 +100,7 @@ fn put_event(alloc: Global, members: &mut Members, event: &Event) -> Result<(), 
     }
 }
 
+/// An event as an object.
 fn event_value(alloc: Global, event: &Event) -> Result<Value, AllocError>
     ensures { IfOk result (λ value. view value ≡ event_data event.now) }
 {
@@ -106,6 +109,7 @@ fn event_value(alloc: Global, event: &Event) -> Result<Value, AllocError>
     Ok(Value::Object(members))
 }
 
+/// A reply Closed, with the number of packets that were discarded.
 fn put_closed(alloc: Global, members: &mut Members, count: u32) -> Result<(), AllocError>
     requires { members_view members.old.entries ≡ no_members }
     ensures { OnOk result (object (members_view members.new.entries) ≡ reply_data (Closed count)) }
@@ -114,6 +118,7 @@ fn put_closed(alloc: Global, members: &mut Members, count: u32) -> Result<(), Al
     put_text(alloc, members, "kind", "closed")
 }
 
+/// A reply Routed, with its sends.
 fn put_routed(
     alloc: Global,
     members: &mut Members,
@@ -129,6 +134,7 @@ fn put_routed(
     put(members, alloc, "sends", Value::Array(sends))
 }
 
+/// A reply Dropped, with its reason.
 fn put_dropped(alloc: Global, members: &mut Members, reason: DropReason) -> Result<(), AllocError>
     requires { members_view members.old.entries ≡ no_members }
     ensures { OnOk result (object (members_view members.new.entries) ≡ reply_data (Dropped reason)) }
@@ -137,6 +143,7 @@ fn put_dropped(alloc: Global, members: &mut Members, reason: DropReason) -> Resu
     put_text(alloc, members, "reason", reason_word(reason))
 }
 
+/// A reply Sent, with its sends.
 fn put_sent(alloc: Global, members: &mut Members, sends: &[Sending]) -> Result<(), AllocError>
     requires { members_view members.old.entries ≡ no_members }
     ensures { OnOk result (object (members_view members.new.entries) ≡ reply_data (Sent sends.now)) }
@@ -146,6 +153,7 @@ fn put_sent(alloc: Global, members: &mut Members, sends: &[Sending]) -> Result<(
     put(members, alloc, "sends", Value::Array(sends))
 }
 
+/// Adds the members of a reply.
 fn put_reply(alloc: Global, members: &mut Members, reply: &Reply) -> Result<(), AllocError>
     requires { members_view members.old.entries ≡ no_members }
     ensures { OnOk result (object (members_view members.new.entries) ≡ reply_data reply.now) }
@@ -164,6 +172,7 @@ fn put_reply(alloc: Global, members: &mut Members, reply: &Reply) -> Result<(), 
     }
 }
 
+/// A reply as an object.
 fn reply_value(alloc: Global, reply: &Reply) -> Result<Value, AllocError>
     ensures { IfOk result (λ value. view value ≡ reply_data reply.now) }
 {
@@ -172,6 +181,7 @@ fn reply_value(alloc: Global, reply: &Reply) -> Result<Value, AllocError>
     Ok(Value::Object(members))
 }
 
+/// Adds the members of a step with its index, counted from 0.
 fn put_step(alloc: Global, members: &mut Members, index: u32, step: &Step) -> Result<(), AllocError>
     requires { members_view members.old.entries ≡ no_members }
     ensures { OnOk result (object (members_view members.new.entries) ≡ step_data index step.now) }

@@ -1,8 +1,8 @@
 //! The steps of a history, shown one after another.
 
-ghost use Rattle.std.specs.Prelude.{◌≡◌, ◌++◌, IfErr, IfOk, IsOk, OnErr, OnOk};
+ghost use Rattle.std.specs.Prelude.{◌≡◌, ◌<◌, ◌++◌, length, IfErr, IfOk, IsOk, OnErr, OnOk};
 ghost use Rattle.gn_capture.specs.Histories.{history_of, steps_left};
-ghost use Rattle.gn_io.specs.Parts.{AppendsPart, LeavesToWrite};
+ghost use Rattle.gn_io.specs.Parts.{AppendsPart, LeavesToWrite, block_size};
 ghost use Rattle.gn_io.specs.Streams.{NoWriteFailed};
 ghost use Rattle.gn_replay.specs.Runs.{IsPlayFault};
 ghost use Rattle.gn_show.specs.Shown.{AppendsLines, AppendsLinesPart, AppendsShown, AppendsShownPart, line_of};
@@ -32,6 +32,7 @@ fn line_of(alloc: Global, form: Form, index: u32, step: &Step) -> Result<Vec<u8>
 fn write_step<W: Sink>(line: &[u8], block: &mut Block, sink: &mut W) -> Result<(), ReplayFault>
     ensures ok { OnOk result (LeavesToWrite (W.state sink.old).written (W.state sink.new).written block.new
         (block.old ++ line.now)) }
+    ensures small { OnOk result (length block.new < block_size) }
     ensures err { OnErr result (AppendsPart (W.state sink.old).written (W.state sink.new).written
         (block.old ++ line.now)) }
     ensures cause { IfErr result (λ fault. IsPlayFault fault (W.state sink.old) (W.state sink.new)) }

@@ -1,5 +1,5 @@
 -- What a table of rings gives, and what it keeps.
-use Rattle.std.proofs.Common.{◌≡◌, ◌<◌, ◌≤◌, ◌==◌, ℕ, Bool, true, false, not, cond, nat_eq, nat_lt, List, [], ◌∷◌, ◌++◌, map, filter, get_or, length, Some, None, Result, Ok, Err, IsOk, OnOk, IfErr, refl, sym, ap, ◌∙◌, arith, length-append, length-drop, ◌+◌, subst, drop, ⊎_elim, ◌↔◌}
+use Rattle.std.proofs.Common.{◌≡◌, ◌<◌, ◌≤◌, ◌==◌, ℕ, Bool, true, false, not, cond, nat_eq, nat_lt, List, [], ◌∷◌, ◌++◌, map, filter, get_or, length, Option, Some, None, Result, Ok, Err, IsOk, OnOk, IfErr, refl, sym, ap, ◌∙◌, arith, length-append, length-drop, ◌+◌, subst, drop, ⊎_elim, ◌↔◌}
 use Rattle.std.specs.Option.{option_map, IfSome}
 use Rattle.std.specs.List.{All, IsDistinct, slice_get}
 use Rattle.std.specs.List.Sorted.{IsStrictlyIncreasing}
@@ -7,8 +7,8 @@ use Rattle.std.specs.Map.{lookup, keys_of, values_of, set_value, remove_entry}
 use Rattle.std.specs.Cmp.{nat_eq_equiv}
 use Rattle.std.specs.Ordering.{nat_cmp}
 use Rattle.std.proofs.lemmas.Bool.{cases_lt, lt-ltb, le-ltb, ltb-true}
-use Rattle.std.proofs.lemmas.List.{map-append, length-map, get_or_append_left, get_or_at}
-use Rattle.std.proofs.lemmas.List.Elements.{All-push, All-head, All-tail, All-map, All-nil, All-cons}
+use Rattle.std.proofs.lemmas.List.{map-append, length-map, get_or-map, get_or_append_left, get_or_at}
+use Rattle.std.proofs.lemmas.List.Elements.{All-get_or, All-push, All-head, All-tail, All-map, All-nil, All-cons}
 use Rattle.std.proofs.lemmas.List.Kept.{IsStrictlyIncreasing-filter}
 use Rattle.std.proofs.lemmas.Option.{slice_get-map, slice_get_read}
 use Rattle.std.proofs.lemmas.Map.{keys-set_value, length-set_value, lookup-none}
@@ -160,6 +160,26 @@ pub number_at : (es ds : List (ℕ × Buffer Packet)) (i : ℕ) (e : ℕ × Buff
 number_at es ds i e are low is =
     let at : slice_get ds i ≡ Some e = slice_get_read ds (length ds) i e refl (ltb-true i (length ds) (sym low)) is in
     sym (number_is es i ∙ ap (λ xs. option_map (λ (x : ℕ × Buffer Packet). x.0) (slice_get xs i)) (sym are) ∙ ap (option_map (λ (x : ℕ × Buffer Packet). x.0)) at)
+
+-- the connection and the count of the row at a place of the entries ds, which are these
+pub row_at : (es ds : List (ℕ × Buffer Packet)) (i : ℕ) (e : ℕ × Buffer Packet) (n : ℕ) → ds ≡ es → true ≡ nat_lt i (length ds) → e ≡ get_or ds i e → n ≡ length e.1.items
+    → ◌≡◌ {A = Option (ℕ × ℕ)} (Some (e.0, n)) (option_map (λ r. (r.0, length r.1)) (slice_get (rows_of es) i))
+row_at es ds i e n are low is many =
+    let at : slice_get ds i ≡ Some e = slice_get_read ds (length ds) i e refl (ltb-true i (length ds) (sym low)) is in
+    let pair : ℕ → ℕ × ℕ = λ m. (e.0, m) in
+    let count : ℕ × List Packet → ℕ × ℕ = λ r. (r.0, length r.1) in
+    ap (λ m. Some (pair m)) many
+    ∙ sym (ap (option_map count)
+    (slice_get-map row_of es i ∙ ap (λ xs. option_map row_of (slice_get xs i)) (sym are) ∙ ap (option_map row_of) at))
+
+-- the ring at a place has no more packets than there is room
+pub ring_at : (most room : ℕ) (es ds : List (ℕ × Buffer Packet)) (i : ℕ) (e : ℕ × Buffer Packet) → AreRings es most room → ds ≡ es → true ≡ nat_lt i (length ds) → e ≡ get_or ds i e
+    → IsRing room e.1
+ring_at most room es ds i e rings are low is =
+    let within : i < length es = omega (arith, ltb-true i (length ds) (sym low), ap length are) in
+    let at : get_or (values_of es) i e.1 ≡ e.1 =
+    get_or-map (λ (x : ℕ × Buffer Packet). x.1) es i e e.1 within ∙ ap (λ (xs : List (ℕ × Buffer Packet)). (get_or xs i e).1) (sym are) ∙ ap (λ (x : ℕ × Buffer Packet). x.1) (sym is) in
+    subst (IsRing room) at (All-get_or (IsRing room) (values_of es) i e.1 (omega (arith, within, length-map es (λ (x : ℕ × Buffer Packet). x.1))) rings.rings)
 
 -- ---- a ring that is written
 

@@ -5,3 +5,7 @@ pub mod Origins
 pub mod Outputs
 pub mod Remembered
 pub mod Servents
+-- Words of the proofs.
+pub mod Followed
+pub mod Sent
+pub mod Tabled

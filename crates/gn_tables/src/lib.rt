@@ -1,13 +1,20 @@
-//! The router's four tables: what it has seen, the routes to servents, what waits for its neighbours, what is in flight.
+//! The store of a router that answers out of tables: what it has seen, the routes to servents, what waits for its neighbours,
+//! what is in flight.
 #![tactic(auto)]
 
 mod counts;
 mod flights;
+mod follow;
 mod neighbours;
 mod seen;
 mod servents;
+mod store;
+mod table_router;
+mod tables;
 
 pub use flights::{Flight, Flights};
 pub use neighbours::Neighbours;
 pub use seen::SeenTable;
 pub use servents::ServentTable;
+pub use store::TableStore;
+pub use table_router::TableRouter;

@@ -78,6 +78,14 @@ impl<A: Allocator + Copy> Neighbours<A> {
         Some(*connection)
     }
 
+    /// The connection at this place, counted from 0, of those that are there, ascending, and how many packets wait for it.
+    pub fn at(&self, index: u32) -> Option<(u32, u32)>
+        ensures { result ≡ option_map (λ r. (r.0, length r.1)) (slice_get self.now.rows index) }
+    {
+        let (connection, ring) = self.rows.get(index as usize)?;
+        Some((*connection, ring.len() as u32))
+    }
+
     /// How many packets wait for the connection. `None` where it isn't there.
     pub fn waiting(&self, connection: u32) -> Option<u32>
         ensures { result ≡ option_map length (output_of connection self.now) }
@@ -92,6 +100,15 @@ impl<A: Allocator + Copy> Neighbours<A> {
     {
         let place = place_of(&self.rows, connection)?;
         self.rows[place].1.front()
+    }
+
+    /// The packet that has waited longest for the connection, where one waits. `None` where it isn't there.
+    pub fn front(&self, connection: u32) -> Option<Option<&Descriptor<A>>>
+        ensures { option_map option_copied result
+            ≡ option_map (λ packets. slice_get packets 0) (output_of connection self.now) }
+    {
+        let place = place_of(&self.rows, connection)?;
+        Some(self.rows[place].1.front())
     }
 
     /// Adds a connection that is greater than all there, and makes the room that its packets fill. An `Err` is out of

@@ -14,6 +14,7 @@ use std::alloc::{AllocError, Allocator, Global};
 use std::hash::{BuildHasherDefault, FoldHasher};
 use std::marker::Model;
 
+/// The source of each key that is remembered.
 type Sources<A> = IndexMap<Key, u32, BuildHasherDefault<FoldHasher>, A>;
 
 /// The keys that were kept last, newest first, each with the connection that it came from. Keys are hashed with a fixed

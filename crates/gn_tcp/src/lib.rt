@@ -1,6 +1,8 @@
 //! Links over TCP, on the loopback address alone.
 #![tactic(auto)]
 
+mod brake;
+mod call;
 mod link;
 mod origin;
 mod patience;
@@ -11,6 +13,8 @@ mod unmet;
 mod ways;
 mod writer;
 
+pub use brake::Brake;
+pub use call::{Call, TcpCall};
 pub use link::{TcpLink, listen};
 pub use origin::TcpOrigin;
 pub use reader::TcpReader;

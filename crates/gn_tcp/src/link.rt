@@ -4,6 +4,8 @@ ghost use Rattle.std.specs.Prelude.{◌≡◌, IfOk, IfSome, None, OnOk, Some, t
 ghost use Rattle.gn_shake.specs.declared.role.Role.TheVariants.{Accepting, Calling};
 ghost use Rattle.gn_tcp.specs.Tcp.{IsLoopback};
 
+use crate::brake::Brake;
+use crate::call::TcpCall;
 use crate::origin::TcpOrigin;
 use crate::patience::Patience;
 use crate::reader::TcpReader;
@@ -14,11 +16,13 @@ use crate::ways::Ways;
 use crate::writer::TcpWriter;
 use gn_links::{Link, LinkFault};
 use gn_shake::Role;
+use std::alloc::{AllocError, Global};
 use std::io::ErrorKind;
 use std::marker::Model;
 use std::net::{Ipv4Addr, Net, SocketAddr, TcpListener, TcpStream};
 use std::snapshot::Snapshot;
 use std::sync::atomic::AtomicBool;
+use std::sync::{Arc, Wait};
 use std::time::Duration;
 
 /// Listens on this port of 127.0.0.1; on one that the system picks where the port is 0.
@@ -32,7 +36,7 @@ pub fn listen<N: Net<Listener = TcpListener, Stream = TcpStream>>(
     }
 }
 
-/// A connected socket, how the link over it begins, and where it comes from; or a link whose peer never came.
+/// A connected socket, how the link over it begins, and where it comes from; or a link whose peer is still called, or never came.
 #[derive(Drop)]
 pub struct TcpLink<'s> {
     socket: Socket,
@@ -76,6 +80,17 @@ impl TcpLink<'static> {
             None => SocketAddr::from((Ipv4Addr::UNSPECIFIED, 0)),
         };
         TcpLink::over(Socket::Missing, peer, role, called)
+    }
+
+    /// A link to a peer that is called beside it, and by what it learns how the call ended: its halves wait for that. The link's
+    /// number is 0.
+    pub fn called(alloc: Global, peer: SocketAddr) -> Result<(Self, TcpCall), AllocError>
+        ensures { IfOk result (λ made. (made.0.role ≡ Calling)
+            × (made.0.origin ≡ record { link = 0; called = Some peer })) }
+    {
+        let (call, socket) = TcpCall::new(alloc)?;
+        let socket = Socket::Called(socket);
+        Ok((TcpLink::over(socket, peer, Role::Calling, Some(peer)), call))
     }
 
     /// Waits for the next peer that calls, without a time limit. The link's number is 0.
@@ -167,7 +182,7 @@ impl TcpLink<'static> {
 fn second(socket: &Socket) -> Option<TcpStream> {
     match socket {
         Socket::Connected(stream) => stream.try_clone().ok(),
-        Socket::Missing => None,
+        Socket::Called(_) | Socket::Missing => None,
     }
 }
 
@@ -224,8 +239,9 @@ impl<'s> TcpLink<'s> {
         TcpLink { ways, ..self }
     }
 
-    /// The link, whose reads complete one descriptor at most once this is set; `None`: they give what there is room for.
-    pub fn with_brake(self, brake: Option<&'s AtomicBool>) -> Self
+    /// The link, whose reads complete one descriptor at most once this is set, which learns what they gave; `None`: they give what
+    /// there is room for.
+    pub fn with_brake(self, brake: Option<&'s Brake>) -> Self
         ensures { result ≡ self.entry }
     {
         let ways = Ways { brake, ..self.ways };
@@ -244,6 +260,28 @@ impl<'s> TcpLink<'s> {
         TcpLink { ways, ..self }
     }
 
+    /// Answers this call: the halves of its link go on over the socket of this one, within the limits of this one. Where that has no
+    /// socket, or its handles can't be had, they learn that the peer never comes; the latter is a failure.
+    pub fn answer<R: Wait>(self, rt: &R, call: TcpCall) -> Result<(), LinkFault> {
+        let TcpLink {
+            socket,
+            other,
+            peer: _,
+            role,
+            origin: _,
+            ways,
+        } = self;
+        let Socket::Connected(stream) = socket else {
+            call.give_up(rt);
+            return Ok(());
+        };
+        let patience = Patience::new(ways.idle, ways.stop.is_some(), role);
+        let halves = both(stream, other, &ways, &patience);
+        let has_handles = halves.is_some();
+        call.settle(rt, halves);
+        if has_handles { Ok(()) } else { Err(LinkFault) }
+    }
+
     /// The link, which has this number in its run.
     pub fn numbered(self, link: u32) -> Self
         ensures { result ≡ record self.entry { origin = record self.entry.origin { link = link } } }
@@ -256,18 +294,16 @@ impl<'s> TcpLink<'s> {
     }
 }
 
-/// The halves' two handles of a socket, of which the first is the one that is given; none where the system gives no second one, or doesn't take the time limits.
-fn handles(
-    socket: Socket,
+/// The halves' two handles of a socket, the given one first; none where the system gives no second one, or doesn't take the time
+/// limits.
+fn both(
+    stream: TcpStream,
     other: Option<TcpStream>,
     ways: &Ways<'_>,
     patience: &Patience,
-) -> Option<(Socket, Socket)>
-    ensures { IfSome result (λ handles. handles.0 ≡ socket) }
+) -> Option<(TcpStream, TcpStream)>
+    ensures { IfSome result (λ handles. handles.0 ≡ stream) }
 {
-    let Socket::Connected(stream) = socket else {
-        return Some((Socket::Missing, Socket::Missing));
-    };
     if stream.set_read_timeout(patience.turn()).is_err()
         || stream.set_write_timeout(ways.idle).is_err()
     {
@@ -276,11 +312,36 @@ fn handles(
     // A packet is small and waits for no other, so it shan't wait for the acknowledgement of the one before it either.
     // Where the system doesn't take this, the link is slower and else the same.
     let _ = stream.set_nodelay(true);
-    let other = match other {
-        Some(other) => other,
-        None => stream.try_clone().ok()?,
-    };
-    Some((Socket::Connected(stream), Socket::Connected(other)))
+    match other {
+        Some(other) => Some((stream, other)),
+        None => {
+            let other = stream.try_clone().ok()?;
+            Some((stream, other))
+        }
+    }
+}
+
+/// What the two halves of a link have of its peer, the given one first; none where a socket's handles can't be had.
+fn handles(
+    socket: Socket,
+    other: Option<TcpStream>,
+    ways: &Ways<'_>,
+    patience: &Patience,
+) -> Option<(Socket, Socket)>
+    ensures { IfSome result (λ handles. handles.0 ≡ socket) }
+{
+    match socket {
+        Socket::Connected(stream) => {
+            let (stream, other) = both(stream, other, ways, patience)?;
+            Some((Socket::Connected(stream), Socket::Connected(other)))
+        }
+        Socket::Called(call) if ways.can_be_set() => {
+            let other = Arc::try_clone(&call).ok()?;
+            Some((Socket::Called(call), Socket::Called(other)))
+        }
+        Socket::Called(_) => None,
+        Socket::Missing => Some((Socket::Missing, Socket::Missing)),
+    }
 }
 
 impl<'s> Link for TcpLink<'s> {
@@ -310,6 +371,10 @@ impl<'s> Link for TcpLink<'s> {
             origin,
             ways,
         } = self;
+        let ways = Ways {
+            link: origin.link,
+            ..ways
+        };
         let patience = Patience::new(ways.idle, ways.stop.is_some(), role);
         let one = Snapshot::of(&socket);
         match handles(socket, other, &ways, &patience) {

@@ -76,7 +76,7 @@ impl<'s> TcpReader<'s> {
         } }
     {
         TcpReader {
-            is_missing: matches!(socket, Socket::Missing),
+            is_missing: !matches!(socket, Socket::Connected(_)),
             one: Snapshot::of(&socket),
             socket: Some(socket),
             peer,
@@ -95,9 +95,21 @@ impl<'s> TcpReader<'s> {
         self.peer
     }
 
-    /// Whether the link's peer never came: the run was stopped before.
+    /// Whether the link's peer never came: the run was stopped before. So it is too of one that is still called.
     pub fn is_missing(&self) -> bool {
         self.is_missing
+    }
+
+    /// Waits until its peer's call is answered, where that goes on.
+    fn meet<R: Wait>(&mut self, rt: &R)
+        ensures { self.new ≡ self.old }
+    {
+        let met = match &self.socket {
+            Some(Socket::Called(call)) => call.read_half(rt),
+            _ => return,
+        };
+        self.is_missing = met.is_none();
+        self.socket = Some(Socket::of(met));
     }
 
     /// The bytes have ended. A stop ends them, but not the peer: where the link lingers the socket is kept until it is finished.
@@ -131,10 +143,9 @@ fn is_set(flag: Option<&AtomicBool>) -> bool {
 fn room_of(ways: &Ways<'_>, room: usize) -> usize
     ensures { result ≤ room }
 {
-    if room > FEW && is_set(ways.brake) {
-        FEW
-    } else {
-        room
+    match ways.brake {
+        Some(brake) if room > FEW && brake.is_set() => FEW,
+        _ => room,
     }
 }
 
@@ -159,6 +170,24 @@ fn read_some<T: Read, R: Wait>(
     Err(ErrorKind::Interrupted)
 }
 
+/// The same, of a few bytes at most where the brake is set.
+fn read_room<R: Wait>(
+    rt: &R,
+    stream: &mut TcpStream,
+    told: &mut Told,
+    ways: &Ways<'_>,
+    buffer: &mut [u8],
+) -> Result<usize, ErrorKind>
+    ensures within { IfOk result (λ n. n ≤ length buffer.old) }
+    ensures told { told.new ≡ told.old ++ read_by result buffer.new }
+{
+    // it is said before the brake is looked at: who sets that sees what may come still
+    ways.tell_brake(buffer.len());
+    let room = room_of(ways, buffer.len());
+    ways.tell_brake(room);
+    read_some(rt, stream, told, &mut buffer[..room])
+}
+
 /// Waits for bytes as long as the patience lasts, and tells those that came. It fails too where the stop was set meanwhile.
 fn read_patiently<R: Wait>(
     rt: &R,
@@ -172,7 +201,7 @@ fn read_patiently<R: Wait>(
     ensures told { told.new ≡ told.old ++ read_by result buffer.new }
 {
     for _ in rt.forever() {
-        match read_some(rt, stream, told, buffer) {
+        match read_room(rt, stream, told, ways, buffer) {
             Ok(n) => return Ok(n),
             Err(ErrorKind::WouldBlock) if !is_set(ways.stop) && patience.goes_on(stream) => {}
             Err(_) => return Err(LinkFault),
@@ -181,8 +210,8 @@ fn read_patiently<R: Wait>(
     Err(LinkFault)
 }
 
-/// The same, of a few bytes at most where the brake is set. It gives no bytes once the stop is set.
-fn read_room<R: Wait>(
+/// The same. It gives no bytes once the stop is set.
+fn read_unstopped<R: Wait>(
     rt: &R,
     stream: &mut TcpStream,
     told: &mut Told,
@@ -196,8 +225,7 @@ fn read_room<R: Wait>(
     if is_set(ways.stop) {
         return Ok(0);
     }
-    let room = room_of(ways, buffer.len());
-    match read_patiently(rt, stream, told, patience, ways, &mut buffer[..room]) {
+    match read_patiently(rt, stream, told, patience, ways, buffer) {
         Err(_) if is_set(ways.stop) => Ok(0),
         answer => answer,
     }
@@ -236,9 +264,10 @@ impl<'s> LinkReader for TcpReader<'s> {
     /// Gives no bytes once the link's stop is set, and where the peer never came. Fails too where it waits for longer than the
     /// link's time limit allows, and where it failed before or was finished.
     fn read<R: Wait>(&mut self, rt: &R, buffer: &mut [u8]) -> Result<usize, LinkFault> {
+        self.meet(rt);
         let answer = match &mut self.socket {
             Some(Socket::Connected(stream)) => {
-                read_room(
+                read_unstopped(
                     rt,
                     stream,
                     &mut self.told,
@@ -247,22 +276,25 @@ impl<'s> LinkReader for TcpReader<'s> {
                     buffer,
                 )
             }
-            Some(Socket::Missing) => Ok(0),
+            Some(Socket::Called(_) | Socket::Missing) => Ok(0),
             None if self.has_ended => Ok(0),
             None => Err(LinkFault),
         };
         match answer {
             Ok(n) if n > 0 => {
+                self.ways.tell_brake(n);
                 self.pieces = self.pieces.saturating_add(1);
                 self.hear(n);
             }
             Ok(_) => {
+                self.ways.tell_brake(0);
                 if !buffer.is_empty() {
                     self.has_ended = true;
                     self.leave();
                 }
             }
             Err(_) => {
+                self.ways.tell_brake(0);
                 self.failures = self.failures.saturating_add(1);
                 self.socket = None;
             }

@@ -1,5 +1,6 @@
 //! How the halves of a link read, and end.
 
+use crate::brake::Brake;
 use std::sync::atomic::AtomicBool;
 use std::time::Duration;
 
@@ -10,8 +11,10 @@ pub(crate) struct Ways<'s> {
     pub idle: Option<Duration>,
     /// Once it is set, nothing is read any more.
     pub stop: Option<&'s AtomicBool>,
-    /// Once it is set, a read gives a few bytes at most.
-    pub brake: Option<&'s AtomicBool>,
+    /// Once it is set, a read gives a few bytes at most. It learns what each read gave.
+    pub brake: Option<&'s Brake>,
+    /// The number of the link in its run, by which the brake knows it.
+    pub link: u32,
     /// Whether what the peer still sends at the end is read and dropped.
     pub lingers: bool,
 }
@@ -22,6 +25,24 @@ impl Ways<'static> {
         idle: None,
         stop: None,
         brake: None,
+        link: 0,
         lingers: false,
     };
+}
+
+impl<'s> Ways<'s> {
+    /// The brake learns that the link's reader has so many bytes, or may get so many, and has offered all that it had before.
+    pub(crate) fn tell_brake(&self, bytes: usize) {
+        if let Some(brake) = self.brake {
+            brake.got(self.link, bytes);
+        }
+    }
+
+    /// Whether a socket takes its time limit: one of no time isn't taken.
+    pub(crate) fn can_be_set(&self) -> bool {
+        match self.idle {
+            Some(idle) => !idle.is_zero(),
+            None => true,
+        }
+    }
 }

@@ -76,6 +76,17 @@ impl TcpWriter {
             told: Told::new(),
         }
     }
+
+    /// Waits until its peer's call is answered, where that goes on.
+    fn meet<R: Wait>(&mut self, rt: &R)
+        ensures { self.new ≡ self.old }
+    {
+        let met = match &self.socket {
+            Some(Socket::Called(call)) => call.written_half(rt),
+            _ => return,
+        };
+        self.socket = Some(Socket::of(met));
+    }
 }
 
 /// Waits until the stream takes bytes, again where a signal cut the call short, and tells those that it took: the first ones of
@@ -109,9 +120,10 @@ impl LinkWriter for TcpWriter {
 
     /// Fails too where it waits for longer than the link's time limit, where the peer never came, and where it was finished.
     fn write<R: Wait>(&mut self, rt: &R, piece: &[u8]) -> Result<usize, LinkFault> {
+        self.meet(rt);
         let answer = match &mut self.socket {
             Some(Socket::Connected(stream)) => write_some(rt, stream, &mut self.told, piece),
-            Some(Socket::Missing) | None => Err(LinkFault),
+            Some(Socket::Called(_) | Socket::Missing) | None => Err(LinkFault),
         };
         match answer {
             Ok(n) => {

@@ -3,9 +3,9 @@
 use bytes::Bytes;
 use gn_fixtures::{OWN, ping, usual};
 use gn_payload::Checked;
-use gn_plain::PlainRouter;
-use gn_router::TableRouter;
-use gn_rules::{Config, Event, Refusal, RouterCore};
+use gn_rules::{Config, Event, FreshRouter, Historian, Refusal, RouterCore};
+use gn_search::PlainRouter;
+use gn_tables::TableRouter;
 use gn_wire::{Descriptor, Guid, Kind};
 use std::alloc::Allocator;
 use std::test::Fail;
@@ -81,7 +81,7 @@ fn are_refused<A: Allocator + Copy, C: RouterCore<A>>(
 }
 
 /// Whether a router refuses those after its first two steps, and they leave none.
-fn refuses<A: Allocator + Copy, C: RouterCore<A> + Drop>(alloc: A) -> Result<bool, Fail> {
+fn refuses<A: Allocator + Copy, C: Historian<A> + Drop>(alloc: A) -> Result<bool, Fail> {
     let mut core = C::make(alloc, &usual(100)?)?;
     let are_refused = are_refused(alloc, &mut core);
     let steps = core.history().len();
@@ -158,7 +158,7 @@ fn are_counted<A: Allocator + Copy, C: RouterCore<A>>(core: &mut C) -> Result<bo
 }
 
 /// Whether what is in flight of a connection is counted after it closes too, and no other's is.
-fn counts_flights<A: Allocator + Copy, C: RouterCore<A> + Drop>(alloc: A) -> Result<bool, Fail> {
+fn counts_flights<A: Allocator + Copy, C: FreshRouter<A> + Drop>(alloc: A) -> Result<bool, Fail> {
     let Ok(config) = Config::new(4, 8, 4, 8, 8, 100, 0, 2, OWN) else {
         return Err(Fail::from("a configuration"));
     };

@@ -4,9 +4,9 @@ use crate::encoding::encoded;
 use crate::request_runs::request_run;
 use crate::run::{Run, capture_of};
 use gn_frames::Reassembler;
-use gn_plain::PlainRouter;
-use gn_router::TableRouter;
-use gn_rules::{Config, Event, Receipt, Refusal, RouterCore, run_events};
+use gn_rules::{Config, Event, FreshRouter, Receipt, Refusal, run_events};
+use gn_search::PlainRouter;
+use gn_tables::TableRouter;
 use gn_text::{push_refusal, push_step_of};
 use gn_wire::Descriptor;
 use std::alloc::{AllocError, Allocator, Global};
@@ -157,7 +157,7 @@ fn printed<A: Allocator + Copy>(
 }
 
 /// What is printed of events and of a router's answers to them.
-fn answered<A: Allocator + Copy, C: RouterCore<A> + Drop>(
+fn answered<A: Allocator + Copy, C: FreshRouter<A> + Drop>(
     alloc: A,
     config: &Config,
     events: &[Event<A>],
@@ -172,7 +172,7 @@ fn answered<A: Allocator + Copy, C: RouterCore<A> + Drop>(
 }
 
 /// Whether a router answers the events as the run's text says.
-fn answers_as<A: Allocator + Copy, C: RouterCore<A> + Drop>(
+fn answers_as<A: Allocator + Copy, C: FreshRouter<A> + Drop>(
     texts: Global,
     alloc: A,
     run: &Run,
@@ -190,7 +190,7 @@ fn answers_as<A: Allocator + Copy, C: RouterCore<A> + Drop>(
 }
 
 /// Whether a router answers the events of all runs so. An `Err` names the first that it doesn't.
-fn answers_all<A: Allocator + Copy, C: RouterCore<A> + Drop>(
+fn answers_all<A: Allocator + Copy, C: FreshRouter<A> + Drop>(
     texts: Global,
     alloc: A,
 ) -> Result<(), Fail> {

@@ -2,9 +2,8 @@
 
 use crate::calls::{admits, is_made};
 use gn_fixtures::OWN;
-use gn_legal::legal;
-use gn_plain::PlainRouter;
-use gn_rules::{Config, Event, Legality, Own, RouterCore, Step};
+use gn_rules::{Config, Event, FreshRouter, Historian, Legality, Own, RouterCore, Step};
+use gn_search::{PlainRouter, legal};
 use std::alloc::Allocator;
 use std::test::Fail;
 

@@ -46,3 +46,5 @@ mod run;
 mod shake;
 #[cfg(test)]
 mod tables;
+#[cfg(test)]
+mod two_routers;

@@ -10,7 +10,9 @@ use tineflax::greeting::Role;
 use tineflax::links::{Link, MemoryLink, NoGate};
 use tineflax::replay::{ReplayFault, audit};
 use tineflax::router::{PlainRouter, TableRouter, legal};
-use tineflax::rules::{Config, Event, Legality, Own, Reply, RouterCore, Step};
+use tineflax::rules::{
+    Config, Event, FreshRouter, Historian, Legality, Own, Reply, RouterCore, Step,
+};
 use tineflax::run::run;
 use tineflax::streams::{ReaderSource, Sink, Source, WriterSink};
 use tineflax::wire::{Descriptor, Guid};

@@ -8,11 +8,10 @@ use crate::request_runs::REQUEST_RUNS;
 use crate::run::{Run, capture_of};
 use gn_capture::{read_history, write_history};
 use gn_io::{ReaderSource, WriterSink};
-use gn_legal::legal;
-use gn_plain::PlainRouter;
 use gn_replay::{audit, play};
-use gn_router::TableRouter;
-use gn_rules::{Legality, RouterCore};
+use gn_rules::{Historian, Legality};
+use gn_search::{PlainRouter, legal};
+use gn_tables::TableRouter;
 use std::alloc::Allocator;
 use std::process::Abort;
 use std::test::Fail;
@@ -38,7 +37,7 @@ fn steps_of<R: Abort + AllocGlobal>(
 }
 
 /// Compares what is stated of a history of so many steps.
-fn is_audited<A: Allocator + Copy, C: RouterCore<A> + Drop, R: Abort + AllocGlobal>(
+fn is_audited<A: Allocator + Copy, C: Historian<A> + Drop, R: Abort + AllocGlobal>(
     rt: &R,
     alloc: A,
     name: &'static str,
@@ -59,7 +58,7 @@ fn is_audited<A: Allocator + Copy, C: RouterCore<A> + Drop, R: Abort + AllocGlob
 }
 
 /// Compares what a router's history is read back as, and what is stated of it.
-fn history_is_kept<A: Allocator + Copy, C: RouterCore<A> + Drop, R: Abort + AllocGlobal>(
+fn history_is_kept<A: Allocator + Copy, C: Historian<A> + Drop, R: Abort + AllocGlobal>(
     rt: &R,
     alloc: A,
     name: &'static str,
@@ -72,7 +71,7 @@ fn history_is_kept<A: Allocator + Copy, C: RouterCore<A> + Drop, R: Abort + Allo
 }
 
 /// Plays a run, and compares what is printed. The router, after all events.
-fn printed_by<A: Allocator + Copy, C: RouterCore<A> + Drop, R: Abort + AllocGlobal>(
+fn printed_by<A: Allocator + Copy, C: Historian<A> + Drop, R: Abort + AllocGlobal>(
     rt: &R,
     alloc: A,
     run: &Run,
@@ -91,7 +90,7 @@ fn printed_by<A: Allocator + Copy, C: RouterCore<A> + Drop, R: Abort + AllocGlob
     Ok(replayed.core)
 }
 
-fn plays<A: Allocator + Copy, C: RouterCore<A> + Drop, R: Abort + AllocGlobal>(
+fn plays<A: Allocator + Copy, C: Historian<A> + Drop, R: Abort + AllocGlobal>(
     rt: &R,
     alloc: A,
     run: &Run,
@@ -105,7 +104,7 @@ fn plays<A: Allocator + Copy, C: RouterCore<A> + Drop, R: Abort + AllocGlobal>(
     is_kept
 }
 
-fn all_play<A: Allocator + Copy, C: RouterCore<A> + Drop, R: Abort + AllocGlobal>(
+fn all_play<A: Allocator + Copy, C: Historian<A> + Drop, R: Abort + AllocGlobal>(
     rt: &R,
     alloc: A,
 ) -> Result<(), Fail> {

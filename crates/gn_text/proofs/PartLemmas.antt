@@ -1,11 +1,11 @@
 -- Where a text is cut.
-use Rattle.std.proofs.Common.{◌≡◌, ◌≢◌, ℕ, suc, ◌+◌, ◌-◌, ◌<◌, Bool, true, false, List, [], ◌∷◌, ◌++◌, length, length-append, take, drop, slice_index, refl, sym, ap, ◌∙◌, arith, All, Option, Some, None, option_map, get_or, map, append_assoc, Bor}
+use Rattle.std.proofs.Common.{◌≡◌, ◌≢◌, ℕ, suc, ◌+◌, ◌-◌, ◌<◌, ◌≤◌, Bool, true, false, List, [], ◌∷◌, ◌++◌, length, length-append, take, drop, slice_index, refl, sym, ap, ◌∙◌, arith, All, Option, Some, None, option_map, get_or, map, append_assoc, Bor}
 use Rattle.std.specs.Prelude.{◌==◌, IfNone, IfSome, MatchOption, if◌then◌else◌}
 use Rattle.std.specs.List.{slice_split}
 use Rattle.std.proofs.lemmas.Bool.{eq-eqb, false≢true, ne_eqb}
 use Rattle.std.proofs.lemmas.Bool.Decides.{nat_tests}
 use Rattle.std.proofs.lemmas.Grind.{common_steps}
-use Rattle.std.proofs.lemmas.List.{map-append}
+use Rattle.std.proofs.lemmas.List.{length-take, map-append, take-append-le}
 use Rattle.std.proofs.lemmas.List.Splits.{slice_split_at, slice_split_none}
 use Rattle.gn_text.specs.Lines.{lines_of, without_last_feed}
 
@@ -116,3 +116,9 @@ part_added head parts part mark text more h cut last is =
         → slice_split (λ b. b == mark) text ≡ part.now ∷ parts_after mark (referred more)
     first_and_more None cut last = parts_of mark text part.now None h last
     first_and_more (Some rest) cut last = parts_of mark text part.now (Some rest.now) h cut
+
+-- what begins with some parts does so with one more
+pub kept_more : {X : Type 0} (before now after : List X) (x : X) → take (length before) now ≡ before → after ≡ now ++ x ∷ [] → take (length before) after ≡ before
+kept_more before now after x kept is =
+    let enough : length before ≤ length now = omega (arith, ap length kept, length-take (length before) now) in
+    ap (take (length before)) is ∙ take-append-le (length before) now (x ∷ []) enough ∙ kept

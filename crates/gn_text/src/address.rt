@@ -8,6 +8,7 @@ use crate::part::{Part, push_parts};
 use gn_numbers::number_u8;
 use std::alloc::{AllocError, Allocator};
 
+/// The address of four numbers of 0 to 255.
 fn ip_of_parts(parts: &[&[u8]]) -> Option<[u8; 4]>
     ensures { result ≡ ip_of_parts (map (λ x. x.now) parts.now) }
 {

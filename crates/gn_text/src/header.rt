@@ -15,6 +15,7 @@ use gn_rules::Config;
 use gn_wire::whole_or_none;
 use std::alloc::{AllocError, Allocator};
 
+/// Reads the line `own` into a configuration.
 #[tactic(auto, using(crate::proofs::FirstLines::own_read, crate::proofs::FirstLines::own_refused, crate::proofs::FirstLines::own_missing))]
 fn read_own_line<A: Allocator + Copy>(
     alloc: A,
@@ -37,6 +38,7 @@ fn read_own_line<A: Allocator + Copy>(
     }
 }
 
+/// Reads the lines `config` and `own` of a text of this version.
 #[tactic(auto, using(crate::proofs::FirstLines::config_read, crate::proofs::FirstLines::config_refused, crate::proofs::FirstLines::config_missing))]
 fn read_config_line<A: Allocator + Copy>(
     alloc: A,
@@ -56,6 +58,7 @@ fn read_config_line<A: Allocator + Copy>(
     }
 }
 
+/// Reads the three first lines of a text.
 #[tactic(auto, using(crate::proofs::FirstLines::title_read, crate::proofs::FirstLines::title_other, crate::proofs::FirstLines::title_missing))]
 fn read_title_line<A: Allocator + Copy>(
     alloc: A,
@@ -98,6 +101,7 @@ pub fn read_header<A: Allocator + Copy>(
     }
 }
 
+/// Appends the first line. An `Err` is out of memory, and may leave a part of it.
 #[tactic(auto, using(crate::proofs::KeptLemmas::kept))]
 fn write_title<B: Allocator>(
     out: &mut Vec<u8, B>,
@@ -111,6 +115,7 @@ fn write_title<B: Allocator>(
     out.extend_from_slice(b"\n")
 }
 
+/// Appends the three first lines. An `Err` is out of memory, and may leave a part of it.
 #[tactic(auto, using(crate::proofs::KeptLemmas::kept))]
 fn write_header<B: Allocator>(
     out: &mut Vec<u8, B>,

@@ -1,6 +1,6 @@
 //! A text in lines, and a line in fields.
 
-ghost use Rattle.std.specs.Prelude.{◌≡◌, ◌≢◌, ◌==◌, ◌<◌, ◌++◌, ◌∷◌, [], All, length, map, IfNone, IfOk, IfSome, OnErr, OnOk};
+ghost use Rattle.std.specs.Prelude.{◌≡◌, ◌≢◌, ◌==◌, ◌<◌, ◌++◌, ◌∷◌, [], All, length, map, take, IfNone, IfOk, IfSome, OnErr, OnOk};
 ghost use Rattle.std.specs.List.{slice_split};
 ghost use Rattle.gn_text.specs.Lines.{fields_of, is_skipped, is_word, lines_of};
 
@@ -19,14 +19,15 @@ fn first_part(text: &[u8], mark: u8) -> (&[u8], Option<&[u8]>)
     }
 }
 
-/// Adds the parts of a text between the marks. An `Err` is out of memory.
+/// Adds the parts of a text between the marks. An `Err` is out of memory, and may leave some of them.
 fn add_parts<'a, A: Allocator>(
     text: &'a [u8],
     mark: u8,
     parts: &mut Vec<&'a [u8], A>,
 ) -> Result<(), AllocError>
-    ensures { OnOk result (map (λ x. x.now) parts.new.items
+    ensures ok { OnOk result (map (λ x. x.now) parts.new.items
         ≡ map (λ x. x.now) parts.old.items ++ slice_split (λ b. b == mark) text.now) }
+    ensures err { OnErr result (take (length parts.old.items) parts.new.items ≡ parts.old.items) }
 {
     let mut rest = Some(text);
     while let Some(text) = rest {
@@ -58,19 +59,19 @@ pub fn fields<A: Allocator + Copy>(alloc: A, line: &[u8]) -> Result<Vec<&[u8], A
     parts(alloc, line, b' ')
 }
 
-/// Puts the fields of a line in place of those that are there, where they can stand in the same memory. An `Err` is out
-/// of memory, and leaves no field.
+/// Adds the fields of a line to those that are there. An `Err` is out of memory, and changes nothing.
 pub fn fields_into<'a, A: Allocator>(
     line: &'a [u8],
     fields: &mut Vec<&'a [u8], A>,
 ) -> Result<(), AllocError>
-    ensures ok { OnOk result (map (λ x. x.now) fields.new.items ≡ fields_of line.now) }
-    ensures err { OnErr result (fields.new.items ≡ []) }
+    ensures ok { OnOk result (map (λ x. x.now) fields.new.items
+        ≡ map (λ x. x.now) fields.old.items ++ fields_of line.now) }
+    ensures err { OnErr result (fields.new.items ≡ fields.old.items) }
 {
-    fields.clear();
+    let before = fields.len();
     let added = add_parts(line, b' ', fields);
     if added.is_err() {
-        fields.clear();
+        fields.truncate(before);
     }
     added
 }

@@ -7,6 +7,7 @@ use crate::part::{Part, push_parts};
 use gn_wire::{FrameFault, Kind};
 use std::alloc::{AllocError, Allocator};
 
+/// The word of a kind.
 fn kind_name(kind: Kind) -> &'static [u8]
     ensures { result.now ≡ kind_text kind }
 {

@@ -73,6 +73,7 @@ fn write_next<A: Allocator, B: Allocator>(
     }
 }
 
+/// The mark of a send.
 fn mark_name(queued: bool) -> &'static [u8]
     ensures { result.now ≡ mark_text queued }
 {
@@ -84,7 +85,8 @@ fn push_target<A: Allocator, B: Allocator>(
     out: &mut Vec<u8, B>,
     sending: &Sending<A>,
 ) -> Result<(), AllocError>
-    ensures ok { OnOk result (out.new.items ≡ out.old.items ++ (codes " " ++ decimal sending.now.to ++ mark_text sending.now.queued)) }
+    ensures ok { OnOk result (out.new.items
+        ≡ out.old.items ++ (codes " " ++ decimal sending.now.to ++ mark_text sending.now.queued)) }
     ensures err { OnErr result (out.new.items ≡ out.old.items) }
 {
     let start = out.len();

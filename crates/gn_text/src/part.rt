@@ -18,6 +18,7 @@ pub(crate) enum Part<'a> {
     Hex(&'a [u8]),
 }
 
+/// Appends a part. An `Err` is out of memory, and changes nothing.
 fn push_part<B: Allocator>(out: &mut Vec<u8, B>, part: &Part) -> Result<(), AllocError>
     ensures ok { OnOk result (out.new.items ≡ out.old.items ++ part_text part.now) }
     ensures err { OnErr result (out.new.items ≡ out.old.items) }

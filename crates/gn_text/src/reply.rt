@@ -11,12 +11,14 @@ use gn_rules::{Counter, DropReason, Reply};
 use gn_wire::whole_or_none;
 use std::alloc::{AllocError, Allocator};
 
+/// The word of a reason to drop.
 fn reason_name(reason: DropReason) -> &'static [u8]
     ensures { result.now ≡ reason_text reason }
 {
     counter_name(Counter::of_drop(reason))
 }
 
+/// The words of a reply Routed, with a space between.
 fn routed_name(local: bool) -> &'static [u8]
     ensures { result.now ≡ codes "routed " ++ place_text local }
 {

@@ -65,6 +65,7 @@ fn each_within(
     within(k?, n?, m?, t?, w?, h?, later?)
 }
 
+/// The numbers of a `config` line of this version, each within its limits.
 fn read_numbers(version: Version, fields: &[&[u8]]) -> Option<Config>
     ensures { option_map numbers_of result ≡ numbers_parsed version (map (λ x. x.now) fields.now) }
 {
@@ -93,6 +94,7 @@ pub fn read_config(version: Version, fields: &[&[u8]]) -> Option<Config>
     }
 }
 
+/// The own servent that an `own` line says. An `Err` is out of memory.
 fn read_servent<A: Allocator + Copy>(alloc: A, fields: &[&[u8]]) -> Result<Option<Own>, AllocError>
     ensures { IfOk result (λ own. own ≡ servent_parsed (map (λ x. x.now) fields.now)) }
 {
@@ -133,6 +135,7 @@ pub fn read_own<A: Allocator + Copy>(alloc: A, fields: &[&[u8]]) -> Result<Optio
     }
 }
 
+/// Appends the numbers that only later versions have. An `Err` is out of memory, and changes nothing.
 fn push_later<B: Allocator>(out: &mut Vec<u8, B>, numbers: &Numbers) -> Result<(), AllocError>
     ensures ok { OnOk result (out.new.items ≡ out.old.items ++ later_text (version_for numbers.now) numbers.now) }
     ensures err { OnErr result (out.new.items ≡ out.old.items) }
@@ -155,6 +158,7 @@ fn push_later<B: Allocator>(out: &mut Vec<u8, B>, numbers: &Numbers) -> Result<(
     }
 }
 
+/// Appends `config` and the six numbers of all versions. An `Err` is out of memory, and changes nothing.
 fn push_six<B: Allocator>(out: &mut Vec<u8, B>, numbers: &Numbers) -> Result<(), AllocError>
     ensures ok { OnOk result (out.new.items ≡ out.old.items ++ six_text numbers.now) }
     ensures err { OnErr result (out.new.items ≡ out.old.items) }
@@ -178,6 +182,7 @@ fn push_six<B: Allocator>(out: &mut Vec<u8, B>, numbers: &Numbers) -> Result<(),
     )
 }
 
+/// Appends the line `config`. An `Err` is out of memory, and may leave a part of it.
 fn write_config<B: Allocator>(out: &mut Vec<u8, B>, config: &Config) -> Result<(), AllocError>
     ensures ok { OnOk result (out.new.items ≡ out.old.items ++ config_text config.now) }
     ensures err { OnErr result (take (length out.old.items) out.new.items ≡ out.old.items) }
@@ -187,6 +192,7 @@ fn write_config<B: Allocator>(out: &mut Vec<u8, B>, config: &Config) -> Result<(
     out.extend_from_slice(b"\n")
 }
 
+/// Appends the line `own`. An `Err` is out of memory, and may leave a part of it.
 fn write_own<B: Allocator>(out: &mut Vec<u8, B>, own: &Own) -> Result<(), AllocError>
     ensures ok { OnOk result (out.new.items ≡ out.old.items ++ own_text own.now) }
     ensures err { OnErr result (take (length out.old.items) out.new.items ≡ out.old.items) }

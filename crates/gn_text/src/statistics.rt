@@ -9,6 +9,7 @@ use gn_rules::{Counter, Stats};
 use gn_wire::whole_or_none;
 use std::alloc::{AllocError, Allocator};
 
+/// The word of a counter.
 pub(crate) fn counter_name(counter: Counter) -> &'static [u8]
     ensures { result.now ≡ counter_text counter }
 {
@@ -32,6 +33,7 @@ pub(crate) fn counter_name(counter: Counter) -> &'static [u8]
     }
 }
 
+/// Appends a counter's word and its number. An `Err` is out of memory, and changes nothing.
 fn push_count<B: Allocator>(
     out: &mut Vec<u8, B>,
     stats: &Stats,
@@ -51,6 +53,7 @@ fn push_count<B: Allocator>(
     )
 }
 
+/// Appends these counters, in order. An `Err` is out of memory, and may leave a part of it.
 fn write_counts<B: Allocator>(
     out: &mut Vec<u8, B>,
     stats: &Stats,
@@ -65,6 +68,7 @@ fn write_counts<B: Allocator>(
     Ok(())
 }
 
+/// Appends the line `stats`. An `Err` is out of memory, and may leave a part of it.
 fn write_stats<B: Allocator>(out: &mut Vec<u8, B>, stats: &Stats) -> Result<(), AllocError>
     ensures ok { OnOk result (out.new.items ≡ out.old.items ++ stats_text stats.now) }
     ensures err { OnErr result (take (length out.old.items) out.new.items ≡ out.old.items) }

@@ -12,6 +12,7 @@ use gn_rules::{Event, Reply, Step};
 use gn_wire::whole_or_none;
 use std::alloc::{AllocError, Allocator};
 
+/// Writes the line of the step of these parts behind what stands there. An `Err` is out of memory, and may leave a part of it.
 fn write_step<A: Allocator, B: Allocator>(
     out: &mut Vec<u8, B>,
     actor: u32,

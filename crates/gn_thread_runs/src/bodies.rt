@@ -15,10 +15,10 @@ use gn_bodies::{
 use gn_fixtures::ping;
 use gn_hub::{Actor, Door, Hub, Service};
 use gn_links::{Link, LinkReader, LinkWriter, MemoryLink, MemoryWriter};
-use gn_router::TableRouter;
-use gn_rules::{Event, RouterCore, Step};
+use gn_rules::{Event, Historian, RouterCore, Step};
 use gn_shake::Role;
 use gn_stage::{Intake, Job, Outlet, Site, Stage};
+use gn_tables::TableRouter;
 use std::alloc::{Allocator, Global};
 use std::marker::Brand;
 use std::sync::Wait;
@@ -136,7 +136,7 @@ fn what_ran<A, C, L: Ledger, W: LinkWriter>(
 ) -> Ran<W, A>
 where
     A: Allocator + Copy,
-    C: RouterCore<A> + Drop,
+    C: Historian<A> + Drop,
 {
     let WriterDone {
         actor,
@@ -195,7 +195,7 @@ fn in_turn<A, C, B: Site + Ledger, Rd: LinkReader, W: LinkWriter, R: Wait>(
 ) -> Ran<W, A>
 where
     A: Allocator + Copy,
-    C: RouterCore<A> + Drop,
+    C: Historian<A> + Drop,
     requires reading { (actors.reader.number ≡ 0) × (actors.reader.receipts ≡ []) }
     requires writing { (actors.writer.number ≡ 1) × (actors.writer.receipts ≡ []) }
     requires working { (actors.worker.number ≡ 2) × (actors.worker.receipts ≡ []) }
@@ -274,7 +274,7 @@ fn service_of<A, C, L: Ledger, R: Wait>(
 ) -> Option<(Service<C, L, A>, Actors<L, A>)>
 where
     A: Allocator + Copy,
-    C: RouterCore<A> + Drop,
+    C: Historian<A> + Drop,
     requires name { blank.name ≡ L.name }
     requires parts { (blank.parts ≡ L.parts) × (blank.parts ≡ 4) }
     ensures reader { IfSome result (λ r. (r.1.reader.number ≡ 0) × (r.1.reader.receipts ≡ [])) }
@@ -317,7 +317,7 @@ fn in_stage<A, C, B: Site + Ledger, R: Wait>(
 ) -> Option<Ran<MemoryWriter, A>>
 where
     A: Allocator + Copy,
-    C: RouterCore<A> + Drop,
+    C: Historian<A> + Drop,
     requires name { blank.name ≡ B.name }
     requires parts { (blank.parts ≡ B.parts) × (blank.parts ≡ 4) }
     requires stage { stage ≡ B.stage }

@@ -11,8 +11,8 @@ ghost use Rattle.gn_rules.specs.Limits.{most_links};
 use gn_fixtures::{ping, usual};
 use gn_hub::{Actor, Hub, Next, Role, Service};
 use gn_payload::Checked;
-use gn_plain::PlainRouter;
-use gn_rules::{ConnId, Event, Refusal, RouterCore, Step, Ticket, is_step_of};
+use gn_rules::{ConnId, Event, Historian, Refusal, RouterCore, Step, Ticket, is_step_of};
+use gn_search::PlainRouter;
 use gn_text::push_step;
 use std::alloc::{Allocator, Global};
 use std::marker::Brand;
@@ -190,7 +190,7 @@ fn are_answered<A: Allocator + Copy, C: RouterCore<A>, L: Ledger>(
 }
 
 /// A service of links of these roles and one worker that makes at most so many steps, with its actors.
-pub(crate) fn service_of<A: Allocator + Copy, C: RouterCore<A> + Drop, L: Ledger>(
+pub(crate) fn service_of<A: Allocator + Copy, C: Historian<A> + Drop, L: Ledger>(
     alloc: A,
     blank: Blank,
     steps: u32,
@@ -205,7 +205,7 @@ pub(crate) fn service_of<A: Allocator + Copy, C: RouterCore<A> + Drop, L: Ledger
 }
 
 /// The calls of a run of two plain links and one worker.
-fn work<A: Allocator + Copy, C: RouterCore<A> + Drop, L: Ledger>(
+fn work<A: Allocator + Copy, C: Historian<A> + Drop, L: Ledger>(
     alloc: A,
     blank: Blank,
     calls: &[(usize, Call)],

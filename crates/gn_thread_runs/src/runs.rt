@@ -1,14 +1,13 @@
 //! Small runs of many threads over memory links.
 
 use crate::in_step::{Meeting, PacedLink};
-use crate::wanted::a_report;
 use gn_bodies::WriterEnd;
-use gn_fixtures::{OWN, PING};
+use gn_fixtures::{OWN, PING, a_report};
 use gn_links::{Gate, Link, MemoryLink, NoGate};
 use gn_report::Report;
-use gn_router::TableRouter;
 use gn_rules::Config;
 use gn_shake::Role;
+use gn_tables::TableRouter;
 use gn_threads::{RunFault, run};
 use std::alloc::{AllocError, Allocator, Global};
 use std::sync::Wait;

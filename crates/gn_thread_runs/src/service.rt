@@ -5,10 +5,9 @@ ghost use Rattle.std.specs.Prelude.{◌≡◌, ◌+◌};
 use crate::hub::{service_of, stands_in};
 use gn_fixtures::{ping, usual};
 use gn_hub::{Actor, Outgoing, Role, Service};
-use gn_legal::legal;
 use gn_payload::Checked;
-use gn_plain::PlainRouter;
-use gn_rules::{Event, Legality, RouterCore, Step};
+use gn_rules::{Event, Historian, Legality, Step};
+use gn_search::{PlainRouter, legal};
 use std::alloc::Allocator;
 use std::marker::Brand;
 use std::sync::Wait;
@@ -18,7 +17,7 @@ use std::thread;
 use std::thread::Threads;
 
 /// Makes so many Connect calls.
-fn connects<A: Allocator + Copy, C: RouterCore<A> + Drop, L: Ledger, R: Wait>(
+fn connects<A: Allocator + Copy, C: Historian<A> + Drop, L: Ledger, R: Wait>(
     rt: &R,
     service: &Service<C, L, A>,
     mut me: Actor<L, A>,
@@ -34,7 +33,7 @@ fn connects<A: Allocator + Copy, C: RouterCore<A> + Drop, L: Ledger, R: Wait>(
 
 fn both_connect<
     A: Allocator + Copy + Send + Sync,
-    C: RouterCore<A> + Drop + Send,
+    C: Historian<A> + Drop + Send,
     L: Ledger + Send + Sync,
     R: Threads + Wait + Sync,
 >(
@@ -51,7 +50,7 @@ fn both_connect<
 }
 
 /// Whether nobody meets a link that was shut, one that the run doesn't have, and one of a run that has failed.
-fn nobody_meets<A: Allocator + Copy, C: RouterCore<A> + Drop, L: Ledger, R: Wait>(
+fn nobody_meets<A: Allocator + Copy, C: Historian<A> + Drop, L: Ledger, R: Wait>(
     rt: &R,
     service: &Service<C, L, A>,
 ) -> bool {
@@ -80,7 +79,7 @@ fn has_fifty<A: Allocator, L: Ledger>(me: &Actor<L, A>, history: &[Step<A>]) -> 
 /// connected either link, and nobody meets it once it is shut or the run has failed.
 fn hundred<
     A: Allocator + Copy + Send + Sync,
-    C: RouterCore<A> + Drop + Send,
+    C: Historian<A> + Drop + Send,
     L: Ledger + Send + Sync,
     R: Threads + Wait + Sync,
 >(rt: &R, alloc: A, blank: Blank) -> Result<Vec<Step<A>, A>, Fail>
@@ -132,7 +131,7 @@ fn two_threads_connect(rt: HostRuntime) -> Result<(), Fail> {
 }
 
 /// A writer's part: waits for its door, then takes packets until the connection is over. How many it took.
-fn takes<A: Allocator + Copy, C: RouterCore<A> + Drop, L: Ledger, R: Wait>(
+fn takes<A: Allocator + Copy, C: Historian<A> + Drop, L: Ledger, R: Wait>(
     rt: &R,
     service: &Service<C, L, A>,
     me: &mut Actor<L, A>,
@@ -149,7 +148,7 @@ fn takes<A: Allocator + Copy, C: RouterCore<A> + Drop, L: Ledger, R: Wait>(
 }
 
 /// Connects the first link, by its reader.
-fn connect<A: Allocator + Copy, C: RouterCore<A> + Drop, L: Ledger, R: Wait>(
+fn connect<A: Allocator + Copy, C: Historian<A> + Drop, L: Ledger, R: Wait>(
     rt: &R,
     service: &Service<C, L, A>,
     reader: &mut Actor<L, A>,
@@ -161,7 +160,7 @@ fn connect<A: Allocator + Copy, C: RouterCore<A> + Drop, L: Ledger, R: Wait>(
 }
 
 /// Admits the Ping of this number.
-fn admit<A: Allocator + Copy, C: RouterCore<A> + Drop, L: Ledger, R: Wait>(
+fn admit<A: Allocator + Copy, C: Historian<A> + Drop, L: Ledger, R: Wait>(
     rt: &R,
     service: &Service<C, L, A>,
     reader: &mut Actor<L, A>,
@@ -174,7 +173,7 @@ fn admit<A: Allocator + Copy, C: RouterCore<A> + Drop, L: Ledger, R: Wait>(
 }
 
 /// Routes the Ping of this number.
-fn route<A: Allocator + Copy, C: RouterCore<A> + Drop, L: Ledger, R: Wait>(
+fn route<A: Allocator + Copy, C: Historian<A> + Drop, L: Ledger, R: Wait>(
     rt: &R,
     service: &Service<C, L, A>,
     worker: &mut Actor<L, A>,
@@ -187,7 +186,7 @@ fn route<A: Allocator + Copy, C: RouterCore<A> + Drop, L: Ledger, R: Wait>(
 }
 
 /// Connects, and admits and routes so many Pings.
-fn send<A: Allocator + Copy, C: RouterCore<A> + Drop, L: Ledger, R: Wait>(
+fn send<A: Allocator + Copy, C: Historian<A> + Drop, L: Ledger, R: Wait>(
     rt: &R,
     service: &Service<C, L, A>,
     reader: &mut Actor<L, A>,
@@ -203,7 +202,7 @@ fn send<A: Allocator + Copy, C: RouterCore<A> + Drop, L: Ledger, R: Wait>(
 }
 
 /// A reader's part and a worker's: connects, and admits and routes so many Pings; then the reader is done.
-fn pings<A: Allocator + Copy, C: RouterCore<A> + Drop, L: Ledger, R: Wait>(
+fn pings<A: Allocator + Copy, C: Historian<A> + Drop, L: Ledger, R: Wait>(
     rt: &R,
     service: &Service<C, L, A>,
     mut reader: Actor<L, A>,
@@ -218,7 +217,7 @@ fn pings<A: Allocator + Copy, C: RouterCore<A> + Drop, L: Ledger, R: Wait>(
 }
 
 /// A writer's part, after which the writer is done.
-fn takes_all<A: Allocator + Copy, C: RouterCore<A> + Drop, L: Ledger, R: Wait>(
+fn takes_all<A: Allocator + Copy, C: Historian<A> + Drop, L: Ledger, R: Wait>(
     rt: &R,
     service: &Service<C, L, A>,
     mut writer: Actor<L, A>,
@@ -230,7 +229,7 @@ fn takes_all<A: Allocator + Copy, C: RouterCore<A> + Drop, L: Ledger, R: Wait>(
 
 fn ping_and_take<
     A: Allocator + Copy + Send + Sync,
-    C: RouterCore<A> + Drop + Send,
+    C: Historian<A> + Drop + Send,
     L: Ledger + Send + Sync,
     R: Threads + Wait + Sync,
 >(
@@ -250,7 +249,7 @@ fn ping_and_take<
 /// Eight Pings by a link's reader and its writer, each in a thread of its own: how many packets the writer took.
 fn wake<
     A: Allocator + Copy + Send + Sync,
-    C: RouterCore<A> + Drop + Send,
+    C: Historian<A> + Drop + Send,
     L: Ledger + Send + Sync,
     R: Threads + Wait + Sync,
 >(rt: &R, alloc: A, blank: Blank) -> Result<Option<u32>, Fail>

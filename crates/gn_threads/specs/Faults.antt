@@ -8,8 +8,8 @@ use Rattle.gn_bodies.specs.declared.ends.BodyFault.TheVariants as body
 use Rattle.gn_threads.specs.declared.fault.RunFault.{RunFault}
 use Rattle.gn_threads.specs.declared.fault.RunFault.TheVariants.{BadWorkers, Listen, Call, Link, HistoryFull, NoMemory, Stage, Audit}
 
--- what a fault may be in a run over so many links that are all there and were taken apart, with so many workers, 1 to 64: it isn't
--- BadWorkers, nobody was called or waited for, nothing was split, and the actor that it names is one of the run's
+-- what a fault may be in a run over so many links that are all there and are split, with so many workers, 1 to 64: it isn't BadWorkers,
+-- Listen, Call or Link, and the actor that an Audit names is one of the run's
 abbrev pub IsFaultOf : ℕ → ℕ → RunFault → Type 0
 IsFaultOf links workers BadWorkers = ⊥
 IsFaultOf links workers Listen = ⊥
@@ -28,8 +28,8 @@ IsArrivingFault has_peers links workers (Call k) = (has_peers ≡ true) × (k < 
 IsArrivingFault has_peers links workers (Link k) = (has_peers ≡ true) × (k < links)
 IsArrivingFault has_peers links workers fault = IsFaultOf links workers fault
 
--- what it may be where the links are there whole, and it is known of each, in order, whether its split may fail: a link that couldn't
--- be split, too, one of those whose split may fail
+-- what it may be where the links are all there and not split yet, and it is known of each, in order, whether its split may fail: also
+-- Link, of one whose split may fail
 abbrev pub IsWholeFault : List Bool → ℕ → RunFault → Type 0
 IsWholeFault may_not_split workers (Link k) = slice_get may_not_split k ≡ Some true
 IsWholeFault may_not_split workers fault = IsFaultOf (length may_not_split) workers fault

@@ -26,26 +26,27 @@ use Rattle.gn_bodies.specs.Done.{ReadsAs, WritesAs}
 -- what holds of link k, of this role, in a run whose links have these roles
 pub record LinkHolds {Rd W A : Type 0} (reads : Rd → ReadHalf) (writes : W → WrittenHalf) (roles : List Role)
     (report : Report Rd W A) (k : ℕ) (role : Role) (link : LinkReport Rd W A) : Type 0 where
-  -- the table of ends, of the reader: its events, its bytes and its half
+  -- the table of ends holds of the reader: its events, its bytes and its half
   pub read : ReadsAs role link.reader_end link.conn link.reader_receipts.items (reads link.reader)
-  -- its receipts, its connection and the Close of it in the history
+  -- the history confirms the reader: its receipts, its connection, and who closed that
   pub reader :
       ReaderConfirmed report.history.items (list_all is_calling roles) k (length report.links.items + k) role link
-  -- what was written: the opening text and the packets that the writer took; and the half is finished
+  -- the table of ends holds of the writer: what was written are the opening text and the packets that it took
   pub written : WritesAs role link.writer_end (packets_of link.writer_receipts.items) (writes link.writer)
+  -- the half that is written is finished
   pub finished : (writes link.writer).is_finished ≡ true
-  -- the table of ends, of the writer: its receipts, and the Close of its connection in the history
+  -- the history confirms the writer: its receipts, and who closed its connection
   pub writer :
       WriterConfirmed (is_settled report.history.items) roles report.history.items (length report.links.items + k) role
       link
-  -- the two have receipts of all that the history says of the link's connection: of each descriptor that was offered on it,
-  -- and of each packet that was taken from it
+  -- reader and writer have receipts of all that the history says of the link's connection: of each descriptor that was
+  -- offered on it, and of each packet that was taken from it
   pub agrees : (c : ℕ) → link.conn ≡ Some c → LinkAgrees report.history.items k (length report.links.items + k) c
   -- a writer that ended Drained took all packets that were ever queued to the connection
   pub took : (c : ℕ) → link.writer_end ≡ Drained → link.conn ≡ Some c
       → packets_of link.writer_receipts.items ≡ queued (reverse report.history.items) c
 
--- what each link's reader read is of that very link, where the links' readers are to give this, in the links' order
+-- what each link's reader read is of that very link; `sources` are what the links' readers are to give, in the links' order
 pub record LinksReadOwn {Rd W A : Type 0} (reads : Rd → ReadHalf) (sources : List Source)
     (report : Report Rd W A) : Type 0 where
   -- the first of the link's bytes, in order, and all of them where a read gave no more; where they are known beforehand
@@ -61,8 +62,8 @@ pub record LinksReadOwn {Rd W A : Type 0} (reads : Rd → ReadHalf) (sources : L
       → (slice_index_or report.links.items k link).reader_end ≡ ReadFailed
       → (slice_index_or sources k source).may_fail ≡ true
 
--- the two halves in each link's report were split from that very link: what both say of their link is what the links say, in
--- their order
+-- the two halves in each link's report were split from that very link, in the links' order: what a half says of its link is what
+-- the link says of itself
 pub record AreMadeOf {Rd W A O : Type 0} (reader_of : Rd → O) (writer_of : W → O) (origins : List O)
     (report : Report Rd W A) : Type 0 where
   pub readers : map (λ (link : LinkReport Rd W A). reader_of link.reader) report.links.items ≡ origins
@@ -74,7 +75,7 @@ abbrev pub AreOfOne : {Rd W A O : Type 0} → (Rd → O) → (W → O) → Repor
 AreOfOne reader_of writer_of report =
     map (λ link. writer_of link.writer) report.links.items ≡ map (λ link. reader_of link.reader) report.links.items
 
--- all of it, of a run of this configuration with so many workers over links of these roles
+-- what an answered run says: of a run of this configuration with so many workers over links of these roles
 pub record Holds {Rd W A : Type 0} (reads : Rd → ReadHalf) (writes : W → WrittenHalf) (s : Config) (roles : List Role)
     (workers : ℕ) (report : Report Rd W A) : Type 0 where
   -- the history is legal: each reply is the one that the rules give after the steps before it
@@ -83,18 +84,18 @@ pub record Holds {Rd W A : Type 0} (reads : Rd → ReadHalf) (writes : W → Wri
   pub counted : sum_by (λ receipts. length receipts) (receipts_of report) ≡ length report.history.items
   -- each actor's receipts are its own steps, each once and in order
   pub own : AreOwn report
-  -- no step is of anybody else
+  -- no step is of anybody who is no actor of the run
   pub only : list_all (λ step. nat_lt step.actor (actors report)) report.history.items ≡ true
   -- there is a report of each link, in their order, and a list of receipts for each worker
   pub each : (length report.links.items ≡ length roles) × (length report.workers.items ≡ workers)
   -- each link's reader and writer did what their ends say
   pub links : (k : ℕ) (role : Role) (link : LinkReport Rd W A) → k < length report.links.items
       → LinkHolds reads writes roles report k (slice_index_or roles k role) (slice_index_or report.links.items k link)
-  -- the workers made no event but Route: their receipts are their own steps, and of Route alone
+  -- each worker made no event but Route
   pub worker : (j : ℕ) (d : Vec (Receipt A) A) → j < length report.workers.items
       → WorkerConfirmed report.history.items (length report.links.items + length report.links.items + j)
       (slice_index_or report.workers.items j d).items
-  -- nor did the house; and once it was done nothing was in flight
+  -- nor did the house; and at the end nothing is in flight
   pub house : HouseConfirmed (is_settled report.history.items) report.history.items
       (length report.links.items + length report.links.items + length report.workers.items) report.house.items
   -- each admitted ticket is routed exactly once, and each route is replied Routed or Dropped

@@ -18,8 +18,10 @@ pub trait Arrivals: Drop {
     /// What of that is known before the link comes.
     type Foreknown;
 
+    /// The half of a link that is read.
     type Reader: LinkReader<Origin = Self::Origin>;
 
+    /// The half of a link that is written.
     type Writer: LinkWriter<Origin = Self::Origin>;
 
     /// Whether peers are called and accepted, either of which may fail.
@@ -55,8 +57,10 @@ impl<K: Link, A: Allocator> Arrivals for Arrived<K, A> {
 
     type Foreknown = K::Origin;
 
+    /// The half of a link that is read.
     type Reader = K::Reader;
 
+    /// The half of a link that is written.
     type Writer = K::Writer;
 
     ghost has_peers = { false };

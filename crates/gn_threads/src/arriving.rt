@@ -16,7 +16,7 @@ use crate::starting::start_and_join;
 use crate::stopped::Stopped;
 use gn_links::Gate;
 use gn_report::Report;
-use gn_rules::{Config, MOST_WORKERS, RouterCore, Step};
+use gn_rules::{Config, Historian, MOST_WORKERS, Step};
 use gn_shake::Role;
 use gn_stage::{Site, Stage};
 use std::alloc::Allocator;
@@ -28,7 +28,7 @@ use std::thread::Threads;
 /// As `run`, over links of these roles that come one after another: the bodies of each start as soon as it has come. Where
 /// one doesn't come, what has started is ended, and that fault is answered.
 pub fn run_arriving<
-    C: RouterCore<A> + Drop + Send,
+    C: Historian<A> + Drop + Send,
     V: Arrivals,
     G: Gate + Sync,
     A: Allocator + Copy + Send + Sync,
@@ -67,7 +67,7 @@ where
 /// Does the same, and a fault comes with what stands of the history, which is legal by the configuration of the call, and has as
 /// many steps as it may have where the fault is a full history.
 pub fn run_arriving_kept<
-    C: RouterCore<A> + Drop + Send,
+    C: Historian<A> + Drop + Send,
     V: Arrivals,
     G: Gate + Sync,
     A: Allocator + Copy + Send + Sync,
@@ -130,7 +130,7 @@ where
 /// A run with its ledger and its stage, which `B` names. Where it stops, what stands of the history is put into `history`.
 fn run_arriving_in<
     B: Site + Ledger + Send + Sync,
-    C: RouterCore<A> + Drop + Send,
+    C: Historian<A> + Drop + Send,
     V: Arrivals,
     G: Gate + Sync,
     A: Allocator + Copy + Send + Sync,

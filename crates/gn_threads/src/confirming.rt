@@ -35,7 +35,7 @@ use crate::shares::Shares;
 use gn_hub::{Actor, Hub};
 use gn_links::{LinkReader, LinkWriter};
 use gn_report::Report;
-use gn_rules::{Config, RouterCore, Stats, Step, is_same_config};
+use gn_rules::{Config, Historian, RouterCore, Stats, Step, is_same_config};
 use gn_shake::Role;
 use std::alloc::Allocator;
 use std::sync::ledger::{Ledger, Share};
@@ -87,7 +87,7 @@ struct Closed<A: Allocator> {
 }
 
 /// What the router of a hub leaves.
-fn close<L: Ledger, C: RouterCore<A>, A: Allocator + Copy>(
+fn close<L: Ledger, C: Historian<A>, A: Allocator + Copy>(
     config: &Config,
     hub: Hub<C, L, A>,
 ) -> Closed<A>
@@ -117,7 +117,7 @@ fn is_as_long(config: &Config, fault: RunFault, steps: usize) -> bool
 
 /// Keeps the history of a run that stopped at this fault: all of its steps. It keeps nothing where its router hasn't the
 /// configuration of the call, or where the fault is that the history is full and it isn't.
-pub(crate) fn keep_history<L: Ledger, C: RouterCore<A>, A: Allocator + Copy>(
+pub(crate) fn keep_history<L: Ledger, C: Historian<A>, A: Allocator + Copy>(
     config: &Config,
     fault: RunFault,
     hub: Hub<C, L, A>,
@@ -142,7 +142,7 @@ pub(crate) fn report<
     Rd: LinkReader,
     W: LinkWriter,
     L: Ledger,
-    C: RouterCore<A>,
+    C: Historian<A>,
     A: Allocator + Copy,
 >(
     config: &Config,
@@ -160,7 +160,8 @@ pub(crate) fn report<
     requires unconfirmed { IfSome unconfirmed
         (λ a. a < length roles.now + length roles.now + vec_len worked.receipts + 1) }
     ensures fault { IfErr result (λ fault. IsFaultOf (length roles.now) (vec_len worked.receipts) fault) }
-    ensures holds { IfOk result (λ report. Holds Rd.state W.state config.now roles.now (vec_len worked.receipts) report) }
+    ensures holds { IfOk result (λ report.
+        Holds Rd.state W.state config.now roles.now (vec_len worked.receipts) report) }
     ensures links { IfOk result (λ report. report.links.items ≡ linked.links.items) }
     ensures clean { IfOk result (λ _. unconfirmed ≡ None) }
 {

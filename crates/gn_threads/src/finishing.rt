@@ -20,7 +20,7 @@ use gn_bodies::{BodyFault, WriterDone};
 use gn_hub::{Actor, Hub};
 use gn_links::{LinkReader, LinkWriter};
 use gn_report::Report;
-use gn_rules::{Config, RouterCore, Step};
+use gn_rules::{Config, Historian, RouterCore, Step};
 use gn_shake::Role;
 use gn_stage::{Desk, IntakeHome, OutletHome, Site};
 use std::alloc::Allocator;
@@ -31,7 +31,7 @@ use std::sync::ledger::Ledger;
 /// memory ran out, what stands of the history is kept.
 pub(crate) fn finish<
     B: Site + Ledger,
-    C: RouterCore<A> + Drop,
+    C: Historian<A> + Drop,
     Rd: LinkReader,
     W: LinkWriter,
     A: Allocator + Copy,
@@ -133,7 +133,7 @@ fn settle<B: Site + Ledger, C: RouterCore<A>, A: Allocator + Copy, R: Wait>(
 /// The report of a run whose house is done. `unconfirmed` is a worker or the house, where one was refused a route.
 ///
 /// A reader that was refused one has no end that could be reported, so it is named here, whatever else isn't confirmed.
-fn assemble<L: Ledger, C: RouterCore<A> + Drop, Rd: LinkReader, W: LinkWriter, A: Allocator + Copy>(
+fn assemble<L: Ledger, C: Historian<A> + Drop, Rd: LinkReader, W: LinkWriter, A: Allocator + Copy>(
     alloc: A,
     config: &Config,
     roles: &[Role],
@@ -153,7 +153,8 @@ fn assemble<L: Ledger, C: RouterCore<A> + Drop, Rd: LinkReader, W: LinkWriter, A
     requires unconfirmed { IfSome unconfirmed
         (λ a. a < length roles.now + length roles.now + vec_len worked.receipts + 1) }
     ensures fault { IfErr result (λ fault. IsFaultOf (length roles.now) (vec_len worked.receipts) fault) }
-    ensures holds { IfOk result (λ report. Holds Rd.state W.state config.now roles.now (vec_len worked.receipts) report) }
+    ensures holds { IfOk result (λ report.
+        Holds Rd.state W.state config.now roles.now (vec_len worked.receipts) report) }
     ensures bodies { IfOk result (λ report.
         HasBodies (map reader_result readers.items) (map writer_ended writers.items) report) }
     ensures clean { IfOk result (λ _. unconfirmed ≡ None) }

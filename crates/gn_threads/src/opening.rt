@@ -5,7 +5,7 @@ ghost use Rattle.gn_rules.specs.Limits.{IsCrew, most_links};
 
 use crate::unstarted::{Unstarted, unstarted_of};
 use gn_hub::{Actor, Service};
-use gn_rules::{Config, RouterCore};
+use gn_rules::{Config, FreshRouter, RouterCore};
 use gn_shake::Role;
 use gn_stage::{Desk, Site, Stage};
 use std::alloc::{AllocError, Allocator, Global};
@@ -26,7 +26,7 @@ pub(crate) struct Opening<
 }
 
 /// Opens a run with links of these roles.
-pub(crate) fn open_run<'r, B: Site + Ledger, C: RouterCore<A> + Drop, A: Allocator + Copy>(
+pub(crate) fn open_run<'r, B: Site + Ledger, C: FreshRouter<A> + Drop, A: Allocator + Copy>(
     alloc: A,
     blank: Blank,
     stage: Stage<A>,

@@ -11,7 +11,7 @@ use crate::arriving::run_arriving;
 use crate::fault::RunFault;
 use gn_links::{Gate, Link, SplitLinks, split_all};
 use gn_report::Report;
-use gn_rules::{Config, MOST_WORKERS, RouterCore};
+use gn_rules::{Config, Historian, MOST_WORKERS};
 use std::alloc::Allocator;
 use std::sync::Wait;
 use std::thread::Threads;
@@ -22,7 +22,7 @@ use std::thread::Threads;
 /// Of several faults it answers the one that it finds first, but a full history before memory where bodies ran into both. Whatever
 /// the fault, no thread runs on.
 pub fn run<
-    C: RouterCore<A> + Drop + Send,
+    C: Historian<A> + Drop + Send,
     K: Link,
     G: Gate + Sync,
     A: Allocator + Copy + Send + Sync,

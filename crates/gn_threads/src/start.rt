@@ -90,10 +90,13 @@ impl<B: Site + Ledger, A: Allocator> Promise<WorkerDone<B, A>> for Works {
     ghost kept_by = { λ p r. link_events r.actor ≡ [] };
 }
 
+/// The thread of a reader, with what its body promises.
 pub(crate) type ReaderHandle<Rd, B, A> = PromisedHandle<ReaderDone<Rd, B, A>, Reads<Rd, B, A>>;
 
+/// The thread of a writer, with what its body promises.
 pub(crate) type WriterHandle<W, L, A> = PromisedHandle<WriterDone<W, L, A>, Writes<W, L, A>>;
 
+/// The thread of a worker, with what its body promises.
 pub(crate) type WorkerHandle<B, A> = PromisedHandle<WorkerDone<B, A>, Works>;
 
 /// The body of a reader, from its start.

@@ -42,7 +42,8 @@ impl<
     ) -> Result<(V::Reader, V::Writer), RunFault>
         ensures reader { IfOk result (λ h. IsNewReader (V.Reader.state h.0)) }
         ensures writer { IfOk result (λ h. IsNewWriter (V.Writer.state h.1)) }
-        ensures made { IfOk result (λ h. (V.coming arrivals.old ≡ V.foreknown (V.Reader.made_of h.0) ∷ V.coming arrivals.new)
+        ensures made { IfOk result (λ h.
+            (V.coming arrivals.old ≡ V.foreknown (V.Reader.made_of h.0) ∷ V.coming arrivals.new)
             × (V.Writer.made_of h.1 ≡ V.Reader.made_of h.0)) }
         ensures fault { IfErr result (λ fault. (links workers : ℕ) → link < links
             → IsArrivingFault V.has_peers links workers fault) }
@@ -88,8 +89,10 @@ impl<
         ensures writers { OnOk result (map (λ h. h.promise.start.value.role) handles.new.writers.items
             ≡ map (λ h. h.promise.start.value.role) handles.old.writers.items ++ unstarted.role ∷ []) }
         ensures read { OnOk result (
-            map (λ h. V.foreknown (V.Reader.made_of h.promise.start.value.reader)) handles.new.readers.items ++ V.coming arrivals.new
-            ≡ map (λ h. V.foreknown (V.Reader.made_of h.promise.start.value.reader)) handles.old.readers.items ++ V.coming arrivals.old) }
+            map (λ h. V.foreknown (V.Reader.made_of h.promise.start.value.reader)) handles.new.readers.items
+            ++ V.coming arrivals.new
+            ≡ map (λ h. V.foreknown (V.Reader.made_of h.promise.start.value.reader)) handles.old.readers.items
+            ++ V.coming arrivals.old) }
         ensures written { OnOk result (
             map (λ h. V.Writer.made_of h.promise.start.value.writer) handles.old.writers.items
             ≡ map (λ h. V.Reader.made_of h.promise.start.value.reader) handles.old.readers.items
@@ -133,9 +136,11 @@ impl<
         requires none { (handles.old.readers.items ≡ []) × (handles.old.writers.items ≡ []) }
         ensures readers { OnOk result (map (λ h. h.promise.start.value.role) handles.new.readers.items ≡ roles.now) }
         ensures writers { OnOk result (map (λ h. h.promise.start.value.role) handles.new.writers.items ≡ roles.now) }
-        ensures read { OnOk result (map (λ h. V.foreknown (V.Reader.made_of h.promise.start.value.reader)) handles.new.readers.items
+        ensures read { OnOk result (
+            map (λ h. V.foreknown (V.Reader.made_of h.promise.start.value.reader)) handles.new.readers.items
             ++ V.coming arrivals.new ≡ V.coming arrivals.old) }
-        ensures written { OnOk result (map (λ h. V.Writer.made_of h.promise.start.value.writer) handles.new.writers.items
+        ensures written { OnOk result (
+            map (λ h. V.Writer.made_of h.promise.start.value.writer) handles.new.writers.items
             ≡ map (λ h. V.Reader.made_of h.promise.start.value.reader) handles.new.readers.items) }
         ensures workers { handles.new.workers ≡ handles.old.workers }
         ensures fault { IfErr result (λ fault. (workers : ℕ)
@@ -170,9 +175,11 @@ impl<
             ≡ unstarted.entry.roles.now) }
         ensures writers { OnOk result (map (λ h. h.promise.start.value.role) handles.new.writers.items
             ≡ unstarted.entry.roles.now) }
-        ensures read { OnOk result (map (λ h. V.foreknown (V.Reader.made_of h.promise.start.value.reader)) handles.new.readers.items
+        ensures read { OnOk result (
+            map (λ h. V.foreknown (V.Reader.made_of h.promise.start.value.reader)) handles.new.readers.items
             ++ V.coming arrivals.new ≡ V.coming arrivals.old) }
-        ensures written { OnOk result (map (λ h. V.Writer.made_of h.promise.start.value.writer) handles.new.writers.items
+        ensures written { OnOk result (
+            map (λ h. V.Writer.made_of h.promise.start.value.writer) handles.new.writers.items
             ≡ map (λ h. V.Reader.made_of h.promise.start.value.reader) handles.new.readers.items) }
         ensures workers { OnOk result (vec_len handles.new.workers ≡ vec_len unstarted.entry.outlets) }
         ensures fault { IfErr result (λ fault. (workers : ℕ)
@@ -191,8 +198,8 @@ impl<
         self.start_links(arrivals, roles, links, handles)
     }
 
-    /// Starts all bodies and joins them. Where a link doesn't come, or a thread can't be made, the run fails, and each thread
-    /// that started is joined.
+    /// Starts all bodies and joins them. Where a link doesn't come, or a thread can't be made, the run fails, as the gate learns,
+    /// and each thread that started is joined.
     fn run_all<'r, V: Arrivals>(
         &self,
         mut arrivals: V,
@@ -212,6 +219,7 @@ impl<
         match self.start_all(&mut arrivals, unstarted, &mut handles) {
             Ok(()) => handles.join(self.rt),
             Err(fault) => {
+                self.gate.failed();
                 let found = handles.give_up(self.rt, self.service);
                 Err(first(fault, found))
             }

@@ -4,6 +4,8 @@
 mod heard;
 mod streams;
 mod told;
+mod trail;
 
 pub use streams::{read_told, write_told};
 pub use told::Told;
+pub use trail::Trail;

@@ -11,7 +11,7 @@ use Rattle.gn_wire.specs.Packet.{Packet}
 abbrev pub is_same_id : Guid → Guid → Bool
 is_same_id a b = pointwise nat_eq a.0 b.0
 
--- each kind as numbers of its own
+-- a kind as numbers, by which kinds are compared: unknown kinds differ by their payload descriptors
 abbrev pub kind_numbers : Kind → List ℕ
 kind_numbers Ping = 0 ∷ []
 kind_numbers Pong = 1 ∷ []

@@ -56,11 +56,11 @@ pub record IsDescriptor (d : Packet) : Type 0 where
   pub ttl_fits : d.ttl < 256
   pub hops_fits : d.hops < 256
 
--- how many times a descriptor may still be forwarded: its TTL, and with its Hops no more than the limit; a limit of 0 is none
+-- what is left of a descriptor's life: its TTL, or less, so that with its Hops it is within the limit; a limit of 0 is none
 abbrev pub life_left : ℕ → Packet → ℕ
 life_left life d = if life == 0 then d.ttl else min d.ttl (life - d.hops)
 
--- expired: at most one forward is left of its life, or it came with Hops 255; it isn't forwarded
+-- expired: at most 1 is left of its life, or it came with Hops 255; it isn't forwarded
 abbrev pub is_expired : ℕ → Packet → Bool
 is_expired life d = nat_le (life_left life d) 1 || d.hops == 255
 

@@ -33,7 +33,7 @@ impl<A: Allocator> Model for Descriptor<A> {
 }
 
 impl<A: Allocator> Descriptor<A> {
-    ghost use Rattle.gn_wire.specs.Packet.{IsDescriptor, Packet, code_of, forward_of, is_expired, kind_of, life_left, packet_fault};
+    ghost use Rattle.gn_wire.specs.Packet.{IsDescriptor, IsStored, Packet, code_of, fault_of, forward_of, is_expired, kind_of, life_left, packet_fault};
     ghost use Rattle.gn_wire.specs.Keys.{is_same_packet, key_of};
     ghost use Rattle.gn_wire.specs.Encoding.{bytes_of, header_of, packet_from};
 
@@ -71,6 +71,21 @@ impl<A: Allocator> Descriptor<A> {
             result ≡ option_map_or Err (packet_fault d) (Ok d) }
     {
         Descriptor::new(header.id, header.kind, header.ttl, header.hops, payload)
+    }
+
+    /// As `from_header`, where the payload's length is known to be valid, and the kind is the one that its code names.
+    pub fn whole(header: Header, payload: Bytes<A>) -> Self
+        requires valid { fault_of header.kind (length payload) ≡ None }
+        requires stored { IsStored header.kind }
+        ensures { result ≡ packet_from header payload }
+    {
+        Descriptor {
+            id: header.id,
+            kind: header.kind,
+            ttl: header.ttl,
+            hops: header.hops,
+            payload,
+        }
     }
 
     /// The ID that its sender gave it.

@@ -165,8 +165,8 @@ How many descriptors of one peer may be in flight at once, 0 to 4096;
 0: as many as of all";
 
 pub(crate) const RETRY: &str = "\
-A peer that doesn't listen yet is called again for so many seconds,
-0 to 86400; 0: it is called once";
+A peer that doesn't listen yet is called again for so many seconds, while
+the others are served, 0 to 86400; 0: it is called once";
 
 pub(crate) const BAD_RETRY: &str = "--retry takes a number of seconds, 0 to 86400";
 

@@ -36,6 +36,7 @@ const OWN_SERVENT: &str = "47474747474747474747474747474747";
 /// The version that is printed.
 const VERSION: &str = "0.2.0";
 
+/// An option without a value.
 pub(crate) fn flag<'a>(alloc: Global, name: &'a str, text: &'a str) -> Arg<'a>
     ensures rule { rule_of result ≡ flag_rule name.now }
     ensures local { result.global ≡ false }
@@ -46,6 +47,7 @@ pub(crate) fn flag<'a>(alloc: Global, name: &'a str, text: &'a str) -> Arg<'a>
         .help(text)
 }
 
+/// A subcommand before it has its options.
 pub(crate) fn leaf<'a>(
     alloc: Global,
     name: &'a str,
@@ -62,6 +64,7 @@ pub(crate) fn leaf<'a>(
         .after_help(texts)
 }
 
+/// The subcommand `replay`.
 fn replay_command<'a>(alloc: Global) -> Result<Command<'a>, AllocError>
     ensures shape { IfOk result (λ command. app_of command ≡ replay_app) }
     ensures globals { IfOk result (λ command. (fields_of command).has_globals ≡ false) }
@@ -76,6 +79,7 @@ fn replay_command<'a>(alloc: Global) -> Result<Command<'a>, AllocError>
     .arg(flag(alloc, "history", help::HISTORY))
 }
 
+/// The subcommand `audit`.
 fn audit_command<'a>(alloc: Global) -> Result<Command<'a>, AllocError>
     ensures shape { IfOk result (λ command. app_of command ≡ audit_app) }
     ensures globals { IfOk result (λ command. (fields_of command).has_globals ≡ false) }
@@ -165,6 +169,7 @@ pub(crate) fn with_both<'a>(
     command.arg(first)?.arg(second)
 }
 
+/// The subcommand `load`.
 fn load_command<'a>(alloc: Global) -> Result<Command<'a>, AllocError>
     ensures shape { IfOk result (λ command. app_of command ≡ load_app) }
     ensures globals { IfOk result (λ command. (fields_of command).has_globals ≡ false) }
@@ -259,6 +264,7 @@ fn stopped_command<'a>(alloc: Global) -> Result<Command<'a>, AllocError>
     )
 }
 
+/// The subcommand `serve`.
 fn serve_command<'a>(alloc: Global) -> Result<Command<'a>, AllocError>
     ensures shape { IfOk result (λ command. app_of command ≡ serve_app) }
     ensures globals { IfOk result (λ command. (fields_of command).has_globals ≡ false) }
@@ -314,6 +320,7 @@ fn texts_command<'a>(alloc: Global) -> Result<Command<'a>, AllocError>
     Ok(shows)
 }
 
+/// The command `gn` with all its subcommands.
 fn gn_command<'a>(alloc: Global) -> Result<Command<'a>, AllocError>
     ensures { IfOk result (λ command. app_of command ≡ gn_app) }
 {
@@ -323,6 +330,7 @@ fn gn_command<'a>(alloc: Global) -> Result<Command<'a>, AllocError>
     Ok(serves)
 }
 
+/// Whether a flag's value says that it is given.
 fn is_true(value: Option<&str>) -> bool
     ensures { result ≡ option_map_or (λ s. bytes_eq s.now (codes "true")) value.entry false }
 {
@@ -332,6 +340,7 @@ fn is_true(value: Option<&str>) -> bool
     }
 }
 
+/// Whether a flag is given.
 pub(crate) fn is_set(options: &ArgMatches<'_>, flag: &str) -> bool
     ensures { result ≡ is_set flag.now (rows_of (found_of options.now)) }
 {

@@ -37,11 +37,11 @@ pub mod frames {
 /// Configurations, events, replies and steps, and what every router promises.
 pub mod rules {
     pub use gn_rules::{
-        BadConfig, Config, ConnId, Counter, DropReason, Event, Field, Legality, MOST_LINKS,
-        MOST_WORKERS, Numbers, Own, Receipt, Refusal, Reply, RouterCore, Sending, Sends, Stats,
-        Step, Ticket, answers_fit, checked_answers_fit, counters_add_up, counters_count,
-        is_same_config, live_connections_rise, may_originate, output_is_untaken, run_events,
-        runs_agree, runs_agree_so_far, runs_stay_legal, servent_route_is_last,
+        BadConfig, Config, ConnId, Counter, DropReason, Event, Field, FreshRouter, Historian,
+        Legality, MOST_LINKS, MOST_WORKERS, Numbers, Own, Receipt, Refusal, Reply, RouterCore,
+        Sending, Sends, Stats, Step, Ticket, answers_fit, checked_answers_fit, counters_add_up,
+        counters_count, is_same_config, live_connections_rise, may_originate, output_is_untaken,
+        run_events, runs_agree, runs_agree_so_far, runs_stay_legal, servent_route_is_last,
     };
 }
 
@@ -59,11 +59,11 @@ pub mod laws {
     };
 }
 
-/// The router with tables, the one that searches its history, and whether a history is legal.
+/// The router with tables, with what becomes of its steps; the one that searches its history; and whether a history is legal.
 pub mod router {
-    pub use gn_legal::legal;
-    pub use gn_plain::PlainRouter;
-    pub use gn_router::{TableRouter, Unfreed};
+    pub use gn_router::{Forgetful, Keeper, Router, Store, Unfreed, Whole};
+    pub use gn_search::{PlainRouter, legal};
+    pub use gn_tables::TableRouter;
 }
 
 /// The tables of a router.
@@ -91,8 +91,8 @@ pub mod links {
         MemoryWriter, NoGate, SplitFault, SplitLink, SplitLinks, split_all,
     };
     pub use gn_tcp::{
-        ListenerStopper, Socket, TcpLink, TcpOrigin, TcpReader, TcpStopper, TcpWriter, Unmet,
-        listen,
+        Brake, Call, ListenerStopper, Socket, TcpCall, TcpLink, TcpOrigin, TcpReader, TcpStopper,
+        TcpWriter, Unmet, listen,
     };
 }
 
@@ -143,8 +143,8 @@ pub mod show {
 pub mod load {
     pub use gn_links::Watch;
     pub use gn_load::{
-        LoadFault, PrintFault, ServeFault, links_of, load, load_watched, print_history,
-        serve_history,
+        LoadFault, PrintFault, ServeFault, ServeStopped, links_of, load, load_watched,
+        print_history, serve_history, serve_history_kept,
     };
 }
 

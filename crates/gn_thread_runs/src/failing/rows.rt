@@ -1,11 +1,11 @@
 //! Runs over memory links that fail, are cut, come slowly or never end, row by row.
 
 use super::endless::EndlessLink;
+use super::run_over;
 use super::slow::SlowLink;
-use super::{Left, READER, WRITER, run_over};
 use crate::runs::{plain_links, run_of};
 use gn_bodies::{ReaderEnd, WriterEnd};
-use gn_fixtures::{OWN_PONG, PING, usual};
+use gn_fixtures::{Left, OWN_PONG, PING, READER, WRITER, usual};
 use gn_links::{MemoryLink, NoGate};
 use gn_rules::Config;
 use gn_shake::{Role, consent, request};

@@ -15,5 +15,5 @@ returns-clause-written g c =
 pub returns-clause-counted : goal.returns-clause-counted
 returns-clause-counted g c =
     let read = rw c.deref.ensures.value at c.in_ok-capture.ensures.read in
-    counted c.args.text.items c.in_ok-capture.capture c.exit_of.result _ _ _ _ read c.in_ok-replayed.ensures.played
+    counted c.args.text.items c.in_ok-capture.capture c.exit_of.result _ _ read c.in_ok-replayed.ensures.played.past c.in_ok-replayed.ensures.played.refusals
     c.exit_of.ensures.steps c.exit_of.ensures.refusals

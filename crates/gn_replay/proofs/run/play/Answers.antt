@@ -1,5 +1,14 @@
-use Rattle.gn_replay.proofs.RunLemmas.{none_written, on_err}
+use Rattle.std.proofs.Common.{[], refl, reverse}
+use Rattle.gn_replay.specs.ReplayText.{capture_plays}
+use Rattle.gn_replay.proofs.RunLemmas.{part_alone, played_alone}
 use Rattle.gn_replay.proofs.run.play.Goals as goal
 
-pub returns-in_err-make-clause-err : goal.returns-in_err-make-clause-err
-returns-in_err-make-clause-err g c = on_err c.from_residual.result (none_written (g.W.Sink.state c.args.sink.now).written _)
+pub returns-clause-played : goal.returns-clause-played
+returns-clause-played g c =
+    played_alone c.play_as.result c.new.result (capture_plays c.args.capture.config c.args.capture.lines.items) [] (λ x. reverse (g.C.RouterCore.steps x.core)) (λ x. x.refusals)
+    (g.W.Sink.state c.args.sink.now).written (g.W.Sink.state c.play_as.new.sink).written c.new.ensures refl c.play_as.ensures.played
+
+pub returns-clause-err : goal.returns-clause-err
+returns-clause-err g c =
+    part_alone c.play_as.result c.new.result (capture_plays c.args.capture.config c.args.capture.lines.items).text []
+    (g.W.Sink.state c.args.sink.now).written (g.W.Sink.state c.play_as.new.sink).written c.new.ensures refl c.play_as.ensures.err

@@ -5,4 +5,4 @@ pub loop-init : goal.loop-init
 loop-init g c = record { told = refl }
 
 pub returns-in-Ok-clause-told : goal.returns-in-Ok-clause-told
-returns-in-Ok-clause-told g c = c.in-Ok.ensures.told ∙ ap (λ bytes. bytes ++ take c.in-Ok.n c.read_some.new.buffer) c.loop.invariant.told
+returns-in-Ok-clause-told g c = c.in-Ok.ensures.told ∙ ap (λ bytes. bytes ++ take c.in-Ok.n c.read_room.new.buffer) c.loop.invariant.told

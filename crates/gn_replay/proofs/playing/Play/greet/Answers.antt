@@ -1,4 +1,3 @@
-use Rattle.std.proofs.Common.{rules}
 use Rattle.gn_replay.proofs.LinkLemmas.{greets_more, greets_refused, greets_done}
 use Rattle.gn_replay.proofs.playing.Play.greet.Goals as goal
 
@@ -7,10 +6,10 @@ returns-in-More g c =
     greets_more c.args.self.now c.args.i c.args.shake c.feed-shaken.new.self c.args.piece.now c.feed-shaken.result.state
     c.pieces_are_one_stream.ensures c.feed-shaken.ensures.state c.feed-shaken.ensures.after c.in-More.is
 
-pub returns-in_ok-push_greeting_refused-in-Refused : goal.returns-in_ok-push_greeting_refused-in-Refused
-returns-in_ok-push_greeting_refused-in-Refused g c =
+pub returns-in_ok-say_greeting_refused-in-Refused : goal.returns-in_ok-say_greeting_refused-in-Refused
+returns-in_ok-say_greeting_refused-in-Refused g c =
     greets_refused c.args.self.now _ c.args.i c.args.shake c.feed-shaken.new.self c.args.piece.now c.feed-shaken.result.state
-    c.pieces_are_one_stream.ensures c.feed-shaken.ensures.state c.feed-shaken.ensures.after c.in-Refused.is (search rules)
+    c.pieces_are_one_stream.ensures c.feed-shaken.ensures.state c.feed-shaken.ensures.after c.in-Refused.is c.in_ok-say_greeting_refused-in-Refused.ensures
 
 pub returns-in-Done : goal.returns-in-Done
 returns-in-Done g c =

@@ -8,14 +8,14 @@ loop-numbered-init g c = record {
   running =
       running_start c.args.self.now (g.W.Sink.state c.args.sink.now).written c.args.block.now c.args.lines.items
       (reverse c.reverse.new.self.items) (rw c.reverse.ensures.items (reverse-reverse c.args.lines.items))
-      (record { past = c.requires.new.past; links = c.requires.new.links; refusals = c.requires.new.refusals }) c.requires.empty;
+      c.requires;
   unfailed = (refl, refl);
 }
 
 pub returns-in_err-written-clause-err : goal.returns-in_err-written-clause-err
 returns-in_err-written-clause-err g c =
     on_err c.from_residual.result
-    (running_part c.args.self.now.settings c.loop-numbered.self (g.W.Sink.state c.args.sink.now).written (g.W.Sink.state c.loop-numbered.sink).written (g.W.Sink.state c.write_line-written.new.sink).written
+    (running_part c.args.self.now.form c.args.block.now c.args.self.now.settings c.loop-numbered.self (g.W.Sink.state c.args.sink.now).written (g.W.Sink.state c.loop-numbered.sink).written (g.W.Sink.state c.write_line-written.new.sink).written
     c.loop-numbered.block c.write_line-written.new.block
     c.in-Some.numbered.0 c.in-Some.numbered.1 (reverse c.take_last.new.lines.items) c.args.lines.items (rw (turned c.loop-numbered.lines.items c.take_last.new.lines.items c.in-Some.numbered c.in-Some.ensures) at c.loop-numbered.invariant.running)
     c.in_err-written.ensures.err)
@@ -23,7 +23,7 @@ returns-in_err-written-clause-err g c =
 pub loop-numbered-preserved : goal.loop-numbered-preserved
 loop-numbered-preserved g c = record {
   running =
-      running_more c.args.self.now.settings c.loop-numbered.self c.write_line-written.new.self (g.W.Sink.state c.args.sink.now).written (g.W.Sink.state c.loop-numbered.sink).written (g.W.Sink.state c.write_line-written.new.sink).written
+      running_more c.args.self.now.form c.args.block.now c.args.self.now.settings c.loop-numbered.self c.write_line-written.new.self (g.W.Sink.state c.args.sink.now).written (g.W.Sink.state c.loop-numbered.sink).written (g.W.Sink.state c.write_line-written.new.sink).written
       c.loop-numbered.block c.write_line-written.new.block
       c.in-Some.numbered.0 c.in-Some.numbered.1 (reverse c.take_last.new.lines.items) c.args.lines.items (rw (turned c.loop-numbered.lines.items c.take_last.new.lines.items c.in-Some.numbered c.in-Some.ensures) at c.loop-numbered.invariant.running)
       c.in_ok-written.ensures.ok;
@@ -33,6 +33,6 @@ loop-numbered-preserved g c = record {
 
 pub returns-clause-ok : goal.returns-clause-ok
 returns-clause-ok g c =
-    running_done c.args.self.now.settings c.loop-numbered.self (g.W.Sink.state c.args.sink.now).written (g.W.Sink.state c.loop-numbered.sink).written c.loop-numbered.block
+    running_done c.args.self.now.form c.args.block.now c.args.self.now.settings c.loop-numbered.self (g.W.Sink.state c.args.sink.now).written (g.W.Sink.state c.loop-numbered.sink).written c.loop-numbered.block
     (reverse c.loop-numbered.lines.items) c.args.lines.items (ap (λ xs. length (reverse xs)) c.in_default.ensures)
     c.loop-numbered.invariant.running

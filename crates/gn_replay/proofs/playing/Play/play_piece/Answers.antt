@@ -3,7 +3,7 @@ use Rattle.gn_replay.proofs.playing.Play.play_piece.Goals as goal
 
 pub returns-in_default : goal.returns-in_default
 returns-in_default g c = λ states are.
-    played_none c.args.self.now c.print_ended.new.self c.args.i c.args.piece.now states c.in_default.ensures.none c.in_ok-print_ended.ensures are
+    played_none c.args.self.now c.say_ended.new.self c.args.i c.args.piece.now states c.in_default.ensures.none c.in_ok-say_ended.ensures are
 
 pub returns : goal.returns
 returns g c = λ states are.

@@ -1,3 +1,0 @@
-pub mod MostLemmas
-pub mod RestLemmas
-pub mod SendLemmas

@@ -1,9 +1,0 @@
-use Rattle.std.proofs.Common.{◌∙◌}
-use Rattle.gn_decide.specs.Planned.{outgoing_sends}
-use Rattle.gn_decide.proofs.SendLemmas.{all_made}
-use Rattle.gn_decide.proofs.answering.sends_of.Goals as goal
-
-pub returns : goal.returns
-returns g c =
-    all_made c.from_vec.result (outgoing_sends (g.L.Lookup.settings c.args.past.now) (g.L.Lookup.past c.args.past.now) c.args.outgoing.now) _
-    (c.from_vec.ensures ∙ c.in_ok-room.ensures.items) (c.maker.view_is ∙ c.in_ok-send_all.ensures)

@@ -1,0 +1,371 @@
+//! The calls that make steps under the lock: of what lies under it, and of the lock itself.
+
+ghost use Rattle.std.specs.Prelude.{◌≡◌};
+
+use gn_capture::read_history;
+use gn_fixtures::{Heap, Refused, Turn, Turns, are_same, growths, ping, usual};
+use gn_hub::{Actor, Hub, Next, Outgoing, Role, Service, ServiceFault};
+use gn_payload::Checked;
+use gn_rules::{Event, Historian, Refusal};
+use gn_search::PlainRouter;
+use gn_tables::TableRouter;
+use std::alloc::{Allocator, Global};
+use std::marker::{Brand, PhantomData};
+use std::sync::Wait;
+use std::sync::ledger::{Blank, Ledger};
+use std::test::Fail;
+
+/// A call of the run.
+#[derive(Clone, Copy)]
+enum Made {
+    Connects,
+    Admits,
+    Routes,
+    Takes,
+}
+
+const CALL_COUNT: usize = 5;
+
+/// The calls of the run, each with the actor who makes it: two links connect, the first sends a Ping, a worker routes it, and
+/// the writer of the second takes it.
+const CALLS: [(usize, Made); CALL_COUNT] = [
+    (0, Made::Connects),
+    (1, Made::Connects),
+    (0, Made::Admits),
+    (4, Made::Routes),
+    (3, Made::Takes),
+];
+
+/// Their history.
+const HISTORY: &str = "gnutella-history 1\n\
+config 4 8 4 8 8 100\n\
+own eeeeeeeeeeeeeeeeeeeeeeeeeeeeeeee 127.0.0.1 6346 5 40\n\
+0 connect = connected 1\n\
+1 connect = connected 2\n\
+0 admit 1 a1a1a1a1a1a1a1a1a1a1a1a1a1a1a1a100070000000000 = admitted 0\n\
+4 route 0 = routed local 1+a1a1a1a1a1a1a1a1a1a1a1a1a1a1a1a10101000e000000ca187f0000010500000028000000 2+a1a1a1a1a1a1a1a1a1a1a1a1a1a1a1a100060100000000\n\
+3 take 2 = taken a1a1a1a1a1a1a1a1a1a1a1a1a1a1a1a100060100000000\n\
+end\n";
+
+/// Where the calls are made: on what lies under the lock, or on the lock.
+trait Place<L: Ledger, A: Allocator + Copy> {
+    fn call(&mut self, me: &mut Actor<L, A>, event: &Event<A>) -> Result<(), Refusal>;
+
+    fn route(&mut self, me: &mut Actor<L, A>, checked: &Checked<A>) -> Result<(), Refusal>;
+
+    /// Connects the actor's own link.
+    fn connect(&mut self, me: &mut Actor<L, A>) -> Result<(), Refusal>;
+
+    /// Takes a packet of the second connection. `NothingWaiting` where there is none.
+    fn take(&mut self, me: &mut Actor<L, A>) -> Result<(), Refusal>;
+}
+
+impl<A: Allocator + Copy, C: Historian<A>, L: Ledger> Place<L, A> for Hub<C, L, A> {
+    fn call(&mut self, me: &mut Actor<L, A>, event: &Event<A>) -> Result<(), Refusal> {
+        Hub::call(self, me, event)
+    }
+
+    fn route(&mut self, me: &mut Actor<L, A>, checked: &Checked<A>) -> Result<(), Refusal> {
+        Hub::route(self, me, 0, checked)
+    }
+
+    fn connect(&mut self, me: &mut Actor<L, A>) -> Result<(), Refusal> {
+        let link = me.number();
+        Hub::connect(self, me, link)
+    }
+
+    fn take(&mut self, me: &mut Actor<L, A>) -> Result<(), Refusal> {
+        match self.next_out(me, 2)? {
+            Next::Packet => Ok(()),
+            Next::Later | Next::Over => Err(Refusal::NothingWaiting),
+        }
+    }
+}
+
+/// The lock, and the runtime by which it is waited for.
+#[derive(Drop)]
+struct Locked<'r, 's, R, C: Historian<A> + Drop, L: Ledger, A: Allocator + Copy> {
+    rt: &'r R,
+    service: &'s Service<C, L, A>,
+}
+
+impl<'r, 's, A: Allocator + Copy, C: Historian<A> + Drop, L: Ledger, R: Wait> Place<L, A>
+    for Locked<'r, 's, R, C, L, A> {
+    fn call(&mut self, me: &mut Actor<L, A>, event: &Event<A>) -> Result<(), Refusal> {
+        self.service.call(self.rt, me, event)
+    }
+
+    fn route(&mut self, me: &mut Actor<L, A>, checked: &Checked<A>) -> Result<(), Refusal> {
+        self.service.route(self.rt, me, 0, checked)
+    }
+
+    fn connect(&mut self, me: &mut Actor<L, A>) -> Result<(), Refusal> {
+        let link = me.number();
+        self.service.connect(self.rt, me, link)
+    }
+
+    fn take(&mut self, me: &mut Actor<L, A>) -> Result<(), Refusal> {
+        match self.service.next_out(self.rt, me, 2)? {
+            Outgoing::Packet => Ok(()),
+            Outgoing::Drained | Outgoing::Closed => Err(Refusal::NothingWaiting),
+        }
+    }
+}
+
+/// Makes the call of this number. `NotLive` where there is no such actor.
+fn make<A: Allocator + Copy, L: Ledger, P: Place<L, A>>(
+    place: &mut P,
+    actors: &mut [Actor<L, A>],
+    number: usize,
+) -> Result<(), Refusal> {
+    let (who, made) = CALLS[number.min(4)];
+    let (Some(me), Ok(first)) = (actors.get_mut(who), ping(0xa1, 7, 0)) else {
+        return Err(Refusal::NotLive);
+    };
+    match made {
+        Made::Connects => place.connect(me),
+        Made::Admits => place.call(me, &Event::Admit(1, first)),
+        Made::Routes => place.route(me, &Checked::new(first)),
+        Made::Takes => place.take(me),
+    }
+}
+
+/// Makes the calls of these numbers: whether each is answered.
+fn are_made<A: Allocator + Copy, L: Ledger, P: Place<L, A>>(
+    place: &mut P,
+    actors: &mut [Actor<L, A>],
+    from: usize,
+    to: usize,
+) -> bool {
+    for number in from..to {
+        if make(place, actors, number).is_err() {
+            return false;
+        }
+    }
+    true
+}
+
+/// How many receipts all actors have.
+fn receipts_of<A: Allocator, L: Ledger>(actors: &[Actor<L, A>]) -> usize {
+    let mut receipts = 0usize;
+    for me in actors {
+        receipts = receipts.wrapping_add(me.receipts().len());
+    }
+    receipts
+}
+
+/// Makes all calls, where the one of this number meets the refusal and is made again.
+fn turn_at<A: Allocator + Copy, L: Ledger, P: Place<L, A>>(
+    heap: &Heap,
+    place: &mut P,
+    actors: &mut [Actor<L, A>],
+    number: usize,
+    refused: Refused,
+) -> Turn {
+    if !are_made(place, actors, 0, number) {
+        return Turn::Wrong;
+    }
+    refused.begin(heap);
+    let answer = make(place, actors, number);
+    let has_refused = heap.has_refused();
+    heap.refuse_none();
+    let turn = match answer {
+        Ok(()) if !has_refused => Turn::Answered,
+        Err(Refusal::NoMemory) if has_refused && receipts_of(actors) == number => {
+            match make(place, actors, number) {
+                Ok(()) => Turn::Refused,
+                Err(_) => return Turn::Wrong,
+            }
+        }
+        _ => return Turn::Wrong,
+    };
+    if are_made(place, actors, number.saturating_add(1), CALL_COUNT) {
+        turn
+    } else {
+        Turn::Wrong
+    }
+}
+
+/// Whether the calls left their history, and so many receipts. That each is of a step of its actor's own is proved.
+fn is_whole<A: Allocator + Copy, C: Historian<A>, L: Ledger>(
+    alloc: A,
+    hub: &Hub<C, L, A>,
+    receipts: usize,
+) -> Result<bool, Fail> {
+    let (_, steps) = read_history(alloc, HISTORY.as_bytes())?;
+    let is_left = are_same(hub.router().history(), steps.as_slice());
+    Ok(is_left && receipts == steps.len() && hub.book() == 5)
+}
+
+/// Makes a service of two links and one worker.
+fn a_service<A: Allocator + Copy, C: Historian<A> + Drop, L: Ledger>(
+    alloc: A,
+    blank: Blank,
+) -> Result<(Service<C, L, A>, Vec<Actor<L, A>, A>), ServiceFault>
+    requires name { blank.name ≡ L.name }
+    requires parts { (blank.parts ≡ L.parts) × (blank.parts ≡ 6) }
+{
+    let Ok(config) = usual(100) else {
+        return Err(ServiceFault::BadWorkers);
+    };
+    Service::<C, L, A>::new(alloc, blank, &config, &[Role::Plain, Role::Plain], 1)
+}
+
+/// Makes all calls at the lock.
+fn turn_locked<'r, 's, A: Allocator + Copy, C: Historian<A> + Drop, L: Ledger, R: Wait>(
+    rt: &'r R,
+    heap: &Heap,
+    service: &'s Service<C, L, A>,
+    actors: &mut [Actor<L, A>],
+    number: usize,
+    refused: Refused,
+) -> Turn {
+    let mut place = Locked { rt, service };
+    turn_at(heap, &mut place, actors, number, refused)
+}
+
+/// Makes all calls at the lock, or on what lies under it.
+fn turn_of<A: Allocator + Copy, C: Historian<A> + Drop, L: Ledger, R: Wait>(
+    rt: &R,
+    heap: &Heap,
+    alloc: A,
+    blank: Blank,
+    call: (usize, bool),
+    refused: Refused,
+) -> Result<Turn, Fail>
+    requires name { blank.name ≡ L.name }
+    requires parts { (blank.parts ≡ L.parts) × (blank.parts ≡ 6) }
+{
+    heap.refuse_none();
+    let (service, mut actors) = a_service::<A, C, L>(alloc, blank)?;
+    let (number, is_locked) = call;
+    let (turn, hub) = if is_locked {
+        let turn = turn_locked(rt, heap, &service, actors.as_mut_slice(), number, refused);
+        (turn, service.into_hub())
+    } else {
+        let mut hub = service.into_hub();
+        let turn = turn_at(heap, &mut hub, actors.as_mut_slice(), number, refused);
+        (turn, hub)
+    };
+    let is_whole = is_whole(alloc, &hub, receipts_of(actors.as_slice()))?;
+    Ok(if is_whole { turn } else { Turn::Wrong })
+}
+
+/// The call of this number, at the lock or on what lies under it.
+#[derive(Drop)]
+struct Calls<'a, R, C> {
+    rt: &'a R,
+    number: usize,
+    is_locked: bool,
+    core: PhantomData<C>,
+}
+
+impl<'a, A: Allocator + Copy, C: Historian<A> + Drop, R: Wait> Turns<A> for Calls<'a, R, C> {
+    fn turn(&self, heap: &Heap, alloc: A, refused: Refused) -> Result<Turn, Fail> {
+        let call = (self.number, self.is_locked);
+        turn_of::<A, C, Brand, R>(self.rt, heap, alloc, Blank::new(6), call, refused)
+    }
+}
+
+/// Makes a service: how many actors it has.
+fn actors_of<A: Allocator + Copy, C: Historian<A> + Drop, L: Ledger>(
+    alloc: A,
+    blank: Blank,
+) -> Result<usize, ServiceFault>
+    requires name { blank.name ≡ L.name }
+    requires parts { (blank.parts ≡ L.parts) × (blank.parts ≡ 6) }
+{
+    let (_, actors) = a_service::<A, C, L>(alloc, blank)?;
+    Ok(actors.len())
+}
+
+/// How many actors a service has that is made.
+fn opened<A: Allocator + Copy, C: Historian<A> + Drop>(alloc: A) -> Result<usize, ServiceFault> {
+    actors_of::<A, C, Brand>(alloc, Blank::new(6))
+}
+
+/// Makes a service.
+#[derive(Drop)]
+struct Opens<C> {
+    core: PhantomData<C>,
+}
+
+impl<A: Allocator + Copy, C: Historian<A> + Drop> Turns<A> for Opens<C> {
+    fn turn(&self, heap: &Heap, alloc: A, refused: Refused) -> Result<Turn, Fail> {
+        refused.begin(heap);
+        let made = opened::<A, C>(alloc);
+        let has_refused = heap.has_refused();
+        heap.refuse_none();
+        Ok(match made {
+            Ok(6) if !has_refused => Turn::Answered,
+            Err(ServiceFault::NoMemory) if has_refused => {
+                match opened::<A, C>(alloc) {
+                    Ok(6) => Turn::Refused,
+                    _ => Turn::Wrong,
+                }
+            }
+            _ => Turn::Wrong,
+        })
+    }
+}
+
+/// How many growths the calls meet: making a service, and each call, on what lies under the lock and at the lock.
+fn all_growths<A: Allocator + Copy, C: Historian<A> + Drop, R: Wait>(
+    rt: &R,
+    out: Global,
+    heap: &Heap,
+    alloc: A,
+) -> Result<Vec<u64>, Fail> {
+    let mut all = Vec::new(out);
+    let making: Opens<C> = Opens { core: PhantomData };
+    all.push(growths(heap, alloc, &making)?)?;
+    for turn in 0..2 * CALL_COUNT {
+        let call: Calls<R, C> = Calls {
+            rt,
+            number: turn % CALL_COUNT,
+            is_locked: turn >= CALL_COUNT,
+            core: PhantomData,
+        };
+        all.push(growths(heap, alloc, &call)?)?;
+    }
+    Ok(all)
+}
+
+/// At the router with tables.
+const TABLE: [u64; 11] = [7, 3, 2, 8, 11, 2, 3, 2, 8, 11, 2];
+
+/// At the router that searches its history.
+const PLAIN: [u64; 11] = [3, 3, 1, 0, 6, 2, 3, 1, 0, 6, 2];
+
+/// Whether the calls meet these growths.
+fn meets_all<A: Allocator + Copy, C: Historian<A> + Drop, R: Wait>(
+    rt: &R,
+    out: Global,
+    heap: &Heap,
+    alloc: A,
+    wanted: &[u64],
+) -> Result<(), Fail> {
+    let met = all_growths::<A, C, R>(rt, out, heap, alloc)?;
+    if met.as_slice() == wanted {
+        Ok(())
+    } else {
+        Err(Fail::new(format_args!("{met:?}")))
+    }
+}
+
+/// Whether they meet theirs at both routers, which are named for any allocator: one over the heap is dear to prove.
+fn both_meet_all<A: Allocator + Copy, R: Wait>(
+    rt: &R,
+    out: Global,
+    heap: &Heap,
+    alloc: A,
+) -> Result<(), Fail> {
+    meets_all::<A, TableRouter<A>, R>(rt, out, heap, alloc, &TABLE)?;
+    meets_all::<A, PlainRouter<A>, R>(rt, out, heap, alloc, &PLAIN)
+}
+
+#[test]
+fn calls_under_the_lock(rt: HostRuntime) -> Result<(), Fail> {
+    let heap = Heap::new(rt.alloc());
+    both_meet_all(&rt, rt.alloc(), &heap, &heap)
+}

@@ -1,0 +1,232 @@
+//! Runs of two links of one Ping each by one worker.
+
+use gn_bodies::{ReaderEnd, WriterEnd};
+use gn_fixtures::{Heap, OWN, PING, Refused, Turn, has_answered, refused_at};
+use gn_io::{ReaderSource, WriterSink};
+use gn_links::{MemoryLink, NoGate};
+use gn_load::{LoadFault, load};
+use gn_replay::ReplayFault;
+use gn_rules::{BadConfig, Config, Historian};
+use gn_shake::Role;
+use gn_stage::StageFault;
+use gn_tables::TableRouter;
+use gn_threads::{RunFault, run};
+use std::alloc::{AllocError, Allocator};
+use std::sync::Wait;
+use std::test::Fail;
+use std::thread::Threads;
+
+/// The configuration of six links of a hundred Pings.
+fn ample() -> Result<Config, BadConfig> {
+    Config::new(8, 1024, 64, 1024, 1024, 100_000, 0, 0, OWN)
+}
+
+/// So many plain links of one Ping each, in a list over an allocator of its own.
+fn links_of_pings<A: Allocator + Copy, B: Allocator>(
+    alloc: A,
+    list: B,
+    count: u8,
+) -> Result<Vec<MemoryLink<A>, B>, AllocError> {
+    let mut links = Vec::new(list);
+    for number in 0..count {
+        let mut bytes = Vec::from_slice(alloc, PING)?;
+        if let Some(first) = bytes.first_mut() {
+            *first = number;
+        }
+        links.push(MemoryLink::new(Role::Plain, bytes, 4_096))?;
+    }
+    Ok(links)
+}
+
+/// Runs both links, where these growths are refused: out of memory, or a report. That its history is legal is proved.
+fn run_refused<
+    A: Allocator + Copy + Send + Sync,
+    C: Historian<A> + Drop + Send,
+    R: Threads + Wait + Sync,
+>(rt: &R, heap: &Heap, alloc: A, refused: Refused) -> Result<Turn, Fail> {
+    heap.refuse_none();
+    let config = ample()?;
+    let links = links_of_pings(alloc, alloc, 2)?;
+    if links.len() > 256 {
+        return Err("two links".into());
+    }
+    refused.begin(heap);
+    let ran = run::<C, _, _, _, _>(rt, alloc, &config, links, 1, &NoGate);
+    let has_refused = heap.has_refused();
+    heap.refuse_none();
+    Ok(match ran {
+        Ok(_report) => {
+            if has_refused {
+                Turn::Refused
+            } else {
+                Turn::Answered
+            }
+        }
+        Err(RunFault::NoMemory | RunFault::Stage(StageFault::NoMemory)) if has_refused => {
+            Turn::Refused
+        }
+        _ => Turn::Wrong,
+    })
+}
+
+/// How many growths of a run are refused, each alone or with all later ones, until a run meets none.
+fn growths_of_runs<
+    A: Allocator + Copy + Send + Sync,
+    C: Historian<A> + Drop + Send,
+    R: Threads + Wait + Sync,
+>(rt: &R, heap: &Heap, alloc: A, with_later: bool) -> Result<u64, Fail> {
+    for number in 0..10_000 {
+        let refused = refused_at(number, with_later);
+        let turn = run_refused::<A, C, R>(rt, heap, alloc, refused)?;
+        if has_answered(refused, turn)? {
+            return Ok(number);
+        }
+    }
+    Err("a run with no end of growths".into())
+}
+
+/// Runs so many links over a memory that refuses everything, and all else over another: how many bytes' ends and failed
+/// writers the report has.
+fn run_over_two<
+    A: Allocator + Copy + Send + Sync,
+    B: Allocator + Copy + Send + Sync,
+    C: Historian<B> + Drop + Send,
+    R: Threads + Wait + Sync,
+>(rt: &R, heap: &Heap, poor: A, rich: B, count: u8) -> Result<(usize, usize), Fail> {
+    heap.refuse_none();
+    let config = ample()?;
+    let links = links_of_pings(poor, rich, count)?;
+    if links.len() > 256 {
+        return Err("too many links".into());
+    }
+    heap.refuse_from(0);
+    let ran = run::<C, _, _, _, _>(rt, rich, &config, links, 1, &NoGate);
+    let Ok(report) = ran else {
+        return Err("a report".into());
+    };
+    let (mut read, mut failed) = (0usize, 0usize);
+    for link in &report.links {
+        if link.reader_end == ReaderEnd::Bytes {
+            read = read.wrapping_add(1);
+        }
+        if link.writer_end == WriterEnd::WriteFailed {
+            failed = failed.wrapping_add(1);
+        }
+    }
+    Ok((read, failed))
+}
+
+/// The same of one link and of two. The router is named for any allocator, since one over a heap is dear to prove.
+fn one_and_two<
+    A: Allocator + Copy + Send + Sync,
+    B: Allocator + Copy + Send + Sync,
+    R: Threads + Wait + Sync,
+>(rt: &R, heap: &Heap, poor: A, rich: B) -> Result<[(usize, usize); 2], Fail> {
+    Ok([
+        run_over_two::<A, B, TableRouter<B>, R>(rt, heap, poor, rich, 1)?,
+        run_over_two::<A, B, TableRouter<B>, R>(rt, heap, poor, rich, 2)?,
+    ])
+}
+
+/// A writer that fails closes its connection: where that comes before the same link's reader has offered its Ping, that reader
+/// ends by it and not by its bytes. It can't be both of two links, since no writer has anything to write before the first Ping.
+#[test]
+fn writers_without_memory(rt: HostRuntime) -> Result<(), Fail> {
+    let heap = Heap::new(rt.alloc());
+    let ends = one_and_two(&rt, &heap, &heap, rt.alloc())?;
+    assert!(rt;
+        ends == [(1, 1), (1, 2)] || ends == [(1, 1), (2, 2)],
+        "{ends:?}"
+    );
+    Ok(())
+}
+
+/// A capture of both links.
+const CAPTURE: &str = "gnutella-capture 1\n\
+config 8 1024 64 1024 1024 100000\n\
+own eeeeeeeeeeeeeeeeeeeeeeeeeeeeeeee 127.0.0.1 6346 5 40\n\
+join\n\
+join\n\
+data 1 a1a1a1a1a1a1a1a1a1a1a1a1a1a1a1a100070000000000\n\
+data 2 a2a2a2a2a2a2a2a2a2a2a2a2a2a2a2a200070000000000\n";
+
+/// Loads the capture, where these growths are refused, and writes to a memory of its own: out of memory and nothing written, or
+/// a history to its end.
+fn load_refused<
+    A: Allocator + Copy + Send + Sync,
+    B: Allocator + Copy,
+    C: Historian<A> + Drop + Send,
+    R: Threads + Wait + Sync,
+>(rt: &R, heap: &Heap, alloc: A, rich: B, refused: Refused) -> Turn {
+    let mut source = ReaderSource::new(CAPTURE.as_bytes());
+    let mut sink = WriterSink::new(Vec::new(rich));
+    refused.begin(heap);
+    let loaded = load::<A, C, R, _, _>(rt, alloc, 1, &mut source, &mut sink);
+    let has_refused = heap.has_refused();
+    heap.refuse_none();
+    let written = sink.into_inner();
+    match loaded {
+        Ok(()) if written.ends_with(b"\nend\n") => {
+            if has_refused {
+                Turn::Refused
+            } else {
+                Turn::Answered
+            }
+        }
+        Err(
+            LoadFault::Text(ReplayFault::NoMemory)
+            | LoadFault::Run(RunFault::NoMemory)
+            | LoadFault::Run(RunFault::Stage(StageFault::NoMemory)),
+        ) if has_refused && written.is_empty() => Turn::Refused,
+        _ => Turn::Wrong,
+    }
+}
+
+/// How many growths of a load are refused, each alone or with all later ones, until a load meets none.
+fn growths_of_loads<
+    A: Allocator + Copy + Send + Sync,
+    B: Allocator + Copy,
+    C: Historian<A> + Drop + Send,
+    R: Threads + Wait + Sync,
+>(rt: &R, heap: &Heap, alloc: A, rich: B, with_later: bool) -> Result<u64, Fail> {
+    for number in 0..10_000 {
+        let refused = refused_at(number, with_later);
+        let turn = load_refused::<A, B, C, R>(rt, heap, alloc, rich, refused);
+        if has_answered(refused, turn)? {
+            return Ok(number);
+        }
+    }
+    Err("a load with no end of growths".into())
+}
+
+/// The growths of runs alone and with all later ones, and those of loads, at a router that is named for any allocator too.
+fn all_growths<A: Allocator + Copy + Send + Sync, B: Allocator + Copy, R: Threads + Wait + Sync>(
+    rt: &R,
+    heap: &Heap,
+    alloc: A,
+    rich: B,
+) -> Result<[u64; 4], Fail> {
+    Ok([
+        growths_of_runs::<A, TableRouter<A>, R>(rt, heap, alloc, false)?,
+        growths_of_runs::<A, TableRouter<A>, R>(rt, heap, alloc, true)?,
+        growths_of_loads::<A, B, TableRouter<A>, R>(rt, heap, alloc, rich, false)?,
+        growths_of_loads::<A, B, TableRouter<A>, R>(rt, heap, alloc, rich, true)?,
+    ])
+}
+
+#[test]
+fn runs_and_loads_of_two_links(rt: HostRuntime) -> Result<(), Fail> {
+    let heap = Heap::new(rt.alloc());
+    let [alone, with_later, load_alone, load_with_later] = all_growths(
+        &rt,
+        &heap,
+        &heap,
+        rt.alloc(),
+    )?;
+    assert!(rt; alone > 60 && with_later > 60, "{alone} and {with_later}");
+    assert!(rt;
+        load_alone > 80 && load_with_later > 80,
+        "{load_alone} and {load_with_later}"
+    );
+    Ok(())
+}

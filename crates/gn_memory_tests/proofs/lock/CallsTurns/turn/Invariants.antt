@@ -1,4 +1,0 @@
-use Rattle.gn_memory_tests.proofs.lock.CallsTurns.turn.Given as goal
-
-abbrev pub ghosts-turn_of : goal.ghosts-turn_of
-ghosts-turn_of g a = record { name = a.blank.name; parts = a.blank.parts }

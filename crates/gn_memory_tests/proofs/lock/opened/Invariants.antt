@@ -1,4 +1,0 @@
-use Rattle.gn_memory_tests.proofs.lock.opened.Given as goal
-
-abbrev pub ghosts-actors_of : goal.ghosts-actors_of
-ghosts-actors_of g a = record { name = a.blank.name; parts = a.blank.parts }

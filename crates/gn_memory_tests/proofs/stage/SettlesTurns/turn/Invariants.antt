@@ -1,4 +1,0 @@
-use Rattle.gn_memory_tests.proofs.stage.SettlesTurns.turn.Given as goal
-
-abbrev pub ghosts-settles_of : goal.ghosts-settles_of
-ghosts-settles_of g a = record { stage = a.stage }

@@ -1,4 +1,0 @@
-use Rattle.gn_memory_tests.proofs.stage.is_made.Given as goal
-
-abbrev pub ghosts-has_ends : goal.ghosts-has_ends
-ghosts-has_ends g a = record { stage = a.stage }

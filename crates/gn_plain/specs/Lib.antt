@@ -1,3 +1,0 @@
--- Words of the proofs.
-pub mod Invariant
-pub mod Places

@@ -1,0 +1,91 @@
+//! The watch of a serve, which keeps why a peer can't be called.
+
+use crate::told::Told;
+use gn_links::{Gate, Half, Made, Watch};
+use gn_load::ServeFault;
+use gn_threads::RunFault;
+use std::array;
+use std::io::ErrorKind;
+use std::net::SocketAddr;
+use std::sync::{OnceLock, Wait};
+
+/// As many peers as a command line names at most.
+const PEERS: usize = 64;
+
+/// Passes all on to who watches the run, and keeps what the system said of each peer that can't be called.
+#[derive(Drop)]
+pub(crate) struct Calls<'w, G> {
+    watch: &'w G,
+    whys: [OnceLock<(SocketAddr, ErrorKind)>; PEERS],
+}
+
+impl<'w, G> Calls<'w, G> {
+    /// Each peer may be called.
+    pub(crate) fn new(watch: &'w G) -> Self {
+        Calls {
+            watch,
+            whys: array::from_fn(|_| OnceLock::new()),
+        }
+    }
+
+    /// What the system said where the run came to this: of a peer that can't be called, or else this.
+    pub(crate) fn told(&self, answer: &Result<(), ServeFault>, told: Told) -> Told {
+        let Err(ServeFault::Run(RunFault::Call(link))) = answer else {
+            return told;
+        };
+        let Some(slot) = self.whys.get(*link as usize) else {
+            return told;
+        };
+        match slot.get() {
+            Some((peer, why)) => Told::Call(*peer, *why),
+            None => told,
+        }
+    }
+}
+
+impl<'w, G: Gate> Gate for Calls<'w, G> {
+    fn enter<W: Wait>(&self, rt: &W, worker: u32, ticket: u32) {
+        self.watch.enter(rt, worker, ticket);
+    }
+
+    fn made(&self, link: u32, step: Made) {
+        self.watch.made(link, step);
+    }
+
+    fn ended(&self, link: u32, half: Half) {
+        self.watch.ended(link, half);
+    }
+
+    fn failed(&self) {
+        self.watch.failed();
+    }
+}
+
+impl<'w, G: Watch> Watch for Calls<'w, G> {
+    fn begin(&self, links: usize) {
+        self.watch.begin(links);
+    }
+
+    fn open(&self, steps: u32) {
+        self.watch.open(steps);
+    }
+
+    fn came(&self, link: u32, peer: SocketAddr) {
+        self.watch.came(link, peer);
+    }
+
+    fn not_called(&self, link: u32, peer: SocketAddr, why: ErrorKind) {
+        if let Some(slot) = self.whys.get(link as usize) {
+            let _ = slot.try_set((peer, why));
+        }
+        self.watch.not_called(link, peer, why);
+    }
+
+    fn end(&self) {
+        self.watch.end();
+    }
+
+    fn leave<T: Drop>(&self, rest: T) {
+        self.watch.leave(rest);
+    }
+}

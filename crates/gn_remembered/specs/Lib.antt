@@ -1,3 +1,0 @@
--- Words of the proofs.
-pub mod Place
-pub mod Views

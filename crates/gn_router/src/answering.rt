@@ -1,0 +1,129 @@
+//! The answers that plans stand for, with their packets made.
+
+ghost use Rattle.std.specs.Prelude.{◌≡◌, ◌≤◌, ◌∷◌, ◌++◌, [], Ok, IfOk, length, reverse};
+ghost use Rattle.gn_rules.specs.Answer as rules;
+ghost use Rattle.gn_rules.specs.declared.event.Event.TheVariants.{Route};
+ghost use Rattle.gn_router.specs.Planned.{outgoing_sends, plan_reply};
+
+use crate::lookup::Lookup;
+use crate::made::Made;
+use crate::outbox::Outbox;
+use crate::plan::{Outgoing, Plan};
+use crate::planning::{plan_checked, plan_of};
+use crate::sending::send_all;
+use gn_payload::Checked;
+use gn_rules::{ConnId, Event, Refusal, Reply, Sending, Sends, Ticket};
+use gn_wire::Kind;
+use std::alloc::{AllocError, Allocator};
+use std::marker::Model;
+
+/// An outbox that makes the packets.
+#[derive(Drop)]
+struct Maker<A: Allocator> {
+    alloc: A,
+    sends: Sends<A>,
+}
+
+impl<A: Allocator> Model for Maker<A> {
+    ghost use Rattle.std.specs.Prelude.{List};
+    ghost use Rattle.gn_rules.specs.declared.sends.Sending.{Sending};
+
+    ghost Value = { List (Sending A) };
+
+    ghost view = { λ m. m.sends };
+}
+
+impl<A: Allocator + Copy> Outbox<A> for Maker<A> {
+    type Fault = AllocError;
+
+    ghost after = { λ sends x. sends ++ x ∷ [] };
+
+    fn send(&mut self, to: ConnId, packet: &Made<'_, A>, queued: bool) -> Result<(), AllocError> {
+        let packet = packet.make(self.alloc)?;
+        self.sends.push(Sending { to, packet, queued })
+    }
+}
+
+/// How many packets are outgoing at most. Takes no memory.
+fn most_sends<A: Allocator, L: Lookup<A>>(past: &L, outgoing: &Outgoing<'_, A>) -> u32
+    ensures { length (outgoing_sends (L.settings past.now) (reverse (L.steps past.now)) outgoing.now) ≤ result }
+{
+    match outgoing {
+        Outgoing::Nothing => 0,
+        Outgoing::One(_, _, _) => 1,
+        Outgoing::Flood(_, packet) => match packet.forwarded(past.config().numbers.life) {
+            None => u32::from(packet.kind() == Kind::Ping),
+            Some(_) => past.live_count(),
+        },
+        Outgoing::Each(_) => past.live_count(),
+    }
+}
+
+/// The packets that are outgoing, in room that is made once. An `Err` is out of memory.
+fn sends_of<A: Allocator + Copy, L: Lookup<A>>(
+    alloc: A,
+    past: &L,
+    outgoing: &Outgoing<'_, A>,
+) -> Result<Sends<A>, AllocError>
+    ensures { IfOk result (λ sends. sends
+        ≡ outgoing_sends (L.settings past.now) (reverse (L.steps past.now)) outgoing.now) }
+{
+    let room = Vec::with_capacity(alloc, most_sends(past, outgoing) as usize)?;
+    let mut maker = Maker {
+        alloc,
+        sends: Sends::from_vec(room),
+    };
+    send_all(past, outgoing, &mut maker)?;
+    Ok(maker.sends)
+}
+
+/// The reply that a plan stands for. An `Err` is out of memory. It is inlined, so that the reply is made where it is kept.
+#[inline(always)]
+pub fn reply_of<A: Allocator + Copy, L: Lookup<A>>(
+    alloc: A,
+    past: &L,
+    plan: Plan<'_, A>,
+) -> Result<Reply<A>, AllocError>
+    ensures { IfOk result (λ reply. reply ≡ plan_reply (L.settings past.now) (reverse (L.steps past.now)) plan.entry) }
+{
+    Ok(match plan {
+        Plan::Ready(reply) => reply,
+        Plan::Taken(packet) => Reply::Taken(packet.copy()?),
+        Plan::Routed(outgoing, local) => Reply::Routed {
+            sends: sends_of(alloc, past, &outgoing)?,
+            local,
+        },
+        Plan::Sent(outgoing) => Reply::Sent(sends_of(alloc, past, &outgoing)?),
+    })
+}
+
+/// The answer to an event: a reply, the rules' refusal, or out of memory where the rules give a reply. It is inlined, as
+/// `reply_of` is.
+#[inline(always)]
+pub fn find<A: Allocator + Copy, L: Lookup<A>>(
+    alloc: A,
+    past: &L,
+    event: &Event<A>,
+) -> Result<Reply<A>, Refusal>
+    ensures { rules.Finds result (rules.answer (L.settings past.now) (reverse (L.steps past.now)) event.now) }
+{
+    let plan = plan_of(past, event)?;
+    Ok(reply_of(alloc, past, plan)?)
+}
+
+/// The answer to a Route with a descriptor that was checked beforehand: a reply, the rules' refusal, or out of memory
+/// where the rules give a reply.
+pub fn find_checked<A: Allocator + Copy, L: Lookup<A>>(
+    alloc: A,
+    past: &L,
+    ticket: Ticket,
+    checked: &Checked<A>,
+) -> Result<Reply<A>, Refusal>
+    ensures answer { rules.Finds result
+        (rules.checked_answer (L.settings past.now) (reverse (L.steps past.now)) ticket checked.now) }
+    ensures routed { IfOk result (λ reply.
+        rules.answer (L.settings past.now) (reverse (L.steps past.now)) (Route ticket) ≡ Ok reply) }
+{
+    let plan = plan_checked(past, ticket, checked)?;
+    Ok(reply_of(alloc, past, plan)?)
+}

@@ -1,0 +1,44 @@
+//! What becomes of the steps of a router.
+
+ghost use Rattle.std.specs.Prelude.{◌≡◌, ◌<◌, ◌∷◌, ◌++◌, ◌^◌, [], List, length, OnOk};
+ghost use Rattle.gn_rules.specs.declared.receipt.Step.{Step};
+
+use gn_rules::{Event, Reply, Step};
+use std::alloc::{AllocError, Allocator};
+use std::mem;
+
+/// What the steps of a router are given to, one after another. It may keep them, write them, or only count them.
+pub trait Keeper<A: Allocator> {
+    /// The steps that it was given, in order.
+    ghost kept: { Self → List (Step A) };
+
+    /// It can take one more step.
+    ghost has_room: { Self → Type 0 };
+
+    /// Makes room for one more step. An `Err` is out of memory.
+    fn make_room(&mut self) -> Result<(), AllocError>
+        ensures room { OnOk result (has_room self.new) }
+        ensures kept { kept self.new ≡ kept self.old };
+
+    /// Takes the step of this event and this reply out of their places, and leaves others there.
+    fn keep(&mut self, actor: u32, event: &mut Event<A>, reply: &mut Reply<A>)
+        requires { has_room self.old }
+        ensures { kept self.new
+            ≡ kept self.old ++ record { actor = actor; event = event.old; reply = reply.old } ∷ [] };
+
+    /// How many steps it was given.
+    fn count(&self) -> u32
+        requires { length (kept self.now) < 2 ^ 32 }
+        ensures { result ≡ length (kept self.now) };
+}
+
+/// The step of this event and this reply, which are taken out of their places; others are left there.
+pub fn step_of<A: Allocator>(actor: u32, event: &mut Event<A>, reply: &mut Reply<A>) -> Step<A>
+    ensures { result ≡ record { actor = actor; event = event.old; reply = reply.old } }
+{
+    Step {
+        actor,
+        event: mem::replace(event, Event::Connect),
+        reply: mem::replace(reply, Reply::TooMany),
+    }
+}

@@ -1,0 +1,180 @@
+//! The router, once for all stores.
+
+ghost use Rattle.std.specs.Prelude.{◌≡◌, ◌∷◌, ◌++◌, [], Ok, length, reverse, IfOk, OnErr, OnOk};
+ghost use Rattle.gn_rules.specs.Answer as rules;
+
+use crate::answering::{find, find_checked};
+use crate::comparing;
+use crate::store::{FreshStore, StepStore, Store};
+use gn_payload::Checked;
+use gn_rules::{
+    Config, ConnId, Event, FreshRouter, Historian, Receipt, Refusal, Reply, RouterCore, Stats,
+    Step, Ticket,
+};
+use std::alloc::{AllocError, Allocator, Global};
+
+/// A router over a store: it finds each answer by what the store looks up, and makes its step the store's last. Receipts and
+/// packets take their memory from `alloc`.
+#[derive(Drop)]
+pub struct Router<S, A: Allocator + Copy = Global> {
+    pub alloc: A,
+    pub store: S,
+}
+
+impl<S: Store<A>, A: Allocator + Copy> Router<S, A> {
+    /// The receipt of the next step, with copies of its event and its reply. An `Err` is out of memory.
+    fn receipt_of(&self, event: &Event<A>, reply: &Reply<A>) -> Result<Receipt<A>, AllocError>
+        ensures { IfOk result (λ receipt. receipt
+            ≡ record { index = length (S.steps self.now.store); event = event.now; reply = reply.now }) }
+    {
+        Ok(Receipt {
+            index: RouterCore::step_count(self),
+            event: event.copy()?,
+            reply: reply.copy(self.alloc)?,
+        })
+    }
+
+    /// Makes the step of a copy of an event and the rules' reply the last. An `Err` is out of memory, and changes nothing.
+    fn record(&mut self, actor: u32, event: &Event<A>, reply: Reply<A>) -> Result<(), AllocError>
+        requires { rules.answer (S.settings self.old.store) (reverse (S.steps self.old.store)) event.now ≡ Ok reply }
+        ensures step { OnOk result (S.steps self.new.store
+            ≡ S.steps self.old.store ++ record { actor = actor; event = event.now; reply = reply } ∷ []) }
+        ensures err { OnErr result (S.steps self.new.store ≡ S.steps self.old.store) }
+        ensures settings { S.settings self.new.store ≡ S.settings self.old.store }
+    {
+        let mut reply = reply;
+        let Ok(mut event) = event.copy() else {
+            drop(reply);
+            return Err(AllocError);
+        };
+        let followed = self.store.follow(self.alloc, actor, &mut event, &mut reply);
+        drop(event);
+        drop(reply);
+        followed
+    }
+
+    /// Makes the step of an event and the rules' reply the last, and gives its receipt. An `Err` is out of memory, and
+    /// changes nothing.
+    fn record_with_receipt(
+        &mut self,
+        actor: u32,
+        event: &Event<A>,
+        reply: Reply<A>,
+    ) -> Result<Receipt<A>, Refusal>
+        requires { rules.answer (S.settings self.old.store) (reverse (S.steps self.old.store)) event.now ≡ Ok reply }
+        ensures answer { rules.Finds (rules.reply_of result) (Ok reply) }
+        ensures step { IfOk result (λ receipt. S.steps self.new.store
+            ≡ S.steps self.old.store ++ record { actor = actor; event = event.now; reply = receipt.reply } ∷ []) }
+        ensures index { IfOk result (λ receipt. receipt.index ≡ length (S.steps self.old.store)) }
+        ensures event { IfOk result (λ receipt. receipt.event ≡ event.now) }
+        ensures err { OnErr result (S.steps self.new.store ≡ S.steps self.old.store) }
+        ensures settings { S.settings self.new.store ≡ S.settings self.old.store }
+    {
+        let Ok(receipt) = self.receipt_of(event, &reply) else {
+            drop(reply);
+            return Err(Refusal::NoMemory);
+        };
+        match self.record(actor, event, reply) {
+            Ok(()) => Ok(receipt),
+            Err(_) => {
+                drop(receipt);
+                Err(Refusal::NoMemory)
+            }
+        }
+    }
+}
+
+impl<S: Store<A>, A: Allocator + Copy> RouterCore<A> for Router<S, A> {
+    ghost settings = { λ r. S.settings r.store };
+
+    ghost steps = { λ r. S.steps r.store };
+
+    fn answer_to(&self, event: &Event<A>) -> Result<Reply<A>, Refusal> {
+        find(self.alloc, &self.store, event)
+    }
+
+    fn apply(&mut self, actor: u32, event: &Event<A>) -> Result<Receipt<A>, Refusal> {
+        let reply = find(self.alloc, &self.store, event)?;
+        self.record_with_receipt(actor, event, reply)
+    }
+
+    fn enter(&mut self, actor: u32, event: &mut Event<A>) -> Result<(), Refusal> {
+        let mut reply = find(self.alloc, &self.store, event)?;
+        self.store.follow(self.alloc, actor, event, &mut reply)?;
+        Ok(())
+    }
+
+    fn is_answered(&self, step: &Step<A>) -> bool {
+        comparing::is_answered(&self.store, step)
+    }
+
+    fn add(&mut self, step: &mut Step<A>) -> Result<(), AllocError> {
+        self.store
+            .follow(self.alloc, step.actor, &mut step.event, &mut step.reply)
+    }
+
+    fn route(
+        &mut self,
+        actor: u32,
+        ticket: Ticket,
+        checked: &Checked<A>,
+    ) -> Result<Receipt<A>, Refusal> {
+        let reply = find_checked(self.alloc, &self.store, ticket, checked)?;
+        let event = Event::Route(ticket);
+        let answer = self.record_with_receipt(actor, &event, reply);
+        drop(event);
+        answer
+    }
+
+    fn config(&self) -> &Config {
+        self.store.config()
+    }
+
+    #[tactic(auto, using(gn_rules::proofs::PastLemmas::past_length))]
+    fn step_count(&self) -> u32 {
+        self.store.step_count()
+    }
+
+    fn is_legal(&self) {
+        self.store.is_legal();
+    }
+
+    fn stats(&self) -> Stats {
+        self.store.stats()
+    }
+
+    fn flights(&self) -> u32 {
+        self.store.flights()
+    }
+
+    fn flights_of(&self, c: ConnId) -> u32 {
+        self.store.flights_of(c)
+    }
+
+    fn is_live(&self, c: ConnId) -> bool {
+        self.store.is_live(c)
+    }
+
+    fn waiting(&self, c: ConnId) -> u32 {
+        self.store.output(c).unwrap_or(0)
+    }
+}
+
+impl<S: FreshStore<A>, A: Allocator + Copy> FreshRouter<A> for Router<S, A> {
+    fn make(alloc: A, config: &Config) -> Result<Self, AllocError> {
+        Ok(Router {
+            alloc,
+            store: S::empty(alloc, config)?,
+        })
+    }
+}
+
+impl<S: StepStore<A>, A: Allocator + Copy> Historian<A> for Router<S, A> {
+    fn history(&self) -> &[Step<A>] {
+        self.store.as_slice()
+    }
+
+    fn into_history(self) -> Vec<Step<A>, A> {
+        self.store.into_steps()
+    }
+}

@@ -1,0 +1,57 @@
+//! What a router keeps of its steps.
+
+ghost use Rattle.std.specs.Prelude.{◌≡◌, ◌∷◌, ◌++◌, [], Ok, reverse, IfOk, OnErr, OnOk};
+ghost use Rattle.gn_rules.specs.Answer as rules;
+ghost use Rattle.gn_rules.specs.Statistics.{stats_of};
+
+use crate::lookup::Lookup;
+use gn_rules::{Config, Event, Reply, Stats, Step};
+use std::alloc::{AllocError, Allocator};
+
+/// What a router keeps of its steps, to answer from: the steps themselves, or what they left.
+pub trait Store<A: Allocator + Copy>: Lookup<A> {
+    /// Makes the step of an event and the rules' reply the last. It takes both out of the places that are lent to it, and
+    /// leaves others there. An `Err` is out of memory, and changes nothing.
+    fn follow(
+        &mut self,
+        alloc: A,
+        actor: u32,
+        event: &mut Event<A>,
+        reply: &mut Reply<A>,
+    ) -> Result<(), AllocError>
+        requires { rules.answer (Self.settings self.old) (reverse (Self.steps self.old)) event.old ≡ Ok reply.old }
+        ensures step { OnOk result (Self.steps self.new
+            ≡ Self.steps self.old ++ record { actor = actor; event = event.old; reply = reply.old } ∷ []) }
+        ensures err { OnErr result (Self.steps self.new ≡ Self.steps self.old) }
+        ensures event { OnErr result (event.new ≡ event.old) }
+        ensures reply { OnErr result (reply.new ≡ reply.old) }
+        ensures settings { Self.settings self.new ≡ Self.settings self.old };
+
+    /// How many steps had each reply.
+    fn stats(&self) -> Stats
+        ensures { result ≡ stats_of (reverse (Self.steps self.now)) };
+
+    /// Each reply is the rules' answer after the steps before it.
+    fn is_legal(&self)
+        ensures { rules.IsLegal (Self.settings self.now) (reverse (Self.steps self.now)) };
+}
+
+/// A store that can be made by a configuration alone.
+pub trait FreshStore<A: Allocator + Copy>: Store<A> {
+    /// A store of no steps. An `Err` is out of memory.
+    fn empty(alloc: A, config: &Config) -> Result<Self, AllocError>
+        ensures settings { IfOk result (λ store. Self.settings store ≡ config.now) }
+        ensures empty { IfOk result (λ store. Self.steps store ≡ []) };
+}
+
+/// A store that keeps the steps themselves.
+pub trait StepStore<A: Allocator + Copy>: FreshStore<A> {
+    /// The steps, in order.
+    fn as_slice(&self) -> &[Step<A>]
+        ensures { result.now ≡ Self.steps self.now };
+
+    /// The steps, in order, for keeps.
+    fn into_steps(self) -> Vec<Step<A>, A>
+        ensures value { result.items ≡ Self.steps self }
+        ensures legal { rules.IsLegal (Self.settings self) (reverse (Self.steps self)) };
+}

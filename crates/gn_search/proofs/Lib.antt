@@ -1,0 +1,10 @@
+pub mod CountLemmas
+pub mod CounterLemmas
+pub mod FlightLemmas
+pub mod KeptLemmas
+pub mod LegalLemmas
+pub mod LegalityLemmas
+pub mod LiveLemmas
+pub mod OutputLemmas
+pub mod PlaceLemmas
+pub mod SendLemmas

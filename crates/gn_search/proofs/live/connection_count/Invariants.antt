@@ -1,0 +1,10 @@
+use Rattle.std.proofs.Common.{◌≡◌, ◌≤◌, take, reverse, length}
+use Rattle.gn_rules.specs.History.{connections}
+use Rattle.gn_search.proofs.live.connection_count.Given as goal
+
+abbrev pub invariant-loop-step : goal.invariant-loop-step
+invariant-loop-step g l =
+    record {
+      bound : l.count ≤ l.step-index;
+      value : l.count ≡ length (connections (reverse (take l.step-index l.history)));
+    }

@@ -1,0 +1,114 @@
+//! Runs over the loopback that are stopped, and what is written of one.
+
+use crate::loads::is_legal;
+use crate::loopback::peers::{Peer, hears, sent};
+use crate::loopback::{DRAINED, have_ended, report_of};
+use crate::wanted::a_listener;
+use gn_bodies::{ReaderEnd, WriterEnd};
+use gn_fixtures::{PING, usual};
+use gn_io::{Sink, WriterSink};
+use gn_links::NoGate;
+use gn_load::{ServeFault, serve_history};
+use gn_report::Report;
+use gn_rules::Config;
+use gn_service::{Serving, Stop};
+use gn_tables::TableRouter;
+use gn_tcp::{TcpReader, TcpWriter};
+use gn_threads::RunFault;
+use std::alloc::Allocator;
+use std::net::{Net, TcpListener, TcpStream};
+use std::sync::Wait;
+use std::test::Fail;
+use std::thread::Threads;
+use std::time::{Clock, Duration};
+
+/// Of four callers of a run one comes, and doesn't end: a time stops the run, or the caller.
+#[test]
+fn a_run_is_stopped(rt: HostRuntime) -> Result<(), Fail> {
+    let missing = (ReaderEnd::GreetingCut, WriterEnd::NeverOpened);
+    for (limit, peer) in [
+        (Some(Duration::from_secs(3)), Peer::Stays),
+        (None, Peer::Stops),
+    ] {
+        let stop = Stop::new(limit, false);
+        let serving = Serving {
+            stop: Some(&stop),
+            ..Serving::UNLIMITED
+        };
+        let report = report_of(&rt, rt.alloc(), peer, 100, 4, &serving)?;
+        assert_eq!(rt; (report.history.len(), report.stats.closed), (5, 1));
+        assert!(rt; have_ended(&report, 0, 1, DRAINED) && have_ended(&report, 1, 4, missing));
+        drop(report);
+    }
+    Ok(())
+}
+
+/// Serves one caller and writes the history, at the router with tables.
+fn serve_one<
+    's,
+    A: Allocator + Copy + Send + Sync,
+    R: Threads
+        + Wait
+        + Net<Listener = TcpListener, Stream = TcpStream>
+        + Clock
+        + AllocGlobal
+        + Sync,
+    W: Sink,
+>(
+    rt: &R,
+    alloc: A,
+    listener: &TcpListener,
+    config: &Config,
+    serving: &Serving<'s>,
+    sink: &mut W,
+) -> Result<Report<TcpReader<'s>, TcpWriter, A>, ServeFault> {
+    serve_history::<TableRouter<A>, A, R, NoGate, W>(
+        rt,
+        alloc,
+        listener,
+        config,
+        1,
+        &[],
+        serving,
+        1,
+        &NoGate,
+        sink,
+    )
+}
+
+/// The history of a run that stops at its third step, whose only client sends a Ping and stays.
+#[test]
+fn a_history_is_kept(rt: HostRuntime) -> Result<(), Fail> {
+    let alloc = rt.alloc();
+    let listener = a_listener(&rt)?;
+    let mut client = sent(&rt, listener.local_addr()?, PING)?;
+    let serving = Serving {
+        is_kept: true,
+        ..Serving::UNLIMITED
+    };
+    let config = usual(3)?;
+    let mut sink = WriterSink::new(Vec::new(alloc));
+    let served = serve_one(&rt, alloc, &listener, &config, &serving, &mut sink);
+    assert_eq!(rt; served.err(), Some(ServeFault::Run(RunFault::HistoryFull)));
+    let written = sink.into_inner();
+    let is_legal = is_legal(alloc, written.as_slice(), 3);
+    drop(written);
+    assert!(rt; is_legal?);
+    assert!(rt; hears(&mut client, gn_shake::consent())?);
+    Ok(())
+}
+
+/// A flooder doesn't fill the history: what is read once nine tenths of it are made is one piece at most.
+#[test]
+fn a_flood_is_stopped_early(rt: HostRuntime) -> Result<(), Fail> {
+    let stop = Stop::new(None, true);
+    let serving = Serving {
+        stop: Some(&stop),
+        ..Serving::UNLIMITED
+    };
+    let report = report_of(&rt, rt.alloc(), Peer::Floods, 10_000, 1, &serving)?;
+    let steps = report.history.len();
+    drop(report);
+    assert!(rt; 9_000 < steps && steps < 10_000, "{steps}");
+    Ok(())
+}

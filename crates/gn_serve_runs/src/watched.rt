@@ -1,0 +1,178 @@
+//! What who watches a run learns of it as a whole.
+
+use crate::loopback::peers::sent;
+use crate::wanted::a_listener;
+use gn_fixtures::{PING, usual};
+use gn_io::{ReaderSource, Sink, Source, WriterSink};
+use gn_links::{Gate, Watch};
+use gn_load::{LoadFault, ServeFault, load_watched, serve_history};
+use gn_report::Report;
+use gn_rules::Config;
+use gn_service::Serving;
+use gn_tables::TableRouter;
+use gn_tcp::{TcpReader, TcpWriter};
+use std::alloc::Allocator;
+use std::net::{Net, Shutdown, SocketAddr, TcpListener, TcpStream};
+use std::sync::Wait;
+use std::sync::atomic::{AtomicU32, Ordering};
+use std::test::Fail;
+use std::thread::Threads;
+use std::time::Clock;
+
+/// Keeps what it learned: a digit for each call in order, 1 for `begin`, 2 for `open`, 3 for `came`, 4 for `end` and 5 for `leave`;
+/// how many links or steps it was told, and the ports of the peers of two links.
+#[derive(Drop)]
+struct Recorder {
+    calls: AtomicU32,
+    size: AtomicU32,
+    first: AtomicU32,
+    second: AtomicU32,
+}
+
+impl Recorder {
+    /// It has learned nothing.
+    fn new() -> Self {
+        Recorder {
+            calls: AtomicU32::new(0),
+            size: AtomicU32::new(0),
+            first: AtomicU32::new(0),
+            second: AtomicU32::new(0),
+        }
+    }
+
+    /// Only one thread calls at a time.
+    fn learn(&self, digit: u32) {
+        let calls = self.calls.load(Ordering::SeqCst);
+        let more = calls.wrapping_mul(10).wrapping_add(digit);
+        self.calls.store(more, Ordering::SeqCst);
+    }
+
+    /// All that it has learned.
+    fn learned(&self) -> [u32; 4] {
+        [
+            self.calls.load(Ordering::SeqCst),
+            self.size.load(Ordering::SeqCst),
+            self.first.load(Ordering::SeqCst),
+            self.second.load(Ordering::SeqCst),
+        ]
+    }
+}
+
+impl Gate for Recorder {
+    fn enter<R: Wait>(&self, _rt: &R, _worker: u32, _ticket: u32) {}
+}
+
+impl Watch for Recorder {
+    fn begin(&self, links: usize) {
+        self.learn(1);
+        let links = u32::try_from(links).unwrap_or(u32::MAX);
+        self.size.store(links, Ordering::SeqCst);
+    }
+
+    fn open(&self, steps: u32) {
+        self.learn(2);
+        self.size.store(steps, Ordering::SeqCst);
+    }
+
+    fn came(&self, link: u32, peer: SocketAddr) {
+        self.learn(3);
+        let port = if link == 0 { &self.first } else { &self.second };
+        port.store(u32::from(peer.port()), Ordering::SeqCst);
+    }
+
+    fn end(&self) {
+        self.learn(4);
+    }
+
+    fn leave<T: Drop>(&self, rest: T) {
+        self.learn(5);
+        drop(rest);
+    }
+}
+
+/// A load at the router with tables.
+fn load_for<A: Allocator + Copy + Send + Sync, R: Threads + Wait + Sync, S: Source, W: Sink>(
+    rt: &R,
+    alloc: A,
+    watch: &Recorder,
+    source: &mut S,
+    sink: &mut W,
+) -> Result<(), LoadFault> {
+    load_watched::<A, TableRouter<A>, R, Recorder, S, W>(rt, alloc, 1, watch, source, sink)
+}
+
+/// A serve of two callers at that router.
+fn serve_for<
+    A: Allocator + Copy + Send + Sync,
+    R: Threads
+        + Wait
+        + Net<Listener = TcpListener, Stream = TcpStream>
+        + Clock
+        + AllocGlobal
+        + Sync,
+    W: Sink,
+>(
+    rt: &R,
+    alloc: A,
+    listener: &TcpListener,
+    config: &Config,
+    watch: &Recorder,
+    sink: &mut W,
+) -> Result<Report<TcpReader<'static>, TcpWriter, A>, ServeFault> {
+    serve_history::<TableRouter<A>, A, R, Recorder, W>(
+        rt,
+        alloc,
+        listener,
+        config,
+        2,
+        &[],
+        &Serving::UNLIMITED,
+        1,
+        watch,
+        sink,
+    )
+}
+
+/// A caller that has sent a Ping and its end, and its port.
+fn caller<N: Net<Listener = TcpListener, Stream = TcpStream>>(
+    net: &N,
+    at: SocketAddr,
+) -> Result<(TcpStream, u32), Fail> {
+    let client = sent(net, at, PING)?;
+    client.shutdown(Shutdown::Write)?;
+    let port = client.local_addr()?.port();
+    Ok((client, u32::from(port)))
+}
+
+#[test]
+fn who_watches_learns_of_a_load(rt: HostRuntime) -> Result<(), Fail> {
+    let text = "\
+gnutella-capture 1
+config 4 8 4 8 8 100
+own eeeeeeeeeeeeeeeeeeeeeeeeeeeeeeee 127.0.0.1 6346 5 40
+join
+join
+";
+    let recorder = Recorder::new();
+    let mut source = ReaderSource::new(text.as_bytes());
+    let mut sink = WriterSink::new(Vec::new(rt.alloc()));
+    load_for(&rt, rt.alloc(), &recorder, &mut source, &mut sink)?;
+    drop(sink.into_inner());
+    assert_eq!(rt; recorder.learned(), [145, 2, 0, 0]);
+    Ok(())
+}
+
+#[test]
+fn who_watches_learns_of_a_serve(rt: HostRuntime) -> Result<(), Fail> {
+    let listener = a_listener(&rt)?;
+    let (_one, first) = caller(&rt, listener.local_addr()?)?;
+    let (_other, second) = caller(&rt, listener.local_addr()?)?;
+    let recorder = Recorder::new();
+    let config = usual(100)?;
+    let mut sink = WriterSink::new(Vec::new(rt.alloc()));
+    let served = serve_for(&rt, rt.alloc(), &listener, &config, &recorder, &mut sink);
+    drop(sink.into_inner());
+    drop(served?);
+    assert_eq!(rt; recorder.learned(), [2334, 100, first, second]);
+    Ok(())
+}

@@ -1,0 +1,170 @@
+//! How a peer of a run over TCP is called, beside the run's other links.
+
+use crate::asked::Asked;
+use crate::registering::{pause, registered};
+use crate::serving::Serving;
+use crate::stops::Stops;
+use gn_links::Watch;
+use gn_shake::Role;
+use gn_tcp::{TcpCall, TcpLink, Unmet};
+use std::alloc::{Allocator, Global};
+use std::net::{Net, SocketAddr, TcpListener, TcpStream};
+use std::sync::Wait;
+use std::thread::Scope;
+use std::time::{Clock, Duration, Instant};
+
+/// Seconds for which a call waits for its answer.
+const CALL: u64 = 1;
+
+/// Who calls the peer of this link.
+#[derive(Drop)]
+struct Caller<'a, 's, N, G, A: Allocator = Global> {
+    net: &'a N,
+    link: u32,
+    peer: SocketAddr,
+    serving: Serving<'s>,
+    stops: &'a Stops<'a, A>,
+    watch: &'a G,
+}
+
+impl<
+    'a,
+    's,
+    N: Wait + Net<Listener = TcpListener, Stream = TcpStream> + Clock,
+    G: Watch,
+    A: Allocator,
+> Caller<'a, 's, N, G, A> {
+    /// Whether a peer that couldn't be called is called again, where that began by then.
+    fn calls_again(&self, begun: Option<Instant>) -> bool {
+        match (self.serving.retry, begun) {
+            (Some(limit), Some(begun)) => match begun.elapsed(self.net) {
+                Ok(since) => since < limit,
+                Err(_) => false,
+            },
+            _ => false,
+        }
+    }
+
+    /// Calls the peer, again until it listens or the time for that is over. Where the run is stopped the peer never comes.
+    fn call(&self) -> Result<TcpLink<'static>, Unmet> {
+        let begun = Instant::now(self.net).ok();
+        for _ in 0..u64::MAX {
+            if self.stops.lets_go() {
+                break;
+            }
+            match TcpLink::try_call(self.net, self.peer, Duration::from_secs(CALL)) {
+                Ok(found) => return Ok(found),
+                Err(_) if self.calls_again(begun) || self.stops.lets_go() => pause(self.net),
+                Err(unmet) => return Err(unmet),
+            }
+        }
+        Ok(TcpLink::missing(Role::Calling, Some(self.peer)))
+    }
+
+    /// The halves of the called link go on over the socket of this one.
+    fn answer(&self, found: TcpLink<'static>, call: TcpCall) {
+        match registered(self.net, self.stops, self.link, found) {
+            Ok(found) => {
+                if !found.is_missing() {
+                    self.watch.came(self.link, self.peer);
+                }
+                let found = found
+                    .with_idle(self.serving.idle)
+                    .with_stop(self.serving.flag());
+                if found.answer(self.net, call).is_err() {
+                    self.stops.give_up_call(self.link);
+                }
+            }
+            Err(_) => {
+                self.stops.lack_memory();
+                call.give_up(self.net);
+            }
+        }
+    }
+
+    /// Calls the peer, and tells both halves of the called link how that ended. The run ends where the peer can't be called.
+    fn run(self, call: TcpCall) {
+        match self.call() {
+            Ok(found) => self.answer(found, call),
+            Err(unmet) => {
+                self.watch.not_called(self.link, self.peer, unmet.why);
+                self.stops.give_up_call(self.link);
+                call.give_up(self.net);
+            }
+        }
+    }
+}
+
+/// Calls the peer of one of the calls that the run asked for.
+fn call_next<
+    N: Wait + Net<Listener = TcpListener, Stream = TcpStream> + Clock,
+    G: Watch,
+    A: Allocator,
+>(net: &N, serving: Serving<'_>, stops: &Stops<'_, A>, watch: &G) {
+    if let Some(Asked { link, peer, call }) = stops.next_call(net) {
+        let caller = Caller {
+            net,
+            link,
+            peer,
+            serving,
+            stops,
+            watch,
+        };
+        caller.run(call);
+    }
+}
+
+/// What the threads are started with that call the peers of a run.
+#[derive(Drop)]
+pub(crate) struct Callers<'a, 's, E, N, G, A: Allocator = Global> {
+    pub net: &'a N,
+    pub scope: &'a Scope<'a, E>,
+    pub serving: Serving<'s>,
+    pub stops: &'a Stops<'a, A>,
+    pub watch: &'a G,
+}
+
+impl<
+    'a,
+    's: 'a,
+    E: 'a,
+    N: Wait + Net<Listener = TcpListener, Stream = TcpStream> + Clock + Sync + 'a,
+    G: Watch + Sync + 'a,
+    A: Allocator + Send + Sync + 'a,
+> Callers<'a, 's, E, N, G, A> {
+    /// Starts a thread for one of the calls that the run asked for. Where none can be made the run has failed.
+    fn start_one(&self) {
+        let (net, serving, stops, watch) = (self.net, self.serving, self.stops, self.watch);
+        let started = self
+            .scope
+            .spawn(move || call_next(net, serving, stops, watch));
+        if started.is_err() {
+            stops.lack_memory();
+            if let Some(asked) = stops.next_call(net) {
+                asked.call.give_up(net);
+            }
+        }
+    }
+
+    /// Starts who calls the peers that were asked for since so many were. How many are by now.
+    fn start_new(&self, started: u64) -> u64 {
+        let asked = self.stops.asked();
+        for _ in started..asked {
+            self.start_one();
+        }
+        asked
+    }
+
+    /// Starts who calls a peer of the run, as that asks for it; stops the run where its time is over, and shuts each link whose peer
+    /// has had its grace. It returns once the run is over.
+    pub(crate) fn watch(&self) {
+        let mut started = 0;
+        for _ in self.net.forever() {
+            if self.stops.is_over() {
+                return;
+            }
+            started = self.start_new(started);
+            self.stops.turn(self.net);
+        }
+    }
+}

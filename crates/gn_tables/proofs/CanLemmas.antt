@@ -1,0 +1,138 @@
+-- The tables can do what an event with its reply does to them.
+use Rattle.std.proofs.Common.{◌≡◌, ℕ, ◌+◌, ◌<◌, ◌≤◌, ◌==◌, ◌^◌, Bool, true, false, cond, List, length, is_some, not, nat_le, ◌&&◌, Option, Some, None, Result, Ok, refl, sym, ap, ◌∙◌, subst, arith}
+use Rattle.std.specs.List.{All}
+use Rattle.std.specs.Map.{lookup}
+use Rattle.std.specs.Option.{option_map}
+use Rattle.std.specs.FinMap as fin
+use Rattle.std.proofs.lemmas.List.Elements.{All-filter, All-map}
+use Rattle.gn_wire.specs.declared.key.Key.{Key}
+use Rattle.gn_wire.specs.Keys.{is_same_key, key_of}
+use Rattle.gn_wire.specs.Packet.{Packet}
+use Rattle.gn_rules.specs.declared.config.Config.{Config}
+use Rattle.gn_rules.specs.declared.event.Event.{Event}
+use Rattle.gn_rules.specs.declared.event.Event.TheVariants.{Connect, Close, Admit, Route, Take, Originate}
+use Rattle.gn_rules.specs.declared.receipt.Step.{Step}
+use Rattle.gn_rules.specs.declared.refusal.Refusal.{Refusal}
+use Rattle.gn_rules.specs.declared.reply.Reply.{Reply}
+use Rattle.gn_rules.specs.declared.reply.Reply.TheVariants.{Connected, TooMany, Admitted, Busy, Crowded, Sent}
+use Rattle.gn_rules.specs.declared.sends.Sending.{Sending}
+use Rattle.gn_rules.specs.declared.statistics.Counter.{Counter}
+use Rattle.gn_rules.specs.declared.statistics.Counter.TheVariants as counter
+use Rattle.gn_rules.specs.Answer.{answer, decision_reply, may_originate}
+use Rattle.gn_rules.specs.Decision.{decide}
+use Rattle.gn_rules.specs.Flight.{Admission, flying, flying_from, in_flight, tickets}
+use Rattle.gn_rules.specs.History.{connections, live, live_connections}
+use Rattle.gn_rules.specs.Output.{out}
+use Rattle.gn_rules.specs.Sending.{fanout}
+use Rattle.gn_rules.specs.SeenEntries.{is_remembered}
+use Rattle.gn_rules.specs.Statistics.{counter_of, stats_of, count_in}
+use Rattle.gn_rules.proofs.OutputLemmas.{counters_add_up}
+use Rattle.gn_tables.specs.declared.flights.Flight.{Flight}
+use Rattle.gn_tables.specs.Outputs.{Outputs}
+use Rattle.gn_tables.specs.declared.tables.Tables.{Tables}
+use Rattle.gn_tables.specs.Followed.{CanAdmit, CanConnect, CanFollow, CanMove, CanOriginate, CanRemember, CanRoute, IsNewKey}
+use Rattle.gn_tables.specs.Sent.{CanSend}
+use Rattle.gn_tables.specs.Tabled.{IsTabled, carried, flight_of}
+use Rattle.gn_tables.proofs.DecisionLemmas.{key_is_new, route_sends, servent_is_known}
+use Rattle.gn_tables.proofs.FlightLemmas.{absent}
+use Rattle.gn_tables.proofs.FollowLemmas.{below_from, flight_for, live_for, origin_for, room_for}
+use Rattle.gn_tables.proofs.ReadLemmas.{count_known}
+use Rattle.gn_tables.proofs.SendableLemmas.{AreSendable, fanout_sends, sends_fit}
+
+none_from : {X : Type 0} (o : Option X) → is_some o ≡ false → o ≡ None
+none_from None h = refl
+none_from (Some x) h = absurd (cc)
+
+-- no counter is above the number of steps
+known_few : {A : Type 0} (past : List (Step A)) (k : Counter) → count_in k (stats_of past) ≤ length past
+known_few {A} past counter.Connected = omega (arith, counters_add_up A past)
+known_few {A} past counter.TooMany = omega (arith, counters_add_up A past)
+known_few {A} past counter.Closed = omega (arith, counters_add_up A past)
+known_few {A} past counter.Admitted = omega (arith, counters_add_up A past)
+known_few {A} past counter.Busy = omega (arith, counters_add_up A past)
+known_few {A} past counter.Crowded = omega (arith, counters_add_up A past)
+known_few {A} past counter.Routed = omega (arith, counters_add_up A past)
+known_few {A} past counter.UnknownKind = omega (arith, counters_add_up A past)
+known_few {A} past counter.Malformed = omega (arith, counters_add_up A past)
+known_few {A} past counter.Duplicate = omega (arith, counters_add_up A past)
+known_few {A} past counter.NoRoute = omega (arith, counters_add_up A past)
+known_few {A} past counter.RouteGone = omega (arith, counters_add_up A past)
+known_few {A} past counter.BackToSender = omega (arith, counters_add_up A past)
+known_few {A} past counter.Expired = omega (arith, counters_add_up A past)
+known_few {A} past counter.Taken = omega (arith, counters_add_up A past)
+known_few {A} past counter.Sent = omega (arith, counters_add_up A past)
+
+module _ {A : Type 0} (s : Config) (past : List (Step A)) (t : Tables A) (are : IsTabled s past t) where
+  -- what isn't remembered isn't in the table
+  new_key : (key : Key) → is_remembered s past key ≡ false → IsNewKey key t.seen
+  new_key key h = ap (λ seen. lookup (is_same_key key) seen.seen_entries) are.seen_is ∙ none_from _ h
+
+  find_room : (sends : List (Sending A)) → AreSendable s past sends → CanSend sends t.neighbours
+  find_room sends h = subst (λ (l : Outputs). CanSend sends l) (sym are.neighbours_are) (sends_fit s past sends h)
+
+  connects : (full : Bool) → (length (live_connections past) == s.numbers.neighbours) ≡ full → (reply : Reply A)
+      → cond {A = Result (Reply A) Refusal} full (Ok TooMany) (Ok (Connected (1 + length (connections past)))) ≡ Ok reply → CanConnect reply t
+  connects true e reply f = let is : TooMany ≡ reply = cc in subst (λ (r : Reply A). CanConnect r t) is tt
+  connects false e reply f =
+      let c : ℕ = 1 + length (connections past) in
+      let is : Connected c ≡ reply = cc in
+      let same : c ≡ t.connected + 1 = omega (arith, are.numbered.counted) in
+      let below : All (λ d. d < c) (connections past) = rw same are.numbered.below in
+      let greater : All (λ r. r.0 < c) t.neighbours.rows = subst (λ (l : Outputs). All (λ r. r.0 < c) l.rows) (sym are.neighbours_are)
+      (All-map (λ r. r.0 < c) (λ d. (d, out past d)) (live_connections past) (All-filter (live past) (λ d. d < c) (connections past) below)) in
+      let room : length (live_connections past) < s.numbers.neighbours = below_from (length (live_connections past)) s.numbers.neighbours are.numbered.few_live e in
+      let most : t.neighbours.most ≡ s.numbers.neighbours = ap (λ l. l.most) are.neighbours_are in
+      let few : length t.neighbours.rows < t.neighbours.most = omega (arith, room, most, count_known s past t are) in
+      subst (λ (r : Reply A). CanConnect r t) is (greater, few)
+
+  admits : (busy : Bool) → (length (flying past) == s.numbers.stage) ≡ busy → (crowded : Bool) → length past < 1000000 → (reply : Reply A)
+      → cond {A = Result (Reply A) Refusal} busy (Ok Busy) (cond crowded (Ok Crowded) (Ok (Admitted (length (tickets past))))) ≡ Ok reply → CanAdmit reply t
+  admits true e crowded short reply f = let is : Busy ≡ reply = cc in subst (λ (r : Reply A). CanAdmit r t) is tt
+  admits false e true short reply f = let is : Crowded ≡ reply = cc in subst (λ (r : Reply A). CanAdmit r t) is tt
+  admits false e false short reply f =
+      let m : ℕ = length (tickets past) in
+      let is : Admitted m ≡ reply = cc in
+      let same : t.admitted ≡ m = are.flights_are.counted in
+      let fits : m + 1 < 2 ^ 32 = omega (arith, same, are.flights_are.few, short) in
+      let room : length (flying past) < s.numbers.stage = below_from (length (flying past)) s.numbers.stage are.flights_are.few_flying e in
+      let few : fin.len t.flights.flights < t.flights.most = omega (arith, room, are.flights_are.many, are.flights_are.most) in
+      let none : fin.get t.flights.flights m ≡ None = rw (← same) (absent s past t.admitted t.flights are.flights_are) in
+      subst (λ (r : Reply A). CanAdmit r t) is (fits, few, none)
+
+  routes : (u : ℕ) (reply : Reply A) (a : Admission) → in_flight past u ≡ Some a → reply ≡ decision_reply s past a (decide s past a) → CanRoute u reply t
+  routes u reply a there is = subst (λ (r : Reply A). CanRoute u r t) (sym is) (record {
+    remembers = λ f got.
+        let found : Some f ≡ Some (flight_of a) = sym got ∙ are.flights_are.each u ∙ ap (option_map flight_of) there in
+        let same : f ≡ flight_of a = cc in
+        subst (λ (g : Flight A). CanRemember (decision_reply s past a (decide s past a)) (carried g) t.seen) (sym same) (record {
+          is_new = λ keeps. new_key _ (key_is_new s past a keeps);
+          verdict = λ hit. servent_is_known s past a hit;
+        });
+    sends = find_room _ (route_sends s past a are.numbered.apart);
+  })
+
+  originates : (d : Packet) (reply : Reply A) → is_remembered s past (key_of d) ≡ false → reply ≡ Sent (fanout s past 0 d) → CanOriginate d reply t
+  originates d reply new is = subst (λ (r : Reply A). CanOriginate d r t) (sym is) (record {
+    is_new = new_key (key_of d) new;
+    sends = find_room (fanout s past 0 d) (fanout_sends s past are.numbered.apart 0 d);
+  })
+
+  can_move : (event : Event A) (reply : Reply A) → length past < 1000000 → answer s past event ≡ Ok reply → CanMove event reply t
+  can_move Connect reply short h = connects (length (live_connections past) == s.numbers.neighbours) refl reply (room_for _ _ reply h).1
+  can_move (Close c) reply short h = tt
+  can_move (Admit c d) reply short h = admits (length (flying past) == s.numbers.stage) refl (not (s.numbers.crowd == 0) && nat_le s.numbers.crowd (length (flying_from past c))) short reply (live_for (live past c) _ reply (room_for _ _ reply h).1).1
+  can_move (Route u) reply short h =
+      let flight : (a : Admission) × (in_flight past u ≡ Some a) × (reply ≡ decision_reply s past a (decide s past a)) = flight_for s past (in_flight past u) reply (room_for _ _ reply h).1 in
+      routes u reply flight.0 flight.1 flight.2
+  can_move (Take c) reply short h = tt
+  can_move (Originate d) reply short h =
+      let all = origin_for (may_originate s.numbers.life d) (is_remembered s past (key_of d)) (fanout s past 0 d) reply (room_for _ _ reply h).1 in
+      originates d reply all.0 all.1
+
+  pub can_follow : (event : Event A) (reply : Reply A) → answer s past event ≡ Ok reply → CanFollow event reply t
+  can_follow event reply h =
+      let room : length past < s.numbers.steps = below_from (length past) s.numbers.steps are.short (room_for _ _ reply h).0 in
+      let limit : s.numbers.steps ≤ 1000000 = s.within.steps.greatest in
+      let short : length past < 1000000 = omega (arith, room, limit) in
+      let few : count_in (counter_of reply) t.stats ≤ length past = rw (ap (count_in (counter_of reply)) are.stats_are) (known_few past (counter_of reply)) in
+      record { moves = can_move event reply short h; counts = omega (arith, few, short) }

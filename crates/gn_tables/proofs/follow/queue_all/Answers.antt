@@ -1,0 +1,23 @@
+use Rattle.std.proofs.Common.{◌∙◌, ap, refl, rules, subst, sym}
+use Rattle.gn_tables.specs.Sent.{CanSend, sent}
+use Rattle.gn_tables.proofs.SendableLemmas.{sending_done, sending_first, sending_more}
+use Rattle.gn_tables.proofs.follow.queue_all.Goals as goal
+
+pub loop-sending-init : goal.loop-sending-init
+loop-sending-init g c = record {
+  can = subst (λ xs. CanSend xs c.args.neighbours.now) (sym c.into_iter-sending-iterator.ensures.into_iter_gives.0) c.requires;
+  rest = refl;
+  counted = search rules;
+}
+
+pub loop-sending-preserved : goal.loop-sending-preserved
+loop-sending-preserved g c =
+    sending_more _ c.in-Some.sending _ _ _ _ _ _ _ c.in-Some.ensures.steps.0 c.in-Some.ensures.steps.1 c.send_one.ensures c.loop-sending.invariant
+
+pub send_one-requires : goal.send_one-requires
+send_one-requires g c = sending_first _ c.in-Some.sending _ _ _ _ _ c.in-Some.ensures.steps.0 c.loop-sending.invariant
+
+pub returns : goal.returns
+returns g c =
+    sending_done _ _ _ _ _ c.in-None.ensures.steps.0 c.loop-sending.invariant
+    ∙ ap (λ xs. sent xs c.args.neighbours.now) c.into_iter-sending-iterator.ensures.into_iter_gives.0

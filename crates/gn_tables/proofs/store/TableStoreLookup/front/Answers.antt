@@ -1,0 +1,7 @@
+use Rattle.std.proofs.Common.{◌∙◌, reverse}
+use Rattle.gn_tables.proofs.ReadLemmas.{front_known}
+use Rattle.gn_tables.proofs.store.TableStoreLookup.front.Goals as goal
+
+pub returns : goal.returns
+returns g c =
+    rw (← c.self.view_is) (c.front.ensures ∙ front_known c.self.inside.config (reverse (g.K.Keeper.kept c.self.inside.history)) c.self.inside.tables c.self.invariant c.args.c)

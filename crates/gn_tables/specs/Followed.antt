@@ -1,0 +1,121 @@
+-- What the tables become by an event with its reply, and when they can.
+use Rattle.std.specs.Prelude.{◌≡◌, ◌+◌, ◌<◌, ◌≤◌, ◌^◌, ◌&&◌, if◌then◌else◌, ℕ, true, length, Option, Some, None}
+use Rattle.std.specs.List.{All}
+use Rattle.std.specs.FinMap as map
+use Rattle.std.specs.Map.{lookup}
+use Rattle.gn_wire.specs.declared.key.Key.{Key}
+use Rattle.gn_wire.specs.Keys.{is_same_key, key_of}
+use Rattle.gn_wire.specs.Packet.{Packet}
+use Rattle.gn_payload.specs.Fields.{hit_servent}
+use Rattle.gn_rules.specs.declared.event.Event.{Event}
+use Rattle.gn_rules.specs.declared.event.Event.TheVariants.{Connect, Close, Admit, Route, Take, Originate}
+use Rattle.gn_rules.specs.declared.reply.Reply.{Reply}
+use Rattle.gn_rules.specs.declared.reply.Reply.TheVariants.{Connected, Admitted}
+use Rattle.gn_rules.specs.Flight.{Admission}
+use Rattle.gn_rules.specs.History.{is_routed_reply, sends_of}
+use Rattle.gn_rules.specs.Servents.{is_query_hit}
+use Rattle.gn_rules.specs.SeenEntries.{keeps}
+use Rattle.gn_rules.specs.Statistics.{counter_of, raised, count_in}
+use Rattle.gn_tables.specs.declared.flights.Flight.{Flight}
+use Rattle.gn_tables.specs.Flying.{with_flight, without_flight}
+use Rattle.gn_tables.specs.Outputs.{joined, left, popped}
+use Rattle.gn_tables.specs.Remembered.{Remembered, with_entry}
+use Rattle.gn_tables.specs.Servents.{Servents, learned}
+use Rattle.gn_tables.specs.declared.tables.Tables.{Tables}
+use Rattle.gn_tables.specs.Sent.{CanSend, sent}
+use Rattle.gn_tables.specs.Tabled.{carried}
+
+-- the remembered seen entries after a route with this reply: with its key and source where it is kept
+abbrev pub with_kept : {A : Type 0} → Reply A → Admission → Remembered → Remembered
+with_kept reply a seen = if keeps a.packet.kind reply then with_entry (key_of a.packet) a.origin seen else seen
+
+-- the known servents after a route with this reply: with the servent that a Query Hit names where it was routed
+abbrev pub with_heard : {A : Type 0} → Reply A → Admission → Servents → Servents
+with_heard reply a servents =
+    if is_query_hit a.packet.kind && is_routed_reply reply then learned (hit_servent a.packet.payload) a.origin servents
+    else servents
+
+-- after a Connect
+abbrev pub connected : {A : Type 0} → Reply A → Tables A → Tables A
+connected (Connected c) t = record t { neighbours = joined c t.neighbours; connected = c }
+connected reply t = t
+
+-- after an Admit
+abbrev pub admitted : {A : Type 0} → ℕ → Packet → Reply A → Tables A → Tables A
+admitted c d (Admitted u) t = record t { flights = with_flight u (record { from = c; descriptor = d }) t.flights; admitted = u + 1 }
+admitted c d reply t = t
+
+-- after a Route of this flight
+abbrev pub routed : {A : Type 0} → ℕ → Reply A → Option (Flight A) → Tables A → Tables A
+routed u reply None t = t
+routed u reply (Some f) t = record t {
+  seen = with_kept reply (carried f) t.seen;
+  servents = with_heard reply (carried f) t.servents;
+  neighbours = sent (sends_of reply) t.neighbours;
+  flights = without_flight u t.flights;
+}
+
+-- after an Originate
+abbrev pub originated : {A : Type 0} → Packet → Reply A → Tables A → Tables A
+originated d reply t = record t { seen = with_entry (key_of d) 0 t.seen; neighbours = sent (sends_of reply) t.neighbours }
+
+-- after an event, before it is counted
+abbrev pub moved : {A : Type 0} → Event A → Reply A → Tables A → Tables A
+moved Connect reply t = connected reply t
+moved (Close c) reply t = record t { neighbours = left c t.neighbours }
+moved (Admit c d) reply t = admitted c d reply t
+moved (Route u) reply t = routed u reply (map.get t.flights.flights u) t
+moved (Take c) reply t = record t { neighbours = popped c t.neighbours }
+moved (Originate d) reply t = originated d reply t
+
+-- with one more step of this reply counted
+abbrev pub counted : {A : Type 0} → Reply A → Tables A → Tables A
+counted reply t = record t { stats = raised (counter_of reply) t.stats }
+
+-- after an event with its reply
+abbrev pub followed : {A : Type 0} → Event A → Reply A → Tables A → Tables A
+followed event reply t = counted reply (moved event reply t)
+
+-- a new connection is greater than all there, and there is room for it
+abbrev pub CanConnect : {A : Type 0} → Reply A → Tables A → Type 0
+CanConnect (Connected c) t = All (λ r. r.0 < c) t.neighbours.rows × (length t.neighbours.rows < t.neighbours.most)
+CanConnect reply t = Unit {0}
+
+-- a new ticket isn't in flight, and there is room for it
+abbrev pub CanAdmit : {A : Type 0} → Reply A → Tables A → Type 0
+CanAdmit (Admitted u) t =
+    (u + 1 < 2 ^ 32) × (map.len t.flights.flights < t.flights.most) × (map.get t.flights.flights u ≡ None)
+CanAdmit reply t = Unit {0}
+
+-- a key that is kept isn't there yet
+abbrev pub IsNewKey : Key → Remembered → Type 0
+IsNewKey key seen = lookup (is_same_key key) seen.seen_entries ≡ None
+
+-- a flight that is remembered has a new key, or a servent that its payload names
+pub record CanRemember {A : Type 0} (reply : Reply A) (a : Admission) (seen : Remembered) : Type 0 where
+  pub is_new : keeps a.packet.kind reply ≡ true → IsNewKey (key_of a.packet) seen
+  pub verdict : (is_query_hit a.packet.kind && is_routed_reply reply) ≡ true → 16 ≤ length a.packet.payload
+
+-- a flight that is remembered, and room for its sends
+pub record CanRoute {A : Type 0} (u : ℕ) (reply : Reply A) (t : Tables A) : Type 0 where
+  pub remembers : (f : Flight A) → map.get t.flights.flights u ≡ Some f → CanRemember reply (carried f) t.seen
+  pub sends : CanSend (sends_of reply) t.neighbours
+
+-- a new key, and room for its sends
+pub record CanOriginate {A : Type 0} (d : Packet) (reply : Reply A) (t : Tables A) : Type 0 where
+  pub is_new : IsNewKey (key_of d) t.seen
+  pub sends : CanSend (sends_of reply) t.neighbours
+
+-- the tables can do what an event with this reply does to them
+abbrev pub CanMove : {A : Type 0} → Event A → Reply A → Tables A → Type 0
+CanMove Connect reply t = CanConnect reply t
+CanMove (Close c) reply t = Unit {0}
+CanMove (Admit c d) reply t = CanAdmit reply t
+CanMove (Route u) reply t = CanRoute u reply t
+CanMove (Take c) reply t = Unit {0}
+CanMove (Originate d) reply t = CanOriginate d reply t
+
+-- they can, and one more can be counted
+pub record CanFollow {A : Type 0} (event : Event A) (reply : Reply A) (t : Tables A) : Type 0 where
+  pub moves : CanMove event reply t
+  pub counts : count_in (counter_of reply) t.stats + 1 < 2 ^ 32

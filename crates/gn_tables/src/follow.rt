@@ -1,0 +1,179 @@
+//! What an event with its reply does to the tables.
+
+ghost use Rattle.std.specs.Prelude.{◌≡◌, true, OnErr, OnOk};
+ghost use Rattle.gn_rules.specs.Servents.{is_query_hit};
+ghost use Rattle.gn_tables.specs.Followed as after;
+ghost use Rattle.gn_tables.specs.Sent.{CanSend, given, sent};
+ghost use Rattle.gn_tables.specs.Outputs.{has_room};
+ghost use Rattle.std.specs.FinMap as map;
+ghost use Rattle.gn_tables.specs.Tabled.{carried};
+
+use crate::flights::Flight;
+use crate::neighbours::Neighbours;
+use crate::seen::SeenTable;
+use crate::servents::ServentTable;
+use crate::tables::Tables;
+use gn_payload::servent_of_hit;
+use gn_rules::{Counter, Event, Reply, Sending, Sends, Ticket};
+use gn_wire::{Descriptor, Kind};
+use std::alloc::{AllocError, Allocator};
+
+impl<A: Allocator + Copy> Tables<A> {
+    /// Does what an event with this reply does to the tables. An `Err` is out of memory, and changes nothing.
+    pub(crate) fn follow(
+        &mut self,
+        alloc: A,
+        event: &Event<A>,
+        reply: &Reply<A>,
+    ) -> Result<(), AllocError>
+        requires { after.CanFollow event.now reply.now self.old }
+        ensures ok { OnOk result (self.new ≡ after.followed event.now reply.now self.old) }
+        ensures err { OnErr result (self.new ≡ self.old) }
+    {
+        self.update(alloc, event, reply)?;
+        self.stats.raise(Counter::of(reply));
+        Ok(())
+    }
+
+    /// Does what an event with this reply does to the tables, its count left out. An `Err` is out of memory, and changes
+    /// nothing.
+    fn update(&mut self, alloc: A, event: &Event<A>, reply: &Reply<A>) -> Result<(), AllocError>
+        requires { after.CanMove event.now reply.now self.old }
+        ensures ok { OnOk result (self.new ≡ after.moved event.now reply.now self.old) }
+        ensures err { OnErr result (self.new ≡ self.old) }
+    {
+        match event {
+            Event::Connect => self.connect(reply),
+            Event::Close(c) => {
+                self.neighbours.remove(*c);
+                Ok(())
+            }
+            Event::Admit(c, packet) => self.admit(*c, packet, reply),
+            Event::Route(ticket) => self.route(alloc, *ticket, reply),
+            Event::Take(c) => {
+                drop(self.neighbours.pop(*c));
+                Ok(())
+            }
+            Event::Originate(packet) => self.originate(alloc, packet, reply),
+        }
+    }
+
+    /// A new connection. An `Err` is out of memory, and changes nothing.
+    fn connect(&mut self, reply: &Reply<A>) -> Result<(), AllocError>
+        requires { after.CanConnect reply.now self.old }
+        ensures ok { OnOk result (self.new ≡ after.connected reply.now self.old) }
+        ensures err { OnErr result (self.new ≡ self.old) }
+    {
+        if let Reply::Connected(c) = reply {
+            self.neighbours.add(*c)?;
+            self.connected = *c;
+        }
+        Ok(())
+    }
+
+    /// A new ticket. An `Err` is out of memory, and changes nothing.
+    fn admit(
+        &mut self,
+        from: u32,
+        packet: &Descriptor<A>,
+        reply: &Reply<A>,
+    ) -> Result<(), AllocError>
+        requires { after.CanAdmit reply.now self.old }
+        ensures ok { OnOk result (self.new ≡ after.admitted from packet.now reply.now self.old) }
+        ensures err { OnErr result (self.new ≡ self.old) }
+    {
+        if let Reply::Admitted(ticket) = reply {
+            self.flights.add(*ticket, from, packet.copy()?)?;
+            self.admitted = *ticket + 1;
+        }
+        Ok(())
+    }
+
+    /// A flight that is routed: it is remembered, its packets are sent, and it is over. An `Err` is out of memory, and
+    /// changes nothing.
+    fn route(&mut self, alloc: A, ticket: Ticket, reply: &Reply<A>) -> Result<(), AllocError>
+        requires { after.CanRoute ticket reply.now self.old }
+        ensures ok { OnOk result (self.new
+            ≡ after.routed ticket reply.now (map.get self.old.flights.flights ticket) self.old) }
+        ensures err { OnErr result (self.new ≡ self.old) }
+    {
+        let Some(flight) = self.flights.get(ticket) else {
+            return Ok(());
+        };
+        let sends = Sends::copied(alloc, reply.sends())?;
+        remember(&mut self.seen, &mut self.servents, flight, reply)?;
+        drop(self.flights.finish(ticket));
+        queue_all(&mut self.neighbours, sends.into_vec());
+        Ok(())
+    }
+
+    /// The local servent's descriptor, which is sent and remembered. An `Err` is out of memory, and changes nothing.
+    fn originate(
+        &mut self,
+        alloc: A,
+        packet: &Descriptor<A>,
+        reply: &Reply<A>,
+    ) -> Result<(), AllocError>
+        requires { after.CanOriginate packet.now reply.now self.old }
+        ensures ok { OnOk result (self.new ≡ after.originated packet.now reply.now self.old) }
+        ensures err { OnErr result (self.new ≡ self.old) }
+    {
+        let sends = Sends::copied(alloc, reply.sends())?;
+        self.seen.keep(packet.kind(), packet.id(), 0)?;
+        queue_all(&mut self.neighbours, sends.into_vec());
+        Ok(())
+    }
+}
+
+/// Keeps the key of a request that was routed, or the servent of an answer. An `Err` is out of memory, and changes
+/// nothing.
+fn remember<A: Allocator + Copy>(
+    seen: &mut SeenTable<A>,
+    servents: &mut ServentTable<A>,
+    flight: &Flight<A>,
+    reply: &Reply<A>,
+) -> Result<(), AllocError>
+    requires { after.CanRemember reply.now (carried flight.now) seen.old }
+    ensures seen { OnOk result (seen.new ≡ after.with_kept reply.now (carried flight.now) seen.old) }
+    ensures servents { OnOk result (servents.new ≡ after.with_heard reply.now (carried flight.now) servents.old) }
+    ensures err { OnErr result ((seen.new ≡ seen.old) × (servents.new ≡ servents.old)) }
+{
+    let descriptor = &flight.descriptor;
+    if reply.keeps(descriptor.kind()) {
+        return seen.keep(descriptor.kind(), descriptor.id(), flight.from);
+    }
+    if is_hit(descriptor.kind()) && reply.is_routed() {
+        return servents.learn(servent_of_hit(descriptor.payload().as_slice()), flight.from);
+    }
+    Ok(())
+}
+
+/// Whether a kind is Query Hit.
+fn is_hit(kind: Kind) -> bool
+    ensures { result ≡ is_query_hit kind }
+{
+    matches!(kind, Kind::QueryHit)
+}
+
+/// Puts the packets that are queued after those that wait.
+fn queue_all<A: Allocator + Copy>(neighbours: &mut Neighbours<A>, sends: Vec<Sending<A>, A>)
+    requires { CanSend sends.items neighbours.old }
+    ensures { neighbours.new ≡ sent sends.items neighbours.old }
+{
+    for sending in sends {
+        send_one(neighbours, sending);
+    }
+}
+
+/// Puts a packet after those that wait, where it is queued.
+fn send_one<A: Allocator + Copy>(neighbours: &mut Neighbours<A>, sending: Sending<A>)
+    requires { sending.queued ≡ true → has_room sending.to neighbours.old ≡ true }
+    ensures { neighbours.new ≡ given sending neighbours.old }
+{
+    if sending.queued {
+        match neighbours.push(sending.to, sending.packet) {
+            Ok(()) => {}
+            Err(_) => unreachable!(),
+        }
+    }
+}

@@ -1,0 +1,188 @@
+//! A store of tables, which gives its steps away.
+
+ghost use Rattle.std.specs.Prelude.{◌≡◌, [], IfOk};
+
+use crate::flights::Flights;
+use crate::neighbours::Neighbours;
+use crate::seen::SeenTable;
+use crate::servents::ServentTable;
+use crate::tables::Tables;
+use gn_router::{Forgetful, FreshStore, Keeper, Lookup, StepStore, Store, Whole};
+use gn_rules::{Config, ConnId, Event, Reply, Stats, Step, Ticket};
+use gn_wire::{Descriptor, Guid, Key};
+use std::alloc::{AllocError, Allocator, Global};
+use std::marker::Model;
+
+/// Tables that say what the steps left, and what the steps are given to.
+#[derive(Drop)]
+pub struct TableStore<A: Allocator + Copy = Global, K: Keeper<A> = Whole<A>> {
+    config: Config,
+    history: K,
+    tables: Tables<A>,
+}
+
+impl<A: Allocator + Copy, K: Keeper<A>> Model for TableStore<A, K> {
+    ghost use Rattle.std.specs.Prelude.{reverse};
+    ghost use Rattle.gn_tables.specs.Tabled.{IsTabled};
+    ghost use Rattle.gn_rules.specs.Kept.{Kept};
+
+    ghost Value = { Kept A };
+
+    ghost view = { λ r. record { settings = r.config; steps = K.kept r.history } };
+
+    ghost invariant = { λ r. IsTabled r.config (reverse (K.kept r.history)) r.tables };
+}
+
+impl<A: Allocator + Copy, K: Keeper<A> + Drop> TableStore<A, K> {
+    /// The store of no steps, which gives its steps to one that has got none yet. An `Err` is out of memory.
+    pub fn over(alloc: A, config: &Config, history: K) -> Result<Self, AllocError>
+        requires { K.kept history ≡ [] }
+        ensures settings { IfOk result (λ store. store.settings ≡ config.now) }
+        ensures empty { IfOk result (λ store. store.steps ≡ []) }
+    {
+        let tables = Tables {
+            neighbours: Neighbours::new(alloc, config.numbers.neighbours, config.numbers.out)?,
+            servents: ServentTable::new(alloc, config.numbers.servents)?,
+            seen: SeenTable::new(alloc, config.numbers.seen)?,
+            flights: Flights::new(alloc, config.numbers.stage),
+            connected: 0,
+            admitted: 0,
+            stats: Stats::new(),
+        };
+        Ok(TableStore {
+            config: *config,
+            history,
+            tables,
+        })
+    }
+
+    /// What its steps were given to.
+    pub fn into_keeper(self) -> K
+        ensures { K.kept result ≡ self.steps }
+    {
+        let TableStore {
+            config: _,
+            history,
+            tables,
+        } = self;
+        drop(tables);
+        history
+    }
+}
+
+impl<A: Allocator + Copy, K: Keeper<A>> Lookup<A> for TableStore<A, K> {
+    ghost use Rattle.std.specs.Prelude.{drop, reverse};
+    ghost use Rattle.gn_rules.specs.History.{live_connections};
+
+    ghost settings = { λ r. r.settings };
+
+    ghost steps = { λ r. r.steps };
+
+    ghost live_from = { λ r place. drop place (live_connections (reverse r.steps)) };
+
+    fn config(&self) -> &Config {
+        &self.config
+    }
+
+    fn step_count(&self) -> u32 {
+        self.history.count()
+    }
+
+    fn is_live(&self, c: ConnId) -> bool {
+        self.output(c).is_some()
+    }
+
+    fn live_count(&self) -> u32 {
+        self.tables.neighbours.len()
+    }
+
+    fn places(&self) -> u32 {
+        self.tables.neighbours.len()
+    }
+
+    fn live_at(&self, place: u32) -> Option<(ConnId, u32)> {
+        self.tables.neighbours.at(place)
+    }
+
+    fn next_connection(&self) -> ConnId {
+        1 + self.tables.connected
+    }
+
+    fn flights(&self) -> u32 {
+        self.tables.flights.len()
+    }
+
+    fn flights_of(&self, c: ConnId) -> u32 {
+        self.tables.flights.of(c)
+    }
+
+    fn next_ticket(&self) -> Ticket {
+        self.tables.admitted
+    }
+
+    fn flight(&self, ticket: Ticket) -> Option<(ConnId, &Descriptor<A>)> {
+        let flight = self.tables.flights.get(ticket)?;
+        Some((flight.from, &flight.descriptor))
+    }
+
+    fn source(&self, key: &Key) -> Option<ConnId> {
+        self.tables.seen.source(key.kind, &key.id)
+    }
+
+    fn servent_route(&self, servent: &Guid) -> Option<ConnId> {
+        self.tables.servents.route(servent)
+    }
+
+    fn output(&self, c: ConnId) -> Option<u32> {
+        self.tables.neighbours.waiting(c)
+    }
+
+    fn front(&self, c: ConnId) -> Option<Option<&Descriptor<A>>> {
+        self.tables.neighbours.front(c)
+    }
+}
+
+impl<A: Allocator + Copy, K: Keeper<A>> Store<A> for TableStore<A, K> {
+    fn follow(
+        &mut self,
+        alloc: A,
+        actor: u32,
+        event: &mut Event<A>,
+        reply: &mut Reply<A>,
+    ) -> Result<(), AllocError> {
+        self.history.make_room()?;
+        self.tables.follow(alloc, event, reply)?;
+        self.history.keep(actor, event, reply);
+        Ok(())
+    }
+
+    fn stats(&self) -> Stats {
+        self.tables.stats
+    }
+
+    fn is_legal(&self) {
+        let _ = &self.tables;
+    }
+}
+
+impl<A: Allocator + Copy> FreshStore<A> for TableStore<A, Whole<A>> {
+    fn empty(alloc: A, config: &Config) -> Result<Self, AllocError> {
+        TableStore::over(alloc, config, Whole::new(alloc))
+    }
+}
+
+impl<A: Allocator + Copy> FreshStore<A> for TableStore<A, Forgetful<A>> {
+    fn empty(alloc: A, config: &Config) -> Result<Self, AllocError> {
+        TableStore::over(alloc, config, Forgetful::new())
+    }
+}
+
+impl<A: Allocator + Copy> StepStore<A> for TableStore<A, Whole<A>> {
+    fn as_slice(&self) -> &[Step<A>] {
+        &self.history.steps
+    }
+
+    fn into_steps(self) -> Vec<Step<A>, A> {
+        self.history.steps
+    }
+}

@@ -1,0 +1,22 @@
+//! The tables of a router.
+
+use crate::flights::Flights;
+use crate::neighbours::Neighbours;
+use crate::seen::SeenTable;
+use crate::servents::ServentTable;
+use gn_rules::{Stats, Ticket};
+use std::alloc::{Allocator, Global};
+
+/// What a router remembers, and how much it has counted.
+#[derive(Drop)]
+pub(crate) struct Tables<A: Allocator + Copy = Global> {
+    pub seen: SeenTable<A>,
+    pub servents: ServentTable<A>,
+    pub neighbours: Neighbours<A>,
+    pub flights: Flights<A>,
+    /// The last connection that was made; 0 where there was none.
+    pub connected: u32,
+    /// The next ticket.
+    pub admitted: Ticket,
+    pub stats: Stats,
+}

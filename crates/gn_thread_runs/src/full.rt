@@ -1,0 +1,70 @@
+//! A full history, found where no memory is left for what the threads give back.
+
+use crate::in_step::{Meeting, PacedLink};
+use crate::runs::run_of;
+use gn_fixtures::{Heap, usual};
+use gn_links::{Gate, MemoryLink};
+use gn_shake::{Role, request};
+use gn_threads::RunFault;
+use std::alloc::{AllocError, Allocator, Global};
+use std::sync::Wait;
+use std::test::Fail;
+use std::thread::Threads;
+
+/// Leaves no memory once a run has failed.
+#[derive(Drop)]
+struct Miser<'a> {
+    heap: &'a Heap,
+}
+
+impl<'a> Gate for Miser<'a> {
+    fn enter<R: Wait>(&self, _rt: &R, _worker: u32, _ticket: u32) {}
+
+    fn failed(&self) {
+        self.heap.refuse_from(0);
+    }
+}
+
+/// A link of these bytes, read in step with another.
+fn link_of<'a>(
+    alloc: Global,
+    role: Role,
+    bytes: &[u8],
+    meeting: &'a Meeting,
+) -> Result<PacedLink<'a, MemoryLink>, AllocError> {
+    Ok(PacedLink {
+        link: MemoryLink::new(role, bytes.to_vec(alloc)?, 4096),
+        meeting: Some(meeting),
+        is_first: matches!(role, Role::Accepting),
+    })
+}
+
+/// The fault of a run over two links of at most one step, which has its memory from this allocator.
+fn fault_over<A: Allocator + Copy + Send + Sync, R: Threads + Wait + Sync>(
+    rt: &R,
+    alloc: Global,
+    poor: A,
+    meeting: &Meeting,
+    gate: &Miser<'_>,
+) -> Result<Option<RunFault>, Fail> {
+    let config = usual(1)?;
+    let mut links = Vec::new(poor);
+    links.push(link_of(alloc, Role::Accepting, request(), meeting)?)?;
+    links.push(link_of(alloc, Role::Plain, b"", meeting)?)?;
+    Ok(run_of(rt, poor, &config, links, 1, gate).err())
+}
+
+/// The plain link connects before its first read, and makes the only step. The greeted one, whose first read comes no sooner, is
+/// the first of the two to be joined, and alone finds the history full.
+#[test]
+fn a_full_history_is_named_without_memory(rt: HostRuntime) -> Result<(), Fail> {
+    let meeting = Meeting::new();
+    let heap = Heap::new(rt.alloc());
+    let gate = Miser { heap: &heap };
+    let fault = fault_over(&rt, rt.alloc(), &heap, &meeting, &gate);
+    let has_refused = heap.has_refused();
+    heap.refuse_none();
+    assert_eq!(rt; fault?, Some(RunFault::HistoryFull));
+    assert!(rt; has_refused);
+    Ok(())
+}
