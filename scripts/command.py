@@ -1,7 +1,11 @@
-"""How each script is called: its options, what it says of itself, and one line for whatever goes wrong."""
+"""How each script is called: its options, what it says of itself, and one line for whatever goes wrong; where the toolchain is."""
 import argparse
 import os
+import shutil
+import subprocess
 import sys
+from functools import cache
+from pathlib import Path
 
 
 def fail(text):
@@ -17,6 +21,14 @@ SKIPPED = 77
 def skip(packages):
     print(", ".join(packages))
     sys.exit(SKIPPED)
+
+
+@cache
+def kit():
+    """The folder of the toolchain."""
+    if not shutil.which("rt"):
+        fail("rt is missing: it is the command of the Rattle toolchain")
+    return Path(subprocess.run(["rt", "doc"], stdout=subprocess.PIPE, text=True, check=True).stdout.strip()).parent
 
 
 class Parser(argparse.ArgumentParser):
