@@ -64,13 +64,14 @@ test:
 
 # What a call of each table takes; then, three times in a process of its own, what a job through the stage queue takes: these go to
 # standard error. Then tables of what the program gn takes: replays and audits of mixed captures, and loads of 1, 2, 4 and 16 workers
-# beside replays.
+# beside replays; and that a replay and an audit of a million steps take no more memory beyond their input than of ten thousand.
 bench: build
 	scripts/build gn_bench
 	crates/gn_bench/out/gn_bench tables
 	for run in 1 2 3; do crates/gn_bench/out/gn_bench stage || exit 1; done
 	scripts/bench_replay crates/gn/out/gn
 	scripts/bench_load crates/gn/out/gn
+	scripts/check_memory crates/gn/out/gn
 
 # How many packets a second the program gn passes on through sockets, and how soon it answers, beside a relay of one thread.
 bench_serve: build
