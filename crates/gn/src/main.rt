@@ -4,10 +4,10 @@
 mod streams;
 
 use gn_io::{ReaderSource, Sink, WriterSink, write_all};
-use gn_program::{command_with, refuse_words};
+use gn_program::{Head, Kept, command_with, refuse_words};
 use gn_progress::Progress;
-use gn_router::{Forgetful, Unfreed};
-use gn_tables::TableRouter;
+use gn_router::Unfreed;
+use gn_tables::{Forgetful, TableRouter};
 use std::cell::Cell;
 use std::env::Env;
 use std::process::ExitCode;
@@ -36,7 +36,8 @@ fn main(rt: HostRuntime) -> ExitCode {
     open_all(&rt);
     let input: Why = Cell::new(None);
     let output: Why = Cell::new(None);
-    let mut reader = ReaderSource::new(Noted::new(rt.stdin(), &input));
+    let head = Head::new();
+    let mut reader = ReaderSource::new(Kept::new(Noted::new(rt.stdin(), &input), &head));
     let mut writer = WriterSink::new(Noted::new(rt.stdout(), &output));
     let mut faults = WriterSink::new(Unbroken::new(rt.stderr(), &output));
     let progress = Progress::new(&rt, rt.stderr());
@@ -46,10 +47,12 @@ fn main(rt: HostRuntime) -> ExitCode {
             rt.alloc(),
             words.as_slice(),
             &progress,
+            &head,
             &mut reader,
             &mut writer,
             &mut faults,
-        ),
+        )
+        .status,
         Err(error) => refuse_words(&error, &mut faults),
     };
     if is_broken(&output) {

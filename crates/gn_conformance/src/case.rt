@@ -38,6 +38,7 @@ fn words_of(command: &str) -> Option<&'static str> {
         "explain" => Some("gn audit --explain"),
         "show" | "shown" => Some("gn show"),
         "json" => Some("gn show --json"),
+        "csv" => Some("gn show --csv"),
         "stats" => Some("gn show --stats"),
         _ => None,
     }

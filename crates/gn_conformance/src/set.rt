@@ -47,16 +47,13 @@ fn cases_in<R: Files + AllocGlobal>(rt: &R, name: &str) -> io::Result<Vec<Case>>
     Ok(cases)
 }
 
-/// Inputs of 64 MiB. They take too long as the slower of two compilers builds this program: scripts/conformance alone runs them.
-const LONGEST: &str = "longest.cases";
-
 /// The cases that a file has, none where it has what another one is given or answers.
 pub(crate) fn cases_of<R: Files + AllocGlobal>(rt: &R, name: &str) -> io::Result<Vec<Case>> {
     let Some((base, kind)) = name.rsplit_once('.') else {
         return Ok(Vec::new(rt.alloc()));
     };
     match kind {
-        "cases" if name != LONGEST => cases_in(rt, name),
+        "cases" => cases_in(rt, name),
         "replay" => {
             let input = format!(in rt.alloc(); "{base}.capture")?;
             case_beside(rt, base, kind, input.as_str(), name)

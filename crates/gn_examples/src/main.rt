@@ -8,19 +8,24 @@ mod streams;
 mod watched;
 
 use gn_io::{ReaderSource, WriterSink};
-use gn_program::{command, refuse_words};
+use gn_links::NoGate;
+use gn_program::{Head, Kept, command_with, refuse_words};
+use gn_tables::{Forgetful, TableRouter};
 use neighbours::Neighbour;
 use std::io::{ErrorKind, StdinLock};
 use std::net::{Ipv4Addr, Net, SocketAddr, TcpListener, TcpStream};
 use std::rt::Files;
 use std::sync::Wait;
 use std::thread::Threads;
-use std::time::Clock;
+use std::time::{Clock, Duration, Instant};
 use std::{fs, io, str, thread};
 use streams::{Given, Taken};
 
 /// A port that is taken while a serve asks for it.
 const TAKEN: u16 = 26_349;
+
+/// What a caller says first.
+const GREETING: &[u8] = b"GNUTELLA CONNECT/0.4\n\n";
 
 /// What a command answers: its status, what it prints, and the faults that it writes.
 #[derive(Drop)]
@@ -40,12 +45,22 @@ fn answer<
         + Sync
         + AllocGlobal,
 >(rt: &R, words: &[&str], input: Given<'_>, fails: (bool, bool)) -> Answered {
-    let mut reader = ReaderSource::new(input);
+    let head = Head::new();
+    let mut reader = ReaderSource::new(Kept::new(input, &head));
     let mut writer = WriterSink::new(Taken::new(rt.alloc(), fails.0));
     let mut faults = WriterSink::new(Taken::new(rt.alloc(), fails.1));
-    let status = command(rt, rt.alloc(), words, &mut reader, &mut writer, &mut faults);
+    let ended = command_with::<TableRouter<_, Forgetful>, _, _, _, _, _, _>(
+        rt,
+        rt.alloc(),
+        words,
+        &NoGate,
+        &head,
+        &mut reader,
+        &mut writer,
+        &mut faults,
+    );
     Answered {
-        status,
+        status: ended.status,
         printed: writer.into_inner().text,
         faults: faults.into_inner().text,
     }
@@ -190,6 +205,37 @@ fn are_refused<R: Files + AllocGlobal>(
     Ok(found == status && is_as(rt, faults.into_inner().text.as_slice(), fault)?)
 }
 
+/// How many seconds a router has given its neighbour below, more than where none are asked for, and after how many it was stopped.
+const GRACE: u64 = 6;
+
+const STOP: u64 = 1;
+
+/// Whether a stopped router waits for its neighbour, which holds on, as long as `--grace` asks for.
+fn is_graced<
+    R: Threads
+        + Wait
+        + Net<Listener = TcpListener, Stream = TcpStream>
+        + Clock
+        + Input<Reader = StdinLock<'static>>
+        + Sync
+        + AllocGlobal,
+>(rt: &R) -> io::Result<bool> {
+    let words: &[&str] = &[
+        "gn",
+        "serve",
+        "--port=26360",
+        "--accept=1",
+        "--workers=1",
+        "--for=1",
+        "--grace=6",
+    ];
+    let neighbour = Neighbour::of("holds", GREETING);
+    let begun = Instant::now(rt)?;
+    let answered = answer_beside(rt, words, Given::new(&[], false), (false, false), neighbour);
+    let took = begun.elapsed(rt)?;
+    Ok(answered.status == 0 && took >= Duration::from_secs(STOP + GRACE))
+}
+
 /// Prints of a case whether it is as wanted.
 fn print<R: Print>(rt: &R, case: &str, is_right: bool) -> io::Result<()> {
     let stated = if is_right {
@@ -213,6 +259,12 @@ fn main(rt: HostRuntime) -> io::Result<()> {
         let are_refused = are_refused(&rt, kind, status, fault)?;
         print(&rt, fault, are_refused)?;
     }
+    let is_graced = is_graced(&rt)?;
+    print(
+        &rt,
+        "a neighbour has the grace that is asked for",
+        is_graced,
+    )?;
     let are_shown = progressed::are_shown(&rt);
     print(&rt, "progress is shown in its lines", are_shown)?;
     let are_told = watched::are_told(&rt)?;

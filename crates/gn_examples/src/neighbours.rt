@@ -14,6 +14,9 @@ const PAUSE: u64 = 10;
 
 const LATE: u64 = 300;
 
+/// Milliseconds between two bytes of a neighbour that holds on.
+const TURN: u64 = 30;
+
 /// The bytes of a greeting's request, of its consent, of a Ping and of the Pong that answers it.
 const REQUEST: usize = 22;
 
@@ -28,6 +31,8 @@ pub(crate) enum Neighbour<'a> {
     Sends(&'a [u8]),
     /// Calls, sends the bytes, and reads to the router's end.
     Stays(&'a [u8]),
+    /// The same, and then sends a byte now and then, until the router has let it go.
+    Holds(&'a [u8]),
     /// Calls, greets, and sends the Ping that follows, with another ID each time, as soon as the one before is answered.
     Asks(&'a [u8]),
     /// Listens after a while, and gives its consent, which the file has, and its end.
@@ -40,6 +45,7 @@ impl<'a> Neighbour<'a> {
         match word {
             "sends" => Some(Neighbour::Sends(bytes)),
             "stays" => Some(Neighbour::Stays(bytes)),
+            "holds" => Some(Neighbour::Holds(bytes)),
             "asks" => Some(Neighbour::Asks(bytes)),
             "listens" => Some(Neighbour::Listens(bytes)),
             _ => None,
@@ -56,6 +62,7 @@ impl<'a> Neighbour<'a> {
         match self {
             Neighbour::Sends(bytes) => send(&mut call(rt, there)?, bytes, true),
             Neighbour::Stays(bytes) => send(&mut call(rt, there)?, bytes, false),
+            Neighbour::Holds(bytes) => hold(rt, &mut call(rt, there)?, bytes),
             Neighbour::Asks(bytes) => ask(&mut call(rt, there)?, bytes),
             Neighbour::Listens(bytes) => listen(rt, there, bytes),
         }
@@ -93,6 +100,15 @@ fn send(router: &mut TcpStream, bytes: &[u8], ends: bool) -> io::Result<()> {
         router.shutdown(Shutdown::Write)?;
     }
     read_out(router)
+}
+
+fn hold<R: Clock>(rt: &R, router: &mut TcpStream, bytes: &[u8]) -> io::Result<()> {
+    send(router, bytes, false)?;
+    for _ in 0..TIMES {
+        thread::sleep(rt, Duration::from_millis(TURN));
+        router.write_all(b"\0")?;
+    }
+    Ok(())
 }
 
 fn ask(router: &mut TcpStream, bytes: &[u8]) -> io::Result<()> {

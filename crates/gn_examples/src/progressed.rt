@@ -38,28 +38,45 @@ impl Screen for Expecting<'_> {
     }
 }
 
-/// A serve: a link comes, and brings 1,005 descriptors, most of them after a second, and 7 that are refused.
+/// A serve: a link comes, and brings 1,005 descriptors, most of them after a second, and 7 that are refused. Then nothing is done for
+/// three seconds.
 const SERVE: &str = "\
 link 0 127.0.0.1:5000 came at 12:34:56
 routed 0 of 65 admitted, 1 links, 0 busy, 999,935 steps left at 12:34:57
-link 0 reader ended at 12:34:59
-routed 0 of 1,005 admitted, 1 links, 7 busy, 998,988 steps left at 12:34:59
+routed 0 of 1,005 admitted, 1 links, 7 busy, 998,988 steps left at 12:34:58
+link 0 reader ended at 12:35:00
+routed 0 of 1,006 admitted, 1 links, 7 busy, 998,987 steps left at 12:35:00
 ";
 
-fn serve<W: Watch>(watch: &W, now: &Cell<u64>) {
-    watch.open(1_000_000);
-    watch.came(0, SocketAddr::from((Ipv4Addr::LOCALHOST, 5_000)));
+/// Nothing is done from second 1 to 3.
+fn rest<W: Watch>(watch: &W, now: &Cell<u64>) {
+    for second in 1..4 {
+        now.set(second);
+        let _ = watch.tick();
+    }
+}
+
+/// The first descriptors come, the clock at a second from the 65th on.
+fn admit<W: Watch>(watch: &W, now: &Cell<u64>) {
     for ticket in 0..1_005 {
         if ticket == 64 {
             now.set(1);
         }
         watch.made(0, Made::Admitted(ticket));
     }
+}
+
+fn serve<W: Watch>(watch: &W, now: &Cell<u64>) {
+    watch.open(1_000_000);
+    watch.came(0, SocketAddr::from((Ipv4Addr::LOCALHOST, 5_000)));
+    admit(watch, now);
     for _ in 0..7 {
         watch.made(0, Made::Busy);
     }
-    now.set(3);
+    rest(watch, now);
+    now.set(4);
     watch.ended(0, Half::Reader);
+    watch.made(0, Made::Admitted(1_005));
     watch.end();
 }
 

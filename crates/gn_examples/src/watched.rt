@@ -3,7 +3,7 @@
 use crate::streams::{Given, Taken};
 use gn_io::{ReaderSource, WriterSink};
 use gn_links::{Gate, Watch};
-use gn_program::command_with;
+use gn_program::{Head, command_with};
 use gn_tables::TableRouter;
 use std::io::{self, StdinLock};
 use std::net::{Net, SocketAddr, TcpListener, TcpStream};
@@ -110,16 +110,17 @@ pub(crate) fn are_told<
         let mut reader = ReaderSource::new(Given::new(SILENT, false));
         let mut writer = WriterSink::new(Taken::new(rt.alloc(), false));
         let mut faults = WriterSink::new(Taken::new(rt.alloc(), false));
-        let status = command_with::<TableRouter, R, Told, &str, _, _, _>(
+        let ended = command_with::<TableRouter, R, Told, &str, _, _, _>(
             rt,
             rt.alloc(),
             words,
             &told,
+            &Head::new(),
             &mut reader,
             &mut writer,
             &mut faults,
         );
-        if status != 0 || told.counts() != counts {
+        if ended.status != 0 || told.counts() != counts {
             return Ok(false);
         }
     }

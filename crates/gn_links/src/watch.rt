@@ -3,6 +3,7 @@
 use crate::gate::{Gate, NoGate};
 use std::io::ErrorKind;
 use std::net::SocketAddr;
+use std::time::Duration;
 
 /// A gate that learns when the run of a load begins, or that of a serve, and when it has ended; it is left what a load made.
 pub trait Watch: Gate {
@@ -17,6 +18,11 @@ pub trait Watch: Gate {
 
     /// The peer at this address can't be called, over this link: what the system said. The run ends for that.
     fn not_called(&self, _link: u32, _peer: SocketAddr, _why: ErrorKind) {}
+
+    /// A serve goes on, whether or not anything is done. After how long it says so again, at the latest; `None`: it needn't.
+    fn tick(&self) -> Option<Duration> {
+        None
+    }
 
     /// The run has ended, well or not, or there is none.
     fn end(&self) {}

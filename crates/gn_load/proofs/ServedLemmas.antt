@@ -1,5 +1,5 @@
 -- The history of a run over TCP.
-use Rattle.std.proofs.Common.{◌≡◌, ◌↔◌, ◌+◌, ℕ, Bool, true, List, [], length, reverse, refl, ap, subst, inl, inr, Option, Some, None, OnOk, OnErr, Result, Ok, Err, append-nil}
+use Rattle.std.proofs.Common.{◌≡◌, ◌∙◌, ◌↔◌, ◌+◌, ℕ, Bool, true, List, [], length, reverse, refl, ap, sym, subst, inl, inr, Option, Some, None, OnOk, OnErr, Result, Ok, Err, append-nil}
 use Rattle.gn_io.specs.Parts.{AppendsPart}
 use Rattle.gn_load.specs.declared.printed.PrintFault.{PrintFault}
 use Rattle.gn_rules.specs.Answer.{IsLegal}
@@ -18,31 +18,33 @@ use Rattle.gn_load.specs.Served.{AppendsServed, AppendsServedPart, HasKept, HasS
 use Rattle.gn_load.specs.declared.serve_fault.ServeFault.{ServeFault}
 use Rattle.gn_load.specs.declared.serve_fault.ServeFault.TheVariants.{Run, Write}
 use Rattle.gn_service.specs.Links.{origins_of, roles_of}
+use Rattle.gn_service.specs.Ran.{Remembered, ran_of}
 
 -- bytes that stay are kept
 pub kept : (old : Option (List ℕ)) → Keeps old old
 kept None = _
 kept (Some xs) = refl
 
-module _ {A : Type 0} (s : Config) (peers : List SocketAddr) (accept workers : ℕ) (report : Report TcpReading TcpWriting A)
+module _ {A : Type 0} (s : Config) (peers : List SocketAddr) (accept workers : ℕ) (report : Report TcpReading TcpWriting A) (ran : Remembered A)
+    (remembered : ran ≡ ran_of report)
     (holds : Holds half_read half_written s (roles_of (length peers) (length peers + accept)) workers report)
     (made : AreMadeOf (λ half. half.origin) (λ half. half.origin) (origins_of peers (length peers + accept)) report)
     (one_socket : AreOfOne (λ half. half.socket) (λ half. half.socket) report) where
   -- the text of its history
-  served : IsServedText A s peers accept workers (history_text s report.history.items)
-  served = record { report = report; holds = holds; made = made; one_socket = one_socket; printed = refl }
+  served : IsServedText A s peers accept workers ran (history_text s ran.steps)
+  served = record { report = report; remembered = remembered; holds = holds; made = made; one_socket = one_socket; printed = refl }
 
   -- it was written
   pub written : (steps : List (Step A)) (old new : Option (List ℕ)) → steps ≡ report.history.items → Appends old new (history_text s steps)
-      → AppendsServed A s peers accept workers old new
+      → AppendsServed A s peers accept workers ran old new
   written steps old new same whole =
-      (history_text s report.history.items, served, subst (λ (xs : List (Step A)). Appends old new (history_text s xs)) same whole)
+      (history_text s ran.steps, served, subst (λ (xs : List (Step A)). Appends old new (history_text s xs)) (same ∙ sym (ap (λ (r : Remembered A). r.steps) remembered)) whole)
 
   -- a prefix of it was
   pub written_part : (steps : List (Step A)) (old new : Option (List ℕ)) → steps ≡ report.history.items → AppendsPart old new (history_text s steps)
-      → AppendsServedPart A s peers accept workers old new
+      → AppendsServedPart A s peers accept workers (Some ran) old new
   written_part steps old new same part =
-      (history_text s report.history.items, served, subst (λ (xs : List (Step A)). AppendsPart old new (history_text s xs)) same part)
+      (ran, refl, history_text s ran.steps, served, subst (λ (xs : List (Step A)). AppendsPart old new (history_text s xs)) (same ∙ sym (ap (λ (r : Remembered A). r.steps) remembered)) part)
 
 -- a history that is kept was written, whole or up to where that failed
 pub kept_part : {A : Type 0} (s : Config) (is_kept : Bool) (fault : RunFault) (steps : List (Step A)) (old new : Option (List ℕ)) (r : Result (Unit {0}) PrintFault)

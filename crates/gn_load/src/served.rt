@@ -9,16 +9,19 @@ ghost use Rattle.gn_rules.specs.Limits.{IsCrew, most_links};
 ghost use Rattle.gn_threads.specs.declared.fault.RunFault.TheVariants.{BadWorkers, HistoryFull};
 ghost use Rattle.gn_threads.specs.Headline.{AreMadeOf, AreOfOne, Holds};
 ghost use Rattle.gn_service.specs.Links.{origins_of, roles_of};
+ghost use Rattle.gn_service.specs.Ran.{ran_of};
 ghost use Rattle.gn_tcp.specs.Tcp.{half_read, half_written};
 ghost use Rattle.gn_load.specs.declared.serve_fault.ServeFault.TheVariants.{Run};
-ghost use Rattle.gn_load.specs.Served.{AppendsServed, AppendsServedPart, HasKept, HasServeStopped, IsServeFault};
+ghost use Rattle.gn_load.specs.Served.{AppendsServed, AppendsServedPart, AppendsSomePart, HasKept, HasServeStopped, IsServeFault};
 
 use crate::printed::{PrintFault, print_history};
 use crate::serve_fault::ServeFault;
 use crate::serve_stopped::ServeStopped;
 use gn_io::Sink;
 use gn_rules::{Config, Historian, Step};
-use gn_service::{Report, RunFault, Serving, Stopped, TcpReader, TcpWriter, Watch, serve_kept};
+use gn_service::{
+    Ran, Report, RunFault, Serving, Stopped, TcpReader, TcpWriter, Watch, serve_kept,
+};
 use std::alloc::Allocator;
 use std::net::{Net, SocketAddr, TcpListener, TcpStream};
 use std::sync::Wait;
@@ -79,7 +82,7 @@ pub fn serve_history<
     ensures bad_workers { IfErr result (λ fault. (fault ≡ Run BadWorkers) ↔ (¬ IsCrew workers)) }
     ensures fault { IfErr result (λ fault. IsCrew workers → IsServeFault (length peers.now + accept) workers fault
         (W.state sink.old) (W.state sink.new)) }
-    ensures written { OnOk result (AppendsServed A config.now peers.now accept workers
+    ensures written { IfOk result (λ report. AppendsServed A config.now peers.now accept workers (ran_of report)
         (W.state sink.old).written (W.state sink.new).written) }
     ensures report { IfOk result (λ report. Appends (W.state sink.old).written (W.state sink.new).written
         (history_text config.now report.history.items)) }
@@ -89,19 +92,19 @@ pub fn serve_history<
     ensures made { IfOk result (λ report. AreMadeOf (λ half. half.origin) (λ half. half.origin)
         (origins_of peers.now (length peers.now + accept)) report) }
     ensures one_socket { IfOk result (λ report. AreOfOne (λ half. half.socket) (λ half. half.socket) report) }
-    ensures stopped { IfErr result (λ fault. HasServeStopped A (AppendsServedPart A config.now peers.now accept workers)
+    ensures stopped { IfErr result (λ fault. HasServeStopped A (AppendsSomePart A config.now peers.now accept workers)
         serving.now.is_kept config.now fault (W.state sink.old).written (W.state sink.new).written) }
 {
     match serve_history_kept::<C, A, R, G, W>(
         rt, alloc, listener, config, accept, peers, serving, workers, watch, sink,
     ) {
-        Ok(report) => Ok(report),
+        Ok((report, _)) => Ok(report),
         Err(stopped) => Err(stopped.fault),
     }
 }
 
-/// Does the same, and a fault comes with what stands of the history, which is legal by the configuration of the call, and has as
-/// many steps as it may have where the fault is a full history.
+/// Does the same. The report comes with what is remembered of the run, and a fault with what stands of the history, which is legal by
+/// the configuration of the call, and has as many steps as it may have where the fault is a full history.
 pub fn serve_history_kept<
     's,
     C: Historian<A> + Drop + Send,
@@ -125,25 +128,26 @@ pub fn serve_history_kept<
     workers: u32,
     watch: &G,
     sink: &mut W,
-) -> Result<Report<TcpReader<'s>, TcpWriter, A>, ServeStopped<A>>
+) -> Result<(Report<TcpReader<'s>, TcpWriter, A>, Ran<A>), ServeStopped<A>>
     requires few { accept + length peers.now ≤ most_links }
     ensures workers { OnOk result (IsCrew workers) }
     ensures bad_workers { IfErr result (λ stopped. (stopped.fault ≡ Run BadWorkers) ↔ (¬ IsCrew workers)) }
     ensures fault { IfErr result (λ stopped. IsCrew workers → IsServeFault (length peers.now + accept) workers
         stopped.fault (W.state sink.old) (W.state sink.new)) }
-    ensures written { OnOk result (AppendsServed A config.now peers.now accept workers
+    ensures ran { IfOk result (λ done. done.1 ≡ ran_of done.0) }
+    ensures written { IfOk result (λ done. AppendsServed A config.now peers.now accept workers done.1
         (W.state sink.old).written (W.state sink.new).written) }
-    ensures report { IfOk result (λ report. Appends (W.state sink.old).written (W.state sink.new).written
-        (history_text config.now report.history.items)) }
+    ensures report { IfOk result (λ done. Appends (W.state sink.old).written (W.state sink.new).written
+        (history_text config.now done.0.history.items)) }
     ensures unfailed { OnOk result (NoWriteFailed (W.state sink.old) (W.state sink.new)) }
-    ensures holds { IfOk result (λ report. Holds half_read half_written config.now
-        (roles_of (length peers.now) (length peers.now + accept)) workers report) }
-    ensures made { IfOk result (λ report. AreMadeOf (λ half. half.origin) (λ half. half.origin)
-        (origins_of peers.now (length peers.now + accept)) report) }
-    ensures one_socket { IfOk result (λ report. AreOfOne (λ half. half.socket) (λ half. half.socket) report) }
+    ensures holds { IfOk result (λ done. Holds half_read half_written config.now
+        (roles_of (length peers.now) (length peers.now + accept)) workers done.0) }
+    ensures made { IfOk result (λ done. AreMadeOf (λ half. half.origin) (λ half. half.origin)
+        (origins_of peers.now (length peers.now + accept)) done.0) }
+    ensures one_socket { IfOk result (λ done. AreOfOne (λ half. half.socket) (λ half. half.socket) done.0) }
     ensures stopped { IfErr result (λ stopped. HasServeStopped A
-        (AppendsServedPart A config.now peers.now accept workers) serving.now.is_kept config.now stopped.fault
-        (W.state sink.old).written (W.state sink.new).written) }
+        (AppendsServedPart A config.now peers.now accept workers stopped.ran) serving.now.is_kept config.now
+        stopped.fault (W.state sink.old).written (W.state sink.new).written) }
     ensures kept { IfErr result (λ stopped. IfSome stopped.history (λ history.
         IsLegal config.now (reverse history.items))) }
     ensures full { IfErr result (λ stopped. stopped.fault ≡ Run HistoryFull → IfSome stopped.history (λ history.
@@ -153,26 +157,29 @@ pub fn serve_history_kept<
         rt, alloc, listener, config, accept, peers, serving, workers, watch,
     );
     watch.end();
-    let report = match answer {
-        Ok(report) => report,
+    let (report, ran) = match answer {
+        Ok(done) => done,
         Err(Stopped { fault, history }) => {
             // that it can't be written changes no fault
             let _ = print_kept(alloc, config, serving.is_kept, fault, &history, sink);
             return Err(ServeStopped {
                 fault: ServeFault::Run(fault),
                 history,
+                ran: None,
             });
         }
     };
     match print_history(alloc, config, &report.history, sink) {
-        Ok(()) => Ok(report),
+        Ok(()) => Ok((report, ran)),
         Err(PrintFault::Write) => Err(ServeStopped {
             fault: ServeFault::Write,
             history: Some(report.history),
+            ran: Some(ran),
         }),
         Err(PrintFault::NoMemory) => Err(ServeStopped {
             fault: ServeFault::Run(RunFault::NoMemory),
             history: Some(report.history),
+            ran: Some(ran),
         }),
     }
 }

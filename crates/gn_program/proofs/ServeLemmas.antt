@@ -1,9 +1,9 @@
 -- What a serve answers, from what the run answered.
-use Rattle.std.proofs.Common.{◌≡◌, ◌+◌, ℕ, List, true, length, IfErr, OnOk, Result, Ok, Err, sym, subst}
+use Rattle.std.proofs.Common.{◌≡◌, ◌+◌, ℕ, List, true, length, IfErr, OnOk, Option, Some, Result, Ok, Err, refl, sym, subst}
 use Rattle.std.specs.Result.{IsErrAnd}
 use Rattle.std.specs.declared.alloc.Global.{Global}
 use Rattle.std.specs.declared.net.socket_addr.SocketAddr.{SocketAddr}
-use Rattle.std.proofs.lemmas.Result.{IfErr-weaker, on_ok_weaker}
+use Rattle.std.proofs.lemmas.Result.{IfErr-weaker}
 use Rattle.gn_io.specs.Streams.{NoWriteFailed, SinkState}
 use Rattle.gn_rules.specs.Limits.{IsCrew}
 use Rattle.gn_rules.specs.declared.config.Config.{Config}
@@ -15,6 +15,7 @@ use Rattle.gn_threads.specs.Faults.{IsArrivingFault}
 use Rattle.gn_threads.specs.declared.fault.RunFault.{RunFault}
 use Rattle.gn_program.specs.Commands.{AppendsAsked, AppendsAskedPart, IsServeAnswer, IsServing}
 use Rattle.gn_program.specs.Peers.{AreAt}
+use Rattle.gn_service.specs.Ran.{Remembered}
 use Rattle.gn_words.specs.ServeOptions.{AskedServe}
 
 -- a fault where the number of workers is one that a run may have
@@ -23,49 +24,52 @@ known : (links workers : ℕ) (sink sink_new : SinkState) (answer : Result (Unit
 known links workers sink sink_new (Ok done) within fault = tt
 known links workers sink sink_new (Err e) within fault = fault within
 
+-- the text of a run that is remembered was written, over links that are called at the peers' addresses
+pub asked : (serving : AskedServe) (settings : Config) (called : List SocketAddr) (ran : Remembered Global) (old new : Option (List ℕ))
+    → AreAt serving.peers called → AppendsServed Global settings called serving.accept serving.workers ran old new → AppendsAsked serving settings (Some ran) old new
+asked serving settings called ran old new at has = (called, at, ran, refl, has)
+
 -- all that is answered, of a run over links that are called at the peers' addresses
-pub answered : (serving : AskedServe) (settings : Config) (called : List SocketAddr) (sink sink_new : SinkState) (answer : Result (Unit {0}) ServeFault)
+pub answered : (serving : AskedServe) (settings : Config) (called : List SocketAddr) (remembered : Option (Remembered Global)) (sink sink_new : SinkState) (answer : Result (Unit {0}) ServeFault)
     → IsServing serving settings → AreAt serving.peers called → length called ≡ length serving.peers → IsCrew serving.workers → OnOk answer (NoWriteFailed sink sink_new)
-    → OnOk answer (AppendsServed Global settings called serving.accept serving.workers sink.written sink_new.written)
-    → IfErr answer (λ fault. HasServeStopped Global (AppendsServedPart Global settings called serving.accept serving.workers) serving.keeps settings fault sink.written sink_new.written)
+    → OnOk answer (AppendsAsked serving settings remembered sink.written sink_new.written)
+    → IfErr answer (λ fault. HasServeStopped Global (AppendsServedPart Global settings called serving.accept serving.workers remembered) serving.keeps settings fault sink.written sink_new.written)
     → IfErr answer (λ fault. IsCrew serving.workers → IsServeFault (length called + serving.accept) serving.workers fault sink sink_new)
-    → IsServeAnswer serving sink sink_new answer
-answered serving settings called sink sink_new answer configured at many within unfailed written stopped fault =
-    let asked : AppendsServed Global settings called serving.accept serving.workers sink.written sink_new.written → AppendsAsked serving settings sink.written sink_new.written =
-    λ has. (called, at, has) in
+    → IsServeAnswer serving sink sink_new answer remembered
+answered serving settings called remembered sink sink_new answer configured at many within unfailed written stopped fault =
     record {
       settings = settings;
       configured = configured;
       unfailed = unfailed;
-      written = on_ok_weaker answer asked written;
-      stopped = IfErr-weaker _ _ _ (λ fault has. stopped_less Global (AppendsServedPart Global settings called serving.accept serving.workers) (AppendsAskedPart serving settings) serving.keeps settings fault sink.written sink_new.written (λ part. (called, at, part)) has) stopped;
+      written = written;
+      stopped = IfErr-weaker _ _ _ (λ fault has. stopped_less Global (AppendsServedPart Global settings called serving.accept serving.workers remembered) (AppendsAskedPart serving settings remembered) serving.keeps settings fault sink.written sink_new.written (λ part. (called, at, part)) has) stopped;
       fault = known (length serving.peers + serving.accept) serving.workers sink sink_new answer within
           (subst (λ n. IfErr answer (λ fault. IsCrew serving.workers → IsServeFault (n + serving.accept) serving.workers fault sink sink_new)) many fault);
     }
 
 -- all that is answered where the run has no report, or its history wasn't written
-pub failed : (serving : AskedServe) (settings : Config) (called : List SocketAddr) (sink sink_new : SinkState) (answer : Result (Unit {0}) ServeFault) (fault : ServeFault)
+pub failed : (serving : AskedServe) (settings : Config) (called : List SocketAddr) (remembered : Option (Remembered Global)) (sink sink_new : SinkState) (answer : Result (Unit {0}) ServeFault) (fault : ServeFault)
     → IsServing serving settings → AreAt serving.peers called → length called ≡ length serving.peers → IsCrew serving.workers → IsErrAnd answer (λ e. e ≡ fault)
-    → HasServeStopped Global (AppendsServedPart Global settings called serving.accept serving.workers) serving.keeps settings fault sink.written sink_new.written
+    → HasServeStopped Global (AppendsServedPart Global settings called serving.accept serving.workers remembered) serving.keeps settings fault sink.written sink_new.written
     → (IsCrew serving.workers → IsServeFault (length called + serving.accept) serving.workers fault sink sink_new)
-    → IsServeAnswer serving sink sink_new answer
-failed serving settings called sink sink_new (Ok done) fault configured at many within is stopped one = absurd is
-failed serving settings called sink sink_new (Err e) fault configured at many within is stopped one =
-    answered serving settings called sink sink_new (Err e) configured at many within tt tt
-    (subst (λ f. HasServeStopped Global (AppendsServedPart Global settings called serving.accept serving.workers) serving.keeps settings f sink.written sink_new.written) (sym is) stopped)
+    → IsServeAnswer serving sink sink_new answer remembered
+failed serving settings called remembered sink sink_new (Ok done) fault configured at many within is stopped one = absurd is
+failed serving settings called remembered sink sink_new (Err e) fault configured at many within is stopped one =
+    answered serving settings called remembered sink sink_new (Err e) configured at many within tt tt
+    (subst (λ f. HasServeStopped Global (AppendsServedPart Global settings called serving.accept serving.workers remembered) serving.keeps settings f sink.written sink_new.written) (sym is) stopped)
     (subst (λ f. IsCrew serving.workers → IsServeFault (length called + serving.accept) serving.workers f sink sink_new) (sym is) one)
 
 -- all that is answered where there was no run
-pub unserved : (serving : AskedServe) (settings : Config) (sink : SinkState) (answer : Result (Unit {0}) ServeFault) (fault : RunFault)
+pub unserved : (serving : AskedServe) (settings : Config) (remembered : Option (Remembered Global)) (sink : SinkState) (answer : Result (Unit {0}) ServeFault) (fault : RunFault)
     → IsServing serving settings → IsErrAnd answer (λ e. e ≡ Run fault) → IsArrivingFault true (length serving.peers + serving.accept) serving.workers fault
-    → IsServeAnswer serving sink sink answer
-unserved serving settings sink (Ok done) fault configured is one = absurd is
-unserved serving settings sink (Err e) fault configured is one =
+    → IsServeAnswer serving sink sink answer remembered
+unserved serving settings remembered sink (Ok done) fault configured is one = absurd is
+unserved serving settings remembered sink (Err e) fault configured is one =
     record {
       settings = settings;
       configured = configured;
       unfailed = tt;
       written = tt;
-      stopped = subst (λ f. HasServeStopped Global (AppendsAskedPart serving settings) serving.keeps settings f sink.written sink.written) (sym is) (none_written Global (AppendsAskedPart serving settings) serving.keeps settings fault sink.written);
+      stopped = subst (λ f. HasServeStopped Global (AppendsAskedPart serving settings remembered) serving.keeps settings f sink.written sink.written) (sym is) (none_written Global (AppendsAskedPart serving settings remembered) serving.keeps settings fault sink.written);
       fault = subst (λ f. IsServeFault (length serving.peers + serving.accept) serving.workers f sink sink) (sym is) one;
     }

@@ -1,5 +1,5 @@
 -- What a command does: what replay, audit, show, load or serve answers to its input and output, and the status that stands for it.
-use Rattle.std.specs.Prelude.{◌≡◌, ◌≢◌, ◌⊎◌, ◌≤◌, ◌+◌, ◌∷◌, [], ℕ, List, Option, length, IfSome, IsOk, Result, Ok, Err, IfOk, IfErr, OnOk}
+use Rattle.std.specs.Prelude.{◌≡◌, ◌≢◌, ◌⊎◌, ◌≤◌, ◌+◌, ◌∷◌, [], ℕ, List, Option, Some, length, IfSome, IsOk, Result, Ok, Err, IfOk, IfErr, OnOk}
 use Rattle.std.specs.declared.alloc.Global.{Global}
 use Rattle.std.specs.declared.net.socket_addr.SocketAddr.{SocketAddr}
 use Rattle.clap.specs.declared.error.kind.ErrorKind.{ErrorKind}
@@ -22,6 +22,7 @@ use Rattle.gn_load.specs.Loads.{AppendsLoad, HasStopped as HasLoadStopped, load_
 use Rattle.gn_load.specs.declared.fault.LoadFault.{LoadFault}
 use Rattle.gn_load.specs.Served.{AppendsServed, AppendsServedPart, HasServeStopped, IsServeFault}
 use Rattle.gn_program.specs.Peers.{AreAt}
+use Rattle.gn_service.specs.Ran.{Remembered}
 use Rattle.gn_load.specs.declared.serve_fault.ServeFault.{ServeFault}
 use Rattle.gn_rules.specs.Settings.{IsMadeOf}
 use Rattle.gn_rules.specs.declared.config.Config.{Config}
@@ -110,29 +111,30 @@ IsServing serving settings =
       crowd = serving.crowd;
     }) (own_served serving)
 
--- known bytes grew by the history of a run with so many workers, over links to the peers of the words, which are called, and to so
--- many that call
-abbrev pub AppendsAsked : AskedServe → Config → Option (List ℕ) → Option (List ℕ) → Type 0
-AppendsAsked serving settings old new =
-    (called : List SocketAddr) × AreAt serving.peers called
-    × AppendsServed Global settings called serving.accept serving.workers old new
+-- a run with so many workers is remembered, over links to the peers of the words, which are called, and to so many that call; and
+-- known bytes grew by the text of its history
+abbrev pub AppendsAsked : AskedServe → Config → Option (Remembered Global) → Option (List ℕ) → Option (List ℕ) → Type 0
+AppendsAsked serving settings remembered old new =
+    (called : List SocketAddr) × AreAt serving.peers called × (ran : Remembered Global) × (remembered ≡ Some ran)
+    × AppendsServed Global settings called serving.accept serving.workers ran old new
 
--- known bytes grew by a prefix of such a history
-abbrev pub AppendsAskedPart : AskedServe → Config → Option (List ℕ) → Option (List ℕ) → Type 0
-AppendsAskedPart serving settings old new =
+-- such a run is remembered, and known bytes grew by a prefix of that text
+abbrev pub AppendsAskedPart : AskedServe → Config → Option (Remembered Global) → Option (List ℕ) → Option (List ℕ) → Type 0
+AppendsAskedPart serving settings remembered old new =
     (called : List SocketAddr) × AreAt serving.peers called
-    × AppendsServedPart Global settings called serving.accept serving.workers old new
+    × AppendsServedPart Global settings called serving.accept serving.workers remembered old new
 
--- what serve answers: no write failed, and the history of a run with so many workers, over links to the peers of the words, which
--- are called, and to so many that call, was written; or it stopped, and what was written then is a prefix of such a history, or of
--- one that is kept
-pub record IsServeAnswer (serving : AskedServe) (sink sink_new : SinkState) (answer : Result (Unit {0}) ServeFault) : Type 0 where
+-- what serve answers: no write failed, and the history of the run that is remembered was written, one with so many workers, over
+-- links to the peers of the words, which are called, and to so many that call; or it stopped, and what was written then is a prefix
+-- of that history, or of one that is kept
+pub record IsServeAnswer (serving : AskedServe) (sink sink_new : SinkState) (answer : Result (Unit {0}) ServeFault)
+    (remembered : Option (Remembered Global)) : Type 0 where
   pub settings : Config
   pub configured : IsServing serving settings
   pub unfailed : OnOk answer (NoWriteFailed sink sink_new)
-  pub written : OnOk answer (AppendsAsked serving settings sink.written sink_new.written)
-  pub stopped : IfErr answer (λ fault. HasServeStopped Global (AppendsAskedPart serving settings) serving.keeps settings
-      fault sink.written sink_new.written)
+  pub written : OnOk answer (AppendsAsked serving settings remembered sink.written sink_new.written)
+  pub stopped : IfErr answer (λ fault. HasServeStopped Global (AppendsAskedPart serving settings remembered)
+      serving.keeps settings fault sink.written sink_new.written)
   pub fault : IfErr answer (λ fault.
       IsServeFault (length serving.peers + serving.accept) serving.workers fault sink sink_new)
 
@@ -189,22 +191,31 @@ abbrev pub Loads : ℕ → Streams → ℕ → Type 0
 Loads workers s status =
     (answer : Result (Unit {0}) LoadFault) × IsLoadAnswer workers s answer × (status ≡ load_status answer)
 
--- nothing is read, the output is as some answer of such a serve leaves it, and the status is that answer's
-abbrev pub Serves : AskedServe → Streams → ℕ → Type 0
-Serves serving s status =
-    (s.source_new ≡ s.source) × ((answer : Result (Unit {0}) ServeFault)
-    × IsServeAnswer serving s.sink s.sink_new answer × (status ≡ serve_status answer))
+-- the output is as some answer of such a serve leaves it, whose run is remembered, and the status is that answer's
+abbrev pub ServesTo : AskedServe → Option (Remembered Global) → SinkState → SinkState → ℕ → Type 0
+ServesTo serving remembered sink sink_new status =
+    (answer : Result (Unit {0}) ServeFault)
+    × IsServeAnswer serving sink sink_new answer remembered × (status ≡ serve_status answer)
 
--- the streams and the status are as one of the request's answers says
-abbrev pub Does : Request → Streams → ℕ → Type 0
-Does Replay s status = Replays s status
-Does History s status = ReplaysHistory s status
-Does Audit s status = Audits s status
-Does Explain s status = Explains s status
-Does (Show view) s status = Shows view s status
-Does (Load workers) s status = Loads workers s status
-Does (Watched workers) s status = Loads workers s status
-Does (Serve serving) s status = Serves serving s status
+-- nothing is read, and the output and the status are so
+abbrev pub Serves : AskedServe → Option (Remembered Global) → Streams → ℕ → Type 0
+Serves serving remembered s status =
+    (s.source_new ≡ s.source) × ServesTo serving remembered s.sink s.sink_new status
+
+-- the streams and the status are as one of the request's answers says, and so is what is remembered of the run of a serve
+abbrev pub Does : Request → Streams → ℕ → Option (Remembered Global) → Type 0
+Does Replay s status remembered = Replays s status
+Does History s status remembered = ReplaysHistory s status
+Does Audit s status remembered = Audits s status
+Does Explain s status remembered = Explains s status
+Does (Show view) s status remembered = Shows view s status
+Does (Load workers) s status remembered = Loads workers s status
+Does (Watched workers) s status remembered = Loads workers s status
+Does (Serve serving) s status remembered = Serves serving remembered s status
+
+-- the same, where the run of a serve isn't remembered any more
+abbrev pub HasDone : Request → Streams → ℕ → Type 0
+HasDone request s status = (remembered : Option (Remembered Global)) × Does request s status remembered
 
 -- words that ask for no work: at help and the version the status is 0 or 1 and anything may be written; else nothing is
 -- written, and the status is 1 where memory ran out and 2 at all else

@@ -8,6 +8,7 @@ use std::array;
 use std::io::ErrorKind;
 use std::net::SocketAddr;
 use std::sync::{OnceLock, Wait};
+use std::time::Duration;
 
 /// As many peers as a command line names at most.
 const PEERS: usize = 64;
@@ -79,6 +80,10 @@ impl<'w, G: Watch> Watch for Calls<'w, G> {
             let _ = slot.try_set((peer, why));
         }
         self.watch.not_called(link, peer, why);
+    }
+
+    fn tick(&self) -> Option<Duration> {
+        self.watch.tick()
     }
 
     fn end(&self) {

@@ -7,13 +7,16 @@ ghost use Rattle.clap.specs.Kinds.{IsAmong};
 ghost use Rattle.clap.specs.Words.{kind_of};
 ghost use Rattle.clap.specs.declared.error.kind.ErrorKind.{ErrorKind as Kind};
 ghost use Rattle.clap.specs.declared.error.kind.ErrorKind.TheVariants.{OutOfMemory};
-ghost use Rattle.gn_program.specs.Commands.{Does, IsTurnedAway, IsUnread, Loads, audit_status, load_status, replay_status, serve_status, show_status};
+ghost use Rattle.gn_program.specs.Commands.{Does, HasDone, IsTurnedAway, IsUnread, Loads, ServesTo, audit_status, load_status, replay_status, serve_status, show_status};
 ghost use Rattle.gn_io.specs.Streams.{streams};
 ghost use Rattle.gn_words.specs.Words.{kinds_of, request_of};
 ghost use Rattle.gn_words.specs.declared.request.Request.{Request as Asked};
 
 use crate::calls::Calls;
+use crate::detail::{Reading, write_detail};
+use crate::ended::Ended;
 use crate::fault::Fault;
+use crate::head::Head;
 use crate::serves::serve;
 use crate::text::write_text;
 use crate::told::Told;
@@ -24,11 +27,10 @@ use gn_io::{Sink, Source};
 use gn_links::{NoGate, Watch};
 use gn_load::{LoadFault, ServeFault, load_watched};
 use gn_replay::{Exit, ReplayFault, audit, audit_explained, replay, replay_history};
-use gn_router::Forgetful;
 use gn_rules::{FreshRouter, Legality};
 use gn_show::show;
-use gn_tables::TableRouter;
-use gn_words::{Request, read_words};
+use gn_tables::{Forgetful, TableRouter};
+use gn_words::{Request, ServeOptions, read_words};
 use std::alloc::Global;
 use std::convert::AsStr;
 use std::io;
@@ -129,7 +131,33 @@ fn load<R: Threads + Wait + Sync, G: Watch + Sync, S: Source, W: Sink, F: Sink>(
     end_load(faults, answer)
 }
 
-/// Does what is asked for, and gives the status.
+/// Serves under this watch, and says how that ended.
+fn serve_watched<
+    R: Threads
+        + Wait
+        + Net<Listener = TcpListener, Stream = TcpStream>
+        + Clock
+        + Input<Reader = StdinLock<'static>>
+        + AllocGlobal
+        + Sync,
+    G: Watch + Sync,
+    W: Sink,
+    F: Sink,
+>(rt: &R, alloc: Global, serving: &ServeOptions, watch: &G, writer: &mut W, faults: &mut F) -> Ended
+    ensures { ServesTo serving.now result.ran (W.state writer.old) (W.state writer.new) result.status }
+{
+    let calls = Calls::new(watch);
+    let mut told = Told::Nothing;
+    let mut ran = None;
+    let answer = serve(
+        rt, alloc, serving, &calls, writer, faults, &mut told, &mut ran,
+    );
+    let told = calls.told(&answer, told);
+    let status = end_serve(faults, answer, told);
+    Ended { status, ran }
+}
+
+/// Does what is asked for.
 fn obey<
     C: FreshRouter<Global> + Drop,
     R: Threads
@@ -151,47 +179,43 @@ fn obey<
     reader: &mut S,
     writer: &mut W,
     faults: &mut F,
-) -> u8
+) -> Ended
     ensures { Does request
-        (streams (S.state reader.old) (S.state reader.new) (W.state writer.old) (W.state writer.new)) result }
+        (streams (S.state reader.old) (S.state reader.new) (W.state writer.old) (W.state writer.new))
+        result.status result.ran }
 {
     match request {
         Request::Replay => {
             let answer = replay::<Global, C, S, W>(alloc, reader, writer);
-            end_replay(faults, answer)
+            Ended::with(end_replay(faults, answer))
         }
         Request::History => {
             let answer = replay_history::<Global, C, S, W>(alloc, reader, writer);
-            end_replay(faults, answer)
+            Ended::with(end_replay(faults, answer))
         }
         Request::Audit => {
             let answer = audit::<Global, C, S, W>(alloc, reader, writer);
-            end_audit(faults, answer)
+            Ended::with(end_audit(faults, answer))
         }
         Request::Explain => {
             let answer = audit_explained::<Global, C, S, W>(alloc, reader, writer);
-            end_audit(faults, answer)
+            Ended::with(end_audit(faults, answer))
         }
-        Request::Show(view) => end_show(faults, show(alloc, view, reader, writer)),
+        Request::Show(view) => {
+            let answer = show(alloc, view, reader, writer);
+            Ended::with(end_show(faults, answer))
+        }
         Request::Load(workers) => {
             let unwatched = Unwatched(watch);
-            load(rt, alloc, workers, &unwatched, reader, writer, faults)
+            Ended::with(load(rt, alloc, workers, &unwatched, reader, writer, faults))
         }
-        Request::Watched(workers) => load(rt, alloc, workers, watch, reader, writer, faults),
+        Request::Watched(workers) => {
+            Ended::with(load(rt, alloc, workers, watch, reader, writer, faults))
+        }
         Request::Serve(serving) if serving.progress => {
-            let calls = Calls::new(watch);
-            let mut told = Told::Nothing;
-            let answer = serve(rt, alloc, &serving, &calls, writer, faults, &mut told);
-            let told = calls.told(&answer, told);
-            end_serve(faults, answer, told)
+            serve_watched(rt, alloc, &serving, watch, writer, faults)
         }
-        Request::Serve(serving) => {
-            let calls = Calls::new(&NoGate);
-            let mut told = Told::Nothing;
-            let answer = serve(rt, alloc, &serving, &calls, writer, faults, &mut told);
-            let told = calls.told(&answer, told);
-            end_serve(faults, answer, told)
-        }
+        Request::Serve(serving) => serve_watched(rt, alloc, &serving, &NoGate, writer, faults),
     }
 }
 
@@ -215,7 +239,8 @@ fn turn_away<W: Sink, F: Sink>(error: Error, writer: &mut W, faults: &mut F) -> 
 /// Does what the words ask for, of which the first is the program's name, and gives the status to end with: 0 where it
 /// is done or the history is legal, 1 at a fault or a wrong history, 2 where the words can't be read. What is asked for
 /// is read from `reader` and written to `writer`; at help, the version and mistakes nothing is read, and help and the
-/// version are written to `writer` too. A fault is one line on `faults`, where a failed write changes nothing.
+/// version are written to `writer` too. A fault is one line on `faults`, below which a second one may say what was wrong; that
+/// it can't be written changes nothing.
 ///
 /// A load and a serve alone start threads and wait; a serve alone opens sockets, reads nothing from `reader`, and says
 /// `listening PORT` on a line of `faults` once it can be called. With `--until-eof` it reads the standard input of `rt`, by a
@@ -234,21 +259,30 @@ pub fn command<
     F: Sink,
 >(rt: &R, alloc: Global, words: &[T], reader: &mut S, writer: &mut W, faults: &mut F) -> u8
     ensures asked { (request : Asked) → request_of (map T.text words.now) ≡ Some request
-        → IsUnread reader.old reader.new writer.old writer.new result ⊎ Does request
+        → IsUnread reader.old reader.new writer.old writer.new result ⊎ HasDone request
         (streams (S.state reader.old) (S.state reader.new) (W.state writer.old) (W.state writer.new)) result }
     ensures neither { request_of (map T.text words.now) ≡ None → (kind : Kind)
         × ((kind ≡ OutOfMemory) ⊎ IsAmong kind (kinds_of (map T.text words.now)))
         × IsTurnedAway kind writer.old writer.new result }
     ensures unread { request_of (map T.text words.now) ≡ None → reader.new ≡ reader.old }
 {
-    command_with::<TableRouter<Global, Forgetful>, R, NoGate, T, S, W, F>(
-        rt, alloc, words, &NoGate, reader, writer, faults,
-    )
+    let ended = command_with::<TableRouter<Global, Forgetful>, R, NoGate, T, S, W, F>(
+        rt,
+        alloc,
+        words,
+        &NoGate,
+        &Head::new(),
+        reader,
+        writer,
+        faults,
+    );
+    ended.status
 }
 
-/// Does the same, with a replay's and an audit's router of type C, which gives back all memory that such a router gives back when it
-/// is dropped; and a load or a serve with `--progress` is watched by `watch`, where `command` says nothing. Each load
-/// leaves what it made to `watch`.
+/// Does the same, and says what is remembered of the run of a serve beside the status. A replay's and an audit's router is of type C,
+/// which gives back all memory that such a router gives back when it is dropped; and a load or a serve with `--progress` is watched
+/// by `watch`, where `command` says nothing. Each load leaves what it made to `watch`. Where `head` has the first bytes of the
+/// input, as a `Kept` reader leaves them there, a fault of the first three lines has a second line, which says more.
 pub fn command_with<
     C: FreshRouter<Global> + Drop,
     R: Threads
@@ -268,23 +302,28 @@ pub fn command_with<
     alloc: Global,
     words: &[T],
     watch: &G,
+    head: &Head,
     reader: &mut S,
     writer: &mut W,
     faults: &mut F,
-) -> u8
+) -> Ended
     ensures asked { (request : Asked) → request_of (map T.text words.now) ≡ Some request
-        → IsUnread reader.old reader.new writer.old writer.new result ⊎ Does request
-        (streams (S.state reader.old) (S.state reader.new) (W.state writer.old) (W.state writer.new)) result }
+        → IsUnread reader.old reader.new writer.old writer.new result.status ⊎ Does request
+        (streams (S.state reader.old) (S.state reader.new) (W.state writer.old) (W.state writer.new))
+        result.status result.ran }
     ensures neither { request_of (map T.text words.now) ≡ None → (kind : Kind)
         × ((kind ≡ OutOfMemory) ⊎ IsAmong kind (kinds_of (map T.text words.now)))
-        × IsTurnedAway kind writer.old writer.new result }
+        × IsTurnedAway kind writer.old writer.new result.status }
     ensures unread { request_of (map T.text words.now) ≡ None → reader.new ≡ reader.old }
 {
     match read_words(alloc, words) {
         Ok(request) => {
-            obey::<C, R, G, S, W, F>(rt, alloc, request, watch, reader, writer, faults)
+            let reading = Reading::of(&request);
+            let ended = obey::<C, R, G, S, W, F>(rt, alloc, request, watch, reader, writer, faults);
+            write_detail(faults, alloc, reading, head, ended.status);
+            ended
         }
-        Err(error) => turn_away(error, writer, faults),
+        Err(error) => Ended::with(turn_away(error, writer, faults)),
     }
 }
 

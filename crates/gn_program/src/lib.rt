@@ -3,13 +3,19 @@
 
 mod calls;
 mod commands;
+mod detail;
+mod ended;
 mod eof;
 mod fault;
+mod head;
 mod reports;
 mod serves;
+mod tally;
 mod text;
 mod told;
 mod unwatched;
 
 pub use commands::{command, command_with, refuse_words};
+pub use ended::Ended;
 pub use fault::Fault;
+pub use head::{Head, Kept};

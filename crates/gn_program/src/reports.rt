@@ -1,67 +1,22 @@
 //! What became of the links of a run, as it is written.
 
-ghost use Rattle.std.specs.Prelude.{◌≡◌};
-ghost use Rattle.gn_program.specs.Reports.{counts_of, is_offer, is_refusal, is_taking, line_counts};
+ghost use Rattle.std.specs.Prelude.{◌≡◌, None, Some};
+ghost use Rattle.std.specs.List.{slice_get};
+ghost use Rattle.gn_program.specs.Reports.{counts_of, line_counts};
 ghost use Rattle.gn_program.specs.Reports as texts;
 
+use crate::tally::{EventCounts, Tally, is_offer, is_refusal, is_taking, tallies};
 use crate::text::write_text;
 use gn_bodies::{ReaderEnd, WriterEnd};
 use gn_io::{Sink, write_all};
 use gn_report::{LinkReport, Report};
-use gn_rules::{ConnId, Event, Receipt, Reply};
+use gn_rules::{ConnId, Receipt, Stats, Step};
 use gn_tcp::{TcpReader, TcpWriter};
 use gn_text::push_stats;
 use std::alloc::Global;
 use std::fmt;
 use std::fmt::{Display, Formatter, Write};
 use std::net::SocketAddr;
-
-/// What the router did for a link, by the receipts of one of its two threads or of both.
-#[derive(Clone, Copy, Debug)]
-pub(crate) struct EventCounts {
-    /// Descriptors that the link brought.
-    pub(crate) offered: u64,
-    /// Those among them that were refused at a threshold, that of all or the link's own.
-    pub(crate) busy: u64,
-    /// Packets that its writer took.
-    pub(crate) taken: u64,
-}
-
-impl Display for EventCounts {
-    ghost use Rattle.std.specs.Prelude.{Some};
-    ghost use Rattle.gn_program.specs.Reports.{counts_text};
-
-    ghost output = { λ counts. Some (counts_text counts) };
-
-    fn fmt<W: Write>(&self, f: &mut Formatter<W>) -> fmt::Result {
-        write!(
-            f,
-            "offered {} busy {} taken {}",
-            self.offered, self.busy, self.taken
-        )
-    }
-}
-
-/// Whether a link brings a descriptor by this event.
-fn is_offer(event: &Event) -> bool
-    ensures { result ≡ is_offer event.now }
-{
-    matches!(event, Event::Admit(..))
-}
-
-/// Whether a descriptor is refused at a threshold by this reply.
-fn is_refusal(reply: &Reply) -> bool
-    ensures { result ≡ is_refusal reply.now }
-{
-    matches!(reply, Reply::Busy | Reply::Crowded)
-}
-
-/// Whether a packet is taken by this reply.
-fn is_taking(reply: &Reply) -> bool
-    ensures { result ≡ is_taking reply.now }
-{
-    matches!(reply, Reply::Taken(_))
-}
 
 /// What these receipts count.
 fn counts_of(receipts: &[Receipt]) -> EventCounts
@@ -88,11 +43,11 @@ fn counts_of(receipts: &[Receipt]) -> EventCounts
     }
 }
 
-/// Which link it is: its number, its peer, and its connection, where it got one.
+/// Which link it is: its number, its peer, where that is known, and its connection, where it got one.
 #[derive(Clone, Copy, Debug)]
 pub(crate) struct Named {
     pub(crate) link: usize,
-    pub(crate) peer: SocketAddr,
+    pub(crate) peer: Option<SocketAddr>,
     pub(crate) conn: Option<ConnId>,
 }
 
@@ -114,6 +69,24 @@ impl Display for Numbered {
     }
 }
 
+/// A peer's address, or that it isn't known.
+#[derive(Clone, Copy, Debug)]
+struct Addressed(Option<SocketAddr>);
+
+impl Display for Addressed {
+    ghost use Rattle.std.specs.Prelude.{Some};
+    ghost use Rattle.gn_program.specs.Reports.{peer_text};
+
+    ghost output = { λ peer. Some (peer_text peer.0) };
+
+    fn fmt<W: Write>(&self, f: &mut Formatter<W>) -> fmt::Result {
+        match self.0 {
+            Some(peer) => write!(f, "{peer}"),
+            None => f.write_str("-"),
+        }
+    }
+}
+
 impl Display for Named {
     ghost use Rattle.std.specs.Prelude.{Some};
     ghost use Rattle.gn_program.specs.Reports.{named_text};
@@ -121,16 +94,17 @@ impl Display for Named {
     ghost output = { λ named. Some (named_text named) };
 
     fn fmt<W: Write>(&self, f: &mut Formatter<W>) -> fmt::Result {
+        let peer = Addressed(self.peer);
         let conn = Numbered(self.conn);
-        write!(f, "link {} {} connection {conn}", self.link, self.peer)
+        write!(f, "link {} {peer} connection {conn}", self.link)
     }
 }
 
-/// How a link's two threads ended.
+/// How a link's two threads ended, where that is known.
 #[derive(Clone, Copy, Debug)]
 pub(crate) struct Ends {
-    pub(crate) reader: ReaderEnd,
-    pub(crate) writer: WriterEnd,
+    pub(crate) reader: Option<ReaderEnd>,
+    pub(crate) writer: Option<WriterEnd>,
 }
 
 impl Display for Ends {
@@ -146,29 +120,31 @@ impl Display for Ends {
     }
 }
 
-fn reader_word(end: ReaderEnd) -> &'static str
+fn reader_word(end: Option<ReaderEnd>) -> &'static str
     ensures { result.now ≡ texts.reader_word end }
 {
     match end {
-        ReaderEnd::Bytes => "bytes",
-        ReaderEnd::Fault(_) => "fault",
-        ReaderEnd::ReadFailed => "failed",
-        ReaderEnd::Turns => "turns",
-        ReaderEnd::GreetingRefused => "refused",
-        ReaderEnd::GreetingCut => "cut",
-        ReaderEnd::TooMany => "toomany",
-        ReaderEnd::NotLive => "notlive",
+        Some(ReaderEnd::Bytes) => "bytes",
+        Some(ReaderEnd::Fault(_)) => "fault",
+        Some(ReaderEnd::ReadFailed) => "failed",
+        Some(ReaderEnd::Turns) => "turns",
+        Some(ReaderEnd::GreetingRefused) => "refused",
+        Some(ReaderEnd::GreetingCut) => "cut",
+        Some(ReaderEnd::TooMany) => "toomany",
+        Some(ReaderEnd::NotLive) => "notlive",
+        None => "-",
     }
 }
 
-fn writer_word(end: WriterEnd) -> &'static str
+fn writer_word(end: Option<WriterEnd>) -> &'static str
     ensures { result.now ≡ texts.writer_word end }
 {
     match end {
-        WriterEnd::Drained => "drained",
-        WriterEnd::WriteFailed => "failed",
-        WriterEnd::Closed => "closed",
-        WriterEnd::NeverOpened => "unopened",
+        Some(WriterEnd::Drained) => "drained",
+        Some(WriterEnd::WriteFailed) => "failed",
+        Some(WriterEnd::Closed) => "closed",
+        Some(WriterEnd::NeverOpened) => "unopened",
+        None => "-",
     }
 }
 
@@ -195,8 +171,8 @@ impl Display for LinkLine {
 fn line_of(link: usize, report: &LinkReport<TcpReader<'_>, TcpWriter>) -> LinkLine
     ensures link { result.named.link ≡ link }
     ensures conn { result.named.conn ≡ report.now.conn }
-    ensures reader { result.ends.reader ≡ report.now.reader_end }
-    ensures writer { result.ends.writer ≡ report.now.writer_end }
+    ensures reader { result.ends.reader ≡ Some report.now.reader_end }
+    ensures writer { result.ends.writer ≡ Some report.now.writer_end }
     ensures counts { result.counts ≡ line_counts report.now.reader_receipts.items report.now.writer_receipts.items }
 {
     let brought = counts_of(&report.reader_receipts);
@@ -204,14 +180,22 @@ fn line_of(link: usize, report: &LinkReport<TcpReader<'_>, TcpWriter>) -> LinkLi
     LinkLine {
         named: Named {
             link,
-            peer: report.reader.peer(),
+            peer: Some(report.reader.peer()),
             conn: report.conn,
         },
         ends: Ends {
-            reader: report.reader_end,
-            writer: report.writer_end,
+            reader: Some(report.reader_end),
+            writer: Some(report.writer_end),
         },
         counts: EventCounts { taken, ..brought },
+    }
+}
+
+/// Writes the line of the counters, where there is memory for it.
+fn write_stats<F: Sink>(alloc: Global, faults: &mut F, stats: &Stats) {
+    let mut line = Vec::new(alloc);
+    if push_stats(&mut line, stats).is_ok() {
+        let _ = write_all(faults, &line);
     }
 }
 
@@ -227,8 +211,47 @@ pub(crate) fn write_report<F: Sink>(
             let _ = write_text(faults, line_of(link, done));
         }
     }
-    let mut line = Vec::new(alloc);
-    if push_stats(&mut line, &report.stats).is_ok() {
-        let _ = write_all(faults, &line);
+    write_stats(alloc, faults, &report.stats);
+}
+
+/// The line of this link of a run that has no report: of its peer the address that was called is known, if one was, and of its
+/// ends nothing.
+fn stopped_line(link: usize, peers: &[SocketAddr], tally: &Tally) -> LinkLine
+    ensures link { result.named.link ≡ link }
+    ensures peer { result.named.peer ≡ slice_get peers.now link }
+    ensures conn { result.named.conn ≡ tally.now.conn }
+    ensures ends { (result.ends.reader ≡ None) × (result.ends.writer ≡ None) }
+    ensures counts { result.counts ≡ tally.now.counts }
+{
+    LinkLine {
+        named: Named {
+            link,
+            peer: peers.get(link).copied(),
+            conn: tally.conn,
+        },
+        ends: Ends {
+            reader: None,
+            writer: None,
+        },
+        counts: tally.counts,
+    }
+}
+
+/// Writes, of a run with so many links that has no report, a line for each link that got a connection, by the steps that it made. These
+/// peers were called. That it can't be written, or there is no memory for it, changes nothing.
+pub(crate) fn write_stopped<F: Sink>(
+    alloc: Global,
+    faults: &mut F,
+    peers: &[SocketAddr],
+    links: usize,
+    steps: &[Step],
+) {
+    let Ok(all) = tallies(alloc, steps, links) else {
+        return;
+    };
+    for (link, tally) in all.iter().enumerate() {
+        if tally.conn.is_some() {
+            let _ = write_text(faults, stopped_line(link, peers, tally));
+        }
     }
 }

@@ -9,15 +9,16 @@ ghost use Rattle.gn_program.specs.Limits.{IsLimit, IsStopOf, may_stop};
 ghost use Rattle.gn_program.specs.Peers.{AreAt};
 
 use crate::eof::stop_at_eof;
-use crate::reports::write_report;
+use crate::reports::{write_report, write_stopped};
 use crate::text::write_text;
 use crate::told::Told;
 use gn_io::Sink;
 use gn_links::{LinkFault, Watch};
-use gn_load::{ServeFault, serve_history};
-use gn_rules::{Config, Numbers, Own};
-use gn_service::{Serving, Stop};
+use gn_load::{ServeFault, ServeStopped, serve_history_kept};
+use gn_rules::{Config, Numbers, Own, Step};
+use gn_service::{Ran, Serving, Stop};
 use gn_tables::TableRouter;
+use gn_tcp::Unmet;
 use gn_threads::RunFault;
 use gn_words::{Peer, ServeOptions};
 use std::alloc::{AllocError, Global};
@@ -129,6 +130,21 @@ fn stop_of<R: Threads + Input<Reader = StdinLock<'static>>>(
     Ok(stop)
 }
 
+/// A listener at this address, of which a run can take the second handle that it needs.
+fn bound<N: Net<Listener = TcpListener, Stream = TcpStream>>(
+    net: &N,
+    here: SocketAddr,
+) -> Result<TcpListener, Unmet> {
+    let listener = match net.bind(here) {
+        Ok(listener) => listener,
+        Err(why) => return Err(Unmet::of(&why)),
+    };
+    match listener.try_clone() {
+        Ok(_) => Ok(listener),
+        Err(why) => Err(Unmet::of(&why)),
+    }
+}
+
 /// Listens on this port of 127.0.0.1. What the system said of it, where that fails, stays in `told`.
 fn listen<N: Net<Listener = TcpListener, Stream = TcpStream>>(
     net: &N,
@@ -136,17 +152,34 @@ fn listen<N: Net<Listener = TcpListener, Stream = TcpStream>>(
     told: &mut Told,
 ) -> Result<TcpListener, LinkFault> {
     let here = SocketAddr::from((Ipv4Addr::LOCALHOST, port));
-    match net.bind(here) {
+    match bound(net, here) {
         Ok(listener) => Ok(listener),
-        Err(why) => {
-            *told = Told::Listen(here, why.kind());
+        Err(unmet) => {
+            *told = Told::Listen(here, unmet);
             Err(LinkFault)
         }
     }
 }
 
+/// Writes what became of the links of a run that has no report, where that is asked for and something stands of its history.
+fn report_stopped<F: Sink>(
+    alloc: Global,
+    serving: &ServeOptions,
+    peers: &[SocketAddr],
+    history: &Option<Vec<Step>>,
+    faults: &mut F,
+) {
+    if let Some(steps) = history
+        && serving.report
+    {
+        let links = peers.len().saturating_add(serving.accept as usize);
+        write_stopped(alloc, faults, peers, links, steps);
+    }
+}
+
 /// Listens, says so with the faults, runs the router, writes its history, and then what became of its links with the faults,
-/// where that is asked for. It is watched as it runs. What the system said of the port stays in `told`.
+/// where that is asked for. It is watched as it runs. What the system said of the port stays in `told`, and what is remembered of the
+/// run in `remembered`.
 pub(crate) fn serve<
     R: Threads
         + Wait
@@ -166,8 +199,9 @@ pub(crate) fn serve<
     writer: &mut W,
     faults: &mut F,
     told: &mut Told,
+    remembered: &mut Option<Ran>,
 ) -> Result<(), ServeFault>
-    ensures { IsServeAnswer serving.now (W.state writer.old) (W.state writer.new) result }
+    ensures { IsServeAnswer serving.now (W.state writer.old) (W.state writer.new) result remembered.new }
 {
     let config = settings(serving);
     let peers = addresses(alloc, &serving.peers)?;
@@ -177,7 +211,7 @@ pub(crate) fn serve<
     };
     let _ = write_text(faults, Listening(serving.port));
     let limits = limits(serving, &stop);
-    let report = serve_history::<TableRouter, _, _, _, _>(
+    let answer = serve_history_kept::<TableRouter, _, _, _, _>(
         rt,
         alloc,
         &listener,
@@ -188,9 +222,25 @@ pub(crate) fn serve<
         serving.workers,
         watch,
         writer,
-    )?;
-    if serving.report {
-        write_report(alloc, faults, &report);
+    );
+    match answer {
+        Ok((report, ran)) => {
+            *remembered = Some(ran);
+            if serving.report {
+                write_report(alloc, faults, &report);
+            }
+            Ok(())
+        }
+        Err(
+            ServeStopped {
+                fault,
+                history,
+                ran,
+            },
+        ) => {
+            *remembered = ran;
+            report_stopped(alloc, serving, &peers, &history, faults);
+            Err(fault)
+        }
     }
-    Ok(())
 }

@@ -8,16 +8,20 @@ use std::mem::ManuallyDrop;
 use std::net::SocketAddr;
 use std::sync::Wait;
 use std::sync::atomic::{AtomicBool, AtomicU32, AtomicU64, Ordering};
-use std::time::{Clock, Instant, SystemTime, UNIX_EPOCH};
+use std::time::{Clock, Duration, Instant, SystemTime, UNIX_EPOCH};
 
 /// The clock is read at each so many jobs of a load, and steps of a serve.
 const LOOK: u32 = 64;
+
+/// Seconds after which a serve's line is due, where something was done since the one before.
+const TICK: u64 = 1;
 
 /// Seconds of a day.
 const DAY: u64 = 86_400;
 
 /// A run's gate that holds nobody and counts who passes. Who finds that a second has gone by writes the line of that second: on
-/// a terminal over the line before, else below it; and at the end the last one comes again, where something was done since.
+/// a terminal over the line before, else below it; and the last one comes again, where something was done since: a second later in
+/// a serve, and at the end.
 /// Of a serve it also writes each link that comes and each end. Each line has the time of day, in UTC.
 #[derive(Drop)]
 pub struct Progress<'r, R, O> {
@@ -198,6 +202,11 @@ impl<'r, R: Clock + AllocGlobal, O: Screen> Progress<'r, R, O> {
         }
     }
 
+    /// Whether something was done since the last line.
+    fn is_stale(&self) -> bool {
+        self.said.load(Ordering::SeqCst) != self.counts.seen().all()
+    }
+
     /// A step of a serve was made.
     fn step(&self, most: u32) {
         let made = self.counts.add_step();
@@ -273,10 +282,17 @@ impl<'r, R: Clock + AllocGlobal, O: Screen> Watch for Progress<'r, R, O> {
         self.write_text(self.came_line(link, peer));
     }
 
+    /// What was done since the last line is said a second after that at the latest, also where nothing follows it.
+    fn tick(&self) -> Option<Duration> {
+        if self.is_stale() {
+            self.look();
+        }
+        Some(Duration::from_secs(TICK))
+    }
+
     /// The last line comes once more, where there was one and something was done since. On a terminal it is left.
     fn end(&self) {
-        let said = self.said.load(Ordering::SeqCst);
-        if said != 0 && said != self.counts.seen().all() {
+        if self.said.load(Ordering::SeqCst) != 0 && self.is_stale() {
             self.write_text(self.line());
         }
         if self.is_open.swap(false, Ordering::SeqCst) {

@@ -1,4 +1,4 @@
-//! What becomes of a descriptor that is routed.
+//! What becomes of a descriptor that is routed. What makes a plan is inlined, so that it isn't moved.
 
 ghost use Rattle.std.specs.Prelude.{◌≡◌, reverse};
 ghost use Rattle.gn_wire.specs.Keys.{key_of};
@@ -16,6 +16,7 @@ use gn_wire::{Descriptor, Key, Kind};
 use std::alloc::Allocator;
 
 /// The checks of a route to a connection: it is live, the descriptor didn't come from it, and isn't expired.
+#[inline(always)]
 fn checks<'a, A: Allocator, L: Lookup<A>>(
     past: &L,
     origin: ConnId,
@@ -46,6 +47,7 @@ pub(crate) fn is_remembered<A: Allocator, L: Lookup<A>>(past: &L, packet: &Descr
 }
 
 /// What becomes of a Ping or Query: a duplicate where its key is remembered, else it goes on.
+#[inline(always)]
 fn decide_request<'a, A: Allocator, L: Lookup<A>>(
     past: &L,
     origin: ConnId,
@@ -62,6 +64,7 @@ fn decide_request<'a, A: Allocator, L: Lookup<A>>(
 
 /// What becomes of a Pong or Query Hit, which answers a request of this kind: it goes back to where the request came
 /// from.
+#[inline(always)]
 fn decide_reply<'a, A: Allocator, L: Lookup<A>>(
     past: &L,
     origin: ConnId,
@@ -85,6 +88,7 @@ fn decide_reply<'a, A: Allocator, L: Lookup<A>>(
 }
 
 /// What becomes of a Push: a duplicate where its key is remembered, else it goes to the servent that it names.
+#[inline(always)]
 fn decide_push<'a, A: Allocator, L: Lookup<A>>(
     past: &L,
     origin: ConnId,
@@ -108,6 +112,7 @@ fn decide_push<'a, A: Allocator, L: Lookup<A>>(
 }
 
 /// What becomes of a descriptor whose payload can be read, by its kind.
+#[inline(always)]
 fn decide_sound<'a, A: Allocator, L: Lookup<A>>(
     past: &L,
     origin: ConnId,
@@ -126,6 +131,7 @@ fn decide_sound<'a, A: Allocator, L: Lookup<A>>(
 }
 
 /// What becomes of a descriptor of this connection that was checked with this verdict. Takes no memory.
+#[inline(always)]
 pub fn decide<'a, A: Allocator, L: Lookup<A>>(
     past: &L,
     origin: ConnId,

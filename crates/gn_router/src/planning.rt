@@ -1,4 +1,4 @@
-//! The plan for each event: the rules' answer, before any packet is made.
+//! The plan for each event: the rules' answer, before any packet is made. What makes a plan is inlined, so that it isn't moved.
 
 ghost use Rattle.std.specs.Prelude.{◌≡◌, ◌==◌, ◌&&◌, Ok, IfOk, length, nat_le, not, reverse};
 ghost use Rattle.gn_wire.specs.Packet.{Packet};
@@ -16,6 +16,7 @@ use gn_wire::Descriptor;
 use std::alloc::Allocator;
 
 /// The plan for a Connect.
+#[inline(always)]
 fn plan_connect<A: Allocator, L: Lookup<A>>(past: &L) -> Plan<'_, A>
     ensures { rules.event_answer (L.settings past.now) (reverse (L.steps past.now)) Connect
         ≡ Ok (plan_reply (L.settings past.now) (reverse (L.steps past.now)) result) }
@@ -27,6 +28,7 @@ fn plan_connect<A: Allocator, L: Lookup<A>>(past: &L) -> Plan<'_, A>
 }
 
 /// The plan for a Close.
+#[inline(always)]
 fn plan_close<A: Allocator, L: Lookup<A>>(past: &L, c: ConnId) -> Result<Plan<'_, A>, Refusal>
     ensures { planned (L.settings past.now) (reverse (L.steps past.now)) result
         ≡ rules.event_answer (L.settings past.now) (reverse (L.steps past.now)) (Close c) }
@@ -47,6 +49,7 @@ fn is_crowded<A: Allocator, L: Lookup<A>>(past: &L, c: ConnId) -> bool
 }
 
 /// The plan for an Admit.
+#[inline(always)]
 fn plan_admit<A: Allocator, L: Lookup<A>>(past: &L, c: ConnId) -> Result<Plan<'_, A>, Refusal>
     ensures { (packet : Packet) → planned (L.settings past.now) (reverse (L.steps past.now)) result
         ≡ rules.event_answer (L.settings past.now) (reverse (L.steps past.now)) (Admit c packet) }
@@ -64,6 +67,7 @@ fn plan_admit<A: Allocator, L: Lookup<A>>(past: &L, c: ConnId) -> Result<Plan<'_
 }
 
 /// The plan for a Take.
+#[inline(always)]
 fn plan_take<A: Allocator, L: Lookup<A>>(past: &L, c: ConnId) -> Result<Plan<'_, A>, Refusal>
     ensures { planned (L.settings past.now) (reverse (L.steps past.now)) result
         ≡ rules.event_answer (L.settings past.now) (reverse (L.steps past.now)) (Take c) }
@@ -76,6 +80,7 @@ fn plan_take<A: Allocator, L: Lookup<A>>(past: &L, c: ConnId) -> Result<Plan<'_,
 }
 
 /// The plan for an Originate.
+#[inline(always)]
 fn plan_originate<'a, A: Allocator, L: Lookup<A>>(
     past: &L,
     packet: &'a Descriptor<A>,
@@ -93,6 +98,7 @@ fn plan_originate<'a, A: Allocator, L: Lookup<A>>(
 }
 
 /// The plan for a Route.
+#[inline(always)]
 fn plan_route<A: Allocator, L: Lookup<A>>(past: &L, ticket: Ticket) -> Result<Plan<'_, A>, Refusal>
     ensures { planned (L.settings past.now) (reverse (L.steps past.now)) result
         ≡ rules.event_answer (L.settings past.now) (reverse (L.steps past.now)) (Route ticket) }
@@ -103,7 +109,7 @@ fn plan_route<A: Allocator, L: Lookup<A>>(past: &L, ticket: Ticket) -> Result<Pl
     }
 }
 
-/// The plan for an event where there is room for a step. It is inlined, so that the plan isn't moved.
+/// The plan for an event where there is room for a step.
 #[inline(always)]
 fn plan_event<'a, A: Allocator, L: Lookup<A>>(
     past: &'a L,
@@ -130,6 +136,7 @@ fn is_full<A: Allocator, L: Lookup<A>>(past: &L) -> bool
 }
 
 /// The plan for an event, or the rules' refusal. Takes no memory.
+#[inline(always)]
 pub fn plan_of<'a, A: Allocator, L: Lookup<A>>(
     past: &'a L,
     event: &'a Event<A>,

@@ -7,6 +7,7 @@ ghost use Rattle.gn_rules.specs.Statistics.{stats_of};
 use crate::lookup::Lookup;
 use gn_rules::{Config, Event, Reply, Stats, Step};
 use std::alloc::{AllocError, Allocator};
+use std::mem;
 
 /// What a router keeps of its steps, to answer from: the steps themselves, or what they left.
 pub trait Store<A: Allocator + Copy>: Lookup<A> {
@@ -54,4 +55,15 @@ pub trait StepStore<A: Allocator + Copy>: FreshStore<A> {
     fn into_steps(self) -> Vec<Step<A>, A>
         ensures value { result.items ≡ Self.steps self }
         ensures legal { rules.IsLegal (Self.settings self) (reverse (Self.steps self)) };
+}
+
+/// The step of this event and this reply, which are taken out of their places; others are left there.
+pub fn step_of<A: Allocator>(actor: u32, event: &mut Event<A>, reply: &mut Reply<A>) -> Step<A>
+    ensures { result ≡ record { actor = actor; event = event.old; reply = reply.old } }
+{
+    Step {
+        actor,
+        event: mem::replace(event, Event::Connect),
+        reply: mem::replace(reply, Reply::TooMany),
+    }
 }

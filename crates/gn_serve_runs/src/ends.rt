@@ -27,6 +27,22 @@ fn a_deaf_peer_is_let_go(rt: HostRuntime) -> Result<(), Fail> {
     Ok(())
 }
 
+/// A peer that reads nothing until the run is stopped is written all that waits for it then.
+#[test]
+fn a_late_reader_gets_all(rt: HostRuntime) -> Result<(), Fail> {
+    let stop = Stop::new(None, false);
+    let serving = Serving {
+        stop: Some(&stop),
+        grace: Some(Duration::from_secs(20)),
+        ..Serving::UNLIMITED
+    };
+    let report = report_of(&rt, rt.alloc(), Peer::ReadsLate, 10_000, 2, &serving)?;
+    let has_all = have_ended(&report, 0, 2, DRAINED);
+    drop(report);
+    assert!(rt; has_all);
+    Ok(())
+}
+
 /// A run that is stopped while it calls a peer that isn't there ends well: that link never comes, and the one before it has all.
 #[test]
 fn a_stop_ends_the_calls(rt: HostRuntime) -> Result<(), Fail> {
@@ -36,7 +52,7 @@ fn a_stop_ends_the_calls(rt: HostRuntime) -> Result<(), Fail> {
     let peers = [theirs.local_addr()?, nobody];
     let stop = Stop::new(Some(Duration::from_secs(1)), false);
     let serving = Serving {
-        retry: Some(Duration::from_secs(60)),
+        retry: Some(Duration::from_secs(30)),
         stop: Some(&stop),
         ..Serving::UNLIMITED
     };

@@ -4,6 +4,8 @@
 #[cfg(test)]
 mod ends;
 #[cfg(test)]
+mod handles;
+#[cfg(test)]
 mod in_time;
 #[cfg(test)]
 mod limited;

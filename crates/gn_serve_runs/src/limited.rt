@@ -16,6 +16,7 @@ use gn_tables::TableRouter;
 use gn_tcp::{TcpReader, TcpWriter};
 use gn_threads::RunFault;
 use std::alloc::Allocator;
+use std::io::{self, Read};
 use std::net::{Net, TcpListener, TcpStream};
 use std::sync::Wait;
 use std::test::Fail;
@@ -39,6 +40,45 @@ fn a_run_is_stopped(rt: HostRuntime) -> Result<(), Fail> {
         assert_eq!(rt; (report.history.len(), report.stats.closed), (5, 1));
         assert!(rt; have_ended(&report, 0, 1, DRAINED) && have_ended(&report, 1, 4, missing));
         drop(report);
+    }
+    Ok(())
+}
+
+/// An input of so many bytes, which are read one at a time, and whether a read found the run stopped.
+#[derive(Drop)]
+struct Slow<'a> {
+    stop: &'a Stop,
+    left: u32,
+    was_set: bool,
+}
+
+impl<'a> Read for Slow<'a> {
+    fn read(&mut self, room: &mut [u8]) -> io::Result<usize> {
+        self.was_set |= self.stop.is_set();
+        if self.left == 0 || room.is_empty() {
+            return Ok(0);
+        }
+        self.left -= 1;
+        room[0] = b'x';
+        Ok(1)
+    }
+}
+
+/// The end of an input stops a run, and nothing before it.
+#[test]
+fn an_end_of_input_is_a_stop(rt: HostRuntime) -> Result<(), Fail> {
+    for bytes in 0..3 {
+        let stop = Stop::new(None, false);
+        let mut input = Slow {
+            stop: &stop,
+            left: bytes,
+            was_set: false,
+        };
+        stop.set_at_end(&mut input)?;
+        assert_eq!(rt;
+            (input.left, input.was_set, stop.is_set()),
+            (0, false, true)
+        );
     }
     Ok(())
 }

@@ -8,7 +8,7 @@ use gn_service::Serving;
 use gn_threads::RunFault;
 use std::net::{Ipv4Addr, SocketAddr};
 use std::test::Fail;
-use std::time::Duration;
+use std::time::{Duration, Instant};
 
 /// What the statistics of a run count: what was connected, admitted, routed, a duplicate, taken, closed.
 fn counts_of(report: &TcpReport<'_>) -> [u32; 6] {
@@ -57,16 +57,20 @@ fn peer_of(report: &TcpReport<'_>) -> Option<SocketAddr> {
     Some(report.links.get(0)?.reader.peer())
 }
 
+/// It is called again and again, many times in a second.
 #[test]
 fn a_peer_is_called_until_it_listens(rt: HostRuntime) -> Result<(), Fail> {
     let serving = Serving {
         retry: Some(Duration::from_secs(20)),
         ..Serving::UNLIMITED
     };
+    let begun = Instant::now(&rt)?;
     let report = report_of(&rt, rt.alloc(), Peer::CalledLate, 100, 0, &serving)?;
+    let took = begun.elapsed(&rt)?;
     assert_eq!(rt; report.history.len(), 5);
     let peer = peer_of(&report);
     drop(report);
+    assert!(rt; took < Duration::from_secs(20), "{took:?}");
     assert_eq!(rt;
         peer.ok_or("a link")?,
         SocketAddr::from((Ipv4Addr::LOCALHOST, LATE))

@@ -8,7 +8,7 @@ use gn_links::{Gate, Watch};
 use gn_load::{LoadFault, ServeFault, load_watched, serve_history};
 use gn_report::Report;
 use gn_rules::Config;
-use gn_service::Serving;
+use gn_service::{Serving, Stop};
 use gn_tables::TableRouter;
 use gn_tcp::{TcpReader, TcpWriter};
 use std::alloc::Allocator;
@@ -17,7 +17,7 @@ use std::sync::Wait;
 use std::sync::atomic::{AtomicU32, Ordering};
 use std::test::Fail;
 use std::thread::Threads;
-use std::time::Clock;
+use std::time::{Clock, Duration};
 
 /// Keeps what it learned: a digit for each call in order, 1 for `begin`, 2 for `open`, 3 for `came`, 4 for `end` and 5 for `leave`;
 /// how many links or steps it was told, and the ports of the peers of two links.
@@ -90,6 +90,21 @@ impl Watch for Recorder {
     }
 }
 
+/// Counts how often it is told that a serve goes on, each time for the next 10 milliseconds.
+#[derive(Drop)]
+struct Ticks(AtomicU32);
+
+impl Gate for Ticks {
+    fn enter<R: Wait>(&self, _rt: &R, _worker: u32, _ticket: u32) {}
+}
+
+impl Watch for Ticks {
+    fn tick(&self) -> Option<Duration> {
+        self.0.fetch_add(1, Ordering::SeqCst);
+        Some(Duration::from_millis(10))
+    }
+}
+
 /// A load at the router with tables.
 fn load_for<A: Allocator + Copy + Send + Sync, R: Threads + Wait + Sync, S: Source, W: Sink>(
     rt: &R,
@@ -101,8 +116,9 @@ fn load_for<A: Allocator + Copy + Send + Sync, R: Threads + Wait + Sync, S: Sour
     load_watched::<A, TableRouter<A>, R, Recorder, S, W>(rt, alloc, 1, watch, source, sink)
 }
 
-/// A serve of two callers at that router.
+/// A serve of so many callers at that router.
 fn serve_for<
+    's,
     A: Allocator + Copy + Send + Sync,
     R: Threads
         + Wait
@@ -110,23 +126,26 @@ fn serve_for<
         + Clock
         + AllocGlobal
         + Sync,
+    G: Watch + Sync,
     W: Sink,
 >(
     rt: &R,
     alloc: A,
     listener: &TcpListener,
     config: &Config,
-    watch: &Recorder,
+    accept: u32,
+    serving: &Serving<'s>,
+    watch: &G,
     sink: &mut W,
-) -> Result<Report<TcpReader<'static>, TcpWriter, A>, ServeFault> {
-    serve_history::<TableRouter<A>, A, R, Recorder, W>(
+) -> Result<Report<TcpReader<'s>, TcpWriter, A>, ServeFault> {
+    serve_history::<TableRouter<A>, A, R, G, W>(
         rt,
         alloc,
         listener,
         config,
-        2,
+        accept.min(128),
         &[],
-        &Serving::UNLIMITED,
+        serving,
         1,
         watch,
         sink,
@@ -170,9 +189,46 @@ fn who_watches_learns_of_a_serve(rt: HostRuntime) -> Result<(), Fail> {
     let recorder = Recorder::new();
     let config = usual(100)?;
     let mut sink = WriterSink::new(Vec::new(rt.alloc()));
-    let served = serve_for(&rt, rt.alloc(), &listener, &config, &recorder, &mut sink);
+    let served = serve_for(
+        &rt,
+        rt.alloc(),
+        &listener,
+        &config,
+        2,
+        &Serving::UNLIMITED,
+        &recorder,
+        &mut sink,
+    );
     drop(sink.into_inner());
     drop(served?);
     assert_eq!(rt; recorder.learned(), [2334, 100, first, second]);
+    Ok(())
+}
+
+/// Also while nothing is done: nobody calls this serve.
+#[test]
+fn who_watches_learns_that_a_serve_goes_on(rt: HostRuntime) -> Result<(), Fail> {
+    let listener = a_listener(&rt)?;
+    let stop = Stop::new(Some(Duration::from_millis(500)), false);
+    let serving = Serving {
+        stop: Some(&stop),
+        ..Serving::UNLIMITED
+    };
+    let ticks = Ticks(AtomicU32::new(0));
+    let config = usual(100)?;
+    let mut sink = WriterSink::new(Vec::new(rt.alloc()));
+    let served = serve_for(
+        &rt,
+        rt.alloc(),
+        &listener,
+        &config,
+        1,
+        &serving,
+        &ticks,
+        &mut sink,
+    );
+    drop(sink.into_inner());
+    drop(served?);
+    assert!(rt; ticks.0.load(Ordering::SeqCst) > 4);
     Ok(())
 }

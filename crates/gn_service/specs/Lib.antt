@@ -1,5 +1,7 @@
 -- What is promised: contracts of public functions rest on it.
 pub mod Links
+pub mod Ran
 pub mod Stopping
 -- Words of the proofs.
 pub mod Serves
+pub mod Owing

@@ -45,7 +45,8 @@ impl<
         }
     }
 
-    /// Calls the peer, again until it listens or the time for that is over. Where the run is stopped the peer never comes.
+    /// Calls the peer, again until it listens or the time for that is over; where the system has no handle for it, until that has one.
+    /// Where the run is stopped the peer never comes.
     fn call(&self) -> Result<TcpLink<'static>, Unmet> {
         let begun = Instant::now(self.net).ok();
         for _ in 0..u64::MAX {
@@ -54,6 +55,7 @@ impl<
             }
             match TcpLink::try_call(self.net, self.peer, Duration::from_secs(CALL)) {
                 Ok(found) => return Ok(found),
+                Err(unmet) if unmet.wants_handle => pause(self.net),
                 Err(_) if self.calls_again(begun) || self.stops.lets_go() => pause(self.net),
                 Err(unmet) => return Err(unmet),
             }
@@ -155,8 +157,8 @@ impl<
         asked
     }
 
-    /// Starts who calls a peer of the run, as that asks for it; stops the run where its time is over, and shuts each link whose peer
-    /// has had its grace. It returns once the run is over.
+    /// Starts who calls a peer of the run, as that asks for it; stops the run where its time is over, shuts each link whose peer
+    /// has had its grace, and tells who watches that the run goes on. It returns once the run is over.
     pub(crate) fn watch(&self) {
         let mut started = 0;
         for _ in self.net.forever() {
@@ -164,7 +166,8 @@ impl<
                 return;
             }
             started = self.start_new(started);
-            self.stops.turn(self.net);
+            let tick = self.watch.tick();
+            self.stops.turn(self.net, tick);
         }
     }
 }

@@ -1,5 +1,8 @@
 //! How many steps a run has made and may still have to make.
 
+ghost use Rattle.std.specs.Prelude.{◌≡◌};
+ghost use Rattle.gn_service.specs.Owing.{certain_steps};
+
 use gn_links::Made;
 use std::sync::atomic::{AtomicI64, AtomicU64, Ordering};
 
@@ -39,6 +42,17 @@ fn seen(count: &AtomicI64) -> u64 {
     u64::try_from(count.load(Ordering::SeqCst)).unwrap_or(0)
 }
 
+/// How many steps of a run this one makes certain.
+fn steps_of(step: Made) -> u64
+    ensures { result ≡ certain_steps step }
+{
+    match step {
+        Made::Admitted(_) => 2,
+        Made::Routed => 0,
+        _ => 1,
+    }
+}
+
 impl Owed {
     /// Of a run that has made no steps of so many, of whose packets so many may wait for a connection, and of whose links so many
     /// may be connected at a time.
@@ -63,30 +77,23 @@ impl Owed {
 
     /// A step of a link's threads was made.
     pub(crate) fn made(&self, step: Made) {
-        let steps = match step {
+        match step {
             Made::Admitted(_) => {
                 self.in_flight.fetch_add(1, Ordering::SeqCst);
-                2
             }
-            Made::Routed => {
-                self.routed();
-                0
-            }
+            Made::Routed => self.routed(),
             Made::Connected => {
                 self.connections.fetch_add(1, Ordering::SeqCst);
-                1
             }
             Made::Closed => {
                 self.connections.fetch_sub(1, Ordering::SeqCst);
-                1
             }
             Made::Taken => {
                 self.waiting.fetch_sub(1, Ordering::SeqCst);
-                1
             }
-            Made::TooMany | Made::Busy => 1,
-        };
-        self.steps.fetch_add(steps, Ordering::SeqCst);
+            Made::TooMany | Made::Busy => {}
+        }
+        self.steps.fetch_add(steps_of(step), Ordering::SeqCst);
     }
 
     /// How near the run is to its last step, where its readers have so many descriptors in hand.

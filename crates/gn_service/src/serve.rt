@@ -8,12 +8,14 @@ ghost use Rattle.gn_threads.specs.Faults.{IsArrivingFault};
 ghost use Rattle.gn_threads.specs.Headline.{AreMadeOf, AreOfOne, Holds};
 ghost use Rattle.gn_service.specs.Links.{origins_of, roles_of};
 ghost use Rattle.gn_tcp.specs.Tcp.{half_read, half_written};
+ghost use Rattle.gn_service.specs.Ran.{ran_of};
 ghost use Rattle.gn_service.specs.Serves.{IsServed};
 
 use crate::calling::Callers;
 use crate::counted::Counted;
 use crate::failing::{call_fault, failed_at, failed_too};
 use crate::peers::{Peers, roles_of};
+use crate::ran::Ran;
 use crate::serving::Serving;
 use crate::stop::Stop;
 use crate::stops::Stops;
@@ -76,14 +78,60 @@ pub fn serve_on<
     match serve_kept::<C, G, A, R>(
         rt, alloc, listener, config, accept, peers, serving, workers, watch,
     ) {
-        Ok(report) => Ok(report),
+        Ok((report, _)) => Ok(report),
         Err(stopped) => Err(stopped.fault),
     }
 }
 
-/// Does the same, and a fault comes with what stands of the history, which is legal by the configuration of the call, and has as
-/// many steps as it may have where the fault is a full history.
+/// Does the same. Its report comes with what is remembered of it, and a fault with what stands of the history, which is legal by the
+/// configuration of the call, and has as many steps as it may have where the fault is a full history.
 pub fn serve_kept<
+    's,
+    C: Historian<A> + Drop + Send,
+    G: Watch + Sync,
+    A: Allocator + Copy + Send + Sync,
+    R: Threads
+        + Wait
+        + Net<Listener = TcpListener, Stream = TcpStream>
+        + Clock
+        + AllocGlobal
+        + Sync,
+>(
+    rt: &R,
+    alloc: A,
+    listener: &TcpListener,
+    config: &Config,
+    accept: u32,
+    peers: &[SocketAddr],
+    serving: &Serving<'s>,
+    workers: u32,
+    watch: &G,
+) -> Result<(Report<TcpReader<'s>, TcpWriter, A>, Ran<A>), Stopped<A>>
+    requires few { accept + length peers.now ≤ most_links }
+    ensures workers { IfOk result (λ _. IsCrew workers) }
+    ensures bad_workers { IfErr result (λ stopped. (stopped.fault ≡ BadWorkers) ↔ (¬ IsCrew workers)) }
+    ensures fault { IfErr result (λ stopped. IsCrew workers
+        → IsArrivingFault true (length peers.now + accept) workers stopped.fault) }
+    ensures kept { IfErr result (λ stopped. IfSome stopped.history (λ history.
+        IsLegal config.now (reverse history.items))) }
+    ensures full { IfErr result (λ stopped. stopped.fault ≡ HistoryFull → IfSome stopped.history (λ history.
+        length history.items ≡ config.now.numbers.steps)) }
+    ensures holds { IfOk result (λ done. Holds half_read half_written config.now
+        (roles_of (length peers.now) (length peers.now + accept)) workers done.0) }
+    ensures made { IfOk result (λ done. AreMadeOf (λ half. half.origin) (λ half. half.origin)
+        (origins_of peers.now (length peers.now + accept)) done.0) }
+    ensures one_socket { IfOk result (λ done. AreOfOne (λ half. half.socket) (λ half. half.socket) done.0) }
+    ensures ran { IfOk result (λ done. done.1 ≡ ran_of done.0) }
+{
+    let report = run_watched::<C, G, A, R>(
+        rt, alloc, listener, config, accept, peers, serving, workers, watch,
+    )?;
+    let ran = Ran::of(&report);
+    Ok((report, ran))
+}
+
+/// Runs a router over these links, and calls the peers beside it.
+fn run_watched<
     's,
     C: Historian<A> + Drop + Send,
     G: Watch + Sync,
@@ -106,19 +154,7 @@ pub fn serve_kept<
     watch: &G,
 ) -> Result<Report<TcpReader<'s>, TcpWriter, A>, Stopped<A>>
     requires few { accept + length peers.now ≤ most_links }
-    ensures workers { IfOk result (λ _. IsCrew workers) }
-    ensures bad_workers { IfErr result (λ stopped. (stopped.fault ≡ BadWorkers) ↔ (¬ IsCrew workers)) }
-    ensures fault { IfErr result (λ stopped. IsCrew workers
-        → IsArrivingFault true (length peers.now + accept) workers stopped.fault) }
-    ensures kept { IfErr result (λ stopped. IfSome stopped.history (λ history.
-        IsLegal config.now (reverse history.items))) }
-    ensures full { IfErr result (λ stopped. stopped.fault ≡ HistoryFull → IfSome stopped.history (λ history.
-        length history.items ≡ config.now.numbers.steps)) }
-    ensures holds { IfOk result (λ report. Holds half_read half_written config.now
-        (roles_of (length peers.now) (length peers.now + accept)) workers report) }
-    ensures made { IfOk result (λ report. AreMadeOf (λ half. half.origin) (λ half. half.origin)
-        (origins_of peers.now (length peers.now + accept)) report) }
-    ensures one_socket { IfOk result (λ report. AreOfOne (λ half. half.socket) (λ half. half.socket) report) }
+    ensures { IsServed config.now peers.now accept workers result }
 {
     let own = Stop::new(None, false);
     let stop = match serving.stop {

@@ -1,8 +1,10 @@
 //! What stops a run over TCP before its peers end it.
 
-ghost use Rattle.std.specs.Prelude.{◌≡◌};
+ghost use Rattle.std.specs.Prelude.{◌≡◌, OnOk};
+ghost use Rattle.std.specs.Io.KnownBytes.{IsAtEnd};
 
 use gn_tcp::Brake;
+use std::io::{self, Error, ErrorKind, Read};
 use std::marker::Model;
 use std::sync::Wait;
 use std::sync::atomic::{AtomicBool, Ordering};
@@ -54,7 +56,18 @@ impl Stop {
         self.wake();
     }
 
-    pub(crate) fn is_set(&self) -> bool {
+    /// Reads an input to its end, of which it keeps nothing, and then stops the run. A read that fails is the end too, and is
+    /// answered.
+    pub fn set_at_end<R: Read>(&self, input: &mut R) -> io::Result<()>
+        ensures { OnOk result (IsAtEnd (R.remaining input.new)) }
+    {
+        let end = read_out(input);
+        self.set();
+        end
+    }
+
+    /// Whether the run is to stop, or has.
+    pub fn is_set(&self) -> bool {
         self.is_set.load(Ordering::SeqCst)
     }
 
@@ -94,6 +107,22 @@ impl Stop {
             _ => self.waiter.park(rt),
         }
     }
+}
+
+/// Reads to the end of an input, and keeps nothing of it. An `Err` is a read that failed.
+fn read_out<R: Read>(input: &mut R) -> io::Result<()>
+    ensures { OnOk result (IsAtEnd (R.remaining input.new)) }
+{
+    let mut buffer = [0u8; 4096];
+    for _ in 0..u64::MAX {
+        match input.read(&mut buffer) {
+            Ok(0) => return Ok(()),
+            Ok(_) => {}
+            Err(why) if why.kind() == ErrorKind::Interrupted => {}
+            Err(why) => return Err(why),
+        }
+    }
+    Err(Error::from(ErrorKind::FileTooLarge))
 }
 
 /// The earlier of two times, where there are any.

@@ -2,7 +2,7 @@
 
 use crate::asked::Asked;
 use crate::live::LiveLinks;
-use crate::stop::Stop;
+use crate::stop::{Stop, earlier};
 use gn_links::Half;
 use gn_tcp::{ListenerStopper, TcpStopper};
 use std::alloc::{AllocError, Allocator, Global};
@@ -32,6 +32,14 @@ pub(crate) struct Stops<'a, A: Allocator = Global> {
     /// Whether memory was refused for a called link.
     lacks_memory: AtomicBool,
     is_over: AtomicBool,
+}
+
+/// When so much time has passed after now, where both are known.
+fn later(now: Option<Duration>, tick: Option<Duration>) -> Option<Duration> {
+    match (now, tick) {
+        (Some(now), Some(tick)) => Some(now.saturating_add(tick)),
+        _ => None,
+    }
 }
 
 impl<'a, A: Allocator> Stops<'a, A> {
@@ -190,13 +198,14 @@ impl<'a, A: Allocator> Stops<'a, A> {
         self.close_listener();
     }
 
-    /// Stops the run where its time is over, shuts each link whose peer has had its grace, and waits until there is more to do.
-    pub(crate) fn turn<R: Wait + Clock>(&self, rt: &R) {
+    /// Stops the run where its time is over, shuts each link whose peer has had its grace, and waits until there is more to do, or
+    /// so much time has passed.
+    pub(crate) fn turn<R: Wait + Clock>(&self, rt: &R, tick: Option<Duration>) {
         let now = self.now(rt);
         if self.is_stopped() || self.stop.is_due(now) {
             self.stop_links(rt, now);
         }
         let next = self.links.lock(rt).shut_due(now);
-        self.stop.wait(rt, now, next);
+        self.stop.wait(rt, now, earlier(next, later(now, tick)));
     }
 }

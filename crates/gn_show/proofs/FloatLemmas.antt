@@ -11,13 +11,14 @@ use Rattle.gn_wire.specs.declared.kind.Kind.{Kind}
 use Rattle.gn_wire.specs.declared.kind.Kind.TheVariants.{Ping, Pong, Push, Query, QueryHit, Unknown}
 use Rattle.gn_payload.specs.Fields.{QueryFields, ResultFields, HitFields}
 use Rattle.gn_payload.specs.Reading.{query_reading, hit_reading}
+use Rattle.gn_rules.specs.Flight.{Admission}
 use Rattle.gn_rules.specs.declared.event.Event.{Event}
 use Rattle.gn_rules.specs.declared.event.Event.TheVariants as event
 use Rattle.gn_rules.specs.declared.receipt.Step.{Step}
 use Rattle.gn_rules.specs.declared.reply.Reply.{Reply}
 use Rattle.gn_rules.specs.declared.reply.Reply.TheVariants as reply
 use Rattle.gn_rules.specs.declared.sends.Sending.{Sending}
-use Rattle.gn_show.specs.Values.{descriptor_data, event_data, hit_data, or_unread, payload_data, query_data, reply_data, result_data, sending_data, step_data, text_member}
+use Rattle.gn_show.specs.Values.{descriptor_data, event_data, hit_data, or_unread, payload_data, query_data, reply_data, result_data, route_data, sending_data, step_data, text_member}
 
 -- one of two values
 either : (b : Bool) (x y : Data) → has_float x ≡ false → has_float y ≡ false → has_float (if b then x else y) ≡ false
@@ -63,13 +64,17 @@ descriptor_plain d = rw (payload_plain d.kind d.payload) refl
 sending_plain : (s : Sending Global) → has_float (sending_data s) ≡ false
 sending_plain s = rw (descriptor_plain s.packet) refl
 
-event_plain : (e : Event Global) → has_float (event_data e) ≡ false
-event_plain event.Connect = refl
-event_plain (event.Close c) = refl
-event_plain (event.Admit c d) = rw (descriptor_plain d) refl
-event_plain (event.Route t) = refl
-event_plain (event.Take c) = refl
-event_plain (event.Originate d) = rw (descriptor_plain d) refl
+route_plain : (a : Option Admission) (t : ℕ) → has_float (route_data a t) ≡ false
+route_plain None t = refl
+route_plain (Some a) t = rw (descriptor_plain a.packet) refl
+
+event_plain : (a : Option Admission) (e : Event Global) → has_float (event_data a e) ≡ false
+event_plain a event.Connect = refl
+event_plain a (event.Close c) = refl
+event_plain a (event.Admit c d) = rw (descriptor_plain d) refl
+event_plain a (event.Route t) = route_plain a t
+event_plain a (event.Take c) = refl
+event_plain a (event.Originate d) = rw (descriptor_plain d) refl
 
 reply_plain : (r : Reply Global) → has_float (reply_data r) ≡ false
 reply_plain (reply.Connected c) = refl
@@ -83,5 +88,5 @@ reply_plain (reply.Dropped reason) = refl
 reply_plain (reply.Taken d) = rw (descriptor_plain d) refl
 reply_plain (reply.Sent sends) = rw (items_plain sending_data sending_plain sends) refl
 
-pub step_plain : (index : ℕ) (step : Step Global) → has_float (step_data index step) ≡ false
-step_plain index step = rw (event_plain step.event, reply_plain step.reply) refl
+pub step_plain : (a : Option Admission) (index : ℕ) (step : Step Global) → has_float (step_data a index step) ≡ false
+step_plain a index step = rw (event_plain a step.event, reply_plain step.reply) refl

@@ -1,5 +1,6 @@
 pub mod CountLemmas
 pub mod FloatLemmas
 pub mod LinesLemmas
+pub mod RowLemmas
 pub mod ShowLemmas
 pub mod ValueLemmas

@@ -1,5 +1,8 @@
 -- What is promised: contracts of public functions rest on it.
+pub mod Kept
 pub mod Plain
+pub mod Rows
 pub mod Shown
+pub mod Subjects
 pub mod Values
 pub mod Words

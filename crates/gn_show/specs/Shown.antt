@@ -3,6 +3,7 @@ use Rattle.std.specs.Prelude.{◌≡◌, ◌⊎◌, ◌+◌, ℕ, List, [], ◌�
 use Rattle.std.specs.Io.KnownBytes.{Appends, Keeps}
 use Rattle.std.specs.declared.alloc.Global.{Global}
 use Rattle.serde_json.specs.Written.{compact_text}
+use Rattle.gn_rules.specs.Flight.{Admission}
 use Rattle.gn_rules.specs.Statistics.{stats_of}
 use Rattle.gn_rules.specs.declared.config.Own.{Own}
 use Rattle.gn_rules.specs.declared.receipt.Step.{Step}
@@ -15,29 +16,41 @@ use Rattle.gn_io.specs.Parts.{AppendsPart}
 use Rattle.gn_replay.specs.declared.fault.ReplayFault.{ReplayFault}
 use Rattle.gn_replay.specs.declared.fault.ReplayFault.TheVariants as fault
 use Rattle.gn_show.specs.declared.form.Form.{Form}
-use Rattle.gn_show.specs.declared.form.Form.TheVariants.{Plain, Json}
+use Rattle.gn_show.specs.declared.form.Form.TheVariants.{Plain, Json, Rows}
 use Rattle.gn_show.specs.declared.form.View.{View}
 use Rattle.gn_show.specs.declared.form.View.TheVariants.{Steps, Stats as Counters}
 use Rattle.gn_show.specs.Plain.{plain_line}
+use Rattle.gn_show.specs.Rows.{heading, step_lines}
+use Rattle.gn_show.specs.Subjects.{subject, waiting}
 use Rattle.gn_show.specs.Values.{step_data}
 
--- the line of a step in JSON
-abbrev pub json_line : ℕ → Step Global → List ℕ
-json_line index step = compact_text (step_data index step) ++ codes "\n"
+-- the line in JSON of a step whose event speaks of this packet
+abbrev pub json_line : Option Admission → ℕ → Step Global → List ℕ
+json_line a index step = compact_text (step_data a index step) ++ codes "\n"
 
--- the line of a step
-abbrev pub line_of : Form → ℕ → Step Global → List ℕ
-line_of Plain index step = plain_line index step
-line_of Json index step = json_line index step
+-- the lines of a step, after these, of which the newest is first
+abbrev pub line_of : Form → List (Step Global) → ℕ → Step Global → List ℕ
+line_of Plain past index step = plain_line index step
+line_of Json past index step = json_line (subject (waiting past) step.event) index step
+line_of Rows past index step = step_lines past index step
 
--- the lines of steps, whose indices go up from this one
-abbrev pub lines_from : Form → ℕ → List (Step Global) → List ℕ
-lines_from form index [] = []
-lines_from form index (step ∷ more) = line_of form index step ++ lines_from form (index + 1) more
+-- the lines of steps, whose indices go up from this one, after these
+abbrev pub lines_from : Form → List (Step Global) → ℕ → List (Step Global) → List ℕ
+lines_from form past index [] = []
+lines_from form past index (step ∷ more) = line_of form past index step ++ lines_from form (step ∷ past) (index + 1) more
 
--- what is shown of steps: a line for each, with its index, counted from 0; or the line of the counters
+-- what stands above the lines: over rows the names of their columns
+abbrev pub head_of : Form → List ℕ
+head_of Rows = heading
+head_of form = []
+
+-- the lines of a history's steps, whose indices count from 0
+abbrev pub text_of : Form → List (Step Global) → List ℕ
+text_of form steps = head_of form ++ lines_from form [] 0 steps
+
+-- what is shown of steps: the lines of each; or the line of the counters
 abbrev pub shown : View → List (Step Global) → List ℕ
-shown (Steps form) steps = lines_from form 0 steps
+shown (Steps form) steps = text_of form steps
 shown Counters steps = stats_text (stats_of (reverse steps))
 
 -- a text is a history, and this is what is shown of its steps, whether they are legal or not
@@ -76,9 +89,9 @@ IsCounted stats text =
 -- what is left of a history says steps, and known bytes grew by their lines
 abbrev pub AppendsLines : Form → Result (List (Step Global)) CaptureFault → Option (List ℕ) → Option (List ℕ) → Type 0
 AppendsLines form left old new =
-    (steps : List (Step Global)) × (left ≡ Ok steps) × Appends old new (lines_from form 0 steps)
+    (steps : List (Step Global)) × (left ≡ Ok steps) × Appends old new (text_of form steps)
 
 -- what is left of a history says steps, and known bytes grew by a prefix of their lines
 abbrev pub AppendsLinesPart : Form → Result (List (Step Global)) CaptureFault → Option (List ℕ) → Option (List ℕ) → Type 0
 AppendsLinesPart form left old new =
-    (steps : List (Step Global)) × (left ≡ Ok steps) × AppendsPart old new (lines_from form 0 steps)
+    (steps : List (Step Global)) × (left ≡ Ok steps) × AppendsPart old new (text_of form steps)

@@ -10,6 +10,7 @@ use Rattle.gn_wire.specs.declared.kind.Kind.{Kind}
 use Rattle.gn_wire.specs.declared.kind.Kind.TheVariants.{Ping, Pong, Push, Query, QueryHit, Unknown}
 use Rattle.gn_payload.specs.Fields.{QueryFields, ResultFields, HitFields, number_at, bytes_at, push_servent}
 use Rattle.gn_payload.specs.Reading.{query_reading, hit_reading}
+use Rattle.gn_rules.specs.Flight.{Admission}
 use Rattle.gn_rules.specs.declared.event.Event.{Event}
 use Rattle.gn_rules.specs.declared.event.Event.TheVariants as event
 use Rattle.gn_rules.specs.declared.receipt.Step.{Step}
@@ -117,16 +118,23 @@ before_kind name value kind = object (member name value (member (codes "kind") (
 abbrev pub after_kind : List ℕ → List ℕ → Data → Data
 after_kind kind name value = object (member (codes "kind") (string kind) (member name value no_members))
 
--- an event
-abbrev pub event_data : Event Global → Data
-event_data event.Connect = kind_data (codes "connect")
-event_data (event.Close c) = before_kind (codes "connection") (number_data c) (codes "close")
-event_data (event.Admit c d) =
+-- a Route of this ticket; of an admission that waits under it also which connection brought it, and its descriptor
+abbrev pub route_data : Option Admission → ℕ → Data
+route_data None t = after_kind (codes "route") (codes "ticket") (number_data t)
+route_data (Some a) t =
+    object (member (codes "descriptor") (descriptor_data a.packet) (member (codes "from") (number_data a.origin)
+    (member (codes "kind") (string (codes "route")) (member (codes "ticket") (number_data t) no_members))))
+
+-- an event that speaks of this packet
+abbrev pub event_data : Option Admission → Event Global → Data
+event_data a event.Connect = kind_data (codes "connect")
+event_data a (event.Close c) = before_kind (codes "connection") (number_data c) (codes "close")
+event_data a (event.Admit c d) =
     object (member (codes "connection") (number_data c) (member (codes "descriptor") (descriptor_data d)
     (member (codes "kind") (string (codes "admit")) no_members)))
-event_data (event.Route t) = after_kind (codes "route") (codes "ticket") (number_data t)
-event_data (event.Take c) = before_kind (codes "connection") (number_data c) (codes "take")
-event_data (event.Originate d) = before_kind (codes "descriptor") (descriptor_data d) (codes "originate")
+event_data a (event.Route t) = route_data a t
+event_data a (event.Take c) = before_kind (codes "connection") (number_data c) (codes "take")
+event_data a (event.Originate d) = before_kind (codes "descriptor") (descriptor_data d) (codes "originate")
 
 -- a reply
 abbrev pub reply_data : Reply Global → Data
@@ -143,8 +151,8 @@ reply_data (reply.Dropped reason) = after_kind (codes "dropped") (codes "reason"
 reply_data (reply.Taken d) = before_kind (codes "descriptor") (descriptor_data d) (codes "taken")
 reply_data (reply.Sent sends) = after_kind (codes "sent") (codes "sends") (sends_data sends)
 
--- a step with its index
-abbrev pub step_data : ℕ → Step Global → Data
-step_data index step =
-    object (member (codes "actor") (number_data step.actor) (member (codes "event") (event_data step.event)
+-- a step with its index, whose event speaks of this packet
+abbrev pub step_data : Option Admission → ℕ → Step Global → Data
+step_data a index step =
+    object (member (codes "actor") (number_data step.actor) (member (codes "event") (event_data a step.event)
     (member (codes "reply") (reply_data step.reply) (member (codes "step") (number_data index) no_members))))

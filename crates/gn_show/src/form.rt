@@ -7,12 +7,14 @@ pub enum Form {
     Plain,
     /// As a JSON object.
     Json,
+    /// As a row of comma-separated fields for each packet that it admits, refuses, sends, drops or takes.
+    Rows,
 }
 
 /// What of a history is shown.
 #[derive(Clone, Copy, Debug, PartialEq, Eq)]
 pub enum View {
-    /// A line for each step.
+    /// Its steps.
     Steps(Form),
     /// The line of the counters.
     Stats,

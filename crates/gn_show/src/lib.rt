@@ -1,13 +1,15 @@
-//! Histories as a reader sees them: each step as a line of plain words or of JSON, and the counters.
+//! Histories as a reader sees them: each step as a line of plain words or of JSON, each packet as a row, and the counters.
 #![tactic(auto)]
 
 mod descriptor_json;
+mod flight;
 mod form;
 mod json_lines;
 mod members;
 mod payload_json;
 mod plain;
 mod plain_descriptor;
+mod rows;
 mod shows;
 mod stats;
 mod step_json;

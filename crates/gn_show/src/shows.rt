@@ -37,7 +37,7 @@ fn show_text<W: Sink>(
     }
 }
 
-/// Reads a history's text whole, and writes what is shown of it: a line for each step, which is read and written one after
+/// Reads a history's text whole, and writes what is shown of it: the lines of each step, which is read and written one after
 /// another, in blocks of at least 32,768 bytes, the last one shorter; or the line of its counters. Whether the history is
 /// legal isn't looked at. An `Ok` says that no read failed and no write failed or took nothing. After an `Err` a prefix of
 /// it was written, and nothing where the history wasn't read or has a fault.

@@ -1,13 +1,15 @@
 //! Steps as JSON.
 
-ghost use Rattle.std.specs.Prelude.{◌≡◌, codes, IfOk, OnOk};
+ghost use Rattle.std.specs.Prelude.{◌≡◌, codes, None, IfOk, OnOk, Some};
 ghost use Rattle.serde_json.specs.Data.{no_members, object};
 ghost use Rattle.serde_json.specs.View.{members_view, view};
 ghost use Rattle.gn_rules.specs.declared.event.Event.TheVariants.{Admit};
 ghost use Rattle.gn_rules.specs.declared.reply.Reply.TheVariants.{Closed, Dropped, Routed, Sent};
-ghost use Rattle.gn_show.specs.Values.{after_kind, before_kind, descriptor_data, event_data, kind_data, number_data, reply_data, step_data};
+ghost use Rattle.gn_show.specs.Kept.{seen};
+ghost use Rattle.gn_show.specs.Values.{after_kind, before_kind, descriptor_data, event_data, kind_data, number_data, reply_data, route_data, step_data};
 
 use crate::descriptor_json::{descriptor_value, sends_value};
+use crate::flight::Subject;
 use crate::members::{Members, put_flag, put_number, put_text};
 use crate::text::reason_word;
 use gn_rules::{DropReason, Event, Reply, Sending, Step};
@@ -77,7 +79,7 @@ fn put_admit(
     descriptor: &Descriptor,
 ) -> Result<(), AllocError>
     requires { members_view members.old.entries ≡ no_members }
-    ensures { OnOk result (object (members_view members.new.entries) ≡ event_data (Admit c descriptor.now)) }
+    ensures { OnOk result (object (members_view members.new.entries) ≡ event_data None (Admit c descriptor.now)) }
 {
     put_number(alloc, members, "connection", c)?;
     let descriptor = descriptor_value(alloc, descriptor)?;
@@ -85,27 +87,69 @@ fn put_admit(
     put_text(alloc, members, "kind", "admit")
 }
 
-/// Adds the members of an event.
-fn put_event(alloc: Global, members: &mut Members, event: &Event) -> Result<(), AllocError>
+/// A Route of what waits under its ticket, with its descriptor and the connection that brought it.
+fn put_routing(
+    alloc: Global,
+    members: &mut Members,
+    subject: Subject<'_>,
+    ticket: u32,
+) -> Result<(), AllocError>
     requires { members_view members.old.entries ≡ no_members }
-    ensures { OnOk result (object (members_view members.new.entries) ≡ event_data event.now) }
+    ensures { OnOk result (object (members_view members.new.entries) ≡ route_data (seen (Some subject.entry)) ticket) }
+{
+    let descriptor = descriptor_value(alloc, subject.packet)?;
+    put(members, alloc, "descriptor", descriptor)?;
+    put_number(alloc, members, "from", subject.origin)?;
+    put_text(alloc, members, "kind", "route")?;
+    put_number(alloc, members, "ticket", ticket)
+}
+
+/// A Route, with what waits under its ticket.
+fn put_route(
+    alloc: Global,
+    members: &mut Members,
+    subject: Option<Subject<'_>>,
+    ticket: u32,
+) -> Result<(), AllocError>
+    requires { members_view members.old.entries ≡ no_members }
+    ensures { OnOk result (object (members_view members.new.entries) ≡ route_data (seen subject.entry) ticket) }
+{
+    match subject {
+        Some(subject) => put_routing(alloc, members, subject, ticket),
+        None => put_ticket(alloc, members, "route", ticket),
+    }
+}
+
+/// Adds the members of an event that speaks of this packet.
+fn put_event(
+    alloc: Global,
+    members: &mut Members,
+    subject: Option<Subject<'_>>,
+    event: &Event,
+) -> Result<(), AllocError>
+    requires { members_view members.old.entries ≡ no_members }
+    ensures { OnOk result (object (members_view members.new.entries) ≡ event_data (seen subject.entry) event.now) }
 {
     match event {
         Event::Connect => put_kind(alloc, members, "connect"),
         Event::Close(c) => put_connection(alloc, members, *c, "close"),
         Event::Admit(c, descriptor) => put_admit(alloc, members, *c, descriptor),
-        Event::Route(ticket) => put_ticket(alloc, members, "route", *ticket),
+        Event::Route(ticket) => put_route(alloc, members, subject, *ticket),
         Event::Take(c) => put_connection(alloc, members, *c, "take"),
         Event::Originate(descriptor) => put_whole(alloc, members, descriptor, "originate"),
     }
 }
 
-/// An event as an object.
-fn event_value(alloc: Global, event: &Event) -> Result<Value, AllocError>
-    ensures { IfOk result (λ value. view value ≡ event_data event.now) }
+/// An event that speaks of this packet, as an object.
+fn event_value(
+    alloc: Global,
+    subject: Option<Subject<'_>>,
+    event: &Event,
+) -> Result<Value, AllocError>
+    ensures { IfOk result (λ value. view value ≡ event_data (seen subject.entry) event.now) }
 {
     let mut members = Map::new(alloc);
-    put_event(alloc, &mut members, event)?;
+    put_event(alloc, &mut members, subject, event)?;
     Ok(Value::Object(members))
 }
 
@@ -181,24 +225,36 @@ fn reply_value(alloc: Global, reply: &Reply) -> Result<Value, AllocError>
     Ok(Value::Object(members))
 }
 
-/// Adds the members of a step with its index, counted from 0.
-fn put_step(alloc: Global, members: &mut Members, index: u32, step: &Step) -> Result<(), AllocError>
+/// Adds the members of a step with its index, counted from 0, whose event speaks of this packet.
+fn put_step(
+    alloc: Global,
+    members: &mut Members,
+    subject: Option<Subject<'_>>,
+    index: u32,
+    step: &Step,
+) -> Result<(), AllocError>
     requires { members_view members.old.entries ≡ no_members }
-    ensures { OnOk result (object (members_view members.new.entries) ≡ step_data index step.now) }
+    ensures { OnOk result (object (members_view members.new.entries)
+        ≡ step_data (seen subject.entry) index step.now) }
 {
     put_number(alloc, members, "actor", step.actor)?;
-    let event = event_value(alloc, &step.event)?;
+    let event = event_value(alloc, subject, &step.event)?;
     put(members, alloc, "event", event)?;
     let reply = reply_value(alloc, &step.reply)?;
     put(members, alloc, "reply", reply)?;
     put_number(alloc, members, "step", index)
 }
 
-/// A step with its index, counted from 0.
-pub(crate) fn step_value(alloc: Global, index: u32, step: &Step) -> Result<Value, AllocError>
-    ensures { IfOk result (λ value. view value ≡ step_data index step.now) }
+/// A step with its index, counted from 0, whose event speaks of this packet.
+pub(crate) fn step_value(
+    alloc: Global,
+    subject: Option<Subject<'_>>,
+    index: u32,
+    step: &Step,
+) -> Result<Value, AllocError>
+    ensures { IfOk result (λ value. view value ≡ step_data (seen subject.entry) index step.now) }
 {
     let mut members = Map::new(alloc);
-    put_step(alloc, &mut members, index, step)?;
+    put_step(alloc, &mut members, subject, index, step)?;
     Ok(Value::Object(members))
 }

@@ -1,16 +1,21 @@
 //! The steps of a history, shown one after another.
 
-ghost use Rattle.std.specs.Prelude.{◌≡◌, ◌<◌, ◌++◌, length, IfErr, IfOk, IsOk, OnErr, OnOk};
+ghost use Rattle.std.specs.Prelude.{◌≡◌, ◌<◌, ◌++◌, ◌∷◌, List, length, IfErr, IfOk, IsOk, OnErr, OnOk};
+ghost use Rattle.std.specs.declared.alloc.Global.{Global};
 ghost use Rattle.gn_capture.specs.Histories.{history_of, steps_left};
 ghost use Rattle.gn_io.specs.Parts.{AppendsPart, LeavesToWrite, block_size};
 ghost use Rattle.gn_io.specs.Streams.{NoWriteFailed};
 ghost use Rattle.gn_replay.specs.Runs.{IsPlayFault};
-ghost use Rattle.gn_show.specs.Shown.{AppendsLines, AppendsLinesPart, AppendsShown, AppendsShownPart, line_of};
+ghost use Rattle.gn_rules.specs.declared.receipt.Step.{Step};
+ghost use Rattle.gn_show.specs.Kept.{Fits};
+ghost use Rattle.gn_show.specs.Shown.{AppendsLines, AppendsLinesPart, AppendsShown, AppendsShownPart, head_of, line_of};
 ghost use Rattle.gn_show.specs.declared.form.View.TheVariants.{Steps};
 
+use crate::flight::Flight;
 use crate::form::Form;
-use crate::json_lines::json_line;
+use crate::json_lines::next_json;
 use crate::plain::plain_line;
+use crate::rows::next_lines;
 use crate::stats::next_index;
 use gn_capture::{HistorySteps, open_history};
 use gn_io::{Block, Sink};
@@ -18,13 +23,40 @@ use gn_replay::ReplayFault;
 use gn_rules::Step;
 use std::alloc::{AllocError, Global};
 
-/// The line of a step, whose index counts from 0.
-fn line_of(alloc: Global, form: Form, index: u32, step: &Step) -> Result<Vec<u8>, AllocError>
-    ensures { IfOk result (λ line. line.items ≡ line_of form index step.now) }
+/// What stands above the lines.
+fn head_of(form: Form) -> &'static [u8]
+    ensures { result.now ≡ head_of form }
 {
     match form {
-        Form::Plain => plain_line(alloc, index, step),
-        Form::Json => json_line(alloc, index, step),
+        Form::Plain | Form::Json => b"",
+        Form::Rows => b"step,t,actor,event,reply,connection,to,kind,id,ttl,hops,length,queued\n",
+    }
+}
+
+/// A block of which what stands above the lines waits.
+fn headed(alloc: Global, form: Form) -> Result<Block, AllocError>
+    ensures { IfOk result (λ block. block ≡ head_of form) }
+{
+    let mut block = Block::new(alloc);
+    block.add(head_of(form))?;
+    Ok(block)
+}
+
+/// The lines of the next step, whose index counts from 0.
+fn line_of(
+    alloc: Global,
+    form: Form,
+    flight: &mut Flight,
+    index: u32,
+    step: Step,
+) -> Result<Vec<u8>, AllocError>
+    ensures { IfOk result (λ line. (past : List (Step Global)) → Fits form flight.old past
+        → (line.items ≡ line_of form past index step) × Fits form flight.new (step ∷ past)) }
+{
+    match form {
+        Form::Plain => plain_line(alloc, index, &step),
+        Form::Json => next_json(alloc, flight, index, step),
+        Form::Rows => next_lines(alloc, flight, index, step),
     }
 }
 
@@ -58,12 +90,11 @@ fn write_steps<W: Sink>(
     ensures cause { IfErr result (λ fault. IsPlayFault fault (W.state sink.old) (W.state sink.new)) }
     ensures writes { OnOk result (NoWriteFailed (W.state sink.old) (W.state sink.new)) }
 {
-    let mut block = Block::new(alloc);
+    let mut block = headed(alloc, form)?;
+    let mut flight = Flight::new(alloc);
     let mut index = 0u32;
     while let Some(step) = steps.next_step()? {
-        let made = line_of(alloc, form, index, &step);
-        drop(step);
-        let line = made?;
+        let line = line_of(alloc, form, &mut flight, index, step)?;
         let written = write_step(&line, &mut block, sink);
         drop(line);
         written?;

@@ -3,11 +3,14 @@
 ghost use Rattle.std.specs.Prelude.{◌≡◌, [], IfOk};
 
 use crate::flights::Flights;
+use crate::forgetful::Forgetful;
+use crate::keeper::Keeper;
 use crate::neighbours::Neighbours;
 use crate::seen::SeenTable;
 use crate::servents::ServentTable;
 use crate::tables::Tables;
-use gn_router::{Forgetful, FreshStore, Keeper, Lookup, StepStore, Store, Whole};
+use crate::whole::Whole;
+use gn_router::{FreshStore, Lookup, StepStore, Store};
 use gn_rules::{Config, ConnId, Event, Reply, Stats, Step, Ticket};
 use gn_wire::{Descriptor, Guid, Key};
 use std::alloc::{AllocError, Allocator, Global};

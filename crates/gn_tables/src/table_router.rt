@@ -1,8 +1,11 @@
 //! The router that answers out of tables.
 
+use crate::forgetful::Forgetful;
+use crate::keeper::Keeper;
 use crate::store::TableStore;
+use crate::whole::Whole;
 use gn_payload::Checked;
-use gn_router::{Forgetful, Keeper, Router, Whole};
+use gn_router::Router;
 use gn_rules::{
     Config, ConnId, Event, FreshRouter, Historian, Receipt, Refusal, Reply, RouterCore, Stats,
     Step, Ticket,

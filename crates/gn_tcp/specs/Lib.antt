@@ -1,2 +1,3 @@
 -- What is promised: contracts of public functions rest on it.
 pub mod Tcp
+pub mod Seen

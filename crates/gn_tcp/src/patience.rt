@@ -1,5 +1,8 @@
 //! How long the reader of a link over TCP waits for bytes.
 
+ghost use Rattle.std.specs.Prelude.{◌≡◌, ◌-◌, length};
+ghost use Rattle.gn_shake.specs.Greeting.{greeting_of};
+
 use gn_shake::Role;
 use std::net::TcpStream;
 use std::time::Duration;
@@ -31,7 +34,9 @@ pub(crate) struct Patience {
 
 impl Patience {
     /// That of a reader whose first wait is at most the limit, and which may be stopped or not.
-    pub(crate) fn new(limit: Option<Duration>, looks: bool, role: Role) -> Self {
+    pub(crate) fn new(limit: Option<Duration>, looks: bool, role: Role) -> Self
+        ensures missing { result.missing ≡ length (greeting_of role) }
+    {
         let missing = match role {
             Role::Accepting => gn_shake::request().len(),
             Role::Calling => gn_shake::consent().len(),
@@ -53,7 +58,9 @@ impl Patience {
     }
 
     /// So many bytes have come over this socket.
-    pub(crate) fn hear(&mut self, stream: &TcpStream, n: usize) {
+    pub(crate) fn hear(&mut self, stream: &TcpStream, n: usize)
+        ensures missing { self.new.missing ≡ self.old.missing - n }
+    {
         if self.missing > 0 {
             self.missing = self.missing.saturating_sub(n);
             self.wait = match self.wait {
@@ -82,7 +89,9 @@ impl Patience {
     }
 
     /// Has the socket wait as long at a time as what is left of the wait allows.
-    fn set_turn(&mut self, stream: &TcpStream) {
+    fn set_turn(&mut self, stream: &TcpStream)
+        ensures { self.new.missing ≡ self.old.missing }
+    {
         let turn = turn_of(self.left, self.looks);
         // where the system doesn't take it, the turn stays as it was
         if turn != self.turn && stream.set_read_timeout(turn).is_ok() {

@@ -1,6 +1,7 @@
 //! The half of a link over TCP that is read.
 
-ghost use Rattle.std.specs.Prelude.{◌≡◌, ◌≤◌, ◌++◌, [], false, not, true, length, IfOk};
+ghost use Rattle.std.specs.Prelude.{◌≡◌, ◌≢◌, ◌≤◌, ◌++◌, [], false, not, true, length, Err, IfOk};
+ghost use Rattle.std.specs.declared.io.ErrorKind.TheVariants.{Interrupted};
 ghost use Rattle.std.specs.Io.KnownBytes.{ReadConsumes};
 ghost use Rattle.gn_links.specs.Halves.{read_by};
 ghost use Rattle.gn_tcp.specs.Tcp.{half_read};
@@ -37,7 +38,7 @@ pub struct TcpReader<'s> {
     pieces: u64,
     has_ended: bool,
     /// The bytes that its reads gave.
-    told: Told,
+    pub(crate) told: Told,
 }
 
 impl<'s> Model for TcpReader<'s> {
@@ -158,6 +159,7 @@ fn read_some<T: Read, R: Wait>(
 ) -> Result<usize, ErrorKind>
     ensures within { IfOk result (λ n. n ≤ length buffer.old) }
     ensures read { ReadConsumes (T.remaining stream.old) (T.remaining stream.new) result buffer.new }
+    ensures again { result ≢ Err Interrupted }
     ensures told { told.new ≡ told.old ++ read_by result buffer.new }
 {
     for _ in rt.forever() {
@@ -167,7 +169,7 @@ fn read_some<T: Read, R: Wait>(
             Err(why) => return Err(why.kind()),
         }
     }
-    Err(ErrorKind::Interrupted)
+    Err(ErrorKind::Other)
 }
 
 /// The same, of a few bytes at most where the brake is set.

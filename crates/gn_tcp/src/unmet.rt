@@ -16,7 +16,8 @@ pub struct Unmet {
 }
 
 impl Unmet {
-    pub(crate) fn of(error: &io::Error) -> Self {
+    /// What this error of the system says.
+    pub fn of(error: &io::Error) -> Self {
         let wants_handle = match error.raw_os_error() {
             Some(number) => NO_HANDLES.contains(&number),
             None => false,

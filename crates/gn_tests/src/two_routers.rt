@@ -1,20 +1,16 @@
-//! Two routers that a link joins, the first one's connection 2 with the second one's 1: a Query goes over it, and its Query Hit
-//! comes back. What the laws of paths suppose is found of their histories.
+//! Two routers that a link joins, the first one's connection 2 with the second one's 1: a Query goes over it, its Query Hit comes
+//! back, and a Push follows the Query. What the laws of paths suppose is found of their histories.
 
-use crate::calls::is_made;
+use crate::calls::{admits, is_made};
 use bytes::Bytes;
-use gn_fixtures::usual;
-use gn_rules::{
-    Config, ConnId, Event, FreshRouter, Historian, Legality, Reply, RouterCore, Step, Ticket,
-};
-use gn_search::{PlainRouter, legal};
+use gn_fixtures::OWN;
+use gn_rules::{Config, ConnId, Event, FreshRouter, Historian, Reply, RouterCore, Step, Ticket};
+use gn_search::PlainRouter;
 use gn_tables::TableRouter;
-use gn_wire::{Descriptor, Guid, Kind};
+use gn_wire::{Descriptor, Guid, Key, Kind};
+use gn_witness::{came_over, ends, routed_kind, sent_again, was_queued};
 use std::alloc::Allocator;
 use std::test::Fail;
-
-/// The ID of the Query and its hit.
-const ID: Guid = Guid([0xb1; 16]);
 
 /// A search for "x".
 const QUERY: &[u8] = b"\x00\x00x\x00";
@@ -22,6 +18,10 @@ const QUERY: &[u8] = b"\x00\x00x\x00";
 /// No result, of servent f1.
 const QUERY_HIT: &[u8] =
     b"\x00\xca\x18\x7f\x00\x00\x02\x1c\x00\x00\x00\xf1\xf1\xf1\xf1\xf1\xf1\xf1\xf1\xf1\xf1\xf1\xf1\xf1\xf1\xf1\xf1";
+
+/// Servent f1 is asked to send file 0 to 127.0.0.1, port 6346.
+const PUSH: &[u8] =
+    b"\xf1\xf1\xf1\xf1\xf1\xf1\xf1\xf1\xf1\xf1\xf1\xf1\xf1\xf1\xf1\xf1\x00\x00\x00\x00\x7f\x00\x00\x01\xca\x18";
 
 /// A descriptor of ID b1, with Hops 0.
 fn packet<A: Allocator + Copy>(
@@ -31,7 +31,7 @@ fn packet<A: Allocator + Copy>(
     payload: &[u8],
 ) -> Result<Descriptor<A>, Fail> {
     let payload = Bytes::copy_from_slice(alloc, payload)?;
-    match Descriptor::new(ID, kind, ttl, 0, payload) {
+    match Descriptor::new(Guid([0xb1; 16]), kind, ttl, 0, payload) {
         Ok(packet) => Ok(packet),
         Err(_) => Err(Fail::from("a descriptor")),
     }
@@ -98,127 +98,100 @@ fn answered<A: Allocator + Copy, C: RouterCore<A>>(
     }
 }
 
-/// A neighbour of the first router asks, and one of the second answers: the answer that whoever asked gets has these Hops.
+/// At last one comes from the first: what is taken from connection 2 then.
+fn pushed<A: Allocator + Copy, C: RouterCore<A>>(
+    router: &mut C,
+    packet: Descriptor<A>,
+) -> Result<Descriptor<A>, Fail> {
+    if is_brought(router, 1, packet, 2) {
+        taken(router, 2)
+    } else {
+        Err(Fail::from("a Push"))
+    }
+}
+
+/// The Hops of a packet.
+fn hops_of<A: Allocator>(packet: Descriptor<A>) -> u8 {
+    let hops = packet.hops();
+    drop(packet);
+    hops
+}
+
+/// A neighbour of the first router asks, one of the second answers, and whoever asked sends a Push: the Hops of the answer and of
+/// the Push where they arrive.
 fn cross<A: Allocator + Copy, C: RouterCore<A>, D: RouterCore<A>>(
     alloc: A,
     first: &mut C,
     second: &mut D,
-) -> Result<u8, Fail> {
+) -> Result<(u8, u8), Fail> {
     let query = passed(first, packet(alloc, Kind::Query, 7, QUERY)?)?;
     drop(passed(second, query)?);
     let hit = answered(second, packet(alloc, Kind::QueryHit, 3, QUERY_HIT)?)?;
-    let answer = answered(first, hit)?;
-    let hops = answer.hops();
-    drop(answer);
-    Ok(hops)
+    let answer = hops_of(answered(first, hit)?);
+    let push = pushed(first, packet(alloc, Kind::Push, 3, PUSH)?)?;
+    Ok((answer, hops_of(pushed(second, push)?)))
 }
 
-/// Whether the step took this descriptor from the connection.
-fn is_taken<A: Allocator>(step: &Step<A>, c: ConnId, packet: &Descriptor<A>) -> bool {
-    match &step.reply {
-        Reply::Taken(taken) => step.event.takes(c) && taken.is_same(packet),
-        _ => false,
-    }
-}
-
-/// Whether a step took this descriptor from the connection.
-fn was_taken<A: Allocator>(steps: &[Step<A>], c: ConnId, packet: &Descriptor<A>) -> bool {
-    for step in steps {
-        if is_taken(step, c, packet) {
-            return true;
-        }
-    }
-    false
-}
-
-/// Whether what the step admitted on d, if anything, was taken from the first router's c.
-fn is_carried<A: Allocator>(first: &[Step<A>], c: ConnId, step: &Step<A>, d: ConnId) -> bool {
-    match &step.event {
-        Event::Admit(e, packet) => *e != d || was_taken(first, c, packet),
-        _ => true,
-    }
-}
-
-/// Whether all that the second router admitted on its d was taken from the first one's c.
-fn carries<A: Allocator>(first: &[Step<A>], c: ConnId, second: &[Step<A>], d: ConnId) -> bool {
-    for step in second {
-        if !is_carried(first, c, step, d) {
-            return false;
-        }
-    }
-    true
-}
-
-/// Whether a link between the first router's c and the second one's 1 carried only what it was given, in both directions.
-fn is_link<A: Allocator>(first: &[Step<A>], c: ConnId, second: &[Step<A>]) -> bool {
-    carries(first, c, second, 1) && carries(second, 1, first, c)
-}
-
-/// Whether until some moment of the first router their link had carried only what it was given, where these are the second
-/// one's steps until then.
-fn has_moment<A: Allocator>(first: &[Step<A>], until: &[Step<A>]) -> bool {
-    for j in 0..first.len() {
-        if is_link(&first[..j], 2, until) {
-            return true;
-        }
-    }
-    false
-}
-
-/// Whether each moment of the second router had such a one.
-fn is_link_in_time<A: Allocator>(first: &[Step<A>], second: &[Step<A>]) -> bool {
-    for i in 0..second.len() {
-        if !has_moment(first, &second[..i]) {
-            return false;
-        }
-    }
-    true
-}
-
-/// Whether a step took a Query of ID b1 from connection 2.
-fn was_asked<A: Allocator>(steps: &[Step<A>]) -> bool {
-    for step in steps {
-        if let Reply::Taken(taken) = &step.reply {
-            if step.event.takes(2) && taken.kind() == Kind::Query && taken.id() == ID {
-                return true;
-            }
-        }
-    }
-    false
-}
-
-/// What the laws suppose, and what they conclude, of two routers' histories.
+/// What the laws of paths are found to hold of.
 #[derive(Debug, Clone, Copy, PartialEq, Eq)]
 struct Found {
-    /// Both are legal.
-    are_legal: bool,
-    /// The link carried only what it was given, as a whole and at each moment.
-    is_link: bool,
-    in_time: bool,
-    /// Two connections that none joins did so, too.
-    is_other_link: bool,
-    /// How many steps each router made: no more than it remembers entries.
-    steps: (usize, usize),
-    /// The Query had gone over the link.
-    was_asked: bool,
+    /// The link, over which the Query Hit came back.
+    link: bool,
+    /// Two connections that none joins.
+    other_link: bool,
+    /// The flood of the Query.
+    flood: bool,
+    /// The three routes of each router, each by the kind of what it sends on.
+    routes: [[Option<Kind>; 3]; 2],
+    /// The Push that was taken from the link.
+    push: bool,
+}
+
+/// What the fourth, the seventh and the tenth step route.
+fn routes<A: Allocator>(config: &Config, steps: &[Step<A>]) -> [Option<Kind>; 3] {
+    if steps.len() < 10 {
+        return [None; 3];
+    }
+    [
+        routed_kind(config, &steps[..3], &steps[3]),
+        routed_kind(config, &steps[..6], &steps[6]),
+        routed_kind(config, &steps[..9], &steps[9]),
+    ]
+}
+
+/// Whether the last step took a packet from connection 2 that had been queued to it.
+fn has_waited<A: Allocator>(config: &Config, steps: &[Step<A>]) -> bool {
+    match steps.last() {
+        Some(step) => match &step.reply {
+            Reply::Taken(packet) => was_queued(config, steps, 2, packet),
+            _ => false,
+        },
+        None => false,
+    }
 }
 
 /// What is found of two histories.
 fn compared<A: Allocator>(config: &Config, first: &[Step<A>], second: &[Step<A>]) -> Found {
     Found {
-        are_legal: legal(config, first) == Legality::Legal
-            && legal(config, second) == Legality::Legal,
-        is_link: is_link(first, 2, second),
-        in_time: is_link_in_time(first, second),
-        is_other_link: is_link(first, 1, second),
-        steps: (first.len(), second.len()),
-        was_asked: was_asked(first),
+        link: came_over(config, first, 2, second, 1),
+        other_link: came_over(config, first, 1, second, 1),
+        flood: ends(config, first, 2, second, 1),
+        routes: [routes(config, first), routes(config, second)],
+        push: has_waited(config, first),
     }
 }
 
-/// What is found of a router with tables and one that searches its history, and the Hops of the answer.
-fn found_of<A: Allocator + Copy>(alloc: A) -> Result<(Found, u8), Fail> {
-    let config = usual(100)?;
+/// A configuration of a router that remembers so many descriptors.
+fn remembering(seen: u32) -> Result<Config, Fail> {
+    match Config::new(4, seen, 4, 8, 8, 100, 0, 0, OWN) {
+        Ok(config) => Ok(config),
+        Err(_) => Err(Fail::from("a configuration")),
+    }
+}
+
+/// What is found of a router with tables and one that searches its history, and the Hops of the answer and of the Push.
+fn found_of<A: Allocator + Copy>(alloc: A) -> Result<(Found, (u8, u8)), Fail> {
+    let config = remembering(16)?;
     let mut first = TableRouter::<A>::make(alloc, &config)?;
     let mut second = PlainRouter::<A>::make(alloc, &config)?;
     let hops = cross(alloc, &mut first, &mut second);
@@ -232,14 +205,63 @@ fn found_of<A: Allocator + Copy>(alloc: A) -> Result<(Found, u8), Fail> {
 fn an_answer_crosses_a_link_back(rt: HostRuntime) -> Result<(), Fail> {
     let (found, hops) = found_of(rt.alloc())?;
     let wanted = Found {
-        are_legal: true,
-        is_link: true,
-        in_time: true,
-        is_other_link: false,
-        steps: (8, 8),
-        was_asked: true,
+        link: true,
+        other_link: false,
+        flood: true,
+        routes: [[Some(Kind::Query), Some(Kind::QueryHit), Some(Kind::Push)]; 2],
+        push: true,
     };
     assert_eq!(rt; found, wanted);
-    assert_eq!(rt; hops, 2);
+    assert_eq!(rt; hops, (2, 2));
+    Ok(())
+}
+
+/// Whether two connections are made, and Pings of these bytes admitted and routed.
+fn are_routed<A: Allocator + Copy, C: RouterCore<A>>(
+    router: &mut C,
+    bytes: [u8; 3],
+) -> Result<bool, Fail> {
+    let mut are_made = is_made(router, Event::Connect) && is_made(router, Event::Connect);
+    for (i, byte) in bytes.iter().enumerate() {
+        are_made = admits(router, 1, *byte)? && is_made(router, Event::Route(i as u32)) && are_made;
+    }
+    Ok(are_made)
+}
+
+/// The key of a Ping of this byte.
+fn key(byte: u8) -> Key {
+    Key {
+        kind: Kind::Ping,
+        id: Guid([byte; 16]),
+    }
+}
+
+/// Whether the first Ping's key and the second's are sent again by the eighth step.
+fn are_sent_again<A: Allocator>(config: &Config, steps: &[Step<A>]) -> (bool, bool) {
+    if steps.len() < 8 {
+        return (false, false);
+    }
+    let first = sent_again(config, &steps[..7], &steps[7], &key(0xa1));
+    let second = sent_again(config, &steps[..7], &steps[7], &key(0xa2));
+    (first, second)
+}
+
+/// The same of three Pings, the first of which comes again, where one descriptor is remembered.
+fn again_of<A: Allocator + Copy>(alloc: A) -> Result<(bool, bool), Fail> {
+    let config = remembering(1)?;
+    let mut router = PlainRouter::<A>::make(alloc, &config)?;
+    let are_routed = are_routed(&mut router, [0xa1, 0xa2, 0xa1]);
+    let steps = router.into_history();
+    if !are_routed? {
+        return Err(Fail::from("eight steps"));
+    }
+    Ok(are_sent_again(&config, steps.as_slice()))
+}
+
+#[test]
+fn a_ping_is_sent_again(rt: HostRuntime) -> Result<(), Fail> {
+    let (first, second) = again_of(rt.alloc())?;
+    assert!(rt; first);
+    assert!(rt; !second);
     Ok(())
 }

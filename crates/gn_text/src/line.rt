@@ -2,18 +2,35 @@
 
 ghost use Rattle.std.specs.Prelude.{◌≡◌, ◌≢◌, ◌==◌, ◌<◌, ◌++◌, ◌∷◌, [], All, length, map, take, IfNone, IfOk, IfSome, OnErr, OnOk};
 ghost use Rattle.std.specs.List.{slice_split};
+ghost use Rattle.memchr.specs.Find.{IsFirstByte, is_byte};
 ghost use Rattle.gn_text.specs.Lines.{fields_of, is_skipped, is_word, lines_of};
 
 use memchr::memchr;
 use std::alloc::{AllocError, Allocator};
 
-/// What of a text stands before the first mark, and what after it, where there is one.
-fn first_part(text: &[u8], mark: u8) -> (&[u8], Option<&[u8]>)
+/// So many bytes are looked at one by one before a text is searched, as most fields are short.
+const NEAR: usize = 8;
+
+/// Where the first mark of a text stands.
+fn mark_in(text: &[u8], mark: u8) -> Option<usize>
+    ensures { IsFirstByte (is_byte mark) text.now result }
+{
+    for i in 0..text.len().min(NEAR) {
+        if text[i] == mark {
+            return Some(i);
+        }
+    }
+    memchr(mark, text)
+}
+
+/// What of a text stands before the first mark, and what after it, where there is one: at this place.
+fn first_part(text: &[u8], mark: u8, place: Option<usize>) -> (&[u8], Option<&[u8]>)
+    requires { IsFirstByte (is_byte mark) text.now place }
     ensures unmarked { All (λ b. b ≢ mark) result.0.now }
     ensures cut { IfSome result.1 (λ more. text.now ≡ result.0.now ++ mark ∷ more.now) }
     ensures last { IfNone result.1 (text.now ≡ result.0.now) }
 {
-    match memchr(mark, text) {
+    match place {
         Some(at) => (&text[..at], Some(&text[at + 1..])),
         None => (text, None),
     }
@@ -31,7 +48,7 @@ fn add_parts<'a, A: Allocator>(
 {
     let mut rest = Some(text);
     while let Some(text) = rest {
-        let (part, more) = first_part(text, mark);
+        let (part, more) = first_part(text, mark, mark_in(text, mark));
         parts.push(part)?;
         rest = more;
     }
@@ -85,7 +102,7 @@ pub(crate) fn first_line(text: &[u8]) -> Option<(&[u8], &[u8])>
     if text.is_empty() {
         return None;
     }
-    let (line, more) = first_part(text, b'\n');
+    let (line, more) = first_part(text, b'\n', memchr(b'\n', text));
     match more {
         Some(more) => Some((line, more)),
         None => Some((line, &[])),

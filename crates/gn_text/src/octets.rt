@@ -8,16 +8,29 @@ ghost use Rattle.gn_text.specs.Bytes.{bytes_parsed, guid_of};
 use gn_wire::Guid;
 use std::alloc::{AllocError, Allocator};
 
-/// The number that a hex digit of either case says, and 16 for another byte.
-fn digit_value(digit: u8) -> u8
-    ensures { MatchOption (hex_digit_value digit) (result ≡ 16) (λ number. (result ≡ number) × (number < 16)) }
+/// The number that each byte says as a hex digit of either case, and 256 where it is none.
+static NUMBERS: [u16; 256] = [
+    256, 256, 256, 256, 256, 256, 256, 256, 256, 256, 256, 256, 256, 256, 256, 256, 256, 256, 256,
+    256, 256, 256, 256, 256, 256, 256, 256, 256, 256, 256, 256, 256, 256, 256, 256, 256, 256, 256,
+    256, 256, 256, 256, 256, 256, 256, 256, 256, 256, 0, 1, 2, 3, 4, 5, 6, 7, 8, 9, 256, 256, 256,
+    256, 256, 256, 256, 10, 11, 12, 13, 14, 15, 256, 256, 256, 256, 256, 256, 256, 256, 256, 256,
+    256, 256, 256, 256, 256, 256, 256, 256, 256, 256, 256, 256, 256, 256, 256, 256, 10, 11, 12, 13,
+    14, 15, 256, 256, 256, 256, 256, 256, 256, 256, 256, 256, 256, 256, 256, 256, 256, 256, 256,
+    256, 256, 256, 256, 256, 256, 256, 256, 256, 256, 256, 256, 256, 256, 256, 256, 256, 256, 256,
+    256, 256, 256, 256, 256, 256, 256, 256, 256, 256, 256, 256, 256, 256, 256, 256, 256, 256, 256,
+    256, 256, 256, 256, 256, 256, 256, 256, 256, 256, 256, 256, 256, 256, 256, 256, 256, 256, 256,
+    256, 256, 256, 256, 256, 256, 256, 256, 256, 256, 256, 256, 256, 256, 256, 256, 256, 256, 256,
+    256, 256, 256, 256, 256, 256, 256, 256, 256, 256, 256, 256, 256, 256, 256, 256, 256, 256, 256,
+    256, 256, 256, 256, 256, 256, 256, 256, 256, 256, 256, 256, 256, 256, 256, 256, 256, 256, 256,
+    256, 256, 256, 256, 256, 256, 256, 256, 256, 256, 256, 256, 256, 256, 256, 256, 256, 256, 256,
+    256, 256, 256,
+];
+
+/// The number that a hex digit of either case says, and 256 for another byte.
+fn digit_value(digit: u8) -> u16
+    ensures { MatchOption (hex_digit_value digit) (result ≡ 256) (λ number. (result ≡ number) × (number < 16)) }
 {
-    match digit {
-        b'A'..=b'F' => digit - b'A' + 10,
-        b'a'..=b'f' => digit - b'a' + 10,
-        b'0'..=b'9' => digit - b'0',
-        _ => 16,
-    }
+    NUMBERS[digit as usize]
 }
 
 /// Puts the bytes that pairs of hex digits say in place of what stands there. `false` where one isn't a digit.
@@ -25,15 +38,16 @@ fn put_bytes(digits: &[u8], bytes: &mut [u8]) -> bool
     requires { length digits.now ≡ 2 * length bytes.old }
     ensures { result_ok (decode_pairs 0 digits.now) ≡ (if result then Some bytes.new else None) }
 {
-    let mut valid = true;
+    // A pair with a byte that is no digit comes to 256 or more. There is no branch and no early end, which would cost more.
+    let mut all = 0u16;
     for i in 0..bytes.len() {
         let high = digit_value(digits[2 * i]);
         let low = digit_value(digits[2 * i + 1]);
-        // No branch and no early end, so that the compiler makes vector code of the loop.
-        valid = valid & (high < 16) & (low < 16);
-        bytes[i] = high % 16 * 16 + low % 16;
+        let pair = high * 16 + low;
+        all = all | pair;
+        bytes[i] = (pair % 256) as u8;
     }
-    valid
+    all < 256
 }
 
 /// The bytes that pairs of hex digits say. An `Err` is out of memory.

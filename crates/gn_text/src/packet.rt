@@ -1,13 +1,36 @@
 //! Descriptors in hex, and the packets that a reply sends.
 #![tactic(auto, using(crate::proofs::KeptLemmas::kept))]
 
-ghost use Rattle.std.specs.Prelude.{◌≡◌, ◌+◌, ◌-◌, ◌≤◌, ◌++◌, codes, decimal, length, slice_range, take, IfSome, OnOk, OnErr};
+ghost use Rattle.std.specs.Prelude.{◌≡◌, ◌+◌, ◌-◌, ◌≤◌, ◌++◌, ◌∷◌, [], codes, decimal, length, slice_range, take, IfSome, OnOk, OnErr};
+ghost use Rattle.hex.specs.Hex.{encode_lower};
 ghost use Rattle.gn_text.specs.Steps.{mark_text, packet_text, sends_text};
 
-use crate::push::{push_hex_of_both, push_named};
+use crate::push::{push_hex, push_hex_of_both, push_named};
 use gn_rules::Sending;
-use gn_wire::{Descriptor, whole_or_none, write_header};
+use gn_wire::{Descriptor, HEADER_BYTES, whole_or_none, write_header};
 use std::alloc::{AllocError, Allocator};
+
+/// A header and the byte after it: their digits are put eight bytes at a time, and no byte is left over.
+fn with_byte(header: &[u8; HEADER_BYTES], byte: u8) -> [u8; 24]
+    ensures { result ≡ header.now ++ byte ∷ [] }
+{
+    let mut both = [byte; 24];
+    both[..HEADER_BYTES].copy_from_slice(header);
+    both
+}
+
+/// Appends a header in hex digits. An `Err` is out of memory, and changes nothing.
+fn push_header<B: Allocator>(
+    out: &mut Vec<u8, B>,
+    header: &[u8; HEADER_BYTES],
+) -> Result<(), AllocError>
+    ensures ok { OnOk result (out.new.items ≡ out.old.items ++ encode_lower header.now) }
+    ensures err { OnErr result (out.new.items ≡ out.old.items) }
+{
+    push_hex(out, &with_byte(header, 0))?;
+    out.truncate(out.len() - 2);
+    Ok(())
+}
 
 /// Appends a descriptor's header and then its payload, in hex digits. An `Err` is out of memory, and changes nothing.
 pub(crate) fn push_packet<A: Allocator, B: Allocator>(
@@ -17,11 +40,11 @@ pub(crate) fn push_packet<A: Allocator, B: Allocator>(
     ensures ok { OnOk result (out.new.items ≡ out.old.items ++ packet_text packet.now) }
     ensures err { OnErr result (out.new.items ≡ out.old.items) }
 {
-    push_hex_of_both(
-        out,
-        &write_header(&packet.header()),
-        packet.payload().as_slice(),
-    )
+    let header = write_header(&packet.header());
+    match packet.payload().as_slice() {
+        [] => push_header(out, &header),
+        [first, rest @ ..] => push_hex_of_both(out, &with_byte(&header, *first), rest),
+    }
 }
 
 /// Puts what stands at a place, from the first index up to the second, in place of what stands from `start` on.

@@ -54,8 +54,8 @@ fn fault_over<A: Allocator + Copy + Send + Sync, R: Threads + Wait + Sync>(
     Ok(run_of(rt, poor, &config, links, 1, gate).err())
 }
 
-/// The plain link connects before its first read, and makes the only step. The greeted one, whose first read comes no sooner, is
-/// the first of the two to be joined, and alone finds the history full.
+/// The plain link connects before its first read, and makes the only step. The reader of the greeted one, whose first read comes
+/// no sooner, finds the history full, and there is no memory for what the writers give back.
 #[test]
 fn a_full_history_is_named_without_memory(rt: HostRuntime) -> Result<(), Fail> {
     let meeting = Meeting::new();

@@ -9,6 +9,8 @@ mod failing;
 #[cfg(test)]
 mod full;
 #[cfg(test)]
+mod given_up;
+#[cfg(test)]
 mod hub;
 #[cfg(test)]
 mod in_step;

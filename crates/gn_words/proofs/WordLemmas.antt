@@ -44,6 +44,7 @@ plain_words = record {
   explain = λ program. refl;
   show = λ program. refl;
   json = λ program. refl;
+  csv = λ program. refl;
   stats = λ program. refl;
   both = λ program. refl;
   load = λ program. refl;

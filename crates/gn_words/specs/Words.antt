@@ -8,9 +8,9 @@ use Rattle.clap.specs.declared.error.kind.ErrorKind.TheVariants.{DisplayHelp, In
 use Rattle.gn_words.specs.Options.{is_set, peer_of, peers_in, serving_of, workers_of}
 use Rattle.gn_words.specs.declared.request.Request.{Request}
 use Rattle.gn_words.specs.declared.request.Request.TheVariants.{Replay, History, Audit, Explain, Show, Load, Watched, Serve}
-use Rattle.gn_show.specs.declared.form.Form.TheVariants.{Plain, Json}
+use Rattle.gn_show.specs.declared.form.Form.TheVariants.{Json, Plain, Rows}
 use Rattle.gn_show.specs.declared.form.View.{View}
-use Rattle.gn_show.specs.declared.form.View.TheVariants.{Steps, Stats}
+use Rattle.gn_show.specs.declared.form.View.TheVariants.{Stats, Steps}
 
 -- the flag `--NAME`, which is set where it stands
 abbrev pub flag_rule : Text → Rule
@@ -24,9 +24,11 @@ replay_app = with_rule (new_app (codes "replay")) (flag_rule (codes "history"))
 abbrev pub audit_app : App
 audit_app = with_rule (new_app (codes "audit")) (flag_rule (codes "explain"))
 
--- the subcommand `show`: it takes the flags `--json` and `--stats`
+-- the subcommand `show`: it takes the flags `--csv`, `--json` and `--stats`
 abbrev pub show_app : App
-show_app = with_rule (with_rule (new_app (codes "show")) (flag_rule (codes "json"))) (flag_rule (codes "stats"))
+show_app =
+    with_rule (with_rule (with_rule (new_app (codes "show")) (flag_rule (codes "csv"))) (flag_rule (codes "json")))
+    (flag_rule (codes "stats"))
 
 -- the option `--NAME VALUE`, which has to be given
 abbrev pub value_rule : Text → Rule
@@ -107,16 +109,19 @@ texts_app = with_subcommand (with_subcommand (with_subcommand bare_app replay_ap
 abbrev pub gn_app : App
 gn_app = with_subcommand (with_subcommand texts_app load_app.top) serve_app.top
 
--- what of a history is shown; nothing, where both flags are set
-abbrev pub view_by : Bool → Bool → Option View
-view_by false false = Some (Steps Plain)
-view_by true false = Some (Steps Json)
-view_by false true = Some Stats
-view_by true true = None
+-- what of a history is shown; nothing, where several flags are set
+abbrev pub view_by : Bool → Bool → Bool → Option View
+view_by false false false = Some (Steps Plain)
+view_by true false false = Some (Steps Rows)
+view_by false true false = Some (Steps Json)
+view_by false false true = Some Stats
+view_by false true true = None
+view_by true true stats = None
+view_by true false true = None
 
--- what of a history is shown, by the flags `--json` and `--stats`
+-- what of a history is shown, by the flags `--csv`, `--json` and `--stats`
 abbrev pub view_of : List Row → Option View
-view_of rows = view_by (is_set (codes "json") rows) (is_set (codes "stats") rows)
+view_of rows = view_by (is_set (codes "csv") rows) (is_set (codes "json") rows) (is_set (codes "stats") rows)
 
 -- a load with so many workers, by the flag `--progress`
 abbrev pub load_by : Bool → ℕ → Request
@@ -176,6 +181,7 @@ pub record PlainWordsAreRead : Type 0 where
   pub explain : (program : Text) → request_of (program ∷ codes "audit" ∷ codes "--explain" ∷ []) ≡ Some Explain
   pub show : (program : Text) → request_of (program ∷ codes "show" ∷ []) ≡ Some (Show (Steps Plain))
   pub json : (program : Text) → request_of (program ∷ codes "show" ∷ codes "--json" ∷ []) ≡ Some (Show (Steps Json))
+  pub csv : (program : Text) → request_of (program ∷ codes "show" ∷ codes "--csv" ∷ []) ≡ Some (Show (Steps Rows))
   pub stats : (program : Text) → request_of (program ∷ codes "show" ∷ codes "--stats" ∷ []) ≡ Some (Show Stats)
   pub both : (program : Text)
       → kinds_of (program ∷ codes "show" ∷ codes "--json" ∷ codes "--stats" ∷ []) ≡ ValueValidation ∷ []

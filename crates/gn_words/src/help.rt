@@ -81,9 +81,12 @@ prints
 pub(crate) const SHOW: &str = "Reads a history, and prints each step in plain words or as JSON";
 
 pub(crate) const SHOW_USAGE: &str =
-    "gn show [--json | --stats] < HISTORY   (the history is read from standard input)";
+    "gn show [--json | --csv | --stats] < HISTORY   (the history is read from standard input)";
 
 pub(crate) const JSON: &str = "Prints each step as a JSON object on a line of its own";
+
+pub(crate) const CSV: &str =
+    "Prints a row of comma-separated fields for each packet, under the columns' names";
 
 pub(crate) const STATS: &str = "Prints the line of the counters, as `stats` in a capture does";
 
@@ -106,7 +109,7 @@ pub(crate) const LOAD_USAGE: &str =
 pub(crate) const WORKERS: &str = "How many threads route what was admitted, 1 to 64";
 
 pub(crate) const PROGRESS: &str =
-    "Says on standard error once a second how many descriptors are routed and admitted";
+    "Says on standard error once a second how many are routed and how many admitted";
 
 pub(crate) const LOAD_TEXTS: &str = "\
 Standard input is a capture of `join`, `open` and `data LINK HEX` lines alone. Each link is read by
@@ -182,7 +185,8 @@ that is let go to take it, 0 to 3600";
 
 pub(crate) const STEPS: &str = "\
 The most steps of the history, 1 to 1000000; a run that needs more ends
-with `fault: history full`";
+with `fault: history full`. With 64 neighbours 300000 of small packets
+are within the 64 MiB that an audit reads";
 
 pub(crate) const EARLY: &str = "\
 Stops the router as --for does once nine tenths of its most steps are

@@ -25,17 +25,25 @@ pub(crate) fn show_command<'a>(alloc: Global) -> Result<Command<'a>, AllocError>
         help::SHOW_TEXTS,
     );
     let json = flag(alloc, "json", help::JSON);
+    let command = command.arg(flag(alloc, "csv", help::CSV))?;
     with_both(command, json, flag(alloc, "stats", help::STATS))
 }
 
-/// What of a history is shown; a mistake, where both flags are given.
+/// What of a history is shown; a mistake, where several flags are given.
 pub(crate) fn view_of(options: &ArgMatches<'_>) -> Result<View, Unread>
     ensures { IsReadAs (λ v. v) (view_of (rows_of (found_of options.now))) result }
 {
-    match (is_set(options, "json"), is_set(options, "stats")) {
-        (false, false) => Ok(View::Steps(Form::Plain)),
-        (true, false) => Ok(View::Steps(Form::Json)),
-        (false, true) => Ok(View::Stats),
-        (true, true) => Err(Unread::Mistake("--json and --stats aren't taken together")),
+    let asked = (
+        is_set(options, "csv"),
+        is_set(options, "json"),
+        is_set(options, "stats"),
+    );
+    match asked {
+        (false, false, false) => Ok(View::Steps(Form::Plain)),
+        (true, false, false) => Ok(View::Steps(Form::Rows)),
+        (false, true, false) => Ok(View::Steps(Form::Json)),
+        (false, false, true) => Ok(View::Stats),
+        (false, true, true) => Err(Unread::Mistake("--json and --stats aren't taken together")),
+        (true, _, _) => Err(Unread::Mistake("--csv is taken without --json and --stats")),
     }
 }

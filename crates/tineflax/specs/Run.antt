@@ -7,4 +7,5 @@ pub use Rattle.gn_report.specs.Survey
 pub use Rattle.gn_threads.specs.Faults
 pub use Rattle.gn_threads.specs.Headline
 pub use Rattle.gn_service.specs.Links
+pub use Rattle.gn_service.specs.Ran
 pub use Rattle.gn_service.specs.Stopping

@@ -61,9 +61,9 @@ pub mod laws {
 
 /// The router with tables, with what becomes of its steps; the one that searches its history; and whether a history is legal.
 pub mod router {
-    pub use gn_router::{Forgetful, Keeper, Router, Store, Unfreed, Whole};
+    pub use gn_router::{Router, Store, Unfreed};
     pub use gn_search::{PlainRouter, legal};
-    pub use gn_tables::TableRouter;
+    pub use gn_tables::{Forgetful, Keeper, TableRouter, Whole};
 }
 
 /// The tables of a router.
@@ -91,8 +91,8 @@ pub mod links {
         MemoryWriter, NoGate, SplitFault, SplitLink, SplitLinks, split_all,
     };
     pub use gn_tcp::{
-        Brake, Call, ListenerStopper, Socket, TcpCall, TcpLink, TcpOrigin, TcpReader, TcpStopper,
-        TcpWriter, Unmet, listen,
+        Brake, Call, ListenerStopper, Socket, Sockets, TcpCall, TcpLink, TcpOrigin, TcpReader,
+        TcpStopper, TcpWriter, Unmet, listen,
     };
 }
 
@@ -107,7 +107,7 @@ pub mod bodies {
 /// Runs of many threads, and their reports.
 pub mod run {
     pub use gn_report::{LinkReport, Report};
-    pub use gn_service::{Serving, Stop, serve_kept, serve_on};
+    pub use gn_service::{Ran, Serving, Stop, serve_kept, serve_on};
     pub use gn_threads::{Arrivals, RunFault, Stopped, run, run_arriving, run_arriving_kept};
 }
 
@@ -150,5 +150,5 @@ pub mod load {
 
 /// A whole command line of `gn`.
 pub mod program {
-    pub use gn_program::{Fault, command, command_with};
+    pub use gn_program::{Ended, Fault, Head, Kept, command, command_with};
 }

@@ -40,6 +40,8 @@ pub(crate) enum Peer {
     NeverReads,
     /// The same, but the other stops the run.
     Deaf,
+    /// Reads nothing until another has stopped the run, and then all that was for it.
+    ReadsLate,
     /// Is let in, finds that nobody else may call, and leaves.
     Last,
 }
@@ -52,7 +54,7 @@ impl Peer {
 
     /// Whether its run is over soon after it. One that was flooded with large packets compares megabytes first.
     pub(crate) fn is_brief(self) -> bool {
-        !matches!(self, Peer::NeverReads | Peer::Deaf)
+        !matches!(self, Peer::NeverReads | Peer::Deaf | Peer::ReadsLate)
     }
 }
 
@@ -374,6 +376,29 @@ fn never_reads<N: Clock>(
 /// How many large Queries are sent to a peer that reads nothing, so that its sockets are full.
 const MANY: u16 = 150;
 
+/// Reads all that comes, to the end.
+fn read_out(client: &mut TcpStream) -> io::Result<()> {
+    let mut room = [0u8; 4096];
+    for _ in 0..u64::MAX {
+        if client.read(&mut room)? == 0 {
+            break;
+        }
+    }
+    Ok(())
+}
+
+/// One client reads nothing until the other has sent more than fills its sockets, and has stopped the run.
+fn read_late<N: Clock>(
+    clock: &N,
+    late: &mut TcpStream,
+    flooder: &mut TcpStream,
+    serving: &Serving<'_>,
+) -> io::Result<bool> {
+    let is_good = is_flooded(clock, flooder, serving)?;
+    read_out(late)?;
+    Ok(is_good)
+}
+
 /// Sends more than fills the sockets of another, stops the run, and hears the end.
 fn is_flooded<N: Clock>(
     clock: &N,
@@ -411,6 +436,7 @@ fn play_two<N: Clock>(
         Peer::Two => two(first, second),
         Peer::Turns => in_turn(first, second),
         Peer::Deaf => is_flooded(clock, second, serving),
+        Peer::ReadsLate => read_late(clock, first, second, serving),
         _ => never_reads(clock, first, second),
     }
 }

@@ -1,29 +1,29 @@
-use Rattle.std.proofs.Common.{◌≡◌, ◌∙◌, Bool, ap, refl, length, subst, sym, Ok}
+use Rattle.std.proofs.Common.{◌≡◌, ◌∙◌, Bool, ap, refl, length, subst, sym, Ok, Err}
 use Rattle.std.specs.declared.alloc.Global.{Global}
 use Rattle.gn_load.specs.Served.{AppendsServedPart, HasServeStopped}
 use Rattle.gn_program.specs.Peers.{AreAt}
 use Rattle.gn_threads.specs.declared.fault.RunFault.TheVariants.{Listen, NoMemory}
 use Rattle.gn_program.specs.Commands.{IsServing}
 use Rattle.gn_words.specs.ServeOptions.{AskedServe}
-use Rattle.gn_program.proofs.ServeLemmas.{answered, failed, unserved}
+use Rattle.gn_program.proofs.ServeLemmas.{answered, asked, failed, unserved}
 use Rattle.gn_program.proofs.serves.serve.Goals as goal
 
 pub returns-in_err-peers : goal.returns-in_err-peers
 returns-in_err-peers g c =
-    unserved c.args.serving.now c.settings-config.result (g.W.Sink.state c.args.writer.now) c.from_residual.result NoMemory c.settings-config.ensures
+    unserved c.args.serving.now c.settings-config.result c.args.remembered.now (g.W.Sink.state c.args.writer.now) c.from_residual.result NoMemory c.settings-config.ensures
     c.from_residual.ensures.1 tt
 
 pub returns-in_err-stop : goal.returns-in_err-stop
 returns-in_err-stop g c =
-    unserved c.args.serving.now c.settings-config.result (g.W.Sink.state c.args.writer.now) c.from_residual-in_err-stop.result NoMemory c.settings-config.ensures
+    unserved c.args.serving.now c.settings-config.result c.args.remembered.now (g.W.Sink.state c.args.writer.now) c.from_residual-in_err-stop.result NoMemory c.settings-config.ensures
     c.from_residual-in_err-stop.ensures.1 tt
 
 pub returns-in_default : goal.returns-in_default
-returns-in_default g c = unserved c.args.serving.now c.settings-config.result (g.W.Sink.state c.args.writer.now) _ Listen c.settings-config.ensures refl refl
+returns-in_default g c = unserved c.args.serving.now c.settings-config.result c.args.remembered.now (g.W.Sink.state c.args.writer.now) _ Listen c.settings-config.ensures refl refl
 
-pub returns-in_err-report : goal.returns-in_err-report
-returns-in_err-report g c =
-    let ran = c.in_err-report.ensures in
+pub returns : goal.returns
+returns g c =
+    let ran = c.in-Err.ensures in
     let inside = c.serving.inside in
     let many : length c.deref-3.result.now ≡ length inside.peers.items =
     ap (λ xs. length xs) c.deref-3.ensures.value ∙ c.in_ok-peers.ensures.many ∙ ap (λ xs. length xs) c.deref.ensures.value in
@@ -31,8 +31,8 @@ returns-in_err-report g c =
     subst (λ peers. AreAt peers c.deref-3.result.now) c.deref.ensures.value (subst (λ called. AreAt c.deref.result.now called) (sym c.deref-3.ensures.value) c.in_ok-peers.ensures.each) in
     let kept : c.limits-limits.result.is_kept ≡ inside.keeps = c.limits-limits.ensures.kept ∙ ap (λ (s : AskedServe). s.keeps) (sym c.serving.view_is) in
     let stopped =
-    subst (λ (keeps : Bool). HasServeStopped Global (AppendsServedPart Global c.settings-config.result c.deref-3.result.now inside.accept inside.workers) keeps c.settings-config.result c.in_err-report.field-0.0
-    (g.W.Sink.state c.args.writer.now).written (g.W.Sink.state c.serve_history.new.sink).written) kept ran.stopped
+    subst (λ (keeps : Bool). HasServeStopped Global (AppendsServedPart Global c.settings-config.result c.deref-3.result.now inside.accept inside.workers c.in-Err.field-0.ran) keeps c.settings-config.result c.in-Err.field-0.fault
+    (g.W.Sink.state c.args.writer.now).written (g.W.Sink.state c.serve_history_kept-answer.new.sink).written) kept ran.stopped
     in
     rw (← c.serving.view_is) (failed (record {
       port = inside.port;
@@ -52,19 +52,19 @@ returns-in_err-report g c =
       keeps = inside.keeps;
       report = inside.report;
       progress = inside.progress;
-    }) c.settings-config.result c.deref-3.result.now (g.W.Sink.state c.args.writer.now) (g.W.Sink.state c.serve_history.new.sink) c.from_residual-in_err-report.result
-    c.in_err-report.field-0.0 (subst (λ s. IsServing s c.settings-config.result) (sym c.serving.view_is) c.settings-config.ensures) at many c.serving.invariant.0
-    c.from_residual-in_err-report.ensures.1 stopped ran.fault)
+    }) c.settings-config.result c.deref-3.result.now c.in-Err.field-0.ran (g.W.Sink.state c.args.writer.now) (g.W.Sink.state c.serve_history_kept-answer.new.sink) (Err c.in-Err.field-0.fault)
+    c.in-Err.field-0.fault (subst (λ s. IsServing s c.settings-config.result) (sym c.serving.view_is) c.settings-config.ensures) at many c.serving.invariant.0
+    refl stopped ran.fault)
 
-pub returns : goal.returns
-returns g c =
-    let ran = c.in_ok-report.ensures in
+pub returns-in-Ok-answer : goal.returns-in-Ok-answer
+returns-in-Ok-answer g c =
+    let ran = c.in-Ok-answer.ensures in
     let inside = c.serving.inside in
     let many : length c.deref-3.result.now ≡ length inside.peers.items =
     ap (λ xs. length xs) c.deref-3.ensures.value ∙ c.in_ok-peers.ensures.many ∙ ap (λ xs. length xs) c.deref.ensures.value in
     let at : AreAt inside.peers.items c.deref-3.result.now =
     subst (λ peers. AreAt peers c.deref-3.result.now) c.deref.ensures.value (subst (λ called. AreAt c.deref.result.now called) (sym c.deref-3.ensures.value) c.in_ok-peers.ensures.each) in
-    rw (← c.serving.view_is) (answered (record {
+    let served : AskedServe = record {
       port = inside.port;
       accept = inside.accept;
       workers = inside.workers;
@@ -82,5 +82,6 @@ returns g c =
       keeps = inside.keeps;
       report = inside.report;
       progress = inside.progress;
-    }) c.settings-config.result c.deref-3.result.now (g.W.Sink.state c.args.writer.now) (g.W.Sink.state c.serve_history.new.sink) (Ok tt)
-    (subst (λ s. IsServing s c.settings-config.result) (sym c.serving.view_is) c.settings-config.ensures) at many c.serving.invariant.0 ran.unfailed ran.written tt tt)
+    } in
+    rw (← c.serving.view_is) (answered served c.settings-config.result c.deref-3.result.now _ (g.W.Sink.state c.args.writer.now) (g.W.Sink.state c.serve_history_kept-answer.new.sink) (Ok tt)
+    (subst (λ s. IsServing s c.settings-config.result) (sym c.serving.view_is) c.settings-config.ensures) at many c.serving.invariant.0 ran.unfailed (asked served c.settings-config.result c.deref-3.result.now _ (g.W.Sink.state c.args.writer.now).written (g.W.Sink.state c.serve_history_kept-answer.new.sink).written at ran.written) tt tt)

@@ -4,11 +4,11 @@ use Rattle.gn_io.specs.Streams.{NoWriteFailed}
 use Rattle.gn_show.proofs.LinesLemmas.{IsShowing}
 use Rattle.gn_show.proofs.steps.write_steps.Given as goal
 
-abbrev pub invariant-loop-block : goal.invariant-loop-block
-invariant-loop-block g l = record {
-  showing : IsShowing l.form (g.W.Sink.state l.fn.sink).written (g.W.Sink.state l.sink).written l.block l.index l.steps (steps_left l.fn.steps);
+abbrev pub invariant-loop-flight : goal.invariant-loop-flight
+invariant-loop-flight g l = record {
+  showing : IsShowing l.form (g.W.Sink.state l.fn.sink).written (g.W.Sink.state l.sink).written l.block l.flight l.index l.steps (steps_left l.fn.steps);
   writes : NoWriteFailed (g.W.Sink.state l.fn.sink) (g.W.Sink.state l.sink);
 }
 
-abbrev pub decreases-loop-block : goal.decreases-loop-block
-decreases-loop-block g l = length l.steps.lines
+abbrev pub decreases-loop-flight : goal.decreases-loop-flight
+decreases-loop-flight g l = length l.steps.lines

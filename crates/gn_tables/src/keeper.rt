@@ -3,9 +3,8 @@
 ghost use Rattle.std.specs.Prelude.{◌≡◌, ◌<◌, ◌∷◌, ◌++◌, ◌^◌, [], List, length, OnOk};
 ghost use Rattle.gn_rules.specs.declared.receipt.Step.{Step};
 
-use gn_rules::{Event, Reply, Step};
+use gn_rules::{Event, Reply};
 use std::alloc::{AllocError, Allocator};
-use std::mem;
 
 /// What the steps of a router are given to, one after another. It may keep them, write them, or only count them.
 pub trait Keeper<A: Allocator> {
@@ -30,15 +29,4 @@ pub trait Keeper<A: Allocator> {
     fn count(&self) -> u32
         requires { length (kept self.now) < 2 ^ 32 }
         ensures { result ≡ length (kept self.now) };
-}
-
-/// The step of this event and this reply, which are taken out of their places; others are left there.
-pub fn step_of<A: Allocator>(actor: u32, event: &mut Event<A>, reply: &mut Reply<A>) -> Step<A>
-    ensures { result ≡ record { actor = actor; event = event.old; reply = reply.old } }
-{
-    Step {
-        actor,
-        event: mem::replace(event, Event::Connect),
-        reply: mem::replace(reply, Reply::TooMany),
-    }
 }

@@ -2,7 +2,8 @@
 
 ghost use Rattle.std.specs.Prelude.{◌≡◌, []};
 
-use crate::keeper::{Keeper, step_of};
+use crate::keeper::Keeper;
+use gn_router::step_of;
 use gn_rules::{Event, Reply, Step};
 use std::alloc::{AllocError, Allocator, Global};
 

@@ -1,0 +1,49 @@
+//! What a run over TCP did, remembered once its report has gone.
+
+ghost use Rattle.std.specs.Prelude.{◌≡◌};
+ghost use Rattle.gn_service.specs.Ran.{ran_of, sockets_of};
+
+use gn_report::{LinkReport, Report};
+use gn_rules::Step;
+use gn_tcp::{Sockets, TcpReader, TcpWriter};
+use std::alloc::{Allocator, Global};
+use std::marker::Model;
+use std::snapshot::Snapshot;
+
+/// What a run over TCP did, which only contracts see: its history, and what the sockets of its links gave and took. It keeps none of
+/// that. A run that has a report makes it, and nobody else does.
+#[derive(Drop)]
+pub struct Ran<A: Allocator = Global> {
+    history: Snapshot<Vec<Step<A>, A>>,
+    sockets: Sockets,
+}
+
+impl<A: Allocator> Model for Ran<A> {
+    ghost use Rattle.gn_service.specs.Ran.{Remembered};
+
+    ghost Value = { Remembered A };
+
+    ghost view = { λ r. record { steps = r.history.value.items; sockets = r.sockets } };
+}
+
+/// The sockets of these links.
+fn sockets_of<A: Allocator>(links: &[LinkReport<TcpReader<'_>, TcpWriter, A>]) -> Sockets
+    ensures { result ≡ sockets_of links.now }
+{
+    let mut sockets = Sockets::new();
+    for link in links {
+        sockets.push(&link.reader, &link.writer);
+    }
+    sockets
+}
+
+impl<A: Allocator> Ran<A> {
+    /// Of the run with this report.
+    pub(crate) fn of(report: &Report<TcpReader<'_>, TcpWriter, A>) -> Self
+        ensures { result ≡ ran_of report.now }
+    {
+        let sockets = sockets_of(&report.links);
+        let history = Snapshot::of(&report.history);
+        Ran { history, sockets }
+    }
+}

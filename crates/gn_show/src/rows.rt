@@ -1,0 +1,391 @@
+//! The rows of a step: one for each packet that it admits, refuses, sends, drops or takes.
+#![tactic(auto, using(std::proofs::Common::append_assoc))]
+
+ghost use Rattle.std.specs.Prelude.{◌≡◌, ◌++◌, ◌∷◌, if◌then◌else◌, List, [], Some, length, map, IfOk, OnOk, option_map};
+ghost use Rattle.std.specs.List.{flat_map};
+ghost use Rattle.std.specs.declared.alloc.Global.{Global};
+ghost use Rattle.csv.specs.Writing.{default_writer, row_text};
+ghost use Rattle.hex.specs.Hex.{encode_lower};
+ghost use Rattle.gn_rules.specs.declared.receipt.Step.{Step};
+ghost use Rattle.gn_show.specs.Kept.{Follows, fields_seen, row_seen, seen};
+ghost use Rattle.gn_show.specs.Rows.{event_word, lines_of, number_field, origin_of, own_line, packet_fields, packet_of, queued_field, reply_word, row_line, send_line, step_lines, taken_row, taker};
+
+use crate::flight::{Flight, Subject};
+use crate::text::{name_of, reason_word};
+use csv::WriterBuilder;
+use gn_rules::{ConnId, Event, Reply, Sending, Step};
+use gn_text::{push_hex, push_number};
+use gn_wire::Descriptor;
+use std::alloc::{AllocError, Global};
+
+/// What a row says of a packet.
+#[derive(Drop)]
+pub(crate) struct Row<'a> {
+    from: Option<ConnId>,
+    to: Option<ConnId>,
+    packet: Option<&'a Descriptor>,
+    queued: Option<bool>,
+}
+
+/// What a row says of the packet itself.
+#[derive(Drop)]
+pub(crate) struct PacketFields {
+    kind: Vec<u8>,
+    id: Vec<u8>,
+    ttl: Vec<u8>,
+    hops: Vec<u8>,
+    length: Vec<u8>,
+}
+
+/// An event in a word.
+fn event_word(event: &Event) -> &'static str
+    ensures { result.now ≡ event_word event.now }
+{
+    match event {
+        Event::Connect => "connect",
+        Event::Close(_) => "close",
+        Event::Admit(_, _) => "admit",
+        Event::Route(_) => "route",
+        Event::Take(_) => "take",
+        Event::Originate(_) => "originate",
+    }
+}
+
+/// A reply in a word; of a drop the reason.
+fn reply_word(reply: &Reply) -> &'static str
+    ensures { result.now ≡ reply_word reply.now }
+{
+    match reply {
+        Reply::Connected(_) => "connected",
+        Reply::TooMany => "toomany",
+        Reply::Closed(_) => "closed",
+        Reply::Admitted(_) => "admitted",
+        Reply::Busy => "busy",
+        Reply::Crowded => "crowded",
+        Reply::Routed { .. } => "routed",
+        Reply::Dropped(reason) => reason_word(*reason),
+        Reply::Taken(_) => "taken",
+        Reply::Sent(_) => "sent",
+    }
+}
+
+/// A number in decimal digits, where there is one.
+fn number_field(alloc: Global, number: Option<u32>) -> Result<Vec<u8>, AllocError>
+    ensures { IfOk result (λ field. field.items ≡ number_field number) }
+{
+    let mut field = Vec::new(alloc);
+    match number {
+        Some(number) => {
+            push_number(&mut field, number)?;
+            Ok(field)
+        }
+        None => Ok(field),
+    }
+}
+
+/// The bytes of a word.
+fn word_field(alloc: Global, word: &[u8]) -> Result<Vec<u8>, AllocError>
+    ensures { IfOk result (λ field. field.items ≡ word.now) }
+{
+    let mut field = Vec::new(alloc);
+    field.extend_from_slice(word)?;
+    Ok(field)
+}
+
+/// Bytes in hex digits.
+fn hex_field(alloc: Global, bytes: &[u8]) -> Result<Vec<u8>, AllocError>
+    ensures { IfOk result (λ field. field.items ≡ encode_lower bytes.now) }
+{
+    let mut field = Vec::new(alloc);
+    push_hex(&mut field, bytes)?;
+    Ok(field)
+}
+
+/// Whether a packet was queued, where it was sent.
+fn queued_field(queued: Option<bool>) -> &'static [u8]
+    ensures { result.now ≡ queued_field queued }
+{
+    match queued {
+        None => b"",
+        Some(true) => b"1",
+        Some(false) => b"0",
+    }
+}
+
+/// The length of a payload, which is at most 65,536.
+fn payload_length(packet: &Descriptor) -> u32
+    ensures { result ≡ length packet.now.payload }
+{
+    packet.payload().len() as u32
+}
+
+/// What a row says of a packet.
+fn known_fields(alloc: Global, packet: &Descriptor) -> Result<PacketFields, AllocError>
+    ensures { IfOk result (λ fields. fields_seen fields ≡ packet_fields (Some packet.now)) }
+{
+    let kind = word_field(alloc, name_of(packet.kind()).as_bytes())?;
+    let id = hex_field(alloc, &packet.id().0)?;
+    let ttl = number_field(alloc, Some(u32::from(packet.ttl())))?;
+    let hops = number_field(alloc, Some(u32::from(packet.hops())))?;
+    let length = number_field(alloc, Some(payload_length(packet)))?;
+    Ok(PacketFields {
+        kind,
+        id,
+        ttl,
+        hops,
+        length,
+    })
+}
+
+/// What a row says of a packet, where it is known.
+fn fields_of(alloc: Global, packet: Option<&Descriptor>) -> Result<PacketFields, AllocError>
+    ensures { IfOk result (λ fields. fields_seen fields ≡ packet_fields (option_map (λ d. d.now) packet.entry)) }
+{
+    match packet {
+        Some(packet) => known_fields(alloc, packet),
+        None => Ok(PacketFields {
+            kind: Vec::new(alloc),
+            id: Vec::new(alloc),
+            ttl: Vec::new(alloc),
+            hops: Vec::new(alloc),
+            length: Vec::new(alloc),
+        }),
+    }
+}
+
+/// The line of some fields.
+fn line_of(alloc: Global, fields: &[&[u8]]) -> Result<Vec<u8>, AllocError>
+    ensures { IfOk result (λ line. line.items ≡ row_text default_writer (map (λ f. f.now) fields.now)) }
+{
+    let mut writer = WriterBuilder::new().from_writer(Vec::new(alloc));
+    if writer.write_fields(fields).is_err() {
+        return Err(AllocError);
+    }
+    match writer.into_inner() {
+        Ok(line) => Ok(line),
+        Err(_) => Err(AllocError),
+    }
+}
+
+/// The line of a row.
+fn row_line(alloc: Global, index: u32, step: &Step, row: &Row<'_>) -> Result<Vec<u8>, AllocError>
+    ensures { IfOk result (λ line. line.items ≡ row_line index step.now (row_seen row.now)) }
+{
+    let index = number_field(alloc, Some(index))?;
+    let time = Vec::new(alloc);
+    let actor = number_field(alloc, Some(step.actor))?;
+    let event = word_field(alloc, event_word(&step.event).as_bytes())?;
+    let reply = word_field(alloc, reply_word(&step.reply).as_bytes())?;
+    let from = number_field(alloc, row.from)?;
+    let to = number_field(alloc, row.to)?;
+    let packet = fields_of(alloc, row.packet)?;
+    let queued = word_field(alloc, queued_field(row.queued))?;
+    line_of(
+        alloc,
+        &[
+            index.as_slice(),
+            time.as_slice(),
+            actor.as_slice(),
+            event.as_slice(),
+            reply.as_slice(),
+            from.as_slice(),
+            to.as_slice(),
+            packet.kind.as_slice(),
+            packet.id.as_slice(),
+            packet.ttl.as_slice(),
+            packet.hops.as_slice(),
+            packet.length.as_slice(),
+            queued.as_slice(),
+        ],
+    )
+}
+
+/// Appends the line of a row.
+fn push_row(
+    alloc: Global,
+    out: &mut Vec<u8>,
+    index: u32,
+    step: &Step,
+    row: &Row<'_>,
+) -> Result<(), AllocError>
+    ensures { OnOk result (out.new.items ≡ out.old.items ++ row_line index step.now (row_seen row.now)) }
+{
+    let line = row_line(alloc, index, step, row)?;
+    out.extend_from_slice(&line)
+}
+
+/// Which connection brought a packet.
+fn origin_of(subject: Option<Subject<'_>>) -> Option<ConnId>
+    ensures { result ≡ origin_of (seen subject.entry) }
+{
+    match subject {
+        Some(subject) => Some(subject.origin),
+        None => None,
+    }
+}
+
+/// The packet that an event speaks of.
+fn packet_of<'a>(subject: Option<Subject<'a>>) -> Option<&'a Descriptor>
+    ensures { option_map (λ d. d.now) result ≡ packet_of (seen subject.entry) }
+{
+    match subject {
+        Some(subject) => Some(subject.packet),
+        None => None,
+    }
+}
+
+/// Whose output an event takes from.
+fn taker(event: &Event) -> Option<ConnId>
+    ensures { result ≡ taker event.now }
+{
+    match event {
+        Event::Take(c) => Some(*c),
+        _ => None,
+    }
+}
+
+/// Appends the line of the packet that a step's event speaks of.
+fn push_own(
+    alloc: Global,
+    out: &mut Vec<u8>,
+    index: u32,
+    step: &Step,
+    subject: Option<Subject<'_>>,
+    to: Option<ConnId>,
+) -> Result<(), AllocError>
+    ensures { OnOk result (out.new.items ≡ out.old.items ++ own_line (seen subject.entry) index step.now to) }
+{
+    let row = Row {
+        from: origin_of(subject),
+        to,
+        packet: packet_of(subject),
+        queued: None,
+    };
+    push_row(alloc, out, index, step, &row)
+}
+
+/// Appends the line of a send.
+fn push_send(
+    alloc: Global,
+    out: &mut Vec<u8>,
+    index: u32,
+    step: &Step,
+    subject: Option<Subject<'_>>,
+    sending: &Sending,
+) -> Result<(), AllocError>
+    ensures { OnOk result (out.new.items ≡ out.old.items ++ send_line (seen subject.entry) index step.now sending.now) }
+{
+    let row = Row {
+        from: origin_of(subject),
+        to: Some(sending.to),
+        packet: Some(&sending.packet),
+        queued: Some(sending.queued),
+    };
+    push_row(alloc, out, index, step, &row)
+}
+
+/// Appends a line for each send.
+fn push_sends(
+    alloc: Global,
+    out: &mut Vec<u8>,
+    index: u32,
+    step: &Step,
+    subject: Option<Subject<'_>>,
+    sends: &[Sending],
+) -> Result<(), AllocError>
+    ensures { OnOk result (out.new.items
+        ≡ out.old.items ++ flat_map (send_line (seen subject.entry) index step.now) sends.now) }
+{
+    for sending in sends {
+        push_send(alloc, out, index, step, subject, sending)?;
+    }
+    Ok(())
+}
+
+/// Appends the lines of a routing.
+fn push_routed(
+    alloc: Global,
+    out: &mut Vec<u8>,
+    index: u32,
+    step: &Step,
+    subject: Option<Subject<'_>>,
+    sends: &[Sending],
+    local: bool,
+) -> Result<(), AllocError>
+    ensures { OnOk result (out.new.items
+        ≡ out.old.items ++ flat_map (send_line (seen subject.entry) index step.now) sends.now
+        ++ (if local then own_line (seen subject.entry) index step.now (Some 0) else [])) }
+{
+    push_sends(alloc, out, index, step, subject, sends)?;
+    if !local {
+        return Ok(());
+    }
+    push_own(alloc, out, index, step, subject, Some(0))
+}
+
+/// Appends the line of what a step takes.
+fn push_taken(
+    alloc: Global,
+    out: &mut Vec<u8>,
+    index: u32,
+    step: &Step,
+    packet: &Descriptor,
+) -> Result<(), AllocError>
+    ensures { OnOk result (out.new.items
+        ≡ out.old.items ++ row_line index step.now (taken_row step.now.event packet.now)) }
+{
+    let row = Row {
+        from: None,
+        to: taker(&step.event),
+        packet: Some(packet),
+        queued: None,
+    };
+    push_row(alloc, out, index, step, &row)
+}
+
+/// Appends the lines of a step's rows, of which there may be none.
+#[tactic(auto, using(crate::proofs::RowLemmas::row_lines))]
+fn push_lines(
+    alloc: Global,
+    out: &mut Vec<u8>,
+    index: u32,
+    step: &Step,
+    subject: Option<Subject<'_>>,
+) -> Result<(), AllocError>
+    ensures { OnOk result (out.new.items ≡ out.old.items ++ lines_of (seen subject.entry) index step.now) }
+{
+    match &step.reply {
+        Reply::Admitted(_) | Reply::Busy | Reply::Crowded | Reply::Dropped(_) => {
+            push_own(alloc, out, index, step, subject, None)
+        }
+        Reply::Routed { sends, local } => push_routed(
+            alloc,
+            out,
+            index,
+            step,
+            subject,
+            sends.as_slice(),
+            *local,
+        ),
+        Reply::Sent(sends) => push_sends(alloc, out, index, step, subject, sends.as_slice()),
+        Reply::Taken(packet) => push_taken(alloc, out, index, step, packet),
+        Reply::Connected(_) | Reply::TooMany | Reply::Closed(_) => Ok(()),
+    }
+}
+
+/// The lines of the rows of a step, which comes next; what it leaves in flight is followed.
+pub(crate) fn next_lines(
+    alloc: Global,
+    flight: &mut Flight,
+    index: u32,
+    step: Step,
+) -> Result<Vec<u8>, AllocError>
+    ensures { IfOk result (λ lines. (past : List (Step Global)) → Follows flight.old past
+        → (lines.items ≡ step_lines past index step) × Follows flight.new (step ∷ past)) }
+{
+    let mut out = Vec::new(alloc);
+    let pushed = push_lines(alloc, &mut out, index, &step, flight.subject(&step.event));
+    pushed?;
+    flight.follow(step)?;
+    Ok(out)
+}

@@ -1,0 +1,7 @@
+pub mod HitLemmas
+pub mod LinkLemmas
+pub mod MomentLemmas
+pub mod PacketLemmas
+pub mod PairLemmas
+pub mod RememberedLemmas
+pub mod RouteLemmas
