@@ -17,7 +17,7 @@ help:
 	@echo 'make bench     proves and runs the benchmarks, those of the program gn among them'
 	@echo 'make bench_serve  what the proved program does over sockets, beside a relay in C; wants a C compiler'
 	@echo 'make performance  measures, and writes the tables of docs/PERFORMANCE.md anew'
-	@echo 'make statement  writes docs/STATEMENT.md from the source; with FOR=replay it prints what that function states'
+	@echo 'make statement  writes docs/STATEMENT.md and docs/LAWS.md; with FOR=replay it prints what that function states, FOR=laws the laws of paths'
 	@echo 'make definitions  prints each definition that contracts cite, beside its words'
 	@echo 'make pictures  draws docs/pictures from examples/, with the proved program; wants Graphviz and gnuplot'
 	@echo 'make clean     removes all that was built'
@@ -82,13 +82,16 @@ performance: build
 	scripts/build gn_bench
 	scripts/performance $(GN) crates/gn_bench/out/gn_bench
 
-# What `run` states, in the words of its definitions; with FOR=replay what that function states, with their formulas.
+# What `run` states, in the words of its definitions, and the laws of paths; with FOR=replay what that function states, with their
+# formulas, with FOR=laws the laws of paths.
 statement:
 ifdef FOR
 	@scripts/statement $(FOR)
 else
 	scripts/statement > docs/STATEMENT.md.new
 	mv docs/STATEMENT.md.new docs/STATEMENT.md
+	scripts/statement laws > docs/LAWS.md.new
+	mv docs/LAWS.md.new docs/LAWS.md
 endif
 
 # Each definition that contracts cite, beside the words that stand above it.
