@@ -11,10 +11,10 @@ if [ "$gn" = --copy ]; then
 	find crates/gn_examples/data -maxdepth 1 -type f -delete
 	find examples -maxdepth 1 -type f ! -name '*.pcap' -exec cp -t crates/gn_examples/data {} +
 	rm -f crates/gn_conformance/data/*
-	find examples/conformance -type f ! -name README.md ! -name longest.cases -exec cp -t crates/gn_conformance/data {} +
+	find examples/conformance -type f ! -name README.md -exec cp -t crates/gn_conformance/data {} +
 	exit
 fi
-if ! diff -r -x README.md -x longest.cases examples/conformance crates/gn_conformance/data >&2; then
+if ! diff -r -x README.md examples/conformance crates/gn_conformance/data >&2; then
 	echo 'examples/conformance and crates/gn_conformance/data differ: scripts/examples.sh --copy' >&2
 	failed=1
 fi
