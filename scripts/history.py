@@ -58,6 +58,8 @@ def pattern(form):
     return " ".join(FIELDS.get(word, word) for word in form.split(" "))
 
 
+# The events that have a packet, as their last word.
+PACKET_EVENTS = ("admit", "originate")
 EVENT = "|".join(map(pattern, EVENTS))
 REPLY = "|".join(map(pattern, REPLIES[:-3]))
 SENDING = f"(?:{'|'.join(REPLIES[-3:])})(?: {NUMBER}[+-]{HEX})*"
@@ -177,19 +179,21 @@ class History:
                     self.fault("end")
                 return
             actor, event, reply = found.groups()
-            event = event.split(" ")
-            sends = SENDS.findall(reply) if reply[:6] == "routed" or reply[:4] == "sent" else ()
-            packets = [packet for _, _, packet in sends]
-            if event[0] == "admit" or event[0] == "originate":
-                packets.append(event[-1])
-            if reply[:5] == "taken":
-                packets.append(reply[6:])
-            if not all(map(is_descriptor, packets)):
+            actor, event, begins, sends = int(actor), event.split(" "), reply[0], ()
+            # by the first letter, as most lines of a long history are of few forms
+            if begins in "rs":
+                sends = SENDS.findall(reply)
+                for _, _, packet in sends:
+                    if len(packet) != SIZES[packet[32:34] + packet[38:46]]:
+                        self.fault("field")
+            elif begins == "t" and reply[1] == "a" and not is_descriptor(reply[6:]):
                 self.fault("field")
-            if reply[:9] == "connected" and int(actor) in self.links:
+            elif actor in self.links and reply[:9] == "connected":
                 # a link has one connection at most
-                self.neighbours[int(reply[10:])] = self.links.pop(int(actor))
-            yield int(actor), event, reply, sends
+                self.neighbours[int(reply[10:])] = self.links.pop(actor)
+            if event[0] in PACKET_EVENTS and not is_descriptor(event[-1]):
+                self.fault("field")
+            yield actor, event, reply, sends
         self.fault("end")
 
     def name(self, connection):
