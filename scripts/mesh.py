@@ -13,10 +13,19 @@ ANSWERED = {PONG: PING, QUERY_HIT: QUERY}
 class Packet:
     """A descriptor, by its hex."""
 
+    __slots__ = ("text", "kind", "ttl", "hops")
+
     def __init__(self, text):
-        text = text.lower()
-        self.text, self.id, self.payload = text, text[:32], text[46:]
-        self.kind, self.ttl, self.hops = (int(text[at : at + 2], 16) for at in (32, 34, 36))
+        self.text = text = text.lower()
+        self.kind, self.ttl, self.hops = bytes.fromhex(text[32:38])
+
+    @property
+    def id(self):
+        return self.text[:32]
+
+    @property
+    def payload(self):
+        return self.text[46:]
 
     @property
     def key(self):
@@ -35,6 +44,8 @@ class Packet:
 class Offer:
     """A descriptor that a connection offered: at which step, what was answered, and at which step it was routed, and how."""
 
+    __slots__ = ("connection", "packet", "step", "answer", "routed_at", "outcome", "sends")
+
     def __init__(self, connection, packet, step, answer):
         self.connection, self.packet, self.step, self.answer = connection, packet, step, answer
         self.routed_at = self.outcome = None
@@ -48,39 +59,47 @@ class Offer:
 class Send:
     """A packet that a step sent to a connection: as which of all that were queued to it, or None where it had no room."""
 
+    __slots__ = ("step", "connection", "packet", "place")
+
     def __init__(self, step, connection, packet, place):
         self.step, self.connection, self.packet, self.place = step, connection, packet, place
 
 
 class Router:
-    """A router's history: what each connection offered, what was queued to it, and what was taken from it, in order."""
+    """A router's history: what each connection offered, what was queued to it, and what was taken from it, in order; and at which step
+    each was closed."""
 
     def __init__(self, path):
         self.name = Path(path).name.removesuffix(".history")
+        self.offers, self.queued, self.taken = defaultdict(list), defaultdict(list), defaultdict(list)
+        self.originated, self.connections, self.joined, self.closes, self.flights = [], [], {}, {}, {}
         with text_lines(path) as lines:
             history = History(lines)
             self.config, self.own = history.config, history.own
-            self.steps = [(event, reply.split(" "), sends) for _, event, reply, sends in history.steps()]
-        self.offers, self.queued, self.taken = defaultdict(list), defaultdict(list), defaultdict(list)
-        self.originated, self.connections, self.joined, flights = [], [], {}, {}
-        for index, (event, words, sends) in enumerate(self.steps):
-            if event[0] == "connect" and words[0] == "connected":
-                self.connections.append(int(words[1]))
-            elif event[0] == "admit":
-                offer = Offer(int(event[1]), Packet(event[2]), index, words[0])
-                self.offers[offer.connection].append(offer)
-                if offer.is_admitted:
-                    flights[words[1]] = offer
-            elif event[0] == "route":
-                offer = flights.get(event[1])
-                if offer is None:
-                    fail(f"{self.name}: step {index} routes what wasn't admitted")
-                self.route(offer, index, words[:2], sends)
-            elif event[0] == "originate":
-                self.originated.append(Offer(0, Packet(event[1]), index, "sent"))
-                self.route(self.originated[-1], index, words[:1], sends)
-            elif event[0] == "take" and words[0] == "taken":
-                self.taken[int(event[1])].append((index, Packet(words[1])))
+            for index, (_, event, reply, sends) in enumerate(history.steps()):
+                self.step(index, event, reply.split(" "), sends)
+
+    def step(self, index, event, words, sends):
+        """A step of the history: its event's words, its reply's, and what it sends."""
+        if event[0] == "connect" and words[0] == "connected":
+            self.connections.append(int(words[1]))
+        elif event[0] == "admit":
+            offer = Offer(int(event[1]), Packet(event[2]), index, words[0])
+            self.offers[offer.connection].append(offer)
+            if offer.is_admitted:
+                self.flights[words[1]] = offer
+        elif event[0] == "route":
+            offer = self.flights.get(event[1])
+            if offer is None:
+                fail(f"{self.name}: step {index} routes what wasn't admitted")
+            self.route(offer, index, words[:2], sends)
+        elif event[0] == "originate":
+            self.originated.append(Offer(0, Packet(event[1]), index, "sent"))
+            self.route(self.originated[-1], index, words[:1], sends)
+        elif event[0] == "take" and words[0] == "taken":
+            self.taken[int(event[1])].append((index, Packet(words[1])))
+        elif event[0] == "close":
+            self.closes[int(event[1])] = index
 
     def route(self, offer, index, outcome, sends):
         """What a step sent of what was offered."""
