@@ -13,6 +13,7 @@ use Rattle.gn_rules.specs.Flight.{Admission}
 use Rattle.gn_rules.specs.Sending.{fanout, flood_sends}
 use Rattle.gn_router.specs.declared.plan.Outgoing.{Outgoing}
 use Rattle.gn_router.specs.declared.plan.Outgoing.TheVariants.{Nothing, One, Flood, Each}
+use Rattle.gn_router.specs.declared.plan.Found.{Found}
 use Rattle.gn_router.specs.declared.plan.Plan.{Plan}
 use Rattle.gn_router.specs.declared.plan.Plan.TheVariants.{Ready, Taken, Routed, Sent}
 use Rattle.gn_router.specs.Made.{made_packet}
@@ -20,7 +21,7 @@ use Rattle.gn_router.specs.Made.{made_packet}
 -- the sends that outgoing packets stand for
 abbrev pub outgoing_sends : {A : Type 0} → Config → List (Step A) → Outgoing A → List (Sending A)
 outgoing_sends s past Nothing = []
-outgoing_sends s past (One c count made) =
+outgoing_sends s past (One c place count made) =
     record { to = c; packet = made_packet made; queued = nat_lt count s.numbers.out } ∷ []
 outgoing_sends s past (Flood c d) = flood_sends s past (record { origin = c; packet = d.now })
 outgoing_sends s past (Each d) = fanout s past 0 d.now
@@ -33,8 +34,8 @@ plan_reply s past (Routed sends local) = reply.Routed (outgoing_sends s past sen
 plan_reply s past (Sent sends) = reply.Sent (outgoing_sends s past sends)
 
 -- the answer that a plan or a refusal stands for
-abbrev pub planned : {A : Type 0} → Config → List (Step A) → Result (Plan A) Refusal → Result (Reply A) Refusal
-planned s past (Ok plan) = Ok (plan_reply s past plan)
+abbrev pub planned : {A : Type 0} → Config → List (Step A) → Result (Found A) Refusal → Result (Reply A) Refusal
+planned s past (Ok found) = Ok (plan_reply s past found.plan)
 planned s past (Err refusal) = Err refusal
 
 -- a plan for a descriptor that this connection admitted stands for what a rule decides of it

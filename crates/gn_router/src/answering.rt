@@ -1,18 +1,16 @@
 //! The answers that plans stand for, with their packets made.
 
-ghost use Rattle.std.specs.Prelude.{◌≡◌, ◌≤◌, ◌∷◌, ◌++◌, [], Ok, IfOk, length, reverse};
+ghost use Rattle.std.specs.Prelude.{◌≡◌, ◌≤◌, ◌∷◌, ◌++◌, [], IfOk, length, reverse};
 ghost use Rattle.gn_rules.specs.Answer as rules;
-ghost use Rattle.gn_rules.specs.declared.event.Event.TheVariants.{Route};
 ghost use Rattle.gn_router.specs.Planned.{outgoing_sends, plan_reply};
 
 use crate::lookup::Lookup;
 use crate::made::Made;
 use crate::outbox::Outbox;
 use crate::plan::{Outgoing, Plan};
-use crate::planning::{plan_checked, plan_of};
+use crate::planning::plan_of;
 use crate::sending::send_all;
-use gn_payload::Checked;
-use gn_rules::{ConnId, Event, Refusal, Reply, Sending, Sends, Ticket};
+use gn_rules::{ConnId, Event, Refusal, Reply, Sending, Sends};
 use gn_wire::Kind;
 use std::alloc::{AllocError, Allocator};
 use std::marker::Model;
@@ -50,7 +48,7 @@ fn most_sends<A: Allocator, L: Lookup<A>>(past: &L, outgoing: &Outgoing<'_, A>) 
 {
     match outgoing {
         Outgoing::Nothing => 0,
-        Outgoing::One(_, _, _) => 1,
+        Outgoing::One { .. } => 1,
         Outgoing::Flood(_, packet) => match packet.forwarded(past.config().numbers.life) {
             None => u32::from(packet.kind() == Kind::Ping),
             Some(_) => past.live_count(),
@@ -107,23 +105,6 @@ pub fn find<A: Allocator + Copy, L: Lookup<A>>(
 ) -> Result<Reply<A>, Refusal>
     ensures { rules.Finds result (rules.answer (L.settings past.now) (reverse (L.steps past.now)) event.now) }
 {
-    let plan = plan_of(past, event)?;
-    Ok(reply_of(alloc, past, plan)?)
-}
-
-/// The answer to a Route with a descriptor that was checked beforehand: a reply, the rules' refusal, or out of memory
-/// where the rules give a reply.
-pub fn find_checked<A: Allocator + Copy, L: Lookup<A>>(
-    alloc: A,
-    past: &L,
-    ticket: Ticket,
-    checked: &Checked<A>,
-) -> Result<Reply<A>, Refusal>
-    ensures answer { rules.Finds result
-        (rules.checked_answer (L.settings past.now) (reverse (L.steps past.now)) ticket checked.now) }
-    ensures routed { IfOk result (λ reply.
-        rules.answer (L.settings past.now) (reverse (L.steps past.now)) (Route ticket) ≡ Ok reply) }
-{
-    let plan = plan_checked(past, ticket, checked)?;
-    Ok(reply_of(alloc, past, plan)?)
+    let found = plan_of(past, event)?;
+    Ok(reply_of(alloc, past, found.plan)?)
 }

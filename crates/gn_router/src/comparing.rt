@@ -57,7 +57,7 @@ pub fn is_answered<A: Allocator, L: Lookup<A>>(past: &L, step: &Step<A>) -> bool
         ↔ (rules.answer (L.settings past.now) (reverse (L.steps past.now)) step.now.event ≡ Ok step.now.reply) }
 {
     match plan_of(past, &step.event) {
-        Ok(plan) => is_planned(past, &plan, &step.reply),
+        Ok(found) => is_planned(past, &found.plan, &step.reply),
         Err(_) => false,
     }
 }

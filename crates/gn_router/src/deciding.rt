@@ -26,7 +26,7 @@ fn checks<'a, A: Allocator, L: Lookup<A>>(
     ensures { Decides (L.settings past.now) (reverse (L.steps past.now)) origin packet.now
         (λ a. rules.checks (L.settings past.now) (reverse (L.steps past.now)) a r) result }
 {
-    let Some(waiting) = past.output(r) else {
+    let Some((place, waiting)) = past.output(r) else {
         return Plan::Ready(Reply::Dropped(DropReason::RouteGone));
     };
     if r == origin {
@@ -34,7 +34,15 @@ fn checks<'a, A: Allocator, L: Lookup<A>>(
     }
     match Forwarded::of(past.config().numbers.life, packet) {
         None => Plan::Ready(Reply::Dropped(DropReason::Expired)),
-        Some(forward) => Plan::Routed(Outgoing::One(r, waiting, Made::Forward(forward)), false),
+        Some(forward) => Plan::Routed(
+            Outgoing::One {
+                to: r,
+                place,
+                waiting,
+                packet: Made::Forward(forward),
+            },
+            false,
+        ),
     }
 }
 

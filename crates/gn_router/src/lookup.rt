@@ -71,9 +71,10 @@ pub trait Lookup<A: Allocator> {
     fn next_ticket(&self) -> Ticket
         ensures { result ≡ length (tickets (reverse (steps self.now))) };
 
-    /// What is in flight under the ticket, and the connection that admitted it.
-    fn flight(&self, ticket: Ticket) -> Option<(ConnId, &Descriptor<A>)>
-        ensures { admission_seen result ≡ in_flight (reverse (steps self.now)) ticket };
+    /// What is in flight under the ticket: its place, the connection that admitted it, and the descriptor.
+    fn flight(&self, ticket: Ticket) -> Option<(usize, ConnId, &Descriptor<A>)>
+        ensures { admission_seen (option_map (λ r. (r.1, r.2)) result)
+            ≡ in_flight (reverse (steps self.now)) ticket };
 
     /// Where a descriptor of this key came from, where it is remembered; 0 is the local servent.
     fn source(&self, key: &Key) -> Option<ConnId>
@@ -83,13 +84,13 @@ pub trait Lookup<A: Allocator> {
     fn servent_route(&self, servent: &Guid) -> Option<ConnId>
         ensures { result ≡ servents.servent_route (settings self.now) (reverse (steps self.now)) servent.now };
 
-    /// How many packets wait for the connection. `None` where it isn't live.
-    fn output(&self, c: ConnId) -> Option<u32>
-        ensures { result ≡ (if live (reverse (steps self.now)) c
+    /// The place of a live connection, and how many packets wait for it. `None` where it isn't live.
+    fn output(&self, c: ConnId) -> Option<(usize, u32)>
+        ensures { option_map (λ r. r.1) result ≡ (if live (reverse (steps self.now)) c
             then Some (length (out (reverse (steps self.now)) c)) else None) };
 
-    /// The packet that has waited longest for the connection, where one waits. `None` where it isn't live.
-    fn front(&self, c: ConnId) -> Option<Option<&Descriptor<A>>>
-        ensures { option_map option_copied result ≡ (if live (reverse (steps self.now)) c
+    /// The place of a live connection, and the packet that has waited longest for it, where one waits. `None` where it isn't live.
+    fn front(&self, c: ConnId) -> Option<(usize, Option<&Descriptor<A>>)>
+        ensures { option_map (λ r. option_copied r.1) result ≡ (if live (reverse (steps self.now)) c
             then Some (slice_get (out (reverse (steps self.now)) c) 0) else None) };
 }

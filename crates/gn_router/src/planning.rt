@@ -9,7 +9,7 @@ ghost use Rattle.gn_router.specs.Planned.{plan_reply, planned};
 
 use crate::deciding::{decide, is_remembered};
 use crate::lookup::Lookup;
-use crate::plan::{Outgoing, Plan};
+use crate::plan::{Found, Outgoing, Places, Plan};
 use gn_payload::{Checked, Verdict, verdict_on};
 use gn_rules::{ConnId, Event, Refusal, Reply, Ticket, may_originate};
 use gn_wire::Descriptor;
@@ -29,13 +29,16 @@ fn plan_connect<A: Allocator, L: Lookup<A>>(past: &L) -> Plan<'_, A>
 
 /// The plan for a Close.
 #[inline(always)]
-fn plan_close<A: Allocator, L: Lookup<A>>(past: &L, c: ConnId) -> Result<Plan<'_, A>, Refusal>
+fn plan_close<A: Allocator, L: Lookup<A>>(past: &L, c: ConnId) -> Result<Found<'_, A>, Refusal>
     ensures { planned (L.settings past.now) (reverse (L.steps past.now)) result
         ≡ rules.event_answer (L.settings past.now) (reverse (L.steps past.now)) (Close c) }
 {
     match past.output(c) {
         None => Err(Refusal::NotLive),
-        Some(waiting) => Ok(Plan::Ready(Reply::Closed(waiting))),
+        Some((place, waiting)) => Ok(Found {
+            plan: Plan::Ready(Reply::Closed(waiting)),
+            places: Places::of_neighbour(place),
+        }),
     }
 }
 
@@ -50,7 +53,7 @@ fn is_crowded<A: Allocator, L: Lookup<A>>(past: &L, c: ConnId) -> bool
 
 /// The plan for an Admit.
 #[inline(always)]
-fn plan_admit<A: Allocator, L: Lookup<A>>(past: &L, c: ConnId) -> Result<Plan<'_, A>, Refusal>
+fn plan_admit<A: Allocator, L: Lookup<A>>(past: &L, c: ConnId) -> Result<Found<'_, A>, Refusal>
     ensures { (packet : Packet) → planned (L.settings past.now) (reverse (L.steps past.now)) result
         ≡ rules.event_answer (L.settings past.now) (reverse (L.steps past.now)) (Admit c packet) }
 {
@@ -58,24 +61,28 @@ fn plan_admit<A: Allocator, L: Lookup<A>>(past: &L, c: ConnId) -> Result<Plan<'_
         return Err(Refusal::NotLive);
     }
     if past.flights() == past.config().numbers.stage {
-        return Ok(Plan::Ready(Reply::Busy));
+        return Ok(Found::anywhere(Plan::Ready(Reply::Busy)));
     }
     if is_crowded(past, c) {
-        return Ok(Plan::Ready(Reply::Crowded));
+        return Ok(Found::anywhere(Plan::Ready(Reply::Crowded)));
     }
-    Ok(Plan::Ready(Reply::Admitted(past.next_ticket())))
+    let plan = Plan::Ready(Reply::Admitted(past.next_ticket()));
+    Ok(Found::anywhere(plan))
 }
 
 /// The plan for a Take.
 #[inline(always)]
-fn plan_take<A: Allocator, L: Lookup<A>>(past: &L, c: ConnId) -> Result<Plan<'_, A>, Refusal>
+fn plan_take<A: Allocator, L: Lookup<A>>(past: &L, c: ConnId) -> Result<Found<'_, A>, Refusal>
     ensures { planned (L.settings past.now) (reverse (L.steps past.now)) result
         ≡ rules.event_answer (L.settings past.now) (reverse (L.steps past.now)) (Take c) }
 {
     match past.front(c) {
         None => Err(Refusal::NotLive),
-        Some(None) => Err(Refusal::NothingWaiting),
-        Some(Some(packet)) => Ok(Plan::Taken(packet)),
+        Some((_, None)) => Err(Refusal::NothingWaiting),
+        Some((place, Some(packet))) => Ok(Found {
+            plan: Plan::Taken(packet),
+            places: Places::of_neighbour(place),
+        }),
     }
 }
 
@@ -84,7 +91,7 @@ fn plan_take<A: Allocator, L: Lookup<A>>(past: &L, c: ConnId) -> Result<Plan<'_,
 fn plan_originate<'a, A: Allocator, L: Lookup<A>>(
     past: &L,
     packet: &'a Descriptor<A>,
-) -> Result<Plan<'a, A>, Refusal>
+) -> Result<Found<'a, A>, Refusal>
     ensures { planned (L.settings past.now) (reverse (L.steps past.now)) result
         ≡ rules.event_answer (L.settings past.now) (reverse (L.steps past.now)) (Originate packet.now) }
 {
@@ -94,18 +101,21 @@ fn plan_originate<'a, A: Allocator, L: Lookup<A>>(
     if is_remembered(past, packet) {
         return Err(Refusal::Remembered);
     }
-    Ok(Plan::Sent(Outgoing::Each(packet)))
+    Ok(Found::anywhere(Plan::Sent(Outgoing::Each(packet))))
 }
 
 /// The plan for a Route.
 #[inline(always)]
-fn plan_route<A: Allocator, L: Lookup<A>>(past: &L, ticket: Ticket) -> Result<Plan<'_, A>, Refusal>
+fn plan_route<A: Allocator, L: Lookup<A>>(past: &L, ticket: Ticket) -> Result<Found<'_, A>, Refusal>
     ensures { planned (L.settings past.now) (reverse (L.steps past.now)) result
         ≡ rules.event_answer (L.settings past.now) (reverse (L.steps past.now)) (Route ticket) }
 {
     match past.flight(ticket) {
         None => Err(Refusal::NoTicket),
-        Some((origin, packet)) => Ok(decide(past, origin, packet, verdict_on(packet))),
+        Some((place, origin, packet)) => {
+            let plan = decide(past, origin, packet, verdict_on(packet));
+            Ok(Found::in_flight(place, plan))
+        }
     }
 }
 
@@ -114,12 +124,12 @@ fn plan_route<A: Allocator, L: Lookup<A>>(past: &L, ticket: Ticket) -> Result<Pl
 fn plan_event<'a, A: Allocator, L: Lookup<A>>(
     past: &'a L,
     event: &'a Event<A>,
-) -> Result<Plan<'a, A>, Refusal>
+) -> Result<Found<'a, A>, Refusal>
     ensures { planned (L.settings past.now) (reverse (L.steps past.now)) result
         ≡ rules.event_answer (L.settings past.now) (reverse (L.steps past.now)) event.now }
 {
     match event {
-        Event::Connect => Ok(plan_connect(past)),
+        Event::Connect => Ok(Found::anywhere(plan_connect(past))),
         Event::Close(c) => plan_close(past, *c),
         Event::Admit(c, _) => plan_admit(past, *c),
         Event::Route(ticket) => plan_route(past, *ticket),
@@ -140,7 +150,7 @@ fn is_full<A: Allocator, L: Lookup<A>>(past: &L) -> bool
 pub fn plan_of<'a, A: Allocator, L: Lookup<A>>(
     past: &'a L,
     event: &'a Event<A>,
-) -> Result<Plan<'a, A>, Refusal>
+) -> Result<Found<'a, A>, Refusal>
     ensures { planned (L.settings past.now) (reverse (L.steps past.now)) result
         ≡ rules.answer (L.settings past.now) (reverse (L.steps past.now)) event.now }
 {
@@ -155,18 +165,21 @@ fn plan_checked_flight<'a, A: Allocator, L: Lookup<A>>(
     past: &'a L,
     ticket: Ticket,
     checked: &Checked<A>,
-) -> Result<Plan<'a, A>, Refusal>
+) -> Result<Found<'a, A>, Refusal>
     ensures value { planned (L.settings past.now) (reverse (L.steps past.now)) result
         ≡ rules.unless_strange checked.now (in_flight (reverse (L.steps past.now)) ticket)
         (rules.event_answer (L.settings past.now) (reverse (L.steps past.now)) (Route ticket)) }
-    ensures routed { IfOk result (λ plan.
+    ensures routed { IfOk result (λ found.
         rules.event_answer (L.settings past.now) (reverse (L.steps past.now)) (Route ticket)
-        ≡ Ok (plan_reply (L.settings past.now) (reverse (L.steps past.now)) plan)) }
+        ≡ Ok (plan_reply (L.settings past.now) (reverse (L.steps past.now)) found.plan)) }
 {
     match past.flight(ticket) {
         None => Err(Refusal::NoTicket),
-        Some((_, packet)) if !checked.descriptor().is_same(packet) => Err(Refusal::Strange),
-        Some((origin, packet)) => Ok(decide(past, origin, packet, checked.verdict())),
+        Some((_, _, packet)) if !checked.descriptor().is_same(packet) => Err(Refusal::Strange),
+        Some((place, origin, packet)) => {
+            let plan = decide(past, origin, packet, checked.verdict());
+            Ok(Found::in_flight(place, plan))
+        }
     }
 }
 
@@ -175,11 +188,12 @@ pub fn plan_checked<'a, A: Allocator, L: Lookup<A>>(
     past: &'a L,
     ticket: Ticket,
     checked: &Checked<A>,
-) -> Result<Plan<'a, A>, Refusal>
+) -> Result<Found<'a, A>, Refusal>
     ensures value { planned (L.settings past.now) (reverse (L.steps past.now)) result
         ≡ rules.checked_answer (L.settings past.now) (reverse (L.steps past.now)) ticket checked.now }
-    ensures routed { IfOk result (λ plan. rules.answer (L.settings past.now) (reverse (L.steps past.now)) (Route ticket)
-        ≡ Ok (plan_reply (L.settings past.now) (reverse (L.steps past.now)) plan)) }
+    ensures routed { IfOk result (λ found.
+        rules.answer (L.settings past.now) (reverse (L.steps past.now)) (Route ticket)
+        ≡ Ok (plan_reply (L.settings past.now) (reverse (L.steps past.now)) found.plan)) }
 {
     if is_full(past) {
         return Err(Refusal::HistoryFull);

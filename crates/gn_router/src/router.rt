@@ -3,8 +3,10 @@
 ghost use Rattle.std.specs.Prelude.{◌≡◌, ◌∷◌, ◌++◌, [], Ok, length, reverse, IfOk, OnErr, OnOk};
 ghost use Rattle.gn_rules.specs.Answer as rules;
 
-use crate::answering::{find, find_checked};
+use crate::answering::{find, reply_of};
 use crate::comparing;
+use crate::plan::{Found, Places};
+use crate::planning::{plan_checked, plan_of};
 use crate::store::{FreshStore, StepStore, Store};
 use gn_payload::Checked;
 use gn_rules::{
@@ -35,7 +37,13 @@ impl<S: Store<A>, A: Allocator + Copy> Router<S, A> {
     }
 
     /// Makes the step of a copy of an event and the rules' reply the last. An `Err` is out of memory, and changes nothing.
-    fn record(&mut self, actor: u32, event: &Event<A>, reply: Reply<A>) -> Result<(), AllocError>
+    fn record(
+        &mut self,
+        actor: u32,
+        places: Places,
+        event: &Event<A>,
+        reply: Reply<A>,
+    ) -> Result<(), AllocError>
         requires { rules.answer (S.settings self.old.store) (reverse (S.steps self.old.store)) event.now ≡ Ok reply }
         ensures step { OnOk result (S.steps self.new.store
             ≡ S.steps self.old.store ++ record { actor = actor; event = event.now; reply = reply } ∷ []) }
@@ -47,7 +55,9 @@ impl<S: Store<A>, A: Allocator + Copy> Router<S, A> {
             drop(reply);
             return Err(AllocError);
         };
-        let followed = self.store.follow(self.alloc, actor, &mut event, &mut reply);
+        let followed = self
+            .store
+            .follow(self.alloc, actor, places, &mut event, &mut reply);
         drop(event);
         drop(reply);
         followed
@@ -58,6 +68,7 @@ impl<S: Store<A>, A: Allocator + Copy> Router<S, A> {
     fn record_with_receipt(
         &mut self,
         actor: u32,
+        places: Places,
         event: &Event<A>,
         reply: Reply<A>,
     ) -> Result<Receipt<A>, Refusal>
@@ -74,7 +85,7 @@ impl<S: Store<A>, A: Allocator + Copy> Router<S, A> {
             drop(reply);
             return Err(Refusal::NoMemory);
         };
-        match self.record(actor, event, reply) {
+        match self.record(actor, places, event, reply) {
             Ok(()) => Ok(receipt),
             Err(_) => {
                 drop(receipt);
@@ -94,13 +105,16 @@ impl<S: Store<A>, A: Allocator + Copy> RouterCore<A> for Router<S, A> {
     }
 
     fn apply(&mut self, actor: u32, event: &Event<A>) -> Result<Receipt<A>, Refusal> {
-        let reply = find(self.alloc, &self.store, event)?;
-        self.record_with_receipt(actor, event, reply)
+        let Found { plan, places } = plan_of(&self.store, event)?;
+        let reply = reply_of(self.alloc, &self.store, plan)?;
+        self.record_with_receipt(actor, places, event, reply)
     }
 
     fn enter(&mut self, actor: u32, event: &mut Event<A>) -> Result<(), Refusal> {
-        let mut reply = find(self.alloc, &self.store, event)?;
-        self.store.follow(self.alloc, actor, event, &mut reply)?;
+        let Found { plan, places } = plan_of(&self.store, event)?;
+        let mut reply = reply_of(self.alloc, &self.store, plan)?;
+        self.store
+            .follow(self.alloc, actor, places, event, &mut reply)?;
         Ok(())
     }
 
@@ -109,8 +123,13 @@ impl<S: Store<A>, A: Allocator + Copy> RouterCore<A> for Router<S, A> {
     }
 
     fn add(&mut self, step: &mut Step<A>) -> Result<(), AllocError> {
-        self.store
-            .follow(self.alloc, step.actor, &mut step.event, &mut step.reply)
+        self.store.follow(
+            self.alloc,
+            step.actor,
+            Places::FIRST,
+            &mut step.event,
+            &mut step.reply,
+        )
     }
 
     fn route(
@@ -119,9 +138,10 @@ impl<S: Store<A>, A: Allocator + Copy> RouterCore<A> for Router<S, A> {
         ticket: Ticket,
         checked: &Checked<A>,
     ) -> Result<Receipt<A>, Refusal> {
-        let reply = find_checked(self.alloc, &self.store, ticket, checked)?;
+        let Found { plan, places } = plan_checked(&self.store, ticket, checked)?;
+        let reply = reply_of(self.alloc, &self.store, plan)?;
         let event = Event::Route(ticket);
-        let answer = self.record_with_receipt(actor, &event, reply);
+        let answer = self.record_with_receipt(actor, places, &event, reply);
         drop(event);
         answer
     }
@@ -156,7 +176,10 @@ impl<S: Store<A>, A: Allocator + Copy> RouterCore<A> for Router<S, A> {
     }
 
     fn waiting(&self, c: ConnId) -> u32 {
-        self.store.output(c).unwrap_or(0)
+        match self.store.output(c) {
+            Some((_, waiting)) => waiting,
+            None => 0,
+        }
     }
 }
 

@@ -88,7 +88,7 @@ fn send_pong<A: Allocator, L: Lookup<A>, O: Outbox<A>>(
     }
     match past.output(origin) {
         None => Ok(()),
-        Some(waiting) => {
+        Some((_, waiting)) => {
             let pong = Made::OwnPong(&past.config().own, packet);
             send(past, outbox, origin, waiting, &pong)
         }
@@ -124,7 +124,12 @@ pub fn send_all<A: Allocator, L: Lookup<A>, O: Outbox<A>>(
 {
     match outgoing {
         Outgoing::Nothing => Ok(()),
-        Outgoing::One(to, waiting, packet) => send(past, outbox, *to, *waiting, packet),
+        Outgoing::One {
+            to,
+            waiting,
+            packet,
+            ..
+        } => send(past, outbox, *to, *waiting, packet),
         Outgoing::Flood(origin, packet) => {
             send_pong(past, outbox, *origin, packet)?;
             send_forwards(past, outbox, *origin, packet)

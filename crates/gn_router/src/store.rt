@@ -5,6 +5,7 @@ ghost use Rattle.gn_rules.specs.Answer as rules;
 ghost use Rattle.gn_rules.specs.Statistics.{stats_of};
 
 use crate::lookup::Lookup;
+use crate::plan::Places;
 use gn_rules::{Config, Event, Reply, Stats, Step};
 use std::alloc::{AllocError, Allocator};
 use std::mem;
@@ -12,11 +13,12 @@ use std::mem;
 /// What a router keeps of its steps, to answer from: the steps themselves, or what they left.
 pub trait Store<A: Allocator + Copy>: Lookup<A> {
     /// Makes the step of an event and the rules' reply the last. It takes both out of the places that are lent to it, and
-    /// leaves others there. An `Err` is out of memory, and changes nothing.
+    /// leaves others there. It looks at these places first. An `Err` is out of memory, and changes nothing.
     fn follow(
         &mut self,
         alloc: A,
         actor: u32,
+        places: Places,
         event: &mut Event<A>,
         reply: &mut Reply<A>,
     ) -> Result<(), AllocError>

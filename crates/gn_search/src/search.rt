@@ -12,7 +12,7 @@ use crate::output::{first_out, out_count};
 use crate::seen_entries::source_of;
 use crate::servents::servent_route;
 use crate::steps::Steps;
-use gn_router::{FreshStore, Lookup, StepStore, Store, step_of};
+use gn_router::{FreshStore, Lookup, Places, StepStore, Store, step_of};
 use gn_rules::{Config, ConnId, Event, Reply, Stats, Step, Ticket};
 use gn_wire::{Descriptor, Guid, Key};
 use std::alloc::{AllocError, Allocator, Global};
@@ -116,8 +116,9 @@ impl<H: Steps<A>, A: Allocator> Lookup<A> for Search<H, A> {
         ticket_count(self.steps.as_slice()) as u32
     }
 
-    fn flight(&self, ticket: Ticket) -> Option<(ConnId, &Descriptor<A>)> {
-        flight_in(self.steps.as_slice(), ticket)
+    fn flight(&self, ticket: Ticket) -> Option<(usize, ConnId, &Descriptor<A>)> {
+        let (origin, packet) = flight_in(self.steps.as_slice(), ticket)?;
+        Some((0, origin, packet))
     }
 
     fn source(&self, key: &Key) -> Option<ConnId> {
@@ -128,19 +129,19 @@ impl<H: Steps<A>, A: Allocator> Lookup<A> for Search<H, A> {
         servent_route(&self.config, self.steps.as_slice(), servent)
     }
 
-    fn output(&self, c: ConnId) -> Option<u32> {
+    fn output(&self, c: ConnId) -> Option<(usize, u32)> {
         let steps = self.steps.as_slice();
         if live::is_live(steps, c) {
-            Some(out_count(&self.config, steps, c) as u32)
+            Some((0, out_count(&self.config, steps, c) as u32))
         } else {
             None
         }
     }
 
-    fn front(&self, c: ConnId) -> Option<Option<&Descriptor<A>>> {
+    fn front(&self, c: ConnId) -> Option<(usize, Option<&Descriptor<A>>)> {
         let steps = self.steps.as_slice();
         if live::is_live(steps, c) {
-            Some(first_out(&self.config, steps, c))
+            Some((0, first_out(&self.config, steps, c)))
         } else {
             None
         }
@@ -153,6 +154,7 @@ impl<A: Allocator + Copy> Store<A> for Search<Vec<Step<A>, A>, A> {
         &mut self,
         _alloc: A,
         actor: u32,
+        _places: Places,
         event: &mut Event<A>,
         reply: &mut Reply<A>,
     ) -> Result<(), AllocError> {

@@ -1,10 +1,11 @@
 -- A hashed table by numbers, seen as a finite map.
-use Rattle.std.proofs.Common.{◌≡◌, ℕ, ◌+◌, ◌<◌, ◌≤◌, true, false, cond, nat_eq, is_some, List, [], ◌∷◌, ◌++◌, length, None, refl, sym, ap, ◌∙◌, arith}
+use Rattle.std.proofs.Common.{◌≡◌, ℕ, ◌+◌, ◌<◌, ◌≤◌, true, false, cond, nat_eq, is_some, List, [], ◌∷◌, ◌++◌, length, slice_get, None, Some, refl, sym, ap, subst, ◌∙◌, arith}
 use Rattle.std.specs.declared.cmp.Ordering.TheVariants.{Less, Equal, Greater}
 use Rattle.std.specs.Ordering.{nat_cmp, is_eq, eq_by_cmp}
 use Rattle.std.specs.Cmp.{ranked, nat_cmp_total, nat_eq_equiv}
 use Rattle.std.specs.List.{IsDistinct}
 use Rattle.std.specs.Map.{lookup, keys_of}
+use Rattle.std.specs.Option.{option_map, option_map_or}
 use Rattle.std.specs.FinMap.{find, get, insert, remove, len, from_entries, get-from_entries, from_entries_push, same_map, get-remove, len-insert, len-empty, nat_cmp-IsAntisymmetric}
 use Rattle.std.proofs.lemmas.Grind.{common_steps}
 use Rattle.indexmap.specs.IndexMap.{IndexMap, insert_entry}
@@ -12,6 +13,7 @@ use Rattle.indexmap.proofs.CallerLemmas.{insert_entry-new}
 use Rattle.std.proofs.lemmas.Map.Entries.{none_past_head}
 use Rattle.std.proofs.lemmas.Map.{lookup-none}
 use Rattle.std.proofs.lemmas.Map.Keys.{IsDistinct-tail}
+use Rattle.gn_tables.specs.Flying.{IsAt}
 
 below : (q k : ℕ) → q < k → false ≡ nat_eq q k
 below q k h = grind (arith, common_steps)
@@ -79,3 +81,14 @@ put_fits m fs k most v distinct is none few =
     ∙ ap (λ o. cond (is_some o) (len (from_entries {R = nat_cmp} m.entries)) (len (from_entries {R = nat_cmp} m.entries) + 1)) none in
     let all : len (from_entries {R = nat_cmp} fs) ≡ len (insert (from_entries {R = nat_cmp} m.entries) k v) = ap len (put_new m fs k v is none) in
     omega (arith, few, more, all, len_entries fs distinct)
+
+-- what is taken out at the place of a ticket is its, and the entries are those without it
+pub taken_at : {X : Type 0} (es fs : List (ℕ × X)) (place ticket : ℕ) (e : ℕ × X) → Some e ≡ slice_get es place → IsAt es place ticket
+    → ((q : ℕ) → lookup (nat_eq q) fs ≡ cond (nat_eq e.0 q) None (lookup (nat_eq q) es))
+    → (Some e.1 ≡ lookup (nat_eq ticket) es) × ((q : ℕ) → lookup (nat_eq q) fs ≡ cond (nat_eq ticket q) None (lookup (nat_eq q) es))
+taken_at {X} es fs place ticket e is at others =
+    let same : Some e ≡ Some (ticket, at.0) = is ∙ at.1 in
+    let key : e.0 ≡ ticket = ap (λ o. option_map_or (λ (x : ℕ × X). x.0) o 0) same in (
+      ap (option_map (λ (x : ℕ × X). x.1)) same ∙ sym at.2,
+      subst (λ k. (q : ℕ) → lookup (nat_eq q) fs ≡ cond (nat_eq k q) None (lookup (nat_eq q) es)) key others,
+    )

@@ -1,5 +1,5 @@
 -- What the tables say of the steps.
-use Rattle.std.proofs.Common.{◌≡◌, ℕ, ◌+◌, ◌<◌, ◌==◌, ◌||◌, true, false, cond, if◌then◌else◌, List, [], ◌∷◌, ◌++◌, IfSome, length, map, take, zero, suc, Option, Some, None, nat_eq, refl, sym, ap, ◌∙◌, arith, drop, subst}
+use Rattle.std.proofs.Common.{◌≡◌, ℕ, ◌+◌, ◌<◌, ◌==◌, ◌||◌, Bool, is_some, true, false, cond, if◌then◌else◌, List, [], ◌∷◌, ◌++◌, IfSome, length, map, take, zero, suc, Option, Some, None, nat_eq, refl, sym, ap, ◌∙◌, arith, drop, subst}
 use Rattle.std.specs.List.{list_any, slice_get}
 use Rattle.std.specs.Option.{option_map, option_to_list}
 use Rattle.std.specs.FinMap as map
@@ -144,3 +144,10 @@ made s t seen servents neighbours flights connected admitted stats = record {
   neighbours_are = neighbours;
   stats_are = stats;
 }
+
+-- what is found is there
+pub is_there : {X Y : Type 0} (f : X → Y) (o : Option X) (there : Bool) (y : Y) → option_map f o ≡ (if there then Some y else None) → is_some o ≡ there
+is_there f None true y h = cc
+is_there f None false y h = refl
+is_there f (Some x) true y h = refl
+is_there f (Some x) false y h = cc

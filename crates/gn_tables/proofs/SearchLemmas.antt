@@ -1,5 +1,5 @@
 -- A binary search of ascending entries finds the place that a search from the first on finds.
-use Rattle.std.proofs.Common.{◌≡◌, ◌<◌, ◌≤◌, ◌+◌, ℕ, zero, suc, Bool, true, false, nat_eq, nat_lt, List, [], ◌∷◌, length, get_or, Some, None, Result, Ok, Err, refl, sym, ap, ⊎_elim, arith}
+use Rattle.std.proofs.Common.{◌≡◌, ◌<◌, ◌≤◌, ◌+◌, ℕ, zero, suc, Bool, true, false, nat_eq, nat_lt, List, [], ◌∷◌, length, get_or, Some, None, Result, Ok, Err, refl, sym, ap, ◌∙◌, ⊎_elim, arith}
 use Rattle.std.specs.List.{position, position_or_len}
 use Rattle.std.specs.List.Sorted.{IsBinarySearchResult, IsNonDecreasingBy, IsSearchInRange, IsStrictlyIncreasing}
 use Rattle.std.specs.Map.{keys_of}
@@ -55,12 +55,21 @@ module _ {X : Type 0} (c : ℕ) where
         (λ ge. let same : i ≡ j = omega (arith, le, ge) in omega (arith, ap (λ k. (get_or es k d).0) same)) (cases_lt i j) in
         grind (arith, nat_tests)
 
-    pub searched : (r : Result ℕ ℕ) → IsSearchInRange r (length es) → IsBinarySearchResult (λ e. nat_cmp e.0 c) es r → result_ok r ≡ position is_its es
-    searched (Ok i) there equal =
-        let at : (d : ℕ × X) → (get_or es i d).0 ≡ c = λ d. ranked _ c _ (sym (equal d)) in
+    -- an entry of c that stands at a place is the first one
+    here : (i : ℕ) → i < length es → ((d : ℕ × X) → (get_or es i d).0 ≡ c) → Some i ≡ position is_its es
+    here i there at =
         found es i there (place_of_first es i there
         (λ d. let is = at d in grind (arith, nat_tests))
         (λ j d lt. let is = at d in let less = rises j i d lt there in grind (arith, nat_tests)))
+
+    pub standing : (i : ℕ) (e : ℕ × X) → i < length es → e ≡ get_or es i e → e.0 ≡ c → Some i ≡ position is_its es
+    standing i e there is same =
+        let key : ℕ × X → ℕ = λ x. x.0 in
+        here i there (λ d. sym (get_or-map key es i d 0 there) ∙ get_or-map key es i e 0 there ∙ ap key (sym is) ∙ same)
+
+    pub searched : (r : Result ℕ ℕ) → IsSearchInRange r (length es) → IsBinarySearchResult (λ e. nat_cmp e.0 c) es r → result_ok r ≡ position is_its es
+    searched (Ok i) there equal =
+        here i there (λ d. ranked _ c _ (sym (equal d)))
     searched (Err i) there parted =
         let parts = parted comparisons_rise in
         missing es (place_of_none es (λ j d lt.

@@ -1,9 +1,10 @@
 //! The descriptors in flight, by ticket.
 
-ghost use Rattle.std.specs.Prelude.{◌≡◌, ◌<◌, ◌≤◌, None, OnErr, OnOk};
+ghost use Rattle.std.specs.Prelude.{◌≡◌, ◌<◌, ◌≤◌, ℕ, None, cond, length, nat_eq, IfNone, IsTrue, OnErr, OnOk};
 ghost use Rattle.std.specs.FinMap as map;
-ghost use Rattle.std.specs.Option.{option_copied};
-ghost use Rattle.gn_tables.specs.Flying.{with_flight, without_flight};
+ghost use Rattle.std.specs.Map.{lookup};
+ghost use Rattle.std.specs.Option.{option_copied, option_map};
+ghost use Rattle.gn_tables.specs.Flying.{IsAt, with_flight, without_flight};
 ghost use Rattle.gn_tables.specs.Origins.{flights_from};
 
 use crate::counts::{Counts, count, lower, raise};
@@ -20,12 +21,68 @@ pub struct Flight<A: Allocator = Global> {
     pub descriptor: Descriptor<A>,
 }
 
+/// The descriptors in flight, by ticket.
+type ByTicket<A> = IndexMap<u32, Flight<A>, BuildHasherDefault<FoldHasher>, A>;
+
+/// Whether the flight at this place is the ticket's.
+fn is_at<A: Allocator + Copy>(flights: &ByTicket<A>, place: usize, ticket: u32) -> bool
+    ensures { IsTrue result → IsAt flights.now.entries place ticket }
+{
+    match flights.get_index(place) {
+        Some((key, _flight)) => *key == ticket,
+        None => false,
+    }
+}
+
+/// The flight of the ticket, and its place.
+fn flight_of<A: Allocator + Copy>(flights: &ByTicket<A>, ticket: u32) -> Option<(usize, &Flight<A>)>
+    ensures { option_map (λ r. r.1.now) result ≡ lookup (nat_eq ticket) flights.now.entries }
+{
+    let (place, _, flight) = flights.get_full(&ticket)?;
+    Some((place, flight))
+}
+
+/// The flight of the ticket, which is looked for at the place `near` first, and its place.
+fn flight_near<A: Allocator + Copy>(
+    flights: &ByTicket<A>,
+    near: usize,
+    ticket: u32,
+) -> Option<(usize, &Flight<A>)>
+    ensures { option_map (λ r. r.1.now) result ≡ lookup (nat_eq ticket) flights.now.entries }
+{
+    match flights.get_index(near) {
+        Some((key, flight)) if *key == ticket => Some((near, flight)),
+        _ => flight_of(flights, ticket),
+    }
+}
+
+/// Takes the flight of the ticket out, which is looked for at the place `near` first.
+fn take_out<A: Allocator + Copy>(
+    flights: &mut ByTicket<A>,
+    near: usize,
+    ticket: u32,
+) -> Option<Flight<A>>
+    ensures value { result ≡ lookup (nat_eq ticket) flights.old.entries }
+    ensures others { (q : ℕ) → lookup (nat_eq q) flights.new.entries
+        ≡ cond (nat_eq ticket q) None (lookup (nat_eq q) flights.old.entries) }
+    ensures few { length flights.new.entries ≤ length flights.old.entries }
+    ensures unchanged { IfNone result (flights.new.entries ≡ flights.old.entries) }
+{
+    if !is_at(flights, near, ticket) {
+        return flights.swap_remove(&ticket);
+    }
+    match flights.swap_remove_index(near) {
+        Some((_, flight)) => Some(flight),
+        None => unreachable!(),
+    }
+}
+
 /// The descriptors in flight, by ticket, and how many of them each connection sent, whether or not it is still there. Tickets and
 /// connections are hashed with a fixed seed. It grows as descriptors are added.
 #[derive(Drop)]
 pub struct Flights<A: Allocator + Copy = Global> {
     most: u32,
-    flights: IndexMap<u32, Flight<A>, BuildHasherDefault<FoldHasher>, A>,
+    flights: ByTicket<A>,
     counts: Counts<A>,
 }
 
@@ -79,6 +136,20 @@ impl<A: Allocator + Copy> Flights<A> {
         count(&self.counts, c)
     }
 
+    /// The flight of the ticket, and its place.
+    pub fn find(&self, ticket: u32) -> Option<(usize, &Flight<A>)>
+        ensures { option_map (λ r. r.1.now) result ≡ map.get self.now.flights ticket }
+    {
+        flight_of(&self.flights, ticket)
+    }
+
+    /// As `find`, of a ticket whose flight is looked for at the place `near` first.
+    pub fn find_near(&self, near: usize, ticket: u32) -> Option<(usize, &Flight<A>)>
+        ensures { option_map (λ r. r.1.now) result ≡ map.get self.now.flights ticket }
+    {
+        flight_near(&self.flights, near, ticket)
+    }
+
     /// The flight of the ticket.
     pub fn get(&self, ticket: u32) -> Option<&Flight<A>>
         ensures { option_copied result ≡ map.get self.now.flights ticket }
@@ -110,7 +181,15 @@ impl<A: Allocator + Copy> Flights<A> {
         ensures value { result ≡ map.get self.old.flights ticket }
         ensures rest { self.new ≡ without_flight ticket self.old }
     {
-        let flight = self.flights.swap_remove(&ticket)?;
+        self.finish_near(0, ticket)
+    }
+
+    /// As `finish`, of a ticket whose flight is looked for at the place `near` first.
+    pub fn finish_near(&mut self, near: usize, ticket: u32) -> Option<Flight<A>>
+        ensures value { result ≡ map.get self.old.flights ticket }
+        ensures rest { self.new ≡ without_flight ticket self.old }
+    {
+        let flight = take_out(&mut self.flights, near, ticket)?;
         lower(&mut self.counts, flight.from);
         Some(flight)
     }

@@ -14,6 +14,7 @@ use crate::seen::SeenTable;
 use crate::servents::ServentTable;
 use crate::tables::Tables;
 use gn_payload::servent_of_hit;
+use gn_router::Places;
 use gn_rules::{Counter, Event, Reply, Sending, Sends, Ticket};
 use gn_wire::{Descriptor, Kind};
 use std::alloc::{AllocError, Allocator};
@@ -23,6 +24,7 @@ impl<A: Allocator + Copy> Tables<A> {
     pub(crate) fn follow(
         &mut self,
         alloc: A,
+        places: Places,
         event: &Event<A>,
         reply: &Reply<A>,
     ) -> Result<(), AllocError>
@@ -30,14 +32,20 @@ impl<A: Allocator + Copy> Tables<A> {
         ensures ok { OnOk result (self.new ≡ after.followed event.now reply.now self.old) }
         ensures err { OnErr result (self.new ≡ self.old) }
     {
-        self.update(alloc, event, reply)?;
+        self.update(alloc, places, event, reply)?;
         self.stats.raise(Counter::of(reply));
         Ok(())
     }
 
     /// Does what an event with this reply does to the tables, its count left out. An `Err` is out of memory, and changes
     /// nothing.
-    fn update(&mut self, alloc: A, event: &Event<A>, reply: &Reply<A>) -> Result<(), AllocError>
+    fn update(
+        &mut self,
+        alloc: A,
+        places: Places,
+        event: &Event<A>,
+        reply: &Reply<A>,
+    ) -> Result<(), AllocError>
         requires { after.CanMove event.now reply.now self.old }
         ensures ok { OnOk result (self.new ≡ after.moved event.now reply.now self.old) }
         ensures err { OnErr result (self.new ≡ self.old) }
@@ -45,13 +53,13 @@ impl<A: Allocator + Copy> Tables<A> {
         match event {
             Event::Connect => self.connect(reply),
             Event::Close(c) => {
-                self.neighbours.remove(*c);
+                self.neighbours.remove_near(places.neighbour, *c);
                 Ok(())
             }
             Event::Admit(c, packet) => self.admit(*c, packet, reply),
-            Event::Route(ticket) => self.route(alloc, *ticket, reply),
+            Event::Route(ticket) => self.route(alloc, places, *ticket, reply),
             Event::Take(c) => {
-                drop(self.neighbours.pop(*c));
+                drop(self.neighbours.pop_near(places.neighbour, *c));
                 Ok(())
             }
             Event::Originate(packet) => self.originate(alloc, packet, reply),
@@ -91,19 +99,25 @@ impl<A: Allocator + Copy> Tables<A> {
 
     /// A flight that is routed: it is remembered, its packets are sent, and it is over. An `Err` is out of memory, and
     /// changes nothing.
-    fn route(&mut self, alloc: A, ticket: Ticket, reply: &Reply<A>) -> Result<(), AllocError>
+    fn route(
+        &mut self,
+        alloc: A,
+        places: Places,
+        ticket: Ticket,
+        reply: &Reply<A>,
+    ) -> Result<(), AllocError>
         requires { after.CanRoute ticket reply.now self.old }
         ensures ok { OnOk result (self.new
             ≡ after.routed ticket reply.now (map.get self.old.flights.flights ticket) self.old) }
         ensures err { OnErr result (self.new ≡ self.old) }
     {
-        let Some(flight) = self.flights.get(ticket) else {
+        let Some((place, flight)) = self.flights.find_near(places.flight, ticket) else {
             return Ok(());
         };
         let sends = Sends::copied(alloc, reply.sends())?;
         remember(&mut self.seen, &mut self.servents, flight, reply)?;
-        drop(self.flights.finish(ticket));
-        queue_all(&mut self.neighbours, sends.into_vec());
+        drop(self.flights.finish_near(place, ticket));
+        queue_all(&mut self.neighbours, places.neighbour, sends.into_vec());
         Ok(())
     }
 
@@ -120,7 +134,7 @@ impl<A: Allocator + Copy> Tables<A> {
     {
         let sends = Sends::copied(alloc, reply.sends())?;
         self.seen.keep(packet.kind(), packet.id(), 0)?;
-        queue_all(&mut self.neighbours, sends.into_vec());
+        queue_all(&mut self.neighbours, 0, sends.into_vec());
         Ok(())
     }
 }
@@ -155,25 +169,38 @@ fn is_hit(kind: Kind) -> bool
     matches!(kind, Kind::QueryHit)
 }
 
-/// Puts the packets that are queued after those that wait.
-fn queue_all<A: Allocator + Copy>(neighbours: &mut Neighbours<A>, sends: Vec<Sending<A>, A>)
+/// Puts the packets that are queued after those that wait. The first one's connection is looked for at the place `near` first, and each
+/// other's after the one before it, as the sends of a flood stand.
+fn queue_all<A: Allocator + Copy>(
+    neighbours: &mut Neighbours<A>,
+    near: usize,
+    sends: Vec<Sending<A>, A>,
+)
     requires { CanSend sends.items neighbours.old }
     ensures { neighbours.new ≡ sent sends.items neighbours.old }
 {
+    let mut near = near;
     for sending in sends {
-        send_one(neighbours, sending);
+        near = send_one(neighbours, near, sending);
     }
 }
 
-/// Puts a packet after those that wait, where it is queued.
-fn send_one<A: Allocator + Copy>(neighbours: &mut Neighbours<A>, sending: Sending<A>)
+/// Puts a packet after those that wait, where it is queued. The connection is looked for at the place `near` first; the place
+/// after its own is given, where that of the next send is likely.
+fn send_one<A: Allocator + Copy>(
+    neighbours: &mut Neighbours<A>,
+    near: usize,
+    sending: Sending<A>,
+) -> usize
     requires { sending.queued ≡ true → has_room sending.to neighbours.old ≡ true }
     ensures { neighbours.new ≡ given sending neighbours.old }
 {
+    let place = neighbours.place_near(near, sending.to);
     if sending.queued {
-        match neighbours.push(sending.to, sending.packet) {
+        match neighbours.push_near(place, sending.to, sending.packet) {
             Ok(()) => {}
             Err(_) => unreachable!(),
         }
     }
+    place.saturating_add(1)
 }

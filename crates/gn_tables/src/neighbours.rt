@@ -1,6 +1,6 @@
 //! The live connections, ascending, each with the packets that wait for it.
 
-ghost use Rattle.std.specs.Prelude.{◌≡◌, ◌<◌, ◌≤◌, [], length, nat_eq, true, false, slice_get, IfErr, IfOk, OnErr, OnOk};
+ghost use Rattle.std.specs.Prelude.{◌≡◌, ◌<◌, ◌≤◌, [], length, nat_eq, true, false, slice_get, Some, IfErr, IfOk, IsTrue, OnErr, OnOk};
 ghost use Rattle.std.specs.List.{All, position};
 ghost use Rattle.std.specs.List.Sorted.{IsStrictlyIncreasing};
 ghost use Rattle.std.specs.Map.{keys_of};
@@ -37,11 +37,33 @@ impl<A: Allocator + Copy> Model for Neighbours<A> {
 }
 
 /// The place of a connection among the rows, which are ascending.
-fn place_of<A: Allocator>(rows: &[Row<A>], connection: u32) -> Option<usize>
+fn find_row<A: Allocator>(rows: &[Row<A>], connection: u32) -> Option<usize>
     requires { IsStrictlyIncreasing (keys_of rows.now) }
     ensures { result ≡ position (λ r. nat_eq connection r.0) rows.now }
 {
     rows.binary_search_by_key(&connection, |row| row.0).ok()
+}
+
+/// Whether the connection stands at a place among the rows, which are ascending.
+fn stands_at<A: Allocator>(rows: &[Row<A>], place: usize, connection: u32) -> bool
+    requires { IsStrictlyIncreasing (keys_of rows.now) }
+    ensures { IsTrue result → Some place ≡ position (λ r. nat_eq connection r.0) rows.now }
+{
+    match rows.get(place) {
+        Some(row) => row.0 == connection,
+        None => false,
+    }
+}
+
+/// The place of a connection among the rows, which are ascending. They are searched where it isn't at `near`.
+fn place_of<A: Allocator>(rows: &[Row<A>], near: usize, connection: u32) -> Option<usize>
+    requires { IsStrictlyIncreasing (keys_of rows.now) }
+    ensures { result ≡ position (λ r. nat_eq connection r.0) rows.now }
+{
+    if stands_at(rows, near, connection) {
+        return Some(near);
+    }
+    find_row(rows, connection)
 }
 
 impl<A: Allocator + Copy> Neighbours<A> {
@@ -86,29 +108,42 @@ impl<A: Allocator + Copy> Neighbours<A> {
         Some((*connection, ring.len() as u32))
     }
 
+    /// The place of the connection, which is looked for at `near` first; `near` where it isn't there.
+    pub(crate) fn place_near(&self, near: usize, connection: u32) -> usize {
+        place_of(&self.rows, near, connection).unwrap_or(near)
+    }
+
     /// How many packets wait for the connection. `None` where it isn't there.
     pub fn waiting(&self, connection: u32) -> Option<u32>
         ensures { result ≡ option_map length (output_of connection self.now) }
     {
-        let place = place_of(&self.rows, connection)?;
-        Some(self.rows[place].1.len() as u32)
+        let (_, waiting) = self.output(connection)?;
+        Some(waiting)
+    }
+
+    /// The connection's place, and how many packets wait for it. `None` where it isn't there.
+    pub fn output(&self, connection: u32) -> Option<(usize, u32)>
+        ensures { option_map (λ r. r.1) result ≡ option_map length (output_of connection self.now) }
+    {
+        let place = find_row(&self.rows, connection)?;
+        Some((place, self.rows[place].1.len() as u32))
     }
 
     /// The packet that has waited longest for the connection. `None` where there is none, or no such connection.
     pub fn first(&self, connection: u32) -> Option<&Descriptor<A>>
         ensures { option_copied result ≡ first_of connection self.now }
     {
-        let place = place_of(&self.rows, connection)?;
+        let place = find_row(&self.rows, connection)?;
         self.rows[place].1.front()
     }
 
-    /// The packet that has waited longest for the connection, where one waits. `None` where it isn't there.
-    pub fn front(&self, connection: u32) -> Option<Option<&Descriptor<A>>>
-        ensures { option_map option_copied result
+    /// The connection's place, and the packet that has waited longest for it, where one waits. `None` where it isn't there.
+    pub fn front(&self, connection: u32) -> Option<(usize, Option<&Descriptor<A>>)>
+        ensures { option_map (λ r. option_copied r.1) result
             ≡ option_map (λ packets. slice_get packets 0) (output_of connection self.now) }
     {
-        let place = place_of(&self.rows, connection)?;
-        Some(self.rows[place].1.front())
+        let place = find_row(&self.rows, connection)?;
+        Some((place, self.rows[place].1.front()))
     }
 
     /// Adds a connection that is greater than all there, and makes the room that its packets fill. An `Err` is out of
@@ -129,7 +164,15 @@ impl<A: Allocator + Copy> Neighbours<A> {
         ensures value { result ≡ option_map length (output_of connection self.old) }
         ensures rest { self.new ≡ left connection self.old }
     {
-        let place = place_of(&self.rows, connection)?;
+        self.remove_near(0, connection)
+    }
+
+    /// As `remove`, of a connection that is looked for at the place `near` first.
+    pub fn remove_near(&mut self, near: usize, connection: u32) -> Option<u32>
+        ensures value { result ≡ option_map length (output_of connection self.old) }
+        ensures rest { self.new ≡ left connection self.old }
+    {
+        let place = place_of(&self.rows, near, connection)?;
         let (_, ring) = self.rows.remove(place);
         Some(ring.len() as u32)
     }
@@ -142,7 +185,22 @@ impl<A: Allocator + Copy> Neighbours<A> {
         ensures err { IfErr result (λ d.
             (has_room connection self.old ≡ false) × (d ≡ packet) × (self.new ≡ self.old)) }
     {
-        let Some(place) = place_of(&self.rows, connection) else {
+        self.push_near(0, connection, packet)
+    }
+
+    /// As `push`, to a connection that is looked for at the place `near` first.
+    pub fn push_near(
+        &mut self,
+        near: usize,
+        connection: u32,
+        packet: Descriptor<A>,
+    ) -> Result<(), Descriptor<A>>
+        ensures ok { OnOk result
+            ((has_room connection self.old ≡ true) × (self.new ≡ pushed connection packet self.old)) }
+        ensures err { IfErr result (λ d.
+            (has_room connection self.old ≡ false) × (d ≡ packet) × (self.new ≡ self.old)) }
+    {
+        let Some(place) = place_of(&self.rows, near, connection) else {
             return Err(packet);
         };
         self.rows[place].1.try_push_back(packet)
@@ -153,7 +211,15 @@ impl<A: Allocator + Copy> Neighbours<A> {
         ensures first { result ≡ first_of connection self.old }
         ensures rest { self.new ≡ popped connection self.old }
     {
-        let place = place_of(&self.rows, connection)?;
+        self.pop_near(0, connection)
+    }
+
+    /// As `pop`, of a connection that is looked for at the place `near` first.
+    pub fn pop_near(&mut self, near: usize, connection: u32) -> Option<Descriptor<A>>
+        ensures first { result ≡ first_of connection self.old }
+        ensures rest { self.new ≡ popped connection self.old }
+    {
+        let place = place_of(&self.rows, near, connection)?;
         self.rows[place].1.pop_front()
     }
 }

@@ -10,7 +10,7 @@ use crate::seen::SeenTable;
 use crate::servents::ServentTable;
 use crate::tables::Tables;
 use crate::whole::Whole;
-use gn_router::{FreshStore, Lookup, StepStore, Store};
+use gn_router::{FreshStore, Lookup, Places, StepStore, Store};
 use gn_rules::{Config, ConnId, Event, Reply, Stats, Step, Ticket};
 use gn_wire::{Descriptor, Guid, Key};
 use std::alloc::{AllocError, Allocator, Global};
@@ -123,9 +123,9 @@ impl<A: Allocator + Copy, K: Keeper<A>> Lookup<A> for TableStore<A, K> {
         self.tables.admitted
     }
 
-    fn flight(&self, ticket: Ticket) -> Option<(ConnId, &Descriptor<A>)> {
-        let flight = self.tables.flights.get(ticket)?;
-        Some((flight.from, &flight.descriptor))
+    fn flight(&self, ticket: Ticket) -> Option<(usize, ConnId, &Descriptor<A>)> {
+        let (place, flight) = self.tables.flights.find(ticket)?;
+        Some((place, flight.from, &flight.descriptor))
     }
 
     fn source(&self, key: &Key) -> Option<ConnId> {
@@ -136,11 +136,11 @@ impl<A: Allocator + Copy, K: Keeper<A>> Lookup<A> for TableStore<A, K> {
         self.tables.servents.route(servent)
     }
 
-    fn output(&self, c: ConnId) -> Option<u32> {
-        self.tables.neighbours.waiting(c)
+    fn output(&self, c: ConnId) -> Option<(usize, u32)> {
+        self.tables.neighbours.output(c)
     }
 
-    fn front(&self, c: ConnId) -> Option<Option<&Descriptor<A>>> {
+    fn front(&self, c: ConnId) -> Option<(usize, Option<&Descriptor<A>>)> {
         self.tables.neighbours.front(c)
     }
 }
@@ -150,11 +150,12 @@ impl<A: Allocator + Copy, K: Keeper<A>> Store<A> for TableStore<A, K> {
         &mut self,
         alloc: A,
         actor: u32,
+        places: Places,
         event: &mut Event<A>,
         reply: &mut Reply<A>,
     ) -> Result<(), AllocError> {
         self.history.make_room()?;
-        self.tables.follow(alloc, event, reply)?;
+        self.tables.follow(alloc, places, event, reply)?;
         self.history.keep(actor, event, reply);
         Ok(())
     }

@@ -21,7 +21,7 @@ fn flying_kind<A: Allocator>(config: &Config, past: &[Step<A>], ticket: Ticket) 
 {
     let search = Search::new(config, past);
     match search.flight(ticket) {
-        Some((_, packet)) => Some(packet.kind()),
+        Some((_, _, packet)) => Some(packet.kind()),
         None => None,
     }
 }

@@ -12,10 +12,10 @@ loop-sending-init g c = record {
 
 pub loop-sending-preserved : goal.loop-sending-preserved
 loop-sending-preserved g c =
-    sending_more _ c.in-Some.sending _ _ _ _ _ _ _ c.in-Some.ensures.steps.0 c.in-Some.ensures.steps.1 c.send_one.ensures c.loop-sending.invariant
+    sending_more _ c.in-Some.sending _ _ _ _ _ _ _ c.in-Some.ensures.steps.0 c.in-Some.ensures.steps.1 c.send_one-near.ensures c.loop-sending.invariant
 
-pub send_one-requires : goal.send_one-requires
-send_one-requires g c = sending_first _ c.in-Some.sending _ _ _ _ _ c.in-Some.ensures.steps.0 c.loop-sending.invariant
+pub send_one-near-requires : goal.send_one-near-requires
+send_one-near-requires g c = sending_first _ c.in-Some.sending _ _ _ _ _ c.in-Some.ensures.steps.0 c.loop-sending.invariant
 
 pub returns : goal.returns
 returns g c =

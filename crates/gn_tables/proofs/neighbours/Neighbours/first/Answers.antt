@@ -6,8 +6,8 @@ use Rattle.gn_tables.proofs.OutputLemmas.{lookup_rows}
 use Rattle.gn_tables.proofs.PlaceLemmas.{found_within, placed, unplaced}
 use Rattle.gn_tables.proofs.neighbours.Neighbours.first.Goals as goal
 
-pub place_of-requires : goal.place_of-requires
-place_of-requires g c = subst (λ rows. IsStrictlyIncreasing (keys_of rows)) (sym c.deref.ensures.value) c.self.invariant.ascending
+pub find_row-requires : goal.find_row-requires
+find_row-requires g c = subst (λ rows. IsStrictlyIncreasing (keys_of rows)) (sym c.deref.ensures.value) c.self.invariant.ascending
 
 pub index-requires : goal.index-requires
 index-requires g c = omega (arith, found_within c.args.connection c.deref.result.now c.in_ok-place.place c.in_ok-place.ensures, c.deref.ensures.len)

@@ -3,7 +3,7 @@ use Rattle.std.specs.List.Sorted.{IsStrictlyIncreasing}
 use Rattle.std.specs.Map.{keys_of}
 use Rattle.gn_tables.proofs.OutputLemmas.{popped_row, none_changed, lookup_rows}
 use Rattle.gn_tables.proofs.PlaceLemmas.{found_within, placed, unplaced, written}
-use Rattle.gn_tables.proofs.neighbours.Neighbours.pop.Goals as goal
+use Rattle.gn_tables.proofs.neighbours.Neighbours.pop_near.Goals as goal
 
 pub place_of-requires : goal.place_of-requires
 place_of-requires g c = subst (λ rows. IsStrictlyIncreasing (keys_of rows)) (sym c.deref.ensures.value) c.self.invariant.ascending

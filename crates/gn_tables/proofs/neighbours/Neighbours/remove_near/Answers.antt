@@ -4,7 +4,7 @@ use Rattle.std.specs.Map.{keys_of}
 use Rattle.gn_tables.specs.Outputs.{IsRing}
 use Rattle.gn_tables.proofs.OutputLemmas.{found_ring, lookup_rows, none_left_out, removed}
 use Rattle.gn_tables.proofs.PlaceLemmas.{found_within, placed, taken, unplaced}
-use Rattle.gn_tables.proofs.neighbours.Neighbours.remove.Goals as goal
+use Rattle.gn_tables.proofs.neighbours.Neighbours.remove_near.Goals as goal
 
 pub place_of-requires : goal.place_of-requires
 place_of-requires g c = subst (λ rows. IsStrictlyIncreasing (keys_of rows)) (sym c.deref.ensures.value) c.self.invariant.ascending
