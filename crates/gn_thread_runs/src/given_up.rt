@@ -110,7 +110,8 @@ fn fault_over<R: Threads + Wait + Sync>(
     Ok(served.err())
 }
 
-/// The first link's reader alone finds the history full. The second link comes then, and the third isn't waited for.
+/// The first link's reader alone finds the history full. The second link comes then, unless the reader was so quick that it isn't
+/// waited for; the third never is.
 #[test]
 fn a_full_history_is_named_by_any_thread(rt: HostRuntime) -> Result<(), Fail> {
     let news = News {
@@ -119,6 +120,6 @@ fn a_full_history_is_named_by_any_thread(rt: HostRuntime) -> Result<(), Fail> {
     };
     let fault = fault_over(&rt, rt.alloc(), &news);
     assert_eq!(rt; fault?, Some(RunFault::HistoryFull));
-    assert_eq!(rt; news.asked.load(Ordering::SeqCst), 2);
+    assert!(rt; news.asked.load(Ordering::SeqCst) < 3);
     Ok(())
 }
