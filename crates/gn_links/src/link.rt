@@ -74,8 +74,10 @@ pub trait Link: Drop {
     /// What its halves say of it.
     type Origin;
 
+    /// The half that reads. It goes to the thread of the link's reader.
     type Reader: LinkReader<Origin = Self::Origin>;
 
+    /// The half that writes. It goes to the thread of the link's writer.
     type Writer: LinkWriter<Origin = Self::Origin>;
 
     /// How it begins.

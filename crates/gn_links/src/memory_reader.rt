@@ -46,6 +46,7 @@ impl<A: Allocator + Copy> Model for MemoryReader<A> {
 }
 
 impl<A: Allocator + Copy> MemoryReader<A> {
+    /// A reader that has given nothing. It gives at most `piece` bytes a call, and fails from call `fails_from` on.
     pub(crate) fn new(
         link: Snapshot<MemoryLink<A>>,
         bytes: Vec<u8, A>,

@@ -42,6 +42,7 @@ impl<A: Allocator + Copy> Model for MemoryWriter<A> {
 }
 
 impl<A: Allocator + Copy> MemoryWriter<A> {
+    /// A writer that nothing was written to. It fails from call `fails_from` on.
     pub(crate) fn new(link: Snapshot<MemoryLink<A>>, alloc: A, fails_from: Option<u32>) -> Self
         requires { fails_from ≡ link.value.write }
         ensures { result ≡ new_writing link.value }

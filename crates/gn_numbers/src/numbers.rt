@@ -5,6 +5,7 @@ ghost use Rattle.std.specs.Char.{is_ascii_digit};
 ghost use Rattle.std.specs.List.{list_all};
 ghost use Rattle.gn_numbers.specs.Numbers.{number_below, number_of};
 
+/// Whether it has decimal digits alone, as a field without bytes does.
 fn is_digits(field: &[u8]) -> bool
     ensures { result ≡ list_all is_ascii_digit field.now }
 {

@@ -78,6 +78,7 @@ impl Shake {
         Shake::awaiting(consent())
     }
 
+    /// Nothing of the greeting has come yet.
     fn awaiting(greeting: &'static [u8]) -> Shake
         ensures { result ≡ record { greeting = greeting.now; matched = []; refused = false } }
     {

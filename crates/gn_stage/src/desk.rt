@@ -71,6 +71,7 @@ impl<S: Site, A: Allocator + Copy> Desk<S, A> {
         }
     }
 
+    /// One more intake, under the next number. The desk keeps what it knows of it until it comes home.
     fn make_intake(
         &mut self,
         room: &Tokens<A>,
@@ -89,6 +90,7 @@ impl<S: Site, A: Allocator + Copy> Desk<S, A> {
         Ok(Intake::new(sender, room, ready, home))
     }
 
+    /// One more outlet, under the next number.
     fn make_outlet(
         &mut self,
         room: &Tokens<A>,
@@ -107,6 +109,7 @@ impl<S: Site, A: Allocator + Copy> Desk<S, A> {
         Ok(Outlet::new(receiver, room, ready, home))
     }
 
+    /// The intakes 0 to `count - 1`, in order. Where memory is refused some may have been made: the stage is lost then.
     pub(crate) fn make_intakes(
         &mut self,
         alloc: A,
@@ -124,6 +127,7 @@ impl<S: Site, A: Allocator + Copy> Desk<S, A> {
         Ok(intakes)
     }
 
+    /// The outlets 0 to `count - 1`, in order, as `make_intakes` makes the intakes.
     pub(crate) fn make_outlets(
         &mut self,
         alloc: A,

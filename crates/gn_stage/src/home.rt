@@ -83,6 +83,7 @@ impl<D: Direction, S: Site, A: Allocator> Home<D, S, A> {
         }
     }
 
+    /// Its place among the ends of its kind, from 0 on.
     pub(crate) fn number(&self) -> u32
         ensures { result ≡ self.now.number }
     {
@@ -96,6 +97,7 @@ impl<D: Direction, S: Site, A: Allocator> Home<D, S, A> {
         self.count
     }
 
+    /// What it knows of the queue, for the desk that takes it home.
     pub(crate) fn into_pass(self) -> Pass<Job<A>, View>
         ensures here { IsPassOf S.stage result }
         ensures end { (knows result).end ≡ self }

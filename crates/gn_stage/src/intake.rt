@@ -39,6 +39,7 @@ impl<S: Site, A: Allocator> Model for Intake<S, A> {
 }
 
 impl<S: Site, A: Allocator> Intake<S, A> {
+    /// An intake that has put nothing.
     pub(crate) fn new(
         sender: RuledSender<Job<A>, View, Law, A>,
         room: Sender<(), A>,

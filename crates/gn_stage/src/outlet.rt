@@ -40,6 +40,7 @@ impl<S: Site, A: Allocator> Model for Outlet<S, A> {
 }
 
 impl<S: Site, A: Allocator> Outlet<S, A> {
+    /// An outlet that has taken nothing.
     pub(crate) fn new(
         receiver: RuledReceiver<Job<A>, View, Law, A>,
         room: Receiver<(), A>,

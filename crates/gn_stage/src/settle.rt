@@ -43,6 +43,7 @@ pub struct Unsettled<S: Site, A: Allocator = Global> {
     pub outlets: Vec<OutletHome<S, A>, A>,
 }
 
+/// Whether the end of this number is among them.
 fn is_home<D: Direction, S: Site, A: Allocator>(homes: &[Home<D, S, A>], number: u32) -> bool
     ensures { IsTrue result ↔ Any (λ e. e.number ≡ number) homes.now }
 {
@@ -54,6 +55,7 @@ fn is_home<D: Direction, S: Site, A: Allocator>(homes: &[Home<D, S, A>], number:
     false
 }
 
+/// Whether the ends 0 to `made - 1` are all among them.
 fn are_all_home<D: Direction, S: Site, A: Allocator>(homes: &[Home<D, S, A>], made: u32) -> bool
     ensures { IsTrue result ↔ AreAllHome made homes.now }
 {
@@ -76,6 +78,7 @@ fn count_of<D: Direction, S: Site, A: Allocator>(homes: &[Home<D, S, A>]) -> u64
     count
 }
 
+/// Takes what each intake knows into the desk's own pass.
 fn gather_intakes<S: Site, A: Allocator>(
     sender: &RuledSender<Job<A>, View, Law, A>,
     pass: &mut Pass<Job<A>, View>,
@@ -91,6 +94,7 @@ fn gather_intakes<S: Site, A: Allocator>(
     }
 }
 
+/// Takes what each outlet knows into the desk's own pass.
 fn gather_outlets<S: Site, A: Allocator>(
     sender: &RuledSender<Job<A>, View, Law, A>,
     pass: &mut Pass<Job<A>, View>,
@@ -173,6 +177,7 @@ impl<S: Site, A: Allocator + Copy> Desk<S, A> {
         are_all_home(intakes, self.intakes) && are_all_home(outlets, self.outlets)
     }
 
+    /// Settles a stage whose ends are all there, into a vector that has room: so it can't fail.
     fn settle_whole<R: Wait>(
         self,
         rt: &R,

@@ -55,6 +55,7 @@ impl<A: Allocator> Model for Stage<A> {
 }
 
 impl<A: Allocator + Copy> Tokens<A> {
+    /// A channel for at most so many tokens.
     fn new(alloc: A, most: usize) -> Result<Self, AllocError> {
         let (to, from) = bounded(alloc, most)?;
         Ok(Tokens { to, from })
