@@ -39,6 +39,7 @@ pub(crate) struct Noted<'w, T> {
 }
 
 impl<'w, T> Noted<'w, T> {
+    /// A stream whose failures are noted there.
     pub(crate) fn new(stream: T, why: &'w Why) -> Self {
         Noted { stream, why }
     }
@@ -81,6 +82,7 @@ pub(crate) struct Unbroken<'w, T> {
 }
 
 impl<'w, T> Unbroken<'w, T> {
+    /// A stream that is silent from when a failure noted for the output says that its reader has gone.
     pub(crate) fn new(stream: T, output: &'w Why) -> Self {
         Unbroken { stream, output }
     }

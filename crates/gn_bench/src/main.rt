@@ -35,6 +35,7 @@ fn measure<R: Runtime + Threads + Wait + Sync>(
     Ok(ExitCode::SUCCESS)
 }
 
+/// Both parts, each with a thousand rounds: enough to see that they run.
 fn measure_little<R: Runtime + Threads + Wait + Sync>(
     rt: &R,
     alloc: Global,

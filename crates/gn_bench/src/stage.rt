@@ -13,8 +13,10 @@ use std::thread::Threads;
 use std::time::Instant;
 use std::{io, thread};
 
+/// How many jobs the queue has room for.
 const CAPACITY: usize = 1_024;
 
+/// Puts so many jobs, and lets the intake go.
 fn put_all<S: Site, R: Wait>(rt: &R, mut intake: Intake<S>, jobs: u32) {
     for ticket in 0..jobs {
         let Ok(descriptor) = ping(ticket) else {

@@ -13,6 +13,7 @@ pub(crate) struct Answer {
 }
 
 impl Answer {
+    /// Whether the status and each byte of both streams are the same.
     pub(crate) fn is_same(&self, other: &Answer) -> bool {
         self.status == other.status
             && self.printed.as_slice() == other.printed.as_slice()
@@ -20,6 +21,7 @@ impl Answer {
     }
 }
 
+/// One case, under the title that its result is printed with.
 #[derive(Drop)]
 pub(crate) struct Case {
     pub(crate) title: String,

@@ -205,9 +205,10 @@ fn are_refused<R: Files + AllocGlobal>(
     Ok(found == status && is_as(rt, faults.into_inner().text.as_slice(), fault)?)
 }
 
-/// How many seconds a router has given its neighbour below, more than where none are asked for, and after how many it was stopped.
+/// How many seconds a router has given its neighbour below, more than where none are asked for.
 const GRACE: u64 = 6;
 
+/// After how many seconds that router is stopped.
 const STOP: u64 = 1;
 
 /// Whether a stopped router waits for its neighbour, which holds on, as long as `--grace` asks for.

@@ -9,19 +9,22 @@ use std::time::{Clock, Duration};
 /// How often a router is called until it listens, and how often one that is asked in turn is at most.
 const TIMES: u32 = 500;
 
-/// Milliseconds between two calls of a router, and before a neighbour that listens does so.
+/// Milliseconds between two calls of a router.
 const PAUSE: u64 = 10;
 
+/// Milliseconds before a neighbour that listens does so.
 const LATE: u64 = 300;
 
 /// Milliseconds between two bytes of a neighbour that holds on.
 const TURN: u64 = 30;
 
-/// The bytes of a greeting's request, of its consent, of a Ping and of the Pong that answers it.
+/// The bytes of a greeting's request.
 const REQUEST: usize = 22;
 
+/// The bytes of a greeting's consent.
 const CONSENT: usize = 13;
 
+/// The bytes of a Ping's answer: a header of 23 and a payload of 14.
 const PONG: usize = 37;
 
 /// What a router's one neighbour does. It has the bytes of the case's file, the first 22 of them its greeting.
@@ -94,6 +97,7 @@ fn read_out(peer: &mut TcpStream) -> io::Result<()> {
     Ok(())
 }
 
+/// Writes the bytes, and its end where it ends, and reads to the router's end.
 fn send(router: &mut TcpStream, bytes: &[u8], ends: bool) -> io::Result<()> {
     router.write_all(bytes)?;
     if ends {
@@ -102,6 +106,7 @@ fn send(router: &mut TcpStream, bytes: &[u8], ends: bool) -> io::Result<()> {
     read_out(router)
 }
 
+/// Sends the bytes, reads to the router's end, and then writes a byte each turn, until a write fails.
 fn hold<R: Clock>(rt: &R, router: &mut TcpStream, bytes: &[u8]) -> io::Result<()> {
     send(router, bytes, false)?;
     for _ in 0..TIMES {
@@ -111,6 +116,7 @@ fn hold<R: Clock>(rt: &R, router: &mut TcpStream, bytes: &[u8]) -> io::Result<()
     Ok(())
 }
 
+/// Greets, and sends the Ping with one ID after another, each once the one before was answered.
 fn ask(router: &mut TcpStream, bytes: &[u8]) -> io::Result<()> {
     let mut room = [0u8; PONG];
     let Some((request, ping)) = bytes.split_at_checked(REQUEST) else {

@@ -66,6 +66,7 @@ fn admit<W: Watch>(watch: &W, now: &Cell<u64>) {
     }
 }
 
+/// Makes the run of `SERVE`.
 fn serve<W: Watch>(watch: &W, now: &Cell<u64>) {
     watch.open(1_000_000);
     watch.came(0, SocketAddr::from((Ipv4Addr::LOCALHOST, 5_000)));
@@ -86,6 +87,7 @@ half of the steps: link 3 offered most, 10 at 12:34:56
 nine tenths of the steps: link 3 offered most, 18 at 12:34:56
 ";
 
+/// Makes the run of `FULL`. The clock stands still.
 fn fill<W: Watch>(watch: &W, _now: &Cell<u64>) {
     watch.open(20);
     watch.made(1, Made::Admitted(0));
@@ -101,6 +103,7 @@ routed 65 of 70 admitted, 6 links at 12:34:57
 routed 70 of 70 admitted, 6 links at 12:34:57
 ";
 
+/// Makes the run of `LOAD`.
 fn load<W: Watch, R: Wait>(rt: &R, watch: &W, now: &Cell<u64>) {
     watch.begin(6);
     for ticket in 0..70 {

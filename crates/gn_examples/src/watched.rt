@@ -50,6 +50,7 @@ impl Watch for Told {
 }
 
 impl Told {
+    /// Nothing was told yet.
     fn new() -> Self {
         Told {
             links: AtomicU32::new(0),
@@ -60,6 +61,7 @@ impl Told {
         }
     }
 
+    /// The last number of links and of steps, and how many links came, runs ended and watches were left.
     fn counts(&self) -> [u32; 5] {
         [
             self.links.load(Ordering::SeqCst),

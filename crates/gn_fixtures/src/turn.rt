@@ -73,8 +73,10 @@ pub fn growths<A: Allocator + Copy, T: Turns<A>>(
 
 /// A call whose subject, which it is made on, is a value.
 pub trait Call<A: Allocator> {
+    /// What the call is made on.
     type Subject: Drop;
 
+    /// What the call returns where it has what it asks for.
     type Answer: Drop;
 
     /// What the call is made on, new.

@@ -24,6 +24,7 @@ enum Made {
     Takes,
 }
 
+/// How many calls the run has.
 const CALL_COUNT: usize = 5;
 
 /// The calls of the run, each with the actor who makes it: two links connect, the first sends a Ping, a worker routes it, and
@@ -49,8 +50,10 @@ end\n";
 
 /// Where the calls are made: on what lies under the lock, or on the lock.
 trait Place<L: Ledger, A: Allocator + Copy> {
+    /// Makes the step of an event.
     fn call(&mut self, me: &mut Actor<L, A>, event: &Event<A>) -> Result<(), Refusal>;
 
+    /// Routes ticket 0, whose descriptor was checked.
     fn route(&mut self, me: &mut Actor<L, A>, checked: &Checked<A>) -> Result<(), Refusal>;
 
     /// Connects the actor's own link.

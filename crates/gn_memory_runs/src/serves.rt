@@ -17,6 +17,7 @@ use std::thread;
 use std::thread::Threads;
 use std::time::Clock;
 
+/// What such a run returns.
 type Served<A> = Result<Report<TcpReader<'static>, TcpWriter, A>, RunFault>;
 
 /// Serves two callers, and lets the listener go.

@@ -11,6 +11,7 @@ use std::marker::Brand;
 use std::sync::Wait;
 use std::test::Fail;
 
+/// A Ping as a job of this ticket.
 fn job<A: Allocator>(ticket: u32) -> Result<Job<A>, Fail> {
     let descriptor = ping(0xa1, 5, 0)?;
     Ok(Job { ticket, descriptor })

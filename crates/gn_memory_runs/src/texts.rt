@@ -70,6 +70,7 @@ enum Text {
     WriteHistory,
 }
 
+/// Each text once.
 const TEXTS: [Handles; 5] = [
     Handles(Text::Fields),
     Handles(Text::ReadHeader),
@@ -96,6 +97,7 @@ const GROWTHS: [u64; 5] = [
 /// The first line of the history that is a step, and its fields.
 const CONNECTS: NumberedLine<'static> = (4, b"0 connect = connected 1");
 
+/// The fields of that line.
 const CONNECTS_FIELDS: [&[u8]; 5] = [b"0", b"connect", b"=", b"connected", b"1"];
 
 /// A history as it is written and as it is read, and where.
@@ -109,6 +111,7 @@ struct Writing<A: Allocator> {
     out: Vec<u8, A>,
 }
 
+/// What came of a text.
 #[derive(Drop)]
 enum Known<A: Allocator> {
     Fields,
@@ -118,9 +121,11 @@ enum Known<A: Allocator> {
     Written,
 }
 
+/// The call that reads or writes a text of this kind.
 #[derive(Clone, Copy)]
 struct Handles(Text);
 
+/// A refusal as the table of growths counts it.
 fn failure(refusal: CaptureRefusal) -> Failure {
     match refusal {
         CaptureRefusal::NoMemory => Failure::NoMemory,
@@ -346,6 +351,7 @@ impl Command {
 /// hasn't.
 type Row = (Command, &'static str, &'static str, u64, u64);
 
+/// Each command over the first Ping's capture or history.
 const COMMANDS: [Row; 7] = [
     (Command::Replay, CAPTURE, PRINTED, 48, 49),
     (Command::ReplayHistory, CAPTURE, FIRST_PING, 51, 52),

@@ -28,6 +28,7 @@ struct Writes {
     held: &'static [u8],
 }
 
+/// Each of them once, with the bytes worked out by hand.
 const WRITES: [Writes; 5] = [
     Writes {
         written: Written::OwnPong,
@@ -54,6 +55,7 @@ const WRITES: [Writes; 5] = [
 /// The growths that each meets: a descriptor grows for its header and for its payload.
 const WRITTEN: [u64; 5] = [2, 1, 1, 1, 1];
 
+/// The servent of the Push and of the Query Hit.
 const SERVENT: Guid = Guid([0x5e; 16]);
 
 /// Appends two results, one without extra bytes and one with.
@@ -76,6 +78,7 @@ fn write_two_results<A: Allocator>(out: &mut Vec<u8, A>) -> Result<(), WriteRefu
 }
 
 impl Written {
+    /// Appends it.
     fn write<A: Allocator>(self, out: &mut Vec<u8, A>) -> Result<(), WriteRefusal> {
         match self {
             Written::OwnPong => {

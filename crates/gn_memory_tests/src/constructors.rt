@@ -20,6 +20,7 @@ enum Made {
     Flights,
 }
 
+/// Each of them once.
 const MADE: [Made; 7] = [
     Made::Reassembler,
     Made::TableRouter,

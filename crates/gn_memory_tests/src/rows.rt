@@ -66,6 +66,7 @@ const IN_HISTORY: [Row; 9] = [
 /// A run as a list of events, and the growths that all of them meet.
 type List = (&'static str, u64);
 
+/// The growths at the router over tables.
 const LISTS_WITH_TABLES: [List; 7] = [
     (FIRST_PING, 22),
     (EXPIRED_PING, 24),
@@ -76,6 +77,7 @@ const LISTS_WITH_TABLES: [List; 7] = [
     (CLOSE_AND_REJOIN, 24),
 ];
 
+/// The growths at the router that searches its history.
 const LISTS_IN_HISTORY: [List; 7] = [
     (FIRST_PING, 8),
     (EXPIRED_PING, 9),

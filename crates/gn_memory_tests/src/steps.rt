@@ -51,6 +51,7 @@ fn routed<A: Allocator + Copy>(
     }
 }
 
+/// A copy of a step.
 fn copy_of<A: Allocator + Copy>(alloc: A, step: &Step<A>) -> Result<Step<A>, AllocError> {
     Ok(Step {
         actor: step.actor,
@@ -78,6 +79,7 @@ pub(crate) struct Makes<C> {
 }
 
 impl<C> Makes<C> {
+    /// The step of this number of a history, made by the call that is asked for.
     pub(crate) fn new(asked: Asked, history: &'static str, number: usize) -> Self {
         Makes {
             asked,
@@ -88,6 +90,7 @@ impl<C> Makes<C> {
     }
 }
 
+/// A refusal as the table of growths counts it.
 fn failure(refusal: Refusal) -> Failure {
     match refusal {
         Refusal::NoMemory => Failure::NoMemory,

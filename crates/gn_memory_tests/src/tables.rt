@@ -9,6 +9,7 @@ use gn_wire::{Descriptor, Guid, Kind};
 use std::alloc::Allocator;
 use std::test::Fail;
 
+/// An ID of one byte, sixteen times.
 fn id(byte: u8) -> Guid {
     Guid([byte; 16])
 }
@@ -23,6 +24,7 @@ enum Remembered {
 /// What is remembered, by its ID, with its source; and the sources of the first, second and third ID then.
 type Entry = (Remembered, u8, u32, [Option<u32>; 3]);
 
+/// How many entries are remembered, one after another.
 const ENTRY_COUNT: usize = 8;
 
 /// Where two are remembered, the third makes the first forgotten. A servent that was known comes first again.
@@ -53,6 +55,7 @@ struct Both<A: Allocator + Copy> {
 }
 
 impl<A: Allocator + Copy> Both<A> {
+    /// Where what has this ID came from, if it is remembered.
     fn source(&self, kept: Remembered, byte: u8) -> Option<u32> {
         match kept {
             Remembered::Ping => self.seen.source(Kind::Ping, &id(byte)),
@@ -60,6 +63,7 @@ impl<A: Allocator + Copy> Both<A> {
         }
     }
 
+    /// The sources of the first, second and third ID.
     fn sources(&self, kept: Remembered) -> [Option<u32>; 3] {
         [
             self.source(kept, 0xa1),
@@ -101,6 +105,7 @@ impl<A: Allocator + Copy> Both<A> {
 #[derive(Clone, Copy)]
 struct Remembers(usize);
 
+/// Each entry's number.
 const REMEMBERED: [Remembers; ENTRY_COUNT] = [
     Remembers(0),
     Remembers(1),

@@ -21,6 +21,7 @@ pub(crate) struct Reading {
 }
 
 impl Reading {
+    /// What this command reads, for `of`.
     fn new(command: &'static str, text: Text) -> Option<Self> {
         Some(Reading { command, text })
     }
@@ -46,10 +47,12 @@ struct Bound {
 }
 
 impl Bound {
+    /// A number that is `least` to `most`.
     fn new(name: &'static str, least: u32, most: u32) -> Self {
         Bound { name, least, most }
     }
 
+    /// Whether the field says a number within the bounds.
     fn holds(&self, field: &[u8]) -> bool {
         match number(field) {
             Some(number) => self.least <= number && number <= self.most,

@@ -120,6 +120,7 @@ impl Display for Ends {
     }
 }
 
+/// The word for how a reader ended; `-` where it never began.
 fn reader_word(end: Option<ReaderEnd>) -> &'static str
     ensures { result.now ≡ texts.reader_word end }
 {
@@ -136,6 +137,7 @@ fn reader_word(end: Option<ReaderEnd>) -> &'static str
     }
 }
 
+/// The word for how a writer ended; `-` where it never began.
 fn writer_word(end: Option<WriterEnd>) -> &'static str
     ensures { result.now ≡ texts.writer_word end }
 {

@@ -23,6 +23,7 @@ use std::thread;
 use std::thread::Threads;
 use std::time::Clock;
 
+/// What such a run returns, over a memory without limit.
 pub(crate) type TcpReport<'s> = Report<TcpReader<'s>, TcpWriter>;
 
 /// How the bodies end of a link whose peer sent all it had to, and was sent all that was for it.

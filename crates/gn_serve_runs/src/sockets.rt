@@ -30,6 +30,7 @@ struct Row {
     closers: &'static [u32],
 }
 
+/// One row for each kind of peer.
 const ROWS: [Row; 5] = [
     Row {
         peer: Peer::Dawdles,

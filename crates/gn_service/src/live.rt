@@ -30,6 +30,7 @@ impl Live {
         }
     }
 
+    /// Whether both of its halves have.
     fn has_ended(&self) -> bool {
         self.reader_ended && self.writer_ended
     }
@@ -43,6 +44,7 @@ impl Live {
         }
     }
 
+    /// Ends both of its halves from outside, once.
     fn shut(&mut self) {
         self.is_shut = true;
         self.stopper.shut();

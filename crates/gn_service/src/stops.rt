@@ -69,6 +69,7 @@ impl<'a, A: Allocator> Stops<'a, A> {
         }
     }
 
+    /// Whether the run is to end: it was told to, or its time is up.
     pub(crate) fn is_stopped(&self) -> bool {
         self.stop.is_set()
     }

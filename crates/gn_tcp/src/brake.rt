@@ -50,6 +50,7 @@ impl Brake {
         }
     }
 
+    /// Whether the readers read little at a time.
     pub(crate) fn is_set(&self) -> bool {
         self.is_set.load(Ordering::SeqCst)
     }

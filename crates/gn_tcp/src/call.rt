@@ -20,6 +20,7 @@ pub struct Call {
 }
 
 impl Call {
+    /// A call that has no answer yet.
     fn new() -> Self {
         Call {
             answer: Mutex::new(Answer {

@@ -171,6 +171,7 @@ impl TcpLink<'static> {
         }
     }
 
+    /// A link over a socket that was connected to this peer. Its number is given later.
     fn calling(stream: TcpStream, peer: SocketAddr) -> Self
         ensures { (result.role ≡ Calling) × (result.origin ≡ record { link = 0; called = Some peer }) }
     {

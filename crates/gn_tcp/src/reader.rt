@@ -59,6 +59,7 @@ impl<'s> Model for TcpReader<'s> {
 }
 
 impl<'s> TcpReader<'s> {
+    /// A reader that has given nothing. One whose call isn't answered yet waits for its socket at the first read.
     pub(crate) fn new(
         socket: Socket,
         peer: SocketAddr,

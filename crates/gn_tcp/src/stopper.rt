@@ -11,6 +11,7 @@ pub struct TcpStopper {
 }
 
 impl TcpStopper {
+    /// Ends the link of which this is a further handle.
     pub(crate) fn new(stream: TcpStream) -> Self {
         TcpStopper { stream }
     }

@@ -3,6 +3,7 @@
 
 use crate::run::{Run, USUAL};
 
+/// Each run with what is printed for it.
 pub(crate) const ANSWER_RUNS: [Run; 10] = [
     Run {
         name: "originated",

@@ -10,6 +10,7 @@ use gn_wire::{Descriptor, Guid, Kind};
 use std::alloc::Allocator;
 use std::test::Fail;
 
+/// A Pong to a request that no test sends.
 fn pong<A: Allocator + Copy>(alloc: A) -> Result<Descriptor<A>, Fail> {
     let payload = Bytes::copy_from_slice(alloc, &[1; 14])?;
     match Descriptor::new(Guid([0xd1; 16]), Kind::Pong, 5, 0, payload) {

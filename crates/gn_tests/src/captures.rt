@@ -7,6 +7,7 @@ use std::test::Fail;
 /// Texts that begin so and end with one of these lines, and the line and the cause of their first fault.
 type Faults = (&'static str, &'static str, u64, Cause);
 
+/// Each cause of a fault, at the first line where it can stand.
 const FAULTS: [Faults; 18] = [
     ("", "", 1, Cause::Header),
     ("\n\n", "", 3, Cause::Header),

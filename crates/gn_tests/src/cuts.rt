@@ -19,6 +19,7 @@ struct Cut {
     printed: &'static str,
 }
 
+/// A Query Hit, and a greeting with the Ping behind it.
 const CUTS: [Cut; 2] = [
     Cut {
         name: "query_hit_push",

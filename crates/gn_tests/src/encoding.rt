@@ -74,6 +74,7 @@ fn push_encoded(text: &mut String, words: &[&str]) -> Result<(), AllocError> {
     }
 }
 
+/// Appends a line of a run, with what stands in angle brackets encoded.
 fn push_line(alloc: Global, text: &mut String, line: &str) -> Result<(), AllocError> {
     for (i, piece) in line.split(['<', '>']).enumerate() {
         if i % 2 == 0 {

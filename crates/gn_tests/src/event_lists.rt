@@ -122,6 +122,7 @@ fn push_events<A: Allocator + Copy>(
     Ok(())
 }
 
+/// The events that these lines of a capture ask for.
 fn events<A: Allocator + Copy>(
     texts: Global,
     alloc: A,

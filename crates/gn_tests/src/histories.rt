@@ -4,6 +4,7 @@ use gn_capture::{read_history, read_is_encoded, write_history, written_is_read};
 use gn_text::{CaptureFault, CaptureRefusal, Cause};
 use std::test::Fail;
 
+/// The two lines of a history's settings.
 const SETTINGS: &str =
     "config 4 8 4 8 8 100\nown eeeeeeeeeeeeeeeeeeeeeeeeeeeeeeee 127.0.0.1 6346 5 40\n";
 
@@ -38,10 +39,12 @@ const FAULTS: [(&str, u64, Cause); 15] = [
     ),
 ];
 
+/// A history of these step lines, without their `end`.
 fn history(rt: &HostRuntime, steps: &str) -> Result<String, Fail> {
     Ok(format!(in rt.alloc(); "gnutella-history 1\n{SETTINGS}{steps}")?)
 }
 
+/// What is written of a history that is read.
 fn again(rt: &HostRuntime, text: &[u8]) -> Result<Vec<u8>, Fail> {
     let Ok((config, steps)) = read_history(rt.alloc(), text) else {
         return Err(Fail::new("it is valid"));

@@ -39,6 +39,7 @@ fn history<A: Allocator + Copy>(alloc: A) -> Result<Vec<Step<A>, A>, Fail> {
 /// A configuration by its neighbours, its steps and the files of the own servent, the first step that is judged, and how.
 type Row = (u32, u32, u32, usize, Legality);
 
+/// Each configuration with its verdict.
 const ROWS: [Row; 7] = [
     (4, 100, 5, 0, Legality::Legal),
     (4, 5, 5, 0, Legality::Legal),

@@ -6,6 +6,7 @@ use std::alloc::{AllocError, Allocator};
 use std::process::Abort;
 use std::test::Fail;
 
+/// The servent of each Query Hit.
 const SERVENT: Guid = Guid([0x5e; 16]);
 
 /// Two results, one without extra bytes and one with.

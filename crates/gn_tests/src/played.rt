@@ -90,6 +90,7 @@ fn printed_by<A: Allocator + Copy, C: Historian<A> + Drop, R: Abort + AllocGloba
     Ok(replayed.core)
 }
 
+/// Replays a run, and compares its text, its history and the verdict on that.
 fn plays<A: Allocator + Copy, C: Historian<A> + Drop, R: Abort + AllocGlobal>(
     rt: &R,
     alloc: A,
@@ -104,6 +105,7 @@ fn plays<A: Allocator + Copy, C: Historian<A> + Drop, R: Abort + AllocGlobal>(
     is_kept
 }
 
+/// The same for each run of the three lists.
 fn all_play<A: Allocator + Copy, C: Historian<A> + Drop, R: Abort + AllocGlobal>(
     rt: &R,
     alloc: A,

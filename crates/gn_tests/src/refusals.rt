@@ -15,11 +15,13 @@ const RESULT: HitResult<'static> = HitResult {
     extra: b"z",
 };
 
+/// A result whose name has a zero byte, which would end it early.
 const ZERO_IN_NAME: HitResult<'static> = HitResult {
     name: b"a\0",
     ..RESULT
 };
 
+/// A result whose extra bytes have a zero byte.
 const ZERO_IN_EXTRA: HitResult<'static> = HitResult {
     extra: b"\0",
     ..RESULT

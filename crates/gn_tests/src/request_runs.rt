@@ -2,6 +2,7 @@
 
 use crate::run::{Run, USUAL};
 
+/// Each run with what is printed for it.
 pub(crate) const REQUEST_RUNS: [Run; 9] = [
     Run {
         name: "nothing",

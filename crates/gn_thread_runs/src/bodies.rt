@@ -119,6 +119,7 @@ struct Setting {
     is_alone: bool,
 }
 
+/// A history of a hundred steps, and nothing out of the way.
 const USUAL: Setting = Setting {
     steps: 100,
     forged: None,

@@ -241,6 +241,7 @@ fn work<A: Allocator + Copy, C: Historian<A> + Drop, L: Ledger>(
     }
 }
 
+/// The calls on a hub of at most six steps, at the plain router.
 fn work_plain<A: Allocator + Copy>(
     alloc: A,
     calls: &[(usize, Call)],

@@ -31,6 +31,7 @@ fn connects<A: Allocator + Copy, C: Historian<A> + Drop, L: Ledger, R: Wait>(
     me
 }
 
+/// Two threads connect fifty times each through one service.
 fn both_connect<
     A: Allocator + Copy + Send + Sync,
     C: Historian<A> + Drop + Send,
@@ -113,6 +114,7 @@ fn hundred<
     }
 }
 
+/// That run at the plain router.
 fn hundred_plain<A: Allocator + Copy + Send + Sync, R: Threads + Wait + Sync>(
     rt: &R,
     alloc: A,
@@ -227,6 +229,7 @@ fn takes_all<A: Allocator + Copy, C: Historian<A> + Drop, L: Ledger, R: Wait>(
     taken
 }
 
+/// Eight Pings by a reader and a worker in one thread, and a writer that waits in another.
 fn ping_and_take<
     A: Allocator + Copy + Send + Sync,
     C: Historian<A> + Drop + Send,
@@ -268,6 +271,7 @@ fn wake<
     Ok(sent.and(taken))
 }
 
+/// That run at the plain router.
 fn wake_plain<A: Allocator + Copy + Send + Sync, R: Threads + Wait + Sync>(
     rt: &R,
     alloc: A,

@@ -131,6 +131,7 @@ fn one_thread<S: Site, R: Wait>(
     }
 }
 
+/// That run, with the stage's mark made here.
 fn in_one_thread<R: Wait>(
     rt: &R,
     alloc: Global,
@@ -151,6 +152,7 @@ fn stage_settles(rt: HostRuntime) -> Result<(), Fail> {
     Ok(())
 }
 
+/// Puts the jobs of so many tickets from the first on, and finishes.
 fn put_all<S: Site, R: Wait>(
     rt: &R,
     mut intake: Intake<S>,
@@ -161,6 +163,7 @@ fn put_all<S: Site, R: Wait>(
     intake.finish()
 }
 
+/// Takes jobs until there are no more: their tickets, in order.
 fn take_all<S: Site, R: Wait>(
     rt: &R,
     alloc: Global,
@@ -374,6 +377,7 @@ fn outlet_leaves<S: Site + Send, R: Threads + Wait + Sync + Clock>(
     Ok(back)
 }
 
+/// That run, with the stage's mark made here.
 fn left<R: Threads + Wait + Sync + Clock>(
     rt: &R,
     alloc: Global,

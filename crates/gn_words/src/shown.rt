@@ -13,6 +13,7 @@ use clap::{ArgMatches, Command};
 use gn_show::{Form, View};
 use std::alloc::{AllocError, Global};
 
+/// `gn show`, with its three flags.
 pub(crate) fn show_command<'a>(alloc: Global) -> Result<Command<'a>, AllocError>
     ensures shape { IfOk result (λ command. app_of command ≡ show_app) }
     ensures globals { IfOk result (λ command. (fields_of command).has_globals ≡ false) }

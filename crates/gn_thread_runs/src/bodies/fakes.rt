@@ -41,6 +41,7 @@ impl Doorman {
         }
     }
 
+    /// Notes a word, while there is room for one.
     fn tell(&self, word: &'static str) {
         let count = self.count.get();
         let mut told = self.told.get();

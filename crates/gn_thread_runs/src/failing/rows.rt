@@ -62,6 +62,7 @@ struct Row {
     written: Written,
 }
 
+/// One row for each kind of failure.
 const ROWS: [Row; 8] = [
     Row {
         role: Role::Plain,
