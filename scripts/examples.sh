@@ -1,24 +1,20 @@
 #!/bin/sh
 # Replays each capture of examples/, audits each history with the program that the first argument names, and explains those that
 # have an explanation; compares what it prints with the text beside it: NAME.replay, NAME.verdict, NAME.explained. Loads the
-# capture that is for loads, and audits its history. Compares examples/ with the copies that gn_examples and gn_conformance have,
-# too. Ends with status 1 where one differs. With --copy in place of a program it makes those copies anew, and does no more.
+# capture that is for loads, and audits its history. Compares examples/ with the copy that gn_examples has, too. Ends with status 1
+# where one differs. With --copy in place of a program it makes that copy anew, and does no more.
 case ${1-} in -h | --help) sed -n '2,/^[^#]/s/^# //p' "$0"; exit ;; esac
 gn=${1:?the path of gn, or --copy}
 failed=0
 # the gate runs a program over a copy of its own, and takes no links
 if [ "$gn" = --copy ]; then
 	find crates/gn_examples/data -maxdepth 1 -type f -delete
+	rm -f crates/gn_examples/data/conformance/*
 	find examples -maxdepth 1 -type f ! -name '*.pcap' -exec cp -t crates/gn_examples/data {} +
-	rm -f crates/gn_conformance/data/*
-	find examples/conformance -type f ! -name README.md -exec cp -t crates/gn_conformance/data {} +
+	find examples/conformance -type f ! -name README.md -exec cp -t crates/gn_examples/data/conformance {} +
 	exit
 fi
-if ! diff -r -x README.md examples/conformance crates/gn_conformance/data >&2; then
-	echo 'examples/conformance and crates/gn_conformance/data differ: scripts/examples.sh --copy' >&2
-	failed=1
-fi
-if ! diff -r -x '*.pcap' -x cases -x conformance examples crates/gn_examples/data >&2; then
+if ! diff -r -x '*.pcap' -x cases -x README.md examples crates/gn_examples/data >&2; then
 	echo 'examples/ and crates/gn_examples/data differ: scripts/examples.sh --copy' >&2
 	failed=1
 fi

@@ -1,12 +1,19 @@
 //! Each case of a table, as `command` answers it, compared with the files that have what is wanted.
 #![tactic(auto)]
 
+mod answers;
+mod case;
+mod conformance;
 mod faults;
 mod neighbours;
+mod notation;
 mod progressed;
+mod set;
 mod streams;
 mod watched;
 
+use answers::Answer;
+use conformance::try_set;
 use gn_io::{ReaderSource, WriterSink};
 use gn_links::NoGate;
 use gn_program::{Head, Kept, command_with, refuse_words};
@@ -27,14 +34,6 @@ const TAKEN: u16 = 26_349;
 /// What a caller says first.
 const GREETING: &[u8] = b"GNUTELLA CONNECT/0.4\n\n";
 
-/// What a command answers: its status, what it prints, and the faults that it writes.
-#[derive(Drop)]
-struct Answered {
-    status: u8,
-    printed: Vec<u8>,
-    faults: Vec<u8>,
-}
-
 /// What a command answers that reads this input, and writes to streams of which either may fail.
 fn answer<
     R: Threads
@@ -44,7 +43,7 @@ fn answer<
         + Input<Reader = StdinLock<'static>>
         + Sync
         + AllocGlobal,
->(rt: &R, words: &[&str], input: Given<'_>, fails: (bool, bool)) -> Answered {
+>(rt: &R, words: &[&str], input: Given<'_>, fails: (bool, bool)) -> Answer {
     let head = Head::new();
     let mut reader = ReaderSource::new(Kept::new(input, &head));
     let mut writer = WriterSink::new(Taken::new(rt.alloc(), fails.0));
@@ -59,7 +58,7 @@ fn answer<
         &mut writer,
         &mut faults,
     );
-    Answered {
+    Answer {
         status: ended.status,
         printed: writer.into_inner().text,
         faults: faults.into_inner().text,
@@ -81,7 +80,7 @@ fn answer_beside<
     input: Given<'_>,
     fails: (bool, bool),
     neighbour: Option<Neighbour<'_>>,
-) -> Answered {
+) -> Answer {
     let Some(neighbour) = neighbour else {
         return answer(rt, words, input, fails);
     };
@@ -176,7 +175,7 @@ fn is_as_wanted<
         None => Given::new(bytes.as_slice(), *input == "fails"),
     };
     let fails = (*printed == "fails", *faults == "fails");
-    let Answered {
+    let Answer {
         status: ended,
         printed: text,
         faults: faulted,
@@ -275,5 +274,6 @@ fn main(rt: HostRuntime) -> io::Result<()> {
         are_told,
     )?;
     let are_written = faults::are_written(&rt)?;
-    print(&rt, "each fault has its line", are_written)
+    print(&rt, "each fault has its line", are_written)?;
+    try_set(&rt)
 }

@@ -3,8 +3,8 @@
 use crate::streams::{Given, Taken};
 use gn_io::{ReaderSource, WriterSink};
 use gn_links::{Gate, Watch};
-use gn_program::{Head, command_with};
-use gn_tables::TableRouter;
+use gn_program::{Head, Kept, command_with};
+use gn_tables::{Forgetful, TableRouter};
 use std::io::{self, StdinLock};
 use std::net::{Net, SocketAddr, TcpListener, TcpStream};
 use std::sync::Wait;
@@ -109,15 +109,16 @@ pub(crate) fn are_told<
     ];
     for (words, counts) in rows {
         let told = Told::new();
-        let mut reader = ReaderSource::new(Given::new(SILENT, false));
+        let head = Head::new();
+        let mut reader = ReaderSource::new(Kept::new(Given::new(SILENT, false), &head));
         let mut writer = WriterSink::new(Taken::new(rt.alloc(), false));
         let mut faults = WriterSink::new(Taken::new(rt.alloc(), false));
-        let ended = command_with::<TableRouter, R, Told, &str, _, _, _>(
+        let ended = command_with::<TableRouter<_, Forgetful>, R, Told, &str, _, _, _>(
             rt,
             rt.alloc(),
             words,
             &told,
-            &Head::new(),
+            &head,
             &mut reader,
             &mut writer,
             &mut faults,

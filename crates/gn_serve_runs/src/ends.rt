@@ -10,36 +10,26 @@ use std::test::Fail;
 use std::thread;
 use std::time::Duration;
 
-/// A peer that reads nothing doesn't hold a run that is stopped: it is let go once the grace is over.
+/// A peer that reads nothing until the run is stopped is written all that waits for it then. One that never reads doesn't hold the
+/// run: it is let go once the grace is over. Whoever stops the run has all.
 #[test]
-fn a_deaf_peer_is_let_go(rt: HostRuntime) -> Result<(), Fail> {
-    let stop = Stop::new(None, false);
-    let serving = Serving {
-        stop: Some(&stop),
-        grace: Some(Duration::from_millis(500)),
-        ..Serving::UNLIMITED
-    };
-    let report = report_of(&rt, rt.alloc(), Peer::Deaf, 10_000, 2, &serving)?;
-    let is_let_go = have_ended(&report, 0, 1, (ReaderEnd::Bytes, WriterEnd::WriteFailed));
-    let is_drained = have_ended(&report, 1, 2, DRAINED);
-    drop(report);
-    assert!(rt; is_let_go && is_drained);
-    Ok(())
-}
-
-/// A peer that reads nothing until the run is stopped is written all that waits for it then.
-#[test]
-fn a_late_reader_gets_all(rt: HostRuntime) -> Result<(), Fail> {
-    let stop = Stop::new(None, false);
-    let serving = Serving {
-        stop: Some(&stop),
-        grace: Some(Duration::from_secs(20)),
-        ..Serving::UNLIMITED
-    };
-    let report = report_of(&rt, rt.alloc(), Peer::ReadsLate, 10_000, 2, &serving)?;
-    let has_all = have_ended(&report, 0, 2, DRAINED);
-    drop(report);
-    assert!(rt; has_all);
+fn a_peer_that_reads_nothing_has_a_grace(rt: HostRuntime) -> Result<(), Fail> {
+    let let_go = (ReaderEnd::Bytes, WriterEnd::WriteFailed);
+    for (peer, millis, ends) in [
+        (Peer::Deaf, 500, let_go),
+        (Peer::ReadsLate, 20_000, DRAINED),
+    ] {
+        let stop = Stop::new(None, false);
+        let serving = Serving {
+            stop: Some(&stop),
+            grace: Some(Duration::from_millis(millis)),
+            ..Serving::UNLIMITED
+        };
+        let report = report_of(&rt, rt.alloc(), peer, 10_000, 2, &serving)?;
+        let is_right = have_ended(&report, 0, 1, ends) && have_ended(&report, 1, 2, DRAINED);
+        drop(report);
+        assert!(rt; is_right, "{millis} ms");
+    }
     Ok(())
 }
 

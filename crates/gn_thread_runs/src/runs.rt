@@ -186,21 +186,18 @@ fn two_readers_meet(rt: HostRuntime) -> Result<(), Fail> {
     Ok(())
 }
 
+/// A run has 1 to 64 workers, and names a link that can't be split.
 #[test]
-fn a_link_that_cannot_be_split_is_named(rt: HostRuntime) -> Result<(), Fail> {
+fn runs_that_do_not_begin(rt: HostRuntime) -> Result<(), Fail> {
     let meeting = Meeting::new();
-    let links = paced_links(rt.alloc(), 0, &meeting, None)?;
-    let ran = table_run(&rt, rt.alloc(), links, 1, &NoGate);
-    assert_eq!(rt; ran.err(), Some(RunFault::Link(1)));
-    Ok(())
-}
-
-#[test]
-fn a_run_has_1_to_64_workers(rt: HostRuntime) -> Result<(), Fail> {
-    for workers in [0, 65] {
-        let links = plain_links(rt.alloc(), 1, 0)?;
+    for (workers, fault) in [
+        (0, RunFault::BadWorkers),
+        (65, RunFault::BadWorkers),
+        (1, RunFault::Link(1)),
+    ] {
+        let links = paced_links(rt.alloc(), 0, &meeting, None)?;
         let ran = table_run(&rt, rt.alloc(), links, workers, &NoGate);
-        assert_eq!(rt; ran.err(), Some(RunFault::BadWorkers), "{workers} workers");
+        assert_eq!(rt; ran.err(), Some(fault), "{workers} workers");
     }
     Ok(())
 }

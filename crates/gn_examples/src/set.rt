@@ -1,18 +1,18 @@
-//! The files of the set, and the cases of each.
+//! The files of the conformance set, and the cases of each.
 
 use crate::case::Case;
 use crate::notation::bad_case;
 use std::rt::Files;
 use std::{fs, io};
 
-/// The names of the files where the program runs, in order.
-pub(crate) fn names_of<R: Files + AllocGlobal + Clone + Drop>(rt: &R) -> io::Result<Vec<String>> {
-    let mut names = Vec::new(rt.alloc());
-    for entry in fs::read_dir(rt, ".")? {
-        names.push(String::from_str(rt.alloc(), entry?.file_name())?)?;
+/// The files of the set where the program runs, in order.
+pub(crate) fn files_of<R: Files + AllocGlobal + Clone + Drop>(rt: &R) -> io::Result<Vec<String>> {
+    let mut files = Vec::new(rt.alloc());
+    for entry in fs::read_dir(rt, "conformance")? {
+        files.push(format!(in rt.alloc(); "conformance/{}", entry?.file_name())?)?;
     }
-    names.sort()?;
-    Ok(names)
+    files.sort()?;
+    Ok(files)
 }
 
 /// The case of a file that has what is printed of another one.

@@ -1,27 +1,11 @@
-//! A case of the set: what the program is given, and what it has to answer.
+//! A case of the conformance set: what the program is given, and what it has to answer.
 
+use crate::answers::Answer;
 use crate::notation::{append_bytes, bad_case};
 use std::alloc::Global;
 use std::io;
 
-/// What the program answers: its status, what it prints, and the lines of its faults.
-#[derive(Drop)]
-pub(crate) struct Answer {
-    pub(crate) status: u8,
-    pub(crate) printed: Vec<u8>,
-    pub(crate) faults: Vec<u8>,
-}
-
-impl Answer {
-    /// Whether the status and each byte of both streams are the same.
-    pub(crate) fn is_same(&self, other: &Answer) -> bool {
-        self.status == other.status
-            && self.printed.as_slice() == other.printed.as_slice()
-            && self.faults.as_slice() == other.faults.as_slice()
-    }
-}
-
-/// One case, under the title that its result is printed with.
+/// A case of the conformance set.
 #[derive(Drop)]
 pub(crate) struct Case {
     pub(crate) title: String,
