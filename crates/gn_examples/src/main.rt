@@ -12,12 +12,10 @@ mod set;
 mod streams;
 mod watched;
 
-use answers::Answer;
+use answers::{Answer, answer};
 use conformance::try_set;
-use gn_io::{ReaderSource, WriterSink};
-use gn_links::NoGate;
-use gn_program::{Head, Kept, command_with, refuse_words};
-use gn_tables::{Forgetful, TableRouter};
+use gn_io::WriterSink;
+use gn_program::refuse_words;
 use neighbours::Neighbour;
 use std::io::{ErrorKind, StdinLock};
 use std::net::{Ipv4Addr, Net, SocketAddr, TcpListener, TcpStream};
@@ -34,38 +32,7 @@ const TAKEN: u16 = 26_349;
 /// What a caller says first.
 const GREETING: &[u8] = b"GNUTELLA CONNECT/0.4\n\n";
 
-/// What a command answers that reads this input, and writes to streams of which either may fail.
-fn answer<
-    R: Threads
-        + Wait
-        + Net<Listener = TcpListener, Stream = TcpStream>
-        + Clock
-        + Input<Reader = StdinLock<'static>>
-        + Sync
-        + AllocGlobal,
->(rt: &R, words: &[&str], input: Given<'_>, fails: (bool, bool)) -> Answer {
-    let head = Head::new();
-    let mut reader = ReaderSource::new(Kept::new(input, &head));
-    let mut writer = WriterSink::new(Taken::new(rt.alloc(), fails.0));
-    let mut faults = WriterSink::new(Taken::new(rt.alloc(), fails.1));
-    let ended = command_with::<TableRouter<_, Forgetful>, _, _, _, _, _, _>(
-        rt,
-        rt.alloc(),
-        words,
-        &NoGate,
-        &head,
-        &mut reader,
-        &mut writer,
-        &mut faults,
-    );
-    Answer {
-        status: ended.status,
-        printed: writer.into_inner().text,
-        faults: faults.into_inner().text,
-    }
-}
-
-/// The same, beside the router's neighbour, where there is one: it calls the router, or the router calls it.
+/// What a command answers beside the router's neighbour, where there is one: it calls the router, or the router calls it.
 fn answer_beside<
     R: Threads
         + Wait
@@ -267,7 +234,7 @@ fn main(rt: HostRuntime) -> io::Result<()> {
     )?;
     let are_shown = progressed::are_shown(&rt);
     print(&rt, "progress is shown in its lines", are_shown)?;
-    let are_told = watched::are_told(&rt)?;
+    let are_told = watched::are_told(&rt);
     print(
         &rt,
         "a watch is told of what it is asked to watch",

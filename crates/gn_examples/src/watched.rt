@@ -1,11 +1,9 @@
 //! What a watch is told of a command.
 
-use crate::streams::{Given, Taken};
-use gn_io::{ReaderSource, WriterSink};
+use crate::answers::answer_under;
+use crate::streams::Given;
 use gn_links::{Gate, Watch};
-use gn_program::{Head, Kept, command_with};
-use gn_tables::{Forgetful, TableRouter};
-use std::io::{self, StdinLock};
+use std::io::StdinLock;
 use std::net::{Net, SocketAddr, TcpListener, TcpStream};
 use std::sync::Wait;
 use std::sync::atomic::{AtomicU32, Ordering};
@@ -86,7 +84,7 @@ pub(crate) fn are_told<
         + Input<Reader = StdinLock<'static>>
         + Sync
         + AllocGlobal,
->(rt: &R) -> io::Result<bool> {
+>(rt: &R) -> bool {
     let load: &[&str] = &["gn", "load", "-w", "1"];
     let watched_load: &[&str] = &["gn", "load", "-w", "1", "--progress"];
     let serve: &[&str] = &["gn", "serve", "--port=26361", "--accept=0", "-w", "1"];
@@ -109,23 +107,11 @@ pub(crate) fn are_told<
     ];
     for (words, counts) in rows {
         let told = Told::new();
-        let head = Head::new();
-        let mut reader = ReaderSource::new(Kept::new(Given::new(SILENT, false), &head));
-        let mut writer = WriterSink::new(Taken::new(rt.alloc(), false));
-        let mut faults = WriterSink::new(Taken::new(rt.alloc(), false));
-        let ended = command_with::<TableRouter<_, Forgetful>, R, Told, &str, _, _, _>(
-            rt,
-            rt.alloc(),
-            words,
-            &told,
-            &head,
-            &mut reader,
-            &mut writer,
-            &mut faults,
-        );
-        if ended.status != 0 || told.counts() != counts {
-            return Ok(false);
+        let given = Given::new(SILENT, false);
+        let answered = answer_under(rt, words, &told, given, (false, false));
+        if answered.status != 0 || told.counts() != counts {
+            return false;
         }
     }
-    Ok(true)
+    true
 }

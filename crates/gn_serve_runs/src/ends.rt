@@ -92,11 +92,3 @@ fn a_caller_waits_for_no_peer(rt: HostRuntime) -> Result<(), Fail> {
     assert!(rt; is_good && never_came && is_served && steps == 5, "{steps}");
     Ok(())
 }
-
-#[test]
-fn nobody_is_accepted_after_the_last(rt: HostRuntime) -> Result<(), Fail> {
-    let report = report_of(&rt, rt.alloc(), Peer::Last, 100, 1, &Serving::UNLIMITED)?;
-    assert!(rt; have_ended(&report, 0, 1, DRAINED));
-    drop(report);
-    Ok(())
-}

@@ -23,32 +23,66 @@ fn counts_of(report: &TcpReport<'_>) -> [u32; 6] {
     ]
 }
 
-#[test]
-fn two_clients_are_served(rt: HostRuntime) -> Result<(), Fail> {
-    let report = report_of(&rt, rt.alloc(), Peer::Two, 100, 2, &Serving::UNLIMITED)?;
-    assert_eq!(rt; report.history.len(), 10);
-    assert_eq!(rt; counts_of(&report), [2, 2, 1, 1, 2, 2]);
-    assert!(rt; have_ended(&report, 0, 2, DRAINED));
-    drop(report);
-    Ok(())
+/// What must be found of a run over such a peer.
+struct Row {
+    peer: Peer,
+    /// How many callers are let in.
+    accept: u32,
+    steps: usize,
+    counts: [u32; 6],
+    links: usize,
+    /// How the first link ends. Any other is drained.
+    first: (ReaderEnd, WriterEnd),
 }
 
-#[test]
-fn a_stranger_is_given_up(rt: HostRuntime) -> Result<(), Fail> {
-    let refused = (ReaderEnd::GreetingRefused, WriterEnd::NeverOpened);
-    let report = report_of(&rt, rt.alloc(), Peer::Stranger, 100, 2, &Serving::UNLIMITED)?;
-    assert_eq!(rt; report.history.len(), 2);
-    assert!(rt; have_ended(&report, 0, 1, refused) && have_ended(&report, 1, 2, DRAINED));
-    drop(report);
-    Ok(())
-}
+/// What is found of each kind of peer, in the order in which they are tried.
+const ROWS: [Row; 4] = [
+    Row {
+        peer: Peer::Two,
+        accept: 2,
+        steps: 10,
+        counts: [2, 2, 1, 1, 2, 2],
+        links: 2,
+        first: DRAINED,
+    },
+    Row {
+        peer: Peer::Stranger,
+        accept: 2,
+        steps: 2,
+        counts: [1, 0, 0, 0, 0, 1],
+        links: 2,
+        first: (ReaderEnd::GreetingRefused, WriterEnd::NeverOpened),
+    },
+    Row {
+        peer: Peer::Called,
+        accept: 0,
+        steps: 5,
+        counts: [1, 1, 1, 0, 1, 1],
+        links: 1,
+        first: DRAINED,
+    },
+    Row {
+        peer: Peer::Last,
+        accept: 1,
+        steps: 2,
+        counts: [1, 0, 0, 0, 0, 1],
+        links: 1,
+        first: DRAINED,
+    },
+];
 
 #[test]
-fn a_peer_is_called(rt: HostRuntime) -> Result<(), Fail> {
-    let report = report_of(&rt, rt.alloc(), Peer::Called, 100, 0, &Serving::UNLIMITED)?;
-    assert_eq!(rt; report.history.len(), 5);
-    assert!(rt; have_ended(&report, 0, 1, DRAINED));
-    drop(report);
+fn peers_are_served(rt: HostRuntime) -> Result<(), Fail> {
+    for (number, row) in ROWS.iter().enumerate() {
+        let serving = Serving::UNLIMITED;
+        let report = report_of(&rt, rt.alloc(), row.peer, 100, row.accept, &serving)?;
+        let found = (report.history.len(), counts_of(&report));
+        let is_first = have_ended(&report, 0, 1, row.first);
+        let are_drained = have_ended(&report, 1, row.links, DRAINED);
+        drop(report);
+        assert_eq!(rt; found, (row.steps, row.counts), "row {number}");
+        assert!(rt; is_first && are_drained, "row {number}");
+    }
     Ok(())
 }
 
