@@ -5,10 +5,12 @@ mod closes;
 mod compared;
 mod ends;
 mod events;
+mod keeping;
 mod own;
 mod report;
 mod routes;
 mod survey;
 
 pub use events::conn_of;
+pub use keeping::{Closed, close, kept};
 pub use report::{LinkReport, Report};

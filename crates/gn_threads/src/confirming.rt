@@ -34,8 +34,8 @@ use crate::reported::{Linked, Worked};
 use crate::shares::Shares;
 use gn_hub::{Actor, Hub};
 use gn_links::{LinkReader, LinkWriter};
-use gn_report::Report;
-use gn_rules::{Config, Historian, RouterCore, Stats, Step, is_same_config};
+use gn_report::{Closed, Report, close, kept};
+use gn_rules::{Config, Historian, RouterCore, Step};
 use gn_shake::Role;
 use std::alloc::Allocator;
 use std::sync::ledger::{Ledger, Share};
@@ -78,41 +78,11 @@ fn misconfigured(is_configured: bool, house: u32) -> Option<u32>
     if is_configured { None } else { Some(house) }
 }
 
-/// What a router leaves: its history, its counters, and whether it has the configuration of the call.
-#[derive(Drop)]
-struct Closed<A: Allocator> {
-    history: Vec<Step<A>, A>,
-    stats: Stats,
-    is_configured: bool,
-}
-
-/// What the router of a hub leaves.
-fn close<L: Ledger, C: Historian<A>, A: Allocator + Copy>(
-    config: &Config,
-    hub: Hub<C, L, A>,
-) -> Closed<A>
-    ensures legal { result.is_configured ≡ true → IsLegal config.now (reverse result.history.items) }
-    ensures stats { result.stats ≡ stats_of (reverse result.history.items) }
-    ensures steps { result.history.items ≡ hub.steps }
+/// Whether a run stopped at this fault because its history is full.
+fn is_full(fault: RunFault) -> bool
+    ensures { fault ≡ HistoryFull → result ≡ true }
 {
-    let router = hub.into_router();
-    let is_configured = is_same_config(router.config(), config);
-    let stats = router.stats();
-    Closed {
-        history: router.into_history(),
-        stats,
-        is_configured,
-    }
-}
-
-/// Whether a history has as many steps as it may have, where the run stopped because it is full.
-fn is_as_long(config: &Config, fault: RunFault, steps: usize) -> bool
-    ensures { result ≡ true → fault ≡ HistoryFull → steps ≡ config.now.numbers.steps }
-{
-    match fault {
-        RunFault::HistoryFull => steps == config.numbers.steps as usize,
-        _ => true,
-    }
+    matches!(fault, RunFault::HistoryFull)
 }
 
 /// Keeps the history of a run that stopped at this fault: all of its steps. It keeps nothing where its router hasn't the
@@ -127,13 +97,7 @@ pub(crate) fn keep_history<L: Ledger, C: Historian<A>, A: Allocator + Copy>(
     ensures own { IfSome history.new (λ steps. steps.items ≡ hub.steps) }
     ensures full { fault ≡ HistoryFull → IfSome history.new (λ steps. length steps.items ≡ config.now.numbers.steps) }
 {
-    let Closed {
-        history: steps,
-        is_configured,
-        ..
-    } = close(config, hub);
-    let is_kept = is_configured && is_as_long(config, fault, steps.len());
-    *history = if is_kept { Some(steps) } else { None };
+    *history = kept(config, is_full(fault), hub);
 }
 
 /// The report of a run, compared with its ledger, its history and the configuration of the call. `unconfirmed` is a worker

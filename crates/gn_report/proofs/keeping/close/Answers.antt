@@ -1,6 +1,6 @@
 use Rattle.std.proofs.Common.{◌∙◌, reverse, sym, subst}
 use Rattle.gn_rules.specs.Answer.{IsLegal}
-use Rattle.gn_threads.proofs.confirming.close.Goals as goal
+use Rattle.gn_report.proofs.keeping.close.Goals as goal
 
 pub returns-clause-legal : goal.returns-clause-legal
 returns-clause-legal g c = λ same.
