@@ -36,8 +36,8 @@ impl<A: Allocator + Copy> Model for Neighbours<A> {
     ghost invariant = { λ n. AreRings n.rows.items n.most n.room };
 }
 
-/// The place of a connection among the rows, which are ascending.
-fn find_row<A: Allocator>(rows: &[Row<A>], connection: u32) -> Option<usize>
+/// The place of a connection among the rows, which are ascending, by binary search.
+fn search_row<A: Allocator>(rows: &[Row<A>], connection: u32) -> Option<usize>
     requires { IsStrictlyIncreasing (keys_of rows.now) }
     ensures { result ≡ position (λ r. nat_eq connection r.0) rows.now }
 {
@@ -64,6 +64,19 @@ fn place_of<A: Allocator>(rows: &[Row<A>], near: usize, connection: u32) -> Opti
         return Some(near);
     }
     find_row(rows, connection)
+}
+
+/// The place of a connection among the rows, which are ascending. It is looked for first where it stands as long as no connection
+/// before it has closed; else the rows are searched.
+fn find_row<A: Allocator>(rows: &[Row<A>], connection: u32) -> Option<usize>
+    requires { IsStrictlyIncreasing (keys_of rows.now) }
+    ensures { result ≡ position (λ r. nat_eq connection r.0) rows.now }
+{
+    let near = connection.saturating_sub(1) as usize;
+    if stands_at(rows, near, connection) {
+        return Some(near);
+    }
+    search_row(rows, connection)
 }
 
 impl<A: Allocator + Copy> Neighbours<A> {

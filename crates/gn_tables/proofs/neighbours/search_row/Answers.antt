@@ -1,7 +1,7 @@
 use Rattle.std.proofs.Common.{rules, ◌∙◌}
 use Rattle.std.proofs.lemmas.List.Sorted.{answers_always}
 use Rattle.gn_tables.proofs.SearchLemmas.{searched}
-use Rattle.gn_tables.proofs.neighbours.find_row.Goals as goal
+use Rattle.gn_tables.proofs.neighbours.search_row.Goals as goal
 
 pub returns : goal.returns
 returns g c =
