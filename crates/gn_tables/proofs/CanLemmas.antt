@@ -14,14 +14,14 @@ use Rattle.gn_rules.specs.declared.event.Event.TheVariants.{Connect, Close, Admi
 use Rattle.gn_rules.specs.declared.receipt.Step.{Step}
 use Rattle.gn_rules.specs.declared.refusal.Refusal.{Refusal}
 use Rattle.gn_rules.specs.declared.reply.Reply.{Reply}
-use Rattle.gn_rules.specs.declared.reply.Reply.TheVariants.{Connected, TooMany, Admitted, Busy, Crowded, Sent}
+use Rattle.gn_rules.specs.declared.reply.Reply.TheVariants.{Connected, TooMany, Closed, Admitted, Busy, Crowded, Taken, Sent}
 use Rattle.gn_rules.specs.declared.sends.Sending.{Sending}
 use Rattle.gn_rules.specs.declared.statistics.Counter.{Counter}
 use Rattle.gn_rules.specs.declared.statistics.Counter.TheVariants as counter
-use Rattle.gn_rules.specs.Answer.{answer, decision_reply, may_originate}
+use Rattle.gn_rules.specs.Answer.{answer, decision_reply, event_answer, may_originate}
 use Rattle.gn_rules.specs.Decision.{decide}
 use Rattle.gn_rules.specs.Flight.{Admission, flying, flying_from, in_flight, tickets}
-use Rattle.gn_rules.specs.History.{connections, live, live_connections}
+use Rattle.gn_rules.specs.History.{connections, live, live_connections, sends_of}
 use Rattle.gn_rules.specs.Output.{out}
 use Rattle.gn_rules.specs.Sending.{fanout}
 use Rattle.gn_rules.specs.SeenEntries.{is_remembered}
@@ -30,12 +30,12 @@ use Rattle.gn_rules.proofs.OutputLemmas.{counters_add_up}
 use Rattle.gn_tables.specs.declared.flights.Flight.{Flight}
 use Rattle.gn_tables.specs.Outputs.{Outputs}
 use Rattle.gn_tables.specs.declared.tables.Tables.{Tables}
-use Rattle.gn_tables.specs.Followed.{CanAdmit, CanConnect, CanFollow, CanMove, CanOriginate, CanRemember, CanRoute, IsNewKey}
+use Rattle.gn_tables.specs.Followed.{CanAdmit, CanConnect, CanFollow, CanMove, CanRemember, CanRoute, IsNewKey, moved, routed}
 use Rattle.gn_tables.specs.Sent.{CanSend}
 use Rattle.gn_tables.specs.Tabled.{IsTabled, carried, flight_of}
 use Rattle.gn_tables.proofs.DecisionLemmas.{key_is_new, route_sends, servent_is_known}
 use Rattle.gn_tables.proofs.FlightLemmas.{absent}
-use Rattle.gn_tables.proofs.FollowLemmas.{below_from, flight_for, live_for, origin_for, room_for}
+use Rattle.gn_tables.proofs.FollowLemmas.{below_from, first_for, flight_for, live_for, origin_for, room_for}
 use Rattle.gn_tables.proofs.ReadLemmas.{count_known}
 use Rattle.gn_tables.proofs.SendableLemmas.{AreSendable, fanout_sends, sends_fit}
 
@@ -100,22 +100,13 @@ module _ {A : Type 0} (s : Config) (past : List (Step A)) (t : Tables A) (are : 
       subst (λ (r : Reply A). CanAdmit r t) is (fits, few, none)
 
   routes : (u : ℕ) (reply : Reply A) (a : Admission) → in_flight past u ≡ Some a → reply ≡ decision_reply s past a (decide s past a) → CanRoute u reply t
-  routes u reply a there is = subst (λ (r : Reply A). CanRoute u r t) (sym is) (record {
-    remembers = λ f got.
-        let found : Some f ≡ Some (flight_of a) = sym got ∙ are.flights_are.each u ∙ ap (option_map flight_of) there in
-        let same : f ≡ flight_of a = cc in
-        subst (λ (g : Flight A). CanRemember (decision_reply s past a (decide s past a)) (carried g) t.seen) (sym same) (record {
-          is_new = λ keeps. new_key _ (key_is_new s past a keeps);
-          verdict = λ hit. servent_is_known s past a hit;
-        });
-    sends = find_room _ (route_sends s past a are.numbered.apart);
-  })
-
-  originates : (d : Packet) (reply : Reply A) → is_remembered s past (key_of d) ≡ false → reply ≡ Sent (fanout s past 0 d) → CanOriginate d reply t
-  originates d reply new is = subst (λ (r : Reply A). CanOriginate d r t) (sym is) (record {
-    is_new = new_key (key_of d) new;
-    sends = find_room (fanout s past 0 d) (fanout_sends s past are.numbered.apart 0 d);
-  })
+  routes u reply a there is = subst (λ (r : Reply A). CanRoute u r t) (sym is) (λ f got.
+      let found : Some f ≡ Some (flight_of a) = sym got ∙ are.flights_are.each u ∙ ap (option_map flight_of) there in
+      let same : f ≡ flight_of a = cc in
+      subst (λ (g : Flight A). CanRemember (decision_reply s past a (decide s past a)) (carried g) t.seen) (sym same) (record {
+        is_new = λ keeps. new_key _ (key_is_new s past a keeps);
+        verdict = λ hit. servent_is_known s past a hit;
+      }))
 
   can_move : (event : Event A) (reply : Reply A) → length past < 1000000 → answer s past event ≡ Ok reply → CanMove event reply t
   can_move Connect reply short h = connects (length (live_connections past) == s.numbers.neighbours) refl reply (room_for _ _ reply h).1
@@ -126,8 +117,50 @@ module _ {A : Type 0} (s : Config) (past : List (Step A)) (t : Tables A) (are : 
       routes u reply flight.0 flight.1 flight.2
   can_move (Take c) reply short h = tt
   can_move (Originate d) reply short h =
-      let all = origin_for (may_originate s.numbers.life d) (is_remembered s past (key_of d)) (fanout s past 0 d) reply (room_for _ _ reply h).1 in
-      originates d reply all.0 all.1
+      new_key (key_of d) (origin_for (may_originate s.numbers.life d) (is_remembered s past (key_of d)) (fanout s past 0 d) reply (room_for _ _ reply h).1).0
+
+  -- a reply that sends nothing
+  silent : (l : Outputs) (reply quiet : Reply A) → quiet ≡ reply → CanSend (sends_of quiet) l → CanSend (sends_of reply) l
+  silent l reply quiet is can = subst (λ (r : Reply A). CanSend (sends_of r) l) is can
+
+  connect_sends : (full : Bool) (n : ℕ) (reply : Reply A) → cond {A = Result (Reply A) Refusal} full (Ok TooMany) (Ok (Connected n)) ≡ Ok reply
+      → (l : Outputs) → CanSend (sends_of reply) l
+  connect_sends true n reply f l = let is : TooMany ≡ reply = cc in silent l reply TooMany is tt
+  connect_sends false n reply f l = let is : Connected n ≡ reply = cc in silent l reply (Connected n) is tt
+
+  admit_sends : (busy crowded : Bool) (n : ℕ) (reply : Reply A)
+      → cond {A = Result (Reply A) Refusal} busy (Ok Busy) (cond crowded (Ok Crowded) (Ok (Admitted n))) ≡ Ok reply
+      → (l : Outputs) → CanSend (sends_of reply) l
+  admit_sends true crowded n reply f l = let is : Busy ≡ reply = cc in silent l reply Busy is tt
+  admit_sends false true n reply f l = let is : Crowded ≡ reply = cc in silent l reply Crowded is tt
+  admit_sends false false n reply f l = let is : Admitted n ≡ reply = cc in silent l reply (Admitted n) is tt
+
+  -- a route leaves the output queues as they are until its packets are queued
+  route_leaves : (u : ℕ) (reply : Reply A) (o : Option (Flight A)) → (routed u reply o t).neighbours ≡ t.neighbours
+  route_leaves u reply None = refl
+  route_leaves u reply (Some f) = refl
+
+  can_send : (event : Event A) (reply : Reply A) → answer s past event ≡ Ok reply → CanSend (sends_of reply) (moved event reply t).neighbours
+  can_send Connect reply h =
+      connect_sends (length (live_connections past) == s.numbers.neighbours) (1 + length (connections past)) reply (room_for _ _ reply h).1 _
+  can_send (Close c) reply h =
+      let n : ℕ = length (out past c) in
+      let found : Ok (Closed n) ≡ Ok reply = (live_for (live past c) (Ok (Closed n)) reply (room_for (length past == s.numbers.steps) (event_answer s past (Close c)) reply h).1).1 in
+      let is : Closed n ≡ reply = cc in
+      silent _ reply (Closed n) is tt
+  can_send (Admit c d) reply h =
+      admit_sends (length (flying past) == s.numbers.stage) (not (s.numbers.crowd == 0) && nat_le s.numbers.crowd (length (flying_from past c))) (length (tickets past))
+      reply (live_for (live past c) _ reply (room_for _ _ reply h).1).1 _
+  can_send (Route u) reply h =
+      let flight : (a : Admission) × (in_flight past u ≡ Some a) × (reply ≡ decision_reply s past a (decide s past a)) = flight_for s past (in_flight past u) reply (room_for _ _ reply h).1 in
+      subst (λ (l : Outputs). CanSend (sends_of reply) l) (sym (route_leaves u reply (fin.get t.flights.flights u)))
+      (subst (λ (r : Reply A). CanSend (sends_of r) t.neighbours) (sym flight.2) (find_room _ (route_sends s past flight.0 are.numbered.apart)))
+  can_send (Take c) reply h =
+      let first : (p : Packet) × (reply ≡ Taken p) = first_for (out past c) reply (live_for (live past c) _ reply (room_for _ _ reply h).1).1 in
+      silent _ reply (Taken first.0) (sym first.1) tt
+  can_send (Originate d) reply h =
+      let is : reply ≡ Sent (fanout s past 0 d) = (origin_for (may_originate s.numbers.life d) (is_remembered s past (key_of d)) (fanout s past 0 d) reply (room_for _ _ reply h).1).1 in
+      subst (λ (r : Reply A). CanSend (sends_of r) t.neighbours) (sym is) (find_room (fanout s past 0 d) (fanout_sends s past are.numbered.apart 0 d))
 
   pub can_follow : (event : Event A) (reply : Reply A) → answer s past event ≡ Ok reply → CanFollow event reply t
   can_follow event reply h =
@@ -135,4 +168,4 @@ module _ {A : Type 0} (s : Config) (past : List (Step A)) (t : Tables A) (are : 
       let limit : s.numbers.steps ≤ 1000000 = s.within.steps.greatest in
       let short : length past < 1000000 = omega (arith, room, limit) in
       let few : count_in (counter_of reply) t.stats ≤ length past = rw (ap (count_in (counter_of reply)) are.stats_are) (known_few past (counter_of reply)) in
-      record { moves = can_move event reply short h; counts = omega (arith, few, short) }
+      record { moves = can_move event reply short h; counts = omega (arith, few, short); sends = can_send event reply h }

@@ -1,4 +1,4 @@
--- What an event with its reply does to the tables is what one more step makes of them.
+-- What an event with its reply and its packets do to the tables is what one more step makes of them.
 use Rattle.std.proofs.Common.{◌≡◌, ℕ, ◌+◌, ◌<◌, ◌≤◌, ◌==◌, not, Bool, true, false, cond, if◌then◌else◌, List, [], ◌∷◌, length, is_some, slice_get, nat_le, ◌&&◌, ok_or, Option, Some, None, Result, Ok, Err, refl, sym, ap, ◌∙◌, subst, arith}
 use Rattle.std.specs.List.{All}
 use Rattle.std.specs.Option.{option_map}
@@ -29,7 +29,7 @@ use Rattle.gn_rules.proofs.StepLemmas.{rows-closed, rows-connected, rows-sent, r
 use Rattle.gn_tables.specs.declared.flights.Flight.{Flight}
 use Rattle.gn_tables.specs.Outputs.{Outputs, joined, left, popped}
 use Rattle.gn_tables.specs.declared.tables.Tables.{Tables}
-use Rattle.gn_tables.specs.Followed.{counted, followed, routed, with_heard, with_kept}
+use Rattle.gn_tables.specs.Followed.{counted, followed, queued, routed, with_heard, with_kept}
 use Rattle.gn_tables.specs.Sent.{sent}
 use Rattle.gn_tables.specs.Tabled.{AreFlying, AreNumbered, IsTabled, flight_of, known, outputs, remembered}
 use Rattle.gn_tables.proofs.DecisionLemmas.{route_sends}
@@ -54,7 +54,7 @@ live_for true rules reply h = (refl, h)
 live_for false rules reply h = absurd (cc)
 
 -- what waits has a first packet
-first_for : {A : Type 0} (packets : List Packet) (reply : Reply A) → ok_or (option_map (λ p. Taken p) (slice_get packets 0)) NothingWaiting ≡ Ok reply
+pub first_for : {A : Type 0} (packets : List Packet) (reply : Reply A) → ok_or (option_map (λ p. Taken p) (slice_get packets 0)) NothingWaiting ≡ Ok reply
     → (p : Packet) × (reply ≡ Taken p)
 first_for [] reply h = absurd (cc)
 first_for (p ∷ ps) reply h = let is : reply ≡ Taken p = cc in (p, is)
@@ -132,24 +132,24 @@ module _ {A : Type 0} (s : Config) (past : List (Step A)) (t : Tables A) (are : 
   kept : (actor : ℕ) (event : Event A) (reply : Reply A) → answer s past event ≡ Ok reply → connected_of reply ≡ None → admitted_of reply ≡ None → sends_of reply ≡ []
       → ((c : ℕ) → is_close c event ≡ false) → ((c : ℕ) → is_take c event ≡ false) → ((u : ℕ) → is_route u event ≡ false)
       → entry_of past event reply ≡ None → hit_of past event reply ≡ None
-      → IsTabled s (record { actor = actor; event = event; reply = reply } ∷ past) (counted reply t)
+      → IsTabled s (record { actor = actor; event = event; reply = reply } ∷ past) (queued (sends_of reply) (counted reply t))
   kept actor event reply h no_connection no_ticket silent no_close no_take no_route no_entry no_hit =
       let step : Step A = record { actor = actor; event = event; reply = reply } in
-      tabled step (counted reply t) h
+      tabled step (queued (sends_of reply) (counted reply t)) h
       (numbered_kept s past t.connected are.numbered step no_connection no_close (λ c above. rw silent refl))
       (flights_kept s past t.admitted t.flights are.flights_are step no_ticket no_route)
       (seen_moved step None no_entry) (servents_moved step None no_hit)
-      (sym (sent_none A t.neighbours) ∙ ap (λ (xs : List (Sending A)). sent xs t.neighbours) (sym silent) ∙ lines_sent step no_connection no_close no_take)
+      (lines_sent step no_connection no_close no_take)
       (stats_moved reply)
 
   module _ (actor : ℕ) where
     -- Connect
     connects : (full : Bool) → (length (live_connections past) == s.numbers.neighbours) ≡ full → (reply : Reply A) → answer s past Connect ≡ Ok reply
         → cond {A = Result (Reply A) Refusal} full (Ok TooMany) (Ok (Connected (1 + length (connections past)))) ≡ Ok reply
-        → IsTabled s (record { actor = actor; event = Connect; reply = reply } ∷ past) (followed Connect reply t)
+        → IsTabled s (record { actor = actor; event = Connect; reply = reply } ∷ past) (queued (sends_of reply) (followed Connect reply t))
     connects true e reply h f =
         let is : TooMany ≡ reply = cc in
-        subst (λ (r : Reply A). IsTabled s (record { actor = actor; event = Connect; reply = r } ∷ past) (followed Connect r t)) is
+        subst (λ (r : Reply A). IsTabled s (record { actor = actor; event = Connect; reply = r } ∷ past) (queued (sends_of r) (followed Connect r t))) is
         (kept actor Connect TooMany (h ∙ ap (λ r. Ok r) (sym is)) refl refl refl (λ c. refl) (λ c. refl) (λ u. refl) refl refl)
     connects false e reply h f =
         let c : ℕ = 1 + length (connections past) in
@@ -159,56 +159,56 @@ module _ {A : Type 0} (s : Config) (past : List (Step A)) (t : Tables A) (are : 
         let room : length (live_connections past) < s.numbers.neighbours = below_from (length (live_connections past)) s.numbers.neighbours are.numbered.few_live e in
         let below : All (λ d. d < c) (connections past) = rw same are.numbered.below in
         let empty : out past c ≡ [] = are.numbered.fresh c (omega arith) in
-        subst (λ (r : Reply A). IsTabled s (record { actor = actor; event = Connect; reply = r } ∷ past) (followed Connect r t)) is
-        (tabled step (followed Connect (Connected c) t) (h ∙ ap (λ r. Ok r) (sym is))
+        subst (λ (r : Reply A). IsTabled s (record { actor = actor; event = Connect; reply = r } ∷ past) (queued (sends_of r) (followed Connect r t))) is
+        (tabled step (queued (sends_of (Connected c)) (followed Connect (Connected c) t)) (h ∙ ap (λ r. Ok r) (sym is))
         (numbered_connected s past t.connected are.numbered actor c same room)
         (flights_kept s past t.admitted t.flights are.flights_are step refl (λ u. refl))
         (seen_moved step None refl) (servents_moved step None refl)
-        (ap (joined c) are.neighbours_are ∙ ap with_rows (sym (rows-connected past actor c below empty)))
+        (sent_none A (joined c t.neighbours) ∙ ap (joined c) are.neighbours_are ∙ ap with_rows (sym (rows-connected past actor c below empty)))
         (stats_moved (Connected c)))
 
     -- Close
     closes : (c : ℕ) (reply : Reply A) → answer s past (Close c) ≡ Ok reply
-        → IsTabled s (record { actor = actor; event = Close c; reply = reply } ∷ past) (followed (Close c) reply t)
+        → IsTabled s (record { actor = actor; event = Close c; reply = reply } ∷ past) (queued (sends_of reply) (followed (Close c) reply t))
     closes c reply h =
         let n : ℕ = length (out past c) in
         let found : Ok (Closed n) ≡ Ok reply = (live_for (live past c) (Ok (Closed n)) reply (room_for (length past == s.numbers.steps) (event_answer s past (Close c)) reply h).1).1 in
         let is : Closed n ≡ reply = cc in
         let step : Step A = record { actor = actor; event = Close c; reply = Closed n } in
-        subst (λ (r : Reply A). IsTabled s (record { actor = actor; event = Close c; reply = r } ∷ past) (followed (Close c) r t)) is
-        (tabled step (followed (Close c) (Closed n) t) (h ∙ ap (λ r. Ok r) (sym is))
+        subst (λ (r : Reply A). IsTabled s (record { actor = actor; event = Close c; reply = r } ∷ past) (queued (sends_of r) (followed (Close c) r t))) is
+        (tabled step (queued (sends_of (Closed n)) (followed (Close c) (Closed n) t)) (h ∙ ap (λ r. Ok r) (sym is))
         (numbered_closed s past t.connected are.numbered actor c n)
         (flights_kept s past t.admitted t.flights are.flights_are step refl (λ u. refl))
         (seen_moved step None refl) (servents_moved step None refl)
-        (ap (left c) are.neighbours_are ∙ ap with_rows (sym (rows-closed past actor c n)))
+        (sent_none A (left c t.neighbours) ∙ ap (left c) are.neighbours_are ∙ ap with_rows (sym (rows-closed past actor c n)))
         (stats_moved (Closed n)))
 
     -- Take
     takes : (c : ℕ) (reply : Reply A) → answer s past (Take c) ≡ Ok reply
-        → IsTabled s (record { actor = actor; event = Take c; reply = reply } ∷ past) (followed (Take c) reply t)
+        → IsTabled s (record { actor = actor; event = Take c; reply = reply } ∷ past) (queued (sends_of reply) (followed (Take c) reply t))
     takes c reply h =
         let first : (p : Packet) × (reply ≡ Taken p) = first_for (out past c) reply (live_for (live past c) _ reply (room_for _ _ reply h).1).1 in
         let p : Packet = first.0 in
         let step : Step A = record { actor = actor; event = Take c; reply = Taken p } in
-        subst (λ (r : Reply A). IsTabled s (record { actor = actor; event = Take c; reply = r } ∷ past) (followed (Take c) r t)) (sym first.1)
-        (tabled step (followed (Take c) (Taken p) t) (h ∙ ap (λ r. Ok r) first.1)
+        subst (λ (r : Reply A). IsTabled s (record { actor = actor; event = Take c; reply = r } ∷ past) (queued (sends_of r) (followed (Take c) r t))) (sym first.1)
+        (tabled step (queued (sends_of (Taken p)) (followed (Take c) (Taken p) t)) (h ∙ ap (λ r. Ok r) first.1)
         (numbered_kept s past t.connected are.numbered step refl (λ d. refl) (λ d above. refl))
         (flights_kept s past t.admitted t.flights are.flights_are step refl (λ u. refl))
         (seen_moved step None refl) (servents_moved step None refl)
-        (ap (popped c) are.neighbours_are ∙ ap with_rows (sym (rows-taken past actor c p)))
+        (sent_none A (popped c t.neighbours) ∙ ap (popped c) are.neighbours_are ∙ ap with_rows (sym (rows-taken past actor c p)))
         (stats_moved (Taken p)))
 
     -- Admit
     admits : (c : ℕ) (d : Packet) (busy : Bool) → (length (flying past) == s.numbers.stage) ≡ busy → (crowded : Bool) → (reply : Reply A) → answer s past (Admit c d) ≡ Ok reply
         → cond {A = Result (Reply A) Refusal} busy (Ok Busy) (cond crowded (Ok Crowded) (Ok (Admitted (length (tickets past))))) ≡ Ok reply
-        → IsTabled s (record { actor = actor; event = Admit c d; reply = reply } ∷ past) (followed (Admit c d) reply t)
+        → IsTabled s (record { actor = actor; event = Admit c d; reply = reply } ∷ past) (queued (sends_of reply) (followed (Admit c d) reply t))
     admits c d true e crowded reply h f =
         let is : Busy ≡ reply = cc in
-        subst (λ (r : Reply A). IsTabled s (record { actor = actor; event = Admit c d; reply = r } ∷ past) (followed (Admit c d) r t)) is
+        subst (λ (r : Reply A). IsTabled s (record { actor = actor; event = Admit c d; reply = r } ∷ past) (queued (sends_of r) (followed (Admit c d) r t))) is
         (kept actor (Admit c d) Busy (h ∙ ap (λ r. Ok r) (sym is)) refl refl refl (λ c. refl) (λ c. refl) (λ u. refl) refl refl)
     admits c d false e true reply h f =
         let is : Crowded ≡ reply = cc in
-        subst (λ (r : Reply A). IsTabled s (record { actor = actor; event = Admit c d; reply = r } ∷ past) (followed (Admit c d) r t)) is
+        subst (λ (r : Reply A). IsTabled s (record { actor = actor; event = Admit c d; reply = r } ∷ past) (queued (sends_of r) (followed (Admit c d) r t))) is
         (kept actor (Admit c d) Crowded (h ∙ ap (λ r. Ok r) (sym is)) refl refl refl (λ c. refl) (λ c. refl) (λ u. refl) refl refl)
     admits c d false e false reply h f =
         let m : ℕ = t.admitted in
@@ -216,24 +216,24 @@ module _ {A : Type 0} (s : Config) (past : List (Step A)) (t : Tables A) (are : 
         let is : Admitted m ≡ reply = ap (ticket_reply A) are.flights_are.counted ∙ found in
         let step : Step A = record { actor = actor; event = Admit c d; reply = Admitted m } in
         let room : length (flying past) < s.numbers.stage = below_from (length (flying past)) s.numbers.stage are.flights_are.few_flying e in
-        subst (λ (r : Reply A). IsTabled s (record { actor = actor; event = Admit c d; reply = r } ∷ past) (followed (Admit c d) r t)) is
-        (tabled step (followed (Admit c d) (Admitted m) t) (h ∙ ap (λ r. Ok r) (sym is))
+        subst (λ (r : Reply A). IsTabled s (record { actor = actor; event = Admit c d; reply = r } ∷ past) (queued (sends_of r) (followed (Admit c d) r t))) is
+        (tabled step (queued (sends_of (Admitted m)) (followed (Admit c d) (Admitted m) t)) (h ∙ ap (λ r. Ok r) (sym is))
         (numbered_kept s past t.connected are.numbered step refl (λ d. refl) (λ d above. refl))
         (flights_admitted s past m t.flights are.flights_are actor c d room)
         (seen_moved step None refl) (servents_moved step None refl)
-        (sym (sent_none A t.neighbours) ∙ lines_sent step refl (λ c. refl) (λ c. refl))
+        (lines_sent step refl (λ c. refl) (λ c. refl))
         (stats_moved (Admitted m)))
 
     -- Originate
     originates : (d : Packet) (reply : Reply A) → answer s past (Originate d) ≡ Ok reply
-        → IsTabled s (record { actor = actor; event = Originate d; reply = reply } ∷ past) (followed (Originate d) reply t)
+        → IsTabled s (record { actor = actor; event = Originate d; reply = reply } ∷ past) (queued (sends_of reply) (followed (Originate d) reply t))
     originates d reply h =
         let sends : List (Sending A) = fanout s past 0 d in
         let is : reply ≡ Sent sends = (origin_for (may_originate s.numbers.life d) (is_remembered s past (key_of d)) sends reply (room_for _ _ reply h).1).1 in
         let step : Step A = record { actor = actor; event = Originate d; reply = Sent sends } in
         let sendable : AreSendable s past sends = fanout_sends s past are.numbered.apart 0 d in
-        subst (λ (r : Reply A). IsTabled s (record { actor = actor; event = Originate d; reply = r } ∷ past) (followed (Originate d) r t)) (sym is)
-        (tabled step (followed (Originate d) (Sent sends) t) (h ∙ ap (λ r. Ok r) is)
+        subst (λ (r : Reply A). IsTabled s (record { actor = actor; event = Originate d; reply = r } ∷ past) (queued (sends_of r) (followed (Originate d) r t))) (sym is)
+        (tabled step (queued (sends_of (Sent sends)) (followed (Originate d) (Sent sends) t)) (h ∙ ap (λ r. Ok r) is)
         (numbered_kept s past t.connected are.numbered step refl (λ d. refl) (λ c above. sends_quiet s past t.connected c sends are.numbered above sendable))
         (flights_kept s past t.admitted t.flights are.flights_are step refl (λ u. refl))
         (seen_moved step (Some (key_of d, 0)) refl) (servents_moved step None refl)
@@ -242,7 +242,7 @@ module _ {A : Type 0} (s : Config) (past : List (Step A)) (t : Tables A) (are : 
 
     -- Route
     routes : (u : ℕ) (reply : Reply A) → answer s past (Route u) ≡ Ok reply
-        → IsTabled s (record { actor = actor; event = Route u; reply = reply } ∷ past) (followed (Route u) reply t)
+        → IsTabled s (record { actor = actor; event = Route u; reply = reply } ∷ past) (queued (sends_of reply) (followed (Route u) reply t))
     routes u reply h =
         let flight : (a : Admission) × (in_flight past u ≡ Some a) × (reply ≡ decision_reply s past a (decide s past a)) = flight_for s past (in_flight past u) reply (room_for _ _ reply h).1 in
         let a : Admission = flight.0 in
@@ -255,8 +255,8 @@ module _ {A : Type 0} (s : Config) (past : List (Step A)) (t : Tables A) (are : 
         let no_connection : connected_of reply ≡ None = ap connected_of is ∙ none.0 in
         let no_ticket : admitted_of reply ≡ None = ap admitted_of is ∙ none.1 in
         let sendable : AreSendable s past (sends_of reply) = subst (λ (r : Reply A). AreSendable s past (sends_of r)) (sym is) (route_sends s past a are.numbered.apart) in
-        subst (λ (o : Option (Flight A)). IsTabled s (record { actor = actor; event = Route u; reply = reply } ∷ past) (counted reply (routed u reply o t))) (sym got)
-        (tabled step (counted reply (routed u reply (Some (flight_of a)) t)) h
+        subst (λ (o : Option (Flight A)). IsTabled s (record { actor = actor; event = Route u; reply = reply } ∷ past) (queued (sends_of reply) (counted reply (routed u reply o t)))) (sym got)
+        (tabled step (queued (sends_of reply) (counted reply (routed u reply (Some (flight_of a)) t))) h
         (numbered_kept s past t.connected are.numbered step no_connection (λ d. refl) (λ c above. sends_quiet s past t.connected c (sends_of reply) are.numbered above sendable))
         (flights_routed s past t.admitted t.flights are.flights_are actor u reply no_ticket (ap is_some there))
         (ap (with_kept reply a) are.seen_is ∙ remembered_routed s past actor u reply a admission_is)
@@ -266,7 +266,7 @@ module _ {A : Type 0} (s : Config) (past : List (Step A)) (t : Tables A) (are : 
 
     -- any event
     pub follows : (event : Event A) (reply : Reply A) → answer s past event ≡ Ok reply
-        → IsTabled s (record { actor = actor; event = event; reply = reply } ∷ past) (followed event reply t)
+        → IsTabled s (record { actor = actor; event = event; reply = reply } ∷ past) (queued (sends_of reply) (followed event reply t))
     follows Connect reply h = connects (length (live_connections past) == s.numbers.neighbours) refl reply h (room_for _ _ reply h).1
     follows (Close c) reply h = closes c reply h
     follows (Admit c d) reply h = admits c d (length (flying past) == s.numbers.stage) refl (not (s.numbers.crowd == 0) && nat_le s.numbers.crowd (length (flying_from past c))) reply h (live_for (live past c) _ reply (room_for _ _ reply h).1).1

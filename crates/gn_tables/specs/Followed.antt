@@ -1,5 +1,5 @@
 -- What the tables become by an event with its reply, and when they can.
-use Rattle.std.specs.Prelude.{◌≡◌, ◌+◌, ◌<◌, ◌≤◌, ◌^◌, ◌&&◌, if◌then◌else◌, ℕ, true, length, Option, Some, None}
+use Rattle.std.specs.Prelude.{◌≡◌, ◌+◌, ◌<◌, ◌≤◌, ◌^◌, ◌&&◌, if◌then◌else◌, ℕ, true, List, length, Option, Some, None}
 use Rattle.std.specs.List.{All}
 use Rattle.std.specs.FinMap as map
 use Rattle.std.specs.Map.{lookup}
@@ -11,6 +11,7 @@ use Rattle.gn_rules.specs.declared.event.Event.{Event}
 use Rattle.gn_rules.specs.declared.event.Event.TheVariants.{Connect, Close, Admit, Route, Take, Originate}
 use Rattle.gn_rules.specs.declared.reply.Reply.{Reply}
 use Rattle.gn_rules.specs.declared.reply.Reply.TheVariants.{Connected, Admitted}
+use Rattle.gn_rules.specs.declared.sends.Sending.{Sending}
 use Rattle.gn_rules.specs.Flight.{Admission}
 use Rattle.gn_rules.specs.History.{is_routed_reply, sends_of}
 use Rattle.gn_rules.specs.Servents.{is_query_hit}
@@ -51,30 +52,33 @@ routed u reply None t = t
 routed u reply (Some f) t = record t {
   seen = with_kept reply (carried f) t.seen;
   servents = with_heard reply (carried f) t.servents;
-  neighbours = sent (sends_of reply) t.neighbours;
   flights = without_flight u t.flights;
 }
 
 -- after an Originate
-abbrev pub originated : {A : Type 0} → Packet → Reply A → Tables A → Tables A
-originated d reply t = record t { seen = with_entry (key_of d) 0 t.seen; neighbours = sent (sends_of reply) t.neighbours }
+abbrev pub originated : {A : Type 0} → Packet → Tables A → Tables A
+originated d t = record t { seen = with_entry (key_of d) 0 t.seen }
 
--- after an event, before it is counted
+-- after an event, before it is counted and its packets are queued
 abbrev pub moved : {A : Type 0} → Event A → Reply A → Tables A → Tables A
 moved Connect reply t = connected reply t
 moved (Close c) reply t = record t { neighbours = left c t.neighbours }
 moved (Admit c d) reply t = admitted c d reply t
 moved (Route u) reply t = routed u reply (map.get t.flights.flights u) t
 moved (Take c) reply t = record t { neighbours = popped c t.neighbours }
-moved (Originate d) reply t = originated d reply t
+moved (Originate d) reply t = originated d t
 
 -- with one more step of this reply counted
 abbrev pub counted : {A : Type 0} → Reply A → Tables A → Tables A
 counted reply t = record t { stats = raised (counter_of reply) t.stats }
 
--- after an event with its reply
+-- after an event with its reply, before its packets are queued
 abbrev pub followed : {A : Type 0} → Event A → Reply A → Tables A → Tables A
 followed event reply t = counted reply (moved event reply t)
+
+-- with these packets queued
+abbrev pub queued : {A : Type 0} → List (Sending A) → Tables A → Tables A
+queued sends t = record t { neighbours = sent sends t.neighbours }
 
 -- a new connection is greater than all there, and there is room for it
 abbrev pub CanConnect : {A : Type 0} → Reply A → Tables A → Type 0
@@ -96,15 +100,9 @@ pub record CanRemember {A : Type 0} (reply : Reply A) (a : Admission) (seen : Re
   pub is_new : keeps a.packet.kind reply ≡ true → IsNewKey (key_of a.packet) seen
   pub verdict : (is_query_hit a.packet.kind && is_routed_reply reply) ≡ true → 16 ≤ length a.packet.payload
 
--- a flight that is remembered, and room for its sends
-pub record CanRoute {A : Type 0} (u : ℕ) (reply : Reply A) (t : Tables A) : Type 0 where
-  pub remembers : (f : Flight A) → map.get t.flights.flights u ≡ Some f → CanRemember reply (carried f) t.seen
-  pub sends : CanSend (sends_of reply) t.neighbours
-
--- a new key, and room for its sends
-pub record CanOriginate {A : Type 0} (d : Packet) (reply : Reply A) (t : Tables A) : Type 0 where
-  pub is_new : IsNewKey (key_of d) t.seen
-  pub sends : CanSend (sends_of reply) t.neighbours
+-- a flight can be remembered
+abbrev pub CanRoute : {A : Type 0} → ℕ → Reply A → Tables A → Type 0
+CanRoute {A} u reply t = (f : Flight A) → map.get t.flights.flights u ≡ Some f → CanRemember reply (carried f) t.seen
 
 -- the tables can do what an event with this reply does to them
 abbrev pub CanMove : {A : Type 0} → Event A → Reply A → Tables A → Type 0
@@ -113,9 +111,10 @@ CanMove (Close c) reply t = Unit {0}
 CanMove (Admit c d) reply t = CanAdmit reply t
 CanMove (Route u) reply t = CanRoute u reply t
 CanMove (Take c) reply t = Unit {0}
-CanMove (Originate d) reply t = CanOriginate d reply t
+CanMove (Originate d) reply t = IsNewKey (key_of d) t.seen
 
--- they can, and one more can be counted
+-- they can, one more can be counted, and then there is room for the sends
 pub record CanFollow {A : Type 0} (event : Event A) (reply : Reply A) (t : Tables A) : Type 0 where
   pub moves : CanMove event reply t
   pub counts : count_in (counter_of reply) t.stats + 1 < 2 ^ 32
+  pub sends : CanSend (sends_of reply) (followed event reply t).neighbours

@@ -1,6 +1,7 @@
 //! What an event with its reply does to the tables.
 
 ghost use Rattle.std.specs.Prelude.{◌≡◌, true, OnErr, OnOk};
+ghost use Rattle.gn_wire.specs.Keys.{key_of};
 ghost use Rattle.gn_rules.specs.Servents.{is_query_hit};
 ghost use Rattle.gn_tables.specs.Followed as after;
 ghost use Rattle.gn_tables.specs.Sent.{CanSend, given, sent};
@@ -20,10 +21,10 @@ use gn_wire::{Descriptor, Kind};
 use std::alloc::{AllocError, Allocator};
 
 impl<A: Allocator + Copy> Tables<A> {
-    /// Does what an event with this reply does to the tables. An `Err` is out of memory, and changes nothing.
+    /// Does what an event with this reply does to the tables; its packets are queued after it. An `Err` is out of memory, and
+    /// changes nothing.
     pub(crate) fn follow(
         &mut self,
-        alloc: A,
         places: Places,
         event: &Event<A>,
         reply: &Reply<A>,
@@ -32,7 +33,7 @@ impl<A: Allocator + Copy> Tables<A> {
         ensures ok { OnOk result (self.new ≡ after.followed event.now reply.now self.old) }
         ensures err { OnErr result (self.new ≡ self.old) }
     {
-        self.update(alloc, places, event, reply)?;
+        self.update(places, event, reply)?;
         self.stats.raise(Counter::of(reply));
         Ok(())
     }
@@ -41,7 +42,6 @@ impl<A: Allocator + Copy> Tables<A> {
     /// nothing.
     fn update(
         &mut self,
-        alloc: A,
         places: Places,
         event: &Event<A>,
         reply: &Reply<A>,
@@ -57,12 +57,12 @@ impl<A: Allocator + Copy> Tables<A> {
                 Ok(())
             }
             Event::Admit(c, packet) => self.admit(*c, packet, reply),
-            Event::Route(ticket) => self.route(alloc, places, *ticket, reply),
+            Event::Route(ticket) => self.route(places.flight, *ticket, reply),
             Event::Take(c) => {
                 drop(self.neighbours.pop_near(places.neighbour, *c));
                 Ok(())
             }
-            Event::Originate(packet) => self.originate(alloc, packet, reply),
+            Event::Originate(packet) => self.originate(packet),
         }
     }
 
@@ -97,45 +97,37 @@ impl<A: Allocator + Copy> Tables<A> {
         Ok(())
     }
 
-    /// A flight that is routed: it is remembered, its packets are sent, and it is over. An `Err` is out of memory, and
-    /// changes nothing.
-    fn route(
-        &mut self,
-        alloc: A,
-        places: Places,
-        ticket: Ticket,
-        reply: &Reply<A>,
-    ) -> Result<(), AllocError>
+    /// A flight that is routed: it is remembered, and it is over. It is looked for at the place `near` first. An `Err` is out of
+    /// memory, and changes nothing.
+    fn route(&mut self, near: usize, ticket: Ticket, reply: &Reply<A>) -> Result<(), AllocError>
         requires { after.CanRoute ticket reply.now self.old }
         ensures ok { OnOk result (self.new
             ≡ after.routed ticket reply.now (map.get self.old.flights.flights ticket) self.old) }
         ensures err { OnErr result (self.new ≡ self.old) }
     {
-        let Some((place, flight)) = self.flights.find_near(places.flight, ticket) else {
+        let Some((place, flight)) = self.flights.find_near(near, ticket) else {
             return Ok(());
         };
-        let sends = Sends::copied(alloc, reply.sends())?;
         remember(&mut self.seen, &mut self.servents, flight, reply)?;
         drop(self.flights.finish_near(place, ticket));
-        queue_all(&mut self.neighbours, places.neighbour, sends.into_vec());
         Ok(())
     }
 
-    /// The local servent's descriptor, which is sent and remembered. An `Err` is out of memory, and changes nothing.
-    fn originate(
-        &mut self,
-        alloc: A,
-        packet: &Descriptor<A>,
-        reply: &Reply<A>,
-    ) -> Result<(), AllocError>
-        requires { after.CanOriginate packet.now reply.now self.old }
-        ensures ok { OnOk result (self.new ≡ after.originated packet.now reply.now self.old) }
+    /// The local servent's descriptor, which is remembered. An `Err` is out of memory, and changes nothing.
+    fn originate(&mut self, packet: &Descriptor<A>) -> Result<(), AllocError>
+        requires { after.IsNewKey (key_of packet.now) self.old.seen }
+        ensures ok { OnOk result (self.new ≡ after.originated packet.now self.old) }
         ensures err { OnErr result (self.new ≡ self.old) }
     {
-        let sends = Sends::copied(alloc, reply.sends())?;
-        self.seen.keep(packet.kind(), packet.id(), 0)?;
-        queue_all(&mut self.neighbours, 0, sends.into_vec());
-        Ok(())
+        self.seen.keep(packet.kind(), packet.id(), 0)
+    }
+
+    /// Queues the packets that a reply sends. The first one's connection is looked for at the place `near` first.
+    pub(crate) fn queue(&mut self, near: usize, sends: Sends<A>)
+        requires { CanSend sends self.old.neighbours }
+        ensures { self.new ≡ after.queued sends self.old }
+    {
+        queue_all(&mut self.neighbours, near, sends.into_vec());
     }
 }
 

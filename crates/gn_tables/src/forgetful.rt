@@ -29,11 +29,17 @@ impl<A: Allocator> Forgetful<A> {
 }
 
 impl<A: Allocator> Keeper<A> for Forgetful<A> {
-    ghost use Rattle.std.specs.Prelude.{◌≡◌, ◌+◌, ◌<◌, ◌^◌, ◌∷◌, ◌++◌, [], length};
+    ghost use Rattle.std.specs.Prelude.{◌≡◌, ◌+◌, ◌<◌, ◌^◌, ◌∷◌, ◌++◌, [], length, true};
 
     ghost kept = { λ f. f.trail.items };
 
     ghost has_room = { λ f. length f.trail.items + 1 < 2 ^ 64 };
+
+    ghost leaves_reply = { true };
+
+    fn leaves_reply(&self) -> bool {
+        true
+    }
 
     fn make_room(&mut self) -> Result<(), AllocError> {
         if self.count >= u64::MAX - 1 {
@@ -46,7 +52,7 @@ impl<A: Allocator> Keeper<A> for Forgetful<A> {
         let step = step_of(actor, event, reply);
         self.trail = self.trail.and(&step);
         self.count += 1;
-        drop(step);
+        *reply = step.reply;
     }
 
     fn count(&self) -> u32 {

@@ -1,6 +1,7 @@
 //! A store of tables, which gives its steps away.
 
-ghost use Rattle.std.specs.Prelude.{◌≡◌, [], IfOk};
+ghost use Rattle.std.specs.Prelude.{◌≡◌, ◌∷◌, ◌++◌, [], true, IfOk, MatchOption};
+ghost use Rattle.gn_rules.specs.History.{sends_of};
 
 use crate::flights::Flights;
 use crate::forgetful::Forgetful;
@@ -11,10 +12,11 @@ use crate::servents::ServentTable;
 use crate::tables::Tables;
 use crate::whole::Whole;
 use gn_router::{FreshStore, Lookup, Places, StepStore, Store};
-use gn_rules::{Config, ConnId, Event, Reply, Stats, Step, Ticket};
+use gn_rules::{Config, ConnId, Event, Reply, Sends, Stats, Step, Ticket};
 use gn_wire::{Descriptor, Guid, Key};
 use std::alloc::{AllocError, Allocator, Global};
 use std::marker::Model;
+use std::mem;
 
 /// Tables that say what the steps left, and what the steps are given to.
 #[derive(Drop)]
@@ -145,6 +147,53 @@ impl<A: Allocator + Copy, K: Keeper<A>> Lookup<A> for TableStore<A, K> {
     }
 }
 
+/// Copies of the packets that a reply sends, where the keeper takes the reply; `None` where it leaves it. An `Err` is out of memory.
+fn copies_for<A: Allocator + Copy, K: Keeper<A>>(
+    alloc: A,
+    keeper: &K,
+    reply: &Reply<A>,
+) -> Result<Option<Sends<A>>, AllocError>
+    ensures { IfOk result (λ copies. MatchOption copies (K.leaves_reply ≡ true) (λ sends. sends ≡ sends_of reply.now)) }
+{
+    if keeper.leaves_reply() {
+        return Ok(None);
+    }
+    Ok(Some(Sends::copied(alloc, reply.sends())?))
+}
+
+/// The packets that a reply sends, moved out of its place. Takes no memory.
+fn take_sends<A: Allocator + Copy>(alloc: A, reply: &mut Reply<A>) -> Sends<A>
+    ensures { result ≡ sends_of reply.old }
+{
+    match mem::replace(reply, Reply::TooMany) {
+        Reply::Routed { sends, .. } | Reply::Sent(sends) => sends,
+        _ => Sends::new(alloc),
+    }
+}
+
+/// Gives a keeper the step of this event and this reply, and gives the packets that the reply sends: these copies of them, or
+/// themselves, where the keeper leaves the reply.
+fn keep<A: Allocator + Copy, K: Keeper<A>>(
+    alloc: A,
+    keeper: &mut K,
+    copies: Option<Sends<A>>,
+    actor: u32,
+    event: &mut Event<A>,
+    reply: &mut Reply<A>,
+) -> Sends<A>
+    requires room { K.has_room keeper.old }
+    requires copies { MatchOption copies (K.leaves_reply ≡ true) (λ sends. sends ≡ sends_of reply.old) }
+    ensures step { K.kept keeper.new
+        ≡ K.kept keeper.old ++ record { actor = actor; event = event.old; reply = reply.old } ∷ [] }
+    ensures sends { result ≡ sends_of reply.old }
+{
+    keeper.keep(actor, event, reply);
+    match copies {
+        Some(copies) => copies,
+        None => take_sends(alloc, reply),
+    }
+}
+
 impl<A: Allocator + Copy, K: Keeper<A>> Store<A> for TableStore<A, K> {
     fn follow(
         &mut self,
@@ -155,8 +204,10 @@ impl<A: Allocator + Copy, K: Keeper<A>> Store<A> for TableStore<A, K> {
         reply: &mut Reply<A>,
     ) -> Result<(), AllocError> {
         self.history.make_room()?;
-        self.tables.follow(alloc, places, event, reply)?;
-        self.history.keep(actor, event, reply);
+        let copies = copies_for(alloc, &self.history, reply)?;
+        self.tables.follow(places, event, reply)?;
+        let sends = keep(alloc, &mut self.history, copies, actor, event, reply);
+        self.tables.queue(places.neighbour, sends);
         Ok(())
     }
 
