@@ -61,7 +61,7 @@ pub(crate) fn answer_under<
 }
 
 /// The same, where nobody watches.
-pub(crate) fn answer<
+pub(crate) fn answer_to<
     R: Threads
         + Wait
         + Net<Listener = TcpListener, Stream = TcpStream>

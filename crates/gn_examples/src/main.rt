@@ -12,7 +12,7 @@ mod set;
 mod streams;
 mod watched;
 
-use answers::{Answer, answer};
+use answers::{Answer, answer_to};
 use conformance::try_set;
 use gn_io::WriterSink;
 use gn_program::refuse_words;
@@ -49,7 +49,7 @@ fn answer_beside<
     neighbour: Option<Neighbour<'_>>,
 ) -> Answer {
     let Some(neighbour) = neighbour else {
-        return answer(rt, words, input, fails);
+        return answer_to(rt, words, input, fails);
     };
     let called = port_of(words, "--peer=127.0.0.1:");
     let port = if called == 0 {
@@ -61,7 +61,7 @@ fn answer_beside<
     let (_, answered) = thread::join(
         rt,
         || neighbour.act(rt, port).is_ok(),
-        || answer(rt, words, input, fails),
+        || answer_to(rt, words, input, fails),
     );
     answered
 }
@@ -150,7 +150,7 @@ fn is_as_wanted<
     let is_printed = match printed.strip_prefix("audit:") {
         Some(verdict) => {
             let history = Given::new(text.as_slice(), false);
-            let audited = answer(rt, &["gn", "audit"], history, (false, false));
+            let audited = answer_to(rt, &["gn", "audit"], history, (false, false));
             is_as(rt, audited.printed.as_slice(), verdict)?
         }
         None => is_as(rt, text.as_slice(), printed)?,
