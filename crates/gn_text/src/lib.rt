@@ -33,4 +33,4 @@ pub use reply::push_reply;
 pub use settings::{read_config, read_own};
 pub use statistics::push_stats;
 pub use step::{push_step, push_step_of};
-pub use title::Text;
+pub use title::{Text, read_version};

@@ -28,7 +28,7 @@ pub(crate) fn title(text: Text, version: Version) -> &'static [u8]
 }
 
 /// The version whose title the line is.
-pub(crate) fn read_version(text: Text, line: &[u8]) -> Option<Version>
+pub fn read_version(text: Text, line: &[u8]) -> Option<Version>
     ensures { result ≡ version_of text line.now }
 {
     if is_word(line, title(text, Version::First)) {
