@@ -1,0 +1,5 @@
+pub mod HeaderLemmas
+pub mod LineLemmas
+pub mod NumberedLemmas
+pub mod PassLemmas
+pub mod StepLemmas

@@ -1,0 +1,7 @@
+-- What is promised: contracts of public functions rest on it.
+pub mod Left
+pub mod Reading
+pub mod Steps
+-- Words of the proofs.
+pub mod Lines
+pub mod Numbered
