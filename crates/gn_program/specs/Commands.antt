@@ -4,7 +4,7 @@ use Rattle.std.specs.declared.alloc.Global.{Global}
 use Rattle.std.specs.declared.net.socket_addr.SocketAddr.{SocketAddr}
 use Rattle.clap.specs.declared.error.kind.ErrorKind.{ErrorKind}
 use Rattle.clap.specs.declared.error.kind.ErrorKind.TheVariants.{DisplayHelp, DisplayVersion, OutOfMemory}
-use Rattle.gn_replay.specs.Faults.{IsAnswerOn}
+use Rattle.gn_replay.specs.Faults.{IsAnswerOn, IsAuditOn}
 use Rattle.gn_replay.specs.declared.fault.ReplayFault.{ReplayFault}
 use Rattle.gn_io.specs.Input.{input_limit}
 use Rattle.gn_io.specs.Streams.{NoneFailed, NoWriteFailed, SinkState, Streams, text_of}
@@ -51,17 +51,17 @@ pub record IsHistoryAnswer (s : Streams) (answer : Result Exit ReplayFault) : Ty
   pub counted : IfOk answer (λ exit. IfSome (text_of s) (λ text. IsCounted Global text exit))
   pub stopped : IfErr answer (λ fault. HasHistoryStopped Global fault (text_of s) s.sink.written s.sink_new.written)
 
--- what audit answers: the input was a history, no longer than it may be, and the line of its verdict was written; or it
--- stopped, at a fault that the streams confirm, and what was written then is a prefix of the line
+-- what audit answers: the input was a history, none of whose lines is longer than a line may be, and the line of its verdict was
+-- written; or it stopped, at a fault that the streams confirm, and what was written then is a prefix of the line
 pub record IsAuditAnswer (s : Streams) (answer : Result Legality ReplayFault) : Type 0 where
-  pub answered : IsAnswerOn (history_of {A = Global}) s answer
+  pub answered : IsAuditOn (history_of {A = Global}) s answer
   pub written : IfOk answer (λ legality. IfSome (text_of s) (λ text.
       AppendsVerdict Global text legality s.sink.written s.sink_new.written))
   pub stopped : IfErr answer (λ fault. HasAuditStopped Global fault (text_of s) s.sink.written s.sink_new.written)
 
 -- what audit_explained answers: as audit, with the lines that explain a wrong step after the line of the verdict
 pub record IsExplainAnswer (s : Streams) (answer : Result Legality ReplayFault) : Type 0 where
-  pub answered : IsAnswerOn (history_of {A = Global}) s answer
+  pub answered : IsAuditOn (history_of {A = Global}) s answer
   pub written : IfOk answer (λ legality. IfSome (text_of s) (λ text.
       AppendsExplained Global text legality s.sink.written s.sink_new.written))
   pub stopped : IfErr answer (λ fault. HasExplainedStopped Global fault (text_of s) s.sink.written s.sink_new.written)

@@ -1,29 +1,36 @@
 -- What explains a verdict, and that it was written.
-use Rattle.std.proofs.Common.{◌≡◌, ◌<◌, ◌+◌, ◌∙◌, ℕ, List, [], ◌++◌, get_or, append-nil, length, Option, Some, None, IfSome, IfErr, Result, Ok, Err, refl, sym, ap, subst}
-use Rattle.std.specs.Prelude.{OnOk}
+use Rattle.std.proofs.Common.{◌≡◌, ◌∙◌, ℕ, List, [], ◌++◌, append-nil, length, Option, Some, None, IfSome, IfErr, Result, Ok, Err, refl, sym, ap, subst}
+use Rattle.std.specs.Prelude.{IsOk}
 use Rattle.std.specs.Io.KnownBytes.{Appends}
 use Rattle.std.specs.Result.{IsErrAnd}
-use Rattle.std.proofs.lemmas.Option.{none-some, slice_get-get_or, slice_get_within}
+use Rattle.std.proofs.KnownBytes.{Keeps-refl}
+use Rattle.std.specs.List.{slice_get}
 use Rattle.gn_rules.specs.declared.config.Config.{Config}
+use Rattle.gn_rules.specs.declared.config.Own.{Own}
+use Rattle.gn_rules.specs.declared.limits.Numbers.{Numbers}
 use Rattle.gn_rules.specs.declared.legality.Legality.{Legality}
 use Rattle.gn_rules.specs.declared.legality.Legality.TheVariants as verdict
 use Rattle.gn_rules.specs.declared.receipt.Step.{Step}
 use Rattle.gn_rules.specs.declared.refusal.Refusal.{Refusal}
 use Rattle.gn_rules.specs.declared.reply.Reply.{Reply}
 use Rattle.gn_rules.specs.Legality.{IsVerdict}
-use Rattle.gn_text.specs.Lines.{fields_of}
-use Rattle.gn_text.specs.Parsed.{parsed_of}
+use Rattle.gn_text.specs.declared.fault.CaptureFault.{CaptureFault}
+use Rattle.gn_text.specs.Lines.{fields_of, lines_of}
 use Rattle.gn_text.specs.Settings.{settings_of}
 use Rattle.gn_capture.specs.Histories.{history_of}
 use Rattle.gn_capture.specs.Steps.{step_parsed}
 use Rattle.gn_io.specs.Parts.{AppendsPart}
-use Rattle.gn_replay.specs.Audits.{verdict_text}
-use Rattle.gn_replay.specs.Explained.{AppendsExplained, AppendsExplainedPart, Explains, HasExplainedStopped, IsAuditExplained, IsExplained, explanation_text, lines_before, step_line_at}
-use Rattle.gn_replay.specs.Judgements.{IsAnsweredAt, IsJudged, IsTrueOf, legality_of}
+use Rattle.gn_io.specs.Streams.{HasWriteFailed, NoneFailed, SourceState, Streams, text_of}
+use Rattle.gn_stream.specs.Left.{AreShort}
+use Rattle.gn_replay.specs.Audits.{AppendsVerdict, AppendsVerdictPart, HasStopped, verdict_text}
+use Rattle.gn_replay.specs.Explained.{AppendsExplained, AppendsExplainedPart, Explains, HasExplainedStopped, IsAuditExplained, IsExplained, explanation_text, step_line_at}
+use Rattle.gn_replay.specs.Faults.{IsAuditFault, IsAuditOn, IsTextFault}
+use Rattle.gn_replay.specs.Judgements.{IsAnsweredAt, IsJudged, IsTrueOf, StandsInText, legality_of}
 use Rattle.gn_replay.specs.declared.fault.ReplayFault.{ReplayFault}
-use Rattle.gn_replay.specs.declared.fault.ReplayFault.TheVariants.{Write}
+use Rattle.gn_replay.specs.declared.fault.ReplayFault.TheVariants.{Read, TooLarge, Capture, Write, NoMemory}
 use Rattle.gn_replay.specs.declared.judgement.Judgement.{Judgement}
 use Rattle.gn_replay.specs.declared.judgement.Judgement.TheVariants.{Legal, WrongAt}
+use Rattle.gn_replay.specs.declared.judgement.WrongStep.{WrongStep}
 use Rattle.gn_replay.proofs.StepLines.{step_stands}
 use Rattle.gn_replay.proofs.VerdictLemmas.{audited, same_line, verdict_of}
 
@@ -43,15 +50,6 @@ explained_by s steps text i rules line explanation parsed answered stands explai
       explained = explained ∙ ap (explanation_text line) (sym answered.answered);
     }
 
--- a wrong step stands in the text
-pub wrong_in_text : {A : Type 0} (text : List ℕ) (judgement : Judgement A) (count i : ℕ) (rules : Result (Reply A) Refusal) → IsJudged A text judgement count
-    → judgement ≡ WrongAt i rules → lines_before + i < length (parsed_of text)
-wrong_in_text text judgement count i rules judged is =
-    let true_of : IsTrueOf judged.settings judged.steps (WrongAt i rules) =
-    subst (λ (x : Judgement _). IsTrueOf judged.settings judged.steps x) is judged.judged in
-    let found = step_stands text (settings_of judged.settings) judged.steps i true_of.1.step judged.parsed true_of.1.at in
-    slice_get_within (parsed_of text) (lines_before + i) found.0 found.1
-
 -- nothing explains a legal history
 pub explained_legal : {A : Type 0} (text : List ℕ) (judgement : Judgement A) (count : ℕ) (legality : Legality) (line lines : List ℕ) → IsJudged A text judgement count
     → legality ≡ legality_of judgement → line ≡ verdict_text legality count → lines ≡ line → judgement ≡ Legal → IsAuditExplained A text legality lines
@@ -69,63 +67,140 @@ explained_legal text judgement count legality line lines judged found printed sa
     }
 
 -- the lines of a wrong step explain a history that isn't legal
-pub explained_wrong : {A : Type 0} (text : List ℕ) (judgement : Judgement A) (count : ℕ) (legality : Legality) (line lines : List ℕ) (i : ℕ) (rules : Result (Reply A) Refusal) → IsJudged A text judgement count
-    → legality ≡ legality_of judgement → line ≡ verdict_text legality count → judgement ≡ WrongAt i rules
-    → (at : ℕ × List ℕ) × (step_line_at text i ≡ Some at) × (lines ≡ line ++ explanation_text at rules) → IsAuditExplained A text legality lines
-explained_wrong text judgement count legality line lines i rules judged found printed is explained =
-    let legality_is : legality ≡ verdict.WrongAt i = found ∙ ap legality_of is in
-    let true_of : IsTrueOf judged.settings judged.steps (WrongAt i rules) =
+pub explained_wrong : {A : Type 0} (text : List ℕ) (judgement : Judgement A) (count : ℕ) (legality : Legality) (line lines : List ℕ) (wrong : WrongStep A) → IsJudged A text judgement count
+    → legality ≡ legality_of judgement → line ≡ verdict_text legality count → judgement ≡ WrongAt wrong
+    → lines ≡ line ++ explanation_text (wrong.number, wrong.line.items) wrong.rules → IsAuditExplained A text legality lines
+explained_wrong text judgement count legality line lines wrong judged found printed is explained =
+    let legality_is : legality ≡ verdict.WrongAt wrong.index = found ∙ ap legality_of is in
+    let true_of : IsTrueOf judged.settings judged.steps (WrongAt wrong) =
     subst (λ (x : Judgement _). IsTrueOf judged.settings judged.steps x) is judged.judged in
-    let more = explained_by judged.settings judged.steps text i rules explained.0 (explanation_text explained.0 rules) judged.parsed true_of.1 explained.1 refl in
+    let stands : StandsInText text (WrongAt wrong) = subst (λ (x : Judgement _). StandsInText text x) is judged.stands in
+    let at : ℕ × List ℕ = (wrong.number, wrong.line.items) in
+    let more = explained_by judged.settings judged.steps text wrong.index wrong.rules at (explanation_text at wrong.rules) judged.parsed true_of.1 stands refl in
     record {
       settings = judged.settings;
       steps = judged.steps;
-      explanation = explanation_text explained.0 rules;
+      explanation = explanation_text at wrong.rules;
       parsed = judged.parsed;
       agrees = subst (λ (x : Legality). IsVerdict judged.settings judged.steps x) (sym found) (verdict_of judged.settings judged.steps judgement judged.judged);
-      explains = subst (λ (x : Legality). Explains judged.settings judged.steps text x (explanation_text explained.0 rules)) (sym legality_is) more;
-      printed = explained.2 ∙ ap (λ head. head ++ explanation_text explained.0 rules) (printed ∙ same_line judgement legality count (length judged.steps) found judged.counted);
+      explains = subst (λ (x : Legality). Explains judged.settings judged.steps text x (explanation_text at wrong.rules)) (sym legality_is) more;
+      printed = explained ∙ ap (λ head. head ++ explanation_text at wrong.rules) (printed ∙ same_line judgement legality count (length judged.steps) found judged.counted);
     }
 
--- what was appended explains the line at its place
-pub line_explained : {A X E : Type 0} (r : Result X E) (text : List ℕ) (i : ℕ) (line : ℕ × List ℕ) (out new : List ℕ) (rules : Result (Reply A) Refusal)
-    → Some line ≡ step_line_at text i → OnOk r (new ≡ out ++ explanation_text line rules)
-    → OnOk r ((at : ℕ × List ℕ) × (step_line_at text i ≡ Some at) × (new ≡ out ++ explanation_text at rules))
-line_explained (Err e) text i line out new rules is appended = _
-line_explained (Ok x) text i line out new rules is appended = (line, sym is, appended)
-
--- a step's line is there
-pub line_there : (text : List ℕ) (i : ℕ) → None ≡ step_line_at text i → lines_before + i < length (parsed_of text) → ⊥
-line_there text i none within =
-    none-some (get_or (parsed_of text) (lines_before + i) (0, []))
-    (none ∙ slice_get-get_or (parsed_of text) (lines_before + i) (0, []) within)
+-- the lines of a history that was judged, whatever its text
+abbrev pub LinesFor : {A : Type 0} → Judgement A → ℕ → Legality → List ℕ → Type 0
+LinesFor {A} judgement count legality lines = (text : List ℕ) → IsJudged A text judgement count → IsAuditExplained A text legality lines
 
 -- the verdict on the input was written, with what explains it
-pub explained_written : {A : Type 0} (rest : Option (List ℕ)) (input text bytes lines : List ℕ) (legality : Legality) (old new : Option (List ℕ))
-    → IfSome rest (λ all. input ≡ all) → text ≡ input → IsAuditExplained A text legality lines → bytes ≡ lines → Appends old new bytes
-    → IfSome rest (λ all. AppendsExplained A all legality old new)
-explained_written None input text bytes lines legality old new whole is explained same wrote = _
-explained_written {A} (Some all) input text bytes lines legality old new whole is explained same wrote = (
-  lines,
-  subst (λ (x : List ℕ). IsAuditExplained A x legality lines) (is ∙ whole) explained,
-  subst (λ (x : List ℕ). Appends old new x) same wrote,
-)
+pub explained_written : {A : Type 0} (rest : Option (List ℕ)) (judgement : Judgement A) (count : ℕ) (legality : Legality) (bytes lines : List ℕ) (old new : Option (List ℕ))
+    → IfSome rest (λ text. AreShort (lines_of text) × IsJudged A text judgement count) → LinesFor judgement count legality lines → bytes ≡ lines → Appends old new bytes
+    → IfSome rest (λ text. AppendsExplained A text legality old new)
+explained_written None judgement count legality bytes lines old new judged explained same wrote = _
+explained_written (Some text) judgement count legality bytes lines old new judged explained same wrote =
+    (lines, explained text judged.1, subst (λ (x : List ℕ). Appends old new x) same wrote)
 
 -- a prefix of it was written
-part_of : {A : Type 0} (rest : Option (List ℕ)) (input text bytes lines : List ℕ) (legality : Legality) (old new : Option (List ℕ))
-    → IfSome rest (λ all. input ≡ all) → text ≡ input → IsAuditExplained A text legality lines → bytes ≡ lines → AppendsPart old new bytes
-    → IfSome rest (λ all. AppendsExplainedPart A all old new)
-part_of None input text bytes lines legality old new whole is explained same wrote = _
-part_of {A} (Some all) input text bytes lines legality old new whole is explained same wrote = (
-  legality,
-  lines,
-  subst (λ (x : List ℕ). IsAuditExplained A x legality lines) (is ∙ whole) explained,
-  subst (λ (x : List ℕ). AppendsPart old new x) same wrote,
-)
+part_of : {A : Type 0} (rest : Option (List ℕ)) (judgement : Judgement A) (count : ℕ) (legality : Legality) (bytes lines : List ℕ) (old new : Option (List ℕ))
+    → IfSome rest (λ text. AreShort (lines_of text) × IsJudged A text judgement count) → LinesFor judgement count legality lines → bytes ≡ lines → AppendsPart old new bytes
+    → IfSome rest (λ text. AppendsExplainedPart A text old new)
+part_of None judgement count legality bytes lines old new judged explained same wrote = _
+part_of (Some text) judgement count legality bytes lines old new judged explained same wrote =
+    (legality, lines, explained text judged.1, subst (λ (x : List ℕ). AppendsPart old new x) same wrote)
 
-pub explained_in_part : {A T : Type 0} (r : Result T ReplayFault) (rest : Option (List ℕ)) (input text bytes lines : List ℕ) (legality : Legality) (old new : Option (List ℕ))
-    → IsErrAnd r (λ e. e ≡ Write) → IfSome rest (λ all. input ≡ all) → text ≡ input → IsAuditExplained A text legality lines → bytes ≡ lines
+pub explained_in_part : {A T : Type 0} (r : Result T ReplayFault) (rest : Option (List ℕ)) (judgement : Judgement A) (count : ℕ) (legality : Legality) (bytes lines : List ℕ) (old new : Option (List ℕ))
+    → IsErrAnd r (λ e. e ≡ Write) → IfSome rest (λ text. AreShort (lines_of text) × IsJudged A text judgement count) → LinesFor judgement count legality lines → bytes ≡ lines
     → AppendsPart old new bytes → IfErr r (λ fault. HasExplainedStopped A fault rest old new)
-explained_in_part (Ok x) rest input text bytes lines legality old new failed whole is explained same wrote = _
-explained_in_part {A} (Err e) rest input text bytes lines legality old new failed whole is explained same wrote =
-    subst (λ (fault : ReplayFault). HasExplainedStopped A fault rest old new) (sym failed) (part_of rest input text bytes lines legality old new whole is explained same wrote)
+explained_in_part (Ok x) rest judgement count legality bytes lines old new failed judged explained same wrote = _
+explained_in_part {A} (Err e) rest judgement count legality bytes lines old new failed judged explained same wrote =
+    subst (λ (fault : ReplayFault). HasExplainedStopped A fault rest old new) (sym failed) (part_of rest judgement count legality bytes lines old new judged explained same wrote)
+
+-- a history that was judged has no fault
+pub judged_valid : {A : Type 0} (rest : Option (List ℕ)) (judgement : Judgement A) (count : ℕ) → IfSome rest (λ text. AreShort (lines_of text) × IsJudged A text judgement count)
+    → IfSome rest (λ text. AreShort (lines_of text) × IsOk (history_of {A = A} text))
+judged_valid None judgement count judged = _
+judged_valid {A} (Some text) judgement count judged =
+    (judged.0, subst (λ (x : Result ((Numbers × Own) × List (Step A)) CaptureFault). IsOk x) (sym judged.1.parsed) refl)
+
+-- the verdict on the input was written
+pub verdict_written : {A : Type 0} (rest : Option (List ℕ)) (judgement : Judgement A) (count : ℕ) (legality : Legality) (bytes line : List ℕ) (old new : Option (List ℕ))
+    → IfSome rest (λ text. AreShort (lines_of text) × IsJudged A text judgement count) → legality ≡ legality_of judgement → line ≡ verdict_text legality count → bytes ≡ line
+    → Appends old new bytes → IfSome rest (λ text. AppendsVerdict A text legality old new)
+verdict_written None judgement count legality bytes line old new judged is printed same wrote = _
+verdict_written (Some text) judgement count legality bytes line old new judged is printed same wrote =
+    (line, audited text judgement count legality line judged.1 is printed, subst (λ (x : List ℕ). Appends old new x) same wrote)
+
+verdict_part : {A : Type 0} (rest : Option (List ℕ)) (judgement : Judgement A) (count : ℕ) (legality : Legality) (bytes line : List ℕ) (old new : Option (List ℕ))
+    → IfSome rest (λ text. AreShort (lines_of text) × IsJudged A text judgement count) → legality ≡ legality_of judgement → line ≡ verdict_text legality count → bytes ≡ line
+    → AppendsPart old new bytes → IfSome rest (λ text. AppendsVerdictPart A text old new)
+verdict_part None judgement count legality bytes line old new judged is printed same wrote = _
+verdict_part (Some text) judgement count legality bytes line old new judged is printed same wrote =
+    (legality, line, audited text judgement count legality line judged.1 is printed, subst (λ (x : List ℕ). AppendsPart old new x) same wrote)
+
+-- or a prefix of it
+pub verdict_in_part : {A T : Type 0} (r : Result T ReplayFault) (rest : Option (List ℕ)) (judgement : Judgement A) (count : ℕ) (legality : Legality) (bytes line : List ℕ) (old new : Option (List ℕ))
+    → IsErrAnd r (λ e. e ≡ Write) → IfSome rest (λ text. AreShort (lines_of text) × IsJudged A text judgement count) → legality ≡ legality_of judgement
+    → line ≡ verdict_text legality count → bytes ≡ line → AppendsPart old new bytes → IfErr r (λ fault. HasStopped A fault rest old new)
+verdict_in_part (Ok x) rest judgement count legality bytes line old new failed judged is printed same wrote = _
+verdict_in_part {A} (Err e) rest judgement count legality bytes line old new failed judged is printed same wrote =
+    subst (λ (fault : ReplayFault). HasStopped A fault rest old new) (sym failed) (verdict_part rest judgement count legality bytes line old new judged is printed same wrote)
+
+-- a fault of the text is one of an audit that wrote nothing
+pub audit_fault : {X T : Type 0} (parsed : List ℕ → Result X CaptureFault) (r : Result T ReplayFault) (fault : ReplayFault) (s : Streams) → IsErrAnd r (λ e. e ≡ fault)
+    → IsTextFault fault parsed s.source s.source_new → IfErr r (λ e. IsAuditFault e parsed s)
+audit_fault parsed (Ok x) fault s is of_text = _
+audit_fault parsed (Err e) fault s is of_text = subst (λ (f : ReplayFault). IsAuditFault f parsed s) (sym is) (by fault of_text)
+  where
+    by : (f : ReplayFault) → IsTextFault f parsed s.source s.source_new → IsAuditFault f parsed s
+    by Read of_text = of_text
+    by TooLarge of_text = of_text
+    by (Capture f) of_text = of_text
+    by Write of_text = absurd of_text
+    by NoMemory of_text = of_text
+
+-- what a text's fault leaves written
+pub stopped_before : {X T : Type 0} (parsed : List ℕ → Result X CaptureFault) (A : Type 0) (r : Result T ReplayFault) (fault : ReplayFault) (source new : SourceState) (rest written : Option (List ℕ))
+    → IsErrAnd r (λ e. e ≡ fault) → IsTextFault fault parsed source new → IfErr r (λ e. HasStopped A e rest written written) × IfErr r (λ e. HasExplainedStopped A e rest written written)
+stopped_before parsed A (Ok x) fault source new rest written is of_text = (tt, tt)
+stopped_before parsed A (Err e) fault source new rest written is of_text =
+    subst (λ (f : ReplayFault). HasStopped A f rest written written × HasExplainedStopped A f rest written written) (sym is) (by fault of_text)
+  where
+    by : (f : ReplayFault) → IsTextFault f parsed source new → HasStopped A f rest written written × HasExplainedStopped A f rest written written
+    by Read of_text = (Keeps-refl written, Keeps-refl written)
+    by TooLarge of_text = (Keeps-refl written, Keeps-refl written)
+    by (Capture f) of_text = (Keeps-refl written, Keeps-refl written)
+    by Write of_text = absurd of_text
+    by NoMemory of_text = (Keeps-refl written, Keeps-refl written)
+
+of_some : {X : Type 0} (P Q : X → Type 0) (o : Option X) → ((x : X) → P x → Q x) → IfSome o P → IfSome o Q
+of_some P Q None so p = _
+of_some P Q (Some x) so p = so x p
+
+-- an audit is done
+pub audit_done : {A T : Type 0} (x : T) (s : Streams) (judgement : Judgement A) (count : ℕ) → IfSome (text_of s) (λ text. AreShort (lines_of text) × IsJudged A text judgement count)
+    → NoneFailed s → IsAuditOn (history_of {A = A}) s (Ok x)
+audit_done {A} x s judgement count judged unfailed =
+    let valid = judged_valid (text_of s) judgement count judged in
+    record {
+      short = of_some (λ text. AreShort (lines_of text) × IsOk (history_of {A = A} text)) (λ text. AreShort (lines_of text)) (text_of s) (λ text both. both.0) valid;
+      valid = of_some (λ text. AreShort (lines_of text) × IsOk (history_of {A = A} text)) (λ text. IsOk (history_of {A = A} text)) (text_of s) (λ text both. both.1) valid;
+      unfailed = unfailed;
+      fault = tt;
+    }
+
+-- a text was refused
+pub audit_refused : {X T : Type 0} (parsed : List ℕ → Result X CaptureFault) (r : Result T ReplayFault) (fault : ReplayFault) (s : Streams) → IsErrAnd r (λ e. e ≡ fault)
+    → IsTextFault fault parsed s.source s.source_new → IsAuditOn parsed s r
+audit_refused parsed (Ok x) fault s is of_text = absurd is
+audit_refused {X} {T} parsed (Err e) fault s is of_text =
+    record { short = tt; valid = tt; unfailed = tt; fault = audit_fault {X = X} {T = T} parsed (Err e) fault s is of_text }
+
+-- a verdict wasn't written
+pub audit_unwritten : {A T : Type 0} (r : Result T ReplayFault) (s : Streams) (judgement : Judgement A) (count : ℕ) → IsErrAnd r (λ e. e ≡ Write)
+    → IfSome (text_of s) (λ text. AreShort (lines_of text) × IsJudged A text judgement count) → HasWriteFailed s.sink s.sink_new → IsAuditOn (history_of {A = A}) s r
+audit_unwritten (Ok x) s judgement count is judged failed = absurd is
+audit_unwritten {A} (Err e) s judgement count is judged failed = record {
+  short = tt;
+  valid = tt;
+  unfailed = tt;
+  fault = subst (λ (f : ReplayFault). IsAuditFault f (history_of {A = A}) s) (sym is) (judged_valid (text_of s) judgement count judged, failed);
+}

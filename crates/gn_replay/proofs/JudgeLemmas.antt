@@ -17,6 +17,7 @@ use Rattle.gn_text.specs.Parsed.{Numbered}
 use Rattle.gn_capture.specs.Histories.{IsNextOf, map_result, steps_left}
 use Rattle.gn_capture.proofs.StepsLemmas.{known, one_known}
 use Rattle.gn_replay.specs.declared.judgement.Judgement.TheVariants.{WrongAt}
+use Rattle.gn_replay.specs.declared.judgement.WrongStep.{WrongStep}
 use Rattle.gn_replay.specs.Judgements.{IsAnsweredAt, IsFound}
 
 -- steps stand before what is left, and with it they are all
@@ -96,19 +97,19 @@ module _ {A : Type 0} (s now : Config) (made : List (Step A)) (old new : Numbere
     }
 
   -- its reply isn't the rules' answer, and the steps left were read
-  wrong_of : (left : Result (List (Step A)) CaptureFault) (rules : Result (Reply A) Refusal) → steps_left new ≡ left → IsOk left
-      → answer now (reverse made) step.event ≡ rules → (answer now (reverse made) step.event ≡ Ok step.reply → ⊥) → IsFound s all (WrongAt i rules) i
-  wrong_of (Err fault) rules is read found other = absurd (cc)
-  wrong_of (Ok more) rules is read found other = record {
+  wrong_of : (left : Result (List (Step A)) CaptureFault) (wrong : WrongStep A) → wrong.index ≡ i → steps_left new ≡ left → IsOk left
+      → answer now (reverse made) step.event ≡ wrong.rules → (answer now (reverse made) step.event ≡ Ok step.reply → ⊥) → IsFound s all (WrongAt wrong) i
+  wrong_of (Err fault) wrong at is read found other = absurd (cc)
+  wrong_of (Ok more) wrong at is read found other = record {
     steps = whole more;
     parsed = all_read more is;
-    judged = (is_wrong more other, is_answered more rules found);
+    judged = subst (λ (n : ℕ). IsFirstWrong s (whole more) n × IsAnsweredAt s (whole more) n wrong.rules) (sym at) (is_wrong more other, is_answered more wrong.rules found);
     counted = λ legal. absurd (cc);
   }
 
-  pub found_wrong : (rules : Result (Reply A) Refusal) → IsOk (steps_left {A = A} new) → answer now (reverse made) step.event ≡ rules
-      → (answer now (reverse made) step.event ≡ Ok step.reply → ⊥) → IsFound s all (WrongAt i rules) i
-  found_wrong rules read found other = wrong_of (steps_left new) rules refl read found other
+  pub found_wrong : (wrong : WrongStep A) → wrong.index ≡ i → IsOk (steps_left {A = A} new) → answer now (reverse made) step.event ≡ wrong.rules
+      → (answer now (reverse made) step.event ≡ Ok step.reply → ⊥) → IsFound s all (WrongAt wrong) i
+  found_wrong wrong at read found other = wrong_of (steps_left new) wrong at refl read found other
 
 -- one step fewer is left
 pub rest_more : {A : Type 0} (all : Result (List (Step A)) CaptureFault) (old new : Numbered) (step : Step A) → IsLeftOf all old

@@ -6,9 +6,9 @@ pub mod LineLemmas
 pub mod LinesLemmas
 pub mod LinkLemmas
 pub mod OneText
-pub mod PassedLemmas
 pub mod ReplayLemmas
 pub mod RunLemmas
 pub mod SayLemmas
 pub mod StepLines
+pub mod StreamLemmas
 pub mod VerdictLemmas

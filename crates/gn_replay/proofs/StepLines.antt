@@ -95,7 +95,7 @@ config_more version last (line ∷ more) header e = by (config_of version (field
         (line, more_of.0, ap (λ xs. line ∷ xs) more_of.1)
 
 -- the lines after the first three
-header_more : (text : Text) (last : ℕ) (lines : List (ℕ × List ℕ)) (header : (Numbers × Own) × List (ℕ × List ℕ)) (i : ℕ)
+pub header_more : (text : Text) (last : ℕ) (lines : List (ℕ × List ℕ)) (header : (Numbers × Own) × List (ℕ × List ℕ)) (i : ℕ)
     → header_of text last lines ≡ Ok header → slice_get lines (suc (suc (suc i))) ≡ slice_get header.1 i
 header_more text last [] header i e = absurd (cc)
 header_more text last (line ∷ more) header i e = by (version_of text line.1) e

@@ -1,7 +1,9 @@
 -- What is found where the events of a history are answered again.
-use Rattle.std.specs.Prelude.{◌≡◌, ℕ, List, length, reverse, take, Some, Result, Ok}
+use Rattle.std.specs.Prelude.{◌≡◌, ℕ, List, [], length, reverse, take, Some, IsOk, Result, Ok}
 use Rattle.std.specs.List.{slice_get}
 use Rattle.gn_rules.specs.declared.config.Config.{Config}
+use Rattle.gn_rules.specs.declared.config.Own.{Own}
+use Rattle.gn_rules.specs.declared.limits.Numbers.{Numbers}
 use Rattle.gn_rules.specs.declared.legality.Legality.{Legality}
 use Rattle.gn_rules.specs.declared.legality.Legality.TheVariants as verdict
 use Rattle.gn_rules.specs.declared.receipt.Step.{Step}
@@ -10,15 +12,23 @@ use Rattle.gn_rules.specs.declared.reply.Reply.{Reply}
 use Rattle.gn_rules.specs.Answer.{answer, IsLegal}
 use Rattle.gn_rules.specs.Legality.{IsFirstWrong}
 use Rattle.gn_text.specs.declared.fault.CaptureFault.{CaptureFault}
+use Rattle.gn_text.specs.declared.title.Text.TheVariants.{History}
+use Rattle.gn_text.specs.Faults.{IsRefused, ◌>>=◌}
+use Rattle.gn_text.specs.Header.{header_of}
 use Rattle.gn_text.specs.Settings.{settings_of}
-use Rattle.gn_capture.specs.Histories.{history_of}
+use Rattle.gn_capture.specs.Histories.{history_of, map_result, steps_from, steps_left}
+use Rattle.gn_stream.specs.declared.fault.StreamFault.{StreamFault}
+use Rattle.gn_stream.specs.Left.{AreGone, Left, numbered_left}
+use Rattle.gn_stream.specs.Reading.{IsReadOf, Place}
+use Rattle.gn_stream.specs.Steps.{AreRefused}
+use Rattle.gn_replay.specs.Explained.{step_line_at}
 use Rattle.gn_replay.specs.declared.judgement.Judgement.{Judgement}
 use Rattle.gn_replay.specs.declared.judgement.Judgement.TheVariants.{Legal, WrongAt}
 
 -- what is found of a history, without the answer
 abbrev pub legality_of : {A : Type 0} → Judgement A → Legality
 legality_of Legal = verdict.Legal
-legality_of (WrongAt i rules) = verdict.WrongAt i
+legality_of (WrongAt wrong) = verdict.WrongAt wrong.index
 
 -- the step at the index, and what the rules answer to its event after the steps before it
 pub record IsAnsweredAt {A : Type 0} (s : Config) (steps : List (Step A)) (i : ℕ) (rules : Result (Reply A) Refusal)
@@ -31,7 +41,7 @@ pub record IsAnsweredAt {A : Type 0} (s : Config) (steps : List (Step A)) (i : �
 -- answer so to its event
 abbrev pub IsTrueOf : {A : Type 0} → Config → List (Step A) → Judgement A → Type 0
 IsTrueOf s steps Legal = IsLegal s (reverse steps)
-IsTrueOf s steps (WrongAt i rules) = IsFirstWrong s steps i × IsAnsweredAt s steps i rules
+IsTrueOf s steps (WrongAt wrong) = IsFirstWrong s steps wrong.index × IsAnsweredAt s steps wrong.index wrong.rules
 
 -- what is left of a history says steps, and the judgement is true of them; where they are legal, there are so many
 pub record IsFound {A : Type 0} (s : Config) (left : Result (List (Step A)) CaptureFault) (judgement : Judgement A) (count : ℕ) : Type 0 where
@@ -40,6 +50,39 @@ pub record IsFound {A : Type 0} (s : Config) (left : Result (List (Step A)) Capt
   pub judged : IsTrueOf s steps judgement
   pub counted : judgement ≡ Legal → count ≡ length steps
 
+-- a wrong step stands in this line, among those that aren't skipped
+abbrev pub StandsIn : {A : Type 0} → List (ℕ × List ℕ) → Judgement A → Type 0
+StandsIn lines Legal = Unit {0}
+StandsIn lines (WrongAt wrong) = slice_get lines wrong.index ≡ Some (wrong.number, wrong.line.items)
+
+-- the lines of steps are gone up to the end of a history, and this was found of them
+pub record IsFoundIn {A : Type 0} (s : Config) (judgement : Judgement A) (count : ℕ) (old new : Left) : Type 0 where
+  pub gone : AreGone old new
+  pub none : new.lines ≡ []
+  pub found : IsFound s (steps_left (numbered_left old)) judgement count
+  pub stands : StandsIn (numbered_left old).lines judgement
+
+-- the lines of steps are gone up to the end of a history
+pub record ArePassed (A : Type 0) (old new : Left) : Type 0 where
+  pub gone : AreGone old new
+  pub none : new.lines ≡ []
+  pub read : IsOk (steps_left {A = A} (numbered_left old))
+
+abbrev pub IsPassedOf : (A : Type 0) → Result (Unit {0}) StreamFault → Place → Place → Type 0
+IsPassedOf A result old new = IsReadOf (λ _. ArePassed A) (AreRefused A) result old new
+
+abbrev pub IsFoundOf : {A : Type 0} → Config → Result (Judgement A × ℕ) StreamFault → Place → Place → Type 0
+IsFoundOf {A} s result old new = IsReadOf (λ found. IsFoundIn s found.0 found.1) (AreRefused A) result old new
+
+-- what is left of a history says the steps that a router made
+abbrev pub SayMade : {A : Type 0} → List (Step A) → Left → Left → Type 0
+SayMade steps old new = steps_left (numbered_left old) ≡ Ok steps
+
+-- a wrong step stands in this line of a text
+abbrev pub StandsInText : {A : Type 0} → List ℕ → Judgement A → Type 0
+StandsInText text Legal = Unit {0}
+StandsInText text (WrongAt wrong) = step_line_at text wrong.index ≡ Some (wrong.number, wrong.line.items)
+
 -- the text says a configuration and steps, and the judgement is true of them; where they are legal, there are so many
 pub record IsJudged (A : Type 0) (text : List ℕ) (judgement : Judgement A) (count : ℕ) : Type 0 where
   pub settings : Config
@@ -47,3 +90,22 @@ pub record IsJudged (A : Type 0) (text : List ℕ) (judgement : Judgement A) (co
   pub parsed : history_of text ≡ Ok (settings_of settings, steps)
   pub judged : IsTrueOf settings steps judgement
   pub counted : judgement ≡ Legal → count ≡ length steps
+  pub stands : StandsInText text judgement
+
+-- what the lines that are left say, where they are those of a whole text
+abbrev pub history_left : {A : Type 0} → Left → Result ((Numbers × Own) × List (Step A)) CaptureFault
+history_left left = do
+  header ← header_of History (numbered_left left).after (numbered_left left).lines
+  map_result (λ steps. (header.0, steps)) (steps_from (numbered_left left).after header.1)
+
+-- all lines of a text are gone, and this was found of it
+pub record IsFoundWhole {A : Type 0} (judgement : Judgement A) (count : ℕ) (old new : Left) : Type 0 where
+  pub settings : Config
+  pub rest : Left
+  pub gone : AreGone old rest
+  pub header : header_of History (numbered_left old).after (numbered_left old).lines ≡ Ok (settings_of settings, (numbered_left rest).lines)
+  pub found : IsFoundIn settings judgement count rest new
+
+abbrev pub IsFoundWholeOf : {A : Type 0} → Result (Judgement A × ℕ) StreamFault → Place → Place → Type 0
+IsFoundWholeOf {A} result old new =
+    IsReadOf (λ found. IsFoundWhole found.0 found.1) (λ refusal left. IsRefused refusal (history_left {A = A} left)) result old new

@@ -1,36 +1,40 @@
 //! A history audited from stream to stream, and explained.
 
 ghost use Rattle.std.specs.Prelude.{IfOk, IfErr, IfSome};
-ghost use Rattle.gn_replay.specs.Faults.{IsAnswerOn};
+ghost use Rattle.gn_replay.specs.Faults.{IsAuditOn};
 ghost use Rattle.gn_capture.specs.Histories.{history_of};
 ghost use Rattle.gn_io.specs.Streams.{streams, text_between};
 ghost use Rattle.gn_replay.specs.Audits.{AppendsVerdict, HasStopped};
 ghost use Rattle.gn_replay.specs.Explained.{AppendsExplained, HasExplainedStopped};
 
-use crate::explanation::explained_text;
+use crate::explanation::explained_lines;
 use crate::fault::ReplayFault;
-use crate::judged::audit_text;
-use gn_io::{Sink, Source, read_input, write_all};
+use crate::judged::{judge_source, verdict};
+use gn_io::{Sink, Source, write_all};
 use gn_rules::{FreshRouter, Legality};
 use std::alloc::Allocator;
 
-/// Reads a history's text whole, asks a new router for each of its steps again, and writes one line: `legal COUNT`, or
-/// `wrong INDEX` with the index of the first step, counted from 0, at which the router does otherwise. Nothing is
-/// written before all is decided. An `Ok` says that no read failed and no write failed or took nothing.
+/// Reads a history's text to its end, asks a new router for each of its steps again, and writes one line: `legal COUNT`, or
+/// `wrong INDEX` with the index of the first step, counted from 0, at which the router does otherwise. The text may have any
+/// length, and a line of it at most 67,108,864 bytes: no more is held than a line, 16,384 bytes, and what the router holds. A
+/// text at fault is read no further than its first fault. Nothing is written before all is decided. An `Ok` says that no read
+/// failed and no write failed or took nothing.
 pub fn audit<A: Allocator + Copy, C: FreshRouter<A> + Drop, S: Source, W: Sink>(
     alloc: A,
     source: &mut S,
     sink: &mut W,
 ) -> Result<Legality, ReplayFault>
-    ensures answer { IsAnswerOn (history_of {A = A})
+    ensures answer { IsAuditOn (history_of {A = A})
         (streams (S.state source.old) (S.state source.new) (W.state sink.old) (W.state sink.new)) result }
     ensures written { IfOk result (λ legality. IfSome (text_between (S.state source.old) (S.state source.new)) (λ text.
         AppendsVerdict A text legality (W.state sink.old).written (W.state sink.new).written)) }
     ensures stopped { IfErr result (λ fault. HasStopped A fault (text_between (S.state source.old) (S.state source.new))
         (W.state sink.old).written (W.state sink.new).written) }
 {
-    let input = read_input(alloc, source)?;
-    let (legality, line) = audit_text::<A, C>(alloc, &input)?;
+    let (judgement, steps) = judge_source::<A, C, S>(alloc, source)?;
+    let legality = judgement.legality();
+    drop(judgement);
+    let line = verdict(alloc, legality, steps)?;
     write_all(sink, &line)?;
     Ok(legality)
 }
@@ -43,7 +47,7 @@ pub fn audit_explained<A: Allocator + Copy, C: FreshRouter<A> + Drop, S: Source,
     source: &mut S,
     sink: &mut W,
 ) -> Result<Legality, ReplayFault>
-    ensures answer { IsAnswerOn (history_of {A = A})
+    ensures answer { IsAuditOn (history_of {A = A})
         (streams (S.state source.old) (S.state source.new) (W.state sink.old) (W.state sink.new)) result }
     ensures written { IfOk result (λ legality. IfSome (text_between (S.state source.old) (S.state source.new)) (λ text.
         AppendsExplained A text legality (W.state sink.old).written (W.state sink.new).written)) }
@@ -51,8 +55,10 @@ pub fn audit_explained<A: Allocator + Copy, C: FreshRouter<A> + Drop, S: Source,
         HasExplainedStopped A fault (text_between (S.state source.old) (S.state source.new))
         (W.state sink.old).written (W.state sink.new).written) }
 {
-    let input = read_input(alloc, source)?;
-    let (legality, lines) = explained_text::<A, C>(alloc, &input)?;
+    let (judgement, steps) = judge_source::<A, C, S>(alloc, source)?;
+    let explained = explained_lines(alloc, &judgement, steps);
+    drop(judgement);
+    let (legality, lines) = explained?;
     write_all(sink, &lines)?;
     Ok(legality)
 }

@@ -1,9 +1,10 @@
 //! The faults, and what they are made of.
 
 ghost use Rattle.std.specs.Prelude.{◌≡◌};
-ghost use Rattle.gn_replay.specs.Faults.{of_input, of_refusal};
+ghost use Rattle.gn_replay.specs.Faults.{of_input, of_refusal, of_stream};
 
 use gn_io::{InputFault, IoFault};
+use gn_stream::StreamFault;
 use gn_text::{CaptureFault, CaptureRefusal};
 use std::alloc::{AllocError, AllocFailed};
 
@@ -12,7 +13,7 @@ use std::alloc::{AllocError, AllocFailed};
 pub enum ReplayFault {
     /// A read of the input failed.
     Read,
-    /// The input has more than 67,108,864 bytes.
+    /// The input has more than 67,108,864 bytes; that of an audit, a line that has.
     TooLarge,
     /// The input isn't what it has to be: its first fault.
     Capture(CaptureFault),
@@ -41,6 +42,17 @@ impl From<CaptureRefusal> for ReplayFault {
         match refusal {
             CaptureRefusal::Fault(fault) => ReplayFault::Capture(fault),
             CaptureRefusal::NoMemory => ReplayFault::NoMemory,
+        }
+    }
+}
+
+impl From<StreamFault> for ReplayFault {
+    ghost from_gives = { λ fault e. e ≡ of_stream fault };
+
+    fn from(fault: StreamFault) -> ReplayFault {
+        match fault {
+            StreamFault::Input(fault) => ReplayFault::from(fault),
+            StreamFault::Text(refusal) => ReplayFault::from(refusal),
         }
     }
 }

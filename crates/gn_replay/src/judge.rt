@@ -1,17 +1,16 @@
-//! Steps of a history's text that a router is asked for again.
+//! Steps of a history that a router is asked for again, as they are read.
 
-ghost use Rattle.std.specs.Prelude.{◌≡◌, [], Ok, IfErr, IfOk, IsOk, OnOk, reverse};
+ghost use Rattle.std.specs.Prelude.{◌≡◌, [], IfOk, reverse};
 ghost use Rattle.gn_rules.specs.Answer.{answer};
-ghost use Rattle.gn_text.specs.Faults.{IsRefused};
-ghost use Rattle.gn_capture.specs.Histories.{steps_left};
-ghost use Rattle.gn_replay.specs.Judgements.{IsFound};
+ghost use Rattle.gn_stream.specs.Reading.{Passes, place};
+ghost use Rattle.gn_replay.specs.Judgements.{IsFoundOf, IsPassedOf, SayMade};
 ghost use Rattle.gn_replay.specs.declared.judgement.Judgement.TheVariants.{Legal};
 
 use crate::given::add;
-use crate::judgement::{Answer, Judgement};
-use gn_capture::HistorySteps;
+use crate::judgement::{Answer, Judgement, WrongStep};
+use gn_io::Source;
 use gn_rules::{Event, Refusal, RouterCore};
-use gn_text::CaptureRefusal;
+use gn_stream::{LineReader, StreamFault, next_step};
 use std::alloc::{AllocError, Allocator};
 
 /// What the rules answer to an event. An `Err` is out of memory.
@@ -29,36 +28,58 @@ fn rules_answer<A: Allocator + Copy, C: RouterCore<A>>(
     }
 }
 
-/// Reads the steps that are left, since a fault of a later line comes before what is found of an earlier step.
-fn pass_left<A: Allocator + Copy>(steps: &mut HistorySteps<A>) -> Result<(), CaptureRefusal>
-    ensures read { OnOk result (IsOk (steps_left {A = A} steps.old)) }
-    ensures refused { IfErr result (λ refusal. IsRefused refusal (steps_left {A = A} steps.old)) }
+/// A copy of a line. An `Err` is out of memory.
+fn copy_line<A: Allocator>(alloc: A, line: &[u8]) -> Result<Vec<u8, A>, AllocError>
+    ensures { IfOk result (λ copy. copy.items ≡ line.now) }
 {
-    while let Some(step) = steps.next_step()? {
+    let mut copy = Vec::new(alloc);
+    copy.extend_from_slice(line)?;
+    Ok(copy)
+}
+
+/// Reads the steps that are left, since a fault of a later line comes before what is found of an earlier step.
+fn pass_left<A: Allocator + Copy, S: Source>(
+    alloc: A,
+    lines: &mut LineReader<A>,
+    source: &mut S,
+) -> Result<(), StreamFault>
+    ensures { IsPassedOf A result (place (S.state source.old) lines.old) (place (S.state source.new) lines.new) }
+{
+    while let Some((_, step)) = next_step(alloc, lines, source)? {
         drop(step);
     }
     Ok(())
 }
 
-/// The judgement of a new router on the steps that are left of a text, and how many were right: it looks at each reply as
+/// The judgement of a new router on the steps that are left of a history, and how many were right: it looks at each reply as
 /// it is read, and then adds the step itself.
-pub(crate) fn judge<A: Allocator + Copy, C: RouterCore<A>>(
+pub(crate) fn judge<A: Allocator + Copy, C: RouterCore<A>, S: Source>(
+    alloc: A,
     core: &mut C,
-    steps: &mut HistorySteps<A>,
-) -> Result<(Judgement<A>, u32), CaptureRefusal>
+    lines: &mut LineReader<A>,
+    source: &mut S,
+) -> Result<(Judgement<A>, u32), StreamFault>
     requires { C.steps core.old ≡ [] }
-    ensures judged { IfOk result (λ judged. IsFound (C.settings core.old) (steps_left steps.old) judged.0 judged.1) }
-    ensures made { IfOk result (λ judged. judged.0 ≡ Legal → steps_left steps.old ≡ Ok (C.steps core.new)) }
-    ensures refused { IfErr result (λ refusal. IsRefused refusal (steps_left {A = A} steps.old)) }
+    ensures found { IsFoundOf (C.settings core.old) result
+        (place (S.state source.old) lines.old) (place (S.state source.new) lines.new) }
+    ensures made { IfOk result (λ judged. judged.0 ≡ Legal → Passes (SayMade (C.steps core.new))
+        (place (S.state source.old) lines.old) (place (S.state source.new) lines.new)) }
 {
     let mut index = 0u32;
-    while let Some(step) = steps.next_step()? {
+    while let Some((number, step)) = next_step(alloc, lines, source)? {
         if !core.is_answered(&step) {
             let answer = rules_answer(core, &step.event);
             drop(step);
             let rules = answer?;
-            pass_left(steps)?;
-            return Ok((Judgement::WrongAt(index, rules), index));
+            let line = copy_line(alloc, lines.line())?;
+            pass_left(alloc, lines, source)?;
+            let wrong = WrongStep {
+                index,
+                number,
+                line,
+                rules,
+            };
+            return Ok((Judgement::WrongAt(wrong), index));
         }
         add(core, step)?;
         index += 1;

@@ -1,16 +1,21 @@
 //! The verdict on a history's text, and its line.
 
-ghost use Rattle.std.specs.Prelude.{◌≡◌, IfOk, IfErr};
-ghost use Rattle.gn_text.specs.Faults.{IsRefused};
+ghost use Rattle.std.specs.Prelude.{◌≡◌, IfOk, IfErr, IfSome, OnOk};
+ghost use Rattle.gn_text.specs.Lines.{lines_of};
 ghost use Rattle.gn_capture.specs.Histories.{history_of};
-ghost use Rattle.gn_replay.specs.Audits.{IsAudited, verdict_text};
-ghost use Rattle.gn_replay.specs.Judgements.{IsJudged};
+ghost use Rattle.gn_io.specs.Streams.{NoReadFailed, text_between};
+ghost use Rattle.gn_stream.specs.Left.{AreShort};
+ghost use Rattle.gn_stream.specs.Reading.{place};
+ghost use Rattle.gn_replay.specs.Audits.{verdict_text};
+ghost use Rattle.gn_replay.specs.Faults.{IsTextFault, of_stream};
+ghost use Rattle.gn_replay.specs.Judgements.{IsFoundWholeOf, IsJudged};
 
 use crate::judge::judge;
 use crate::judgement::Judgement;
-use gn_capture::open_history;
+use gn_io::Source;
 use gn_rules::{FreshRouter, Legality};
-use gn_text::{CaptureRefusal, push_number};
+use gn_stream::{LineReader, StreamFault, read_history_header};
+use gn_text::push_number;
 use std::alloc::{AllocError, Allocator};
 
 /// The line of a verdict on a history of so many steps.
@@ -36,30 +41,30 @@ pub(crate) fn verdict<A: Allocator>(
     Ok(line)
 }
 
-/// What a new router finds of the history that a text says, and how many steps it found right.
-pub(crate) fn judge_text<A: Allocator + Copy, C: FreshRouter<A> + Drop>(
+/// What a new router finds of the history that the lines of a reader say, and how many steps it found right.
+fn judge_lines<A: Allocator + Copy, C: FreshRouter<A> + Drop, S: Source>(
     alloc: A,
-    text: &[u8],
-) -> Result<(Judgement<A>, u32), CaptureRefusal>
-    ensures judged { IfOk result (λ judged. IsJudged A text.now judged.0 judged.1) }
-    ensures refused { IfErr result (λ refusal. IsRefused refusal (history_of {A = A} text.now)) }
+    lines: &mut LineReader<A>,
+    source: &mut S,
+) -> Result<(Judgement<A>, u32), StreamFault>
+    ensures { IsFoundWholeOf result (place (S.state source.old) lines.old) (place (S.state source.new) lines.new) }
 {
-    let (config, mut steps) = open_history(alloc, text)?;
+    let config = read_history_header(alloc, lines, source)?;
     let mut core = C::make(alloc, &config)?;
-    judge(&mut core, &mut steps)
+    judge(alloc, &mut core, lines, source)
 }
 
-/// The verdict of a new router on the history that a text says, and its line.
-pub(crate) fn audit_text<A: Allocator + Copy, C: FreshRouter<A> + Drop>(
+/// What a new router finds of the history that a source gives, and how many steps it found right.
+pub(crate) fn judge_source<A: Allocator + Copy, C: FreshRouter<A> + Drop, S: Source>(
     alloc: A,
-    text: &[u8],
-) -> Result<(Legality, Vec<u8, A>), CaptureRefusal>
-    ensures audited { IfOk result (λ audited. IsAudited A text.now audited.0 audited.1.items) }
-    ensures refused { IfErr result (λ refusal. IsRefused refusal (history_of {A = A} text.now)) }
+    source: &mut S,
+) -> Result<(Judgement<A>, u32), StreamFault>
+    ensures judged { IfOk result (λ judged. IfSome (text_between (S.state source.old) (S.state source.new)) (λ text.
+        AreShort (lines_of text) × IsJudged A text judged.0 judged.1)) }
+    ensures unfailed { OnOk result (NoReadFailed (S.state source.old) (S.state source.new)) }
+    ensures fault { IfErr result (λ fault. IsTextFault (of_stream fault) (history_of {A = A})
+        (S.state source.old) (S.state source.new)) }
 {
-    let (judgement, steps) = judge_text::<A, C>(alloc, text)?;
-    let legality = judgement.legality();
-    drop(judgement);
-    let line = verdict(alloc, legality, steps)?;
-    Ok((legality, line))
+    let mut lines = LineReader::new(alloc);
+    judge_lines::<A, C, S>(alloc, &mut lines, source)
 }

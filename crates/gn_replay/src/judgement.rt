@@ -9,13 +9,26 @@ use std::alloc::{Allocator, Global};
 /// What the rules answer to an event.
 pub(crate) type Answer<A> = Result<Reply<A>, Refusal>;
 
+/// A step whose reply isn't the rules' answer.
+#[derive(Debug, Drop)]
+pub(crate) struct WrongStep<A: Allocator = Global> {
+    /// How many steps stand before it.
+    pub(crate) index: u32,
+    /// The number of its line, counted from 1.
+    pub(crate) number: u64,
+    /// Its line.
+    pub(crate) line: Vec<u8, A>,
+    /// What the rules answer to its event.
+    pub(crate) rules: Answer<A>,
+}
+
 /// What is found where the events of a history are answered again.
 #[derive(Debug, Drop)]
 pub(crate) enum Judgement<A: Allocator = Global> {
     /// Each reply is the rules' answer.
     Legal,
-    /// The index of the first wrong step, counted from 0, and what the rules answer to its event.
-    WrongAt(u32, Answer<A>),
+    /// The first wrong step.
+    WrongAt(WrongStep<A>),
 }
 
 impl<A: Allocator> Judgement<A> {
@@ -25,7 +38,7 @@ impl<A: Allocator> Judgement<A> {
     {
         match self {
             Judgement::Legal => Legality::Legal,
-            Judgement::WrongAt(index, _) => Legality::WrongAt(*index),
+            Judgement::WrongAt(wrong) => Legality::WrongAt(wrong.index),
         }
     }
 }

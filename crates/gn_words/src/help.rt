@@ -227,7 +227,7 @@ that is let go to take it, 0 to 3600";
 pub(crate) const STEPS: &str = "\
 The most steps of the history, 1 to 1000000; a run that needs more ends
 with `fault: history full`. With 64 neighbours 300000 of small packets
-are within the 64 MiB that an audit reads";
+are within the 64 MiB that `gn show` reads";
 
 /// The option `--stop-early`.
 pub(crate) const EARLY: &str = "\
@@ -278,7 +278,7 @@ examples/gn.service is a unit for a service manager, with a standard input that 
 A run that would make more than its most steps prints no history, unless `--keep-history` is given:
 one neighbour alone makes a million in a second. With `--stop-early` the router stops before, and
 prints its whole history; what it still has to read of a piece and to write takes the last tenth of
-the steps. An audit reads at most 64 MiB, which are some 600,000 steps of small packets, and fewer
+the steps. An audit has no limit. `gn show` reads at most 64 MiB, some 600,000 small steps, and fewer
 the more neighbours there are: `--steps 300000` keeps below it with 64 of them.
 
 Example: two routers of which the second calls the first, in whichever order they start. Both end

@@ -132,6 +132,7 @@ pub mod replay {
         Exit, ReplayFault, Replayed, audit, audit_explained, play, replay, replay_history,
         replay_text_is_one,
     };
+    pub use gn_stream::StreamFault;
 }
 
 /// Histories as a reader sees them: steps in plain words or as JSON, and the counters.

@@ -1,11 +1,12 @@
-use Rattle.std.specs.Prelude.{length}
-use Rattle.gn_capture.specs.Histories.{steps_left}
-use Rattle.gn_replay.proofs.JudgeLemmas.{IsRepeating}
+use Rattle.std.proofs.Common.{◌-◌, ◌^◌}
+use Rattle.gn_stream.specs.Reading.{Passes, place}
+use Rattle.gn_replay.proofs.StreamLemmas.{Repeats}
 use Rattle.gn_replay.proofs.judge.judge.Given as goal
 
-abbrev pub invariant-loop-step : goal.invariant-loop-step
-invariant-loop-step g l =
-    IsRepeating (g.C.RouterCore.settings l.fn.core) (g.C.RouterCore.settings l.core) (g.C.RouterCore.steps l.core) l.steps (steps_left l.fn.steps) l.index
+abbrev pub invariant-loop-number : goal.invariant-loop-number
+invariant-loop-number g l =
+    Passes (Repeats (g.C.RouterCore.settings l.fn.core) (g.C.RouterCore.settings l.core) (g.C.RouterCore.steps l.core) l.index)
+    (place (g.S.Source.state l.fn.source) l.fn.lines) (place (g.S.Source.state l.source) l.lines)
 
-abbrev pub decreases-loop-step : goal.decreases-loop-step
-decreases-loop-step g l = length l.steps.lines
+abbrev pub decreases-loop-number : goal.decreases-loop-number
+decreases-loop-number g l = 2 ^ 64 - l.lines.next

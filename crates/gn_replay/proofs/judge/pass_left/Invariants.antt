@@ -1,10 +1,10 @@
-use Rattle.std.specs.Prelude.{length}
-use Rattle.gn_capture.specs.Histories.{steps_left}
-use Rattle.gn_replay.proofs.JudgeLemmas.{IsLeftOf}
+use Rattle.std.proofs.Common.{◌-◌, ◌^◌}
+use Rattle.gn_stream.specs.Reading.{Passes, place}
+use Rattle.gn_replay.proofs.StreamLemmas.{IsRead}
 use Rattle.gn_replay.proofs.judge.pass_left.Given as goal
 
 abbrev pub invariant-loop-step : goal.invariant-loop-step
-invariant-loop-step g l = IsLeftOf {A = g.row.A.Denot} (steps_left l.fn.steps) l.steps
+invariant-loop-step g l = Passes (IsRead g.row.A.Denot) (place (g.S.Source.state l.fn.source) l.fn.lines) (place (g.S.Source.state l.source) l.lines)
 
 abbrev pub decreases-loop-step : goal.decreases-loop-step
-decreases-loop-step g l = length l.steps.lines
+decreases-loop-step g l = 2 ^ 64 - l.lines.next
