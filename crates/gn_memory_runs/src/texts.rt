@@ -8,7 +8,9 @@ use gn_fixtures::{
     growths_of_calls, is_same_step,
 };
 use gn_io::{ReaderSource, Sink, Source, WriterSink};
-use gn_replay::{Exit, ReplayFault, audit, audit_explained, replay, replay_history};
+use gn_replay::{
+    Exit, ReplayFault, audit, audit_explained, audit_unfinished, replay, replay_history,
+};
 use gn_rules::{Config, Legality, Numbers, Step};
 use gn_tables::TableRouter;
 use gn_text::{CaptureRefusal, NumberedLine, NumberedLines, fields_into, read_header};
@@ -48,6 +50,16 @@ own eeeeeeeeeeeeeeeeeeeeeeeeeeeeeeee 127.0.0.1 6346 5 40\n\
 0 admit 1 a1a1a1a1a1a1a1a1a1a1a1a1a1a1a1a100070000000000 = admitted 0\n\
 0 route 0 = routed local 1+a1a1a1a1a1a1a1a1a1a1a1a1a1a1a1a10101000e000000ca187f0000010500000028000000 2+a1a1a1a1a1a1a1a1a1a1a1a1a1a1a1a100060100000000\n\
 end\n";
+
+/// Its history, cut within its last line.
+const CUT: &str = "gnutella-history 1\n\
+config 4 8 4 8 8 100\n\
+own eeeeeeeeeeeeeeeeeeeeeeeeeeeeeeee 127.0.0.1 6346 5 40\n\
+0 connect = connected 1\n\
+0 connect = connected 2\n\
+0 admit 1 a1a1a1a1a1a1a1a1a1a1a1a1a1a1a1a100070000000000 = admitted 0\n\
+0 route 0 = routed local 1+a1a1a1a1a1a1a1a1a1a1a1a1a1a1a1a10101000e000000ca187f0000010500000028000000 2+a1a1a1a1a1a1a1a1a1a1a1a1a1a1a1a100060100000000\n\
+en";
 
 /// Its history with the Ping admitted twice.
 const ADMITTED_TWICE: &str = "gnutella-history 1\n\
@@ -315,6 +327,7 @@ enum Command {
     ReplayHistory,
     Audit(Legality),
     AuditExplained(Legality),
+    AuditUnfinished(Legality),
 }
 
 /// What a replay of the capture comes to.
@@ -343,6 +356,9 @@ impl Command {
             Command::AuditExplained(wanted) => {
                 audit_explained::<A, TableRouter<A>, S, W>(alloc, source, sink)? == wanted
             }
+            Command::AuditUnfinished(wanted) => {
+                audit_unfinished::<A, TableRouter<A>, S, W>(alloc, source, sink)? == wanted
+            }
         })
     }
 }
@@ -352,7 +368,7 @@ impl Command {
 type Row = (Command, &'static str, &'static str, u64, u64);
 
 /// Each command over the first Ping's capture or history.
-const COMMANDS: [Row; 7] = [
+const COMMANDS: [Row; 8] = [
     (Command::Replay, CAPTURE, PRINTED, 48, 49),
     (Command::ReplayHistory, CAPTURE, FIRST_PING, 51, 52),
     (
@@ -389,6 +405,13 @@ const COMMANDS: [Row; 7] = [
         "wrong 2\nline 6: 0 admit 1 a1a1a1a1a1a1a1a1a1a1a1a1a1a1a1a100070000000000 = admitted 1\nrules: admitted 0\n",
         36,
         37,
+    ),
+    (
+        Command::AuditUnfinished(Legality::Legal),
+        CUT,
+        "legal 4 unfinished\n",
+        45,
+        46,
     ),
 ];
 

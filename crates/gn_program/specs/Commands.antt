@@ -13,7 +13,8 @@ use Rattle.gn_replay.specs.Replays.{AppendsReplay, HasStopped, IsCounted}
 use Rattle.gn_replay.specs.declared.replays.Exit.{Exit}
 use Rattle.gn_replay.specs.ReplayHistory.{AppendsHistory, HasHistoryStopped}
 use Rattle.gn_capture.specs.Histories.{history_of}
-use Rattle.gn_replay.specs.Audits.{AppendsVerdict, HasStopped as HasAuditStopped}
+use Rattle.gn_stream.specs.Left.{all_lines, finished_lines}
+use Rattle.gn_replay.specs.Audits.{AppendsCutVerdict, AppendsVerdict, HasCutStopped, HasStopped as HasAuditStopped, cut_history_of}
 use Rattle.gn_replay.specs.Explained.{AppendsExplained, HasExplainedStopped}
 use Rattle.gn_show.specs.Shown.{AppendsShown, HasShowStopped}
 use Rattle.gn_show.specs.declared.form.View.{View}
@@ -31,7 +32,7 @@ use Rattle.gn_rules.specs.declared.legality.Legality.{Legality}
 use Rattle.gn_rules.specs.declared.legality.Legality.TheVariants.{Legal, WrongAt}
 use Rattle.gn_words.specs.ServeOptions.{AskedServe}
 use Rattle.gn_words.specs.declared.request.Request.{Request}
-use Rattle.gn_words.specs.declared.request.Request.TheVariants.{Replay, History, Audit, Explain, Show, Load, Watched, Serve}
+use Rattle.gn_words.specs.declared.request.Request.TheVariants.{Replay, History, Audit, Explain, Unfinished, Show, Load, Watched, Serve}
 
 -- what replay answers: the input was a capture, no longer than it may be, and its replay text was written, its steps
 -- and refusals counted; or it stopped, at a fault that the streams confirm, and what was written then is a prefix of
@@ -54,17 +55,24 @@ pub record IsHistoryAnswer (s : Streams) (answer : Result Exit ReplayFault) : Ty
 -- what audit answers: the input was a history, none of whose lines is longer than a line may be, and the line of its verdict was
 -- written; or it stopped, at a fault that the streams confirm, and what was written then is a prefix of the line
 pub record IsAuditAnswer (s : Streams) (answer : Result Legality ReplayFault) : Type 0 where
-  pub answered : IsAuditOn (history_of {A = Global}) s answer
+  pub answered : IsAuditOn all_lines (history_of {A = Global}) s answer
   pub written : IfOk answer (λ legality. IfSome (text_of s) (λ text.
       AppendsVerdict Global text legality s.sink.written s.sink_new.written))
   pub stopped : IfErr answer (λ fault. HasAuditStopped Global fault (text_of s) s.sink.written s.sink_new.written)
 
 -- what audit_explained answers: as audit, with the lines that explain a wrong step after the line of the verdict
 pub record IsExplainAnswer (s : Streams) (answer : Result Legality ReplayFault) : Type 0 where
-  pub answered : IsAuditOn (history_of {A = Global}) s answer
+  pub answered : IsAuditOn all_lines (history_of {A = Global}) s answer
   pub written : IfOk answer (λ legality. IfSome (text_of s) (λ text.
       AppendsExplained Global text legality s.sink.written s.sink_new.written))
   pub stopped : IfErr answer (λ fault. HasExplainedStopped Global fault (text_of s) s.sink.written s.sink_new.written)
+
+-- what audit_unfinished answers: as audit, of a history that may have been cut
+pub record IsUnfinishedAnswer (s : Streams) (answer : Result Legality ReplayFault) : Type 0 where
+  pub answered : IsAuditOn finished_lines (cut_history_of {A = Global}) s answer
+  pub written : IfOk answer (λ legality. IfSome (text_of s) (λ text.
+      AppendsCutVerdict Global text legality s.sink.written s.sink_new.written))
+  pub stopped : IfErr answer (λ fault. HasCutStopped Global fault (text_of s) s.sink.written s.sink_new.written)
 
 -- what show answers: the input was a history, no longer than it may be, and what is shown of it was written; or it stopped,
 -- at a fault that the streams confirm, and what was written then is a prefix of that
@@ -181,6 +189,11 @@ Audits s status = (answer : Result Legality ReplayFault) × IsAuditAnswer s answ
 abbrev pub Explains : Streams → ℕ → Type 0
 Explains s status = (answer : Result Legality ReplayFault) × IsExplainAnswer s answer × (status ≡ audit_status answer)
 
+-- the streams are as some answer of audit_unfinished leaves them, and the status is that answer's
+abbrev pub AuditsUnfinished : Streams → ℕ → Type 0
+AuditsUnfinished s status =
+    (answer : Result Legality ReplayFault) × IsUnfinishedAnswer s answer × (status ≡ audit_status answer)
+
 -- the streams are as some answer of show leaves them, and the status is that answer's
 abbrev pub Shows : View → Streams → ℕ → Type 0
 Shows view s status =
@@ -208,6 +221,7 @@ Does Replay s status remembered = Replays s status
 Does History s status remembered = ReplaysHistory s status
 Does Audit s status remembered = Audits s status
 Does Explain s status remembered = Explains s status
+Does Unfinished s status remembered = AuditsUnfinished s status
 Does (Show view) s status remembered = Shows view s status
 Does (Load workers) s status remembered = Loads workers s status
 Does (Watched workers) s status remembered = Loads workers s status

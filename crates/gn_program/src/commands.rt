@@ -26,7 +26,9 @@ use clap::error::ErrorKind;
 use gn_io::{Sink, Source};
 use gn_links::{NoGate, Watch};
 use gn_load::{LoadFault, ServeFault, load_watched};
-use gn_replay::{Exit, ReplayFault, audit, audit_explained, replay, replay_history};
+use gn_replay::{
+    Exit, ReplayFault, audit, audit_explained, audit_unfinished, replay, replay_history,
+};
 use gn_rules::{FreshRouter, Legality};
 use gn_show::show;
 use gn_tables::{Forgetful, TableRouter};
@@ -199,6 +201,10 @@ fn obey<
         }
         Request::Explain => {
             let answer = audit_explained::<Global, C, S, W>(alloc, reader, writer);
+            Ended::with(end_audit(faults, answer))
+        }
+        Request::Unfinished => {
+            let answer = audit_unfinished::<Global, C, S, W>(alloc, reader, writer);
             Ended::with(end_audit(faults, answer))
         }
         Request::Show(view) => {

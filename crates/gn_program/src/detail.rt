@@ -31,7 +31,10 @@ impl Reading {
         match request {
             Request::Replay | Request::History => Reading::new("replay", Text::Capture),
             Request::Load(_) | Request::Watched(_) => Reading::new("load", Text::Capture),
-            Request::Audit | Request::Explain => Reading::new("audit", Text::History),
+            Request::Audit | Request::Explain | Request::Unfinished => Reading::new(
+                "audit",
+                Text::History,
+            ),
             Request::Show(_) => Reading::new("show", Text::History),
             Request::Serve(_) => None,
         }

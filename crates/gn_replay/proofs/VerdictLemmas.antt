@@ -1,10 +1,11 @@
 -- The verdict on a history.
-use Rattle.std.proofs.Common.{◌≡◌, ◌∙◌, ◌+◌, ◌++◌, ℕ, suc, List, length, append-nil, IfErr, IfOk, IfSome, Option, Some, Result, Ok, Err, refl, sym, ap, subst, arith}
+use Rattle.std.proofs.Common.{◌≡◌, ◌∙◌, ◌+◌, ◌++◌, ℕ, suc, Bool, true, false, [], ◌∷◌, List, length, append-nil, IfErr, IfOk, IfSome, Option, Some, Result, Ok, Err, refl, sym, ap, subst, arith}
 use Rattle.std.specs.Prelude.{OnOk}
 use Rattle.std.specs.List.{slice_get}
 use Rattle.std.specs.Result.{IsErrAnd}
 use Rattle.gn_rules.specs.declared.config.Config.{Config}
 use Rattle.gn_rules.specs.declared.legality.Legality.{Legality}
+use Rattle.gn_rules.specs.declared.legality.Legality.TheVariants as verdict
 use Rattle.gn_rules.specs.declared.receipt.Step.{Step}
 use Rattle.gn_rules.specs.Legality.{IsVerdict}
 use Rattle.gn_io.specs.Streams.{NoReadFailed, text_between}
@@ -15,21 +16,22 @@ use Rattle.gn_text.specs.declared.fault.CaptureRefusal.TheVariants.{Fault, NoMem
 use Rattle.gn_text.specs.declared.title.Text.TheVariants.{History}
 use Rattle.gn_text.specs.Faults.{IsRefused}
 use Rattle.gn_text.specs.Header.{header_of}
-use Rattle.gn_text.specs.Lines.{lines_of}
-use Rattle.gn_text.specs.Parsed.{line_after, parsed_of}
 use Rattle.gn_text.specs.Settings.{settings_of}
-use Rattle.gn_capture.specs.Histories.{history_of, map_result, steps_from, steps_left}
-use Rattle.gn_capture.proofs.HistoryLemmas.{history_opened, history_read}
+use Rattle.gn_capture.specs.Histories.{map_result, steps_from}
 use Rattle.gn_stream.specs.declared.fault.StreamFault.{StreamFault}
 use Rattle.gn_stream.specs.declared.fault.StreamFault.TheVariants.{Input, Text}
-use Rattle.gn_stream.specs.Left.{AreShort, IsTooLong, Left, numbered_left}
-use Rattle.gn_stream.specs.Reading.{Place, Reading, fresh}
-use Rattle.gn_stream.specs.Steps.{AreRefused, AreSaid, AreUnsaid, IsHeaderRead}
+use Rattle.gn_stream.specs.declared.ending.Ending.{Ending}
+use Rattle.gn_stream.specs.declared.ending.Ending.TheVariants.{Own, Due, Stands, Added}
+use Rattle.gn_stream.specs.Left.{AreShort, IsTooLong, Left, all_lines, finished_lines, numbered_left}
+use Rattle.gn_stream.specs.Reading.{Passes, Place, fresh, fresh_cut}
+use Rattle.gn_stream.specs.Steps.{AreRefused, AreSaid, AreUnsaid, IsHeaderRead, history_left}
+use Rattle.gn_stream.specs.Unfinished.{finished, is_added, is_lacking, lacks_end, lines_read, whole_lines}
 use Rattle.gn_stream.proofs.NumberedLemmas.{after_same}
-use Rattle.gn_stream.proofs.PassLemmas.{gone_then, passes_so, read_then, whole_text}
-use Rattle.gn_replay.specs.Audits.{IsAudited, verdict_text}
+use Rattle.gn_stream.proofs.PassLemmas.{gone_then, lines_whole, passes_so, read_then, whole_text}
+use Rattle.gn_replay.specs.Audits.{IsAudited, IsCutAudited, IsCutFound, cut_history_of, cut_verdict, verdict_text}
 use Rattle.gn_replay.specs.Faults.{IsTextFault, of_stream}
-use Rattle.gn_replay.specs.Judgements.{IsFoundIn, IsFoundOf, IsFoundWhole, IsFoundWholeOf, IsJudged, IsTrueOf, StandsIn, StandsInText, history_left, legality_of}
+use Rattle.gn_replay.specs.Judgements.{IsFoundIn, IsFoundOf, IsFoundWhole, IsFoundWholeOf, IsJudged, IsJudgedOf, IsTrueOf, StandsAt, StandsIn, legality_of}
+use Rattle.gn_replay.specs.declared.judged.CutJudged.{CutJudged}
 use Rattle.gn_replay.specs.declared.judgement.Judgement.{Judgement}
 use Rattle.gn_replay.specs.declared.judgement.Judgement.TheVariants.{Legal, WrongAt}
 use Rattle.gn_replay.proofs.StepLines.{header_more}
@@ -40,59 +42,58 @@ pub same_line : {A : Type 0} (judgement : Judgement A) (legality : Legality) (co
 same_line Legal legality count all is counted = ap (verdict_text legality) (counted refl)
 same_line (WrongAt wrong) legality count all is counted = rw is refl
 
--- what was found of the lines of a text is true of the text
-pub text_judged : {A : Type 0} (text : List ℕ) (judgement : Judgement A) (count : ℕ) (rest : Left) → IsFoundWhole judgement count (record { lines = lines_of text; first = 1 }) rest
-    → AreShort (lines_of text) × IsJudged A text judgement count
-text_judged {A} text judgement count rest found =
+-- what was found of the lines of a text is true of them
+pub whole_judged : {A : Type 0} (all : Left) (judgement : Judgement A) (count : ℕ) (rest : Left) → IsFoundWhole judgement count all rest
+    → AreShort all.lines × IsJudgedOf A all judgement count
+whole_judged {A} all judgement count rest found =
     let inside = found.found in
-    let all = gone_then (record { lines = lines_of text; first = 1 }) found.rest rest found.gone inside.gone in
-    let whole : lines_of text ≡ all.gone = all.lines ∙ ap (λ (xs : List (List ℕ)). all.gone ++ xs) inside.none ∙ append-nil all.gone in
-    let after = after_same (record { lines = lines_of text; first = 1 }) found.rest found.gone in
-    let opened =
-    history_opened {A = A} text (parsed_of text) (line_after text) (numbered_left found.rest).after (settings_of found.settings) (numbered_left found.rest).lines refl refl found.header (sym after) in (
-      subst AreShort (sym whole) all.short,
+    let gone = gone_then all found.rest rest found.gone inside.gone in
+    let whole : all.lines ≡ gone.gone = gone.lines ∙ ap (λ (xs : List (List ℕ)). gone.gone ++ xs) inside.none ∙ append-nil gone.gone in (
+      subst AreShort (sym whole) gone.short,
       record {
         settings = found.settings;
         steps = inside.found.steps;
-        parsed = history_read text (settings_of found.settings) (steps_left (numbered_left found.rest)) inside.found.steps opened inside.found.parsed;
+        parsed =
+            rw found.header
+            (ap (λ (n : ℕ). map_result (λ (steps : List (Step A)). (settings_of found.settings, steps)) (steps_from n (numbered_left found.rest).lines))
+            (after_same all found.rest found.gone)
+            ∙ ap (map_result (λ (steps : List (Step A)). (settings_of found.settings, steps))) inside.found.parsed);
         judged = inside.found.judged;
         counted = inside.found.counted;
         stands = stands judgement inside.stands;
       },
     )
   where
-    stands : (j : Judgement A) → StandsIn (numbered_left found.rest).lines j → StandsInText text j
+    stands : (j : Judgement A) → StandsIn (numbered_left found.rest).lines j → StandsAt (numbered_left all).lines j
     stands Legal there = tt
     stands (WrongAt wrong) there =
         let place : 3 + wrong.index ≡ suc (suc (suc wrong.index)) = omega arith in
-        ap (slice_get (parsed_of text)) place
-        ∙ header_more History (line_after text) (parsed_of text) (settings_of found.settings, (numbered_left found.rest).lines) wrong.index found.header ∙ there
+        ap (slice_get (numbered_left all).lines) place
+        ∙ header_more History (numbered_left all).after (numbered_left all).lines (settings_of found.settings, (numbered_left found.rest).lines) wrong.index found.header ∙ there
 
 -- what a reader found of a source is true of its text
 pub source_judged : {A : Type 0} (r : Result (Judgement A × ℕ) StreamFault) (a b : Place) → a.reading ≡ fresh → IsFoundWholeOf r a b
-    → IfOk r (λ judged. IfSome (text_between a.source b.source) (λ text. AreShort (lines_of text) × IsJudged A text judged.0 judged.1))
+    → IfOk r (λ judged. IfSome (text_between a.source b.source) (λ text. AreShort (all_lines text).lines × IsJudged A text judged.0 judged.1))
 source_judged (Err fault) a b new found = _
 source_judged {A} (Ok (judgement, count)) a b new found =
-    whole_text (IsFoundWhole judgement count) (λ text. AreShort (lines_of text) × IsJudged A text judgement count) a b
-    (ap (λ (x : Reading). x.held) new) (ap (λ (x : Reading). x.is_ended) new) (ap (λ (x : Reading). x.next) new) (λ text rest. text_judged text judgement count rest) found
+    whole_text (IsFoundWhole judgement count) (λ text. AreShort (all_lines text).lines × IsJudged A text judgement count) a b Own new
+    (λ text rest. whole_judged (all_lines text) judgement count rest) found
 
 pub source_unfailed : {A : Type 0} (r : Result (Judgement A × ℕ) StreamFault) (a b : Place) → IsFoundWholeOf r a b → OnOk r (NoReadFailed a.source b.source)
 source_unfailed (Err fault) a b found = _
 source_unfailed (Ok judged) a b found = found.given.unfailed
 
 -- and so is its fault
-pub source_fault : {A : Type 0} (r : Result (Judgement A × ℕ) StreamFault) (a b : Place) → a.reading ≡ fresh → IsFoundWholeOf r a b
-    → IfErr r (λ fault. IsTextFault (of_stream fault) (history_of {A = A}) a.source b.source)
-source_fault (Ok judged) a b new found = _
-source_fault (Err (Input Read)) a b new found = found
-source_fault {A} (Err (Input TooLarge)) a b new found =
-    whole_text (λ left _. IsTooLong left) (λ text. IsTooLong (record { lines = lines_of text; first = 1 })) a b
-    (ap (λ (x : Reading). x.held) new) (ap (λ (x : Reading). x.is_ended) new) (ap (λ (x : Reading). x.next) new) (λ text rest long. long) found
-source_fault (Err (Input input.NoMemory)) a b new found = tt
-source_fault (Err (Text NoMemory)) a b new found = tt
-source_fault {A} (Err (Text (Fault fault))) a b new found =
-    whole_text (λ left _. history_left {A = A} left ≡ Err fault) (λ text. history_of {A = A} text ≡ Err fault) a b
-    (ap (λ (x : Reading). x.held) new) (ap (λ (x : Reading). x.is_ended) new) (ap (λ (x : Reading). x.next) new) (λ text rest is. is) found
+pub source_fault : {A : Type 0} (ends : Ending) (r : Result (Judgement A × ℕ) StreamFault) (a b : Place) → a.reading ≡ record fresh { ending = ends } → IsFoundWholeOf r a b
+    → IfErr r (λ fault. IsTextFault (of_stream fault) (lines_whole ends) (λ text. history_left {A = A} (lines_whole ends text)) a.source b.source)
+source_fault ends (Ok judged) a b new found = _
+source_fault ends (Err (Input Read)) a b new found = found
+source_fault ends (Err (Input TooLarge)) a b new found =
+    whole_text (λ left _. IsTooLong left) (λ text. IsTooLong (lines_whole ends text)) a b ends new (λ text rest long. long) found
+source_fault ends (Err (Input input.NoMemory)) a b new found = tt
+source_fault ends (Err (Text NoMemory)) a b new found = tt
+source_fault {A} ends (Err (Text (Fault fault))) a b new found =
+    whole_text (λ left _. history_left {A = A} left ≡ Err fault) (λ text. history_left {A = A} (lines_whole ends text) ≡ Err fault) a b ends new (λ text rest is. is) found
 
 -- a header is refused, and so is the history
 unsaid : (A : Type 0) (refusal : CaptureRefusal) (left : Left) → AreUnsaid (header_of History) refusal left → IsRefused refusal (history_left {A = A} left)
@@ -152,3 +153,78 @@ audited text judgement count legality line judged is printed = record {
   agrees = subst (λ (x : Legality). IsVerdict judged.settings judged.steps x) (sym is) (verdict_of judged.settings judged.steps judgement judged.judged);
   printed = printed ∙ same_line judgement legality count (length judged.steps) is judged.counted;
 }
+
+-- a judgement of no wrong step
+legal_only : {A : Type 0} (judgement : Judgement A) → legality_of judgement ≡ verdict.Legal → judgement ≡ Legal
+legal_only Legal is = refl
+legal_only (WrongAt wrong) is = absurd (cc)
+
+finished_some : (lines : List (List ℕ)) → finished lines ≡ [] → ⊥
+finished_some [] none = cc
+finished_some (line ∷ more) none = cc
+
+-- `end` was added where the text lacks it, once no line is left
+lacks_is : (ends : Ending) (text : List ℕ) → lines_read ends text ≡ [] → is_added ends ≡ is_lacking ends text
+lacks_is Own text none = refl
+lacks_is Due text none = absurd (finished_some (whole_lines text) none)
+lacks_is Stands text none = refl
+lacks_is Added text none = refl
+
+-- what was found of a text that may have been cut
+module _ {A : Type 0} (judgement : Judgement A) (count : ℕ) (a b : Place) (judged : CutJudged) (legality : judged.legality ≡ legality_of judgement)
+    (steps : judged.steps ≡ count) (lacks : judged.lacks_end ≡ is_added b.reading.ending) where
+  abbrev IsFoundCut : Left → Left → Type 0
+  IsFoundCut l m = IsFoundWhole judgement count l m × (judged.lacks_end ≡ m.lacks)
+
+  cut_true : (text : List ℕ) (rest : Left) → IsFoundCut (finished_lines text) rest → AreShort (finished_lines text).lines × IsCutFound A text judged
+  cut_true text rest held =
+      let whole = whole_judged (finished_lines text) judgement count rest held.0 in
+      let gone = gone_then (finished_lines text) held.0.rest rest held.0.gone held.0.found.gone in (
+        whole.0,
+        record {
+          settings = whole.1.settings;
+          steps = whole.1.steps;
+          parsed = whole.1.parsed;
+          agrees =
+              subst (λ (x : Legality). IsVerdict whole.1.settings whole.1.steps x) (sym legality) (verdict_of whole.1.settings whole.1.steps judgement whole.1.judged);
+          counted = λ legal. steps ∙ whole.1.counted (legal_only judgement (sym legality ∙ legal));
+          lacks = held.1 ∙ gone.lacks;
+        },
+      )
+
+  pub cut_found : a.reading ≡ fresh_cut → Passes (IsFoundWhole judgement count) a b
+      → IfSome (text_between a.source b.source) (λ text. AreShort (finished_lines text).lines × IsCutFound A text judged)
+  cut_found new found =
+      whole_text IsFoundCut (λ text. AreShort (finished_lines text).lines × IsCutFound A text judged) a b Due new cut_true
+      (record {
+        bytes = found.bytes;
+        given = found.given;
+        ended = found.ended;
+        holds = λ more may.
+            let whole = found.holds more may in (whole, lacks ∙ lacks_is b.reading.ending (b.reading.held ++ more) whole.found.none);
+      })
+
+same_cut : (t : Bool) (legality : Legality) (count all : ℕ) → (legality ≡ verdict.Legal → count ≡ all) → cut_verdict t legality count ≡ cut_verdict t legality all
+same_cut t verdict.Legal count all same = ap (cut_verdict t verdict.Legal) (same refl)
+same_cut true (verdict.WrongAt i) count all same = refl
+same_cut false (verdict.WrongAt i) count all same = refl
+
+-- the line of what was found of a text that may have been cut
+pub cut_audited : {A : Type 0} (text : List ℕ) (judged : CutJudged) (line : List ℕ) → IsCutFound A text judged
+    → line ≡ cut_verdict judged.lacks_end judged.legality judged.steps → IsCutAudited A text judged.legality line
+cut_audited text judged line found printed = record {
+  settings = found.settings;
+  steps = found.steps;
+  parsed = found.parsed;
+  agrees = found.agrees;
+  printed =
+      printed ∙ ap (λ (t : Bool). cut_verdict t judged.legality judged.steps) found.lacks
+      ∙ same_cut (lacks_end (whole_lines text)) judged.legality judged.steps (length found.steps) found.counted;
+}
+
+-- a text that may have been cut is at fault
+pub cut_failed : (A : Type 0) {T : Type 0} (r : Result T StreamFault) (fault : StreamFault) (a b : Place) → IsErrAnd r (λ e. e ≡ fault) → a.reading ≡ fresh_cut
+    → IsFoundWholeOf {A = A} (Err fault) a b → IfErr r (λ e. IsTextFault (of_stream e) finished_lines (cut_history_of {A = A}) a.source b.source)
+cut_failed A (Ok x) fault a b is new failed = _
+cut_failed A (Err e) fault a b is new failed =
+    subst (λ (f : StreamFault). IsTextFault (of_stream f) finished_lines (cut_history_of {A = A}) a.source b.source) (sym is) (source_fault {A = A} Due (Err fault) a b new failed)

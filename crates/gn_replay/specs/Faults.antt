@@ -7,10 +7,9 @@ use Rattle.gn_io.specs.declared.input.InputFault.{InputFault}
 use Rattle.gn_io.specs.declared.input.InputFault.TheVariants as input
 use Rattle.gn_io.specs.Input.{IsTooLarge, input_limit}
 use Rattle.gn_io.specs.Streams.{HasReadFailed, HasWriteFailed, NoneFailed, SourceState, Streams, text_between, text_of}
-use Rattle.gn_text.specs.Lines.{lines_of}
 use Rattle.gn_stream.specs.declared.fault.StreamFault.{StreamFault}
 use Rattle.gn_stream.specs.declared.fault.StreamFault.TheVariants as stream
-use Rattle.gn_stream.specs.Left.{AreShort, IsTooLong}
+use Rattle.gn_stream.specs.Left.{AreShort, IsTooLong, Left}
 use Rattle.gn_replay.specs.declared.fault.ReplayFault.{ReplayFault}
 use Rattle.gn_replay.specs.declared.fault.ReplayFault.TheVariants.{Read, TooLarge, Capture, Write, NoMemory}
 
@@ -57,26 +56,28 @@ pub record IsAnswerOn {X T : Type 0} (parsed : List ℕ → Result X CaptureFaul
   pub unfailed : OnOk answer (NoneFailed s)
   pub fault : IfErr answer (λ fault. IsReplayFault fault parsed s)
 
--- when each fault of a text comes that is read a line at a time, where `parsed` is what it says: Read where a read failed, TooLarge
+-- when each fault of a text comes that is read a line at a time, where `lines` are those that are read of it and `parsed` is what it
+-- says: Read where a read failed, TooLarge
 -- where a line has more than 67,108,864 bytes, or there are 2^64 lines, Capture with the very fault of the text; memory may run
 -- out at any time
-abbrev pub IsTextFault : {X : Type 0} → ReplayFault → (List ℕ → Result X CaptureFault) → SourceState → SourceState → Type 0
-IsTextFault Read parsed old new = HasReadFailed old new
-IsTextFault TooLarge parsed old new = IfSome (text_between old new) (λ text. IsTooLong (record { lines = lines_of text; first = 1 }))
-IsTextFault (Capture fault) parsed old new = IfSome (text_between old new) (λ text. parsed text ≡ Err fault)
-IsTextFault Write parsed old new = ⊥
-IsTextFault NoMemory parsed old new = Unit {0}
+abbrev pub IsTextFault : {X : Type 0} → ReplayFault → (List ℕ → Left) → (List ℕ → Result X CaptureFault) → SourceState → SourceState → Type 0
+IsTextFault Read lines parsed old new = HasReadFailed old new
+IsTextFault TooLarge lines parsed old new = IfSome (text_between old new) (λ text. IsTooLong (lines text))
+IsTextFault (Capture fault) lines parsed old new = IfSome (text_between old new) (λ text. parsed text ≡ Err fault)
+IsTextFault Write lines parsed old new = ⊥
+IsTextFault NoMemory lines parsed old new = Unit {0}
 
 -- so for an audit: Write where a write failed or took nothing, of a text with no fault
-abbrev pub IsAuditFault : {X : Type 0} → ReplayFault → (List ℕ → Result X CaptureFault) → Streams → Type 0
-IsAuditFault Write parsed s = IfSome (text_of s) (λ text. AreShort (lines_of text) × IsOk (parsed text)) × HasWriteFailed s.sink s.sink_new
-IsAuditFault fault parsed s = IsTextFault fault parsed s.source s.source_new
+abbrev pub IsAuditFault : {X : Type 0} → ReplayFault → (List ℕ → Left) → (List ℕ → Result X CaptureFault) → Streams → Type 0
+IsAuditFault Write lines parsed s =
+    IfSome (text_of s) (λ text. AreShort (lines text).lines × IsOk (parsed text)) × HasWriteFailed s.sink s.sink_new
+IsAuditFault fault lines parsed s = IsTextFault fault lines parsed s.source s.source_new
 
--- what each audit answers, where `parsed` is what a text says: at Ok no line of the input is longer than a line may be, the input
+-- what each audit answers, where `lines` are those that are read of a text and `parsed` is what it says: at Ok no line of the input is longer than a line may be, the input
 -- has no fault, and no read and no write failed; an Err is a fault that the streams confirm. The text may have any length
-pub record IsAuditOn {X T : Type 0} (parsed : List ℕ → Result X CaptureFault) (s : Streams)
+pub record IsAuditOn {X T : Type 0} (lines : List ℕ → Left) (parsed : List ℕ → Result X CaptureFault) (s : Streams)
     (answer : Result T ReplayFault) : Type 0 where
-  pub short : OnOk answer (IfSome (text_of s) (λ text. AreShort (lines_of text)))
+  pub short : OnOk answer (IfSome (text_of s) (λ text. AreShort (lines text).lines))
   pub valid : OnOk answer (IfSome (text_of s) (λ text. IsOk (parsed text)))
   pub unfailed : OnOk answer (NoneFailed s)
-  pub fault : IfErr answer (λ fault. IsAuditFault fault parsed s)
+  pub fault : IfErr answer (λ fault. IsAuditFault fault lines parsed s)

@@ -1,5 +1,5 @@
 -- What is found where the events of a history are answered again.
-use Rattle.std.specs.Prelude.{◌≡◌, ℕ, List, [], length, reverse, take, Some, IsOk, Result, Ok}
+use Rattle.std.specs.Prelude.{◌≡◌, ◌+◌, ℕ, List, [], length, reverse, take, Some, IsOk, Result, Ok}
 use Rattle.std.specs.List.{slice_get}
 use Rattle.gn_rules.specs.declared.config.Config.{Config}
 use Rattle.gn_rules.specs.declared.config.Own.{Own}
@@ -16,12 +16,12 @@ use Rattle.gn_text.specs.declared.title.Text.TheVariants.{History}
 use Rattle.gn_text.specs.Faults.{IsRefused, ◌>>=◌}
 use Rattle.gn_text.specs.Header.{header_of}
 use Rattle.gn_text.specs.Settings.{settings_of}
-use Rattle.gn_capture.specs.Histories.{history_of, map_result, steps_from, steps_left}
+use Rattle.gn_capture.specs.Histories.{steps_left}
 use Rattle.gn_stream.specs.declared.fault.StreamFault.{StreamFault}
-use Rattle.gn_stream.specs.Left.{AreGone, Left, numbered_left}
+use Rattle.gn_stream.specs.Left.{AreGone, Left, all_lines, numbered_left}
 use Rattle.gn_stream.specs.Reading.{IsReadOf, Place}
-use Rattle.gn_stream.specs.Steps.{AreRefused}
-use Rattle.gn_replay.specs.Explained.{step_line_at}
+use Rattle.gn_stream.specs.Steps.{AreRefused, history_left}
+use Rattle.gn_replay.specs.Explained.{lines_before}
 use Rattle.gn_replay.specs.declared.judgement.Judgement.{Judgement}
 use Rattle.gn_replay.specs.declared.judgement.Judgement.TheVariants.{Legal, WrongAt}
 
@@ -78,25 +78,23 @@ IsFoundOf {A} s result old new = IsReadOf (λ found. IsFoundIn s found.0 found.1
 abbrev pub SayMade : {A : Type 0} → List (Step A) → Left → Left → Type 0
 SayMade steps old new = steps_left (numbered_left old) ≡ Ok steps
 
--- a wrong step stands in this line of a text
-abbrev pub StandsInText : {A : Type 0} → List ℕ → Judgement A → Type 0
-StandsInText text Legal = Unit {0}
-StandsInText text (WrongAt wrong) = step_line_at text wrong.index ≡ Some (wrong.number, wrong.line.items)
+-- a wrong step stands in this line, among those of a text that aren't skipped
+abbrev pub StandsAt : {A : Type 0} → List (ℕ × List ℕ) → Judgement A → Type 0
+StandsAt lines Legal = Unit {0}
+StandsAt lines (WrongAt wrong) = slice_get lines (lines_before + wrong.index) ≡ Some (wrong.number, wrong.line.items)
 
--- the text says a configuration and steps, and the judgement is true of them; where they are legal, there are so many
-pub record IsJudged (A : Type 0) (text : List ℕ) (judgement : Judgement A) (count : ℕ) : Type 0 where
+-- the lines of a text say a configuration and steps, and the judgement is true of them; where they are legal, there are so many
+pub record IsJudgedOf (A : Type 0) (all : Left) (judgement : Judgement A) (count : ℕ) : Type 0 where
   pub settings : Config
   pub steps : List (Step A)
-  pub parsed : history_of text ≡ Ok (settings_of settings, steps)
+  pub parsed : history_left all ≡ Ok (settings_of settings, steps)
   pub judged : IsTrueOf settings steps judgement
   pub counted : judgement ≡ Legal → count ≡ length steps
-  pub stands : StandsInText text judgement
+  pub stands : StandsAt (numbered_left all).lines judgement
 
--- what the lines that are left say, where they are those of a whole text
-abbrev pub history_left : {A : Type 0} → Left → Result ((Numbers × Own) × List (Step A)) CaptureFault
-history_left left = do
-  header ← header_of History (numbered_left left).after (numbered_left left).lines
-  map_result (λ steps. (header.0, steps)) (steps_from (numbered_left left).after header.1)
+-- so those of a text as they stand
+abbrev pub IsJudged : (A : Type 0) → List ℕ → Judgement A → ℕ → Type 0
+IsJudged A text judgement count = IsJudgedOf A (all_lines text) judgement count
 
 -- all lines of a text are gone, and this was found of it
 pub record IsFoundWhole {A : Type 0} (judgement : Judgement A) (count : ℕ) (old new : Left) : Type 0 where

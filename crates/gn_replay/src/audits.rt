@@ -4,12 +4,13 @@ ghost use Rattle.std.specs.Prelude.{IfOk, IfErr, IfSome};
 ghost use Rattle.gn_replay.specs.Faults.{IsAuditOn};
 ghost use Rattle.gn_capture.specs.Histories.{history_of};
 ghost use Rattle.gn_io.specs.Streams.{streams, text_between};
-ghost use Rattle.gn_replay.specs.Audits.{AppendsVerdict, HasStopped};
+ghost use Rattle.gn_stream.specs.Left.{all_lines, finished_lines};
+ghost use Rattle.gn_replay.specs.Audits.{AppendsCutVerdict, AppendsVerdict, HasCutStopped, HasStopped, cut_history_of};
 ghost use Rattle.gn_replay.specs.Explained.{AppendsExplained, HasExplainedStopped};
 
 use crate::explanation::explained_lines;
 use crate::fault::ReplayFault;
-use crate::judged::{judge_source, verdict};
+use crate::judged::{cut_verdict, judge_cut, judge_source, verdict};
 use gn_io::{Sink, Source, write_all};
 use gn_rules::{FreshRouter, Legality};
 use std::alloc::Allocator;
@@ -24,7 +25,7 @@ pub fn audit<A: Allocator + Copy, C: FreshRouter<A> + Drop, S: Source, W: Sink>(
     source: &mut S,
     sink: &mut W,
 ) -> Result<Legality, ReplayFault>
-    ensures answer { IsAuditOn (history_of {A = A})
+    ensures answer { IsAuditOn all_lines (history_of {A = A})
         (streams (S.state source.old) (S.state source.new) (W.state sink.old) (W.state sink.new)) result }
     ensures written { IfOk result (λ legality. IfSome (text_between (S.state source.old) (S.state source.new)) (λ text.
         AppendsVerdict A text legality (W.state sink.old).written (W.state sink.new).written)) }
@@ -47,7 +48,7 @@ pub fn audit_explained<A: Allocator + Copy, C: FreshRouter<A> + Drop, S: Source,
     source: &mut S,
     sink: &mut W,
 ) -> Result<Legality, ReplayFault>
-    ensures answer { IsAuditOn (history_of {A = A})
+    ensures answer { IsAuditOn all_lines (history_of {A = A})
         (streams (S.state source.old) (S.state source.new) (W.state sink.old) (W.state sink.new)) result }
     ensures written { IfOk result (λ legality. IfSome (text_between (S.state source.old) (S.state source.new)) (λ text.
         AppendsExplained A text legality (W.state sink.old).written (W.state sink.new).written)) }
@@ -61,4 +62,26 @@ pub fn audit_explained<A: Allocator + Copy, C: FreshRouter<A> + Drop, S: Source,
     let (legality, lines) = explained?;
     write_all(sink, &lines)?;
     Ok(legality)
+}
+
+/// As `audit`, of a history whose text may have been cut, as where its run was killed: what stands after its last line feed isn't
+/// looked at, and where no line is `end`, the verdict is that on the history with such a line at its end, and ` unfinished`
+/// stands after it. The three first lines have to be whole.
+pub fn audit_unfinished<A: Allocator + Copy, C: FreshRouter<A> + Drop, S: Source, W: Sink>(
+    alloc: A,
+    source: &mut S,
+    sink: &mut W,
+) -> Result<Legality, ReplayFault>
+    ensures answer { IsAuditOn finished_lines (cut_history_of {A = A})
+        (streams (S.state source.old) (S.state source.new) (W.state sink.old) (W.state sink.new)) result }
+    ensures written { IfOk result (λ legality. IfSome (text_between (S.state source.old) (S.state source.new)) (λ text.
+        AppendsCutVerdict A text legality (W.state sink.old).written (W.state sink.new).written)) }
+    ensures stopped { IfErr result (λ fault.
+        HasCutStopped A fault (text_between (S.state source.old) (S.state source.new))
+        (W.state sink.old).written (W.state sink.new).written) }
+{
+    let judged = judge_cut::<A, C, S>(alloc, source)?;
+    let line = cut_verdict(alloc, judged)?;
+    write_all(sink, &line)?;
+    Ok(judged.legality)
 }

@@ -20,7 +20,7 @@ mod replays;
 mod run;
 mod saying;
 
-pub use audits::{audit, audit_explained};
+pub use audits::{audit, audit_explained, audit_unfinished};
 pub use fault::ReplayFault;
 pub use histories::{history_heading, replay_history};
 pub use laws::replay_text_is_one;

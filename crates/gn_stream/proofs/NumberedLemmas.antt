@@ -31,7 +31,7 @@ finds number line l m n parsed skips first = record {
 
 skips_all : (l m n : Left) → Skips l m → AreNone m n → AreSkipped l n
 skips_all l m n skips none = record {
-  gone = gone_then l m n skips.gone (record { gone = []; lines = none.none ∙ sym none.still; first = omega (arith, none.first); short = λ k d within. absurd (omega (arith, within)) });
+  gone = gone_then l m n skips.gone (record { gone = []; lines = none.none ∙ sym none.still; first = omega (arith, none.first); short = λ k d within. absurd (omega (arith, within)); cut = none.cut; lacks = none.lacks });
   lines = skips.same ∙ rw none.none refl;
   none = none.still;
 }

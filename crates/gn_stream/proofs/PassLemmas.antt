@@ -1,5 +1,5 @@
 -- One reading after another.
-use Rattle.std.proofs.Common.{◌≡◌, ◌⊎◌, inl, inr, ◌∙◌, ◌+◌, ◌^◌, ◌≤◌, ℕ, true, false, true≢false, List, [], ◌∷◌, ◌++◌, drop, length, length-append, All, Option, Some, None, IfSome, Result, Ok, Err, refl, sym, ap, subst, arith, append_assoc}
+use Rattle.std.proofs.Common.{◌≡◌, ◌<◌, ◌⊎◌, inl, inr, ◌∙◌, ◌+◌, ◌^◌, ◌≤◌, ℕ, true, false, true≢false, List, [], ◌∷◌, ◌++◌, drop, length, length-append, All, Option, Some, None, IfSome, Result, Ok, Err, refl, sym, ap, subst, arith, append_assoc}
 use Rattle.std.proofs.KnownBytes.{Consumes-trans, Consumes-nil}
 use Rattle.std.proofs.lemmas.List.{append-nil}
 use Rattle.std.proofs.lemmas.List.Elements.{All-append, All-nil}
@@ -7,14 +7,15 @@ use Rattle.std.proofs.Math.Seq.{drop-append_seam}
 use Rattle.std.specs.Io.KnownBytes.{Consumes, IsAtEnd}
 use Rattle.gn_io.specs.Counts.{Rises}
 use Rattle.gn_io.specs.Streams.{SourceState, foreknown_or_told, text_between}
-use Rattle.gn_text.specs.Lines.{lines_of}
 use Rattle.gn_io.specs.declared.input.InputFault.{InputFault}
 use Rattle.gn_io.specs.declared.input.InputFault.TheVariants.{Read, TooLarge, NoMemory}
 use Rattle.gn_text.specs.declared.fault.CaptureRefusal.{CaptureRefusal}
 use Rattle.gn_stream.specs.declared.fault.StreamFault.{StreamFault}
 use Rattle.gn_stream.specs.declared.fault.StreamFault.TheVariants.{Input, Text}
-use Rattle.gn_stream.specs.Left.{AreGone, IsFirst, IsTooLong, Left, line_limit}
-use Rattle.gn_stream.specs.Reading.{HasEnded, HasGiven, IsReadOf, IsReadingFault, MayCome, Passes, Place, left_of}
+use Rattle.gn_stream.specs.declared.ending.Ending.{Ending}
+use Rattle.gn_stream.specs.Left.{AreGone, IsCutOf, IsFirst, IsTooLong, Left, line_limit}
+use Rattle.gn_stream.specs.Reading.{HasEnded, HasGiven, IsReadOf, IsReadingFault, MayCome, Passes, Place, Reading, fresh, left_of}
+use Rattle.gn_stream.specs.Unfinished.{is_lacking, left_out, lines_read}
 
 -- what a source gave, and then more
 pub given_then : (a b c : SourceState) (xs ys : List ℕ) → HasGiven a b xs → HasGiven b c ys → HasGiven a c (xs ++ ys)
@@ -59,7 +60,12 @@ passes_so First Both a b both first = record {
 }
 
 pub gone_none : (l : Left) → AreGone l l
-gone_none l = record { gone = []; lines = refl; first = omega arith; short = All-nil (λ line. length line ≤ line_limit) }
+gone_none l = record { gone = []; lines = refl; first = omega arith; short = All-nil (λ line. length line ≤ line_limit); cut = inl refl; lacks = refl }
+
+cut_then : (l m n : Left) → IsCutOf l m → IsCutOf m n → IsCutOf l n
+cut_then l m n (inl one) (inl two) = inl (two ∙ one)
+cut_then l m n (inr one) (inl two) = inr (two ∙ one)
+cut_then l m n one (inr two) = inr two
 
 pub gone_then : (l m n : Left) → AreGone l m → AreGone m n → AreGone l n
 gone_then l m n one two = record {
@@ -67,6 +73,8 @@ gone_then l m n one two = record {
   lines = one.lines ∙ ap (λ (xs : List (List ℕ)). one.gone ++ xs) two.lines ∙ sym (append_assoc one.gone two.gone n.lines);
   first = omega (arith, one.first, two.first, length-append one.gone two.gone);
   short = All-append (λ line. length line ≤ line_limit) one.gone two.gone one.short two.short;
+  cut = cut_then l m n one.cut two.cut;
+  lacks = two.lacks ∙ one.lacks;
 }
 
 pub first_gone : (number : ℕ) (line : List ℕ) (l m : Left) → IsFirst number line l m → AreGone l m
@@ -75,6 +83,8 @@ first_gone number line l m first = record {
   lines = first.lines;
   first = omega (arith, first.first);
   short = λ k d within. grind (arith, first.short);
+  cut = first.cut;
+  lacks = first.lacks;
 }
 
 -- a line that is too long is so behind those that are gone
@@ -86,7 +96,12 @@ long_behind l m gone (inl (before, line, after, is, over)) = inl (
   gone.lines ∙ ap (λ (xs : List (List ℕ)). gone.gone ++ xs) is ∙ sym (append_assoc gone.gone before (line ∷ after)),
   over,
 )
-long_behind l m gone (inr many) = inr (omega (arith, many, gone.first, ap length gone.lines, length-append gone.gone m.lines))
+long_behind l m gone (inr (inl over)) = inr (inl (by gone.cut))
+  where
+    by : IsCutOf l m → line_limit < length l.cut
+    by (inl same) = subst (λ (xs : List ℕ). line_limit < length xs) same over
+    by (inr none) = absurd (omega (arith, over, ap length none))
+long_behind l m gone (inr (inr many)) = inr (inr (omega (arith, many, gone.first, ap length gone.lines, length-append gone.gone m.lines)))
 
 -- a fault of the input, after what went well
 pub fault_then : (First : Left → Left → Type 0) (a b c : Place) (fault : InputFault) → ((l m : Left) → First l m → AreGone l m) → Passes First a b
@@ -116,15 +131,19 @@ passes_none Holds a same = record {
   holds = λ more may. same (left_of a.reading more);
 }
 
+-- all lines that are read of a text
+abbrev pub lines_whole : Ending → List ℕ → Left
+lines_whole ends text = record { lines = lines_read ends text; first = 1; cut = left_out ends text; lacks = is_lacking ends text }
+
 -- a reader that begins with a source goes over its text
-pub whole_text : (Holds : Left → Left → Type 0) (P : List ℕ → Type 0) (a b : Place) → a.reading.held ≡ [] → a.reading.is_ended ≡ false → a.reading.next ≡ 1
-    → ((text : List ℕ) (rest : Left) → Holds (record { lines = lines_of text; first = 1 }) rest → P text) → Passes Holds a b → IfSome (text_between a.source b.source) P
-whole_text Holds P a b none fresh first means passes =
-    by a.source.rest b.source.rest passes.given.rest (passes.ended.end (λ is. absurd (true≢false (sym is ∙ fresh))))
+pub whole_text : (Holds : Left → Left → Type 0) (P : List ℕ → Type 0) (a b : Place) (ends : Ending) → a.reading ≡ record fresh { ending = ends }
+    → ((text : List ℕ) (rest : Left) → Holds (lines_whole ends text) rest → P text) → Passes Holds a b → IfSome (text_between a.source b.source) P
+whole_text Holds P a b ends new means passes =
+    by a.source.rest b.source.rest passes.given.rest (passes.ended.end (λ is. absurd (true≢false (sym is ∙ ap (λ (r : Reading). r.is_ended) new))))
   where
     there : (more : List ℕ) → MayCome b.reading more → P (passes.bytes ++ more)
     there more may =
-        means (passes.bytes ++ more) (left_of b.reading more) (subst (λ (l : Left). Holds l (left_of b.reading more)) (rw (none, first) refl) (passes.holds more may))
+        means (passes.bytes ++ more) (left_of b.reading more) (subst (λ (r : Reading). Holds (left_of r (passes.bytes ++ more)) (left_of b.reading more)) new (passes.holds more may))
 
     by : (old new : Option (List ℕ)) → Consumes old new passes.bytes → (b.reading.is_ended ≡ true → IsAtEnd new)
         → IfSome (foreknown_or_told old (drop (length a.source.told) b.source.told)) P

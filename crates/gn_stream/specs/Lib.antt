@@ -1,5 +1,6 @@
 -- What is promised: contracts of public functions rest on it.
 pub mod Left
+pub mod Unfinished
 pub mod Reading
 pub mod Steps
 -- Words of the proofs.

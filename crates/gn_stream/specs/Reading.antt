@@ -5,22 +5,29 @@ use Rattle.gn_io.specs.declared.input.InputFault.{InputFault}
 use Rattle.gn_io.specs.declared.input.InputFault.TheVariants.{Read, TooLarge, NoMemory}
 use Rattle.gn_io.specs.Streams.{HasReadFailed, NoReadFailed, SourceState}
 use Rattle.gn_text.specs.declared.fault.CaptureRefusal.{CaptureRefusal}
-use Rattle.gn_text.specs.Lines.{lines_of}
 use Rattle.gn_stream.specs.declared.fault.StreamFault.{StreamFault}
 use Rattle.gn_stream.specs.declared.fault.StreamFault.TheVariants.{Input, Text}
+use Rattle.gn_stream.specs.declared.ending.Ending.{Ending}
+use Rattle.gn_stream.specs.declared.ending.Ending.TheVariants.{Own, Due}
 use Rattle.gn_stream.specs.Left.{IsTooLong, Left}
+use Rattle.gn_stream.specs.Unfinished.{is_lacking, left_out, lines_read}
 
--- a reader of lines: what it read and hasn't gone over, whether the source is at its end, the number of the next line, and
--- the line that was given last
+-- a reader of lines: what it read and hasn't gone over, whether the source is at its end, the number of the next line, the line
+-- that was given last, and how its lines end
 pub record Reading : Type 0 where
   pub held : List ℕ
   pub is_ended : Bool
   pub next : ℕ
   pub line : List ℕ
+  pub ending : Ending
 
 -- a reader that has read nothing
 abbrev pub fresh : Reading
-fresh = record { held = []; is_ended = false; next = 1; line = [] }
+fresh = record { held = []; is_ended = false; next = 1; line = []; ending = Own }
+
+-- so one of a history that may have been cut
+abbrev pub fresh_cut : Reading
+fresh_cut = record fresh { ending = Due }
 
 -- a source and its reader
 pub record Place : Type 0 where
@@ -44,7 +51,14 @@ pub record HasEnded (old new : Place) (bytes : List ℕ) : Type 0 where
 
 -- what is left where these bytes are still to come
 abbrev pub left_of : Reading → List ℕ → Left
-left_of reading more = record { lines = lines_of (reading.held ++ more); first = reading.next }
+left_of reading more =
+    let text = reading.held ++ more in
+    record {
+      lines = lines_read reading.ending text;
+      first = reading.next;
+      cut = left_out reading.ending text;
+      lacks = is_lacking reading.ending text;
+    }
 
 -- after the end none come
 abbrev pub MayCome : Reading → List ℕ → Type 0

@@ -7,10 +7,10 @@ use Rattle.gn_rules.specs.declared.receipt.Step.{Step}
 use Rattle.gn_text.specs.declared.fault.CaptureFault.{CaptureFault}
 use Rattle.gn_text.specs.declared.fault.CaptureRefusal.{CaptureRefusal}
 use Rattle.gn_text.specs.declared.title.Text.TheVariants.{History}
-use Rattle.gn_text.specs.Faults.{IsRefused}
+use Rattle.gn_text.specs.Faults.{IsRefused, ◌>>=◌}
 use Rattle.gn_text.specs.Header.{header_of}
 use Rattle.gn_text.specs.Settings.{settings_of}
-use Rattle.gn_capture.specs.Histories.{ended, map_result, steps_left}
+use Rattle.gn_capture.specs.Histories.{ended, map_result, steps_from, steps_left}
 use Rattle.gn_text.specs.Parsed.{Numbered}
 use Rattle.gn_stream.specs.declared.fault.StreamFault.{StreamFault}
 use Rattle.gn_stream.specs.Left.{AreGone, Left, numbered_left}
@@ -73,3 +73,9 @@ IsEndRefused A refusal left = IsRefused refusal (ended {A = A} (numbered_left le
 -- what stands after the line `end` was read
 abbrev pub IsEndRead : (A : Type 0) → Result (Unit {0}) StreamFault → Place → Place → Type 0
 IsEndRead A result old new = IsReadOf (λ _. IsNone A) (IsEndRefused A) result old new
+
+-- what the lines that are left say, where they are those of a whole text
+abbrev pub history_left : {A : Type 0} → Left → Result ((Numbers × Own) × List (Step A)) CaptureFault
+history_left left = do
+  header ← header_of History (numbered_left left).after (numbered_left left).lines
+  map_result (λ steps. (header.0, steps)) (steps_from (numbered_left left).after header.1)

@@ -1,6 +1,7 @@
 //! Texts that are read a line at a time: of a history no more is held than a piece of it and the line that is at hand.
 #![tactic(auto)]
 
+mod ending;
 mod fault;
 mod header;
 mod lines;

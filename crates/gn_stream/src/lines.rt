@@ -2,10 +2,14 @@
 
 ghost use Rattle.std.specs.Prelude.{◌≡◌, ◌≢◌, ◌≤◌, ◌<◌, ◌+◌, ◌++◌, ◌∷◌, [], All, false, length, true, IfErr, IfOk, IfNone, IfSome, OnOk};
 ghost use Rattle.gn_stream.specs.Left.{line_limit};
-ghost use Rattle.gn_stream.specs.Reading.{IsPieceFault, fresh, place};
-ghost use Rattle.gn_stream.specs.Lines.{IsLineRead, IsOver, TakesOn};
+ghost use Rattle.gn_capture.specs.Histories.{ending};
+ghost use Rattle.gn_stream.specs.Reading.{IsPieceFault, fresh, fresh_cut, place};
+ghost use Rattle.gn_stream.specs.Lines.{IsCounted, IsLastFault, IsLastOf, IsLineRead, IsOver, TakesOn};
+ghost use Rattle.gn_stream.specs.Unfinished.{ending_after, is_added};
+ghost use Rattle.gn_stream.specs.declared.ending.Ending.TheVariants.{Added, Due};
 ghost use Rattle.gn_io.specs.declared.input.InputFault.TheVariants.{NoMemory, TooLarge};
 
+use crate::ending::Ending;
 use crate::piece::Piece;
 use gn_io::{InputFault, Source};
 use std::alloc::{Allocator, Global};
@@ -25,6 +29,7 @@ pub struct LineReader<A: Allocator = Global> {
     next: u64,
     /// The line that was given last.
     line: Vec<u8, A>,
+    ending: Ending,
 }
 
 impl<A: Allocator> Model for LineReader<A> {
@@ -32,20 +37,36 @@ impl<A: Allocator> Model for LineReader<A> {
 
     ghost Value = { Reading };
 
-    ghost view = { λ r. record { held = r.piece; is_ended = r.is_ended; next = r.next; line = r.line.items } };
+    ghost view = { λ r. record { held = r.piece; is_ended = r.is_ended; next = r.next; line = r.line.items; ending = r.ending } };
 }
 
 impl<A: Allocator + Copy> LineReader<A> {
-    /// A reader of a source's first line.
-    pub fn new(alloc: A) -> Self
-        ensures { result ≡ fresh }
+    /// A reader of a source's first line, whose lines end so.
+    fn ended_by(alloc: A, ending: Ending) -> Self
+        ensures { result ≡ record fresh { ending = ending } }
     {
         LineReader {
             piece: Piece::new(alloc),
             is_ended: false,
             next: 1,
             line: Vec::new(alloc),
+            ending,
         }
+    }
+
+    /// A reader of a source's first line.
+    pub fn new(alloc: A) -> Self
+        ensures { result ≡ fresh }
+    {
+        LineReader::ended_by(alloc, Ending::Own)
+    }
+
+    /// A reader of the first line of a history that may have been cut: what stands after the last line feed is left out, and after
+    /// the whole lines `end` is given, where none of them is that.
+    pub fn of_cut(alloc: A) -> Self
+        ensures { result ≡ fresh_cut }
+    {
+        LineReader::ended_by(alloc, Ending::Due)
     }
 }
 
@@ -62,6 +83,16 @@ impl<A: Allocator> LineReader<A> {
         ensures { result ≡ self.now.next }
     {
         self.next
+    }
+
+    /// Whether `end` was given that doesn't stand in the text.
+    pub fn has_added_end(&self) -> bool
+        ensures { result ≡ is_added self.now.ending }
+    {
+        match self.ending {
+            Ending::Added => true,
+            Ending::Own | Ending::Due | Ending::Stands => false,
+        }
     }
 
     /// Whether the line isn't longer than a line may be.
@@ -99,7 +130,8 @@ impl<A: Allocator> LineReader<A> {
             × All (λ b. b ≢ 10) part × (self.new.line ≡ self.old.line ++ part)) }
         ensures all { IfOk result (λ ended. ended ≡ false → (self.new.held ≡ []) × All (λ b. b ≢ 10) self.old.held
             × (self.new.line ≡ self.old.line ++ self.old.held)) }
-        ensures kept { OnOk result ((self.new.is_ended ≡ self.old.is_ended) × (self.new.next ≡ self.old.next)) }
+        ensures kept { OnOk result ((self.new.is_ended ≡ self.old.is_ended) × (self.new.next ≡ self.old.next)
+            × (self.new.ending ≡ self.old.ending)) }
         ensures fault { IfErr result (λ fault. fault ≡ NoMemory) }
     {
         let (part, is_ended) = self.piece.part();
@@ -116,10 +148,8 @@ impl<A: Allocator> LineReader<A> {
 
     /// Counts the line that is whole. Its number.
     fn count_line(&mut self) -> Result<u64, InputFault>
-        ensures number { IfOk result (λ number. (number ≡ self.old.next) × (self.new.next ≡ number + 1)) }
-        ensures short { OnOk result (length self.old.line ≤ line_limit) }
-        ensures kept { OnOk result ((self.new.line ≡ self.old.line) × (self.new.held ≡ self.old.held)
-            × (self.new.is_ended ≡ self.old.is_ended)) }
+        ensures counted { IfOk result (λ number. IsCounted number self.old.line self.old self.new) }
+        ensures ending { OnOk result (self.new.ending ≡ ending_after self.old.ending self.old.line) }
         ensures fault { IfErr result (λ fault. (fault ≡ TooLarge) × (self.new ≡ self.old)
             × IsOver self.old) }
     {
@@ -130,26 +160,37 @@ impl<A: Allocator> LineReader<A> {
         match number.checked_add(1) {
             Some(next) => {
                 self.next = next;
+                self.ending = self.ending.after(&self.line);
                 Ok(number)
             }
             None => Err(InputFault::TooLarge),
         }
     }
 
-    /// The line that no line feed ends, where there is one.
-    fn count_last(&mut self) -> Result<Option<u64>, InputFault>
-        ensures some { IfOk result (λ found. IfSome found (λ number. (number ≡ self.old.next)
-            × (self.new.next ≡ number + 1) × (length self.old.line ≤ line_limit) × (0 < length self.old.line))) }
-        ensures none { IfOk result (λ found. IfNone found ((self.old.line ≡ []) × (self.new.next ≡ self.old.next))) }
-        ensures kept { OnOk result ((self.new.line ≡ self.old.line) × (self.new.held ≡ self.old.held)
-            × (self.new.is_ended ≡ self.old.is_ended)) }
-        ensures fault { IfErr result (λ fault. (fault ≡ TooLarge) × (self.new ≡ self.old)
-            × IsOver self.old × (0 < length self.old.line)) }
+    /// The line `end`, which the text lacks.
+    fn add_end(&mut self) -> Result<u64, InputFault>
+        ensures counted { IfOk result (λ number. IsCounted number ending self.old self.new) }
+        ensures ending { OnOk result (self.new.ending ≡ Added) }
+        ensures fault { IfErr result (λ fault. IsLastFault Due fault self.old self.new) }
     {
-        if self.line.is_empty() {
-            return Ok(None);
+        self.line.clear();
+        if self.line.extend_from_slice(b"end").is_err() {
+            return Err(InputFault::NoMemory);
         }
-        Ok(Some(self.count_line()?))
+        let number = self.count_line()?;
+        self.ending = Ending::Added;
+        Ok(number)
+    }
+
+    /// What is given of the line that no line feed ends.
+    fn count_last(&mut self) -> Result<Option<u64>, InputFault>
+        ensures { IsLastOf self.old.ending result self.old self.new }
+    {
+        match self.ending {
+            Ending::Own if !self.line.is_empty() => Ok(Some(self.count_line()?)),
+            Ending::Due => Ok(Some(self.add_end()?)),
+            Ending::Own | Ending::Stands | Ending::Added => Ok(None),
+        }
     }
 
     /// The number of the next line, which then is the one that was given last; or `None` after the last.

@@ -42,6 +42,7 @@ plain_words = record {
   history = λ program. refl;
   audit = λ program. refl;
   explain = λ program. refl;
+  unfinished = λ program. refl;
   show = λ program. refl;
   json = λ program. refl;
   csv = λ program. refl;

@@ -7,7 +7,7 @@ use Rattle.clap.specs.declared.builder.action.ArgAction.TheVariants.{Append, Set
 use Rattle.clap.specs.declared.error.kind.ErrorKind.TheVariants.{DisplayHelp, InvalidSubcommand, ValueValidation}
 use Rattle.gn_words.specs.Options.{is_set, peer_of, peers_in, serving_of, workers_of}
 use Rattle.gn_words.specs.declared.request.Request.{Request}
-use Rattle.gn_words.specs.declared.request.Request.TheVariants.{Replay, History, Audit, Explain, Show, Load, Watched, Serve}
+use Rattle.gn_words.specs.declared.request.Request.TheVariants.{Replay, History, Audit, Explain, Unfinished, Show, Load, Watched, Serve}
 use Rattle.gn_show.specs.declared.form.Form.TheVariants.{Json, Plain, Rows}
 use Rattle.gn_show.specs.declared.form.View.{View}
 use Rattle.gn_show.specs.declared.form.View.TheVariants.{Stats, Steps}
@@ -20,9 +20,9 @@ flag_rule name = record (new_rule name) { long = Some name; action = Some SetTru
 abbrev pub replay_app : App
 replay_app = with_rule (new_app (codes "replay")) (flag_rule (codes "history"))
 
--- the subcommand `audit`: it takes the flag `--explain`
+-- the subcommand `audit`: it takes the flags `--explain` and `--unfinished`
 abbrev pub audit_app : App
-audit_app = with_rule (new_app (codes "audit")) (flag_rule (codes "explain"))
+audit_app = with_rule (with_rule (new_app (codes "audit")) (flag_rule (codes "explain"))) (flag_rule (codes "unfinished"))
 
 -- the subcommand `show`: it takes the flags `--csv`, `--json` and `--stats`
 abbrev pub show_app : App
@@ -123,6 +123,17 @@ view_by true false true = None
 abbrev pub view_of : List Row → Option View
 view_of rows = view_by (is_set (codes "csv") rows) (is_set (codes "json") rows) (is_set (codes "stats") rows)
 
+-- how a history is audited; nothing, where both flags are set
+abbrev pub audit_by : Bool → Bool → Option Request
+audit_by false false = Some Audit
+audit_by true false = Some Explain
+audit_by false true = Some Unfinished
+audit_by true true = None
+
+-- how a history is audited, by the flags `--explain` and `--unfinished`
+abbrev pub audit_of : List Row → Option Request
+audit_of rows = audit_by (is_set (codes "explain") rows) (is_set (codes "unfinished") rows)
+
 -- a load with so many workers, by the flag `--progress`
 abbrev pub load_by : Bool → ℕ → Request
 load_by false workers = Load workers
@@ -132,7 +143,7 @@ load_by true workers = Watched workers
 abbrev pub request_named : Text → List Row → Option Request
 request_named name rows =
     if bytes_eq name (codes "replay") then Some (if is_set (codes "history") rows then History else Replay)
-    else (if bytes_eq name (codes "audit") then Some (if is_set (codes "explain") rows then Explain else Audit)
+    else (if bytes_eq name (codes "audit") then audit_of rows
     else (if bytes_eq name (codes "show") then option_map Show (view_of rows)
     else (if bytes_eq name (codes "load") then option_map (load_by (is_set (codes "progress") rows)) (workers_of rows)
     else (if bytes_eq name (codes "serve") then option_map Serve (serving_of rows) else None))))
@@ -179,6 +190,7 @@ pub record PlainWordsAreRead : Type 0 where
   pub history : (program : Text) → request_of (program ∷ codes "replay" ∷ codes "--history" ∷ []) ≡ Some History
   pub audit : (program : Text) → request_of (program ∷ codes "audit" ∷ []) ≡ Some Audit
   pub explain : (program : Text) → request_of (program ∷ codes "audit" ∷ codes "--explain" ∷ []) ≡ Some Explain
+  pub unfinished : (program : Text) → request_of (program ∷ codes "audit" ∷ codes "--unfinished" ∷ []) ≡ Some Unfinished
   pub show : (program : Text) → request_of (program ∷ codes "show" ∷ []) ≡ Some (Show (Steps Plain))
   pub json : (program : Text) → request_of (program ∷ codes "show" ∷ codes "--json" ∷ []) ≡ Some (Show (Steps Json))
   pub csv : (program : Text) → request_of (program ∷ codes "show" ∷ codes "--csv" ∷ []) ≡ Some (Show (Steps Rows))

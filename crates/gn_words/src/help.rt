@@ -62,11 +62,16 @@ pub(crate) const AUDIT: &str = "Reads a history, and says whether each answer in
 
 /// How it is called.
 pub(crate) const AUDIT_USAGE: &str =
-    "gn audit [--explain] < HISTORY   (the history is read from standard input)";
+    "gn audit [--explain | --unfinished] < HISTORY   (the history is read from standard input)";
 
 /// The option `--explain`.
 pub(crate) const EXPLAIN: &str =
     "Prints also the line of the first wrong step, and what the rules answer there";
+
+/// The option `--unfinished`.
+pub(crate) const UNFINISHED: &str = "\
+Takes a history that was cut, as by a kill: what stands after its last
+line feed isn't looked at, and the line `end` may be missing";
 
 /// What it reads and prints, with an example.
 pub(crate) const AUDIT_TEXTS: &str = "\
@@ -74,7 +79,8 @@ Standard input is a history: a router's configuration, and each event with its a
 Standard output is `legal` and the number of steps, or `wrong` and the index, counted from 0, of
 the first step whose answer isn't the one that the rules give. With `--explain` two lines follow
 `wrong`: `line NUMBER: TEXT`, the step's line in the history, and `rules: TEXT`, what the rules
-answer there, or `refused` and why.
+answer there, or `refused` and why. With `--unfinished` the history may have been cut: where it
+lacks the line `end`, the verdict is that on its whole lines, with `unfinished` after it.
 
 Example:
 

@@ -15,6 +15,8 @@ pub enum Request {
     Audit,
     /// A history is audited, and its first wrong step explained.
     Explain,
+    /// A history is audited that may have been cut.
+    Unfinished,
     /// A history is shown: its steps, or its counters.
     Show(View),
     /// The links of a capture are run by so many workers, 1 to 64, and the history of the router is written.

@@ -18,7 +18,7 @@ ghost use Rattle.clap.specs.Words.{
 ghost use Rattle.clap.specs.declared.builder.command.Command.TheViews.{out-Command as fields_of};
 ghost use Rattle.clap.specs.declared.error.kind.ErrorKind.TheVariants.{ValueValidation};
 ghost use Rattle.gn_words.specs.Options.{IsReadAs, is_set};
-ghost use Rattle.gn_words.specs.Words.{PlainWordsAreRead, audit_app, bare_app, calling_app, default_rule, flag_rule, gn_app, kinds_of, limited_app, load_app, repeated_rule, replay_app, ruled_app, request_named, request_of, serve_app, served_app, stopped_app, texts_app, timed_app, value_rule, workers_rule};
+ghost use Rattle.gn_words.specs.Words.{PlainWordsAreRead, audit_app, audit_of, bare_app, calling_app, default_rule, flag_rule, gn_app, kinds_of, limited_app, load_app, repeated_rule, replay_app, ruled_app, request_named, request_of, serve_app, served_app, stopped_app, texts_app, timed_app, value_rule, workers_rule};
 
 use crate::help;
 use crate::options::{serving_of, workers_of};
@@ -84,14 +84,16 @@ fn audit_command<'a>(alloc: Global) -> Result<Command<'a>, AllocError>
     ensures shape { IfOk result (λ command. app_of command ≡ audit_app) }
     ensures globals { IfOk result (λ command. (fields_of command).has_globals ≡ false) }
 {
-    leaf(
+    let command = leaf(
         alloc,
         "audit",
         help::AUDIT,
         help::AUDIT_USAGE,
         help::AUDIT_TEXTS,
-    )
-    .arg(flag(alloc, "explain", help::EXPLAIN))
+    );
+    let explain = flag(alloc, "explain", help::EXPLAIN);
+    let unfinished = flag(alloc, "unfinished", help::UNFINISHED);
+    with_both(command, explain, unfinished)
 }
 
 /// The same argument under this heading of help.
@@ -347,6 +349,18 @@ pub(crate) fn is_set(options: &ArgMatches<'_>, flag: &str) -> bool
     is_true(options.get_str(flag))
 }
 
+/// What an audit with these flags asks for; a mistake, where both are given.
+fn audit_of(options: &ArgMatches<'_>) -> Result<Request, Unread>
+    ensures { IsReadAs (λ r. r) (audit_of (rows_of (found_of options.now))) result }
+{
+    match (is_set(options, "explain"), is_set(options, "unfinished")) {
+        (false, false) => Ok(Request::Audit),
+        (true, false) => Ok(Request::Explain),
+        (false, true) => Ok(Request::Unfinished),
+        (true, true) => Err(Unread::Mistake("--explain and --unfinished aren't taken together")),
+    }
+}
+
 /// What a subcommand with these options asks for; a mistake, where a value isn't within its limits.
 fn request_named(alloc: Global, name: &str, options: &ArgMatches<'_>) -> Result<Request, Unread>
     ensures { IsReadAs (λ r. r) (request_named name.now (rows_of (found_of options.now))) result }
@@ -354,8 +368,7 @@ fn request_named(alloc: Global, name: &str, options: &ArgMatches<'_>) -> Result<
     match name {
         "replay" if is_set(options, "history") => Ok(Request::History),
         "replay" => Ok(Request::Replay),
-        "audit" if is_set(options, "explain") => Ok(Request::Explain),
-        "audit" => Ok(Request::Audit),
+        "audit" => audit_of(options),
         "show" => Ok(Request::Show(view_of(options)?)),
         "load" if is_set(options, "progress") => Ok(Request::Watched(workers_of(options)?)),
         "load" => Ok(Request::Load(workers_of(options)?)),
@@ -369,6 +382,7 @@ fn mistake(alloc: Global, name: &str, text: &str) -> Result<Error, AllocError>
     ensures { IfOk result (λ error. kind_of error ≡ ValueValidation) }
 {
     let made = match name {
+        "audit" => audit_command(alloc),
         "show" => show_command(alloc),
         "serve" => serve_command(alloc),
         _ => load_command(alloc),

@@ -10,3 +10,4 @@ pub use Rattle.gn_replay.specs.ReplayHistory
 pub use Rattle.gn_replay.specs.ReplayText
 pub use Rattle.gn_replay.specs.Replays
 pub use Rattle.gn_replay.specs.Runs
+pub use Rattle.gn_stream.specs.Left

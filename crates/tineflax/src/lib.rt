@@ -129,8 +129,8 @@ pub mod capture {
 /// Captures replayed, and histories audited.
 pub mod replay {
     pub use gn_replay::{
-        Exit, ReplayFault, Replayed, audit, audit_explained, play, replay, replay_history,
-        replay_text_is_one,
+        Exit, ReplayFault, Replayed, audit, audit_explained, audit_unfinished, play, replay,
+        replay_history, replay_text_is_one,
     };
     pub use gn_stream::StreamFault;
 }

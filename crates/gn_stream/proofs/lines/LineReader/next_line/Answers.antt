@@ -1,8 +1,9 @@
-use Rattle.std.proofs.Common.{◌∙◌, refl}
+use Rattle.std.proofs.Common.{◌∙◌, ap, refl, sym}
 use Rattle.std.specs.Prelude.{◌≢◌}
 use Rattle.std.proofs.lemmas.List.Elements.{All-append}
-use Rattle.gn_stream.specs.Reading.{place}
-use Rattle.gn_stream.proofs.LineLemmas.{ends_found, first_of, found_over, last_read, line_failed, line_over, takes_held, takes_same, whole_over}
+use Rattle.gn_stream.specs.Reading.{Reading, place}
+use Rattle.gn_stream.specs.Unfinished.{ending_after}
+use Rattle.gn_stream.proofs.LineLemmas.{ends_found, first_of, found_over, last_read, line_failed, line_over, over_there, takes_held, takes_same, whole_over}
 use Rattle.gn_stream.proofs.lines.LineReader.next_line.Goals as goal
 
 pub returns-in_err-fill : goal.returns-in_err-fill
@@ -16,10 +17,10 @@ returns-then-not-branch g c =
     let before = place (g.S.Source.state c.loop-self.source) c.loop-self.self in
     let filled = place (g.S.Source.state c.fill.new.source) c.fill.new.self in
     let end = c.in_ok-fill.ensures.end c.if-not-branch.true in
-    last_read c.count_last.result begin filled c.count_last.new.self
+    last_read begin filled c.count_last.new.self
     (takes_same begin before filled c.loop-self.self.line c.loop-self.invariant.taken c.in_ok-fill.ensures.filled c.in_ok-fill.ensures.line)
     (rw c.in_ok-fill.ensures.line c.loop-self.invariant.free) end.0 end.1
-    c.count_last.ensures.some c.count_last.ensures.none c.count_last.ensures.kept c.count_last.ensures.fault
+    c.count_last.result _ refl c.count_last.ensures
 
 pub returns-in_err-count_line : goal.returns-in_err-count_line
 returns-in_err-count_line g c =
@@ -30,9 +31,11 @@ returns-in_err-count_line g c =
     let over = c.in_err-count_line.ensures.fault in
     let kept = c.in_ok-take_part.ensures.kept in
     let takes = takes_same begin before filled c.loop-self.self.line c.loop-self.invariant.taken c.in_ok-fill.ensures.filled c.in_ok-fill.ensures.line in
+    let passed = record c.take_part.new.self { ending = ending_after c.fill.new.self.ending c.take_part.new.self.line } in
     whole_over c.from_residual-in_err-count_line.result _ begin (place (g.S.Source.state c.fill.new.source) c.count_line.new.self) c.from_residual-in_err-count_line.ensures.1 over.0
-    (rw over.1 (found_over c.take_part.new.self.line begin (place (g.S.Source.state c.fill.new.source) c.take_part.new.self) c.take_part.new.self.next
-    (ends_found begin filled c.fill.new.self.line cut.0 c.take_part.new.self.line c.take_part.new.self takes (rw c.in_ok-fill.ensures.line c.loop-self.invariant.free) cut.1 cut.2 cut.3 kept.0)
+    (over_there begin (place (g.S.Source.state c.fill.new.source) passed) c.count_line.new.self (ap (λ (r : Reading). r.is_ended) over.1)
+    (found_over c.take_part.new.self.line begin (place (g.S.Source.state c.fill.new.source) passed) c.take_part.new.self.next
+    (ends_found begin filled c.fill.new.self.line cut.0 c.take_part.new.self.line passed takes (rw c.in_ok-fill.ensures.line c.loop-self.invariant.free) cut.1 cut.2 cut.3 kept.0 refl)
     (kept.1 ∙ takes.next) over.2))
 
 pub returns-then-branch : goal.returns-then-branch
@@ -42,12 +45,14 @@ returns-then-branch g c =
     let filled = place (g.S.Source.state c.fill.new.source) c.fill.new.self in
     let cut = c.in_ok-take_part.ensures.ended c.if-branch.true in
     let kept = c.in_ok-take_part.ensures.kept in
-    let counted = c.in_ok-count_line.ensures in
+    let counted = c.in_ok-count_line.ensures.counted in
+    let ends =
+    c.in_ok-count_line.ensures.ending ∙ ap (λ e. ending_after e c.take_part.new.self.line) kept.2 ∙ ap (ending_after c.fill.new.self.ending) (sym counted.given) in
     let takes = takes_same begin before filled c.loop-self.self.line c.loop-self.invariant.taken c.in_ok-fill.ensures.filled c.in_ok-fill.ensures.line in
     first_of begin (place (g.S.Source.state c.fill.new.source) c.count_line.new.self) c.count_line.new.self.line c.in_ok-count_line.field-0
     (ends_found begin filled c.fill.new.self.line cut.0 c.count_line.new.self.line c.count_line.new.self takes (rw c.in_ok-fill.ensures.line c.loop-self.invariant.free)
-    (rw counted.kept.1 cut.1) cut.2 (counted.kept.0 ∙ cut.3) (counted.kept.2 ∙ kept.0))
-    (counted.number.0 ∙ kept.1 ∙ takes.next) counted.number.1 (rw counted.kept.0 counted.short)
+    (rw counted.held cut.1) cut.2 (counted.given ∙ cut.3) (counted.is_ended ∙ kept.0) ends)
+    (counted.counted ∙ kept.1 ∙ takes.next) counted.next (rw counted.given counted.short)
 
 pub loop-self-preserved : goal.loop-self-preserved
 loop-self-preserved g c =
@@ -58,7 +63,7 @@ loop-self-preserved g c =
     let kept = c.in_ok-take_part.ensures.kept in
     let takes = takes_same begin before filled c.loop-self.self.line c.loop-self.invariant.taken c.in_ok-fill.ensures.filled c.in_ok-fill.ensures.line in
     record {
-      taken = takes_held begin filled c.take_part.new.self takes all.0 kept.0 kept.1 all.2;
+      taken = takes_held begin filled c.take_part.new.self takes all.0 kept.0 kept.1 kept.2 all.2;
       free = rw all.2 (All-append (λ b. b ≢ 10) c.fill.new.self.line c.fill.new.self.held (rw c.in_ok-fill.ensures.line c.loop-self.invariant.free) all.1);
     }
 
