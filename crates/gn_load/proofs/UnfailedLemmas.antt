@@ -58,7 +58,7 @@ none_failed lines links report made each bytes = λ k link below failed.
     let first = link_of Plain [] in
     let all : NoneFails links = subst (λ r. IfOk r NoneFails) made (lines_none lines [] tt) in
     let there = get_or-map source_of links k first (source_of first) (omega (arith, below, each)) in
-    let may : is_some (get_or links k first).read ≡ true = subst (λ (s : Source). s.may_fail ≡ true) there (bytes.failed k (source_of first) link below failed) in
+    let may : is_some (get_or links k first).read ≡ true = subst (λ (s : Source). s.may_fail ≡ true) there ((bytes k (source_of first) link below).failed failed) in
     let none : Option ℕ = None in
     let no : is_some none ≡ true = subst (λ (o : Option ℕ). is_some o ≡ true) (none_at links k first all refl) may in
     absurd (cc)

@@ -9,10 +9,14 @@ use Rattle.gn_rules.specs.declared.config.Config.{Config}
 use Rattle.gn_rules.specs.declared.receipt.Step.{Step}
 use Rattle.gn_rules.specs.Flight.{admission_of}
 use Rattle.gn_rules.specs.Output.{taken}
-use Rattle.gn_laws.specs.Owners.{packets_of}
+use Rattle.gn_rules.specs.History.{mine}
+use Rattle.gn_laws.specs.Owners.{LinkAgrees, packets_of}
 use Rattle.gn_report.specs.declared.report.LinkReport.{LinkReport}
 use Rattle.gn_report.specs.declared.report.Report.{Report}
+use Rattle.gn_report.specs.Actors.{writer_of}
+use Rattle.gn_report.proofs.ConfirmedLemmas.{reader_own, writer_own}
 use Rattle.gn_threads.specs.Headline.{Holds, LinkHolds}
+use Rattle.gn_threads.proofs.FollowLemmas.{runs_add_up}
 use Rattle.gn_bodies.specs.Events.{link_events_in}
 use Rattle.gn_bodies.specs.ReaderRows.{ReaderRow}
 use Rattle.gn_paths.specs.Networks.{Carries}
@@ -24,6 +28,9 @@ use Rattle.gn_network.proofs.TextLemmas.{all_text, offer, read_offers, written_b
 record Placed {Rd W A : Type 0} (reads : Rd → ReadHalf) (writes : W → WrittenHalf) (roles : List Role) (report : Report Rd W A) (role : Role) (link : LinkReport Rd W A) : Type 0 where
   k : ℕ
   holds : LinkHolds reads writes roles report k role link
+  reads_own : link.reader_receipts.items ≡ mine report.history.items k
+  writes_own : link.writer_receipts.items ≡ mine report.history.items (writer_of report k)
+  agrees : (c : ℕ) → link.conn ≡ Some c → LinkAgrees report.history.items k (writer_of report k) c
 
 placed : {Rd W A : Type 0} (reads : Rd → ReadHalf) (writes : W → WrittenHalf) (s : Config) (roles : List Role) (workers : ℕ) (report : Report Rd W A) (role : Role) (link : LinkReport Rd W A) (c : ℕ)
     → Holds reads writes s roles workers report → IsLinkOf roles report role link c → Placed reads writes roles report role link
@@ -31,6 +38,9 @@ placed {Rd} {W} {A} reads writes s roles workers report role link c holds is = r
   k = is.index;
   holds = subst (λ r. LinkHolds reads writes roles report is.index r link) is.has_role
       (subst (λ l. LinkHolds reads writes roles report is.index (get_or roles is.index role) l) is.stands (holds.links is.index role link is.within));
+  reads_own = subst (λ (l : LinkReport Rd W A). l.reader_receipts.items ≡ mine report.history.items is.index) is.stands (reader_own report holds.own.0 is.index link is.within);
+  writes_own = subst (λ (l : LinkReport Rd W A). l.writer_receipts.items ≡ mine report.history.items (writer_of report is.index)) is.stands (writer_own report holds.own.0 is.index link is.within);
+  agrees = λ d conn. (runs_add_up Rd W A reads writes s roles workers report holds).agrees is.index d link is.within (subst (λ (l : LinkReport Rd W A). l.conn ≡ Some d) (sym is.stands) conn);
 }
 
 -- what was written at one end begins all that was to be written of what the history took there
@@ -38,7 +48,7 @@ gives_text : {Rd W A : Type 0} (reads : Rd → ReadHalf) (writes : W → Written
     → Placed reads writes roles report role link → link.conn ≡ Some c → (writes link.writer).is_known ≡ true → Begins (writes link.writer).bytes (all_text role (taken (reverse report.history.items) c))
 gives_text reads writes roles report role link c at conn knows =
     let packets : packets_of link.writer_receipts.items ≡ taken (reverse report.history.items) c =
-    ap packets_of at.holds.writer.own ∙ (at.holds.agrees c conn).takes in
+    ap packets_of at.writes_own ∙ (at.agrees c conn).takes in
     subst (λ ps. Begins (writes link.writer).bytes (all_text role ps)) packets
     (written_begins link.writer_end role (packets_of link.writer_receipts.items) (writes link.writer).bytes (at.holds.written.row knows))
 
@@ -61,9 +71,9 @@ socket_carries {Rd} {W} {A} reads writes s t roles others workers crew first sec
     let begins = begins_further (reads leads.taker.reader).bytes (writes leads.giver.writer).bytes (all_text leads.role packets) leads.delivered.rest leads.delivered.begins text in
     let row = subst (λ o. ReaderRow leads.other leads.taker.reader_end o (link_events_in receipts) (reads leads.taker.reader).bytes) leads.takes.connected (to.holds.read.row leads.delivered.knows) in
     let offers = read_offers leads.role leads.other leads.taker.reader_end d (link_events_in receipts) packets (reads leads.taker.reader).bytes leads.valid leads.greets begins row in
-    let agrees = to.holds.agrees d leads.takes.connected in
+    let agrees = to.agrees d leads.takes.connected in
     let all : offers_on d second.history.items ≡ map (offer d) offers.offered =
-    sym agrees.offers ∙ ap (filter_map (λ r. admission_of r.event)) (sym to.holds.reader.own) ∙ receipts_offer receipts ∙ offers.are in
+    sym agrees.offers ∙ ap (filter_map (λ r. admission_of r.event)) (sym to.reads_own) ∙ receipts_offer receipts ∙ offers.are in
     let offered : Contains (offers_on d second.history.items) (offer d p) =
     subst (λ (steps : List (Step A)). Contains (offers_on d steps) (offer d p)) (reverse-reverse second.history.items) (admitted_offered (reverse second.history.items) d p has) in
     subst (λ ps. Contains ps p) (sym offers.first.whole)

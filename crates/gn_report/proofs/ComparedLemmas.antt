@@ -5,7 +5,7 @@ use Rattle.std.specs.Option.{option_or}
 use Rattle.std.proofs.lemmas.List.{at_drop_more}
 use Rattle.gn_rules.specs.declared.receipt.Receipt.{Receipt}
 use Rattle.gn_rules.specs.declared.receipt.Step.{Step}
-use Rattle.gn_rules.specs.History.{closed_of, is_at, is_close, mine}
+use Rattle.gn_rules.specs.History.{closed_of, is_at, is_close}
 use Rattle.gn_shake.specs.declared.role.Role.{Role}
 use Rattle.gn_laws.specs.Owners.{is_readers, is_writers}
 use Rattle.gn_report.specs.declared.report.LinkReport.{LinkReport}
@@ -15,14 +15,13 @@ use Rattle.gn_report.proofs.ConnLemmas.{conn_made, conn_more, made_by}
 use Rattle.gn_report.specs.Flaw.{ReaderConfirmed, WriterConfirmed}
 
 -- a reader whose other tests hold is confirmed exactly where its end is
-pub reader_by_end : {Rd W A : Type 0} (steps : List (Step A)) (all : Bool) (a w : ℕ) (role : Role) (link : LinkReport Rd W A) (own : List (Receipt A)) (end : Bool)
-    → own ≡ link.reader_receipts.items → own ≡ mine steps a → link.conn ≡ conn_made own → list_all (λ r. is_readers link.conn r.event) own ≡ true
+pub reader_by_end : {Rd W A : Type 0} (steps : List (Step A)) (all : Bool) (w : ℕ) (role : Role) (link : LinkReport Rd W A) (own : List (Receipt A)) (end : Bool)
+    → own ≡ link.reader_receipts.items → link.conn ≡ conn_made own → list_all (λ r. is_readers link.conn r.event) own ≡ true
     → count_by (λ r. is_connect r.event) own ≤ 1
     → end ≡ is_reader_end steps w (may_close_first all role link.writer_end) link.reader_receipts.items link.reader_end link.conn
-    → (end ≡ true → ReaderConfirmed steps all a w role link) × (ReaderConfirmed steps all a w role link → end ≡ true)
-reader_by_end {A} steps all a w role link own end same is_own conn events once is = (
+    → (end ≡ true → ReaderConfirmed steps all w role link) × (ReaderConfirmed steps all w role link → end ≡ true)
+reader_by_end {A} steps all w role link own end same conn events once is = (
   (λ e. record {
-    own = sym same ∙ is_own;
     conn = conn ∙ ap conn_made same;
     events = subst (λ (rs : List (Receipt A)). list_all (λ r. is_readers link.conn r.event) rs ≡ true) same events;
     once = subst (λ (rs : List (Receipt A)). count_by (λ r. is_connect r.event) rs ≤ 1) same once;
@@ -33,12 +32,11 @@ reader_by_end {A} steps all a w role link own end same is_own conn events once i
 
 -- a writer whose other tests hold is confirmed exactly where its end is
 pub writer_by_end : {Rd W A : Type 0} (settled : ℕ → Bool) (roles : List Role) (steps : List (Step A)) (a : ℕ) (role : Role) (link : LinkReport Rd W A) (own : List (Receipt A)) (end : Bool)
-    → own ≡ link.writer_receipts.items → own ≡ mine steps a → list_all (λ r. is_writers link.conn r.event) own ≡ true
+    → own ≡ link.writer_receipts.items → list_all (λ r. is_writers link.conn r.event) own ≡ true
     → end ≡ is_writer_end settled roles steps a role link.writer_receipts.items link.writer_end link.conn
     → (end ≡ true → WriterConfirmed settled roles steps a role link) × (WriterConfirmed settled roles steps a role link → end ≡ true)
-writer_by_end {A} settled roles steps a role link own end same is_own events is = (
+writer_by_end {A} settled roles steps a role link own end same events is = (
   (λ e. record {
-    own = sym same ∙ is_own;
     events = subst (λ (rs : List (Receipt A)). list_all (λ r. is_writers link.conn r.event) rs ≡ true) same events;
     end = sym is ∙ e;
   }),

@@ -1,5 +1,5 @@
 -- What a report without a flaw says of each link, of each worker and of the house; and what follows from it in a legal history.
-use Rattle.std.proofs.Common.{◌≡◌, ◌≤◌, ◌<◌, ◌+◌, ◌-◌, ◌&&◌, ℕ, Bool, true, false, List, [], ◌∷◌, length, map, get_or, reverse, Vec, Option, Some, None, is_some, sym, ap, ◌∙◌, subst, inl, inr, arith}
+use Rattle.std.proofs.Common.{◌≡◌, ◌≤◌, ◌<◌, ◌+◌, ◌-◌, ◌&&◌, ℕ, Bool, true, false, nat_lt, List, [], ◌∷◌, length, map, get_or, reverse, Vec, Option, Some, None, is_some, refl, sym, ap, ◌∙◌, subst, inl, inr, arith}
 use Rattle.std.specs.Bool.{MatchBool}
 use Rattle.std.specs.List.{list_all, list_any}
 use Rattle.std.proofs.lemmas.Bool.{cases_lt, le-ltb, lt-ltb}
@@ -18,11 +18,12 @@ use Rattle.gn_laws.proofs.FittingLemmas.{strangers_have_none}
 use Rattle.gn_laws.proofs.OwnerLemmas.{links_agree}
 use Rattle.gn_report.specs.declared.report.LinkReport.{LinkReport}
 use Rattle.gn_report.specs.declared.report.Report.{Report}
-use Rattle.gn_report.specs.Actors.{actors}
+use Rattle.gn_report.specs.Actors.{AreOwn, actors, first_worker, receipts_of, writer_of}
 use Rattle.gn_report.specs.BodyEnds.{is_writer_end}
 use Rattle.gn_report.proofs.ComparedLemmas.{is_last_close}
 use Rattle.gn_report.proofs.ConnLemmas.{conn_is_known}
-use Rattle.gn_report.specs.Flaw.{HouseConfirmed, IsConfirmed, ReaderConfirmed, TookAll, WorkerConfirmed, WriterConfirmed}
+use Rattle.gn_report.proofs.ReceiptLemmas.{at_house, at_reader, at_worker, at_writer}
+use Rattle.gn_report.specs.Flaw.{AreRoutes, HouseConfirmed, IsConfirmed, ReaderConfirmed, TookAll, WriterConfirmed}
 
 pub match_true : {P : Type 0} (Q : Type 0) (b : Bool) → b ≡ true → MatchBool b P Q → P
 match_true Q true e h = h
@@ -36,70 +37,97 @@ match_false P false e h = h
 abbrev AllConfirmed : {Rd W A : Type 0} → (ℕ → Bool) → List Role → Report Rd W A → Type 0
 AllConfirmed settled roles report = (a : ℕ) → a < actors report → IsConfirmed settled roles report a
 
-pub reader_at : {Rd W A : Type 0} (settled : ℕ → Bool) (roles : List Role) (report : Report Rd W A) → AllConfirmed settled roles report
+reader_at : {Rd W A : Type 0} (settled : ℕ → Bool) (roles : List Role) (report : Report Rd W A) → AllConfirmed settled roles report
     → (k : ℕ) (r : Role) (d : LinkReport Rd W A) → k < length report.links.items
-    → ReaderConfirmed report.history.items (list_all is_calling roles) k (length report.links.items + k) (get_or roles k r) (get_or report.links.items k d)
-reader_at settled roles report all k r d below = match_true _ _ (lt-ltb k (length report.links.items) below) (all k (omega arith)) r d
+    → ReaderConfirmed report.history.items (list_all is_calling roles) (length report.links.items + k) (get_or roles k r) (get_or report.links.items k d)
+reader_at settled roles report all k r d below = match_true _ _ (lt-ltb k (length report.links.items) below) (all k (omega arith)).1 r d
 
-pub writer_at : {Rd W A : Type 0} (settled : ℕ → Bool) (roles : List Role) (report : Report Rd W A) → AllConfirmed settled roles report
+writer_at : {Rd W A : Type 0} (settled : ℕ → Bool) (roles : List Role) (report : Report Rd W A) → AllConfirmed settled roles report
     → (k : ℕ) (r : Role) (d : LinkReport Rd W A) → k < length report.links.items
     → WriterConfirmed settled roles report.history.items (length report.links.items + k) (get_or roles k r) (get_or report.links.items k d)
 writer_at settled roles report all k r d below =
     let n = length report.links.items in
-    let at = match_true _ _ (lt-ltb (n + k) (n + n) (omega arith)) (match_false _ _ (le-ltb (n + k) n (omega arith)) (all (n + k) (omega arith))) r d in
+    let at = match_true _ _ (lt-ltb (n + k) (n + n) (omega arith)) (match_false _ _ (le-ltb (n + k) n (omega arith)) (all (n + k) (omega arith)).1) r d in
     let same : n + k - n ≡ k = omega arith in
     subst (λ j. WriterConfirmed settled roles report.history.items (n + k) (get_or roles j r) (get_or report.links.items j d)) same at
 
-pub worker_at : {Rd W A : Type 0} (settled : ℕ → Bool) (roles : List Role) (report : Report Rd W A) → AllConfirmed settled roles report
-    → (j : ℕ) (d : Vec (Receipt A) A) → j < length report.workers.items
-    → WorkerConfirmed report.history.items (length report.links.items + length report.links.items + j) (get_or report.workers.items j d).items
+worker_at : {Rd W A : Type 0} (settled : ℕ → Bool) (roles : List Role) (report : Report Rd W A) → AllConfirmed settled roles report
+    → (j : ℕ) (d : Vec (Receipt A) A) → j < length report.workers.items → AreRoutes (get_or report.workers.items j d).items
 worker_at settled roles report all j d below =
     let n = length report.links.items in
     let a = n + n + j in
-    let at = match_true _ _ (lt-ltb a (n + n + length report.workers.items) (omega arith)) (match_false _ _ (le-ltb a (n + n) (omega arith)) (match_false _ _ (le-ltb a n (omega arith)) (all a (omega arith)))) d in
+    let at = match_true _ _ (lt-ltb a (n + n + length report.workers.items) (omega arith)) (match_false _ _ (le-ltb a (n + n) (omega arith)) (match_false _ _ (le-ltb a n (omega arith)) (all a (omega arith)).1)) d in
     let same : n + n + j - (n + n) ≡ j = omega arith in
-    subst (λ i. WorkerConfirmed report.history.items a (get_or report.workers.items i d).items) same at
+    subst (λ i. AreRoutes (get_or report.workers.items i d).items) same at
 
 pub house_at : {Rd W A : Type 0} (settled : ℕ → Bool) (roles : List Role) (report : Report Rd W A) → AllConfirmed settled roles report
     → HouseConfirmed settled report.history.items (length report.links.items + length report.links.items + length report.workers.items) report.house.items
 house_at settled roles report all =
     let n = length report.links.items in
     let a = n + n + length report.workers.items in
-    match_false _ _ (le-ltb a a (omega arith)) (match_false _ _ (le-ltb a (n + n) (omega arith)) (match_false _ _ (le-ltb a n (omega arith)) (all a (omega arith))))
+    match_false _ _ (le-ltb a a (omega arith)) (match_false _ _ (le-ltb a (n + n) (omega arith)) (match_false _ _ (le-ltb a n (omega arith)) (all a (omega arith)).1))
 
 some_of : {X : Type 0} (xs : List X) → 0 < length xs → X
 some_of [] below = absurd (omega arith)
 some_of (x ∷ xs) below = x
 
--- the events of actors that are neither a reader nor a writer are routes
-routes_only : {Rd W A : Type 0} (settled : ℕ → Bool) (roles : List Role) (report : Report Rd W A) → AllConfirmed settled roles report
-    → (a : ℕ) → length report.links.items + length report.links.items ≤ a → list_all (λ r. is_some (ticket_of r.event)) (mine report.history.items a) ≡ true
-routes_only {Rd} {W} {A} settled roles report all a past =
+-- an actor that is neither a reader nor a writer routed alone
+routed_alone : {Rd W A : Type 0} (settled : ℕ → Bool) (roles : List Role) (report : Report Rd W A) → AllConfirmed settled roles report
+    → (a : ℕ) → first_worker report ≤ a → a < actors report → AreRoutes (get_or (receipts_of report) a [])
+routed_alone {Rd} {W} {A} settled roles report all a past below =
     let n = length report.links.items in
     let v = length report.workers.items in
-    let house = house_at settled roles report all in
-    elim (cases_lt a (n + n + v)) as (λ x. list_all (λ (r : Receipt A). is_some (ticket_of r.event)) (mine report.history.items a) ≡ true) [
+    elim (cases_lt a (n + n + v)) as (λ x. AreRoutes (get_or (receipts_of report) a [])) [
       | inl low ↦
           let j = a - (n + n) in
-          let below : j < v = omega (arith, past, low) in
-          let worker = worker_at settled roles report all j (some_of report.workers.items (omega (arith, below))) below in
-          let is : n + n + j ≡ a = omega (arith, past) in
-          subst (λ i. list_all (λ (r : Receipt A). is_some (ticket_of r.event)) (mine report.history.items i) ≡ true) is
-          (subst (λ rs. list_all (λ (r : Receipt A). is_some (ticket_of r.event)) rs ≡ true) worker.own worker.events)
-      | inr high ↦ elim (cases_lt (n + n + v) a) as (λ x. list_all (λ (r : Receipt A). is_some (ticket_of r.event)) (mine report.history.items a) ≡ true) [
-        | inl over ↦ ap (λ rs. list_all (λ (r : Receipt A). is_some (ticket_of r.event)) rs) (strangers_have_none A report.history.items (n + n + v + 1) a house.only (omega (arith, over)))
-        | inr under ↦
-            let is : n + n + v ≡ a = omega (arith, high, under) in
-            subst (λ i. list_all (λ (r : Receipt A). is_some (ticket_of r.event)) (mine report.history.items i) ≡ true) is
-            (subst (λ rs. list_all (λ (r : Receipt A). is_some (ticket_of r.event)) rs ≡ true) house.worker.own house.worker.events)
-      ]
+          let within : j < v = omega (arith, past, low) in
+          let is : a ≡ n + n + j = omega (arith, past) in
+          let some = some_of report.workers.items (omega (arith, within)) in
+          subst (λ rs. AreRoutes rs) (sym (at_worker report j a some within is)) (worker_at settled roles report all j some within)
+      | inr high ↦
+          let is : a ≡ n + n + v = omega (arith, high, below) in
+          subst (λ rs. AreRoutes rs) (sym (at_house report a is)) (house_at settled roles report all).routes
     ]
 
-conns_of : {Rd W A : Type 0} → Report Rd W A → List (Option ℕ)
-conns_of report = map (λ link. link.conn) report.links.items
+-- what a report without a flaw says of its actors
+pub record Confirmed {Rd W A : Type 0} (settled : ℕ → Bool) (roles : List Role) (report : Report Rd W A) : Type 0 where
+  pub own : AreOwn report
+  pub only : list_all (λ step. nat_lt step.actor (actors report)) report.history.items ≡ true
+  pub reader : (k : ℕ) (r : Role) (d : LinkReport Rd W A) → k < length report.links.items
+      → ReaderConfirmed report.history.items (list_all is_calling roles) (writer_of report k) (get_or roles k r) (get_or report.links.items k d)
+  pub writer : (k : ℕ) (r : Role) (d : LinkReport Rd W A) → k < length report.links.items
+      → WriterConfirmed settled roles report.history.items (writer_of report k) (get_or roles k r) (get_or report.links.items k d)
+  pub routes : (a : ℕ) → first_worker report ≤ a → a < actors report → AreRoutes (get_or (receipts_of report) a [])
+
+pub confirmed : {Rd W A : Type 0} (settled : ℕ → Bool) (roles : List Role) (report : Report Rd W A) → AllConfirmed settled roles report → Confirmed settled roles report
+confirmed settled roles report all = record {
+  own = λ a below. (all a below).0;
+  only = (house_at settled roles report all).only;
+  reader = reader_at settled roles report all;
+  writer = writer_at settled roles report all;
+  routes = routed_alone settled roles report all;
+}
+
+-- the receipts of a link's reader and of its writer, by what all actors have
+pub reader_own : {Rd W A : Type 0} (report : Report Rd W A) → AreOwn report → (k : ℕ) (d : LinkReport Rd W A) → k < length report.links.items
+    → (get_or report.links.items k d).reader_receipts.items ≡ mine report.history.items k
+reader_own report own k d below = sym (at_reader report k d below) ∙ own k (omega (arith, below))
+
+pub writer_own : {Rd W A : Type 0} (report : Report Rd W A) → AreOwn report → (k : ℕ) (d : LinkReport Rd W A) → k < length report.links.items
+    → (get_or report.links.items k d).writer_receipts.items ≡ mine report.history.items (writer_of report k)
+writer_own report own k d below = sym (at_writer report k (writer_of report k) d below refl) ∙ own (writer_of report k) (omega (arith, below))
+
+-- the events of actors that are neither a reader nor a writer are routes
+routes_only : {Rd W A : Type 0} (settled : ℕ → Bool) (roles : List Role) (report : Report Rd W A) → Confirmed settled roles report
+    → (a : ℕ) → first_worker report ≤ a → AreRoutes (mine report.history.items a)
+routes_only {Rd} {W} {A} settled roles report all a past =
+    elim (cases_lt a (actors report)) as (λ x. AreRoutes (mine report.history.items a)) [
+      | inl low ↦ subst (λ rs. AreRoutes rs) (all.own a low) (all.routes a past low)
+      | inr high ↦ ap (λ rs. list_all (λ (r : Receipt A). is_some (ticket_of r.event)) rs) (strangers_have_none A report.history.items (actors report) a all.only high)
+    ]
 
 -- in a legal history a report without a flaw is compared as the laws of owners ask it
-pub compared : {Rd W A : Type 0} (s : Config) (settled : ℕ → Bool) (roles : List Role) (report : Report Rd W A) → IsLegal s (reverse report.history.items) → AllConfirmed settled roles report
+pub compared : {Rd W A : Type 0} (s : Config) (settled : ℕ → Bool) (roles : List Role) (report : Report Rd W A) → IsLegal s (reverse report.history.items) → Confirmed settled roles report
     → AreCompared report.history.items (map (λ link. link.conn) report.links.items)
 compared {Rd} {W} {A} s settled roles report legal all =
     let links = report.links.items in
@@ -111,18 +139,21 @@ compared {Rd} {W} {A} s settled roles report legal all =
     λ k below. get_or-map (λ (link : LinkReport Rd W A). link.conn) links k (some k below) None (omega (arith, many, below)) in
     record {
       connected = λ k below.
-          let reader = reader_at settled roles report all k Plain (some k below) (omega (arith, many, below)) in
-          conn k below ∙ reader.conn ∙ conn_is_known s steps k (get_or links k (some k below)).reader_receipts.items legal reader.own ∙ ap known_conn reader.own;
+          let reader = all.reader k Plain (some k below) (omega (arith, many, below)) in
+          let own = reader_own report all.own k (some k below) (omega (arith, many, below)) in
+          conn k below ∙ reader.conn ∙ conn_is_known s steps k (get_or links k (some k below)).reader_receipts.items legal own ∙ ap known_conn own;
       readers = λ k below.
-          let reader = reader_at settled roles report all k Plain (some k below) (omega (arith, many, below)) in
+          let reader = all.reader k Plain (some k below) (omega (arith, many, below)) in
+          let own = reader_own report all.own k (some k below) (omega (arith, many, below)) in
           subst (λ o. list_all (λ (r : Receipt A). is_readers o r.event) (mine steps k) ≡ true) (sym (conn k below))
-          (subst (λ rs. list_all (λ (r : Receipt A). is_readers (get_or links k (some k below)).conn r.event) rs ≡ true) reader.own reader.events);
+          (subst (λ rs. list_all (λ (r : Receipt A). is_readers (get_or links k (some k below)).conn r.event) rs ≡ true) own reader.events);
       writers = λ k below.
-          let writer = writer_at settled roles report all k Plain (some k below) (omega (arith, many, below)) in
+          let writer = all.writer k Plain (some k below) (omega (arith, many, below)) in
+          let own = writer_own report all.own k (some k below) (omega (arith, many, below)) in
           let at : length links + k ≡ length conns + k = omega (arith, many) in
           subst (λ i. list_all (λ (r : Receipt A). is_writers (get_or conns k None) r.event) (mine steps i) ≡ true) at
           (subst (λ o. list_all (λ (r : Receipt A). is_writers o r.event) (mine steps (length links + k)) ≡ true) (sym (conn k below))
-          (subst (λ rs. list_all (λ (r : Receipt A). is_writers (get_or links k (some k below)).conn r.event) rs ≡ true) writer.own writer.events));
+          (subst (λ rs. list_all (λ (r : Receipt A). is_writers (get_or links k (some k below)).conn r.event) rs ≡ true) own writer.events));
       others = λ a past. routes_only settled roles report all a (omega (arith, many, past));
     }
 
@@ -132,19 +163,19 @@ any_weaker p q weaker [] e = e
 any_weaker p q weaker (x ∷ xs) e = let h = any_weaker p q weaker xs in let w = weaker x in grind (arith, common_steps, h, w, e)
 
 -- in a legal history a link whose writer ended Drained took all that was ever queued to its connection
-pub took_all : {Rd W A : Type 0} (s : Config) (settled : ℕ → Bool) (roles : List Role) (report : Report Rd W A) → IsLegal s (reverse report.history.items) → AllConfirmed settled roles report
+pub took_all : {Rd W A : Type 0} (s : Config) (settled : ℕ → Bool) (roles : List Role) (report : Report Rd W A) → IsLegal s (reverse report.history.items) → Confirmed settled roles report
     → (k : ℕ) → k < length report.links.items → TookAll report k
 took_all {Rd} {W} {A} s settled roles report legal all k below d c drained is =
     let links = report.links.items in
     let steps = report.history.items in
     let link = get_or links k d in
-    let writer = writer_at settled roles report all k Plain d below in
+    let writer = all.writer k Plain d below in
     let conns : List (Option ℕ) = map (λ (l : LinkReport Rd W A). l.conn) links in
     let many : length conns ≡ length links = length-map links (λ (l : LinkReport Rd W A). l.conn) in
     let conn : get_or conns k None ≡ Some c = get_or-map (λ (l : LinkReport Rd W A). l.conn) links k d None below ∙ is in
     let known = links_agree A s steps conns k c legal (compared s settled roles report legal all) (omega (arith, many, below)) conn in
     let at : length conns + k ≡ length links + k = omega (arith, many) in
-    let own : mine steps (length conns + k) ≡ link.writer_receipts.items = ap (mine steps) at ∙ sym writer.own in
+    let own : mine steps (length conns + k) ≡ link.writer_receipts.items = ap (mine steps) at ∙ sym (writer_own report all.own k d below) in
     let end : is_writer_end settled roles steps (length links + k) (get_or roles k Plain) link.writer_receipts.items Drained (Some c) ≡ true =
     subst (λ o. is_writer_end settled roles steps (length links + k) (get_or roles k Plain) link.writer_receipts.items Drained o ≡ true) is
     (subst (λ e. is_writer_end settled roles steps (length links + k) (get_or roles k Plain) link.writer_receipts.items e link.conn ≡ true) drained writer.end) in

@@ -96,9 +96,4 @@ all_own {Rd} {W} {A} report n count fits total =
     let whole : take n all ≡ all = ap (λ m. take m all) (count ∙ sym many) ∙ take-length all in
     let sum : sum_by (λ (receipts : List (Receipt A)). length receipts) all ≡ length report.history.items = ap (sum_by (λ (receipts : List (Receipt A)). length receipts)) (sym whole) ∙ total in
     let own = (fitting_are_mine A report.history.items all (λ a below. fits a (omega (arith, many, below, count))) sum).0 in
-    record {
-      reader = λ k d below. sym (at_reader report k d below) ∙ own k (omega (arith, many, below));
-      writer = λ k d below. sym (at_writer report k _ d below refl) ∙ own (length report.links.items + k) (omega (arith, many, below));
-      worker = λ j d below. sym (at_worker report j _ d below refl) ∙ own (length report.links.items + length report.links.items + j) (omega (arith, many, below));
-      house = sym (at_house report _ refl) ∙ own (length report.links.items + length report.links.items + length report.workers.items) (omega (arith, many));
-    }
+    λ a below. own a (omega (arith, many, below))

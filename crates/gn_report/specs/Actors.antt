@@ -1,6 +1,6 @@
 -- The actors of a run of n links and V workers: actor k below n reads link k, actor n + k writes it, actor 2n + j is worker j, and actor
 -- 2n + V is the house, which started the run.
-use Rattle.std.specs.Prelude.{◌≡◌, ◌<◌, ◌+◌, ℕ, Bool, false, List, [], ◌∷◌, ◌++◌, length, map, slice_index_or, Vec}
+use Rattle.std.specs.Prelude.{◌≡◌, ◌<◌, ◌+◌, ℕ, Bool, false, List, [], ◌∷◌, ◌++◌, length, map, slice_index_or}
 use Rattle.std.specs.List.{list_all, slice_get}
 use Rattle.std.specs.Option.{option_map_or}
 use Rattle.gn_rules.specs.declared.receipt.Receipt.{Receipt}
@@ -11,9 +11,17 @@ use Rattle.gn_rules.specs.History.{mine, step_of}
 use Rattle.gn_report.specs.declared.report.LinkReport.{LinkReport}
 use Rattle.gn_report.specs.declared.report.Report.{Report}
 
+-- the number of the actor who writes link k
+abbrev pub writer_of : {Rd W A : Type 0} → Report Rd W A → ℕ → ℕ
+writer_of report k = length report.links.items + k
+
+-- the number of the first actor who is neither a reader nor a writer
+abbrev pub first_worker : {Rd W A : Type 0} → Report Rd W A → ℕ
+first_worker report = length report.links.items + length report.links.items
+
 -- how many actors a run has
 abbrev pub actors : {Rd W A : Type 0} → Report Rd W A → ℕ
-actors report = length report.links.items + length report.links.items + length report.workers.items + 1
+actors report = first_worker report + length report.workers.items + 1
 
 -- the receipts of each actor, in the order of the actors' numbers
 abbrev pub receipts_of : {Rd W A : Type 0} → Report Rd W A → List (List (Receipt A))
@@ -26,15 +34,13 @@ pub record Stands {A : Type 0} (steps : List (Step A)) (a : ℕ) (r : Receipt A)
   pub within : r.index < length steps
   pub is : (d : Step A) → slice_index_or steps r.index d ≡ step_of a r
 
+-- actor a's receipts are its own steps, each once and in order
+abbrev pub IsOwn : {Rd W A : Type 0} → Report Rd W A → ℕ → Type 0
+IsOwn report a = slice_index_or (receipts_of report) a [] ≡ mine report.history.items a
+
 -- each actor's receipts are its own steps
-pub record AreOwn {Rd W A : Type 0} (report : Report Rd W A) : Type 0 where
-  pub reader : (k : ℕ) (d : LinkReport Rd W A) → k < length report.links.items
-      → (slice_index_or report.links.items k d).reader_receipts.items ≡ mine report.history.items k
-  pub writer : (k : ℕ) (d : LinkReport Rd W A) → k < length report.links.items
-      → (slice_index_or report.links.items k d).writer_receipts.items ≡ mine report.history.items (length report.links.items + k)
-  pub worker : (j : ℕ) (d : Vec (Receipt A) A) → j < length report.workers.items
-      → (slice_index_or report.workers.items j d).items ≡ mine report.history.items (length report.links.items + length report.links.items + j)
-  pub house : report.house.items ≡ mine report.history.items (length report.links.items + length report.links.items + length report.workers.items)
+abbrev pub AreOwn : {Rd W A : Type 0} → Report Rd W A → Type 0
+AreOwn report = (a : ℕ) → a < actors report → IsOwn report a
 
 -- whether actor a is a reader that the run waits for before it ends
 abbrev pub is_awaited : List Role → ℕ → Bool

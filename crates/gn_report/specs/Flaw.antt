@@ -3,7 +3,7 @@ use Rattle.std.specs.Prelude.{◌≡◌, ◌≤◌, ◌<◌, ◌+◌, ◌-◌, �
 use Rattle.std.specs.List.{count_by, filter_map, list_all, slice_get}
 use Rattle.gn_rules.specs.declared.receipt.Receipt.{Receipt}
 use Rattle.gn_rules.specs.declared.receipt.Step.{Step}
-use Rattle.gn_rules.specs.History.{connected_of, ticket_of, mine}
+use Rattle.gn_rules.specs.History.{connected_of, ticket_of}
 use Rattle.gn_rules.specs.Output.{queued}
 use Rattle.gn_shake.specs.declared.role.Role.{Role}
 use Rattle.gn_shake.specs.Greeting.{is_calling}
@@ -11,13 +11,11 @@ use Rattle.gn_bodies.specs.declared.ends.WriterEnd.TheVariants.{Drained}
 use Rattle.gn_laws.specs.Owners.{is_readers, is_writers, packets_of}
 use Rattle.gn_report.specs.declared.report.LinkReport.{LinkReport}
 use Rattle.gn_report.specs.declared.report.Report.{Report}
-use Rattle.gn_report.specs.Actors.{actors}
+use Rattle.gn_report.specs.Actors.{IsOwn, actors}
 use Rattle.gn_report.specs.BodyEnds.{is_connect, is_reader_end, is_writer_end, may_close_first}
 
--- what the history confirms of the reader of link k, whose writer is actor `writer`
-pub record ReaderConfirmed {Rd W A : Type 0} (steps : List (Step A)) (all_call : Bool) (k writer : ℕ) (role : Role) (link : LinkReport Rd W A) : Type 0 where
-  -- its receipts are its own steps
-  pub own : link.reader_receipts.items ≡ mine steps k
+-- what the history confirms of the reader of a link, whose writer is actor `writer`
+pub record ReaderConfirmed {Rd W A : Type 0} (steps : List (Step A)) (all_call : Bool) (writer : ℕ) (role : Role) (link : LinkReport Rd W A) : Type 0 where
   -- the link's connection is that of the first Connect that was replied Connected
   pub conn : link.conn
       ≡ slice_get (filter_map (λ r. if is_connect r.event then connected_of r.reply else None) link.reader_receipts.items) 0
@@ -30,43 +28,43 @@ pub record ReaderConfirmed {Rd W A : Type 0} (steps : List (Step A)) (all_call :
 
 -- what the history confirms of the writer of a link, which is actor a
 pub record WriterConfirmed {Rd W A : Type 0} (settled : ℕ → Bool) (roles : List Role) (steps : List (Step A)) (a : ℕ) (role : Role) (link : LinkReport Rd W A) : Type 0 where
-  -- its receipts are its own steps
-  pub own : link.writer_receipts.items ≡ mine steps a
   -- its events are Take and Close of the connection
   pub events : list_all (λ r. is_writers link.conn r.event) link.writer_receipts.items ≡ true
   -- its end is right by its connection and by who closed that
   pub end : is_writer_end settled roles steps a role link.writer_receipts.items link.writer_end link.conn ≡ true
 
--- what the history confirms of a worker, which is actor a
-pub record WorkerConfirmed {A : Type 0} (steps : List (Step A)) (a : ℕ) (receipts : List (Receipt A)) : Type 0 where
-  -- its receipts are its own steps
-  pub own : receipts ≡ mine steps a
-  -- its events are Route
-  pub events : list_all (λ r. is_some (ticket_of r.event)) receipts ≡ true
+-- the events of receipts are Route
+abbrev pub AreRoutes : {A : Type 0} → List (Receipt A) → Type 0
+AreRoutes receipts = list_all (λ r. is_some (ticket_of r.event)) receipts ≡ true
 
 -- what the history confirms of the house, which is the last actor, a, and of the run as a whole
 pub record HouseConfirmed {A : Type 0} (settled : ℕ → Bool) (steps : List (Step A)) (a : ℕ) (receipts : List (Receipt A)) : Type 0 where
-  -- all that it confirms of a worker: the house routes what workers left
-  pub worker : WorkerConfirmed steps a receipts
+  -- the house routes what workers left
+  pub routes : AreRoutes receipts
   -- no step is of an actor that the run doesn't have
   pub only : list_all (λ step. nat_lt step.actor (a + 1)) steps ≡ true
   -- each admitted ticket is routed: nothing is in flight at the end
   pub tickets : settled (length steps) ≡ true
 
--- what the history confirms of actor a. `settled` says after how many steps nothing is in flight
-abbrev pub IsConfirmed : {Rd W A : Type 0} → (ℕ → Bool) → List Role → Report Rd W A → ℕ → Type 0
-IsConfirmed {Rd} {W} {A} settled roles report a =
+-- what the history confirms of actor a, but that its receipts are its own steps. `settled` says after how many steps nothing is
+-- in flight
+abbrev pub IsFitting : {Rd W A : Type 0} → (ℕ → Bool) → List Role → Report Rd W A → ℕ → Type 0
+IsFitting {Rd} {W} {A} settled roles report a =
     let steps = report.history.items in
     let links = report.links.items in
     let workers = report.workers.items in
     let n = length links in
     MatchBool (nat_lt a n)
-    ((r : Role) (d : LinkReport Rd W A) → ReaderConfirmed steps (list_all is_calling roles) a (n + a) (slice_index_or roles a r) (slice_index_or links a d))
+    ((r : Role) (d : LinkReport Rd W A) → ReaderConfirmed steps (list_all is_calling roles) (n + a) (slice_index_or roles a r) (slice_index_or links a d))
     (MatchBool (nat_lt a (n + n))
     ((r : Role) (d : LinkReport Rd W A) → WriterConfirmed settled roles steps a (slice_index_or roles (a - n) r) (slice_index_or links (a - n) d))
     (MatchBool (nat_lt a (n + n + length workers))
-    ((d : Vec (Receipt A) A) → WorkerConfirmed steps a (slice_index_or workers (a - (n + n)) d).items)
+    ((d : Vec (Receipt A) A) → AreRoutes (slice_index_or workers (a - (n + n)) d).items)
     (HouseConfirmed settled steps a report.house.items)))
+
+-- all that the history confirms of actor a
+abbrev pub IsConfirmed : {Rd W A : Type 0} → (ℕ → Bool) → List Role → Report Rd W A → ℕ → Type 0
+IsConfirmed settled roles report a = IsOwn report a × IsFitting settled roles report a
 
 -- the answer to a report: none where all actors are confirmed, else the least one that isn't
 abbrev pub IsFlaw : {Rd W A : Type 0} → (ℕ → Bool) → List Role → Report Rd W A → Option ℕ → Type 0

@@ -7,7 +7,7 @@ ghost use Rattle.gn_rules.specs.Answer.{IsLegal};
 ghost use Rattle.gn_rules.specs.History.{mine};
 ghost use Rattle.gn_report.specs.Actors as actors;
 ghost use Rattle.gn_report.specs.BodyEnds as ends;
-ghost use Rattle.gn_report.specs.Flaw.{HouseConfirmed, IsConfirmed, IsFlaw, ReaderConfirmed, TookAll, WorkerConfirmed, WriterConfirmed};
+ghost use Rattle.gn_report.specs.Flaw.{HouseConfirmed, IsConfirmed, IsFitting, IsFlaw, ReaderConfirmed, TookAll, WriterConfirmed};
 ghost use Rattle.gn_report.specs.Survey.{IsSurvey};
 
 use crate::ends::{is_reader_end, is_writer_end, may_close_first};
@@ -42,18 +42,15 @@ fn is_own<A: Allocator>(known: bool, steps: &[Step<A>], actor: u32, receipts: &[
 fn is_reader_confirmed<Rd, W, A: Allocator>(
     steps: &[Step<A>],
     survey: &Survey,
-    actor: u32,
     writer: u32,
     role: Role,
     link: &LinkReport<Rd, W, A>,
 ) -> bool
-    requires { survey.now.are_own ≡ true → link.now.reader_receipts.items ≡ mine steps.now actor }
-    ensures { IsTrue result ↔ ReaderConfirmed steps.now survey.now.all_call actor writer role link.now }
+    ensures { IsTrue result ↔ ReaderConfirmed steps.now survey.now.all_call writer role link.now }
 {
     let own = link.reader_receipts.as_slice();
     let first = may_close_first(survey.all_call, role, link.writer_end);
-    is_own(survey.are_own, steps, actor, own)
-        && is_same_conn(link.conn, conn_of(own))
+    is_same_conn(link.conn, conn_of(own))
         && are_readers(link.conn, own)
         && connects(own) <= 1
         && is_reader_end(steps, writer, first, link)
@@ -68,29 +65,13 @@ fn is_writer_confirmed<Rd, W, A: Allocator>(
     role: Role,
     link: &LinkReport<Rd, W, A>,
 ) -> bool
-    requires survey { IsSurvey roles.now report.now survey.now }
-    requires own { survey.now.are_own ≡ true → link.now.writer_receipts.items ≡ mine report.now.history.items actor }
+    requires { IsSurvey roles.now report.now survey.now }
     ensures { IsTrue result
         ↔ WriterConfirmed (ends.is_settled report.now.history.items) roles.now report.now.history.items
         actor role link.now }
 {
-    let own = link.writer_receipts.as_slice();
-    is_own(survey.are_own, report.history.as_slice(), actor, own)
-        && are_writers(link.conn, own)
+    are_writers(link.conn, link.writer_receipts.as_slice())
         && is_writer_end(report, roles, survey, actor, role, link)
-}
-
-/// Whether what is compared of a worker is so.
-fn is_worker_confirmed<A: Allocator>(
-    steps: &[Step<A>],
-    known: bool,
-    actor: u32,
-    receipts: &[Receipt<A>],
-) -> bool
-    requires { known ≡ true → receipts.now ≡ mine steps.now actor }
-    ensures { IsTrue result ↔ WorkerConfirmed steps.now actor receipts.now }
-{
-    is_own(known, steps, actor, receipts) && are_routes(receipts)
 }
 
 /// Whether no step is of an actor above this one.
@@ -109,23 +90,19 @@ fn is_house_confirmed<A: Allocator>(
     actor: u32,
     receipts: &[Receipt<A>],
 ) -> bool
-    requires own { survey.now.are_own ≡ true → receipts.now ≡ mine steps.now actor }
-    requires routed { survey.now.are_routed ≡ ends.is_settled steps.now (length steps.now) }
+    requires { survey.now.are_routed ≡ ends.is_settled steps.now (length steps.now) }
     ensures { IsTrue result ↔ HouseConfirmed (ends.is_settled steps.now) steps.now actor receipts.now }
 {
-    is_own(survey.are_own, steps, actor, receipts)
-        && are_routes(receipts)
-        && are_actors(steps, actor)
-        && survey.are_routed
+    are_routes(receipts) && are_actors(steps, actor) && survey.are_routed
 }
 
 impl<Rd, W, A: Allocator> Report<Rd, W, A> {
-    /// Whether what is compared of the actor is so.
-    fn is_confirmed(&self, roles: &[Role], survey: &Survey, actor: u32) -> bool
+    /// Whether what is compared of the actor is so, but that its receipts are its own steps.
+    fn is_fitting(&self, roles: &[Role], survey: &Survey, actor: u32) -> bool
         requires roles { length roles.now ≡ length self.now.links.items }
         requires survey { IsSurvey roles.now self.now survey.now }
         requires actor { actor < actors.actors self.now }
-        ensures { IsTrue result ↔ IsConfirmed (ends.is_settled self.now.history.items) roles.now self.now actor }
+        ensures { IsTrue result ↔ IsFitting (ends.is_settled self.now.history.items) roles.now self.now actor }
     {
         let n = self.links.len();
         let place = actor as usize;
@@ -134,7 +111,6 @@ impl<Rd, W, A: Allocator> Report<Rd, W, A> {
             is_reader_confirmed(
                 steps,
                 survey,
-                actor,
                 n as u32 + actor,
                 roles[place],
                 &self.links[place],
@@ -149,15 +125,25 @@ impl<Rd, W, A: Allocator> Report<Rd, W, A> {
                 &self.links[place - n],
             )
         } else if place < n + n + self.workers.len() {
-            is_worker_confirmed(
-                steps,
-                survey.are_own,
-                actor,
-                self.workers[place - (n + n)].as_slice(),
-            )
+            are_routes(self.workers[place - (n + n)].as_slice())
         } else {
             is_house_confirmed(steps, survey, actor, self.house.as_slice())
         }
+    }
+
+    /// Whether all that is compared of the actor is so.
+    fn is_confirmed(&self, roles: &[Role], survey: &Survey, actor: u32) -> bool
+        requires roles { length roles.now ≡ length self.now.links.items }
+        requires survey { IsSurvey roles.now self.now survey.now }
+        requires actor { actor < actors.actors self.now }
+        ensures { IsTrue result ↔ IsConfirmed (ends.is_settled self.now.history.items) roles.now self.now actor }
+    {
+        is_own(
+            survey.are_own,
+            self.history.as_slice(),
+            actor,
+            self.receipts_of(actor),
+        ) && self.is_fitting(roles, survey, actor)
     }
 
     /// The least actor that isn't confirmed.

@@ -60,7 +60,7 @@ impl<Rd, W, A: Allocator> Report<Rd, W, A> {
     }
 
     /// The receipts of an actor.
-    fn receipts_of(&self, actor: u32) -> &[Receipt<A>]
+    pub(crate) fn receipts_of(&self, actor: u32) -> &[Receipt<A>]
         requires { actor < actors.actors self.now }
         ensures { result.now ≡ slice_index_or (actors.receipts_of self.now) actor [] }
     {

@@ -1,36 +1,28 @@
 -- From what each body keeps and what is compared of a report to the headline.
 use Rattle.std.proofs.Common.{◌≡◌, ◌<◌, ◌+◌, ◌++◌, ℕ, Bool, true, List, length, map, get_or, reverse, take, Option, Some, None, refl, sym, ap, ◌∙◌, subst, arith}
 use Rattle.std.specs.Prelude.{Err, IfOk, IfSome, Ok, Result}
-use Rattle.std.proofs.Math.Seq.{take-length}
-use Rattle.std.proofs.lemmas.Bool.{eqb-true}
 use Rattle.std.proofs.lemmas.List.{append-nil, get_or-map, length-map}
 use Rattle.std.proofs.lemmas.Simd.{map-map}
 use Rattle.gn_rules.specs.declared.config.Config.{Config}
-use Rattle.gn_rules.specs.declared.receipt.Step.{Step}
 use Rattle.gn_rules.specs.Answer.{IsLegal}
 use Rattle.gn_shake.specs.declared.role.Role.{Role}
-use Rattle.gn_shake.specs.declared.role.Role.TheVariants.{Plain}
 use Rattle.gn_bodies.specs.declared.ends.ReaderEnd.{ReaderEnd}
 use Rattle.gn_bodies.specs.declared.ends.ReaderEnd.TheVariants.{Bytes, ReadFailed}
 use Rattle.gn_bodies.specs.declared.ends.WriterEnd.{WriterEnd}
 use Rattle.gn_bodies.specs.declared.reader.ReaderDone.{ReaderDone}
 use Rattle.gn_bodies.specs.declared.writer.WriterDone.{WriterDone}
-use Rattle.gn_links.specs.Halves.{Source, IsReadFrom, WrittenHalf, ReadHalf}
+use Rattle.gn_links.specs.Halves.{Source, WrittenHalf, ReadHalf}
 use Rattle.gn_bodies.specs.ReaderRows.{SourceRow}
-use Rattle.gn_laws.specs.Owners.{LinkAgrees, packets_of, known_conn}
-use Rattle.gn_rules.specs.Flight.{flying}
-use Rattle.gn_laws.proofs.OwnerLemmas.{links_agree}
-use Rattle.gn_laws.proofs.RunLemmas.{settled_routes_all}
+use Rattle.gn_laws.specs.Owners.{packets_of, known_conn}
 use Rattle.gn_report.specs.declared.report.LinkReport.{LinkReport}
 use Rattle.gn_report.specs.declared.report.Report.{Report}
-use Rattle.gn_report.specs.Actors.{AreOwn, actors}
+use Rattle.gn_report.specs.Actors.{actors}
 use Rattle.gn_report.specs.BodyEnds.{is_settled}
 use Rattle.gn_report.specs.Flaw.{IsFlaw}
 use Rattle.gn_report.proofs.ConnLemmas.{conn_is_known}
-use Rattle.gn_report.proofs.ConfirmedLemmas.{compared, house_at, reader_at, took_all, worker_at, writer_at}
+use Rattle.gn_report.proofs.ConfirmedLemmas.{Confirmed, reader_own}
 use Rattle.gn_bodies.specs.Done.{Half, ReadsAs, WritesAs, Ended, ReaderKeeps, IsReaderDone, WriterKeeps, IsWriterDone, reader_ended, halved, writer_ended}
-use Rattle.gn_laws.specs.Runs.{RoutesAll}
-use Rattle.gn_threads.specs.Headline.{AreMadeOf, LinkHolds, LinksReadOwn}
+use Rattle.gn_threads.specs.Headline.{AreMadeOf, LinkHolds, LinksReadOwn, ReadOwn}
 use Rattle.gn_threads.specs.Joined.{EachKeeps}
 use Rattle.gn_threads.specs.Reported.{reader_reported, writer_reported}
 use Rattle.gn_threads.proofs.JoinedLemmas.{keeps_less, some_of, known_of}
@@ -39,24 +31,6 @@ use Rattle.gn_threads.proofs.JoinedLemmas.{keeps_less, some_of, known_of}
 pub flaw_below : {Rd W A : Type 0} (settled : ℕ → Bool) (roles : List Role) (report : Report Rd W A) (flaw : Option ℕ) → IsFlaw settled roles report flaw → IfSome flaw (λ a. a < actors report)
 flaw_below settled roles report None is = tt
 flaw_below settled roles report (Some a) is = is.0
-
--- each actor's receipts are its own steps
-pub own_steps : {Rd W A : Type 0} (settled : ℕ → Bool) (roles : List Role) (report : Report Rd W A) → IsFlaw settled roles report None → AreOwn report
-own_steps settled roles report all = record {
-  reader = λ k d below. (reader_at settled roles report all k Plain d below).own;
-  writer = λ k d below. (writer_at settled roles report all k Plain d below).own;
-  worker = λ j d below. (worker_at settled roles report all j d below).own;
-  house = (house_at settled roles report all).worker.own;
-}
-
--- each admitted ticket is routed once
-pub routes_each_once : {Rd W A : Type 0} (s : Config) (roles : List Role) (report : Report Rd W A) → IsLegal s (reverse report.history.items) → IsFlaw (is_settled report.history.items) roles report None
-    → RoutesAll report.history.items
-routes_each_once {Rd} {W} {A} s roles report legal all =
-    let steps = report.history.items in
-    let house = house_at (is_settled steps) roles report all in
-    let none : length (flying (reverse (take (length steps) steps))) ≡ 0 = eqb-true (length (flying (reverse (take (length steps) steps)))) 0 house.tickets in
-    settled_routes_all A s steps legal (subst (λ (x : List (Step A)). length (flying (reverse x)) ≡ 0) (take-length steps) none)
 
 -- what the reader of a link kept, in the words of its report
 read_holds : {Rd W A : Type 0} (reads : Rd → ReadHalf) (roles : List Role) (links : List (LinkReport Rd W A)) → EachKeeps ReaderKeeps roles (map (λ l. halved reads (reader_reported l)) links)
@@ -81,37 +55,22 @@ written_holds {Rd} {W} {A} writes roles links kept k role link below =
     let keeps : WriterKeeps (get_or roles k role) (agrees it) = subst (λ body. WriterKeeps (get_or roles k role) body) there (kept k role (agrees link) (omega (arith, below, length-map links agrees))) in
     (keeps.0, keeps.1)
 
--- a link's two bodies have receipts of all that the history says of its connection
-link_agrees : {Rd W A : Type 0} (s : Config) (settled : ℕ → Bool) (roles : List Role) (report : Report Rd W A) → IsLegal s (reverse report.history.items) → IsFlaw settled roles report None
-    → (k : ℕ) (link : LinkReport Rd W A) (c : ℕ) → k < length report.links.items → (get_or report.links.items k link).conn ≡ Some c
-    → LinkAgrees report.history.items k (length report.links.items + k) c
-link_agrees {Rd} {W} {A} s settled roles report legal all k link c below is =
-    let links = report.links.items in
-    let conns : List (Option ℕ) = map (λ (l : LinkReport Rd W A). l.conn) links in
-    let many : length conns ≡ length links = length-map links (λ (l : LinkReport Rd W A). l.conn) in
-    let conn : get_or conns k None ≡ Some c = get_or-map (λ (l : LinkReport Rd W A). l.conn) links k link None below ∙ is in
-    let agrees = links_agree A s report.history.items conns k c legal (compared s settled roles report legal all) (omega (arith, many, below)) conn in
-    let at : length conns + k ≡ length links + k = omega (arith, many) in
-    subst (λ w. LinkAgrees report.history.items k w c) at agrees
-
 pub links_hold : {Rd W A : Type 0} (s : Config) (reads : Rd → ReadHalf) (writes : W → WrittenHalf) (roles : List Role) (report : Report Rd W A) → IsLegal s (reverse report.history.items)
-    → IsFlaw (is_settled report.history.items) roles report None
+    → Confirmed (is_settled report.history.items) roles report
     → EachKeeps ReaderKeeps roles (map (λ l. halved reads (reader_reported l)) report.links.items)
     → EachKeeps WriterKeeps roles (map (λ l. halved writes (writer_reported l)) report.links.items)
     → (k : ℕ) (role : Role) (link : LinkReport Rd W A) → k < length report.links.items
     → LinkHolds reads writes roles report k (get_or roles k role) (get_or report.links.items k link)
 links_hold {Rd} {W} {A} s reads writes roles report legal all readers writers k role link below =
-    let settled = is_settled report.history.items in
-    let reader = reader_at settled roles report all k role link below in
-    let writer = written_holds writes roles report.links.items writers k role link below in
+    let reader = all.reader k role link below in
+    let written = written_holds writes roles report.links.items writers k role link below in
     record {
-      read = read_holds reads roles report.links.items readers k role link below (reader.conn ∙ conn_is_known s report.history.items k (get_or report.links.items k link).reader_receipts.items legal reader.own);
+      read = read_holds reads roles report.links.items readers k role link below
+          (reader.conn ∙ conn_is_known s report.history.items k (get_or report.links.items k link).reader_receipts.items legal (reader_own report all.own k link below));
       reader = reader;
-      written = writer.0;
-      finished = writer.1;
-      writer = writer_at settled roles report all k role link below;
-      agrees = λ c is. link_agrees s settled roles report legal all k link c below is;
-      took = λ c drained is. took_all s settled roles report legal all k below link c drained is;
+      written = written.0;
+      finished = written.1;
+      writer = all.writer k role link below;
     }
 
 -- readers that keep what their threads promised keep what their bodies do
@@ -136,11 +95,6 @@ writers_keep {W} {L} {A} writes made_of links roles done are many kept =
     subst (λ (rs : List Role). EachKeeps WriterKeeps rs (map (λ d. view (ended d)) done)) are
     (subst (λ (bs : List (Ended A WriterEnd WrittenHalf)). EachKeeps WriterKeeps (map (λ (h : Half W). h.role) links) bs) (map-map view ended done) less)
 
--- what was read of a link that is to give this, where its reader ended so
-abbrev ReadOwn : Source → ReaderEnd → ReadHalf → Type 0
-ReadOwn source end half =
-    IsReadFrom source half × ((source.is_foretold ≡ true → end ≡ Bytes → half.bytes ≡ source.bytes) × (end ≡ ReadFailed → source.may_fail ≡ true))
-
 -- what one reader promised is what the headline says of its link
 read_own : {A Rd O : Type 0} (reads : Rd → ReadHalf) (made_of : Rd → O) (gives : O → Source) (link : Half Rd) (end : ReaderEnd) (body : Ended A ReaderEnd Rd) → body.end ≡ Ok end
     → IsReaderDone reads made_of gives link body → ReadOwn (gives (made_of link.half)) end (reads body.half)
@@ -154,14 +108,13 @@ read_own reads made_of gives link end body is promised =
     let none = read.ended (subst (λ e. SourceRow e half) ends reads_as.counts) in
     sym (read.whole ∙ ap (λ rest. half.bytes ++ rest) none ∙ append-nil half.bytes) in
     let failed : end ≡ ReadFailed → source.may_fail ≡ true = subst (λ r. IfOk r (λ e. e ≡ ReadFailed → source.may_fail ≡ true)) is promised.failed in
-    (promised.own, (whole, failed))
+    record { first = promised.own; whole = whole; failed = failed }
 
--- so of each link, where the report has these bodies, in order
-each_read_own : {Rd W A O : Type 0} (reads : Rd → ReadHalf) (made_of : Rd → O) (gives : O → Source) (links : List (Half Rd)) (sources : List Source) (bodies : List (Ended A ReaderEnd Rd))
+-- so of all links, where the report has these bodies, in order
+pub links_read_own : {Rd W A O : Type 0} (reads : Rd → ReadHalf) (made_of : Rd → O) (gives : O → Source) (links : List (Half Rd)) (sources : List Source) (bodies : List (Ended A ReaderEnd Rd))
     (report : Report Rd W A) → map (λ (h : Half Rd). gives (made_of h.half)) links ≡ sources → length bodies ≡ length links → map reader_reported report.links.items ≡ bodies
-    → EachKeeps (IsReaderDone reads made_of gives) links bodies → (k : ℕ) (source : Source) (link : LinkReport Rd W A) → k < length report.links.items
-    → ReadOwn (get_or sources k source) (get_or report.links.items k link).reader_end (reads (get_or report.links.items k link).reader)
-each_read_own {Rd} {W} {A} reads made_of gives links sources bodies report own many is kept k source link below =
+    → EachKeeps (IsReaderDone reads made_of gives) links bodies → LinksReadOwn reads sources report
+links_read_own {Rd} {W} {A} reads made_of gives links sources bodies report own many is kept k source link below =
     let reported : LinkReport Rd W A → Ended A ReaderEnd Rd = λ l. reader_reported l in
     let it = get_or report.links.items k link in
     let body = reported link in
@@ -172,18 +125,6 @@ each_read_own {Rd} {W} {A} reads made_of gives links sources bodies report own m
     sym (get_or-map (λ (h : Half Rd). gives (made_of h.half)) links k start source (omega (arith, low, many))) ∙ ap (λ ss. get_or ss k source) own in
     let promised : IsReaderDone reads made_of gives (get_or links k start) (reported it) = subst (λ b. IsReaderDone reads made_of gives (get_or links k start) b) there (kept k start body low) in
     subst (λ s. ReadOwn s it.reader_end (reads it.reader)) here (read_own reads made_of gives (get_or links k start) it.reader_end (reported it) refl promised)
-
--- so of all links
-pub links_read_own : {Rd W A O : Type 0} (reads : Rd → ReadHalf) (made_of : Rd → O) (gives : O → Source) (links : List (Half Rd)) (sources : List Source) (bodies : List (Ended A ReaderEnd Rd))
-    (report : Report Rd W A) → map (λ (h : Half Rd). gives (made_of h.half)) links ≡ sources → length bodies ≡ length links → map reader_reported report.links.items ≡ bodies
-    → EachKeeps (IsReaderDone reads made_of gives) links bodies → LinksReadOwn reads sources report
-links_read_own reads made_of gives links sources bodies report own many is kept =
-    let each = each_read_own reads made_of gives links sources bodies report own many is kept in
-    record {
-      first = λ k source link below. (each k source link below).0;
-      whole = λ k source link below. (each k source link below).1.0;
-      failed = λ k source link below. (each k source link below).1.1;
-    }
 
 -- the halves of a report were split from the links that those were split from with which the threads began
 pub are_made_of : {Rd W A O F : Type 0} (reads : Rd → ReadHalf) (reader_of : Rd → O) (gives : O → Source) (writes : W → WrittenHalf) (writer_of : W → O) (foreknown : O → F) (reading : List (Half Rd)) (writing : List (Half W))

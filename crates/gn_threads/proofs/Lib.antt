@@ -3,6 +3,7 @@ pub mod ActorLemmas
 pub mod JoinedLemmas
 pub mod ReceiptLemmas
 pub mod HoldsLemmas
+pub mod FollowLemmas
 mod LoopLemmas
 mod ReportedLemmas
 mod UnstartedLemmas

@@ -2,25 +2,23 @@
 --
 -- Of n links and V workers actor k below n reads link k, actor n + k writes it, actor 2n + j is worker j, and actor 2n + V
 -- is the house.
-use Rattle.std.specs.Prelude.{◌≡◌, ◌<◌, ◌+◌, ℕ, true, nat_lt, List, length, map, reverse, slice_index_or, Some, Vec}
+use Rattle.std.specs.Prelude.{◌≡◌, ◌<◌, ◌≤◌, ℕ, true, nat_lt, List, [], length, map, reverse, slice_index_or, Some}
 use Rattle.std.specs.List.{list_all, sum_by}
 use Rattle.gn_rules.specs.declared.config.Config.{Config}
-use Rattle.gn_rules.specs.declared.receipt.Receipt.{Receipt}
 use Rattle.gn_rules.specs.Answer.{IsLegal}
-use Rattle.gn_rules.specs.Output.{queued}
 use Rattle.gn_rules.specs.Statistics.{stats_of}
 use Rattle.gn_links.specs.Halves.{Source, IsReadFrom, ReadHalf, WrittenHalf}
 use Rattle.gn_shake.specs.declared.role.Role.{Role}
 use Rattle.gn_shake.specs.Greeting.{is_calling}
+use Rattle.gn_bodies.specs.declared.ends.ReaderEnd.{ReaderEnd}
 use Rattle.gn_bodies.specs.declared.ends.ReaderEnd.TheVariants.{Bytes, ReadFailed}
-use Rattle.gn_bodies.specs.declared.ends.WriterEnd.TheVariants.{Drained}
 use Rattle.gn_laws.specs.Owners.{LinkAgrees, packets_of}
 use Rattle.gn_laws.specs.Runs.{RoutesAll}
 use Rattle.gn_report.specs.declared.report.LinkReport.{LinkReport}
 use Rattle.gn_report.specs.declared.report.Report.{Report}
-use Rattle.gn_report.specs.Actors.{AreOwn, actors, receipts_of}
+use Rattle.gn_report.specs.Actors.{AreOwn, actors, first_worker, receipts_of, writer_of}
 use Rattle.gn_report.specs.BodyEnds.{is_settled}
-use Rattle.gn_report.specs.Flaw.{HouseConfirmed, ReaderConfirmed, WorkerConfirmed, WriterConfirmed}
+use Rattle.gn_report.specs.Flaw.{AreRoutes, ReaderConfirmed, TookAll, WriterConfirmed}
 use Rattle.gn_bodies.specs.Done.{ReadsAs, WritesAs}
 
 -- what holds of link k, of this role, in a run whose links have these roles
@@ -28,39 +26,30 @@ pub record LinkHolds {Rd W A : Type 0} (reads : Rd → ReadHalf) (writes : W →
     (report : Report Rd W A) (k : ℕ) (role : Role) (link : LinkReport Rd W A) : Type 0 where
   -- the table of ends holds of the reader: its events, its bytes and its half
   pub read : ReadsAs role link.reader_end link.conn link.reader_receipts.items (reads link.reader)
-  -- the history confirms the reader: its receipts, its connection, and who closed that
-  pub reader :
-      ReaderConfirmed report.history.items (list_all is_calling roles) k (length report.links.items + k) role link
+  -- the history confirms the reader: its events, its connection, and who closed that
+  pub reader : ReaderConfirmed report.history.items (list_all is_calling roles) (writer_of report k) role link
   -- the table of ends holds of the writer: what was written are the opening text and the packets that it took
   pub written : WritesAs role link.writer_end (packets_of link.writer_receipts.items) (writes link.writer)
   -- the half that is written is finished
   pub finished : (writes link.writer).is_finished ≡ true
-  -- the history confirms the writer: its receipts, and who closed its connection
-  pub writer :
-      WriterConfirmed (is_settled report.history.items) roles report.history.items (length report.links.items + k) role
-      link
-  -- reader and writer have receipts of all that the history says of the link's connection: of each descriptor that was
-  -- offered on it, and of each packet that was taken from it
-  pub agrees : (c : ℕ) → link.conn ≡ Some c → LinkAgrees report.history.items k (length report.links.items + k) c
-  -- a writer that ended Drained took all packets that were ever queued to the connection
-  pub took : (c : ℕ) → link.writer_end ≡ Drained → link.conn ≡ Some c
-      → packets_of link.writer_receipts.items ≡ queued (reverse report.history.items) c
+  -- the history confirms the writer: its events, and who closed its connection
+  pub writer : WriterConfirmed (is_settled report.history.items) roles report.history.items (writer_of report k) role link
+
+-- what was read of a link that is to give this, by a reader that ended so, is of that very link
+pub record ReadOwn (source : Source) (end : ReaderEnd) (half : ReadHalf) : Type 0 where
+  -- the first of the link's bytes, in order, and all of them where a read gave no more; where they are known beforehand
+  pub first : IsReadFrom source half
+  -- so all of them where the reader ended as Bytes
+  pub whole : source.is_foretold ≡ true → end ≡ Bytes → half.bytes ≡ source.bytes
+  -- it ended as ReadFailed only where a read of the link may fail
+  pub failed : end ≡ ReadFailed → source.may_fail ≡ true
 
 -- what each link's reader read is of that very link; `sources` are what the links' readers are to give, in the links' order
-pub record LinksReadOwn {Rd W A : Type 0} (reads : Rd → ReadHalf) (sources : List Source)
-    (report : Report Rd W A) : Type 0 where
-  -- the first of the link's bytes, in order, and all of them where a read gave no more; where they are known beforehand
-  pub first : (k : ℕ) (source : Source) (link : LinkReport Rd W A) → k < length report.links.items
-      → IsReadFrom (slice_index_or sources k source) (reads (slice_index_or report.links.items k link).reader)
-  -- so all of them where the reader ended as Bytes
-  pub whole : (k : ℕ) (source : Source) (link : LinkReport Rd W A) → k < length report.links.items
-      → (slice_index_or sources k source).is_foretold ≡ true
-      → (slice_index_or report.links.items k link).reader_end ≡ Bytes
-      → (reads (slice_index_or report.links.items k link).reader).bytes ≡ (slice_index_or sources k source).bytes
-  -- it ended as ReadFailed only where a read of the link may fail
-  pub failed : (k : ℕ) (source : Source) (link : LinkReport Rd W A) → k < length report.links.items
-      → (slice_index_or report.links.items k link).reader_end ≡ ReadFailed
-      → (slice_index_or sources k source).may_fail ≡ true
+abbrev pub LinksReadOwn : {Rd W A : Type 0} → (Rd → ReadHalf) → List Source → Report Rd W A → Type 0
+LinksReadOwn {Rd} {W} {A} reads sources report =
+    (k : ℕ) (source : Source) (link : LinkReport Rd W A) → k < length report.links.items
+    → ReadOwn (slice_index_or sources k source) (slice_index_or report.links.items k link).reader_end
+    (reads (slice_index_or report.links.items k link).reader)
 
 -- the two halves in each link's report were split from that very link, in the links' order: what a half says of its link is what
 -- the link says of itself
@@ -80,25 +69,34 @@ pub record Holds {Rd W A : Type 0} (reads : Rd → ReadHalf) (writes : W → Wri
     (workers : ℕ) (report : Report Rd W A) : Type 0 where
   -- the history is legal: each reply is the one that the rules give after the steps before it
   pub legal : IsLegal s (reverse report.history.items)
-  -- the history has as many steps as all actors have receipts
-  pub counted : sum_by (λ receipts. length receipts) (receipts_of report) ≡ length report.history.items
-  -- each actor's receipts are its own steps, each once and in order
-  pub own : AreOwn report
-  -- no step is of anybody who is no actor of the run
-  pub only : list_all (λ step. nat_lt step.actor (actors report)) report.history.items ≡ true
   -- there is a report of each link, in their order, and a list of receipts for each worker
   pub each : (length report.links.items ≡ length roles) × (length report.workers.items ≡ workers)
+  -- each actor's receipts are its own steps, each once and in order; and no step is of anybody else
+  pub own : AreOwn report × (list_all (λ step. nat_lt step.actor (actors report)) report.history.items ≡ true)
   -- each link's reader and writer did what their ends say
   pub links : (k : ℕ) (role : Role) (link : LinkReport Rd W A) → k < length report.links.items
       → LinkHolds reads writes roles report k (slice_index_or roles k role) (slice_index_or report.links.items k link)
-  -- each worker made no event but Route
-  pub worker : (j : ℕ) (d : Vec (Receipt A) A) → j < length report.workers.items
-      → WorkerConfirmed report.history.items (length report.links.items + length report.links.items + j)
-      (slice_index_or report.workers.items j d).items
-  -- nor did the house; and at the end nothing is in flight
-  pub house : HouseConfirmed (is_settled report.history.items) report.history.items
-      (length report.links.items + length report.links.items + length report.workers.items) report.house.items
-  -- each admitted ticket is routed exactly once, and each route is replied Routed or Dropped
-  pub routed : RoutesAll report.history.items
+  -- the workers and the house made no event but Route; and at the end nothing is in flight
+  pub routes : ((a : ℕ) → first_worker report ≤ a → a < actors report → AreRoutes (slice_index_or (receipts_of report) a []))
+      × (is_settled report.history.items (length report.history.items) ≡ true)
   -- the counters at the end are those of the history
   pub stats : report.stats ≡ stats_of (reverse report.history.items)
+
+-- what follows of a run of which the headline holds
+pub record Follows {Rd W A : Type 0} (report : Report Rd W A) : Type 0 where
+  -- the history has as many steps as all actors have receipts
+  pub counted : sum_by (λ receipts. length receipts) (receipts_of report) ≡ length report.history.items
+  -- each admitted ticket is routed exactly once, and each route is replied Routed or Dropped
+  pub routed : RoutesAll report.history.items
+  -- reader and writer of a link have receipts of all that the history says of its connection: of each descriptor that was
+  -- offered on it, and of each packet that was taken from it
+  pub agrees : (k c : ℕ) (link : LinkReport Rd W A) → k < length report.links.items
+      → (slice_index_or report.links.items k link).conn ≡ Some c → LinkAgrees report.history.items k (writer_of report k) c
+  -- a writer that ended Drained took all packets that were ever queued to its connection
+  pub took : (k : ℕ) → k < length report.links.items → TookAll report k
+
+-- where the headline holds, so does what follows of it
+abbrev pub RunsAddUp : Type 0 → Type 0 → Type 0 → Type 0
+RunsAddUp Rd W A =
+    (reads : Rd → ReadHalf) (writes : W → WrittenHalf) (s : Config) (roles : List Role) (workers : ℕ) (report : Report Rd W A)
+    → Holds reads writes s roles workers report → Follows report

@@ -23,5 +23,5 @@ mod unstarted;
 pub use arrivals::Arrivals;
 pub use arriving::{run_arriving, run_arriving_kept};
 pub use fault::RunFault;
-pub use runs::run;
+pub use runs::{run, runs_add_up};
 pub use stopped::Stopped;

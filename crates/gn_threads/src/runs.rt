@@ -4,7 +4,7 @@ ghost use Rattle.std.specs.Prelude.{◌≡◌, ◌≤◌, ◌↔◌, length, map
 ghost use Rattle.gn_rules.specs.Limits.{IsCrew, most_links};
 ghost use Rattle.gn_threads.specs.declared.fault.RunFault.TheVariants.{BadWorkers};
 ghost use Rattle.gn_threads.specs.Faults.{IsWholeFault};
-ghost use Rattle.gn_threads.specs.Headline.{AreMadeOf, Holds, LinksReadOwn};
+ghost use Rattle.gn_threads.specs.Headline.{AreMadeOf, Holds, LinksReadOwn, RunsAddUp};
 
 use crate::arrivals::Arrived;
 use crate::arriving::run_arriving;
@@ -68,3 +68,9 @@ where
         gate,
     )
 }
+
+/// The law of what follows where `Holds` does: as many receipts as steps, each ticket routed once, and both actors of a link have
+/// all that the history says of it.
+pub fn runs_add_up<Rd, W, A: Allocator>()
+    ensures { RunsAddUp Rd W A }
+{}

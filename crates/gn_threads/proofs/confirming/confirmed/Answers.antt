@@ -3,9 +3,9 @@ use Rattle.std.specs.Prelude.{IfSome}
 use Rattle.gn_report.specs.Actors.{actors}
 use Rattle.gn_report.specs.BodyEnds.{is_settled}
 use Rattle.gn_report.specs.Flaw.{IsFlaw}
-use Rattle.gn_report.proofs.ConfirmedLemmas.{house_at, worker_at}
+use Rattle.gn_report.proofs.ConfirmedLemmas.{confirmed, house_at}
 use Rattle.gn_threads.proofs.FaultLemmas.{least_below}
-use Rattle.gn_threads.proofs.HoldsLemmas.{flaw_below, links_hold, own_steps, routes_each_once}
+use Rattle.gn_threads.proofs.HoldsLemmas.{flaw_below, links_hold}
 use Rattle.gn_threads.proofs.confirming.confirmed.Goals as goal
 
 pub returns-in-None-clause-holds : goal.returns-in-None-clause-holds
@@ -16,16 +16,13 @@ returns-in-None-clause-holds g c =
     let none = c.least.ensures.none c.in-None.is in
     let legal = c.requires.legal none.1 in
     let settled = subst (λ found. IsFlaw (is_settled it.history.items) roles it found) none.0 c.flaw-flaw.ensures.flaw in
+    let all = confirmed (is_settled it.history.items) roles it settled in
     record {
       legal = legal;
-      counted = c.requires.counted.0;
-      own = own_steps (is_settled it.history.items) roles it settled;
-      only = (house_at (is_settled it.history.items) roles it settled).only;
       each = (sym c.requires.roles, omega (arith, it.workers.ok));
-      links = links_hold s g.Rd.LinkReader.state g.W.LinkWriter.state roles it legal settled c.requires.ends.readers c.requires.ends.writers;
-      worker = worker_at (is_settled it.history.items) roles it settled;
-      house = house_at (is_settled it.history.items) roles it settled;
-      routed = routes_each_once s roles it legal settled;
+      own = (all.own, all.only);
+      links = links_hold s g.Rd.LinkReader.state g.W.LinkWriter.state roles it legal all c.requires.ends.readers c.requires.ends.writers;
+      routes = (all.routes, (house_at (is_settled it.history.items) roles it settled).tickets);
       stats = c.requires.counted.1;
     }
 
