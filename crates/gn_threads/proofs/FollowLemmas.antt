@@ -43,7 +43,10 @@ counted_below report own zero low = refl
 counted_below {Rd} {W} {A} report own (suc a) low =
     let more : sum_by (λ (receipts : List (Receipt A)). length receipts) (take (a + 1) (receipts_of report)) ≡ sum_by (λ (receipts : List (Receipt A)). length receipts) (take a (receipts_of report)) + length (get_or (receipts_of report) a []) =
     sum_by_more (λ (receipts : List (Receipt A)). length receipts) (receipts_of report) a [] (omega (arith, low, as_many_as_actors report)) in
-    omega (arith, more, counted_below report own a (omega (arith, low)), ap (λ (receipts : List (Receipt A)). length receipts) (own a (omega (arith, low))))
+    let one : suc a ≡ a + 1 = omega arith in
+    let next : sum_by (λ (receipts : List (Receipt A)). length receipts) (take (suc a) (receipts_of report)) ≡ sum_by (λ (receipts : List (Receipt A)). length receipts) (take (a + 1) (receipts_of report)) =
+    ap (λ (n : ℕ). sum_by (λ (receipts : List (Receipt A)). length receipts) (take n (receipts_of report))) one in
+    omega (arith, next, more, counted_below report own a (omega (arith, low)), ap (λ (receipts : List (Receipt A)). length receipts) (own a (omega (arith, low))))
 
 -- all receipts are as many as the steps
 adds_up : {Rd W A : Type 0} (settled : ℕ → Bool) (roles : List Role) (report : Report Rd W A) → Confirmed settled roles report
