@@ -57,6 +57,7 @@ pub mod laws {
         answers_came_back, answers_cross_back, answers_follow, answers_go_back, floods_end,
         life_falls, not_sent_again, nothing_from_nowhere, pushes_go_back, requests_spread,
     };
+    pub use gn_threads::runs_add_up;
 }
 
 /// The router with tables, with what becomes of its steps; the one that searches its history; and whether a history is legal.
