@@ -16,6 +16,7 @@ use Rattle.gn_report.specs.declared.report.Report.{Report}
 use Rattle.gn_report.specs.Actors.{writer_of}
 use Rattle.gn_report.proofs.ConfirmedLemmas.{reader_own, writer_own}
 use Rattle.gn_threads.specs.Headline.{Holds, LinkHolds}
+use Rattle.gn_threads.proofs.EndLemmas.{link_read, link_written}
 use Rattle.gn_threads.proofs.FollowLemmas.{runs_add_up}
 use Rattle.gn_bodies.specs.Events.{link_events_in}
 use Rattle.gn_bodies.specs.ReaderRows.{ReaderRow}
@@ -50,7 +51,7 @@ gives_text reads writes roles report role link c at conn knows =
     let packets : packets_of link.writer_receipts.items ≡ taken (reverse report.history.items) c =
     ap packets_of at.writes_own ∙ (at.agrees c conn).takes in
     subst (λ ps. Begins (writes link.writer).bytes (all_text role ps)) packets
-    (written_begins link.writer_end role (packets_of link.writer_receipts.items) (writes link.writer).bytes (at.holds.written.row knows))
+    (written_begins link.writer_end role (packets_of link.writer_receipts.items) (writes link.writer).bytes ((link_written reads writes roles report at.k role link at.holds).0 knows))
 
 -- a beginning of a beginning
 begins_further : (read written text rest : List ℕ) → written ≡ read ++ rest → Begins written text → Begins read text
@@ -69,7 +70,7 @@ socket_carries {Rd} {W} {A} reads writes s t roles others workers crew first sec
     let receipts = leads.taker.reader_receipts.items in
     let text = gives_text reads writes roles first leads.role leads.giver c from leads.gives.connected leads.delivered.wrote in
     let begins = begins_further (reads leads.taker.reader).bytes (writes leads.giver.writer).bytes (all_text leads.role packets) leads.delivered.rest leads.delivered.begins text in
-    let row = subst (λ o. ReaderRow leads.other leads.taker.reader_end o (link_events_in receipts) (reads leads.taker.reader).bytes) leads.takes.connected (to.holds.read.row leads.delivered.knows) in
+    let row = subst (λ o. ReaderRow leads.other leads.taker.reader_end o (link_events_in receipts) (reads leads.taker.reader).bytes) leads.takes.connected ((link_read reads writes others second to.k leads.other leads.taker to.holds).0 leads.delivered.knows) in
     let offers = read_offers leads.role leads.other leads.taker.reader_end d (link_events_in receipts) packets (reads leads.taker.reader).bytes leads.valid leads.greets begins row in
     let agrees = to.agrees d leads.takes.connected in
     let all : offers_on d second.history.items ≡ map (offer d) offers.offered =

@@ -33,7 +33,7 @@ pub record WriterConfirmed {Rd W A : Type 0} (settled : ℕ → Bool) (roles : L
   -- its end is right by its connection and by who closed that
   pub end : is_writer_end settled roles steps a role link.writer_receipts.items link.writer_end link.conn ≡ true
 
--- the events of receipts are Route
+-- all events of these receipts are Route
 abbrev pub AreRoutes : {A : Type 0} → List (Receipt A) → Type 0
 AreRoutes receipts = list_all (λ r. is_some (ticket_of r.event)) receipts ≡ true
 

@@ -24,6 +24,7 @@ use Rattle.gn_report.specs.BodyEnds.{is_settled}
 use Rattle.gn_report.proofs.ConfirmedLemmas.{Confirmed, compared, took_all}
 use Rattle.gn_report.proofs.ReceiptLemmas.{as_many_as_actors}
 use Rattle.gn_threads.specs.Headline.{Follows, Holds, RunsAddUp}
+use Rattle.gn_threads.proofs.EndLemmas.{link_read, link_written}
 
 -- what the headline says of the actors
 pub confirmed_of : {Rd W A : Type 0} (reads : Rd → ReadHalf) (writes : W → WrittenHalf) (s : Config) (roles : List Role) (workers : ℕ) (report : Report Rd W A)
@@ -31,8 +32,12 @@ pub confirmed_of : {Rd W A : Type 0} (reads : Rd → ReadHalf) (writes : W → W
 confirmed_of reads writes s roles workers report holds = record {
   own = holds.own.0;
   only = holds.own.1;
-  reader = λ k role link below. (holds.links k role link below).reader;
-  writer = λ k role link below. (holds.links k role link below).writer;
+  reader = λ k role link below.
+      let at = holds.links k role link below in
+      record { conn = at.conn; events = at.reader.0; once = at.reader.1; end = (link_read reads writes roles report k (get_or roles k role) (get_or report.links.items k link) at).1 };
+  writer = λ k role link below.
+      let at = holds.links k role link below in
+      record { events = at.writer; end = (link_written reads writes roles report k (get_or roles k role) (get_or report.links.items k link) at).1 };
   routes = holds.routes.0;
 }
 

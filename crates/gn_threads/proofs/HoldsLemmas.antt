@@ -1,11 +1,13 @@
 -- From what each body keeps and what is compared of a report to the headline.
 use Rattle.std.proofs.Common.{◌≡◌, ◌<◌, ◌+◌, ◌++◌, ℕ, Bool, true, List, length, map, get_or, reverse, take, Option, Some, None, refl, sym, ap, ◌∙◌, subst, arith}
+use Rattle.std.specs.List.{list_all}
 use Rattle.std.specs.Prelude.{Err, IfOk, IfSome, Ok, Result}
 use Rattle.std.proofs.lemmas.List.{append-nil, get_or-map, length-map}
 use Rattle.std.proofs.lemmas.Simd.{map-map}
 use Rattle.gn_rules.specs.declared.config.Config.{Config}
 use Rattle.gn_rules.specs.Answer.{IsLegal}
 use Rattle.gn_shake.specs.declared.role.Role.{Role}
+use Rattle.gn_shake.specs.Greeting.{is_calling}
 use Rattle.gn_bodies.specs.declared.ends.ReaderEnd.{ReaderEnd}
 use Rattle.gn_bodies.specs.declared.ends.ReaderEnd.TheVariants.{Bytes, ReadFailed}
 use Rattle.gn_bodies.specs.declared.ends.WriterEnd.{WriterEnd}
@@ -16,8 +18,8 @@ use Rattle.gn_bodies.specs.ReaderRows.{SourceRow}
 use Rattle.gn_laws.specs.Owners.{packets_of, known_conn}
 use Rattle.gn_report.specs.declared.report.LinkReport.{LinkReport}
 use Rattle.gn_report.specs.declared.report.Report.{Report}
-use Rattle.gn_report.specs.Actors.{actors}
-use Rattle.gn_report.specs.BodyEnds.{is_settled}
+use Rattle.gn_report.specs.Actors.{actors, writer_of}
+use Rattle.gn_report.specs.BodyEnds.{is_settled, may_close_first}
 use Rattle.gn_report.specs.Flaw.{IsFlaw}
 use Rattle.gn_report.proofs.ConnLemmas.{conn_is_known}
 use Rattle.gn_report.proofs.ConfirmedLemmas.{Confirmed, reader_own}
@@ -25,6 +27,7 @@ use Rattle.gn_bodies.specs.Done.{Half, ReadsAs, WritesAs, Ended, ReaderKeeps, Is
 use Rattle.gn_threads.specs.Headline.{AreMadeOf, LinkHolds, LinksReadOwn, ReadOwn}
 use Rattle.gn_threads.specs.Joined.{EachKeeps}
 use Rattle.gn_threads.specs.Reported.{reader_reported, writer_reported}
+use Rattle.gn_threads.proofs.EndLemmas.{reader_row, writer_row}
 use Rattle.gn_threads.proofs.JoinedLemmas.{keeps_less, some_of, known_of}
 
 -- the actor of a flaw is one of the run's
@@ -62,15 +65,22 @@ pub links_hold : {Rd W A : Type 0} (s : Config) (reads : Rd → ReadHalf) (write
     → (k : ℕ) (role : Role) (link : LinkReport Rd W A) → k < length report.links.items
     → LinkHolds reads writes roles report k (get_or roles k role) (get_or report.links.items k link)
 links_hold {Rd} {W} {A} s reads writes roles report legal all readers writers k role link below =
+    let steps = report.history.items in
+    let it = get_or report.links.items k link in
+    let at = get_or roles k role in
     let reader = all.reader k role link below in
+    let writer = all.writer k role link below in
     let written = written_holds writes roles report.links.items writers k role link below in
+    let conn : it.conn ≡ known_conn it.reader_receipts.items =
+    reader.conn ∙ conn_is_known s steps k it.reader_receipts.items legal (reader_own report all.own k link below) in
     record {
-      read = read_holds reads roles report.links.items readers k role link below
-          (reader.conn ∙ conn_is_known s report.history.items k (get_or report.links.items k link).reader_receipts.items legal (reader_own report all.own k link below));
-      reader = reader;
-      written = written.0;
+      conn = reader.conn;
+      reader = (reader.events, reader.once);
+      read = reader_row steps (writer_of report k) (may_close_first (list_all is_calling roles) at it.writer_end) at it.reader_receipts.items (reads it.reader) it.reader_end it.conn
+          reader.conn (read_holds reads roles report.links.items readers k role link below conn) reader.end;
+      writer = writer.events;
+      written = writer_row steps roles (writer_of report k) at it.writer_receipts.items (writes it.writer) it.writer_end it.conn written.0 writer.end;
       finished = written.1;
-      writer = all.writer k role link below;
     }
 
 -- readers that keep what their threads promised keep what their bodies do

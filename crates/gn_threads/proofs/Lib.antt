@@ -2,6 +2,7 @@ pub mod FaultLemmas
 pub mod ActorLemmas
 pub mod JoinedLemmas
 pub mod ReceiptLemmas
+pub mod EndLemmas
 pub mod HoldsLemmas
 pub mod FollowLemmas
 mod LoopLemmas

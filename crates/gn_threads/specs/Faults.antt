@@ -8,8 +8,8 @@ use Rattle.gn_bodies.specs.declared.ends.BodyFault.TheVariants as body
 use Rattle.gn_threads.specs.declared.fault.RunFault.{RunFault}
 use Rattle.gn_threads.specs.declared.fault.RunFault.TheVariants.{BadWorkers, Listen, Call, Link, HistoryFull, NoMemory, Stage, Audit}
 
--- what a fault may be in a run over so many links that are all there and are split, with so many workers, 1 to 64: it isn't BadWorkers,
--- Listen, Call or Link, and the actor that an Audit names is one of the run's
+-- the faults of a run over so many links, all there and split, with so many workers: each but BadWorkers, Listen, Call and Link. An
+-- Audit names an actor of the run
 abbrev pub IsFaultOf : ℕ → ℕ → RunFault → Type 0
 IsFaultOf links workers BadWorkers = ⊥
 IsFaultOf links workers Listen = ⊥
@@ -20,16 +20,15 @@ IsFaultOf links workers NoMemory = ⊤
 IsFaultOf links workers (Stage fault) = ⊤
 IsFaultOf links workers (Audit a) = a < links + links + workers + 1
 
--- what it may be where the links come one after another, and peers are called and accepted, or not: where they are, a link that
--- couldn't be accepted, too, or a peer that couldn't be called, or what couldn't be split, a link of the run
+-- the faults of a run whose links come one after another: where peers are called and accepted, also Listen; Call, of a peer; and Link,
+-- of a link that couldn't be split
 abbrev pub IsArrivingFault : Bool → ℕ → ℕ → RunFault → Type 0
 IsArrivingFault has_peers links workers Listen = has_peers ≡ true
 IsArrivingFault has_peers links workers (Call k) = (has_peers ≡ true) × (k < links)
 IsArrivingFault has_peers links workers (Link k) = (has_peers ≡ true) × (k < links)
 IsArrivingFault has_peers links workers fault = IsFaultOf links workers fault
 
--- what it may be where the links are all there and not split yet, and it is known of each, in order, whether its split may fail: also
--- Link, of one whose split may fail
+-- the faults of a run whose links are all there and not split yet: also Link, of a link whose split may fail
 abbrev pub IsWholeFault : List Bool → ℕ → RunFault → Type 0
 IsWholeFault may_not_split workers (Link k) = slice_get may_not_split k ≡ Some true
 IsWholeFault may_not_split workers fault = IsFaultOf (length may_not_split) workers fault

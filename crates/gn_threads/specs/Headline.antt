@@ -2,49 +2,56 @@
 --
 -- Of n links and V workers actor k below n reads link k, actor n + k writes it, actor 2n + j is worker j, and actor 2n + V
 -- is the house.
-use Rattle.std.specs.Prelude.{◌≡◌, ◌<◌, ◌≤◌, ℕ, true, nat_lt, List, [], length, map, reverse, slice_index_or, Some}
-use Rattle.std.specs.List.{list_all, sum_by}
+use Rattle.std.specs.Prelude.{◌≡◌, ◌<◌, ◌≤◌, ℕ, true, nat_lt, if◌then◌else◌, List, [], length, map, reverse, slice_index_or, Some, None}
+use Rattle.std.specs.List.{count_by, filter_map, list_all, slice_get, sum_by}
 use Rattle.gn_rules.specs.declared.config.Config.{Config}
 use Rattle.gn_rules.specs.Answer.{IsLegal}
+use Rattle.gn_rules.specs.History.{connected_of}
 use Rattle.gn_rules.specs.Statistics.{stats_of}
 use Rattle.gn_links.specs.Halves.{Source, IsReadFrom, ReadHalf, WrittenHalf}
 use Rattle.gn_shake.specs.declared.role.Role.{Role}
 use Rattle.gn_shake.specs.Greeting.{is_calling}
 use Rattle.gn_bodies.specs.declared.ends.ReaderEnd.{ReaderEnd}
 use Rattle.gn_bodies.specs.declared.ends.ReaderEnd.TheVariants.{Bytes, ReadFailed}
-use Rattle.gn_laws.specs.Owners.{LinkAgrees, packets_of}
+use Rattle.gn_laws.specs.Owners.{LinkAgrees, is_readers, is_writers}
 use Rattle.gn_laws.specs.Runs.{RoutesAll}
 use Rattle.gn_report.specs.declared.report.LinkReport.{LinkReport}
 use Rattle.gn_report.specs.declared.report.Report.{Report}
 use Rattle.gn_report.specs.Actors.{AreOwn, actors, first_worker, receipts_of, writer_of}
-use Rattle.gn_report.specs.BodyEnds.{is_settled}
-use Rattle.gn_report.specs.Flaw.{AreRoutes, ReaderConfirmed, TookAll, WriterConfirmed}
-use Rattle.gn_bodies.specs.Done.{ReadsAs, WritesAs}
+use Rattle.gn_report.specs.BodyEnds.{is_connect, is_settled, may_close_first}
+use Rattle.gn_report.specs.Flaw.{AreRoutes, TookAll}
+use Rattle.gn_threads.specs.Ends.{ReaderEnds, WriterEnds}
 
 -- what holds of link k, of this role, in a run whose links have these roles
 pub record LinkHolds {Rd W A : Type 0} (reads : Rd → ReadHalf) (writes : W → WrittenHalf) (roles : List Role)
     (report : Report Rd W A) (k : ℕ) (role : Role) (link : LinkReport Rd W A) : Type 0 where
-  -- the table of ends holds of the reader: its events, its bytes and its half
-  pub read : ReadsAs role link.reader_end link.conn link.reader_receipts.items (reads link.reader)
-  -- the history confirms the reader: its events, its connection, and who closed that
-  pub reader : ReaderConfirmed report.history.items (list_all is_calling roles) (writer_of report k) role link
-  -- the table of ends holds of the writer: what was written are the opening text and the packets that it took
-  pub written : WritesAs role link.writer_end (packets_of link.writer_receipts.items) (writes link.writer)
+  -- the link's connection is that of its reader's first Connect that was replied Connected
+  pub conn : link.conn
+      ≡ slice_get (filter_map (λ r. if is_connect r.event then connected_of r.reply else None) link.reader_receipts.items) 0
+  -- the reader's events are Connect, at most once, Admit and Close of the connection, and Route
+  pub reader : (list_all (λ r. is_readers link.conn r.event) link.reader_receipts.items ≡ true)
+      × (count_by (λ r. is_connect r.event) link.reader_receipts.items ≤ 1)
+  -- the reader is as the table of ends says
+  pub read : ReaderEnds report.history.items (writer_of report k) (may_close_first (list_all is_calling roles) role link.writer_end)
+      role link.reader_receipts.items (reads link.reader) link.reader_end link.conn
+  -- the writer's events are Take and Close of the connection
+  pub writer : list_all (λ r. is_writers link.conn r.event) link.writer_receipts.items ≡ true
+  -- the writer is as the table of ends says
+  pub written : WriterEnds report.history.items roles (writer_of report k) role link.writer_receipts.items (writes link.writer)
+      link.writer_end link.conn
   -- the half that is written is finished
   pub finished : (writes link.writer).is_finished ≡ true
-  -- the history confirms the writer: its events, and who closed its connection
-  pub writer : WriterConfirmed (is_settled report.history.items) roles report.history.items (writer_of report k) role link
 
--- what was read of a link that is to give this, by a reader that ended so, is of that very link
+-- what a reader that ended so has read is of its own link; `source` is what that link is to give
 pub record ReadOwn (source : Source) (end : ReaderEnd) (half : ReadHalf) : Type 0 where
-  -- the first of the link's bytes, in order, and all of them where a read gave no more; where they are known beforehand
+  -- where the link's bytes are known beforehand: the first of them, in order, and all of them where a read gave no more
   pub first : IsReadFrom source half
-  -- so all of them where the reader ended as Bytes
+  -- then all of them where the reader ended as Bytes
   pub whole : source.is_foretold ≡ true → end ≡ Bytes → half.bytes ≡ source.bytes
   -- it ended as ReadFailed only where a read of the link may fail
   pub failed : end ≡ ReadFailed → source.may_fail ≡ true
 
--- what each link's reader read is of that very link; `sources` are what the links' readers are to give, in the links' order
+-- what each link's reader read is of that very link; `sources` has what each link is to give, in the links' order
 abbrev pub LinksReadOwn : {Rd W A : Type 0} → (Rd → ReadHalf) → List Source → Report Rd W A → Type 0
 LinksReadOwn {Rd} {W} {A} reads sources report =
     (k : ℕ) (source : Source) (link : LinkReport Rd W A) → k < length report.links.items
@@ -64,7 +71,7 @@ abbrev pub AreOfOne : {Rd W A O : Type 0} → (Rd → O) → (W → O) → Repor
 AreOfOne reader_of writer_of report =
     map (λ link. writer_of link.writer) report.links.items ≡ map (λ link. reader_of link.reader) report.links.items
 
--- what an answered run says: of a run of this configuration with so many workers over links of these roles
+-- what holds of the report of a run with this configuration, over links of these roles, with so many workers
 pub record Holds {Rd W A : Type 0} (reads : Rd → ReadHalf) (writes : W → WrittenHalf) (s : Config) (roles : List Role)
     (workers : ℕ) (report : Report Rd W A) : Type 0 where
   -- the history is legal: each reply is the one that the rules give after the steps before it

@@ -1,6 +1,7 @@
 -- What is promised: contracts of public functions rest on it.
 pub mod Faults
 pub mod Headline
+pub mod Ends
 -- Words of the proofs.
 pub mod Joined
 pub mod Actors

@@ -1,0 +1,118 @@
+-- The tables of ends: what each end of a link's reader and of its writer says, in one row.
+--
+-- Here `steps` is the history, in order, and `own` are the receipts of the reader or the writer.
+use Rattle.std.specs.Prelude.{◌≡◌, ◌<◌, ◌⊎◌, ◌==◌, ◌&&◌, ◌||◌, ℕ, Bool, true, not, if◌then◌else◌, List, [], ◌∷◌, ◌++◌, drop, length, map, take, Option, Some, None, ⊤}
+use Rattle.std.specs.List.{concat, list_all, list_any}
+use Rattle.gn_wire.specs.Encoding.{bytes_of}
+use Rattle.gn_wire.specs.Packet.{Packet}
+use Rattle.gn_rules.specs.declared.event.Event.{Event}
+use Rattle.gn_rules.specs.declared.event.Event.TheVariants.{Admit, Connect}
+use Rattle.gn_rules.specs.declared.receipt.Receipt.{Receipt}
+use Rattle.gn_rules.specs.declared.receipt.Step.{Step}
+use Rattle.gn_rules.specs.History.{closed_of, is_at, is_close}
+use Rattle.gn_frames.specs.Frames.{Frames, frames_of}
+use Rattle.gn_shake.specs.declared.role.Role.{Role}
+use Rattle.gn_shake.specs.declared.shake.ShakeState.{ShakeState}
+use Rattle.gn_shake.specs.declared.shake.ShakeState.TheVariants.{More, Done, Refused}
+use Rattle.gn_shake.specs.Greeting.{greeting_of, greeting_state, is_calling, request_text}
+use Rattle.gn_links.specs.Halves.{ReadHalf, WrittenHalf}
+use Rattle.gn_laws.specs.Owners.{packets_of}
+use Rattle.gn_bodies.specs.declared.ends.ReaderEnd.{ReaderEnd}
+use Rattle.gn_bodies.specs.declared.ends.ReaderEnd.TheVariants.{Bytes, Fault, ReadFailed, Turns, GreetingRefused, GreetingCut, TooMany, NotLive}
+use Rattle.gn_bodies.specs.declared.ends.WriterEnd.{WriterEnd}
+use Rattle.gn_bodies.specs.declared.ends.WriterEnd.TheVariants.{Drained, WriteFailed, Closed, NeverOpened}
+use Rattle.gn_bodies.specs.Events.{link_events_in}
+use Rattle.gn_bodies.specs.ReaderRows.{WithClose}
+use Rattle.gn_bodies.specs.Written.{opening_texts}
+use Rattle.gn_report.specs.Actors.{is_awaited}
+use Rattle.gn_report.specs.BodyEnds.{is_settled, is_turned_away}
+
+-- somebody closed the connection c
+abbrev pub IsClosed : {A : Type 0} → List (Step A) → ℕ → Type 0
+IsClosed steps c = list_any (λ step. is_close c step.event) steps ≡ true
+
+-- where the bytes that were read are known: how they stand with the greeting that the link awaits, and what holds of the descriptors
+-- that follow it
+abbrev pub IsGreeted : ReadHalf → Role → ShakeState → (Frames → Type 0) → Type 0
+IsGreeted half role state says =
+    half.is_known ≡ true
+    → (greeting_state (greeting_of role) half.bytes ≡ state) × says (frames_of (drop (length (greeting_of role)) half.bytes))
+
+-- the events of a reader that connected as c and admitted these descriptors, in order
+abbrev pub admitting : {A : Type 0} → ℕ → List Packet → List (Event A)
+admitting c descriptors = Connect ∷ map (Admit c) descriptors
+
+-- the table of ends for a reader: its half, its events except the routes, and who closed its connection. `first` says whether its
+-- link's writer may have closed that first
+abbrev pub ReaderEnds : {A : Type 0} → List (Step A) → ℕ → Bool → Role → List (Receipt A) → ReadHalf → ReaderEnd → Option ℕ → Type 0
+-- a read gave no more, and the bytes have no fault; it connected, admitted each descriptor, in order, and closed nothing
+ReaderEnds steps writer first role own half Bytes (Some c) =
+    (half.has_ended ≡ true) × (not (list_any (λ r. is_close c r.event) own) ≡ true)
+    × IsGreeted half role Done (λ frames. (frames.fault ≡ None) × (link_events_in own ≡ admitting c frames.descriptors))
+-- the bytes end with the fault f; it admitted each descriptor before that, and it or another closed the connection
+ReaderEnds steps writer first role own half (Fault f) (Some c) =
+    IsClosed steps c
+    × IsGreeted half role Done
+    (λ frames. (frames.fault ≡ Some f) × WithClose c (link_events_in own) (admitting c frames.descriptors))
+-- a read failed; it admitted each descriptor that was whole, and it or another closed the connection
+ReaderEnds steps writer first role own half ReadFailed (Some c) =
+    (0 < half.failures) × IsClosed steps c
+    × IsGreeted half role Done (λ frames. WithClose c (link_events_in own) (admitting c frames.descriptors))
+-- a read failed within the greeting; it made no event
+ReaderEnds steps writer first role own half ReadFailed None =
+    (0 < half.failures) × IsGreeted half role More (λ frames. link_events_in own ≡ [])
+-- 1,000,000 reads gave bytes; all else, also within the greeting, as where a read failed
+ReaderEnds steps writer first role own half Turns (Some c) =
+    (half.pieces ≡ 1000000) × IsClosed steps c
+    × IsGreeted half role Done (λ frames. WithClose c (link_events_in own) (admitting c frames.descriptors))
+ReaderEnds steps writer first role own half Turns None =
+    (half.pieces ≡ 1000000) × IsGreeted half role More (λ frames. link_events_in own ≡ [])
+-- the writer closed first; it admitted the first n descriptors, and not the next
+ReaderEnds steps writer first role own half NotLive (Some c) =
+    ((first && list_any (λ step. (step.actor == writer) && is_close c step.event) steps) ≡ true)
+    × IsGreeted half role Done
+    (λ frames. (n : ℕ) × (n < length frames.descriptors) × (link_events_in own ≡ admitting c (take n frames.descriptors)))
+-- the bytes differ from the greeting; it made no event
+ReaderEnds steps writer first role own half GreetingRefused None = (own ≡ []) × IsGreeted half role Refused (λ frames. ⊤)
+-- a read gave no more within the greeting; it made no event
+ReaderEnds steps writer first role own half GreetingCut None =
+    (half.has_ended ≡ true) × (own ≡ []) × IsGreeted half role More (λ frames. ⊤)
+-- the greeting is whole; its one event was a Connect that was replied TooMany
+ReaderEnds steps writer first role own half TooMany None =
+    (((length own == 1) && list_all (λ r. is_turned_away r.event r.reply) own) ≡ true) × IsGreeted half role Done (λ frames. ⊤)
+ReaderEnds steps writer first role own half end conn = ⊥
+
+-- what a writer had to write: the opening text, and the packets that it took
+abbrev pub texts_of : {A : Type 0} → Role → List (Receipt A) → List (List ℕ)
+texts_of role own = opening_texts role ++ map bytes_of (packets_of own)
+
+-- what was written, where that is known, are all texts but the last, and the first bytes of the last; and a write failed, or took nothing
+pub record IsHurt (half : WrittenHalf) (texts : List (List ℕ)) : Type 0 where
+  pub part : half.is_known ≡ true
+      → (done : List (List ℕ)) × (last : List ℕ) × (n : ℕ) × (texts ≡ done ++ last ∷ []) × (half.bytes ≡ concat done ++ take n last)
+  pub hurt : (0 < half.failures) ⊎ (half.is_stuck ≡ true)
+
+-- the table of ends for a writer: what was written, where that is known, its events, and who closed its connection
+abbrev pub WriterEnds : {A : Type 0} → List (Step A) → List Role → ℕ → Role → List (Receipt A) → WrittenHalf → WriterEnd → Option ℕ → Type 0
+-- all was written; it closed its connection, for which no packet waited, when nothing was in flight, and after every step of the
+-- readers that the run waits for
+WriterEnds steps roles writer role own half Drained (Some c) =
+    (half.is_known ≡ true → half.bytes ≡ concat (texts_of role own))
+    × (list_any
+    (λ r. is_close c r.event && is_at 0 (closed_of r.reply) && is_settled steps r.index
+    && list_all (λ step. not (is_awaited roles step.actor)) (drop r.index steps))
+    own ≡ true)
+-- all was written; another actor closed its connection
+WriterEnds steps roles writer role own half Closed (Some c) =
+    (half.is_known ≡ true → half.bytes ≡ concat (texts_of role own))
+    × (list_any (λ step. not (step.actor == writer) && is_close c step.event) steps ≡ true)
+-- a write failed: in the request of a link that calls, and it made no event; or somebody closed its connection
+WriterEnds steps roles writer role own half WriteFailed (Some c) =
+    IsHurt half (texts_of role own)
+    × (((is_calling role && (length own == 0)) || list_any (λ step. is_close c step.event) steps) ≡ true)
+WriterEnds steps roles writer role own half WriteFailed None =
+    IsHurt half (texts_of role own) × ((is_calling role && (length own == 0)) ≡ true)
+-- the link never connected: nothing was written but the request where it calls
+WriterEnds steps roles writer role own half NeverOpened None =
+    half.is_known ≡ true → half.bytes ≡ (if is_calling role then request_text else [])
+WriterEnds steps roles writer role own half end conn = ⊥
