@@ -51,15 +51,14 @@ pub record ReadOwn (source : Source) (end : ReaderEnd) (half : ReadHalf) : Type 
   -- it ended as ReadFailed only where a read of the link may fail
   pub failed : end ≡ ReadFailed → source.may_fail ≡ true
 
--- what each link's reader read is of that very link; `sources` has what each link is to give, in the links' order
+-- what each link's reader read is of that very link; `sources` says what each link is to give, in order
 abbrev pub LinksReadOwn : {Rd W A : Type 0} → (Rd → ReadHalf) → List Source → Report Rd W A → Type 0
 LinksReadOwn {Rd} {W} {A} reads sources report =
     (k : ℕ) (source : Source) (link : LinkReport Rd W A) → k < length report.links.items
     → ReadOwn (slice_index_or sources k source) (slice_index_or report.links.items k link).reader_end
     (reads (slice_index_or report.links.items k link).reader)
 
--- the two halves in each link's report were split from that very link, in the links' order: what a half says of its link is what
--- the link says of itself
+-- both halves in each link's report say of their link what that link says of itself, in the links' order
 pub record AreMadeOf {Rd W A O : Type 0} (reader_of : Rd → O) (writer_of : W → O) (origins : List O)
     (report : Report Rd W A) : Type 0 where
   pub readers : map (λ (link : LinkReport Rd W A). reader_of link.reader) report.links.items ≡ origins
