@@ -7,9 +7,10 @@ use bytes::Bytes;
 use gn_fixtures::{Call, Heap, ping};
 use gn_payload::{Checked, Verdict};
 use gn_rules::{Counter, Historian, Legality, Reply, Sending, Sends, Step, is_same_reply};
-use gn_search::{PlainRouter, legal};
+use gn_search::PlainRouter;
 use gn_tables::{Neighbours, TableRouter};
 use gn_wire::{Descriptor, Guid, Kind};
+use gn_witness::legal;
 use std::alloc::Allocator;
 use std::test::Fail;
 

@@ -3,7 +3,6 @@ pub mod CounterLemmas
 pub mod FlightLemmas
 pub mod KeptLemmas
 pub mod LegalLemmas
-pub mod LegalityLemmas
 pub mod LiveLemmas
 pub mod OutputLemmas
 pub mod PlaceLemmas

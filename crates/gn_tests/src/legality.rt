@@ -3,7 +3,8 @@
 use crate::calls::{admits, is_made};
 use gn_fixtures::OWN;
 use gn_rules::{Config, Event, FreshRouter, Historian, Legality, Own, RouterCore, Step};
-use gn_search::{PlainRouter, legal};
+use gn_search::PlainRouter;
+use gn_witness::legal;
 use std::alloc::Allocator;
 use std::test::Fail;
 

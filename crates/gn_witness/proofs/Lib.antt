@@ -1,4 +1,5 @@
 pub mod HitLemmas
+pub mod LegalityLemmas
 pub mod LinkLemmas
 pub mod MomentLemmas
 pub mod PacketLemmas

@@ -1,5 +1,5 @@
-//! Histories as witnesses of the laws of paths: what the laws suppose is found of them at run time, and the contracts say what
-//! the laws then say.
+//! What laws suppose, found of histories at run time: that one is legal, and what the laws of paths suppose further. The contracts
+//! say what these laws then say.
 #![tactic(auto)]
 
 mod floods;
@@ -11,6 +11,7 @@ mod pair;
 mod route;
 
 pub use floods::ends;
+pub use legality::legal;
 pub use links::carries;
 pub use moments::carries_in_time;
 pub use packets::{sent_again, was_queued};

@@ -63,8 +63,9 @@ pub mod laws {
 /// The router with tables, with what becomes of its steps; the one that searches its history; and whether a history is legal.
 pub mod router {
     pub use gn_router::{Places, Router, Store, Unfreed};
-    pub use gn_search::{PlainRouter, legal};
+    pub use gn_search::PlainRouter;
     pub use gn_tables::{Forgetful, Keeper, TableRouter, Whole};
+    pub use gn_witness::legal;
 }
 
 /// The tables of a router.
