@@ -20,6 +20,9 @@ fn mark_in(text: &[u8], mark: u8) -> Option<usize>
             return Some(i);
         }
     }
+    if text.len() <= NEAR {
+        return None;
+    }
     memchr(mark, text)
 }
 

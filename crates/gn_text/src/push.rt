@@ -46,7 +46,7 @@ fn digit(number: u8) -> u8
     requires { number < 16 }
     ensures { result ≡ slice_index lower_digits number }
 {
-    number + if number < 10 { b'0' } else { b'a' - 10 }
+    number + b'0' + if number < 10 { 0 } else { b'a' - 10 - b'0' }
 }
 
 /// Puts the hex digits of bytes, two for each, in place of what stands there.
