@@ -19,7 +19,7 @@ use std::marker::Model;
 #[derive(Drop)]
 struct Maker<A: Allocator> {
     alloc: A,
-    sends: Sends<A>,
+    sends: Vec<Sending<A>, A>,
 }
 
 impl<A: Allocator> Model for Maker<A> {
@@ -28,7 +28,7 @@ impl<A: Allocator> Model for Maker<A> {
 
     ghost Value = { List (Sending A) };
 
-    ghost view = { λ m. m.sends };
+    ghost view = { λ m. m.sends.items };
 }
 
 impl<A: Allocator + Copy> Outbox<A> for Maker<A> {
@@ -38,7 +38,8 @@ impl<A: Allocator + Copy> Outbox<A> for Maker<A> {
 
     fn send(&mut self, to: ConnId, packet: &Made<'_, A>, queued: bool) -> Result<(), AllocError> {
         let packet = packet.make(self.alloc)?;
-        self.sends.push(Sending { to, packet, queued })
+        self.sends.push(Sending { to, packet, queued })?;
+        Ok(())
     }
 }
 
@@ -67,12 +68,9 @@ fn sends_of<A: Allocator + Copy, L: Lookup<A>>(
         ≡ outgoing_sends (L.settings past.now) (reverse (L.steps past.now)) outgoing.now) }
 {
     let room = Vec::with_capacity(alloc, most_sends(past, outgoing) as usize)?;
-    let mut maker = Maker {
-        alloc,
-        sends: Sends::from_vec(room),
-    };
+    let mut maker = Maker { alloc, sends: room };
     send_all(past, outgoing, &mut maker)?;
-    Ok(maker.sends)
+    Ok(Sends::from_vec(maker.sends))
 }
 
 /// The reply that a plan stands for. An `Err` is out of memory. It is inlined, so that the reply is made where it is kept.
