@@ -224,41 +224,38 @@ impl<'s> TcpLink<'s> {
 
     /// The link, whose reads and writes fail where they wait for longer than this, or its greeting comes in pieces and takes more
     /// than some two times as long; `None`: they wait for ever. `split` fails where the limit is zero.
-    pub fn with_idle(self, idle: Option<Duration>) -> Self
+    pub fn with_idle(mut self, idle: Option<Duration>) -> Self
         ensures { result ≡ self.entry }
     {
-        let ways = Ways { idle, ..self.ways };
-        TcpLink { ways, ..self }
+        self.ways = Ways { idle, ..self.ways };
+        self
     }
 
     /// The link, whose bytes end once this is set, whatever its peer still sends; `None`: they end with the peer's. A read that
     /// waits by then ends within a fifth of a second.
-    pub fn with_stop(self, stop: Option<&'s AtomicBool>) -> Self
+    pub fn with_stop(mut self, stop: Option<&'s AtomicBool>) -> Self
         ensures { result ≡ self.entry }
     {
-        let ways = Ways { stop, ..self.ways };
-        TcpLink { ways, ..self }
+        self.ways = Ways { stop, ..self.ways };
+        self
     }
 
     /// The link, whose reads complete one descriptor at most once this is set, which learns what they gave; `None`: they give what
     /// there is room for.
-    pub fn with_brake(self, brake: Option<&'s Brake>) -> Self
+    pub fn with_brake(mut self, brake: Option<&'s Brake>) -> Self
         ensures { result ≡ self.entry }
     {
-        let ways = Ways { brake, ..self.ways };
-        TcpLink { ways, ..self }
+        self.ways = Ways { brake, ..self.ways };
+        self
     }
 
     /// The link, which at its end reads and drops what its peer still sends, so that the peer gets all that was written. Somebody
     /// has to shut it by its `stopper` where the peer doesn't end.
-    pub fn lingering(self) -> Self
+    pub fn lingering(mut self) -> Self
         ensures { result ≡ self.entry }
     {
-        let ways = Ways {
-            lingers: true,
-            ..self.ways
-        };
-        TcpLink { ways, ..self }
+        self.ways.lingers = true;
+        self
     }
 
     /// Answers this call: the halves of its link go on over the socket of this one, within the limits of this one. Where that has no
@@ -284,14 +281,11 @@ impl<'s> TcpLink<'s> {
     }
 
     /// The link, which has this number in its run.
-    pub fn numbered(self, link: u32) -> Self
+    pub fn numbered(mut self, link: u32) -> Self
         ensures { result ≡ record self.entry { origin = record self.entry.origin { link = link } } }
     {
-        let origin = TcpOrigin {
-            link,
-            ..self.origin
-        };
-        TcpLink { origin, ..self }
+        self.origin.link = link;
+        self
     }
 }
 

@@ -3,7 +3,7 @@
 use std::net::SocketAddr;
 
 /// Where a link over TCP comes from, as both of its halves say.
-#[derive(Clone, Copy, Debug)]
+#[derive(Clone, Copy)]
 pub struct TcpOrigin {
     /// The number of the link in its run, from 0.
     pub link: u32,

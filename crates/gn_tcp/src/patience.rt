@@ -16,7 +16,7 @@ const LOOK: u64 = 200;
 /// How long a reader waits. Where it has a time limit, each wait is at most half of the one before until its greeting is whole,
 /// so that this has come within little more than twice the limit; from then on each is at most the limit. Where the reader may be
 /// stopped, a wait goes on in looks.
-#[derive(Clone, Copy, Debug)]
+#[derive(Clone, Copy)]
 pub(crate) struct Patience {
     /// The longest wait; `None`: there is no limit.
     limit: Option<Duration>,

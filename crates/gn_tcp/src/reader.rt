@@ -1,9 +1,9 @@
 //! The half of a link over TCP that is read.
 
-ghost use Rattle.std.specs.Prelude.{◌≡◌, ◌≢◌, ◌≤◌, ◌++◌, [], false, not, true, length, Err, IfOk};
+ghost use Rattle.std.specs.Prelude.{◌≡◌, ◌≢◌, ◌≤◌, ◌++◌, ◌||◌, [], false, is_err, not, true, length, Err, IfOk};
 ghost use Rattle.std.specs.declared.io.ErrorKind.TheVariants.{Interrupted};
 ghost use Rattle.std.specs.Io.KnownBytes.{ReadConsumes};
-ghost use Rattle.gn_links.specs.Halves.{read_by};
+ghost use Rattle.gn_links.specs.Halves.{counted, gave_bytes, is_end, read_by};
 ghost use Rattle.gn_tcp.specs.Tcp.{half_read};
 
 use crate::origin::TcpOrigin;
@@ -112,6 +112,55 @@ impl<'s> TcpReader<'s> {
         };
         self.is_missing = met.is_none();
         self.socket = Some(Socket::of(met));
+    }
+
+    /// Waits for bytes where its socket is there, and tells those that came.
+    fn give<R: Wait>(&mut self, rt: &R, buffer: &mut [u8]) -> Result<usize, LinkFault>
+        ensures within { IfOk result (λ n. n ≤ length buffer.old) }
+        ensures told { self.new.bytes ≡ self.old.bytes ++ read_by result buffer.new }
+        ensures rest { self.new ≡ record self.old { bytes = self.new.bytes } }
+    {
+        match &mut self.socket {
+            Some(Socket::Connected(stream)) => read_unstopped(
+                rt,
+                stream,
+                &mut self.told,
+                &mut self.patience,
+                &self.ways,
+                buffer,
+            ),
+            Some(Socket::Called(_) | Socket::Missing) => Ok(0),
+            None if self.has_ended => Ok(0),
+            None => Err(LinkFault),
+        }
+    }
+
+    /// Counts what a read into so much room answered, and tells the brake. It leaves the peer where the bytes ended, and gives its
+    /// handle up where the read failed.
+    fn count(&mut self, answer: Result<usize, LinkFault>, room: usize)
+        ensures { self.new ≡ record self.old {
+          is_open = self.new.is_open;
+          failures = counted (is_err answer) self.old.failures;
+          pieces = counted (gave_bytes answer) self.old.pieces;
+          has_ended = self.old.has_ended || is_end answer room;
+        } }
+    {
+        self.ways.tell_brake(answer.unwrap_or(0));
+        match answer {
+            Ok(n) if n > 0 => {
+                self.pieces = self.pieces.saturating_add(1);
+                self.hear(n);
+            }
+            Ok(_) if room > 0 => {
+                self.has_ended = true;
+                self.leave();
+            }
+            Ok(_) => {}
+            Err(_) => {
+                self.failures = self.failures.saturating_add(1);
+                self.socket = None;
+            }
+        }
     }
 
     /// The bytes have ended. A stop ends them, but not the peer: where the link lingers the socket is kept until it is finished.
@@ -268,40 +317,8 @@ impl<'s> LinkReader for TcpReader<'s> {
     /// link's time limit allows, and where it failed before or was finished.
     fn read<R: Wait>(&mut self, rt: &R, buffer: &mut [u8]) -> Result<usize, LinkFault> {
         self.meet(rt);
-        let answer = match &mut self.socket {
-            Some(Socket::Connected(stream)) => {
-                read_unstopped(
-                    rt,
-                    stream,
-                    &mut self.told,
-                    &mut self.patience,
-                    &self.ways,
-                    buffer,
-                )
-            }
-            Some(Socket::Called(_) | Socket::Missing) => Ok(0),
-            None if self.has_ended => Ok(0),
-            None => Err(LinkFault),
-        };
-        match answer {
-            Ok(n) if n > 0 => {
-                self.ways.tell_brake(n);
-                self.pieces = self.pieces.saturating_add(1);
-                self.hear(n);
-            }
-            Ok(_) => {
-                self.ways.tell_brake(0);
-                if !buffer.is_empty() {
-                    self.has_ended = true;
-                    self.leave();
-                }
-            }
-            Err(_) => {
-                self.ways.tell_brake(0);
-                self.failures = self.failures.saturating_add(1);
-                self.socket = None;
-            }
-        }
+        let answer = self.give(rt, buffer);
+        self.count(answer, buffer.len());
         answer
     }
 

@@ -5,7 +5,7 @@ use std::sync::atomic::AtomicBool;
 use std::time::Duration;
 
 /// How the halves of a link read, and end.
-#[derive(Clone, Copy, Debug)]
+#[derive(Clone, Copy)]
 pub(crate) struct Ways<'s> {
     /// A wait that is longer fails; `None`: there is no limit.
     pub idle: Option<Duration>,
