@@ -6,3 +6,4 @@ pub mod Steps
 -- Words of the proofs.
 pub mod Lines
 pub mod Numbered
+pub mod Pieces

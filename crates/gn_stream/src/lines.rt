@@ -3,6 +3,7 @@
 ghost use Rattle.std.specs.Prelude.{◌≡◌, ◌≢◌, ◌≤◌, ◌<◌, ◌+◌, ◌++◌, ◌∷◌, [], All, false, length, true, IfErr, IfOk, IfNone, IfSome, OnOk};
 ghost use Rattle.gn_stream.specs.Left.{line_limit};
 ghost use Rattle.gn_capture.specs.Histories.{ending};
+ghost use Rattle.gn_stream.specs.Pieces.{line_at};
 ghost use Rattle.gn_stream.specs.Reading.{IsPieceFault, fresh, fresh_cut, place};
 ghost use Rattle.gn_stream.specs.Lines.{IsCounted, IsLastFault, IsLastOf, IsLineRead, IsOver, TakesOn};
 ghost use Rattle.gn_stream.specs.Unfinished.{ending_after, is_added};
@@ -27,17 +28,25 @@ pub struct LineReader<A: Allocator = Global> {
     is_ended: bool,
     /// The number of the next line.
     next: u64,
-    /// The line that was given last.
-    line: Vec<u8, A>,
+    /// Whether the line that was given last is copied. It stands in the piece else.
+    is_copied: bool,
+    copied: Vec<u8, A>,
     ending: Ending,
 }
 
 impl<A: Allocator> Model for LineReader<A> {
+    ghost use Rattle.gn_stream.specs.Pieces.{line_at};
     ghost use Rattle.gn_stream.specs.Reading.{Reading};
 
     ghost Value = { Reading };
 
-    ghost view = { λ r. record { held = r.piece; is_ended = r.is_ended; next = r.next; line = r.line.items; ending = r.ending } };
+    ghost view = { λ r. record {
+      held = r.piece.held;
+      is_ended = r.is_ended;
+      next = r.next;
+      line = line_at r.is_copied r.copied.items r.piece.line;
+      ending = r.ending;
+    } };
 }
 
 impl<A: Allocator + Copy> LineReader<A> {
@@ -49,7 +58,8 @@ impl<A: Allocator + Copy> LineReader<A> {
             piece: Piece::new(alloc),
             is_ended: false,
             next: 1,
-            line: Vec::new(alloc),
+            is_copied: false,
+            copied: Vec::new(alloc),
             ending,
         }
     }
@@ -70,12 +80,35 @@ impl<A: Allocator + Copy> LineReader<A> {
     }
 }
 
+/// Puts the line that was found in a piece in place of what was copied, unless the line is copied already.
+fn keep_line<A: Allocator>(
+    copied: &mut Vec<u8, A>,
+    is_copied: bool,
+    found: &[u8],
+) -> Result<(), InputFault>
+    ensures copied { OnOk result (copied.new.items ≡ line_at is_copied copied.old.items found.now) }
+    ensures fault { IfErr result (λ fault. fault ≡ NoMemory) }
+{
+    if is_copied {
+        return Ok(());
+    }
+    copied.clear();
+    if copied.extend_from_slice(found).is_err() {
+        return Err(InputFault::NoMemory);
+    }
+    Ok(())
+}
+
 impl<A: Allocator> LineReader<A> {
     /// The line that was given last.
     pub fn line(&self) -> &[u8]
         ensures { result.now ≡ self.now.line }
     {
-        &self.line
+        if self.is_copied {
+            &self.copied
+        } else {
+            self.piece.line()
+        }
     }
 
     /// The number of the next line. Lines count from 1.
@@ -100,7 +133,15 @@ impl<A: Allocator> LineReader<A> {
         ensures short { result ≡ true → length self.now.line ≤ line_limit }
         ensures over { result ≡ false → line_limit < length self.now.line }
     {
-        self.line.len() <= LINE_LIMIT
+        self.line().len() <= LINE_LIMIT
+    }
+
+    /// Empties the line.
+    fn clear_line(&mut self)
+        ensures { self.new ≡ record self.old { line = [] } }
+    {
+        self.copied.clear();
+        self.is_copied = true;
     }
 
     /// Reads on where all that was read is gone over. False where the source has no more.
@@ -118,12 +159,15 @@ impl<A: Allocator> LineReader<A> {
         if self.is_ended {
             return Ok(false);
         }
+        keep_line(&mut self.copied, self.is_copied, self.piece.line())?;
+        self.is_copied = true;
         let is_filled = self.piece.refill(source)?;
         self.is_ended = !is_filled;
         Ok(is_filled)
     }
 
-    /// Adds what is held to the line, up to its end, where that is held; then it is true.
+    /// Adds what is held to the line, up to its end, where that is held; then it is true. A first part is the line where it stands,
+    /// and others are copied behind it.
     fn take_part(&mut self) -> Result<bool, InputFault>
         requires { 0 < length self.old.held }
         ensures ended { IfOk result (λ ended. ended ≡ true → (part : _) × (self.old.held ≡ part ++ 10 ∷ self.new.held)
@@ -134,14 +178,15 @@ impl<A: Allocator> LineReader<A> {
             × (self.new.ending ≡ self.old.ending)) }
         ensures fault { IfErr result (λ fault. fault ≡ NoMemory) }
     {
-        let (part, is_ended) = self.piece.part();
-        let count = part.len();
-        if self.line.extend_from_slice(part).is_err() {
-            return Err(InputFault::NoMemory);
+        if self.line().is_empty() {
+            self.is_copied = false;
+            return Ok(self.piece.take_line());
         }
-        self.piece.skip(count);
-        if is_ended {
-            self.piece.skip(1);
+        keep_line(&mut self.copied, self.is_copied, self.piece.line())?;
+        self.is_copied = true;
+        let is_ended = self.piece.take_line();
+        if self.copied.extend_from_slice(self.piece.line()).is_err() {
+            return Err(InputFault::NoMemory);
         }
         Ok(is_ended)
     }
@@ -160,7 +205,7 @@ impl<A: Allocator> LineReader<A> {
         match number.checked_add(1) {
             Some(next) => {
                 self.next = next;
-                self.ending = self.ending.after(&self.line);
+                self.ending = self.ending.after(self.line());
                 Ok(number)
             }
             None => Err(InputFault::TooLarge),
@@ -173,8 +218,9 @@ impl<A: Allocator> LineReader<A> {
         ensures ending { OnOk result (self.new.ending ≡ Added) }
         ensures fault { IfErr result (λ fault. IsLastFault Due fault self.old self.new) }
     {
-        self.line.clear();
-        if self.line.extend_from_slice(b"end").is_err() {
+        self.copied.clear();
+        self.is_copied = true;
+        if self.copied.extend_from_slice(b"end").is_err() {
             return Err(InputFault::NoMemory);
         }
         let number = self.count_line()?;
@@ -187,7 +233,7 @@ impl<A: Allocator> LineReader<A> {
         ensures { IsLastOf self.old.ending result self.old self.new }
     {
         match self.ending {
-            Ending::Own if !self.line.is_empty() => Ok(Some(self.count_line()?)),
+            Ending::Own if !self.line().is_empty() => Ok(Some(self.count_line()?)),
             Ending::Due => Ok(Some(self.add_end()?)),
             Ending::Own | Ending::Stands | Ending::Added => Ok(None),
         }
@@ -197,7 +243,7 @@ impl<A: Allocator> LineReader<A> {
     pub(crate) fn next_line<S: Source>(&mut self, source: &mut S) -> Result<Option<u64>, InputFault>
         ensures { IsLineRead result (place (S.state source.old) self.old) (place (S.state source.new) self.new) }
     {
-        self.line.clear();
+        self.clear_line();
         while self.is_short() {
             if !self.fill(source)? {
                 return self.count_last();

@@ -1,7 +1,9 @@
-//! A piece of an input, as far as it wasn't gone over.
+//! A piece of an input, as far as it wasn't gone over, and the line that was found in it.
 
-ghost use Rattle.std.specs.Prelude.{◌≡◌, ◌≢◌, ◌≤◌, ◌<◌, ◌++◌, ◌∷◌, [], All, drop, false, length, slice_index, take, true, IfErr, IfOk, OnOk};
+ghost use Rattle.std.specs.Prelude.{◌≡◌, ◌≢◌, ◌<◌, ◌++◌, ◌∷◌, [], All, false, length, true, IfErr, IfOk, OnOk};
 ghost use Rattle.std.specs.Io.KnownBytes.{IsAtEnd};
+ghost use Rattle.gn_io.specs.declared.input.InputFault.TheVariants.{NoMemory};
+ghost use Rattle.gn_stream.specs.Pieces.{untouched};
 ghost use Rattle.gn_stream.specs.Reading.{HasGiven, IsPieceFault};
 
 use gn_io::{InputFault, Source};
@@ -9,87 +11,120 @@ use memchr::memchr;
 use std::alloc::Allocator;
 use std::marker::Model;
 
-/// What was read last and wasn't gone over yet: it is seen as these bytes.
+/// The most bytes that are read at once.
+const PIECE: usize = 16_384;
+
+/// Makes room for a piece, where there is none.
+fn make_room<A: Allocator>(bytes: &mut Vec<u8, A>) -> Result<(), InputFault>
+    ensures room { OnOk result (0 < length bytes.new.items) }
+    ensures fault { IfErr result (λ fault. fault ≡ NoMemory) }
+{
+    if bytes.is_empty() && bytes.resize(PIECE, 0).is_err() {
+        return Err(InputFault::NoMemory);
+    }
+    Ok(())
+}
+
+/// What was read last: it is seen as the line that was found in it, and what of it wasn't gone over yet.
 #[derive(Drop)]
 pub(crate) struct Piece<A: Allocator> {
+    /// Room for a piece, once one was read.
     bytes: Vec<u8, A>,
+    /// Where the line begins, and where it ends.
+    from: usize,
+    to: usize,
+    /// Where what wasn't gone over begins, and where it ends.
     at: usize,
+    end: usize,
 }
 
 impl<A: Allocator> Model for Piece<A> {
-    ghost use Rattle.std.specs.Prelude.{ℕ, List, drop, length, ◌≤◌};
+    ghost use Rattle.std.specs.Prelude.{slice_range};
+    ghost use Rattle.gn_stream.specs.Pieces.{IsRange, Pieced};
 
-    ghost Value = { List ℕ };
+    ghost Value = { Pieced };
 
-    ghost view = { λ p. drop p.at p.bytes.items };
+    ghost view = { λ p. record { line = slice_range p.bytes.items p.from p.to; held = slice_range p.bytes.items p.at p.end } };
 
-    ghost invariant = { λ p. p.at ≤ length p.bytes.items };
+    ghost invariant = { λ p. IsRange p.from p.to p.bytes.items × IsRange p.at p.end p.bytes.items };
 }
 
 impl<A: Allocator> Piece<A> {
     /// Nothing was read yet.
     pub(crate) fn new(alloc: A) -> Self
-        ensures { result ≡ [] }
+        ensures { result ≡ untouched }
     {
         Piece {
             bytes: Vec::new(alloc),
+            from: 0,
+            to: 0,
             at: 0,
+            end: 0,
         }
     }
 
     /// Whether all of it was gone over.
     pub(crate) fn is_empty(&self) -> bool
-        ensures empty { result ≡ true → self.now ≡ [] }
-        ensures some { result ≡ false → 0 < length self.now }
+        ensures empty { result ≡ true → self.now.held ≡ [] }
+        ensures some { result ≡ false → 0 < length self.now.held }
     {
-        self.at == self.bytes.len()
+        self.at == self.end
+    }
+
+    /// The line that was found in it.
+    pub(crate) fn line(&self) -> &[u8]
+        ensures { result.now ≡ self.now.line }
+    {
+        &self.bytes[self.from..self.to]
     }
 
     /// All that is left of it.
     fn left(&self) -> &[u8]
-        ensures { result.now ≡ self.now }
+        ensures { result.now ≡ self.now.held }
     {
-        &self.bytes[self.at..]
+        &self.bytes[self.at..self.end]
     }
 
-    /// What is left of it up to the first line feed, and that this stands there; or all that is left.
-    pub(crate) fn part(&self) -> (&[u8], bool)
-        ensures free { All (λ b. b ≢ 10) result.0.now }
-        ensures ended { result.1 ≡ true → (rest : _) × (self.now ≡ result.0.now ++ 10 ∷ rest) }
-        ensures all { result.1 ≡ false → self.now ≡ result.0.now }
+    /// Goes over what is left of it up to the first line feed, and over this, or over all that is left; what stands before the line
+    /// feed is the line that was found. Whether one stands there.
+    pub(crate) fn take_line(&mut self) -> bool
+        ensures free { All (λ b. b ≢ 10) self.new.line }
+        ensures ended { result ≡ true → self.old.held ≡ self.new.line ++ 10 ∷ self.new.held }
+        ensures all { result ≡ false → (self.new.held ≡ []) × (self.new.line ≡ self.old.held) }
     {
-        let left = self.left();
-        match memchr(b'\n', left) {
-            Some(at) => (&left[..at], true),
-            None => (left, false),
+        let feed = memchr(b'\n', self.left());
+        self.from = self.at;
+        match feed {
+            Some(count) => {
+                self.to = self.at + count;
+                self.at = self.to + 1;
+                true
+            }
+            None => {
+                self.to = self.end;
+                self.at = self.end;
+                false
+            }
         }
-    }
-
-    /// Goes over so many bytes.
-    pub(crate) fn skip(&mut self, count: usize)
-        requires { count ≤ length self.old }
-        ensures { self.new ≡ drop count self.old }
-    {
-        self.at += count;
     }
 
     /// Reads another piece of a source, once all is gone over. False at the end.
     pub(crate) fn refill<S: Source>(&mut self, source: &mut S) -> Result<bool, InputFault>
-        requires { self.old ≡ [] }
-        ensures given { OnOk result (HasGiven (S.state source.old) (S.state source.new) self.new) }
-        ensures more { IfOk result (λ more. more ≡ true → 0 < length self.new) }
-        ensures end { IfOk result (λ more. more ≡ false → (self.new ≡ []) × IsAtEnd (S.state source.new).rest) }
+        requires { self.old.held ≡ [] }
+        ensures given { OnOk result (HasGiven (S.state source.old) (S.state source.new) self.new.held) }
+        ensures more { IfOk result (λ more. more ≡ true → 0 < length self.new.held) }
+        ensures end { IfOk result (λ more. more ≡ false → (self.new.held ≡ []) × IsAtEnd (S.state source.new).rest) }
         ensures fault { IfErr result (λ fault. IsPieceFault fault (S.state source.old) (S.state source.new)) }
     {
-        let mut room = [0u8; 16_384];
-        let Ok(count) = source.read(&mut room) else {
+        self.from = 0;
+        self.to = 0;
+        self.at = 0;
+        self.end = 0;
+        make_room(&mut self.bytes)?;
+        let Ok(count) = source.read(&mut self.bytes) else {
             return Err(InputFault::Read);
         };
-        self.bytes.clear();
-        self.at = 0;
-        if self.bytes.extend_from_slice(&room[..count]).is_err() {
-            return Err(InputFault::NoMemory);
-        }
+        self.end = count;
         Ok(count != 0)
     }
 }
