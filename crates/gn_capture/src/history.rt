@@ -3,15 +3,18 @@
 ghost use Rattle.std.specs.Prelude.{◌≡◌, ◌<◌, None, length, IfErr, IfOk};
 ghost use Rattle.gn_text.specs.Faults.{IsRead, IsRefused};
 ghost use Rattle.gn_text.specs.Parsed.{line_seen};
+ghost use Rattle.gn_text.specs.Lines.{fields_of};
 ghost use Rattle.gn_text.specs.Settings.{settings_of};
+ghost use Rattle.gn_capture.specs.Steps.{step_parsed};
 ghost use Rattle.gn_capture.specs.Histories.{IsNextOf, ended, history_of, history_seen, line_parsed, map_result, steps_left};
 
 use crate::step::read_step;
 use gn_rules::{Config, Step};
 use gn_text::{
-    CaptureRefusal, Cause, NumberedLine, NumberedLines, Text, fields_into, is_word, read_header,
+    CaptureRefusal, Cause, NumberedLine, NumberedLines, Text, fields, fields_in, fields_into,
+    is_word, read_header,
 };
-use std::alloc::{Allocator, Global};
+use std::alloc::{AllocError, Allocator, Global};
 use std::marker::Model;
 
 /// The step of a line, or `None` where the line is `end`. Its fields are put in place of those of another line.
@@ -34,15 +37,35 @@ fn read_line<'a, A: Allocator + Copy>(
     }
 }
 
-/// As it is read, for who has the lines one by one.
-pub fn read_history_line<'a, A: Allocator + Copy>(
+/// So many fields of a line are looked at where they are put; of a line that has more a list is made.
+const FEW: usize = 16;
+
+/// The step that a line says. An `Err` is out of memory.
+fn step_of_line<A: Allocator + Copy>(alloc: A, line: &[u8]) -> Result<Option<Step<A>>, AllocError>
+    ensures { IfOk result (λ found. found ≡ step_parsed (fields_of line.now)) }
+{
+    let mut places: [&[u8]; FEW] = [&[]; FEW];
+    match fields_in(line, &mut places) {
+        Some(count) => read_step(alloc, &places[..count]),
+        None => read_step(alloc, &fields(alloc, line)?),
+    }
+}
+
+/// The step of a line, or `None` where it is `end`, for who has the lines one by one.
+pub fn read_history_line<A: Allocator + Copy>(
     alloc: A,
-    fields: &mut Vec<&'a [u8], A>,
-    line: &NumberedLine<'a>,
+    line: &NumberedLine,
 ) -> Result<Option<Step<A>>, CaptureRefusal>
     ensures { IsRead (λ x. x) result (line_parsed (line_seen line.now)) }
 {
-    read_line(alloc, fields, line)
+    let (number, line) = *line;
+    if is_word(line, b"end") {
+        return Ok(None);
+    }
+    match step_of_line(alloc, line)? {
+        Some(step) => Ok(Some(step)),
+        None => Err(CaptureRefusal::at(number, Cause::Field)),
+    }
 }
 
 /// The steps of a history's text, one after another. They are read as they are asked for, and nothing is kept of those

@@ -1,8 +1,6 @@
 //! The steps of a history whose text is read a line at a time.
 
 ghost use Rattle.std.specs.Prelude.{◌<◌, ◌^◌, IfOk, IfSome};
-ghost use Rattle.gn_text.specs.Faults.{IsRead};
-ghost use Rattle.gn_capture.specs.Histories.{line_parsed};
 ghost use Rattle.gn_stream.specs.Reading.{place};
 ghost use Rattle.gn_stream.specs.Steps.{IsEndRead, IsStepRead};
 
@@ -14,18 +12,6 @@ use gn_io::Source;
 use gn_rules::Step;
 use gn_text::{CaptureRefusal, Cause};
 use std::alloc::Allocator;
-
-/// The step that a line says, or nothing where it is `end`.
-fn step_of<A: Allocator + Copy>(
-    alloc: A,
-    number: u64,
-    line: &[u8],
-) -> Result<Option<Step<A>>, CaptureRefusal>
-    ensures { IsRead (λ x. x) result (line_parsed (number, line.now)) }
-{
-    let mut fields = Vec::new(alloc);
-    read_history_line(alloc, &mut fields, &(number, line))
-}
 
 /// Nothing, where no line is left after the line `end`.
 fn read_end<A: Allocator + Copy, S: Source>(
@@ -57,7 +43,7 @@ pub fn next_step<A: Allocator + Copy, S: Source>(
         let missing = CaptureRefusal::at(lines.next(), Cause::End);
         return Err(StreamFault::Text(missing));
     };
-    match step_of(alloc, number, lines.line())? {
+    match read_history_line(alloc, &(number, lines.line()))? {
         Some(step) => Ok(Some((number, step))),
         None => {
             read_end(lines, source)?;

@@ -1,6 +1,6 @@
 //! A text in lines, and a line in fields.
 
-ghost use Rattle.std.specs.Prelude.{◌≡◌, ◌≢◌, ◌==◌, ◌<◌, ◌++◌, ◌∷◌, [], All, length, map, take, IfNone, IfOk, IfSome, OnErr, OnOk};
+ghost use Rattle.std.specs.Prelude.{◌≡◌, ◌≢◌, ◌==◌, ◌<◌, ◌≤◌, ◌++◌, ◌∷◌, [], All, length, map, take, IfNone, IfOk, IfSome, OnErr, OnOk};
 ghost use Rattle.std.specs.List.{slice_split};
 ghost use Rattle.memchr.specs.Find.{IsFirstByte, is_byte};
 ghost use Rattle.gn_text.specs.Lines.{fields_of, is_skipped, is_word, lines_of};
@@ -94,6 +94,26 @@ pub fn fields_into<'a, A: Allocator>(
         fields.truncate(before);
     }
     added
+}
+
+/// Puts the fields of a line into places, the first of them into the first, and gives their number. `None` where there are too few
+/// places, and then some of the fields may stand there.
+pub fn fields_in<'a>(line: &'a [u8], places: &mut [&'a [u8]]) -> Option<usize>
+    ensures bound { IfSome result (λ count. count ≤ length places.new) }
+    ensures fields { IfSome result (λ count. map (λ x. x.now) (take count places.new) ≡ fields_of line.now) }
+{
+    let mut count = 0;
+    let mut rest = Some(line);
+    while let Some(text) = rest {
+        if count == places.len() {
+            return None;
+        }
+        let (part, more) = first_part(text, b' ', mark_in(text, b' '));
+        places[count] = part;
+        count += 1;
+        rest = more;
+    }
+    Some(count)
 }
 
 /// The first line of a text, and the text after its line feed, which may be missing. An empty text has none.
