@@ -10,7 +10,7 @@ use Rattle.gn_text.specs.Bytes.{guid_of}
 use Rattle.gn_numbers.specs.Numbers.{number_below, number_of, ◌>>=◌}
 use Rattle.gn_wire.specs.declared.kind.Guid.{Guid}
 use Rattle.gn_words.specs.ServeOptions.{AskedServe}
-use Rattle.gn_words.specs.declared.options.Limits.{Limits}
+use Rattle.gn_words.specs.declared.serve.Limits.{Limits}
 use Rattle.gn_words.specs.declared.request.Peer.{Peer}
 use Rattle.gn_words.specs.declared.unread.Unread.{Unread}
 use Rattle.gn_words.specs.declared.unread.Unread.TheVariants.{Mistake, NoMemory}

@@ -1,10 +1,11 @@
 -- How the words of a command line are read: by the rules of the crate clap, for this command.
 use Rattle.std.specs.Prelude.{◌≡◌, ◌∷◌, ℕ, List, [], Bool, true, false, Option, Some, None, codes, is_some, option_map, replicate, if◌then◌else◌}
 use Rattle.std.specs.Str.{bytes_eq}
-use Rattle.clap.specs.Words.{App, Row, Rule, Text, fault_of, new_app, new_rule, subcommand_of, with_rule, with_subcommand}
+use Rattle.clap.specs.Words.{App, Row, Rule, Text, fault_of, new_app, new_rule, subcommand_of, with_subcommand}
 use Rattle.clap.specs.Kinds.{Kinds, or_else}
 use Rattle.clap.specs.declared.builder.action.ArgAction.TheVariants.{Append, Set, SetTrue}
 use Rattle.clap.specs.declared.error.kind.ErrorKind.TheVariants.{DisplayHelp, InvalidSubcommand, ValueValidation}
+use Rattle.gn_words.specs.Rows.{with_rules}
 use Rattle.gn_words.specs.Options.{is_set, peer_of, peers_in, serving_of, workers_of}
 use Rattle.gn_words.specs.declared.request.Request.{Request}
 use Rattle.gn_words.specs.declared.request.Request.TheVariants.{Replay, History, Audit, Explain, Unfinished, Show, Load, Watched, Serve}
@@ -15,20 +16,6 @@ use Rattle.gn_show.specs.declared.form.View.TheVariants.{Stats, Steps}
 -- the flag `--NAME`, which is set where it stands
 abbrev pub flag_rule : Text → Rule
 flag_rule name = record (new_rule name) { long = Some name; action = Some SetTrue }
-
--- the subcommand `replay`: it takes the flag `--history`
-abbrev pub replay_app : App
-replay_app = with_rule (new_app (codes "replay")) (flag_rule (codes "history"))
-
--- the subcommand `audit`: it takes the flags `--explain` and `--unfinished`
-abbrev pub audit_app : App
-audit_app = with_rule (with_rule (new_app (codes "audit")) (flag_rule (codes "explain"))) (flag_rule (codes "unfinished"))
-
--- the subcommand `show`: it takes the flags `--csv`, `--json` and `--stats`
-abbrev pub show_app : App
-show_app =
-    with_rule (with_rule (with_rule (new_app (codes "show")) (flag_rule (codes "csv"))) (flag_rule (codes "json")))
-    (flag_rule (codes "stats"))
 
 -- the option `--NAME VALUE`, which has to be given
 abbrev pub value_rule : Text → Rule
@@ -47,50 +34,48 @@ default_rule name default =
 abbrev pub repeated_rule : Text → Rule
 repeated_rule name = record (new_rule name) { long = Some name; action = Some Append; value_names = 1 }
 
--- the subcommand `load`: it takes the option `--workers V` and the flag `--progress`
-abbrev pub load_app : App
-load_app = with_rule (with_rule (new_app (codes "load")) workers_rule) (flag_rule (codes "progress"))
-
--- the subcommand `serve` with the options that have to be given
-abbrev pub served_app : App
-served_app =
-    with_rule (with_rule (with_rule (new_app (codes "serve")) (value_rule (codes "port"))) (value_rule (codes "accept")))
-    workers_rule
-
 -- the own servent's ID where none is given: 47 sixteen times
 abbrev pub usual_servent : Text
 usual_servent = codes "47474747474747474747474747474747"
 
--- the subcommand `serve` with the options that say who the router is, whom it calls, and when it gives a peer up
-abbrev pub calling_app : App
-calling_app =
-    with_rule (with_rule (with_rule served_app (default_rule (codes "servent") usual_servent))
-    (repeated_rule (codes "peer"))) (default_rule (codes "idle") (codes "0"))
+-- the subcommand `replay`: it takes this flag
+abbrev pub replay_app : App
+replay_app = with_rules (new_app (codes "replay")) (flag_rule (codes "history") ∷ [])
 
--- the same with the numbers of the router's rules
-abbrev pub ruled_app : App
-ruled_app =
-    with_rule (with_rule calling_app (default_rule (codes "life") (codes "0"))) (default_rule (codes "crowd") (codes "0"))
+-- the subcommand `audit`: it takes these flags
+abbrev pub audit_app : App
+audit_app = with_rules (new_app (codes "audit")) (flag_rule (codes "explain") ∷ flag_rule (codes "unfinished") ∷ [])
 
--- the same with the options for how long it calls, how long it goes on, and how long it has to end
-abbrev pub timed_app : App
-timed_app =
-    with_rule (with_rule (with_rule ruled_app (default_rule (codes "retry") (codes "0")))
-    (default_rule (codes "for") (codes "0"))) (default_rule (codes "grace") (codes "5"))
+-- the subcommand `show`: it takes these flags
+abbrev pub show_app : App
+show_app = with_rules (new_app (codes "show")) (flag_rule (codes "csv") ∷ flag_rule (codes "json") ∷ flag_rule (codes "stats") ∷ [])
 
--- the same with the option for how many steps it makes
-abbrev pub limited_app : App
-limited_app = with_rule timed_app (default_rule (codes "steps") (codes "1000000"))
+-- the subcommand `load`: it takes the number of workers, and a flag
+abbrev pub load_app : App
+load_app = with_rules (new_app (codes "load")) (workers_rule ∷ flag_rule (codes "progress") ∷ [])
 
--- the same with the flags for what else stops it
-abbrev pub stopped_app : App
-stopped_app = with_rule (with_rule limited_app (flag_rule (codes "stop-early"))) (flag_rule (codes "until-eof"))
-
--- the subcommand `serve`: it takes these flags too
+-- the subcommand `serve`: what has to be given and who the router is; whom it calls, and when it gives a peer up; the numbers of
+-- its rules; what stops it, and how long it then has; and what is printed beside its history
 abbrev pub serve_app : App
-serve_app =
-    with_rule (with_rule (with_rule stopped_app (flag_rule (codes "keep-history"))) (flag_rule (codes "report")))
-    (flag_rule (codes "progress"))
+serve_app = with_rules (new_app (codes "serve"))
+    (value_rule (codes "port")
+    ∷ value_rule (codes "accept")
+    ∷ workers_rule
+    ∷ default_rule (codes "servent") usual_servent
+    ∷ repeated_rule (codes "peer")
+    ∷ default_rule (codes "idle") (codes "0")
+    ∷ default_rule (codes "retry") (codes "0")
+    ∷ default_rule (codes "life") (codes "0")
+    ∷ default_rule (codes "crowd") (codes "0")
+    ∷ default_rule (codes "steps") (codes "1000000")
+    ∷ default_rule (codes "for") (codes "0")
+    ∷ default_rule (codes "grace") (codes "5")
+    ∷ flag_rule (codes "stop-early")
+    ∷ flag_rule (codes "until-eof")
+    ∷ flag_rule (codes "keep-history")
+    ∷ flag_rule (codes "report")
+    ∷ flag_rule (codes "progress")
+    ∷ [])
 
 -- the command `gn` before it has its subcommands: it has a version, and one of them has to be named. It gets one more than
 -- those that it is given, `help`, which asks for no work
@@ -134,18 +119,26 @@ audit_by true true = None
 abbrev pub audit_of : List Row → Option Request
 audit_of rows = audit_by (is_set (codes "explain") rows) (is_set (codes "unfinished") rows)
 
+-- what a replay asks for, by the flag `--history`
+abbrev pub replay_of : List Row → Request
+replay_of rows = if is_set (codes "history") rows then History else Replay
+
 -- a load with so many workers, by the flag `--progress`
 abbrev pub load_by : Bool → ℕ → Request
 load_by false workers = Load workers
 load_by true workers = Watched workers
 
+-- what a load asks for, where the number of its workers is within its limits
+abbrev pub load_of : List Row → Option Request
+load_of rows = option_map (load_by (is_set (codes "progress") rows)) (workers_of rows)
+
 -- the request that a subcommand with these flags and options stands for; nothing, where a value isn't within its limits
 abbrev pub request_named : Text → List Row → Option Request
 request_named name rows =
-    if bytes_eq name (codes "replay") then Some (if is_set (codes "history") rows then History else Replay)
+    if bytes_eq name (codes "replay") then Some (replay_of rows)
     else (if bytes_eq name (codes "audit") then audit_of rows
     else (if bytes_eq name (codes "show") then option_map Show (view_of rows)
-    else (if bytes_eq name (codes "load") then option_map (load_by (is_set (codes "progress") rows)) (workers_of rows)
+    else (if bytes_eq name (codes "load") then load_of rows
     else (if bytes_eq name (codes "serve") then option_map Serve (serving_of rows) else None))))
 
 -- what is wrong with the values of a subcommand's options: one isn't within its limits, so that they stand for no request

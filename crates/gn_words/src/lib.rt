@@ -1,10 +1,16 @@
 //! What a command line says, without doing it: its words, its options and their help, and the request that they make.
 #![tactic(auto)]
 
+mod audit;
 mod help;
-mod options;
+mod load;
+mod numbers;
+mod peers;
+mod replay;
 mod request;
-mod shown;
+mod rows;
+mod serve;
+mod show;
 mod unread;
 mod words;
 

@@ -2,7 +2,7 @@ use Rattle.std.proofs.Common.{codes}
 use Rattle.clap.specs.Words.{found_of, rows_of}
 use Rattle.gn_rules.specs.Limits.{most_workers}
 use Rattle.gn_words.proofs.OptionLemmas.{asked_within, few_links}
-use Rattle.gn_words.proofs.options.serving_of.Goals as goal
+use Rattle.gn_words.proofs.serve.serving_of.Goals as goal
 
 pub invariant_of-result : goal.invariant_of-result
 invariant_of-result c =

@@ -1,6 +1,6 @@
 use Rattle.std.proofs.Common.{◌≡◌, [], drop, map, length}
 use Rattle.gn_words.specs.Options.{peers_after}
-use Rattle.gn_words.proofs.options.each_peer.Given as goal
+use Rattle.gn_words.proofs.peers.each_peer.Given as goal
 
 abbrev pub invariant-loop-text : goal.invariant-loop-text
 invariant-loop-text l = record {

@@ -4,7 +4,7 @@ use Rattle.clap.specs.Words.{Text, found_of}
 use Rattle.gn_words.specs.declared.request.Peer.{Peer}
 use Rattle.gn_words.specs.Options.{IsReadAs, peers_in}
 use Rattle.gn_words.proofs.WordLemmas.{peers_read}
-use Rattle.gn_words.proofs.options.peers_of.Goals as goal
+use Rattle.gn_words.proofs.peers.peers_of.Goals as goal
 
 pub returns-in-Some-clause-read : goal.returns-in-Some-clause-read
 returns-in-Some-clause-read c =

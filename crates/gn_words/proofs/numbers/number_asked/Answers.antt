@@ -2,7 +2,7 @@ use Rattle.std.proofs.Common.{◌∙◌}
 use Rattle.clap.specs.Words.{found_of}
 use Rattle.gn_words.specs.Options.{number_between}
 use Rattle.gn_words.proofs.WordLemmas.{value_read}
-use Rattle.gn_words.proofs.options.number_asked.Goals as goal
+use Rattle.gn_words.proofs.numbers.number_asked.Goals as goal
 
 pub returns : goal.returns
 returns c =

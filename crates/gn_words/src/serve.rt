@@ -1,0 +1,399 @@
+//! The command `serve`: its words and help, and what they ask for.
+
+ghost use Rattle.std.specs.Prelude.{◌≡◌, ◌≤◌, IfOk, codes, false, option_and_then};
+ghost use Rattle.clap.specs.Words.{app_of, found_of, rows_of};
+ghost use Rattle.clap.specs.declared.builder.command.Command.TheViews.{out-Command as fields_of};
+ghost use Rattle.gn_rules.specs.Limits.{IsWithin, most};
+ghost use Rattle.gn_text.specs.Bytes.{guid_of};
+ghost use Rattle.gn_words.specs.Options.{IsReadAs, limits_of, number_asked, servent_of, serving_of};
+ghost use Rattle.gn_words.specs.Words.{serve_app};
+
+use crate::numbers::{NumberOption, WORKERS, WORKERS_ROW, asked};
+use crate::peers::peers_of;
+use crate::request::ServeOptions;
+use crate::rows::{OptionRow, Takes, with_options};
+use crate::unread::Unread;
+use crate::words::{is_set, leaf};
+use clap::{ArgMatches, Command};
+use gn_rules::Numbers;
+use gn_text::guid;
+use gn_wire::Guid;
+use std::alloc::{AllocError, Global};
+
+/// What it does.
+const ABOUT: &str = "Routes for peers on this machine over TCP, and prints the history";
+
+/// How it is called.
+const USAGE: &str = "gn serve --port P --accept A --workers V [--servent HEX32] [--peer IP:PORT]..
+                [--idle SECONDS] [--retry SECONDS] [--life L] [--crowd Q] [--steps N]
+                [--for SECONDS] [--grace SECONDS] [--stop-early] [--until-eof]
+                [--keep-history] [--report] [--progress]";
+
+/// What it does, how it ends, and what it prints, with an example.
+const TEXTS: &str = "\
+The peers are called first, in their order, and then A others may call: each that does is one of
+the A, whatever becomes of it. Each link is greeted and read by a thread of its own and written by
+another, and V workers route what the readers admitted. `listening PORT` on standard error says that
+the router can be called. Once all links have ended, standard output is the history of the router,
+which `gn audit` reads.
+
+A link ends as its peer closes it. Two routers that call each other and nobody else each wait for
+the other's end: `--idle 2` ends a link of which nothing was heard for 2 seconds. A router waits for
+its A callers without a limit. One whose run has failed, as by a full history, lets its peers go,
+and calls and waits for nobody else. A neighbour that has closed its socket keeps its place until
+something is written to it: `--idle` doesn't free it. It frees that of one which is silent.
+
+Ctrl-C and a kill end the program at once: nothing is printed, and the history is lost, also with
+`--keep-history`. Three ways stop it well, with its whole history: `--for`, in so many seconds;
+`--until-eof`, as standard input ends, by Ctrl-D or as the writer of a pipe ends; `--stop-early`,
+before its most steps. What it owes by then is written, and after the grace it ends in any case.
+examples/gn.service is a unit for a service manager, with a standard input that the manager ends.
+
+A run that would make more than its most steps prints no history, unless `--keep-history` is given:
+one neighbour alone makes a million in a second. With `--stop-early` the router stops before, and
+prints its whole history; what it still has to read of a piece and to write takes the last tenth of
+the steps. An audit has no limit. `gn show` reads at most 64 MiB, some 600,000 small steps, and fewer
+the more neighbours there are: `--steps 300000` keeps below it with 64 of them.
+
+Example: two routers of which the second calls the first, in whichever order they start. Both end
+after 5 seconds.
+
+  gn serve --port 6347 --accept 0 -w 4 --for 5 --peer 127.0.0.1:6346 --retry 3 > second.history &
+  gn serve --port 6346 --accept 1 -w 4 --for 5 > first.history
+  wait
+  gn audit < first.history
+  gn audit < second.history";
+
+/// The own servent of a router, where none is given.
+const OWN_SERVENT: &str = "47474747474747474747474747474747";
+
+/// What has to be given, and who the router is.
+const OPTIONS: [OptionRow; 4] = [
+    OptionRow {
+        name: "port",
+        letter: None,
+        takes: Takes::Value("P"),
+        help: "The port of 127.0.0.1 that peers call, 1 to 65535",
+    },
+    OptionRow {
+        name: "accept",
+        letter: None,
+        takes: Takes::Value("A"),
+        help: "How many callers are taken in all, 0 to 128, whatever becomes of them",
+    },
+    WORKERS_ROW,
+    OptionRow {
+        name: "servent",
+        letter: None,
+        takes: Takes::Unshown("HEX32", OWN_SERVENT),
+        help: "The router's own servent ID, 32 hex digits; by default 47 sixteen times",
+    },
+];
+
+/// Whom it calls, and when it gives a peer up.
+const NEIGHBOURS: [OptionRow; 3] = [
+    OptionRow {
+        name: "peer",
+        letter: None,
+        takes: Takes::Values("IP:PORT"),
+        help: "A peer on this machine that is called, as 127.0.0.1:6347; at most 64",
+    },
+    OptionRow {
+        name: "idle",
+        letter: None,
+        takes: Takes::Usual("SECONDS", "0"),
+        help: "\
+A peer that is silent, or takes nothing, for so many seconds is given up,
+0 to 86400; 0: never",
+    },
+    OptionRow {
+        name: "retry",
+        letter: None,
+        takes: Takes::Usual("SECONDS", "0"),
+        help: "\
+A peer that doesn't listen yet is called again for so many seconds, while
+the others are served, 0 to 86400; 0: it is called once",
+    },
+];
+
+/// The numbers of its rules.
+const RULES: [OptionRow; 3] = [
+    OptionRow {
+        name: "life",
+        letter: None,
+        takes: Takes::Usual("L", "0"),
+        help: "\
+What TTL and Hops of a descriptor that is passed on are together at most,
+0 to 255; 0: no limit",
+    },
+    OptionRow {
+        name: "crowd",
+        letter: None,
+        takes: Takes::Usual("Q", "0"),
+        help: "\
+How many descriptors of one peer may be in flight at once, 0 to 4096;
+0: as many as of all",
+    },
+    OptionRow {
+        name: "steps",
+        letter: None,
+        takes: Takes::Usual("N", "1000000"),
+        help: "\
+The most steps of the history, 1 to 1000000; a run that needs more ends
+with `fault: history full`. With 64 neighbours 300000 of small packets
+are within the 64 MiB that `gn show` reads",
+    },
+];
+
+/// What stops it, and how long it then has.
+const END: [OptionRow; 4] = [
+    OptionRow {
+        name: "for",
+        letter: None,
+        takes: Takes::Usual("SECONDS", "0"),
+        help: "\
+The router stops after so many seconds: it reads no more and waits for no
+caller, but writes what it owes, 0 to 86400; 0: never",
+    },
+    OptionRow {
+        name: "grace",
+        letter: None,
+        takes: Takes::Usual("SECONDS", "5"),
+        help: "\
+How many seconds a router that stops has to write what it owes, and a peer
+that is let go to take it, 0 to 3600",
+    },
+    OptionRow {
+        name: "stop-early",
+        letter: None,
+        takes: Takes::Nothing,
+        help: "\
+Stops the router as --for does once nine tenths of its most steps are
+made, with what is in flight",
+    },
+    OptionRow {
+        name: "until-eof",
+        letter: None,
+        takes: Takes::Nothing,
+        help: "\
+Stops the router as --for does at the end of standard input, which is
+read and not looked at",
+    },
+];
+
+/// What is printed beside its history.
+const OUTPUT: [OptionRow; 3] = [
+    OptionRow {
+        name: "keep-history",
+        letter: None,
+        takes: Takes::Nothing,
+        help: "\
+Prints what stands of the history also where the run stops at a fault, as
+where it has its most steps",
+    },
+    OptionRow {
+        name: "report",
+        letter: None,
+        takes: Takes::Nothing,
+        help: "\
+Writes on standard error what became of each link, and the counters, once
+the run has ended",
+    },
+    OptionRow {
+        name: "progress",
+        letter: None,
+        takes: Takes::Nothing,
+        help: "\
+Writes on standard error each link that comes or ends, once a second how
+far the router is, and at a half and nine tenths of its most steps which
+link offered most",
+    },
+];
+
+/// The command `gn serve`.
+pub(crate) fn serve_command<'a>(alloc: Global) -> Result<Command<'a>, AllocError>
+    ensures shape { IfOk result (λ command. app_of command ≡ serve_app) }
+    ensures globals { IfOk result (λ command. (fields_of command).has_globals ≡ false) }
+{
+    let bare = leaf(alloc, "serve", ABOUT, USAGE, TEXTS);
+    let named = with_options(alloc, bare, None, &OPTIONS)?;
+    let called = with_options(alloc, named, Some("Neighbours"), &NEIGHBOURS)?;
+    let ruled = with_options(alloc, called, Some("Rules"), &RULES)?;
+    let ended = with_options(alloc, ruled, Some("End of the run"), &END)?;
+    with_options(alloc, ended, Some("Output"), &OUTPUT)
+}
+
+/// What `--port` takes.
+const PORT: NumberOption = NumberOption {
+    name: "port",
+    least: 1,
+    most: 65_535,
+    mistake: "--port takes a number of 1 to 65535",
+};
+
+/// What `--accept` takes.
+const ACCEPT: NumberOption = NumberOption {
+    name: "accept",
+    least: 0,
+    most: 128,
+    mistake: "--accept takes a number of 0 to 128",
+};
+
+/// What `--idle` takes: at most a day.
+const IDLE: NumberOption = NumberOption {
+    name: "idle",
+    least: 0,
+    most: 86_400,
+    mistake: "--idle takes a number of seconds, 0 to 86400",
+};
+
+/// What `--life` takes: what a byte holds.
+const LIFE: NumberOption = NumberOption {
+    name: "life",
+    least: 0,
+    most: 255,
+    mistake: "--life takes a number of 0 to 255",
+};
+
+/// What `--crowd` takes: as many as may be in flight.
+const CROWD: NumberOption = NumberOption {
+    name: "crowd",
+    least: 0,
+    most: Numbers::MOST.crowd,
+    mistake: "--crowd takes a number of 0 to 4096",
+};
+
+/// What `--retry` takes: at most a day.
+const RETRY: NumberOption = NumberOption {
+    name: "retry",
+    least: 0,
+    most: 86_400,
+    mistake: "--retry takes a number of seconds, 0 to 86400",
+};
+
+/// What `--for` takes: at most a day.
+const SECONDS: NumberOption = NumberOption {
+    name: "for",
+    least: 0,
+    most: 86_400,
+    mistake: "--for takes a number of seconds, 0 to 86400",
+};
+
+/// What `--grace` takes: at most an hour.
+const GRACE: NumberOption = NumberOption {
+    name: "grace",
+    least: 0,
+    most: 3_600,
+    mistake: "--grace takes a number of seconds, 0 to 3600",
+};
+
+/// What `--steps` takes: as many as a history may have.
+const STEPS: NumberOption = NumberOption {
+    name: "steps",
+    least: 1,
+    most: Numbers::MOST.steps,
+    mistake: "--steps takes a number of 1 to 1000000",
+};
+
+/// The port that `--port` asks for, where there is such a one.
+fn port_of(options: &ArgMatches<'_>) -> Result<u16, Unread>
+    ensures { IsReadAs (λ n. n) (number_asked (codes "port") 1 65535 (rows_of (found_of options.now))) result }
+{
+    match asked(options, &PORT) {
+        Ok(port) => Ok(port as u16),
+        Err(unread) => Err(unread),
+    }
+}
+
+/// The limit on a descriptor's life that `--life` asks for, where a byte holds it.
+fn life_of(options: &ArgMatches<'_>) -> Result<u8, Unread>
+    ensures { IsReadAs (λ n. n) (number_asked (codes "life") 0 most.life (rows_of (found_of options.now))) result }
+{
+    match asked(options, &LIFE) {
+        Ok(life) => Ok(life as u8),
+        Err(unread) => Err(unread),
+    }
+}
+
+/// The ID that a text says.
+fn servent_in(text: Option<&str>) -> Option<Guid>
+    ensures { result ≡ option_and_then (λ s. guid_of s.now) text.entry }
+{
+    guid(text?.as_bytes())
+}
+
+/// The ID that `--servent` asks for.
+fn servent_of(options: &ArgMatches<'_>) -> Result<Guid, Unread>
+    ensures { IsReadAs (λ id. id) (servent_of (rows_of (found_of options.now))) result }
+{
+    match servent_in(options.get_str("servent")) {
+        Some(servent) => Ok(servent),
+        None => Err(Unread::Mistake("--servent takes 32 hex digits")),
+    }
+}
+
+/// The numbers that limit a serve, as its options ask for them.
+#[derive(Clone, Copy, Debug)]
+struct Limits {
+    idle: u32,
+    life: u8,
+    crowd: u32,
+    retry: u32,
+    seconds: u32,
+    grace: u32,
+    steps: u32,
+}
+
+/// The numbers that limit a serve, where each is within its own limits.
+fn limits_of(options: &ArgMatches<'_>) -> Result<Limits, Unread>
+    ensures read { IsReadAs (λ l. l) (limits_of (rows_of (found_of options.now))) result }
+    ensures within { IfOk result (λ l. (l.crowd ≤ most.crowd) × (IsWithin l.steps most.steps)) }
+{
+    let idle = asked(options, &IDLE)?;
+    let life = life_of(options)?;
+    let crowd = asked(options, &CROWD)?;
+    let retry = asked(options, &RETRY)?;
+    let seconds = asked(options, &SECONDS)?;
+    let grace = asked(options, &GRACE)?;
+    let steps = asked(options, &STEPS)?;
+    Ok(Limits {
+        idle,
+        life,
+        crowd,
+        retry,
+        seconds,
+        grace,
+        steps,
+    })
+}
+
+/// What the options of a serve ask for, where each is within its limits.
+pub(crate) fn serving_of(alloc: Global, options: &ArgMatches<'_>) -> Result<ServeOptions, Unread>
+    ensures { IsReadAs (λ s. s) (serving_of (rows_of (found_of options.now))) result }
+{
+    let port = port_of(options)?;
+    let accept = asked(options, &ACCEPT)?;
+    let workers = asked(options, &WORKERS)?;
+    let servent = servent_of(options)?;
+    let peers = peers_of(alloc, options)?;
+    let limits = limits_of(options)?;
+    Ok(ServeOptions {
+        port,
+        accept,
+        workers,
+        servent,
+        peers,
+        idle: limits.idle,
+        life: limits.life,
+        crowd: limits.crowd,
+        retry: limits.retry,
+        seconds: limits.seconds,
+        grace: limits.grace,
+        early: is_set(options, "stop-early"),
+        until_eof: is_set(options, "until-eof"),
+        steps: limits.steps,
+        keeps: is_set(options, "keep-history"),
+        report: is_set(options, "report"),
+        progress: is_set(options, "progress"),
+    })
+}
