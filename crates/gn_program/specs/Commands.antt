@@ -105,19 +105,9 @@ own_served serving =
       kbytes = 0;
     }
 
--- a configuration is that of a router that serves
+-- a configuration is that of a router that serves: it has the numbers that are asked for
 abbrev pub IsServing : AskedServe → Config → Type 0
-IsServing serving settings =
-    IsMadeOf settings (record {
-      neighbours = 64;
-      seen = 4096;
-      servents = 1024;
-      stage = 1024;
-      out = 1024;
-      steps = serving.steps;
-      life = serving.life;
-      crowd = serving.crowd;
-    }) (own_served serving)
+IsServing serving settings = IsMadeOf settings serving.numbers (own_served serving)
 
 -- a run with so many workers is remembered, over links to the peers of the words, which are called, and to so many that call; and
 -- known bytes grew by the text of its history

@@ -15,7 +15,7 @@ use crate::told::Told;
 use gn_io::Sink;
 use gn_links::{LinkFault, Watch};
 use gn_load::{ServeFault, ServeStopped, serve_history_kept};
-use gn_rules::{Config, Numbers, Own, Step};
+use gn_rules::{Config, Own, Step};
 use gn_service::{Ran, Serving, Stop};
 use gn_tables::TableRouter;
 use gn_tcp::Unmet;
@@ -51,17 +51,7 @@ fn settings(serving: &ServeOptions) -> Config
         files: 0,
         kbytes: 0,
     };
-    let numbers = Numbers {
-        neighbours: 64,
-        seen: 4096,
-        servents: 1024,
-        stage: 1024,
-        out: 1024,
-        steps: serving.steps,
-        life: serving.life,
-        crowd: serving.crowd,
-    };
-    match Config::of(numbers, own) {
+    match Config::of(serving.numbers, own) {
         Ok(config) => config,
         Err(_) => unreachable!(),
     }

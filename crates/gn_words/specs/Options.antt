@@ -5,12 +5,13 @@ use Rattle.std.specs.Option.{option_map_or}
 use Rattle.std.specs.Str.{bytes_eq}
 use Rattle.clap.specs.Words.{Row, Text, all_of, first_of}
 use Rattle.gn_rules.specs.Limits.{most, most_workers}
+use Rattle.gn_rules.specs.declared.limits.Numbers.{Numbers}
 use Rattle.gn_text.specs.Addresses.{ip_of}
 use Rattle.gn_text.specs.Bytes.{guid_of}
 use Rattle.gn_numbers.specs.Numbers.{number_below, number_of, ◌>>=◌}
 use Rattle.gn_wire.specs.declared.kind.Guid.{Guid}
 use Rattle.gn_words.specs.ServeOptions.{AskedServe}
-use Rattle.gn_words.specs.declared.serve.Limits.{Limits}
+use Rattle.gn_words.specs.declared.serve.Times.{Times}
 use Rattle.gn_words.specs.declared.request.Peer.{Peer}
 use Rattle.gn_words.specs.declared.unread.Unread.{Unread}
 use Rattle.gn_words.specs.declared.unread.Unread.TheVariants.{Mistake, NoMemory}
@@ -73,25 +74,36 @@ peers_in texts = if nat_le (length texts) 64 then peers_after [] texts else None
 abbrev pub peers_of : List Row → Option (List Peer)
 peers_of rows = peers_in (unwrap_or (all_of (codes "peer") rows) [])
 
--- the numbers that limit a serve, where each is within its own limits
-abbrev pub limits_of : List Row → Option Limits
-limits_of rows = do
-  idle ← number_asked (codes "idle") 0 86400 rows
+-- the numbers of a router's rules, where each is within its limits
+abbrev pub numbers_of : List Row → Option Numbers
+numbers_of rows = do
+  neighbours ← number_asked (codes "neighbours") 1 most.neighbours rows
+  seen ← number_asked (codes "remembered") 1 most.seen rows
+  servents ← number_asked (codes "servents") 1 most.servents rows
+  stage ← number_asked (codes "stage") 1 most.stage rows
+  out ← number_asked (codes "queue") 1 most.out rows
   life ← number_asked (codes "life") 0 most.life rows
   crowd ← number_asked (codes "crowd") 0 most.crowd rows
+  steps ← number_asked (codes "steps") 1 most.steps rows
+  Some (record {
+    neighbours = neighbours;
+    seen = seen;
+    servents = servents;
+    stage = stage;
+    out = out;
+    steps = steps;
+    life = life;
+    crowd = crowd;
+  })
+
+-- the seconds of a serve's limits, where each is within its own: for a silent peer, a peer that doesn't listen, the run, its end
+abbrev pub times_of : List Row → Option Times
+times_of rows = do
+  idle ← number_asked (codes "idle") 0 86400 rows
   retry ← number_asked (codes "retry") 0 86400 rows
   seconds ← number_asked (codes "for") 0 86400 rows
   grace ← number_asked (codes "grace") 0 3600 rows
-  steps ← number_asked (codes "steps") 1 most.steps rows
-  Some (record {
-    idle = idle;
-    life = life;
-    crowd = crowd;
-    retry = retry;
-    seconds = seconds;
-    grace = grace;
-    steps = steps;
-  })
+  Some (record { idle = idle; retry = retry; seconds = seconds; grace = grace })
 
 -- what the options of a serve ask for, where each is within its limits
 abbrev pub serving_of : List Row → Option AskedServe
@@ -101,22 +113,21 @@ serving_of rows = do
   workers ← workers_of rows
   servent ← servent_of rows
   peers ← peers_of rows
-  limits ← limits_of rows
+  numbers ← numbers_of rows
+  times ← times_of rows
   Some (record {
     port = port;
     accept = accept;
     workers = workers;
     servent = servent;
     peers = peers;
-    idle = limits.idle;
-    life = limits.life;
-    crowd = limits.crowd;
-    retry = limits.retry;
-    seconds = limits.seconds;
-    grace = limits.grace;
+    idle = times.idle;
+    retry = times.retry;
+    numbers = numbers;
+    seconds = times.seconds;
+    grace = times.grace;
     early = is_set (codes "stop-early") rows;
     until_eof = is_set (codes "until-eof") rows;
-    steps = limits.steps;
     keeps = is_set (codes "keep-history") rows;
     report = is_set (codes "report") rows;
     progress = is_set (codes "progress") rows;

@@ -1,14 +1,14 @@
 -- What a serve is asked for.
 use Rattle.std.specs.Prelude.{ℕ, Bool, List}
+use Rattle.gn_rules.specs.declared.limits.Numbers.{Numbers}
 use Rattle.gn_wire.specs.declared.kind.Guid.{Guid}
 use Rattle.gn_words.specs.declared.request.Peer.{Peer}
 
 -- what the options of a serve say: the port, how many peers may call, the workers, the own servent's ID, the peers that
--- are called; the seconds after which a silent peer is given up, 0 for never; the limit on a descriptor's life and the threshold
--- of a connection, each 0 for none; the seconds for which a peer that doesn't listen is called again, and those after which the
--- run is stopped, 0 for never; the seconds that it then has to end; whether it is stopped at nine tenths of its steps, and at the end of standard input; the most
--- steps; whether the history of a run that stops at a fault is kept; and whether a report of the links is written, and how far
--- the run is
+-- are called; the seconds after which a silent peer is given up, 0 for never; the seconds for which a peer that doesn't listen is
+-- called again; the numbers of the router's rules; the seconds after which the run is stopped, 0 for never, and those that it then
+-- has to end; whether it is stopped at nine tenths of its steps, and at the end of standard input; whether the history of a run
+-- that stops at a fault is kept; and whether a report of the links is written, and how far the run is
 pub record AskedServe : Type 0 where
   pub port : ℕ
   pub accept : ℕ
@@ -16,14 +16,12 @@ pub record AskedServe : Type 0 where
   pub servent : Guid
   pub peers : List Peer
   pub idle : ℕ
-  pub life : ℕ
-  pub crowd : ℕ
   pub retry : ℕ
+  pub numbers : Numbers
   pub seconds : ℕ
   pub grace : ℕ
   pub early : Bool
   pub until_eof : Bool
-  pub steps : ℕ
   pub keeps : Bool
   pub report : Bool
   pub progress : Bool

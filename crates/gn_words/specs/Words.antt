@@ -65,6 +65,11 @@ serve_app = with_rules (new_app (codes "serve"))
     ∷ repeated_rule (codes "peer")
     ∷ default_rule (codes "idle") (codes "0")
     ∷ default_rule (codes "retry") (codes "0")
+    ∷ default_rule (codes "neighbours") (codes "64")
+    ∷ default_rule (codes "remembered") (codes "4096")
+    ∷ default_rule (codes "servents") (codes "1024")
+    ∷ default_rule (codes "stage") (codes "1024")
+    ∷ default_rule (codes "queue") (codes "1024")
     ∷ default_rule (codes "life") (codes "0")
     ∷ default_rule (codes "crowd") (codes "0")
     ∷ default_rule (codes "steps") (codes "1000000")
@@ -205,14 +210,21 @@ pub record PlainWordsAreRead : Type 0 where
         servent = record { 0 = 71 ∷ 71 ∷ 71 ∷ 71 ∷ 71 ∷ 71 ∷ 71 ∷ 71 ∷ 71 ∷ 71 ∷ 71 ∷ 71 ∷ 71 ∷ 71 ∷ 71 ∷ 71 ∷ [] };
         peers = [];
         idle = 0;
-        life = 0;
-        crowd = 0;
         retry = 0;
+        numbers = record {
+          neighbours = 64;
+          seen = 4096;
+          servents = 1024;
+          stage = 1024;
+          out = 1024;
+          steps = 1000000;
+          life = 0;
+          crowd = 0;
+        };
         seconds = 0;
         grace = 5;
         early = false;
         until_eof = false;
-        steps = 1000000;
         keeps = false;
         report = false;
         progress = false;

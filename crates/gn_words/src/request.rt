@@ -1,5 +1,6 @@
 //! What a command line asks for.
 
+use gn_rules::Numbers;
 use gn_show::View;
 use gn_wire::Guid;
 use std::marker::Model;
@@ -50,12 +51,10 @@ pub struct ServeOptions {
     pub peers: Vec<Peer>,
     /// The seconds after which a silent peer is given up; 0: it never is.
     pub idle: u32,
-    /// The limit on a descriptor's life; 0: there is none.
-    pub life: u8,
-    /// The threshold of a connection; 0: there is none but that of all.
-    pub crowd: u32,
     /// The seconds for which a peer that doesn't listen is called again; 0: it is called once.
     pub retry: u32,
+    /// The numbers of the router's rules.
+    pub numbers: Numbers,
     /// The seconds after which the run is stopped; 0: no time stops it.
     pub seconds: u32,
     /// The seconds that a run which is stopped has to end.
@@ -64,8 +63,6 @@ pub struct ServeOptions {
     pub early: bool,
     /// Whether the run is stopped at the end of standard input.
     pub until_eof: bool,
-    /// The most steps that the history may have.
-    pub steps: u32,
     /// Whether what stands of the history is written where the run stops at a fault.
     pub keeps: bool,
     /// Whether it is written what became of each link.
@@ -76,7 +73,7 @@ pub struct ServeOptions {
 
 impl Model for ServeOptions {
     ghost use Rattle.std.specs.Prelude.{◌+◌, ◌≤◌, length};
-    ghost use Rattle.gn_rules.specs.Limits.{IsCrew, IsWithin, most, most_links};
+    ghost use Rattle.gn_rules.specs.Limits.{AreWithin, IsCrew, most_links};
     ghost use Rattle.gn_words.specs.ServeOptions.{AskedServe};
 
     ghost Value = { AskedServe };
@@ -88,19 +85,17 @@ impl Model for ServeOptions {
       servent = s.servent;
       peers = s.peers.items;
       idle = s.idle;
-      life = s.life;
-      crowd = s.crowd;
       retry = s.retry;
+      numbers = s.numbers;
       seconds = s.seconds;
       grace = s.grace;
       early = s.early;
       until_eof = s.until_eof;
-      steps = s.steps;
       keeps = s.keeps;
       report = s.report;
       progress = s.progress;
     } };
 
     ghost invariant = { λ s. (IsCrew s.workers) × (s.accept + length s.peers.items ≤ most_links)
-        × (s.crowd ≤ most.crowd) × (IsWithin s.steps most.steps) };
+        × AreWithin s.numbers };
 }

@@ -1,11 +1,11 @@
 //! The command `serve`: its words and help, and what they ask for.
 
-ghost use Rattle.std.specs.Prelude.{◌≡◌, ◌≤◌, IfOk, codes, false, option_and_then};
+ghost use Rattle.std.specs.Prelude.{◌≡◌, IfOk, codes, false, option_and_then};
 ghost use Rattle.clap.specs.Words.{app_of, found_of, rows_of};
 ghost use Rattle.clap.specs.declared.builder.command.Command.TheViews.{out-Command as fields_of};
-ghost use Rattle.gn_rules.specs.Limits.{IsWithin, most};
+ghost use Rattle.gn_rules.specs.Limits.{AreWithin, most};
 ghost use Rattle.gn_text.specs.Bytes.{guid_of};
-ghost use Rattle.gn_words.specs.Options.{IsReadAs, limits_of, number_asked, servent_of, serving_of};
+ghost use Rattle.gn_words.specs.Options.{IsReadAs, number_asked, numbers_of, servent_of, serving_of, times_of};
 ghost use Rattle.gn_words.specs.Words.{serve_app};
 
 use crate::numbers::{NumberOption, WORKERS, WORKERS_ROW, asked};
@@ -25,7 +25,8 @@ const ABOUT: &str = "Routes for peers on this machine over TCP, and prints the h
 
 /// How it is called.
 const USAGE: &str = "gn serve --port P --accept A --workers V [--servent HEX32] [--peer IP:PORT]..
-                [--idle SECONDS] [--retry SECONDS] [--life L] [--crowd Q] [--steps N]
+                [--idle SECONDS] [--retry SECONDS] [--neighbours N] [--remembered N]
+                [--servents N] [--stage N] [--queue N] [--life L] [--crowd Q] [--steps N]
                 [--for SECONDS] [--grace SECONDS] [--stop-early] [--until-eof]
                 [--keep-history] [--report] [--progress]";
 
@@ -117,7 +118,37 @@ the others are served, 0 to 86400; 0: it is called once",
 ];
 
 /// The numbers of its rules.
-const RULES: [OptionRow; 3] = [
+const RULES: [OptionRow; 8] = [
+    OptionRow {
+        name: "neighbours",
+        letter: None,
+        takes: Takes::Usual("N", "64"),
+        help: "How many neighbours it has at once, 1 to 256",
+    },
+    OptionRow {
+        name: "remembered",
+        letter: None,
+        takes: Takes::Usual("N", "4096"),
+        help: "How many descriptors it remembers, 1 to 65536",
+    },
+    OptionRow {
+        name: "servents",
+        letter: None,
+        takes: Takes::Usual("N", "1024"),
+        help: "How many servents it remembers a way to, 1 to 65536",
+    },
+    OptionRow {
+        name: "stage",
+        letter: None,
+        takes: Takes::Usual("N", "1024"),
+        help: "How many descriptors are in flight at most, 1 to 4096",
+    },
+    OptionRow {
+        name: "queue",
+        letter: None,
+        takes: Takes::Usual("N", "1024"),
+        help: "How many packets wait for one neighbour at most, 1 to 4096",
+    },
     OptionRow {
         name: "life",
         letter: None,
@@ -247,6 +278,54 @@ const IDLE: NumberOption = NumberOption {
     mistake: "--idle takes a number of seconds, 0 to 86400",
 };
 
+/// What `--retry` takes: at most a day.
+const RETRY: NumberOption = NumberOption {
+    name: "retry",
+    least: 0,
+    most: 86_400,
+    mistake: "--retry takes a number of seconds, 0 to 86400",
+};
+
+/// What `--neighbours` takes.
+const NEIGHBOURS_AT_ONCE: NumberOption = NumberOption {
+    name: "neighbours",
+    least: 1,
+    most: Numbers::MOST.neighbours,
+    mistake: "--neighbours takes a number of 1 to 256",
+};
+
+/// What `--remembered` takes.
+const REMEMBERED: NumberOption = NumberOption {
+    name: "remembered",
+    least: 1,
+    most: Numbers::MOST.seen,
+    mistake: "--remembered takes a number of 1 to 65536",
+};
+
+/// What `--servents` takes.
+const SERVENTS: NumberOption = NumberOption {
+    name: "servents",
+    least: 1,
+    most: Numbers::MOST.servents,
+    mistake: "--servents takes a number of 1 to 65536",
+};
+
+/// What `--stage` takes.
+const STAGE: NumberOption = NumberOption {
+    name: "stage",
+    least: 1,
+    most: Numbers::MOST.stage,
+    mistake: "--stage takes a number of 1 to 4096",
+};
+
+/// What `--queue` takes.
+const QUEUE: NumberOption = NumberOption {
+    name: "queue",
+    least: 1,
+    most: Numbers::MOST.out,
+    mistake: "--queue takes a number of 1 to 4096",
+};
+
 /// What `--life` takes: what a byte holds.
 const LIFE: NumberOption = NumberOption {
     name: "life",
@@ -263,12 +342,12 @@ const CROWD: NumberOption = NumberOption {
     mistake: "--crowd takes a number of 0 to 4096",
 };
 
-/// What `--retry` takes: at most a day.
-const RETRY: NumberOption = NumberOption {
-    name: "retry",
-    least: 0,
-    most: 86_400,
-    mistake: "--retry takes a number of seconds, 0 to 86400",
+/// What `--steps` takes: as many as a history may have.
+const STEPS: NumberOption = NumberOption {
+    name: "steps",
+    least: 1,
+    most: Numbers::MOST.steps,
+    mistake: "--steps takes a number of 1 to 1000000",
 };
 
 /// What `--for` takes: at most a day.
@@ -285,14 +364,6 @@ const GRACE: NumberOption = NumberOption {
     least: 0,
     most: 3_600,
     mistake: "--grace takes a number of seconds, 0 to 3600",
-};
-
-/// What `--steps` takes: as many as a history may have.
-const STEPS: NumberOption = NumberOption {
-    name: "steps",
-    least: 1,
-    most: Numbers::MOST.steps,
-    mistake: "--steps takes a number of 1 to 1000000",
 };
 
 /// The port that `--port` asks for, where there is such a one.
@@ -332,38 +403,53 @@ fn servent_of(options: &ArgMatches<'_>) -> Result<Guid, Unread>
     }
 }
 
-/// The numbers that limit a serve, as its options ask for them.
+/// The numbers of the router's rules, where each is within its limits.
+fn numbers_of(options: &ArgMatches<'_>) -> Result<Numbers, Unread>
+    ensures read { IsReadAs (λ n. n) (numbers_of (rows_of (found_of options.now))) result }
+    ensures within { IfOk result AreWithin }
+{
+    let neighbours = asked(options, &NEIGHBOURS_AT_ONCE)?;
+    let seen = asked(options, &REMEMBERED)?;
+    let servents = asked(options, &SERVENTS)?;
+    let stage = asked(options, &STAGE)?;
+    let out = asked(options, &QUEUE)?;
+    let life = life_of(options)?;
+    let crowd = asked(options, &CROWD)?;
+    let steps = asked(options, &STEPS)?;
+    Ok(Numbers {
+        neighbours,
+        seen,
+        servents,
+        stage,
+        out,
+        steps,
+        life,
+        crowd,
+    })
+}
+
+/// How long a serve waits and goes on, in seconds.
 #[derive(Clone, Copy, Debug)]
-struct Limits {
+struct Times {
     idle: u32,
-    life: u8,
-    crowd: u32,
     retry: u32,
     seconds: u32,
     grace: u32,
-    steps: u32,
 }
 
-/// The numbers that limit a serve, where each is within its own limits.
-fn limits_of(options: &ArgMatches<'_>) -> Result<Limits, Unread>
-    ensures read { IsReadAs (λ l. l) (limits_of (rows_of (found_of options.now))) result }
-    ensures within { IfOk result (λ l. (l.crowd ≤ most.crowd) × (IsWithin l.steps most.steps)) }
+/// How long a serve waits and goes on, where each time is within its limits.
+fn times_of(options: &ArgMatches<'_>) -> Result<Times, Unread>
+    ensures { IsReadAs (λ t. t) (times_of (rows_of (found_of options.now))) result }
 {
     let idle = asked(options, &IDLE)?;
-    let life = life_of(options)?;
-    let crowd = asked(options, &CROWD)?;
     let retry = asked(options, &RETRY)?;
     let seconds = asked(options, &SECONDS)?;
     let grace = asked(options, &GRACE)?;
-    let steps = asked(options, &STEPS)?;
-    Ok(Limits {
+    Ok(Times {
         idle,
-        life,
-        crowd,
         retry,
         seconds,
         grace,
-        steps,
     })
 }
 
@@ -376,22 +462,21 @@ pub(crate) fn serving_of(alloc: Global, options: &ArgMatches<'_>) -> Result<Serv
     let workers = asked(options, &WORKERS)?;
     let servent = servent_of(options)?;
     let peers = peers_of(alloc, options)?;
-    let limits = limits_of(options)?;
+    let numbers = numbers_of(options)?;
+    let times = times_of(options)?;
     Ok(ServeOptions {
         port,
         accept,
         workers,
         servent,
         peers,
-        idle: limits.idle,
-        life: limits.life,
-        crowd: limits.crowd,
-        retry: limits.retry,
-        seconds: limits.seconds,
-        grace: limits.grace,
+        idle: times.idle,
+        retry: times.retry,
+        numbers,
+        seconds: times.seconds,
+        grace: times.grace,
         early: is_set(options, "stop-early"),
         until_eof: is_set(options, "until-eof"),
-        steps: limits.steps,
         keeps: is_set(options, "keep-history"),
         report: is_set(options, "report"),
         progress: is_set(options, "progress"),

@@ -11,6 +11,5 @@ invariant_of-result c =
     let may = asked_within (codes "accept") 0 128 c.in_ok-accept.accept rows c.in_ok-accept.ensures in (
       record { least = crew.0; greatest = crew.1 },
       few_links _ _ may.1 c.in_ok-peers.ensures.few,
-      c.in_ok-limits.ensures.within.0,
-      c.in_ok-limits.ensures.within.1,
+      c.in_ok-numbers.ensures.within,
     )
