@@ -1,8 +1,8 @@
 //! How runs over the loopback end: nobody holds one that is stopped, and nobody waits for it in vain.
 
-use crate::loopback::peers::{Peer, called, play};
-use crate::loopback::{DRAINED, have_ended, report_of, serve};
-use crate::wanted::a_listener;
+use crate::serving::loopback::peers::{Peer, called, play};
+use crate::serving::loopback::{DRAINED, have_ended, report_of, serve};
+use crate::serving::wanted::a_listener;
 use gn_bodies::{ReaderEnd, WriterEnd};
 use gn_fixtures::a_report;
 use gn_service::{Serving, Stop};

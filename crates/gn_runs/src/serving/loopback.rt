@@ -2,8 +2,8 @@
 
 pub(crate) mod peers;
 
-use crate::in_time::watch;
-use crate::wanted::a_listener;
+use crate::serving::in_time::watch;
+use crate::serving::wanted::a_listener;
 use gn_bodies::{ReaderEnd, WriterEnd};
 use gn_fixtures::{a_report, usual};
 use gn_links::NoGate;

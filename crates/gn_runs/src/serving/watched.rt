@@ -1,7 +1,7 @@
 //! What who watches a run learns of it as a whole.
 
-use crate::loopback::peers::sent;
-use crate::wanted::a_listener;
+use crate::serving::loopback::peers::sent;
+use crate::serving::wanted::a_listener;
 use gn_fixtures::{PING, usual};
 use gn_io::{ReaderSource, Sink, Source, WriterSink};
 use gn_links::{Gate, Watch};

@@ -282,7 +282,7 @@ where
     ensures writer { IfSome result (λ r. (r.1.writer.number ≡ 1) × (r.1.writer.receipts ≡ [])) }
     ensures worker { IfSome result (λ r. (r.1.worker.number ≡ 2) × (r.1.worker.receipts ≡ [])) }
 {
-    let (service, mut actors) = crate::hub::service_of::<A, C, L>(
+    let (service, mut actors) = crate::threads::hub::service_of::<A, C, L>(
         alloc,
         blank,
         setting.steps,

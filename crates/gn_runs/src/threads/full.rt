@@ -1,7 +1,7 @@
 //! A full history, found where no memory is left for what the threads give back.
 
-use crate::in_step::{Meeting, PacedLink};
-use crate::runs::run_of;
+use crate::threads::in_step::{Meeting, PacedLink};
+use crate::threads::runs::run_of;
 use gn_fixtures::{Heap, usual};
 use gn_links::{Gate, MemoryLink};
 use gn_shake::{Role, request};

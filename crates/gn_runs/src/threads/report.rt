@@ -2,7 +2,7 @@
 
 ghost use Rattle.std.specs.Prelude.{◌≡◌, length, IfOk};
 
-use crate::runs::table_run;
+use crate::threads::runs::table_run;
 use gn_bodies::{ReaderEnd, WriterEnd};
 use gn_fixtures::{PING, a_report, ping};
 use gn_links::{MemoryLink, NoGate};

@@ -1,6 +1,6 @@
 //! Small runs of many threads over memory links.
 
-use crate::in_step::{Meeting, PacedLink};
+use crate::threads::in_step::{Meeting, PacedLink};
 use gn_bodies::WriterEnd;
 use gn_fixtures::{OWN, PING, a_report};
 use gn_links::{Gate, Link, MemoryLink, NoGate};

@@ -2,7 +2,7 @@
 
 ghost use Rattle.std.specs.Prelude.{◌≡◌, ◌+◌};
 
-use crate::hub::{service_of, stands_in};
+use crate::threads::hub::{service_of, stands_in};
 use gn_fixtures::{ping, usual};
 use gn_hub::{Actor, Outgoing, Role, Service};
 use gn_payload::Checked;

@@ -1,6 +1,6 @@
 //! What a gate is told of a connection that a link's two threads would close.
 
-use crate::runs::table_run;
+use crate::threads::runs::table_run;
 use gn_bodies::{ReaderEnd, WriterEnd};
 use gn_fixtures::{PING, a_report};
 use gn_links::{Gate, Made, MemoryLink};

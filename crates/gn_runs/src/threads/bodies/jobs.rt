@@ -2,7 +2,7 @@
 
 use super::worked::ONE_PING;
 use super::{Setting, USUAL, run_link};
-use crate::hub::lines_of;
+use crate::threads::hub::lines_of;
 use gn_bodies::BodyFault;
 use gn_fixtures::PING;
 use gn_links::MemoryLink;

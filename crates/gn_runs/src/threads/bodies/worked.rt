@@ -1,7 +1,7 @@
 //! The worked runs of one link.
 
 use super::{Ran, Setting, USUAL, WORKER, run_link};
-use crate::hub::lines_of;
+use crate::threads::hub::lines_of;
 use gn_bodies::{ReaderEnd, WriterEnd};
 use gn_fixtures::{OWN_PONG, PING};
 use gn_hub::Door;

@@ -3,7 +3,7 @@
 use super::endless::EndlessLink;
 use super::run_over;
 use super::slow::SlowLink;
-use crate::runs::{plain_links, run_of};
+use crate::threads::runs::{plain_links, run_of};
 use gn_bodies::{ReaderEnd, WriterEnd};
 use gn_fixtures::{Left, OWN_PONG, PING, READER, WRITER, usual};
 use gn_links::{MemoryLink, NoGate};

@@ -1,6 +1,6 @@
 use denote.Param.Send.{sendable}
-use Rattle.gn_memory_runs.proofs.SendLemmas.{reader_send, writer_send}
-use Rattle.gn_memory_runs.proofs.runs.run_refused.Goals as goal
+use Rattle.gn_runs.proofs.SendLemmas.{reader_send, writer_send}
+use Rattle.gn_runs.proofs.memory.runs.run_refused.Goals as goal
 
 pub run-ran-requires-send-K-Reader : goal.run-ran-requires-send-K-Reader
 run-ran-requires-send-K-Reader g c κs within = search (sendable, reader_send) depth 40

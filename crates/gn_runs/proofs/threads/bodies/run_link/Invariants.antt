@@ -1,4 +1,4 @@
-use Rattle.gn_thread_runs.proofs.bodies.run_link.Given as goal
+use Rattle.gn_runs.proofs.threads.bodies.run_link.Given as goal
 
 abbrev pub ghosts-in_stage-B-Ledger : goal.ghosts-in_stage-B-Ledger
 ghosts-in_stage-B-Ledger g a = record { name = a.blank.name; parts = a.blank.parts }

@@ -1,4 +1,4 @@
-use Rattle.gn_memory_runs.proofs.bodies.BodiesTurns.turn.Given as goal
+use Rattle.gn_runs.proofs.memory.bodies.BodiesTurns.turn.Given as goal
 
 abbrev pub ghosts-in_stage-S-Ledger : goal.ghosts-in_stage-S-Ledger
 ghosts-in_stage-S-Ledger g a = record { name = a.blank.name; parts = a.blank.parts }
