@@ -1,15 +1,13 @@
 //! What the tests of several crates share: the own servent, the usual configuration, and a Ping with its answer; an allocator
 //! which counts the growths that it is asked for and refuses those that a test names; the test of a call that can be out of
-//! memory, where each of its growths is refused in turn; and what a run left.
+//! memory, where each of its growths is refused in turn.
 #![tactic(auto)]
 
-mod left;
 mod same;
 mod samples;
 mod sweep;
 mod turn;
 
-pub use left::{Left, READER, WRITER, a_report, left_of};
 pub use same::{are_same, is_same_step};
 pub use samples::{FIRST_PING, OWN, OWN_PONG, PING, ping, usual};
 use std::alloc::{AllocError, Allocator};

@@ -2,6 +2,8 @@
 #![tactic(auto)]
 
 #[cfg(test)]
+mod left;
+#[cfg(test)]
 mod memory;
 #[cfg(test)]
 mod serving;

@@ -1,10 +1,10 @@
 //! How runs over the loopback end: nobody holds one that is stopped, and nobody waits for it in vain.
 
+use crate::left::a_report;
 use crate::serving::loopback::peers::{Peer, called, play};
 use crate::serving::loopback::{DRAINED, have_ended, report_of, serve};
 use crate::serving::wanted::a_listener;
 use gn_bodies::{ReaderEnd, WriterEnd};
-use gn_fixtures::a_report;
 use gn_service::{Serving, Stop};
 use std::test::Fail;
 use std::thread;

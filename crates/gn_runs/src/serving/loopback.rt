@@ -2,10 +2,11 @@
 
 pub(crate) mod peers;
 
+use crate::left::a_report;
 use crate::serving::in_time::watch;
 use crate::serving::wanted::a_listener;
 use gn_bodies::{ReaderEnd, WriterEnd};
-use gn_fixtures::{a_report, usual};
+use gn_fixtures::usual;
 use gn_links::NoGate;
 use gn_report::Report;
 use gn_service::{Serving, serve_on};

@@ -4,8 +4,8 @@ mod endless;
 mod rows;
 mod slow;
 
+use crate::left::{Left, a_report, left_of};
 use crate::threads::runs::run_of;
-use gn_fixtures::{Left, a_report, left_of};
 use gn_links::{Link, MemoryLink, NoGate};
 use gn_rules::Config;
 use slow::SlowWriter;

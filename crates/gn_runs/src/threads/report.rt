@@ -2,9 +2,10 @@
 
 ghost use Rattle.std.specs.Prelude.{◌≡◌, length, IfOk};
 
+use crate::left::a_report;
 use crate::threads::runs::table_run;
 use gn_bodies::{ReaderEnd, WriterEnd};
-use gn_fixtures::{PING, a_report, ping};
+use gn_fixtures::{PING, ping};
 use gn_links::{MemoryLink, NoGate};
 use gn_report::*;
 use gn_rules::{Event, Receipt, Reply, Stats, Step};

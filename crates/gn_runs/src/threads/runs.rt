@@ -1,8 +1,9 @@
 //! Small runs of many threads over memory links.
 
+use crate::left::a_report;
 use crate::threads::in_step::{Meeting, PacedLink};
 use gn_bodies::WriterEnd;
-use gn_fixtures::{OWN, PING, a_report};
+use gn_fixtures::{OWN, PING};
 use gn_links::{Gate, Link, MemoryLink, NoGate};
 use gn_report::Report;
 use gn_rules::Config;

@@ -1,8 +1,9 @@
 //! What a gate is told of a connection that a link's two threads would close.
 
+use crate::left::a_report;
 use crate::threads::runs::table_run;
 use gn_bodies::{ReaderEnd, WriterEnd};
-use gn_fixtures::{PING, a_report};
+use gn_fixtures::PING;
 use gn_links::{Gate, Made, MemoryLink};
 use gn_shake::{Role, request};
 use gn_wire::{FrameFault, Kind};

@@ -10,27 +10,27 @@ use std::alloc::{AllocError, Global};
 use std::test::Fail;
 
 /// The actor of the reader of a run's only link.
-pub const READER: u32 = 0;
+pub(crate) const READER: u32 = 0;
 
 /// The actor of its writer.
-pub const WRITER: u32 = 1;
+pub(crate) const WRITER: u32 = 1;
 
 /// What a run left. Its history is legal, by what a run promises.
 #[derive(Drop)]
-pub struct Left {
+pub(crate) struct Left {
     /// How the bodies of the first link ended.
-    pub ends: (ReaderEnd, WriterEnd),
+    pub(crate) ends: (ReaderEnd, WriterEnd),
     /// The number of connections.
-    pub connects: usize,
+    pub(crate) connects: usize,
     /// The number of Admit events.
-    pub admits: usize,
+    pub(crate) admits: usize,
     /// Who made each Close event, in order.
-    pub closers: Vec<u32>,
+    pub(crate) closers: Vec<u32>,
 }
 
 impl Left {
     /// Whether no connection is live at the end: a legal history closes each once at most.
-    pub fn is_all_closed(&self) -> bool {
+    pub(crate) fn is_all_closed(&self) -> bool {
         self.closers.len() == self.connects
     }
 }
@@ -82,7 +82,10 @@ fn left_by(
 }
 
 /// What a run left, and the writer of the first link.
-pub fn left_of<Rd: Drop, W: Drop>(alloc: Global, report: Report<Rd, W>) -> Result<(Left, W), Fail> {
+pub(crate) fn left_of<Rd: Drop, W: Drop>(
+    alloc: Global,
+    report: Report<Rd, W>,
+) -> Result<(Left, W), Fail> {
     let Report {
         history,
         mut links,
@@ -112,7 +115,7 @@ pub fn left_of<Rd: Drop, W: Drop>(alloc: Global, report: Report<Rd, W>) -> Resul
 }
 
 /// The report of a run.
-pub fn a_report<T: Drop>(ran: Result<T, RunFault>) -> Result<T, Fail>
+pub(crate) fn a_report<T: Drop>(ran: Result<T, RunFault>) -> Result<T, Fail>
     ensures { IfOk result (λ report. ran ≡ Ok report) }
 {
     match ran {
