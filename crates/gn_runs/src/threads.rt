@@ -1,11 +1,11 @@
 //! The crates of the threads: the stage queue, the lock, the bodies of one link, runs of many threads over links in memory, and
 //! what the report of a run is compared by.
 
-mod bodies;
+pub(crate) mod bodies;
 mod failing;
 mod full;
 mod given_up;
-mod hub;
+pub(crate) mod hub;
 mod in_step;
 mod report;
 mod runs;

@@ -2,8 +2,9 @@
 
 ghost use Rattle.std.specs.Prelude.{◌≡◌};
 
+use crate::threads::hub::service_of;
 use gn_capture::read_history;
-use gn_fixtures::{Heap, Refused, Turn, Turns, are_same, growths, ping, usual};
+use gn_fixtures::{Heap, Refused, Turn, Turns, are_same, growths, ping};
 use gn_hub::{Actor, Hub, Next, Outgoing, Role, Service, ServiceFault};
 use gn_payload::Checked;
 use gn_rules::{Event, Historian, Refusal};
@@ -200,19 +201,8 @@ fn is_whole<A: Allocator + Copy, C: Historian<A>, L: Ledger>(
     Ok(is_left && receipts == steps.len() && hub.book() == 5)
 }
 
-/// Makes a service of two links and one worker.
-fn a_service<A: Allocator + Copy, C: Historian<A> + Drop, L: Ledger>(
-    alloc: A,
-    blank: Blank,
-) -> Result<(Service<C, L, A>, Vec<Actor<L, A>, A>), ServiceFault>
-    requires name { blank.name ≡ L.name }
-    requires parts { (blank.parts ≡ L.parts) × (blank.parts ≡ 6) }
-{
-    let Ok(config) = usual(100) else {
-        return Err(ServiceFault::BadWorkers);
-    };
-    Service::<C, L, A>::new(alloc, blank, &config, &[Role::Plain, Role::Plain], 1)
-}
+/// The roles of both links.
+const ROLES: [Role; 2] = [Role::Plain, Role::Plain];
 
 /// Makes all calls at the lock.
 fn turn_locked<'r, 's, A: Allocator + Copy, C: Historian<A> + Drop, L: Ledger, R: Wait>(
@@ -240,7 +230,7 @@ fn turn_of<A: Allocator + Copy, C: Historian<A> + Drop, L: Ledger, R: Wait>(
     requires parts { (blank.parts ≡ L.parts) × (blank.parts ≡ 6) }
 {
     heap.refuse_none();
-    let (service, mut actors) = a_service::<A, C, L>(alloc, blank)?;
+    let (service, mut actors) = service_of::<A, C, L>(alloc, blank, 100, &ROLES)?;
     let (number, is_locked) = call;
     let (turn, hub) = if is_locked {
         let turn = turn_locked(rt, heap, &service, actors.as_mut_slice(), number, refused);
@@ -278,7 +268,7 @@ fn actors_of<A: Allocator + Copy, C: Historian<A> + Drop, L: Ledger>(
     requires name { blank.name ≡ L.name }
     requires parts { (blank.parts ≡ L.parts) × (blank.parts ≡ 6) }
 {
-    let (_, actors) = a_service::<A, C, L>(alloc, blank)?;
+    let (_, actors) = service_of::<A, C, L>(alloc, blank, 100, &ROLES)?;
     Ok(actors.len())
 }
 

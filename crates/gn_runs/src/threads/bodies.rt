@@ -12,7 +12,7 @@ use fakes::{Doorman, Told};
 use gn_bodies::{
     BodyFault, ReaderEnd, WriterDone, WriterEnd, reader_body, worker_body, writer_body,
 };
-use gn_fixtures::ping;
+use gn_fixtures::{Heap, Refused, ping};
 use gn_hub::{Actor, Door, Hub, Service};
 use gn_links::{Link, LinkReader, LinkWriter, MemoryLink, MemoryWriter};
 use gn_rules::{Event, Historian, RouterCore, Step};
@@ -85,30 +85,33 @@ fn actors_of<A: Allocator + Copy, L: Ledger>(actors: Vec<Actor<L, A>, A>) -> Opt
 }
 
 /// How the reader, the worker and the writer end.
-type Ends = (
+pub(crate) type Ends = (
     Result<ReaderEnd, BodyFault>,
     Result<(), BodyFault>,
     Result<WriterEnd, BodyFault>,
 );
 
-/// How the bodies of one link ended, who passed the gate last with which ticket, of which steps and ends the gate was told, and
-/// what they left of the run.
+/// How the bodies of one link ended, how many receipts they have, who passed the gate last with which ticket, of which steps and
+/// ends the gate was told, and what they left of the run.
 #[derive(Drop)]
-struct Ran<W: LinkWriter, A: Allocator = Global> {
-    ends: Ends,
+pub(crate) struct Ran<W: LinkWriter, A: Allocator = Global> {
+    pub(crate) ends: Ends,
+    pub(crate) receipts: usize,
     passed: Option<(u32, u32)>,
     told: Told,
     ended: (bool, bool),
-    writer: W,
-    history: Vec<Step<A>, A>,
+    pub(crate) writer: W,
+    pub(crate) history: Vec<Step<A>, A>,
     door: Door,
     is_closing: bool,
-    has_failed: bool,
+    pub(crate) has_failed: bool,
+    /// Whether a growth of a body was refused.
+    pub(crate) has_refused: bool,
 }
 
 /// What a run of one link is like.
 #[derive(Clone, Copy)]
-struct Setting {
+pub(crate) struct Setting<'a> {
     /// The most steps of its history.
     steps: u32,
     /// The ticket of a job that waits in its queue and that nobody admitted.
@@ -117,23 +120,57 @@ struct Setting {
     connected: u32,
     /// Whether it has no worker.
     is_alone: bool,
+    /// The memory of the bodies, and which of their growths it refuses; nothing else that the run does is refused any.
+    refused: Option<(&'a Heap, Refused)>,
 }
 
 /// A history of a hundred steps, and nothing out of the way.
-const USUAL: Setting = Setting {
+const USUAL: Setting<'static> = Setting {
     steps: 100,
     forged: None,
     connected: 0,
     is_alone: false,
+    refused: None,
 };
 
-/// What a gate and a hub know once all bodies have returned, with what those gave back.
+impl<'a> Setting<'a> {
+    /// The usual one, where the bodies are refused these growths of a memory.
+    pub(crate) fn refusing(heap: &'a Heap, refused: Refused) -> Self {
+        Setting {
+            refused: Some((heap, refused)),
+            ..USUAL
+        }
+    }
+}
+
+/// Refuses the growths of a setting from now on.
+fn begin_refusals(refused: Option<(&Heap, Refused)>) {
+    if let Some((heap, growths)) = refused {
+        growths.begin(heap);
+    }
+}
+
+/// Refuses none from now on: whether one was refused.
+fn end_refusals(refused: Option<(&Heap, Refused)>) -> bool {
+    match refused {
+        Some((heap, _)) => {
+            let has_refused = heap.has_refused();
+            heap.refuse_none();
+            has_refused
+        }
+        None => false,
+    }
+}
+
+/// What a gate and a hub know once all bodies have returned, with what those gave back. The reader and the worker have so many
+/// receipts.
 fn what_ran<A, C, L: Ledger, W: LinkWriter>(
     gate: &Doorman,
     hub: Hub<C, L, A>,
-    read: Result<ReaderEnd, BodyFault>,
-    worked: Result<(), BodyFault>,
+    read: (Result<ReaderEnd, BodyFault>, usize),
+    worked: (Result<(), BodyFault>, usize),
     wrote: WriterDone<W, L, A>,
+    has_refused: bool,
 ) -> Ran<W, A>
 where
     A: Allocator + Copy,
@@ -145,9 +182,11 @@ where
         end,
         ..
     } = wrote;
+    let receipts = actor.receipts().len();
     drop(actor);
     Ran {
-        ends: (read, worked, end),
+        ends: (read.0, worked.0, end),
+        receipts: receipts.wrapping_add(read.1).wrapping_add(worked.1),
         passed: gate.last.get(),
         told: gate.told.get(),
         ended: gate.ended.get(),
@@ -155,18 +194,19 @@ where
         door: hub.door(0),
         is_closing: hub.closing(),
         has_failed: hub.failed(),
+        has_refused,
         history: hub.into_router().into_history(),
     }
 }
 
-/// How a worker ends that has this outlet; well, where there is none.
+/// How a worker ends that has this outlet, and how many receipts it has; well and with none, where there is no outlet.
 fn worker_end<A, C, B: Site + Ledger, R: Wait>(
     rt: &R,
     service: &Service<C, B, A>,
     worker: Actor<B, A>,
     gate: &Doorman,
     outlet: Option<Outlet<B, A>>,
-) -> Result<(), BodyFault>
+) -> (Result<(), BodyFault>, usize)
 where
     A: Allocator + Copy,
     C: RouterCore<A> + Drop,
@@ -174,10 +214,10 @@ where
 {
     let Some(outlet) = outlet else {
         drop(worker);
-        return Ok(());
+        return (Ok(()), 0);
     };
     let done = worker_body(rt, service, worker, WORKER, gate, outlet);
-    let end = done.end;
+    let end = (done.end, done.actor.receipts().len());
     drop(done);
     end
 }
@@ -193,6 +233,7 @@ fn in_turn<A, C, B: Site + Ledger, Rd: LinkReader, W: LinkWriter, R: Wait>(
     role: Role,
     reader: Rd,
     writer: W,
+    refused: Option<(&Heap, Refused)>,
 ) -> Ran<W, A>
 where
     A: Allocator + Copy,
@@ -209,12 +250,14 @@ where
         worker: k,
     } = actors;
     let gate = Doorman::new();
+    begin_refusals(refused);
     let done = reader_body(rt, alloc, &service, &gate, a, 0, role, reader, intake);
-    let read = done.end;
+    let read = (done.end, done.actor.receipts().len());
     drop(done);
     let worked = worker_end(rt, &service, k, &gate, outlet);
     let wrote = writer_body(rt, alloc, &service, &gate, w, 0, role, writer);
-    what_ran(&gate, service.into_hub(), read, worked, wrote)
+    let has_refused = end_refusals(refused);
+    what_ran(&gate, service.into_hub(), read, worked, wrote, has_refused)
 }
 
 /// Puts a job of a Ping that nobody admitted, where the setting has one.
@@ -270,7 +313,7 @@ fn service_of<A, C, L: Ledger, R: Wait>(
     rt: &R,
     alloc: A,
     blank: Blank,
-    setting: Setting,
+    setting: Setting<'_>,
     role: Role,
 ) -> Option<(Service<C, L, A>, Actors<L, A>)>
 where
@@ -287,7 +330,7 @@ where
         blank,
         setting.steps,
         &[role],
-    )?;
+    ).ok()?;
     connect(rt, &service, actors.pop(), setting.connected);
     match actors_of(actors) {
         Some(actors) => Some((service, actors)),
@@ -308,23 +351,24 @@ fn outlet_of<S: Site, A: Allocator>(outlet: Outlet<S, A>, is_alone: bool) -> Opt
 }
 
 /// The bodies of one memory link in turn, with the ends of a stage and the actors of a service of their own.
-fn in_stage<A, C, B: Site + Ledger, R: Wait>(
+fn in_stage<A, B, C, L: Site + Ledger, R: Wait>(
     rt: &R,
     alloc: A,
     blank: Blank,
     stage: Stage<A>,
-    setting: Setting,
-    link: MemoryLink,
-) -> Option<Ran<MemoryWriter, A>>
+    setting: Setting<'_>,
+    link: MemoryLink<B>,
+) -> Option<Ran<MemoryWriter<B>, A>>
 where
     A: Allocator + Copy,
+    B: Allocator + Copy,
     C: Historian<A> + Drop,
-    requires name { blank.name ≡ B.name }
-    requires parts { (blank.parts ≡ B.parts) × (blank.parts ≡ 4) }
-    requires stage { stage ≡ B.stage }
+    requires name { blank.name ≡ L.name }
+    requires parts { (blank.parts ≡ L.parts) × (blank.parts ≡ 4) }
+    requires stage { stage ≡ L.stage }
 {
     let role = link.role();
-    let ends = ends_of::<A, B>(alloc, stage);
+    let ends = ends_of::<A, L>(alloc, stage);
     let Ok((reader, writer)) = link.split() else {
         drop(ends);
         return None;
@@ -335,7 +379,7 @@ where
         return None;
     };
     forge(rt, &mut intake, setting.forged);
-    let made = service_of::<A, C, B, R>(rt, alloc, blank, setting, role);
+    let made = service_of::<A, C, L, R>(rt, alloc, blank, setting, role);
     let Some((service, actors)) = made else {
         drop(intake);
         drop(outlet);
@@ -345,17 +389,26 @@ where
     };
     let outlet = outlet_of(outlet, setting.is_alone);
     Some(in_turn(
-        rt, alloc, service, actors, intake, outlet, role, reader, writer,
+        rt,
+        alloc,
+        service,
+        actors,
+        intake,
+        outlet,
+        role,
+        reader,
+        writer,
+        setting.refused,
     ))
 }
 
 /// The bodies of one memory link in turn, over the table router.
-fn run_link<A: Allocator + Copy, R: Wait>(
+pub(crate) fn run_link<A: Allocator + Copy, B: Allocator + Copy, R: Wait>(
     rt: &R,
     alloc: A,
-    setting: Setting,
-    link: MemoryLink,
-) -> Option<Ran<MemoryWriter, A>> {
+    setting: Setting<'_>,
+    link: MemoryLink<B>,
+) -> Option<Ran<MemoryWriter<B>, A>> {
     let stage = Stage::new(alloc, 8).ok()?;
-    in_stage::<A, TableRouter<A>, Brand, R>(rt, alloc, Blank::new(4), stage, setting, link)
+    in_stage::<A, B, TableRouter<A>, Brand, R>(rt, alloc, Blank::new(4), stage, setting, link)
 }

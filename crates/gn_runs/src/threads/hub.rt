@@ -9,7 +9,7 @@ ghost use Rattle.std.specs.Prelude.{◌≡◌, ◌+◌, ◌*◌, ◌≤◌, leng
 ghost use Rattle.gn_rules.specs.Limits.{most_links};
 
 use gn_fixtures::{ping, usual};
-use gn_hub::{Actor, Hub, Next, Role, Service};
+use gn_hub::{Actor, Hub, Next, Role, Service, ServiceFault};
 use gn_payload::Checked;
 use gn_rules::{ConnId, Event, Historian, Refusal, RouterCore, Step, Ticket, is_step_of};
 use gn_search::PlainRouter;
@@ -195,13 +195,15 @@ pub(crate) fn service_of<A: Allocator + Copy, C: Historian<A> + Drop, L: Ledger>
     blank: Blank,
     steps: u32,
     roles: &[Role],
-) -> Option<(Service<C, L, A>, Vec<Actor<L, A>, A>)>
+) -> Result<(Service<C, L, A>, Vec<Actor<L, A>, A>), ServiceFault>
     requires name { blank.name ≡ L.name }
     requires parts { (blank.parts ≡ L.parts) × (blank.parts ≡ 2 * length roles.now + 1 + 1) }
     requires few { length roles.now ≤ most_links }
 {
-    let config = usual(steps).ok()?;
-    Service::<C, L, A>::new(alloc, blank, &config, roles, 1).ok()
+    let Ok(config) = usual(steps) else {
+        return Err(ServiceFault::BadWorkers);
+    };
+    Service::<C, L, A>::new(alloc, blank, &config, roles, 1)
 }
 
 /// The calls of a run of two plain links and one worker.
@@ -214,7 +216,7 @@ fn work<A: Allocator + Copy, C: Historian<A> + Drop, L: Ledger>(
     requires name { blank.name ≡ L.name }
     requires parts { (blank.parts ≡ L.parts) × (blank.parts ≡ 6) }
 {
-    let Some((service, mut actors)) = service_of::<A, C, L>(
+    let Ok((service, mut actors)) = service_of::<A, C, L>(
         alloc,
         blank,
         100,

@@ -88,7 +88,7 @@ fn hundred<
     requires name { blank.name ≡ L.name }
     requires parts { (blank.parts ≡ L.parts) × (blank.parts ≡ 6) }
 {
-    let Some((service, actors)) = service_of::<A, C, L>(
+    let Ok((service, actors)) = service_of::<A, C, L>(
         alloc,
         blank,
         100,
@@ -260,7 +260,7 @@ fn wake<
     requires name { blank.name ≡ L.name }
     requires parts { (blank.parts ≡ L.parts) × (blank.parts ≡ 4) }
 {
-    let Some((service, actors)) = service_of::<A, C, L>(alloc, blank, 100, &[Role::Plain]) else {
+    let Ok((service, actors)) = service_of::<A, C, L>(alloc, blank, 100, &[Role::Plain]) else {
         return Err(Fail::from("a service"));
     };
     let Some(((reader, writer), worker)) = first_three(actors) else {

@@ -1,7 +1,7 @@
 use Rattle.gn_runs.proofs.threads.bodies.run_link.Given as goal
 
-abbrev pub ghosts-in_stage-B-Ledger : goal.ghosts-in_stage-B-Ledger
-ghosts-in_stage-B-Ledger g a = record { name = a.blank.name; parts = a.blank.parts }
+abbrev pub ghosts-in_stage-L-Ledger : goal.ghosts-in_stage-L-Ledger
+ghosts-in_stage-L-Ledger g a = record { name = a.blank.name; parts = a.blank.parts }
 
-abbrev pub ghosts-in_stage-B-Site : goal.ghosts-in_stage-B-Site
-ghosts-in_stage-B-Site g a = record { stage = a.stage }
+abbrev pub ghosts-in_stage-L-Site : goal.ghosts-in_stage-L-Site
+ghosts-in_stage-L-Site g a = record { stage = a.stage }
