@@ -8,7 +8,7 @@ mod given_up;
 pub(crate) mod hub;
 mod in_step;
 mod report;
-mod runs;
+pub(crate) mod runs;
 mod service;
 mod stage;
 mod told;

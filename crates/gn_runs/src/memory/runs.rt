@@ -1,16 +1,17 @@
 //! Runs of two links of one Ping each by one worker.
 
+use crate::serving::loads::load_with_tables;
+use crate::threads::runs::run_of;
 use gn_bodies::{ReaderEnd, WriterEnd};
 use gn_fixtures::{Heap, OWN, PING, Refused, Turn, has_answered, refused_at};
 use gn_io::{ReaderSource, WriterSink};
 use gn_links::{MemoryLink, NoGate};
-use gn_load::{LoadFault, load};
+use gn_load::LoadFault;
 use gn_replay::ReplayFault;
-use gn_rules::{BadConfig, Config, Historian};
+use gn_rules::{BadConfig, Config};
 use gn_shake::Role;
 use gn_stage::StageFault;
-use gn_tables::TableRouter;
-use gn_threads::{RunFault, run};
+use gn_threads::RunFault;
 use std::alloc::{AllocError, Allocator};
 use std::sync::Wait;
 use std::test::Fail;
@@ -39,19 +40,17 @@ fn links_of_pings<A: Allocator + Copy, B: Allocator>(
 }
 
 /// Runs both links, where these growths are refused: out of memory, or a report. That its history is legal is proved.
-fn run_refused<
-    A: Allocator + Copy + Send + Sync,
-    C: Historian<A> + Drop + Send,
-    R: Threads + Wait + Sync,
->(rt: &R, heap: &Heap, alloc: A, refused: Refused) -> Result<Turn, Fail> {
+fn run_refused<A: Allocator + Copy + Send + Sync, R: Threads + Wait + Sync>(
+    rt: &R,
+    heap: &Heap,
+    alloc: A,
+    refused: Refused,
+) -> Result<Turn, Fail> {
     heap.refuse_none();
     let config = ample()?;
     let links = links_of_pings(alloc, alloc, 2)?;
-    if links.len() > 256 {
-        return Err("two links".into());
-    }
     refused.begin(heap);
-    let ran = run::<C, _, _, _, _>(rt, alloc, &config, links, 1, &NoGate);
+    let ran = run_of(rt, alloc, &config, links, 1, &NoGate);
     let has_refused = heap.has_refused();
     heap.refuse_none();
     Ok(match ran {
@@ -70,14 +69,15 @@ fn run_refused<
 }
 
 /// How many growths of a run are refused, each alone or with all later ones, until a run meets none.
-fn growths_of_runs<
-    A: Allocator + Copy + Send + Sync,
-    C: Historian<A> + Drop + Send,
-    R: Threads + Wait + Sync,
->(rt: &R, heap: &Heap, alloc: A, with_later: bool) -> Result<u64, Fail> {
+fn growths_of_runs<A: Allocator + Copy + Send + Sync, R: Threads + Wait + Sync>(
+    rt: &R,
+    heap: &Heap,
+    alloc: A,
+    with_later: bool,
+) -> Result<u64, Fail> {
     for number in 0..10_000 {
         let refused = refused_at(number, with_later);
-        let turn = run_refused::<A, C, R>(rt, heap, alloc, refused)?;
+        let turn = run_refused(rt, heap, alloc, refused)?;
         if has_answered(refused, turn)? {
             return Ok(number);
         }
@@ -90,17 +90,13 @@ fn growths_of_runs<
 fn run_over_two<
     A: Allocator + Copy + Send + Sync,
     B: Allocator + Copy + Send + Sync,
-    C: Historian<B> + Drop + Send,
     R: Threads + Wait + Sync,
 >(rt: &R, heap: &Heap, poor: A, rich: B, count: u8) -> Result<(usize, usize), Fail> {
     heap.refuse_none();
     let config = ample()?;
     let links = links_of_pings(poor, rich, count)?;
-    if links.len() > 256 {
-        return Err("too many links".into());
-    }
     heap.refuse_from(0);
-    let ran = run::<C, _, _, _, _>(rt, rich, &config, links, 1, &NoGate);
+    let ran = run_of(rt, rich, &config, links, 1, &NoGate);
     let Ok(report) = ran else {
         return Err("a report".into());
     };
@@ -116,15 +112,15 @@ fn run_over_two<
     Ok((read, failed))
 }
 
-/// The same of one link and of two. The router is named for any allocator, since one over a heap is dear to prove.
+/// The same of one link and of two.
 fn one_and_two<
     A: Allocator + Copy + Send + Sync,
     B: Allocator + Copy + Send + Sync,
     R: Threads + Wait + Sync,
 >(rt: &R, heap: &Heap, poor: A, rich: B) -> Result<[(usize, usize); 2], Fail> {
     Ok([
-        run_over_two::<A, B, TableRouter<B>, R>(rt, heap, poor, rich, 1)?,
-        run_over_two::<A, B, TableRouter<B>, R>(rt, heap, poor, rich, 2)?,
+        run_over_two(rt, heap, poor, rich, 1)?,
+        run_over_two(rt, heap, poor, rich, 2)?,
     ])
 }
 
@@ -152,16 +148,17 @@ data 2 a2a2a2a2a2a2a2a2a2a2a2a2a2a2a2a200070000000000\n";
 
 /// Loads the capture, where these growths are refused, and writes to a memory of its own: out of memory and nothing written, or
 /// a history to its end.
-fn load_refused<
-    A: Allocator + Copy + Send + Sync,
-    B: Allocator + Copy,
-    C: Historian<A> + Drop + Send,
-    R: Threads + Wait + Sync,
->(rt: &R, heap: &Heap, alloc: A, rich: B, refused: Refused) -> Turn {
+fn load_refused<A: Allocator + Copy + Send + Sync, B: Allocator + Copy, R: Threads + Wait + Sync>(
+    rt: &R,
+    heap: &Heap,
+    alloc: A,
+    rich: B,
+    refused: Refused,
+) -> Turn {
     let mut source = ReaderSource::new(CAPTURE.as_bytes());
     let mut sink = WriterSink::new(Vec::new(rich));
     refused.begin(heap);
-    let loaded = load::<A, C, R, _, _>(rt, alloc, 1, &mut source, &mut sink);
+    let loaded = load_with_tables(rt, alloc, 1, &mut source, &mut sink);
     let has_refused = heap.has_refused();
     heap.refuse_none();
     let written = sink.into_inner();
@@ -186,12 +183,11 @@ fn load_refused<
 fn growths_of_loads<
     A: Allocator + Copy + Send + Sync,
     B: Allocator + Copy,
-    C: Historian<A> + Drop + Send,
     R: Threads + Wait + Sync,
 >(rt: &R, heap: &Heap, alloc: A, rich: B, with_later: bool) -> Result<u64, Fail> {
     for number in 0..10_000 {
         let refused = refused_at(number, with_later);
-        let turn = load_refused::<A, B, C, R>(rt, heap, alloc, rich, refused);
+        let turn = load_refused(rt, heap, alloc, rich, refused);
         if has_answered(refused, turn)? {
             return Ok(number);
         }
@@ -199,7 +195,7 @@ fn growths_of_loads<
     Err("a load with no end of growths".into())
 }
 
-/// The growths of runs alone and with all later ones, and those of loads, at a router that is named for any allocator too.
+/// The growths of runs alone and with all later ones, and those of loads.
 fn all_growths<A: Allocator + Copy + Send + Sync, B: Allocator + Copy, R: Threads + Wait + Sync>(
     rt: &R,
     heap: &Heap,
@@ -207,10 +203,10 @@ fn all_growths<A: Allocator + Copy + Send + Sync, B: Allocator + Copy, R: Thread
     rich: B,
 ) -> Result<[u64; 4], Fail> {
     Ok([
-        growths_of_runs::<A, TableRouter<A>, R>(rt, heap, alloc, false)?,
-        growths_of_runs::<A, TableRouter<A>, R>(rt, heap, alloc, true)?,
-        growths_of_loads::<A, B, TableRouter<A>, R>(rt, heap, alloc, rich, false)?,
-        growths_of_loads::<A, B, TableRouter<A>, R>(rt, heap, alloc, rich, true)?,
+        growths_of_runs(rt, heap, alloc, false)?,
+        growths_of_runs(rt, heap, alloc, true)?,
+        growths_of_loads(rt, heap, alloc, rich, false)?,
+        growths_of_loads(rt, heap, alloc, rich, true)?,
     ])
 }
 

@@ -1,13 +1,12 @@
 //! A run over the loopback, of two clients that call.
 
-use gn_fixtures::{Heap, Refused, Turn, has_answered, refused_at, usual};
-use gn_links::NoGate;
+use crate::serving::loopback;
+use crate::serving::wanted::a_listener;
+use gn_fixtures::{Heap, Refused, Turn, has_answered, refused_at};
 use gn_report::Report;
-use gn_rules::Historian;
-use gn_service::{Serving, serve_on};
+use gn_service::Serving;
 use gn_stage::StageFault;
-use gn_tables::TableRouter;
-use gn_tcp::{TcpReader, TcpWriter, listen};
+use gn_tcp::{TcpReader, TcpWriter};
 use gn_threads::RunFault;
 use std::alloc::Allocator;
 use std::net::{Net, SocketAddr, TcpListener, TcpStream};
@@ -23,7 +22,6 @@ type Served<A> = Result<Report<TcpReader<'static>, TcpWriter, A>, RunFault>;
 /// Serves two callers, and lets the listener go.
 fn serve<
     A: Allocator + Copy + Send + Sync,
-    C: Historian<A> + Drop + Send,
     R: Threads
         + Wait
         + Net<Listener = TcpListener, Stream = TcpStream>
@@ -31,20 +29,7 @@ fn serve<
         + AllocGlobal
         + Sync,
 >(rt: &R, alloc: A, listener: TcpListener) -> Served<A> {
-    let Ok(config) = usual(100) else {
-        return Err(RunFault::BadWorkers);
-    };
-    serve_on::<C, _, _, _>(
-        rt,
-        alloc,
-        &listener,
-        &config,
-        2,
-        &[],
-        &Serving::UNLIMITED,
-        1,
-        &NoGate,
-    )
+    loopback::serve(rt, alloc, &listener, 100, 2, &[], &Serving::UNLIMITED)
 }
 
 /// Two clients that have both called before either leaves. A caller that waits when the listener goes is refused.
@@ -60,7 +45,6 @@ fn two_clients<N: Net<Listener = TcpListener, Stream = TcpStream>>(
 /// Both clients and the run that serves them: whether both called, and what it answered.
 fn both_are_served<
     A: Allocator + Copy + Send + Sync,
-    C: Historian<A> + Drop + Send,
     R: Threads
         + Wait
         + Net<Listener = TcpListener, Stream = TcpStream>
@@ -68,14 +52,12 @@ fn both_are_served<
         + AllocGlobal
         + Sync,
 >(rt: &R, alloc: A) -> Result<(bool, Served<A>), Fail> {
-    let Ok(listener) = listen(rt, 0) else {
-        return Err("a listener".into());
-    };
+    let listener = a_listener(rt)?;
     let at = listener.local_addr()?;
     Ok(thread::join(
         rt,
         move || two_clients(rt, at),
-        move || serve::<A, C, R>(rt, alloc, listener),
+        move || serve(rt, alloc, listener),
     ))
 }
 
@@ -83,7 +65,6 @@ fn both_are_served<
 /// what clients hear that have more to say is shown where no memory is refused.
 fn serve_refused<
     A: Allocator + Copy + Send + Sync,
-    C: Historian<A> + Drop + Send,
     R: Threads
         + Wait
         + Net<Listener = TcpListener, Stream = TcpStream>
@@ -92,7 +73,7 @@ fn serve_refused<
         + Sync,
 >(rt: &R, heap: &Heap, alloc: A, refused: Refused) -> Result<Turn, Fail> {
     refused.begin(heap);
-    let both = both_are_served::<A, C, R>(rt, alloc);
+    let both = both_are_served(rt, alloc);
     let has_refused = heap.has_refused();
     heap.refuse_none();
     let (have_called, served) = both?;
@@ -109,7 +90,6 @@ fn serve_refused<
 /// How many growths of a serve are refused, each alone or with all later ones, until a serve meets none.
 fn growths_of_serves<
     A: Allocator + Copy + Send + Sync,
-    C: Historian<A> + Drop + Send,
     R: Threads
         + Wait
         + Net<Listener = TcpListener, Stream = TcpStream>
@@ -119,7 +99,7 @@ fn growths_of_serves<
 >(rt: &R, heap: &Heap, alloc: A, with_later: bool) -> Result<u64, Fail> {
     for number in 0..10_000 {
         let refused = refused_at(number, with_later);
-        let turn = serve_refused::<A, C, R>(rt, heap, alloc, refused)?;
+        let turn = serve_refused(rt, heap, alloc, refused)?;
         if has_answered(refused, turn)? {
             return Ok(number);
         }
@@ -127,8 +107,7 @@ fn growths_of_serves<
     Err("a serve with no end of growths".into())
 }
 
-/// The growths of serves, alone and with all later ones, at a router that is named for any allocator: one over the heap is dear
-/// to prove.
+/// The growths of serves, alone and with all later ones.
 fn all_growths<
     A: Allocator + Copy + Send + Sync,
     R: Threads
@@ -139,8 +118,8 @@ fn all_growths<
         + Sync,
 >(rt: &R, heap: &Heap, alloc: A) -> Result<(u64, u64), Fail> {
     Ok((
-        growths_of_serves::<A, TableRouter<A>, R>(rt, heap, alloc, false)?,
-        growths_of_serves::<A, TableRouter<A>, R>(rt, heap, alloc, true)?,
+        growths_of_serves(rt, heap, alloc, false)?,
+        growths_of_serves(rt, heap, alloc, true)?,
     ))
 }
 

@@ -2,26 +2,18 @@
 
 use crate::serving::loads::is_legal;
 use crate::serving::loopback::peers::{Peer, hears, sent};
-use crate::serving::loopback::{DRAINED, have_ended, report_of};
+use crate::serving::loopback::{DRAINED, have_ended, report_of, serve_written};
 use crate::serving::wanted::a_listener;
 use gn_bodies::{ReaderEnd, WriterEnd};
 use gn_fixtures::{PING, usual};
-use gn_io::{Sink, WriterSink};
+use gn_io::WriterSink;
 use gn_links::NoGate;
-use gn_load::{ServeFault, serve_history};
-use gn_report::Report;
-use gn_rules::Config;
+use gn_load::ServeFault;
 use gn_service::{Serving, Stop};
-use gn_tables::TableRouter;
-use gn_tcp::{TcpReader, TcpWriter};
 use gn_threads::RunFault;
-use std::alloc::Allocator;
 use std::io::{self, Read};
-use std::net::{Net, TcpListener, TcpStream};
-use std::sync::Wait;
 use std::test::Fail;
-use std::thread::Threads;
-use std::time::{Clock, Duration};
+use std::time::Duration;
 
 /// Of four callers of a run one comes, and doesn't end: a time stops the run, or the caller.
 #[test]
@@ -83,39 +75,6 @@ fn an_end_of_input_is_a_stop(rt: HostRuntime) -> Result<(), Fail> {
     Ok(())
 }
 
-/// Serves one caller and writes the history, at the router with tables.
-fn serve_one<
-    's,
-    A: Allocator + Copy + Send + Sync,
-    R: Threads
-        + Wait
-        + Net<Listener = TcpListener, Stream = TcpStream>
-        + Clock
-        + AllocGlobal
-        + Sync,
-    W: Sink,
->(
-    rt: &R,
-    alloc: A,
-    listener: &TcpListener,
-    config: &Config,
-    serving: &Serving<'s>,
-    sink: &mut W,
-) -> Result<Report<TcpReader<'s>, TcpWriter, A>, ServeFault> {
-    serve_history::<TableRouter<A>, A, R, NoGate, W>(
-        rt,
-        alloc,
-        listener,
-        config,
-        1,
-        &[],
-        serving,
-        1,
-        &NoGate,
-        sink,
-    )
-}
-
 /// The history of a run that stops at its third step, whose only client sends a Ping and stays.
 #[test]
 fn a_history_is_kept(rt: HostRuntime) -> Result<(), Fail> {
@@ -128,7 +87,9 @@ fn a_history_is_kept(rt: HostRuntime) -> Result<(), Fail> {
     };
     let config = usual(3)?;
     let mut sink = WriterSink::new(Vec::new(alloc));
-    let served = serve_one(&rt, alloc, &listener, &config, &serving, &mut sink);
+    let served = serve_written(
+        &rt, alloc, &listener, &config, 1, &serving, &NoGate, &mut sink,
+    );
     assert_eq!(rt; served.err(), Some(ServeFault::Run(RunFault::HistoryFull)));
     let written = sink.into_inner();
     let is_legal = is_legal(alloc, written.as_slice(), 3);

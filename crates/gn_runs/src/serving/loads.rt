@@ -84,7 +84,7 @@ fn are_all_of_six(kinds: &Kinds) -> bool {
 }
 
 /// A load at the router with tables. That router is named for any allocator, since one over Global is dear to prove.
-fn load_with_tables<
+pub(crate) fn load_with_tables<
     A: Allocator + Copy + Send + Sync,
     R: Threads + Wait + Sync,
     S: Source,

@@ -7,8 +7,11 @@ use crate::serving::in_time::watch;
 use crate::serving::wanted::a_listener;
 use gn_bodies::{ReaderEnd, WriterEnd};
 use gn_fixtures::usual;
-use gn_links::NoGate;
+use gn_io::Sink;
+use gn_links::{NoGate, Watch};
+use gn_load::{ServeFault, serve_history};
 use gn_report::Report;
+use gn_rules::Config;
 use gn_service::{Serving, serve_on};
 use gn_tables::TableRouter;
 use gn_tcp::{TcpReader, TcpWriter};
@@ -57,6 +60,42 @@ pub(crate) fn serve<
     }
     serve_on::<TableRouter<A>, NoGate, A, R>(
         rt, alloc, listener, &config, accept, called, serving, 1, &NoGate,
+    )
+}
+
+/// A serve of so many callers at the table router, of which the history is written.
+pub(crate) fn serve_written<
+    's,
+    A: Allocator + Copy + Send + Sync,
+    R: Threads
+        + Wait
+        + Net<Listener = TcpListener, Stream = TcpStream>
+        + Clock
+        + AllocGlobal
+        + Sync,
+    G: Watch + Sync,
+    W: Sink,
+>(
+    rt: &R,
+    alloc: A,
+    listener: &TcpListener,
+    config: &Config,
+    accept: u32,
+    serving: &Serving<'s>,
+    watch: &G,
+    sink: &mut W,
+) -> Result<Report<TcpReader<'s>, TcpWriter, A>, ServeFault> {
+    serve_history::<TableRouter<A>, A, R, G, W>(
+        rt,
+        alloc,
+        listener,
+        config,
+        accept.min(128),
+        &[],
+        serving,
+        1,
+        watch,
+        sink,
     )
 }
 

@@ -1,16 +1,14 @@
 //! What who watches a run learns of it as a whole.
 
 use crate::serving::loopback::peers::sent;
+use crate::serving::loopback::serve_written;
 use crate::serving::wanted::a_listener;
 use gn_fixtures::{PING, usual};
 use gn_io::{ReaderSource, Sink, Source, WriterSink};
 use gn_links::{Gate, Watch};
-use gn_load::{LoadFault, ServeFault, load_watched, serve_history};
-use gn_report::Report;
-use gn_rules::Config;
+use gn_load::{LoadFault, load_watched};
 use gn_service::{Serving, Stop};
 use gn_tables::TableRouter;
-use gn_tcp::{TcpReader, TcpWriter};
 use std::alloc::Allocator;
 use std::net::{Net, Shutdown, SocketAddr, TcpListener, TcpStream};
 use std::sync::Wait;
@@ -116,42 +114,6 @@ fn load_for<A: Allocator + Copy + Send + Sync, R: Threads + Wait + Sync, S: Sour
     load_watched::<A, TableRouter<A>, R, Recorder, S, W>(rt, alloc, 1, watch, source, sink)
 }
 
-/// A serve of so many callers at that router.
-fn serve_for<
-    's,
-    A: Allocator + Copy + Send + Sync,
-    R: Threads
-        + Wait
-        + Net<Listener = TcpListener, Stream = TcpStream>
-        + Clock
-        + AllocGlobal
-        + Sync,
-    G: Watch + Sync,
-    W: Sink,
->(
-    rt: &R,
-    alloc: A,
-    listener: &TcpListener,
-    config: &Config,
-    accept: u32,
-    serving: &Serving<'s>,
-    watch: &G,
-    sink: &mut W,
-) -> Result<Report<TcpReader<'s>, TcpWriter, A>, ServeFault> {
-    serve_history::<TableRouter<A>, A, R, G, W>(
-        rt,
-        alloc,
-        listener,
-        config,
-        accept.min(128),
-        &[],
-        serving,
-        1,
-        watch,
-        sink,
-    )
-}
-
 /// A caller that has sent a Ping and its end, and its port.
 fn caller<N: Net<Listener = TcpListener, Stream = TcpStream>>(
     net: &N,
@@ -189,7 +151,7 @@ fn who_watches_learns_of_a_serve(rt: HostRuntime) -> Result<(), Fail> {
     let recorder = Recorder::new();
     let config = usual(100)?;
     let mut sink = WriterSink::new(Vec::new(rt.alloc()));
-    let served = serve_for(
+    let served = serve_written(
         &rt,
         rt.alloc(),
         &listener,
@@ -217,7 +179,7 @@ fn who_watches_learns_that_a_serve_goes_on(rt: HostRuntime) -> Result<(), Fail> 
     let ticks = Ticks(AtomicU32::new(0));
     let config = usual(100)?;
     let mut sink = WriterSink::new(Vec::new(rt.alloc()));
-    let served = serve_for(
+    let served = serve_written(
         &rt,
         rt.alloc(),
         &listener,
