@@ -10,5 +10,5 @@ mod in_step;
 mod report;
 pub(crate) mod runs;
 mod service;
-mod stage;
+pub(crate) mod stage;
 mod told;

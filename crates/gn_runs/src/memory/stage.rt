@@ -2,20 +2,15 @@
 
 ghost use Rattle.std.specs.Prelude.{◌≡◌};
 
-use gn_fixtures::{Heap, Refused, Turn, Turns, growths, ping};
+use crate::threads::stage::{put_some, ticket_of};
+use gn_fixtures::{Heap, Refused, Turn, Turns, growths};
 use gn_stage::{
-    Intake, IntakeHome, Job, Outlet, OutletHome, Settled, Site, Stage, StageFault, Unsettled,
+    Intake, IntakeHome, Outlet, OutletHome, Settled, Site, Stage, StageFault, Unsettled,
 };
 use std::alloc::{AllocError, Allocator};
 use std::marker::Brand;
 use std::sync::Wait;
 use std::test::Fail;
-
-/// A Ping as a job of this ticket.
-fn job<A: Allocator>(ticket: u32) -> Result<Job<A>, Fail> {
-    let descriptor = ping(0xa1, 5, 0)?;
-    Ok(Job { ticket, descriptor })
-}
 
 /// Whether two jobs were put, one was taken, and the second was left.
 fn is_right<A: Allocator>(settled: &Settled<A>) -> bool {
@@ -30,32 +25,21 @@ fn is_right<A: Allocator>(settled: &Settled<A>) -> bool {
 fn put_two<A: Allocator + Copy, S: Site, R: Wait>(
     rt: &R,
     alloc: A,
-    intake: Intake<S, A>,
-) -> Result<Vec<IntakeHome<S, A>, A>, Fail> {
-    let mut intake = intake;
-    let is_first = intake.put(rt, job(0)?).is_ok();
-    let is_second = intake.put(rt, job(1)?).is_ok();
-    let homes = vec![in alloc; intake.finish()]?;
-    if is_first && is_second {
-        Ok(homes)
-    } else {
-        Err("room for two jobs".into())
-    }
+    mut intake: Intake<S, A>,
+) -> Result<Vec<IntakeHome<S, A>, A>, AllocError> {
+    put_some(rt, &mut intake, 0, 2);
+    Ok(vec![in alloc; intake.finish()]?)
 }
 
 /// The outlet of a stage at home, where the first job was taken.
 fn take_one<A: Allocator + Copy, S: Site, R: Wait>(
     rt: &R,
     alloc: A,
-    outlet: Outlet<S, A>,
+    mut outlet: Outlet<S, A>,
 ) -> Result<Vec<OutletHome<S, A>, A>, Fail> {
-    let mut outlet = outlet;
-    let is_first = match outlet.take(rt) {
-        Some(job) => job.ticket == 0,
-        None => false,
-    };
+    let first = ticket_of(outlet.take(rt));
     let homes = vec![in alloc; outlet.finish()]?;
-    if is_first {
+    if first == Some(0) {
         Ok(homes)
     } else {
         Err("the first job".into())

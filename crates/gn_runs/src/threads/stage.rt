@@ -4,7 +4,7 @@ ghost use Rattle.std.specs.Prelude.{◌≡◌, ◌<◌, ◌≤◌};
 
 use gn_fixtures::ping;
 use gn_stage::*;
-use std::alloc::{AllocError, Global};
+use std::alloc::{AllocError, Allocator, Global};
 use std::marker::Brand;
 use std::sync::Wait;
 use std::test::Fail;
@@ -13,7 +13,7 @@ use std::thread::{JoinHandle, Threads};
 use std::time::{Clock, Duration};
 
 /// A Ping with this ticket.
-fn job(ticket: u32) -> Result<Job, AllocError> {
+fn job<A: Allocator>(ticket: u32) -> Result<Job<A>, AllocError> {
     match ping(0xa1, 7, 0) {
         Ok(descriptor) => Ok(Job { ticket, descriptor }),
         Err(_) => Err(AllocError),
@@ -29,7 +29,7 @@ fn add_tickets(tickets: &mut Vec<u32>, jobs: &[Job]) -> Result<(), AllocError> {
 }
 
 /// Whether a job of this ticket is put.
-fn is_put<S: Site, R: Wait>(rt: &R, intake: &mut Intake<S>, ticket: u32) -> bool {
+fn is_put<A: Allocator, S: Site, R: Wait>(rt: &R, intake: &mut Intake<S, A>, ticket: u32) -> bool {
     let Ok(job) = job(ticket) else {
         return false;
     };
@@ -40,7 +40,12 @@ fn is_put<S: Site, R: Wait>(rt: &R, intake: &mut Intake<S>, ticket: u32) -> bool
 }
 
 /// Puts so many jobs, until one can't be.
-fn put_some<S: Site, R: Wait>(rt: &R, intake: &mut Intake<S>, first: u32, count: u32) {
+pub(crate) fn put_some<A: Allocator, S: Site, R: Wait>(
+    rt: &R,
+    intake: &mut Intake<S, A>,
+    first: u32,
+    count: u32,
+) {
     for i in 0..count {
         if !is_put(rt, intake, first.wrapping_add(i)) {
             return;
@@ -99,7 +104,7 @@ fn settled_late<S: Site, R: Wait>(
 }
 
 /// The ticket of a job, where there is one.
-fn ticket_of(job: Option<Job>) -> Option<u32> {
+pub(crate) fn ticket_of<A: Allocator>(job: Option<Job<A>>) -> Option<u32> {
     let job = job?;
     let ticket = job.ticket;
     drop(job);
