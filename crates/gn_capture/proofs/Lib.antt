@@ -2,6 +2,7 @@ pub mod AloneLemmas
 pub mod ConfigLemmas
 pub mod DescriptorsAgain
 pub mod EncodedLemmas
+pub mod FifthLemmas
 pub mod FirstLemmas
 pub mod FittingLemmas
 pub mod HistoryLemmas

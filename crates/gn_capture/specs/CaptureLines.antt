@@ -1,12 +1,13 @@
 -- What one line of a capture says.
-use Rattle.std.specs.Prelude.{ℕ, ◌+◌, ◌==◌, ◌&&◌, nat_le, if◌then◌else◌, List, [], ◌∷◌, Option, Some, None, Result, Ok, Err}
+use Rattle.std.specs.Prelude.{ℕ, Bool, false, ◌+◌, ◌==◌, ◌&&◌, nat_le, if◌then◌else◌, List, [], ◌∷◌, codes, Option, Some, None, Result, Ok, Err}
 use Rattle.gn_rules.specs.Limits.{most_links}
 use Rattle.gn_text.specs.Bytes.{bytes_parsed}
+use Rattle.gn_text.specs.Lines.{is_word}
 use Rattle.gn_numbers.specs.Numbers.{number_of}
 use Rattle.gn_text.specs.declared.fault.Cause.{Cause}
 use Rattle.gn_text.specs.declared.fault.Cause.TheVariants as cause
 use Rattle.gn_capture.specs.declared.line.Line.{Line}
-use Rattle.gn_capture.specs.declared.line.Line.TheVariants.{Join, Greeted, Piece, Route, Take, Close, Originate, Stats}
+use Rattle.gn_capture.specs.declared.line.Line.TheVariants.{Join, Greeted, Piece, Route, RouteAll, Take, Close, Originate, Stats}
 use Rattle.gn_capture.specs.declared.word.Word.{Word}
 use Rattle.gn_capture.specs.declared.word.Word.TheVariants as word
 use Rattle.gn_text.specs.Faults.{◌>>=◌}
@@ -75,6 +76,15 @@ line_of links [] = Err cause.Word
 line_of links (first ∷ fields) = do
   begun ← known (word_of first)
   fields_say links fields begun
+
+-- whether the fields are those of the line `route all`
+abbrev pub is_route_all : List (List ℕ) → Bool
+is_route_all (word ∷ which ∷ []) = is_word word (codes "route") && is_word which (codes "all")
+is_route_all fields = false
+
+-- what the fields of a line say in a version that has the line `route all`, or in one that hasn't
+abbrev pub line_in : {A : Type 0} → Bool → ℕ → List (List ℕ) → Result (Line A) Cause
+line_in has_all links fields = if has_all && is_route_all fields then Ok RouteAll else line_of links fields
 
 -- how many links there are after a line
 abbrev pub links_after : {A : Type 0} → ℕ → Line A → ℕ

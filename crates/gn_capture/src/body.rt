@@ -21,18 +21,19 @@ fn links_after<A: Allocator>(links: u64, line: &Line<A>) -> u64
     }
 }
 
-/// What the lines that are left of a text say, each with its number.
+/// What the lines that are left of a text say, each with its number, in a version with the line `route all` or without it.
 pub(crate) fn read_lines<A: Allocator + Copy>(
     alloc: A,
+    has_all: bool,
     lines: &mut NumberedLines,
 ) -> Result<Vec<(u64, Line<A>), A>, CaptureRefusal>
-    ensures { IsRead (λ v. v.items) result (lines_from 0 lines.old.lines) }
+    ensures { IsRead (λ v. v.items) result (lines_from has_all 0 lines.old.lines) }
 {
     let mut parsed = Vec::new(alloc);
     let mut fields = Vec::new(alloc);
     let mut links = 0;
     while let Ok((number, text)) = lines.next_line() {
-        match read_numbered(alloc, &mut fields, links, number, text) {
+        match read_numbered(alloc, &mut fields, has_all, links, number, text) {
             Ok(line) => {
                 links = links_after(links, &line);
                 parsed.push((number, line))?;

@@ -1,13 +1,13 @@
-//! The lines that make links, give them bytes, and name a ticket or a connection.
+//! The lines that make links, give them bytes, and name a ticket, all of them, or a connection.
 
 ghost use Rattle.std.specs.Prelude.{◌≡◌, map};
 ghost use Rattle.gn_capture.specs.Outcomes.{IsLineRead};
-ghost use Rattle.gn_capture.specs.CaptureLines.{alone_of, data_of, link_of, number_alone, piece_of};
+ghost use Rattle.gn_capture.specs.CaptureLines.{alone_of, data_of, is_route_all, link_of, number_alone, piece_of};
 
 use crate::line::{Line, PieceBytes};
 use crate::refusal::LineRefusal;
 use gn_rules::MOST_LINKS;
-use gn_text::{Cause, hex_bytes, number};
+use gn_text::{Cause, hex_bytes, is_word, number};
 use std::alloc::Allocator;
 
 /// A line that takes no fields.
@@ -38,6 +38,16 @@ pub(crate) fn number_alone(fields: &[&[u8]]) -> Result<u32, Cause>
     match fields {
         [field] => number(field).ok_or(Cause::Field),
         _ => Err(Cause::Fields),
+    }
+}
+
+/// Whether the fields are those of the line `route all`.
+pub(crate) fn is_route_all(fields: &[&[u8]]) -> bool
+    ensures { result ≡ is_route_all (map (λ x. x.now) fields.now) }
+{
+    match fields {
+        [word, which] => is_word(word, b"route") && is_word(which, b"all"),
+        _ => false,
     }
 }
 

@@ -19,6 +19,8 @@ pub enum Line<A: Allocator = Global> {
     Piece { link: u32, bytes: PieceBytes<A> },
     /// `route`: an admitted descriptor is passed on.
     Route(Ticket),
+    /// `route all`: whatever is in flight is passed on, in the order of its tickets. A capture of version 5 alone has it.
+    RouteAll,
     /// `take`: the first packet that waits for a connection is taken.
     Take(ConnId),
     /// `close`: a connection ends.

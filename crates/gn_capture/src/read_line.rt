@@ -3,11 +3,11 @@
 ghost use Rattle.std.specs.Prelude.{Ok, map};
 ghost use Rattle.gn_capture.specs.declared.line.Line.TheVariants.{Originate};
 ghost use Rattle.gn_text.specs.Lines.{fields_of};
-ghost use Rattle.gn_capture.specs.CaptureLines.{fields_say, line_of};
+ghost use Rattle.gn_capture.specs.CaptureLines.{fields_say, line_in, line_of};
 ghost use Rattle.gn_text.specs.Faults.{IsRead};
 ghost use Rattle.gn_capture.specs.Outcomes.{IsLineRead, numbered};
 
-use crate::event_lines::{alone, data_line, link_line, number_alone};
+use crate::event_lines::{alone, data_line, is_route_all, link_line, number_alone};
 use crate::line::{Line, LocalRequest};
 use crate::query_line::{ping_line, query_line};
 use crate::refusal::LineRefusal;
@@ -45,8 +45,8 @@ fn read_fields<A: Allocator + Copy>(
     }
 }
 
-/// What the fields of a line say.
-fn read_line<A: Allocator + Copy>(
+/// What the fields of a line say that each version has.
+fn read_common<A: Allocator + Copy>(
     alloc: A,
     links: u64,
     fields: &[&[u8]],
@@ -62,19 +62,35 @@ fn read_line<A: Allocator + Copy>(
     }
 }
 
+/// What the fields of a line say, in a version with the line `route all` or without it.
+fn read_line<A: Allocator + Copy>(
+    alloc: A,
+    has_all: bool,
+    links: u64,
+    fields: &[&[u8]],
+) -> Result<Line<A>, LineRefusal>
+    ensures { IsLineRead result (line_in has_all links (map (λ x. x.now) fields.now)) }
+{
+    if has_all && is_route_all(fields) {
+        return Ok(Line::RouteAll);
+    }
+    read_common(alloc, links, fields)
+}
+
 /// What line `number` says, whose fields are put in place of those of another line.
 pub(crate) fn read_numbered<'a, A: Allocator + Copy>(
     alloc: A,
     fields: &mut Vec<&'a [u8], A>,
+    has_all: bool,
     links: u64,
     number: u64,
     text: &'a [u8],
 ) -> Result<Line<A>, CaptureRefusal>
-    ensures { IsRead (λ line. line) result (numbered number (line_of links (fields_of text.now))) }
+    ensures { IsRead (λ line. line) result (numbered number (line_in has_all links (fields_of text.now))) }
 {
     fields.clear();
     fields_into(text, fields)?;
-    match read_line(alloc, links, fields.as_slice()) {
+    match read_line(alloc, has_all, links, fields.as_slice()) {
         Ok(line) => Ok(line),
         Err(refusal) => Err(refusal.at(number)),
     }

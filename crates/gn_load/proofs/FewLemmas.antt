@@ -9,11 +9,12 @@ use Rattle.gn_text.specs.declared.fault.Cause.{Cause}
 use Rattle.gn_text.specs.declared.fault.Cause.TheVariants as cause
 use Rattle.gn_text.specs.declared.fault.CaptureFault.{CaptureFault}
 use Rattle.gn_text.specs.Faults.{◌>>=◌}
+use Rattle.gn_text.specs.Parsed.{parsed_of}
 use Rattle.gn_capture.specs.declared.capture.Capture.{Capture}
 use Rattle.gn_capture.specs.declared.line.Line.{Line}
-use Rattle.gn_capture.specs.declared.line.Line.TheVariants.{Join, Greeted, Piece, Route, Take, Close, Originate, Stats}
-use Rattle.gn_capture.specs.CaptureLines.{alone_of, data_of, fields_say, known, line_of, link_of, links_after, number_alone}
-use Rattle.gn_capture.specs.Captures.{Parsed, capture_header, capture_of, capture_seen, lines_from}
+use Rattle.gn_capture.specs.declared.line.Line.TheVariants.{Join, Greeted, Piece, Route, RouteAll, Take, Close, Originate, Stats}
+use Rattle.gn_capture.specs.CaptureLines.{alone_of, data_of, fields_say, is_route_all, known, line_in, line_of, link_of, links_after, number_alone}
+use Rattle.gn_capture.specs.Captures.{Parsed, capture_header, capture_of, capture_seen, has_all, lines_from}
 use Rattle.gn_capture.specs.Outcomes.{numbered, parsed}
 use Rattle.gn_capture.specs.Requests.{ping_of, query_of}
 use Rattle.gn_load.specs.Links.{given, line_taken, links_from}
@@ -81,6 +82,11 @@ line_few A links (first ∷ fields) few =
     (either (is_word first (codes "query")) (λ word. IfOk (known word >>= fields_say {A = A} links fields) Few) _ _ (joined (query_of fields) _ Few (λ x. few))
     (either (is_word first (codes "stats")) (λ word. IfOk (known word >>= fields_say {A = A} links fields) Few) _ _ (alone_few A links fields few) _))))))))
 
+-- and in a version with `route all` or without it
+in_few : (A : Type 0) (all : Bool) (links : ℕ) (fields : List (List ℕ)) → links ≤ 256 → IfOk (line_in {A = A} all links fields) (λ l. LeavesFew links l)
+in_few A all links fields few =
+    either (all && is_route_all fields) (λ (line : Result (Line A) Cause). IfOk line (λ l. LeavesFew links l)) (Ok RouteAll) (line_of links fields) few (line_few A links fields few)
+
 numbered_few : {A : Type 0} (links n : ℕ) (line : Result (Line A) Cause) → IfOk line (λ l. LeavesFew links l) → IfOk (numbered n line) (λ l. LeavesFew links l)
 numbered_few links n (Ok line) few = few
 numbered_few links n (Err cause) few = _
@@ -95,6 +101,7 @@ taken_length links n Join = length-append links _
 taken_length links n Greeted = length-append links _
 taken_length links n (Piece i bytes) = given_length links i bytes
 taken_length links n (Route t) = _
+taken_length links n RouteAll = _
 taken_length links n (Take c) = _
 taken_length links n (Close c) = _
 taken_length links n (Originate d) = _
@@ -105,31 +112,31 @@ abbrev HasFew : Result (List Memory) CaptureFault → Type 0
 HasFew made = IfOk made (λ links. length links ≤ 256)
 
 -- the links before a line, and what the lines after it make of those after it
-step_few : {A : Type 0} (links n : ℕ) (line : Line A) (more : List (ℕ × List ℕ)) (after : Result (List Memory) CaptureFault)
+step_few : {A : Type 0} (all : Bool) (links n : ℕ) (line : Line A) (more : List (ℕ × List ℕ)) (after : Result (List Memory) CaptureFault)
     → IfOk after (λ made. length made ≡ links_after links line) → LeavesFew links line
-    → ((made : List Memory) → length made ≤ 256 → IfOk (lines_from {A = A} (length made) more) (λ lines. HasFew (links_from made lines)))
-    → IfOk (lines_from {A = A} (links_after links line) more) (λ lines. HasFew (after >>= λ made. links_from made lines))
-step_few {A} links n line more (Ok made) is few later =
-    let P : ℕ → Type 0 = λ count. IfOk (lines_from {A = A} count more) (λ lines. HasFew (links_from made lines)) in
+    → ((made : List Memory) → length made ≤ 256 → IfOk (lines_from {A = A} all (length made) more) (λ lines. HasFew (links_from made lines)))
+    → IfOk (lines_from {A = A} all (links_after links line) more) (λ lines. HasFew (after >>= λ made. links_from made lines))
+step_few {A} all links n line more (Ok made) is few later =
+    let P : ℕ → Type 0 = λ count. IfOk (lines_from {A = A} all count more) (λ lines. HasFew (links_from made lines)) in
     subst P is (later made (rw is few))
-step_few {A} links n line more (Err fault) is few later =
-    elim (lines_from {A = A} (links_after links line) more) as (λ read. IfOk read (λ lines. Unit {0})) [ Ok lines ↦ tt | Err e ↦ tt ]
+step_few {A} all links n line more (Err fault) is few later =
+    elim (lines_from {A = A} all (links_after links line) more) as (λ read. IfOk read (λ lines. Unit {0})) [ Ok lines ↦ tt | Err e ↦ tt ]
 
 -- lines after so many links
-lines_few : (A : Type 0) (texts : List (ℕ × List ℕ)) (links : List Memory) → length links ≤ 256
-    → IfOk (lines_from {A = A} (length links) texts) (λ lines. HasFew (links_from links lines))
-lines_few A [] links few = few
-lines_few A ((n, text) ∷ more) links few =
-    joined_with (numbered n (line_of {A = A} (length links) (fields_of text))) _ (λ line. LeavesFew (length links) line) _
-    (numbered_few (length links) n (line_of (length links) (fields_of text)) (line_few A (length links) (fields_of text) few))
-    (λ line leaves. joined_with (lines_from (links_after (length links) line) more) _ (λ lines. HasFew (line_taken links (n, line) >>= λ made. links_from made lines)) _
-    (step_few (length links) n line more (line_taken links (n, line)) (taken_length links n line) leaves (λ made h. lines_few A more made h))
+lines_few : (A : Type 0) (all : Bool) (texts : List (ℕ × List ℕ)) (links : List Memory) → length links ≤ 256
+    → IfOk (lines_from {A = A} all (length links) texts) (λ lines. HasFew (links_from links lines))
+lines_few A all [] links few = few
+lines_few A all ((n, text) ∷ more) links few =
+    joined_with (numbered n (line_in {A = A} all (length links) (fields_of text))) _ (λ line. LeavesFew (length links) line) _
+    (numbered_few (length links) n (line_in all (length links) (fields_of text)) (in_few A all (length links) (fields_of text) few))
+    (λ line leaves. joined_with (lines_from all (links_after (length links) line) more) _ (λ lines. HasFew (line_taken links (n, line) >>= λ made. links_from made lines)) _
+    (step_few all (length links) n line more (line_taken links (n, line)) (taken_length links n line) leaves (λ made h. lines_few A all more made h))
     (λ lines h. h))
 
 capture_few : (A : Type 0) (text : List ℕ) → IfOk (capture_of {A = A} text) (λ read. HasFew (links_from [] read.lines))
 capture_few A text =
     joined (capture_header text) _ _
-    (λ header. joined_with (lines_from {A = A} 0 header.1) _ (λ lines. HasFew (links_from [] lines)) _ (lines_few A header.1 [] (omega arith)) (λ lines h. h))
+    (λ header. joined_with (lines_from {A = A} (has_all (parsed_of text)) 0 header.1) _ (λ lines. HasFew (links_from [] lines)) _ (lines_few A (has_all (parsed_of text)) header.1 [] (omega arith)) (λ lines h. h))
 
 -- a capture that was read makes at most 256 links
 pub few_links : {A : Type 0} (text : List ℕ) (capture : Capture A) (links : List Memory) → capture_of text ≡ Ok (capture_seen capture)

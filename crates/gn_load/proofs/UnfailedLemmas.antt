@@ -6,7 +6,7 @@ use Rattle.gn_links.specs.Halves.{Source}
 use Rattle.gn_links.specs.Memory.{Memory, MemoryReading, MemoryWriting, half_read, source_of}
 use Rattle.gn_shake.specs.declared.role.Role.TheVariants.{Plain}
 use Rattle.gn_capture.specs.declared.line.Line.{Line}
-use Rattle.gn_capture.specs.declared.line.Line.TheVariants.{Join, Greeted, Piece, Route, Take, Close, Originate, Stats}
+use Rattle.gn_capture.specs.declared.line.Line.TheVariants.{Join, Greeted, Piece, Route, RouteAll, Take, Close, Originate, Stats}
 use Rattle.gn_report.specs.declared.report.Report.{Report}
 use Rattle.gn_threads.specs.Headline.{LinksReadOwn}
 use Rattle.gn_load.specs.Links.{given, line_taken, link_of, links_from}
@@ -41,6 +41,7 @@ line_none links n Join all = none_more links _ all refl
 line_none links n Greeted all = none_more links _ all refl
 line_none links n (Piece i bytes) all = none_given links i bytes all
 line_none links n (Route t) all = _
+line_none links n RouteAll all = _
 line_none links n (Take c) all = _
 line_none links n (Close c) all = _
 line_none links n (Originate d) all = _

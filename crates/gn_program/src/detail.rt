@@ -222,6 +222,7 @@ fn numbers_below(text: Text, title: &[u8]) -> Option<usize> {
         Some(b"1") => Some(6),
         Some(b"2") => Some(7),
         Some(b"3") => Some(8),
+        Some(b"5") if text == Text::Capture => Some(8),
         _ => None,
     }
 }

@@ -7,6 +7,7 @@ pub mod LinesLemmas
 pub mod LinkLemmas
 pub mod OneText
 pub mod ReplayLemmas
+pub mod RouteLemmas
 pub mod RunLemmas
 pub mod SayLemmas
 pub mod StepLines

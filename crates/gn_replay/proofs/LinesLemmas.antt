@@ -15,6 +15,7 @@ use Rattle.gn_rules.specs.declared.receipt.Step.{Step}
 use Rattle.gn_rules.specs.declared.refusal.Refusal.{Refusal}
 use Rattle.gn_rules.specs.declared.reply.Reply.{Reply}
 use Rattle.gn_rules.specs.Answer.{answer}
+use Rattle.gn_rules.specs.Flight.{flying}
 use Rattle.gn_text.specs.Links.{frame_fault_text}
 use Rattle.gn_text.specs.Steps.{step_text}
 use Rattle.gn_capture.specs.Histories.{steps_text}
@@ -23,6 +24,7 @@ use Rattle.gn_capture.specs.declared.line.Line.TheVariants as line
 use Rattle.gn_replay.specs.Events.{Played, answered, connection_of, followed, happens, is_not_live, made, prints}
 use Rattle.gn_replay.specs.Links.{LinkState, ended, greeting, joined}
 use Rattle.gn_replay.specs.Pieces.{Admits, Linked, admits, completed, connects, delivers, delivers_if_connected, delivers_these, fault_ends, fault_plays, feeds_link, greets}
+use Rattle.gn_replay.specs.Routes.{routes}
 use Rattle.gn_replay.specs.ReplayText.{capture_plays, play_lines, plays, state_of}
 
 -- the lines of what was played are those of the steps that it added to these
@@ -91,11 +93,18 @@ module _ {A : Type 0} where
     lined_feeds past i piece (greeting bytes) = lined_greets past i (bytes ++ piece) (greeting_state request_text (bytes ++ piece))
     lined_feeds past i piece (joined c bytes) = lined_delivers past i c bytes piece
 
+    lined_routes : (past : List (Step A)) (tickets : List ℕ) → IsLined past (routes s past tickets)
+    lined_routes past [] = unchanged past
+    lined_routes past (t ∷ ts) =
+        let here = happens s past (Route t) in
+        lined_followed past here (routes s here.past ts) (lined_happens past (Route t)) (lined_routes here.past ts)
+
     lined_plays : (past : List (Step A)) (links : List LinkState) (l : Line A) → IsLined past (plays s past links l).played
     lined_plays past links line.Join = lined_happens past Connect
     lined_plays past links line.Greeted = unchanged past
     lined_plays past links (line.Piece i bytes) = lined_feeds past i bytes (state_of links i)
     lined_plays past links (line.Route t) = lined_happens past (Route t)
+    lined_plays past links line.RouteAll = lined_routes past (flying past)
     lined_plays past links (line.Take c) = lined_happens past (Take c)
     lined_plays past links (line.Close c) = lined_happens past (Close c)
     lined_plays past links (line.Originate d) = lined_happens past (Originate d)

@@ -9,6 +9,7 @@ pub mod Playing
 pub mod ReplayHistory
 pub mod ReplayText
 pub mod Replays
+pub mod Routes
 pub mod Runs
 -- Words of the proofs.
 pub mod Judgements

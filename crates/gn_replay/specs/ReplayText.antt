@@ -14,6 +14,7 @@ use Rattle.gn_capture.specs.Captures.{Parsed, capture_of}
 use Rattle.gn_replay.specs.Events.{Played, nothing, prints, followed, happens}
 use Rattle.gn_replay.specs.Links.{LinkState, ended}
 use Rattle.gn_replay.specs.Pieces.{Linked, awaits, joins, feeds_link}
+use Rattle.gn_replay.specs.Routes.{routes_all}
 
 -- what a line did, and the links after it
 pub record After (A : Type 0) : Type 0 where
@@ -52,6 +53,7 @@ plays s past links line.Join = link_added links (joins s past)
 plays s past links line.Greeted = link_added links (awaits past)
 plays s past links (line.Piece i bytes) = piece_plays s past links i bytes
 plays s past links (line.Route t) = event_plays links (happens s past (Route t))
+plays s past links line.RouteAll = event_plays links (routes_all s past)
 plays s past links (line.Take c) = event_plays links (happens s past (Take c))
 plays s past links (line.Close c) = event_plays links (happens s past (Close c))
 plays s past links (line.Originate d) = event_plays links (happens s past (Originate d))

@@ -4,6 +4,7 @@
 mod audits;
 mod explanation;
 mod fault;
+mod flights;
 mod form;
 mod given;
 mod histories;

@@ -103,6 +103,7 @@ impl<A: Allocator + Copy, C: RouterCore<A>> Play<A, C> {
             Line::Greeted => self.add_greeted(),
             Line::Piece { link, bytes } => self.play_piece(*link, bytes.as_slice()),
             Line::Route(t) => self.play_event(Event::Route(*t)),
+            Line::RouteAll => self.route_all(),
             Line::Take(c) => self.play_event(Event::Take(*c)),
             Line::Close(c) => self.play_event(Event::Close(*c)),
             Line::Originate(request) => {

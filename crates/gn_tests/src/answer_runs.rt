@@ -4,7 +4,7 @@
 use crate::run::{Run, USUAL};
 
 /// Each run with what is printed for it.
-pub(crate) const ANSWER_RUNS: [Run; 10] = [
+pub(crate) const ANSWER_RUNS: [Run; 12] = [
     Run {
         name: "originated",
         numbers: USUAL,
@@ -175,6 +175,52 @@ pub(crate) const ANSWER_RUNS: [Run; 10] = [
             0 route 0 = routed local 1+<OWN a1 01> 2+<PING a1 06 01>; \
             0 admit 1 <PING a2 07 00> = admitted 2; \
             0 admit 2 <PING a4 07 00> = crowded",
+    },
+    Run {
+        name: "route_all",
+        numbers: "4 8 4 3 8 100 0 1",
+        capture: "join; join; \
+            data 1 <PING a1 07 00><PING a2 07 00>; \
+            data 2 <PING a3 07 00>; \
+            route all; \
+            route all; \
+            data 1 <PING a4 07 00>; \
+            data 2 <PING a5 07 00>; \
+            route 3; \
+            close 1; \
+            route all",
+        printed: "0 connect = connected 1; \
+            0 connect = connected 2; \
+            0 admit 1 <PING a1 07 00> = admitted 0; \
+            0 admit 1 <PING a2 07 00> = crowded; \
+            0 admit 2 <PING a3 07 00> = admitted 1; \
+            0 route 0 = routed local 1+<OWN a1 01> 2+<PING a1 06 01>; \
+            0 route 1 = routed local 2+<OWN a3 01> 1+<PING a3 06 01>; \
+            0 admit 1 <PING a4 07 00> = admitted 2; \
+            0 admit 2 <PING a5 07 00> = admitted 3; \
+            0 route 3 = routed local 2+<OWN a5 01> 1+<PING a5 06 01>; \
+            0 close 1 = closed 3; \
+            0 route 2 = routed local 2+<PING a4 06 01>",
+    },
+    Run {
+        name: "history_full_of_flights",
+        numbers: "4 8 4 3 8 5 0 0",
+        capture: "join; join; \
+            data 1 <PING a1 07 00>; \
+            data 2 <PING a2 07 00>; \
+            data 1 <PING a3 07 00>; \
+            route all; \
+            stats",
+        printed: "0 connect = connected 1; \
+            0 connect = connected 2; \
+            0 admit 1 <PING a1 07 00> = admitted 0; \
+            0 admit 2 <PING a2 07 00> = admitted 1; \
+            0 admit 1 <PING a3 07 00> = admitted 2; \
+            refused HistoryFull; \
+            refused HistoryFull; \
+            refused HistoryFull; \
+            stats connected 2 toomany 0 closed 0 admitted 3 busy 0 crowded 0 routed 0 unknownkind 0 \
+            malformed 0 duplicate 0 noroute 0 routegone 0 backtosender 0 expired 0 taken 0 sent 0",
     },
     Run {
         name: "busy_before_crowded",

@@ -8,7 +8,7 @@ use std::test::Fail;
 type Faults = (&'static str, &'static str, u64, Cause);
 
 /// Each cause of a fault, at the first line where it can stand.
-const FAULTS: [Faults; 18] = [
+const FAULTS: [Faults; 21] = [
     ("", "", 1, Cause::Header),
     ("\n\n", "", 3, Cause::Header),
     ("gnutella-capture 9", "", 1, Cause::Header),
@@ -59,6 +59,24 @@ const FAULTS: [Faults; 18] = [
         Cause::Own,
     ),
     (
+        "gnutella-capture 4\n",
+        "config 4 8 4 8 8 100 0 0",
+        1,
+        Cause::Header,
+    ),
+    (
+        "gnutella-capture 5\n",
+        "config 4 8 4 8 8 100\nconfig 4 8 4 8 8 100 4\nconfig 4 8 4 8 8 100 4 4097\nconfig 4 8 4 8 8 100 4 1 1",
+        2,
+        Cause::Config,
+    ),
+    (
+        "gnutella-capture 5\nconfig 4 8 4 8 8 100 0 0\nown eeeeeeeeeeeeeeeeeeeeeeeeeeeeeeee 127.0.0.1 6346 5 40\nroute all\n",
+        "route All\nroute \nroute 4294967296",
+        5,
+        Cause::Field,
+    ),
+    (
         JOINED,
         " data 1 00\nJoin\njump\n\x00\n\u{e9}\nadmit 1 00\ngnutella-capture 1\n\r",
         5,
@@ -73,7 +91,7 @@ const FAULTS: [Faults; 18] = [
     ),
     (
         JOINED,
-        "data 1 0\ndata 3 0\ndata 1 \ndata 1 00\r\ndata +1 00\nroute 4294967296\ntake -1\nping d1 5\n\
+        "data 1 0\ndata 3 0\ndata 1 \ndata 1 00\r\ndata +1 00\nroute 4294967296\ntake -1\nroute all\nping d1 5\n\
         ping d1d1d1d1d1d1d1d1d1d1d1d1d1d1d1d1 256\nquery d3d3d3d3d3d3d3d3d3d3d3d3d3d3d3d3 7 65536 78\n\
         query d3d3d3d3d3d3d3d3d3d3d3d3d3d3d3d3 256 0 78\nquery d3d3d3d3d3d3d3d3d3d3d3d3d3d3d3d3 7 0 7800\n\
         query d3d3d3d3d3d3d3d3d3d3d3d3d3d3d3d3 7 0 7",

@@ -21,7 +21,7 @@ pub(crate) struct Run {
 }
 
 /// The text of a capture of these numbers and lines: of version 1 where there are six numbers, 2 where there are seven, and
-/// 3 where there are eight.
+/// 3 where there are eight; of version 5 where a line is `route all`.
 pub(crate) fn capture_text(
     alloc: Global,
     numbers: &str,
@@ -29,7 +29,11 @@ pub(crate) fn capture_text(
 ) -> Result<String, AllocError> {
     let own = encoded(alloc, "own <ee> 127.0.0.1 6346 5 40")?;
     let lines = encoded(alloc, lines)?;
-    let version = numbers.split(' ').count().saturating_sub(5);
+    let version = if lines.contains("route all") {
+        5
+    } else {
+        numbers.split(' ').count().saturating_sub(5)
+    };
     format!(in alloc; "gnutella-capture {version}\nconfig {numbers}\n{own}{lines}")
 }
 

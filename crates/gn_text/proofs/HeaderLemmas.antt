@@ -32,7 +32,8 @@ config_line : (n after : ℕ) (more : List (ℕ × List ℕ)) (numbers : Option 
 config_line n after more None h = _
 config_line n after more (Some numbers) h = own_configured numbers after more h
 
-config_configured : (version : Version) (after : ℕ) (lines : List (ℕ × List ℕ)) → IfOk (config_from version after lines) (λ (header : ParsedHeader). IsConfigured header.0)
+-- so are those of the second line and the third
+pub config_configured : (version : Version) (after : ℕ) (lines : List (ℕ × List ℕ)) → IfOk (config_from version after lines) (λ (header : ParsedHeader). IsConfigured header.0)
 config_configured version after [] = _
 config_configured version after (line ∷ more) =
     config_line line.0 after more (config_of version (fields_of line.1)) (config_is_within version (fields_of line.1))

@@ -38,9 +38,10 @@ fn read_own_line<A: Allocator + Copy>(
     }
 }
 
-/// Reads the lines `config` and `own` of a text of this version.
+/// The configuration that the lines `config` and `own` say, as a version has them, which are then gone. A missing one is at fault
+/// after the last line. An `Err` may leave fewer lines.
 #[tactic(auto, using(crate::proofs::FirstLines::config_read, crate::proofs::FirstLines::config_refused, crate::proofs::FirstLines::config_missing))]
-fn read_config_line<A: Allocator + Copy>(
+pub fn read_settings<A: Allocator + Copy>(
     alloc: A,
     version: Version,
     lines: &mut NumberedLines,
@@ -71,7 +72,7 @@ fn read_title_line<A: Allocator + Copy>(
 {
     match lines.next_line() {
         Ok((number, line)) => match read_version(text, line) {
-            Some(version) => read_config_line(alloc, version, lines),
+            Some(version) => read_settings(alloc, version, lines),
             None => Err(CaptureRefusal::at(number, Cause::Header)),
         },
         Err(after) => Err(CaptureRefusal::at(after, Cause::Header)),

@@ -9,5 +9,6 @@ pub use Rattle.gn_replay.specs.Pieces
 pub use Rattle.gn_replay.specs.ReplayHistory
 pub use Rattle.gn_replay.specs.ReplayText
 pub use Rattle.gn_replay.specs.Replays
+pub use Rattle.gn_replay.specs.Routes
 pub use Rattle.gn_replay.specs.Runs
 pub use Rattle.gn_stream.specs.Left

@@ -6,7 +6,7 @@ use Rattle.gn_capture.proofs.body.read_lines.Given as goal
 abbrev pub invariant-loop-number : goal.invariant-loop-number
 invariant-loop-number g l = record {
   links : l.links ≤ vec_len l.parsed;
-  parsed : left l.parsed.items l.links l.lines.lines ≡ lines_from 0 l.fn.lines.lines;
+  parsed : left l.has_all l.parsed.items l.links l.lines.lines ≡ lines_from l.has_all 0 l.fn.lines.lines;
 }
 
 abbrev pub decreases-loop-number : goal.decreases-loop-number
