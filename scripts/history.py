@@ -66,7 +66,7 @@ SENDING = f"(?:{'|'.join(REPLIES[-3:])})(?: {NUMBER}[+-]{HEX})*"
 STEP = re.compile(f"({NUMBER}) ({EVENT}) = ({REPLY}|{SENDING})")
 # The sends of a reply: connection, + where the packet was queued, - where it wasn't, and the packet's hex.
 SENDS = re.compile(r" ([0-9]+)([+-])([0-9a-fA-F]+)")
-TIME = re.compile(r"# t ([0-9]{1,12}\.[0-9]{6})\n?")
+TIME = re.compile(r"# t ((?:0|[1-9][0-9]{0,11})\.[0-9]{6})\n?")
 LINK = re.compile(r"# link ([0-9]{1,10}) (\S+) (called|accepted)\n?")
 ID = re.compile("[0-9a-fA-F]{32}")
 

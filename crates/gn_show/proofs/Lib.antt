@@ -3,4 +3,5 @@ pub mod FloatLemmas
 pub mod LinesLemmas
 pub mod RowLemmas
 pub mod ShowLemmas
+pub mod TimeLemmas
 pub mod ValueLemmas

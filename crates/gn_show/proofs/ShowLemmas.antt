@@ -27,7 +27,8 @@ use Rattle.gn_replay.specs.declared.fault.ReplayFault.TheVariants as fault
 use Rattle.gn_show.specs.declared.form.Form.{Form}
 use Rattle.gn_show.specs.declared.form.View.{View}
 use Rattle.gn_show.specs.declared.form.View.TheVariants.{Steps, Stats as Counters}
-use Rattle.gn_show.specs.Shown.{AppendsLines, AppendsLinesPart, AppendsShown, AppendsShownPart, AreCounted, HasShowStopped, IsCounted, IsShown, shown}
+use Rattle.gn_show.specs.Times.{step_times}
+use Rattle.gn_show.specs.Shown.{AppendsLines, AppendsLinesPart, AppendsShown, AppendsShownPart, AreCounted, HasShowStopped, IsCounted, IsShown, shown, text_of}
 
 -- the steps of a history are left where its text is one
 pub left_ok : (text : List ℕ) (settings : Numbers × Own) (left : Result (List (Step Global)) CaptureFault)
@@ -38,20 +39,26 @@ left_ok text settings (Err fault) opened ok =
     absurd (true≢false (sym bad))
 
 -- lines of what was left are shown of the text
-pub lines_shown : (form : Form) (text : List ℕ) (settings : Numbers × Own) (left : Result (List (Step Global)) CaptureFault) (old new : Option (List ℕ))
-    → history_of text ≡ map_result (λ steps. (settings, steps)) left → AppendsLines form left old new → AppendsShown (Steps form) text old new
-lines_shown form text settings left old new opened lines =
-    (shown (Steps form) lines.0, record { settings = settings; steps = lines.0; parsed = history_read text settings left lines.0 opened lines.1; shown = refl }, lines.2)
+pub lines_shown : (form : Form) (text : List ℕ) (times : List (List ℕ)) (settings : Numbers × Own) (left : Result (List (Step Global)) CaptureFault) (old new : Option (List ℕ))
+    → times ≡ step_times text → history_of text ≡ map_result (λ steps. (settings, steps)) left → AppendsLines form times left old new → AppendsShown (Steps form) text old new
+lines_shown form text times settings left old new timed opened lines = (
+  text_of form times lines.0,
+  record { settings = settings; steps = lines.0; parsed = history_read text settings left lines.0 opened lines.1; shown = ap (λ (ts : List (List ℕ)). text_of form ts lines.0) timed },
+  lines.2,
+)
 
-pub lines_shown_part : (form : Form) (text : List ℕ) (settings : Numbers × Own) (left : Result (List (Step Global)) CaptureFault) (old new : Option (List ℕ))
-    → history_of text ≡ map_result (λ steps. (settings, steps)) left → AppendsLinesPart form left old new → AppendsShownPart (Steps form) text old new
-lines_shown_part form text settings left old new opened lines =
-    (shown (Steps form) lines.0, record { settings = settings; steps = lines.0; parsed = history_read text settings left lines.0 opened lines.1; shown = refl }, lines.2)
+pub lines_shown_part : (form : Form) (text : List ℕ) (times : List (List ℕ)) (settings : Numbers × Own) (left : Result (List (Step Global)) CaptureFault) (old new : Option (List ℕ))
+    → times ≡ step_times text → history_of text ≡ map_result (λ steps. (settings, steps)) left → AppendsLinesPart form times left old new → AppendsShownPart (Steps form) text old new
+lines_shown_part form text times settings left old new timed opened lines = (
+  text_of form times lines.0,
+  record { settings = settings; steps = lines.0; parsed = history_read text settings left lines.0 opened lines.1; shown = ap (λ (ts : List (List ℕ)). text_of form ts lines.0) timed },
+  lines.2,
+)
 
 -- nothing was written yet
 none_by : (view : View) (text : List ℕ) (old : Option (List ℕ)) (r : Result ((Numbers × Own) × List (Step Global)) CaptureFault) → history_of text ≡ r → IsOk r → AppendsShownPart view text old old
 none_by view text old (Ok history) is ok =
-    let out : List ℕ = shown view history.1 in
+    let out : List ℕ = shown view (step_times text) history.1 in
     (out, record { settings = history.0; steps = history.1; parsed = is; shown = refl }, (out, leaves_all old out))
 none_by view text old (Err fault) is ok = absurd (true≢false (sym ok))
 

@@ -5,8 +5,12 @@ use Rattle.std.specs.Ordering.{nat_cmp}
 use Rattle.std.specs.declared.alloc.Global.{Global}
 use Rattle.gn_rules.specs.Flight.{Admission}
 use Rattle.gn_rules.specs.declared.receipt.Step.{Step}
+use Rattle.gn_text.specs.Lines.{lines_of}
 use Rattle.gn_show.specs.Rows.{Row}
 use Rattle.gn_show.specs.Subjects.{waiting}
+use Rattle.gn_show.specs.Times.{Place, times_from}
+use Rattle.gn_show.specs.declared.clock.Clock.{Clock}
+use Rattle.gn_show.specs.declared.clock.Moment.{Moment}
 use Rattle.gn_show.specs.declared.flight.Flight.{Flight}
 use Rattle.gn_show.specs.declared.flight.Subject.{Subject}
 use Rattle.gn_show.specs.declared.form.Form.{Form}
@@ -31,6 +35,14 @@ Fits Rows flight past = Follows flight past
 -- the packet that an event speaks of
 abbrev pub seen : Option Subject → Option Admission
 seen subject = option_map (λ s. record { origin = s.origin; packet = s.packet.now }) subject
+
+-- where a step stands
+abbrev pub placed : Moment → Place
+placed moment = record { index = moment.index; time = moment.time.now }
+
+-- the times that are left
+abbrev pub times_left : Clock → List (List ℕ)
+times_left clock = times_from clock.time.now (lines_of clock.rest.now)
 
 -- what a row says
 abbrev pub row_seen : Shown → Row

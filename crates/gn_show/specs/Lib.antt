@@ -4,5 +4,6 @@ pub mod Plain
 pub mod Rows
 pub mod Shown
 pub mod Subjects
+pub mod Times
 pub mod Values
 pub mod Words

@@ -15,6 +15,7 @@ use Rattle.gn_rules.specs.declared.reply.Reply.TheVariants as reply
 use Rattle.gn_rules.specs.declared.sends.Sending.{Sending}
 use Rattle.gn_text.specs.Steps.{reason_text}
 use Rattle.gn_show.specs.Subjects.{subject, waiting}
+use Rattle.gn_show.specs.Times.{Place}
 use Rattle.gn_show.specs.Words.{kind_name}
 
 -- what a row says of a packet: from which connection it came, to which it goes, 0 for this router, and whether it was queued there
@@ -97,27 +98,27 @@ rows_by a event (reply.Sent sends) = map (send_row a) sends
 rows_by a event (reply.Taken d) = taken_row event d ∷ []
 rows_by a event reply = []
 
--- the line of a row of a step; no time is known
-abbrev pub row_line : ℕ → Step Global → Row → List ℕ
-row_line index step row =
-    row_text default_writer (decimal index ∷ [] ∷ decimal step.actor ∷ event_word step.event ∷ reply_word step.reply
+-- the line of a row of a step
+abbrev pub row_line : Place → Step Global → Row → List ℕ
+row_line place step row =
+    row_text default_writer (decimal place.index ∷ place.time ∷ decimal step.actor ∷ event_word step.event ∷ reply_word step.reply
     ∷ number_field row.from ∷ number_field row.to ∷ (packet_fields row.packet ++ (queued_field row.queued ∷ [])))
 
 -- the line of the packet that a step's event speaks of
-abbrev pub own_line : Option Admission → ℕ → Step Global → Option ℕ → List ℕ
-own_line a index step to = row_line index step (own_row a to)
+abbrev pub own_line : Option Admission → Place → Step Global → Option ℕ → List ℕ
+own_line a place step to = row_line place step (own_row a to)
 
 -- the line of a send
-abbrev pub send_line : Option Admission → ℕ → Step Global → Sending Global → List ℕ
-send_line a index step s = row_line index step (send_row a s)
+abbrev pub send_line : Option Admission → Place → Step Global → Sending Global → List ℕ
+send_line a place step s = row_line place step (send_row a s)
 
 -- the lines of the rows of a step whose event speaks of this packet
-abbrev pub lines_of : Option Admission → ℕ → Step Global → List ℕ
-lines_of a index step = flat_map (row_line index step) (rows_by a step.event step.reply)
+abbrev pub lines_of : Option Admission → Place → Step Global → List ℕ
+lines_of a place step = flat_map (row_line place step) (rows_by a step.event step.reply)
 
 -- the lines of a step's rows, after these steps
-abbrev pub step_lines : List (Step Global) → ℕ → Step Global → List ℕ
-step_lines past index step = lines_of (subject (waiting past) step.event) index step
+abbrev pub step_lines : List (Step Global) → Place → Step Global → List ℕ
+step_lines past place step = lines_of (subject (waiting past) step.event) place step
 
 -- the line of the columns' names
 abbrev pub heading : List ℕ

@@ -1,5 +1,5 @@
 -- What is shown of a history.
-use Rattle.std.specs.Prelude.{◌≡◌, ◌⊎◌, ◌+◌, ℕ, List, [], ◌∷◌, ◌++◌, codes, reverse, Option, IfSome, Result, Ok}
+use Rattle.std.specs.Prelude.{◌≡◌, ◌⊎◌, ◌+◌, ◌-◌, ℕ, List, [], ◌∷◌, ◌++◌, codes, length, reverse, take, Option, IfSome, Result, Ok}
 use Rattle.std.specs.Io.KnownBytes.{Appends, Keeps}
 use Rattle.std.specs.declared.alloc.Global.{Global}
 use Rattle.serde_json.specs.Written.{compact_text}
@@ -22,43 +22,50 @@ use Rattle.gn_show.specs.declared.form.View.TheVariants.{Steps, Stats as Counter
 use Rattle.gn_show.specs.Plain.{plain_line}
 use Rattle.gn_show.specs.Rows.{heading, step_lines}
 use Rattle.gn_show.specs.Subjects.{subject, waiting}
+use Rattle.gn_show.specs.Times.{Place, place_of, step_times}
 use Rattle.gn_show.specs.Values.{step_data}
 
+-- the text of an object that has the time too, where there is one: as its last member, before its closing brace
+abbrev pub with_time : List ℕ → List ℕ → List ℕ
+with_time [] text = text
+with_time (b ∷ bs) text = take (length text - 1) text ++ codes ",\"t\":" ++ (b ∷ bs) ++ codes "}"
+
 -- the line in JSON of a step whose event speaks of this packet
-abbrev pub json_line : Option Admission → ℕ → Step Global → List ℕ
-json_line a index step = compact_text (step_data a index step) ++ codes "\n"
+abbrev pub json_line : Option Admission → Place → Step Global → List ℕ
+json_line a place step = with_time place.time (compact_text (step_data a place.index step)) ++ codes "\n"
 
 -- the lines of a step, after these, of which the newest is first
-abbrev pub line_of : Form → List (Step Global) → ℕ → Step Global → List ℕ
-line_of Plain past index step = plain_line index step
-line_of Json past index step = json_line (subject (waiting past) step.event) index step
-line_of Rows past index step = step_lines past index step
+abbrev pub line_of : Form → List (Step Global) → Place → Step Global → List ℕ
+line_of Plain past place step = plain_line place.index step
+line_of Json past place step = json_line (subject (waiting past) step.event) place step
+line_of Rows past place step = step_lines past place step
 
--- the lines of steps, whose indices go up from this one, after these
-abbrev pub lines_from : Form → List (Step Global) → ℕ → List (Step Global) → List ℕ
-lines_from form past index [] = []
-lines_from form past index (step ∷ more) = line_of form past index step ++ lines_from form (step ∷ past) (index + 1) more
+-- the lines of steps at these times, whose indices go up from this one, after these
+abbrev pub lines_from : Form → List (List ℕ) → List (Step Global) → ℕ → List (Step Global) → List ℕ
+lines_from form times past index [] = []
+lines_from form times past index (step ∷ more) =
+    line_of form past (place_of times index) step ++ lines_from form times (step ∷ past) (index + 1) more
 
 -- what stands above the lines: over rows the names of their columns
 abbrev pub head_of : Form → List ℕ
 head_of Rows = heading
 head_of form = []
 
--- the lines of a history's steps, whose indices count from 0
-abbrev pub text_of : Form → List (Step Global) → List ℕ
-text_of form steps = head_of form ++ lines_from form [] 0 steps
+-- the lines of a history's steps at these times, whose indices count from 0
+abbrev pub text_of : Form → List (List ℕ) → List (Step Global) → List ℕ
+text_of form times steps = head_of form ++ lines_from form times [] 0 steps
 
--- what is shown of steps: the lines of each; or the line of the counters
-abbrev pub shown : View → List (Step Global) → List ℕ
-shown (Steps form) steps = text_of form steps
-shown Counters steps = stats_text (stats_of (reverse steps))
+-- what is shown of steps at these times: the lines of each; or the line of the counters
+abbrev pub shown : View → List (List ℕ) → List (Step Global) → List ℕ
+shown (Steps form) times steps = text_of form times steps
+shown Counters times steps = stats_text (stats_of (reverse steps))
 
 -- a text is a history, and this is what is shown of its steps, whether they are legal or not
 pub record IsShown (view : View) (text out : List ℕ) : Type 0 where
   pub settings : Numbers × Own
   pub steps : List (Step Global)
   pub parsed : history_of text ≡ Ok (settings, steps)
-  pub shown : out ≡ shown view steps
+  pub shown : out ≡ shown view (step_times text) steps
 
 -- known bytes grew by what is shown of the history that a text says
 abbrev pub AppendsShown : View → List ℕ → Option (List ℕ) → Option (List ℕ) → Type 0
@@ -86,12 +93,12 @@ IsCounted stats text =
     (settings : Numbers × Own) × (steps : List (Step Global)) × (history_of text ≡ Ok (settings, steps))
     × (stats ≡ stats_of (reverse steps))
 
--- what is left of a history says steps, and known bytes grew by their lines
-abbrev pub AppendsLines : Form → Result (List (Step Global)) CaptureFault → Option (List ℕ) → Option (List ℕ) → Type 0
-AppendsLines form left old new =
-    (steps : List (Step Global)) × (left ≡ Ok steps) × Appends old new (text_of form steps)
+-- what is left of a history says steps, and known bytes grew by their lines at these times
+abbrev pub AppendsLines : Form → List (List ℕ) → Result (List (Step Global)) CaptureFault → Option (List ℕ) → Option (List ℕ) → Type 0
+AppendsLines form times left old new =
+    (steps : List (Step Global)) × (left ≡ Ok steps) × Appends old new (text_of form times steps)
 
--- what is left of a history says steps, and known bytes grew by a prefix of their lines
-abbrev pub AppendsLinesPart : Form → Result (List (Step Global)) CaptureFault → Option (List ℕ) → Option (List ℕ) → Type 0
-AppendsLinesPart form left old new =
-    (steps : List (Step Global)) × (left ≡ Ok steps) × AppendsPart old new (text_of form steps)
+-- what is left of a history says steps, and known bytes grew by a prefix of their lines at these times
+abbrev pub AppendsLinesPart : Form → List (List ℕ) → Result (List (Step Global)) CaptureFault → Option (List ℕ) → Option (List ℕ) → Type 0
+AppendsLinesPart form times left old new =
+    (steps : List (Step Global)) × (left ≡ Ok steps) × AppendsPart old new (text_of form times steps)

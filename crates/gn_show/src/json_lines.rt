@@ -1,31 +1,46 @@
 //! The line of a step in JSON.
 
-ghost use Rattle.std.specs.Prelude.{◌≡◌, ◌∷◌, List, IfOk};
+ghost use Rattle.std.specs.Prelude.{◌≡◌, ◌∷◌, List, IfOk, OnOk};
 ghost use Rattle.std.specs.declared.alloc.Global.{Global};
 ghost use Rattle.gn_rules.specs.declared.receipt.Step.{Step};
-ghost use Rattle.gn_show.specs.Kept.{Follows, seen};
-ghost use Rattle.gn_show.specs.Shown.{json_line};
+ghost use Rattle.gn_show.specs.Kept.{Follows, placed, seen};
+ghost use Rattle.gn_show.specs.Shown.{json_line, with_time};
 ghost use Rattle.gn_show.specs.Subjects.{subject, waiting};
 
+use crate::clock::Moment;
 use crate::flight::{Flight, Subject};
 use crate::step_json::step_value;
 use gn_rules::Step;
 use std::alloc::{AllocError, Global};
 
-/// The line of a step, whose index counts from 0, and whose event speaks of this packet.
+/// Adds the time to the text of an object, where there is one.
+fn add_time(object: &mut Vec<u8>, time: &[u8]) -> Result<(), AllocError>
+    ensures { OnOk result (object.new.items ≡ with_time time.now object.old.items) }
+{
+    if time.is_empty() {
+        return Ok(());
+    }
+    object.truncate(object.len().saturating_sub(1));
+    object.extend_from_slice(b",\"t\":")?;
+    object.extend_from_slice(time)?;
+    object.extend_from_slice(b"}")
+}
+
+/// The line of a step whose event speaks of this packet.
 fn json_line(
     alloc: Global,
     subject: Option<Subject<'_>>,
-    index: u32,
+    moment: Moment<'_>,
     step: &Step,
 ) -> Result<Vec<u8>, AllocError>
-    ensures { IfOk result (λ line. line.items ≡ json_line (seen subject.entry) index step.now) }
+    ensures { IfOk result (λ line. line.items ≡ json_line (seen subject.entry) (placed moment.entry) step.now) }
 {
-    let value = step_value(alloc, subject, index, step)?;
+    let value = step_value(alloc, subject, moment.index, step)?;
     let written = value.to_string(alloc);
     drop(value);
     let text = written?;
     let mut line = text.into_bytes();
+    add_time(&mut line, moment.time)?;
     line.push(b'\n')?;
     Ok(line)
 }
@@ -34,13 +49,14 @@ fn json_line(
 pub(crate) fn next_json(
     alloc: Global,
     flight: &mut Flight,
-    index: u32,
+    moment: Moment<'_>,
     step: Step,
 ) -> Result<Vec<u8>, AllocError>
     ensures { IfOk result (λ line. (past : List (Step Global)) → Follows flight.old past
-        → (line.items ≡ json_line (subject (waiting past) step.event) index step) × Follows flight.new (step ∷ past)) }
+        → (line.items ≡ json_line (subject (waiting past) step.event) (placed moment.entry) step)
+        × Follows flight.new (step ∷ past)) }
 {
-    let made = json_line(alloc, flight.subject(&step.event), index, &step);
+    let made = json_line(alloc, flight.subject(&step.event), moment, &step);
     let line = made?;
     flight.follow(step)?;
     Ok(line)

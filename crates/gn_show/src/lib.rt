@@ -1,6 +1,7 @@
 //! Histories as a reader sees them: each step as a line of plain words or of JSON, each packet as a row, and the counters.
 #![tactic(auto)]
 
+mod clock;
 mod descriptor_json;
 mod flight;
 mod form;

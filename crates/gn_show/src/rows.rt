@@ -7,9 +7,10 @@ ghost use Rattle.std.specs.declared.alloc.Global.{Global};
 ghost use Rattle.csv.specs.Writing.{default_writer, row_text};
 ghost use Rattle.hex.specs.Hex.{encode_lower};
 ghost use Rattle.gn_rules.specs.declared.receipt.Step.{Step};
-ghost use Rattle.gn_show.specs.Kept.{Follows, fields_seen, row_seen, seen};
+ghost use Rattle.gn_show.specs.Kept.{Follows, fields_seen, placed, row_seen, seen};
 ghost use Rattle.gn_show.specs.Rows.{event_word, lines_of, number_field, origin_of, own_line, packet_fields, packet_of, queued_field, reply_word, row_line, send_line, step_lines, taken_row, taker};
 
+use crate::clock::Moment;
 use crate::flight::{Flight, Subject};
 use crate::text::{name_of, reason_word};
 use csv::WriterBuilder;
@@ -168,11 +169,15 @@ fn line_of(alloc: Global, fields: &[&[u8]]) -> Result<Vec<u8>, AllocError>
 }
 
 /// The line of a row.
-fn row_line(alloc: Global, index: u32, step: &Step, row: &Row<'_>) -> Result<Vec<u8>, AllocError>
-    ensures { IfOk result (λ line. line.items ≡ row_line index step.now (row_seen row.now)) }
+fn row_line(
+    alloc: Global,
+    moment: Moment<'_>,
+    step: &Step,
+    row: &Row<'_>,
+) -> Result<Vec<u8>, AllocError>
+    ensures { IfOk result (λ line. line.items ≡ row_line (placed moment.entry) step.now (row_seen row.now)) }
 {
-    let index = number_field(alloc, Some(index))?;
-    let time = Vec::new(alloc);
+    let index = number_field(alloc, Some(moment.index))?;
     let actor = number_field(alloc, Some(step.actor))?;
     let event = word_field(alloc, event_word(&step.event).as_bytes())?;
     let reply = word_field(alloc, reply_word(&step.reply).as_bytes())?;
@@ -184,7 +189,7 @@ fn row_line(alloc: Global, index: u32, step: &Step, row: &Row<'_>) -> Result<Vec
         alloc,
         &[
             index.as_slice(),
-            time.as_slice(),
+            moment.time,
             actor.as_slice(),
             event.as_slice(),
             reply.as_slice(),
@@ -204,13 +209,14 @@ fn row_line(alloc: Global, index: u32, step: &Step, row: &Row<'_>) -> Result<Vec
 fn push_row(
     alloc: Global,
     out: &mut Vec<u8>,
-    index: u32,
+    moment: Moment<'_>,
     step: &Step,
     row: &Row<'_>,
 ) -> Result<(), AllocError>
-    ensures { OnOk result (out.new.items ≡ out.old.items ++ row_line index step.now (row_seen row.now)) }
+    ensures { OnOk result (out.new.items
+        ≡ out.old.items ++ row_line (placed moment.entry) step.now (row_seen row.now)) }
 {
-    let line = row_line(alloc, index, step, row)?;
+    let line = row_line(alloc, moment, step, row)?;
     out.extend_from_slice(&line)
 }
 
@@ -248,12 +254,13 @@ fn taker(event: &Event) -> Option<ConnId>
 fn push_own(
     alloc: Global,
     out: &mut Vec<u8>,
-    index: u32,
+    moment: Moment<'_>,
     step: &Step,
     subject: Option<Subject<'_>>,
     to: Option<ConnId>,
 ) -> Result<(), AllocError>
-    ensures { OnOk result (out.new.items ≡ out.old.items ++ own_line (seen subject.entry) index step.now to) }
+    ensures { OnOk result (out.new.items
+        ≡ out.old.items ++ own_line (seen subject.entry) (placed moment.entry) step.now to) }
 {
     let row = Row {
         from: origin_of(subject),
@@ -261,19 +268,20 @@ fn push_own(
         packet: packet_of(subject),
         queued: None,
     };
-    push_row(alloc, out, index, step, &row)
+    push_row(alloc, out, moment, step, &row)
 }
 
 /// Appends the line of a send.
 fn push_send(
     alloc: Global,
     out: &mut Vec<u8>,
-    index: u32,
+    moment: Moment<'_>,
     step: &Step,
     subject: Option<Subject<'_>>,
     sending: &Sending,
 ) -> Result<(), AllocError>
-    ensures { OnOk result (out.new.items ≡ out.old.items ++ send_line (seen subject.entry) index step.now sending.now) }
+    ensures { OnOk result (out.new.items
+        ≡ out.old.items ++ send_line (seen subject.entry) (placed moment.entry) step.now sending.now) }
 {
     let row = Row {
         from: origin_of(subject),
@@ -281,23 +289,23 @@ fn push_send(
         packet: Some(&sending.packet),
         queued: Some(sending.queued),
     };
-    push_row(alloc, out, index, step, &row)
+    push_row(alloc, out, moment, step, &row)
 }
 
 /// Appends a line for each send.
 fn push_sends(
     alloc: Global,
     out: &mut Vec<u8>,
-    index: u32,
+    moment: Moment<'_>,
     step: &Step,
     subject: Option<Subject<'_>>,
     sends: &[Sending],
 ) -> Result<(), AllocError>
     ensures { OnOk result (out.new.items
-        ≡ out.old.items ++ flat_map (send_line (seen subject.entry) index step.now) sends.now) }
+        ≡ out.old.items ++ flat_map (send_line (seen subject.entry) (placed moment.entry) step.now) sends.now) }
 {
     for sending in sends {
-        push_send(alloc, out, index, step, subject, sending)?;
+        push_send(alloc, out, moment, step, subject, sending)?;
     }
     Ok(())
 }
@@ -306,33 +314,33 @@ fn push_sends(
 fn push_routed(
     alloc: Global,
     out: &mut Vec<u8>,
-    index: u32,
+    moment: Moment<'_>,
     step: &Step,
     subject: Option<Subject<'_>>,
     sends: &[Sending],
     local: bool,
 ) -> Result<(), AllocError>
     ensures { OnOk result (out.new.items
-        ≡ out.old.items ++ flat_map (send_line (seen subject.entry) index step.now) sends.now
-        ++ (if local then own_line (seen subject.entry) index step.now (Some 0) else [])) }
+        ≡ out.old.items ++ flat_map (send_line (seen subject.entry) (placed moment.entry) step.now) sends.now
+        ++ (if local then own_line (seen subject.entry) (placed moment.entry) step.now (Some 0) else [])) }
 {
-    push_sends(alloc, out, index, step, subject, sends)?;
+    push_sends(alloc, out, moment, step, subject, sends)?;
     if !local {
         return Ok(());
     }
-    push_own(alloc, out, index, step, subject, Some(0))
+    push_own(alloc, out, moment, step, subject, Some(0))
 }
 
 /// Appends the line of what a step takes.
 fn push_taken(
     alloc: Global,
     out: &mut Vec<u8>,
-    index: u32,
+    moment: Moment<'_>,
     step: &Step,
     packet: &Descriptor,
 ) -> Result<(), AllocError>
     ensures { OnOk result (out.new.items
-        ≡ out.old.items ++ row_line index step.now (taken_row step.now.event packet.now)) }
+        ≡ out.old.items ++ row_line (placed moment.entry) step.now (taken_row step.now.event packet.now)) }
 {
     let row = Row {
         from: None,
@@ -340,7 +348,7 @@ fn push_taken(
         packet: Some(packet),
         queued: None,
     };
-    push_row(alloc, out, index, step, &row)
+    push_row(alloc, out, moment, step, &row)
 }
 
 /// Appends the lines of a step's rows, of which there may be none.
@@ -348,27 +356,28 @@ fn push_taken(
 fn push_lines(
     alloc: Global,
     out: &mut Vec<u8>,
-    index: u32,
+    moment: Moment<'_>,
     step: &Step,
     subject: Option<Subject<'_>>,
 ) -> Result<(), AllocError>
-    ensures { OnOk result (out.new.items ≡ out.old.items ++ lines_of (seen subject.entry) index step.now) }
+    ensures { OnOk result (out.new.items
+        ≡ out.old.items ++ lines_of (seen subject.entry) (placed moment.entry) step.now) }
 {
     match &step.reply {
         Reply::Admitted(_) | Reply::Busy | Reply::Crowded | Reply::Dropped(_) => {
-            push_own(alloc, out, index, step, subject, None)
+            push_own(alloc, out, moment, step, subject, None)
         }
         Reply::Routed { sends, local } => push_routed(
             alloc,
             out,
-            index,
+            moment,
             step,
             subject,
             sends.as_slice(),
             *local,
         ),
-        Reply::Sent(sends) => push_sends(alloc, out, index, step, subject, sends.as_slice()),
-        Reply::Taken(packet) => push_taken(alloc, out, index, step, packet),
+        Reply::Sent(sends) => push_sends(alloc, out, moment, step, subject, sends.as_slice()),
+        Reply::Taken(packet) => push_taken(alloc, out, moment, step, packet),
         Reply::Connected(_) | Reply::TooMany | Reply::Closed(_) => Ok(()),
     }
 }
@@ -377,14 +386,14 @@ fn push_lines(
 pub(crate) fn next_lines(
     alloc: Global,
     flight: &mut Flight,
-    index: u32,
+    moment: Moment<'_>,
     step: Step,
 ) -> Result<Vec<u8>, AllocError>
     ensures { IfOk result (λ lines. (past : List (Step Global)) → Follows flight.old past
-        → (lines.items ≡ step_lines past index step) × Follows flight.new (step ∷ past)) }
+        → (lines.items ≡ step_lines past (placed moment.entry) step) × Follows flight.new (step ∷ past)) }
 {
     let mut out = Vec::new(alloc);
-    let pushed = push_lines(alloc, &mut out, index, &step, flight.subject(&step.event));
+    let pushed = push_lines(alloc, &mut out, moment, &step, flight.subject(&step.event));
     pushed?;
     flight.follow(step)?;
     Ok(out)

@@ -7,10 +7,11 @@ ghost use Rattle.gn_io.specs.Parts.{AppendsPart, LeavesToWrite, block_size};
 ghost use Rattle.gn_io.specs.Streams.{NoWriteFailed};
 ghost use Rattle.gn_replay.specs.Runs.{IsPlayFault};
 ghost use Rattle.gn_rules.specs.declared.receipt.Step.{Step};
-ghost use Rattle.gn_show.specs.Kept.{Fits};
+ghost use Rattle.gn_show.specs.Kept.{Fits, placed, times_left};
 ghost use Rattle.gn_show.specs.Shown.{AppendsLines, AppendsLinesPart, AppendsShown, AppendsShownPart, head_of, line_of};
 ghost use Rattle.gn_show.specs.declared.form.View.TheVariants.{Steps};
 
+use crate::clock::{Clock, Moment};
 use crate::flight::Flight;
 use crate::form::Form;
 use crate::json_lines::next_json;
@@ -42,21 +43,21 @@ fn headed(alloc: Global, form: Form) -> Result<Block, AllocError>
     Ok(block)
 }
 
-/// The lines of the next step, whose index counts from 0.
+/// The lines of the next step.
 fn line_of(
     alloc: Global,
     form: Form,
     flight: &mut Flight,
-    index: u32,
+    moment: Moment<'_>,
     step: Step,
 ) -> Result<Vec<u8>, AllocError>
     ensures { IfOk result (λ line. (past : List (Step Global)) → Fits form flight.old past
-        → (line.items ≡ line_of form past index step) × Fits form flight.new (step ∷ past)) }
+        → (line.items ≡ line_of form past (placed moment.entry) step) × Fits form flight.new (step ∷ past)) }
 {
     match form {
-        Form::Plain => plain_line(alloc, index, &step),
-        Form::Json => next_json(alloc, flight, index, step),
-        Form::Rows => next_lines(alloc, flight, index, step),
+        Form::Plain => plain_line(alloc, moment.index, &step),
+        Form::Json => next_json(alloc, flight, moment, step),
+        Form::Rows => next_lines(alloc, flight, moment, step),
     }
 }
 
@@ -75,17 +76,18 @@ fn write_step<W: Sink>(line: &[u8], block: &mut Block, sink: &mut W) -> Result<(
     Ok(())
 }
 
-/// Shows the steps that are left of a history, each as it is read.
+/// Shows the steps that are left of a history, each as it is read, at their times.
 fn write_steps<W: Sink>(
     alloc: Global,
     form: Form,
+    clock: &mut Clock<'_>,
     steps: &mut HistorySteps,
     sink: &mut W,
 ) -> Result<(), ReplayFault>
     requires { IsOk (steps_left {A = Global} steps.old) }
-    ensures ok { OnOk result (AppendsLines form (steps_left steps.old)
+    ensures ok { OnOk result (AppendsLines form (times_left clock.old) (steps_left steps.old)
         (W.state sink.old).written (W.state sink.new).written) }
-    ensures err { OnErr result (AppendsLinesPart form (steps_left steps.old)
+    ensures err { OnErr result (AppendsLinesPart form (times_left clock.old) (steps_left steps.old)
         (W.state sink.old).written (W.state sink.new).written) }
     ensures cause { IfErr result (λ fault. IsPlayFault fault (W.state sink.old) (W.state sink.new)) }
     ensures writes { OnOk result (NoWriteFailed (W.state sink.old) (W.state sink.new)) }
@@ -94,7 +96,8 @@ fn write_steps<W: Sink>(
     let mut flight = Flight::new(alloc);
     let mut index = 0u32;
     while let Some(step) = steps.next_step()? {
-        let line = line_of(alloc, form, &mut flight, index, step)?;
+        let time = clock.next_time();
+        let line = line_of(alloc, form, &mut flight, Moment { index, time }, step)?;
         let written = write_step(&line, &mut block, sink);
         drop(line);
         written?;
@@ -120,5 +123,6 @@ pub(crate) fn write_text<W: Sink>(
     ensures writes { OnOk result (NoWriteFailed (W.state sink.old) (W.state sink.new)) }
 {
     let (_, mut steps) = open_history(alloc, text)?;
-    write_steps(alloc, form, &mut steps, sink)
+    let mut clock = Clock::of(text);
+    write_steps(alloc, form, &mut clock, &mut steps, sink)
 }

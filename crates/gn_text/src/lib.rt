@@ -23,7 +23,7 @@ pub use address::{ip, push_ip};
 pub use fault::{CaptureFault, CaptureRefusal, Cause};
 pub use gn_numbers::{Version, number, number_u8, number_u16};
 pub use header::{push_header, read_header, read_settings};
-pub use line::{fields, fields_in, fields_into, is_skipped, is_word};
+pub use line::{fields, fields_in, fields_into, first_line, is_skipped, is_word};
 pub use link::{push_ended, push_frame_fault, push_greeting_refused};
 pub use octets::{guid, hex_bytes};
 pub use parsed::{NumberedLine, NumberedLines};

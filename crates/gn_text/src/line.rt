@@ -117,7 +117,7 @@ pub fn fields_in<'a>(line: &'a [u8], places: &mut [&'a [u8]]) -> Option<usize>
 }
 
 /// The first line of a text, and the text after its line feed, which may be missing. An empty text has none.
-pub(crate) fn first_line(text: &[u8]) -> Option<(&[u8], &[u8])>
+pub fn first_line(text: &[u8]) -> Option<(&[u8], &[u8])>
     ensures line { IfSome result (λ cut. lines_of text.now ≡ cut.0.now ∷ lines_of cut.1.now) }
     ensures less { IfSome result (λ cut. length cut.1.now < length text.now) }
     ensures none { IfNone result (lines_of text.now ≡ []) }

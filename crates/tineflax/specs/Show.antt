@@ -2,5 +2,6 @@
 
 pub use Rattle.gn_show.specs.Plain
 pub use Rattle.gn_show.specs.Shown
+pub use Rattle.gn_show.specs.Times
 pub use Rattle.gn_show.specs.Values
 pub use Rattle.gn_show.specs.Words

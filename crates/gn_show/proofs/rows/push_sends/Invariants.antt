@@ -1,9 +1,9 @@
 use Rattle.std.specs.Prelude.{◌≡◌, ◌++◌, take}
 use Rattle.std.specs.List.{flat_map}
-use Rattle.gn_show.specs.Kept.{seen}
+use Rattle.gn_show.specs.Kept.{placed, seen}
 use Rattle.gn_show.specs.Rows.{send_line}
 use Rattle.gn_show.proofs.rows.push_sends.Given as goal
 
 abbrev pub invariant-loop-sending : goal.invariant-loop-sending
 invariant-loop-sending l =
-    l.out.items ≡ l.fn.out.items ++ flat_map (send_line (seen l.subject) l.index l.step) (take l.sending-index l.sends)
+    l.out.items ≡ l.fn.out.items ++ flat_map (send_line (seen l.subject) (placed l.moment) l.step) (take l.sending-index l.sends)

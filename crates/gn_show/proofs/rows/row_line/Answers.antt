@@ -9,17 +9,17 @@ pub returns : goal.returns
 returns c =
     subst (λ (fields : List (List ℕ)). IfOk c.line_of.result (λ line. line.items ≡ row_text default_writer fields))
     (both_same (c.as_slice.ensures.value ∙ c.in_ok-index.ensures)
-    (both_same (c.as_slice-2.ensures.value ∙ c.new-time.ensures.items)
-    (both_same (c.as_slice-3.ensures.value ∙ c.in_ok-actor.ensures)
-    (both_same (c.as_slice-4.ensures.value ∙ c.in_ok-event.ensures ∙ c.as_bytes.ensures.value ∙ c.event_word.ensures)
-    (both_same (c.as_slice-5.ensures.value ∙ c.in_ok-reply.ensures ∙ c.as_bytes-2.ensures.value ∙ c.reply_word.ensures)
-    (both_same (c.as_slice-6.ensures.value ∙ c.in_ok-from.ensures)
-    (both_same (c.as_slice-7.ensures.value ∙ c.in_ok-to.ensures)
+    (both_same refl
+    (both_same (c.as_slice-2.ensures.value ∙ c.in_ok-actor.ensures)
+    (both_same (c.as_slice-3.ensures.value ∙ c.in_ok-event.ensures ∙ c.as_bytes.ensures.value ∙ c.event_word.ensures)
+    (both_same (c.as_slice-4.ensures.value ∙ c.in_ok-reply.ensures ∙ c.as_bytes-2.ensures.value ∙ c.reply_word.ensures)
+    (both_same (c.as_slice-5.ensures.value ∙ c.in_ok-from.ensures)
+    (both_same (c.as_slice-6.ensures.value ∙ c.in_ok-to.ensures)
+    (both_same c.as_slice-7.ensures.value
     (both_same c.as_slice-8.ensures.value
     (both_same c.as_slice-9.ensures.value
     (both_same c.as_slice-10.ensures.value
     (both_same c.as_slice-11.ensures.value
-    (both_same c.as_slice-12.ensures.value
-    (both_same (c.as_slice-13.ensures.value ∙ c.in_ok-queued.ensures ∙ c.queued_field.ensures) refl)))))
+    (both_same (c.as_slice-12.ensures.value ∙ c.in_ok-queued.ensures ∙ c.queued_field.ensures) refl)))))
     ∙ ap (λ (fields : List (List ℕ)). fields ++ queued_field c.args.row.now.queued ∷ []) c.in_ok-packet.ensures))))))))
     c.line_of.ensures

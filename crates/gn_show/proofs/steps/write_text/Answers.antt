@@ -4,6 +4,7 @@ use Rattle.gn_replay.specs.Faults.{of_refusal}
 use Rattle.gn_replay.specs.Runs.{IsPlayFault}
 use Rattle.gn_replay.proofs.RunLemmas.{on_err}
 use Rattle.gn_show.specs.declared.form.View.TheVariants.{Steps}
+use Rattle.gn_show.specs.Kept.{times_left}
 use Rattle.gn_show.proofs.ShowLemmas.{err_so, fault_is, left_ok, lines_shown, lines_shown_part, none_shown, ok_so, only_memory}
 use Rattle.gn_show.proofs.steps.write_text.Goals as goal
 
@@ -12,11 +13,11 @@ write_steps-requires g c = left_ok c.args.text.now _ (steps_left c.in_ok-steps.s
 
 pub returns-clause-ok : goal.returns-clause-ok
 returns-clause-ok g c =
-    ok_so c.write_steps.result (lines_shown c.args.form c.args.text.now _ (steps_left c.in_ok-steps.steps) _ _ c.in_ok-steps.ensures.opened) c.write_steps.ensures.ok
+    ok_so c.write_steps.result (lines_shown c.args.form c.args.text.now (times_left c.of-clock.result) _ (steps_left c.in_ok-steps.steps) _ _ c.of-clock.ensures c.in_ok-steps.ensures.opened) c.write_steps.ensures.ok
 
 pub returns-clause-err : goal.returns-clause-err
 returns-clause-err g c =
-    err_so c.write_steps.result (lines_shown_part c.args.form c.args.text.now _ (steps_left c.in_ok-steps.steps) _ _ c.in_ok-steps.ensures.opened) c.write_steps.ensures.err
+    err_so c.write_steps.result (lines_shown_part c.args.form c.args.text.now (times_left c.of-clock.result) _ (steps_left c.in_ok-steps.steps) _ _ c.of-clock.ensures c.in_ok-steps.ensures.opened) c.write_steps.ensures.err
 
 pub returns-in_err-steps-clause-err : goal.returns-in_err-steps-clause-err
 returns-in_err-steps-clause-err g c =
