@@ -13,11 +13,11 @@ use std::sync::ledger::Ledger;
 pub enum ReaderEnd {
     /// All bytes were read.
     Bytes,
-    /// The bytes end with this fault.
+    /// A header has this fault.
     Fault(FrameFault),
     /// A read failed.
     ReadFailed,
-    /// As many reads gave bytes as may be: 1,000,000.
+    /// 1,000,000 reads gave bytes, which is the limit.
     Turns,
     /// The bytes differ from the greeting.
     GreetingRefused,
@@ -32,11 +32,11 @@ pub enum ReaderEnd {
 /// How the body of a writer ended.
 #[derive(Clone, Copy, Debug, PartialEq, Eq)]
 pub enum WriterEnd {
-    /// All was written, and the writer closed the connection.
+    /// All that it took was written, and the writer closed the connection.
     Drained,
-    /// A write failed, or took nothing.
+    /// A write failed, or wrote no bytes.
     WriteFailed,
-    /// All was written, and another closed the connection, or the run failed.
+    /// All that it took was written, and another closed the connection.
     Closed,
     /// The link never connected.
     NeverOpened,

@@ -48,9 +48,9 @@ pub record IsFrames (s : List ℕ) (f : Frames) : Type 0 where
   pub valid : All IsDescriptor f.descriptors
   pub ended : IsRest f.rest f.fault
 
--- the frames of a string by its head, where those of what stands after a descriptor are known
+-- the frames of a string from its head, and from the frames of what follows its first descriptor
 abbrev pub frames_by : (List ℕ → Frames) → List ℕ → Head → Frames
--- all bytes are the rest where no whole descriptor stands first
+-- no whole descriptor stands first: all bytes are the rest
 frames_by later s Open = record { descriptors = []; rest = s; fault = None }
 frames_by later s (Faulty fault) = record { descriptors = []; rest = s; fault = Some fault }
 -- else it is the first of the descriptors
@@ -63,7 +63,7 @@ abbrev pub frames_within : ℕ → List ℕ → Frames
 frames_within zero s = record { descriptors = []; rest = s; fault = None }
 frames_within (suc n) s = frames_by (frames_within n) s (head_of s)
 
--- the frames of a string, as a function
+-- the frames of a string
 unfoldable pub frames_of : List ℕ → Frames
 frames_of s = frames_within (length s) s
 

@@ -26,8 +26,7 @@ abbrev pub known_conn : {A : Type 0} → List (Receipt A) → Option ℕ
 known_conn [] = None
 known_conn (r ∷ receipts) = option_or (connected_of r.reply) (known_conn receipts)
 
--- whether an event may be a reader's whose link has this connection: Connect, Admit and Close of the connection, and
--- Route
+-- whether this connection's reader may make the event: Connect, Admit and Close of the connection, and Route
 abbrev pub is_readers : {A : Type 0} → Option ℕ → Event A → Bool
 is_readers conn Connect = true
 is_readers conn (Admit c d) = is_at c conn
@@ -35,7 +34,7 @@ is_readers conn (Close c) = is_at c conn
 is_readers conn (Route t) = true
 is_readers conn event = false
 
--- whether an event may be a writer's whose link has this connection: Take and Close of the connection
+-- whether this connection's writer may make the event: Take and Close of the connection
 abbrev pub is_writers : {A : Type 0} → Option ℕ → Event A → Bool
 is_writers conn (Take c) = is_at c conn
 is_writers conn (Close c) = is_at c conn

@@ -31,13 +31,13 @@ abbrev pub is_stall : {E : Type 0} → Result ℕ E → ℕ → Bool
 is_stall (Ok n) length = (n == 0) && not (length == 0)
 is_stall (Err fault) length = false
 
--- what a reader is to give: whether all its bytes are known beforehand, and then these bytes; and whether a read may fail
+-- what a link will deliver: whether all its bytes are known beforehand, and then these bytes; and whether a read may fail
 pub record Source : Type 0 where
   pub is_foretold : Bool
   pub bytes : List ℕ
   pub may_fail : Bool
 
--- what a reader read of all its bytes: numbers below 256, a prefix of all, and all of them where it ended
+-- what was read is a prefix of all the bytes, numbers below 256, and all of them where the half ended
 pub record IsReadOf (all read : List ℕ) (has_ended : Bool) : Type 0 where
   pub octets : All (λ b. b < 256) read
   pub rest : List ℕ
@@ -93,7 +93,6 @@ pub record HasWritten {E : Type 0} (answer : Result ℕ E) (piece : List ℕ) (b
   pub failures : after.failures ≡ counted (is_err answer) before.failures
   pub stuck : after.is_stuck ≡ (before.is_stuck || is_stall answer (length piece))
 
--- what was read of a link that is to give this, where all its bytes are known beforehand: numbers below 256, the first of the
--- bytes, in order, and all of them where a read gave no more
+-- the same of what a link will deliver, where all its bytes are known beforehand
 abbrev pub IsReadFrom : Source → ReadHalf → Type 0
 IsReadFrom source half = source.is_foretold ≡ true → IsReadOf source.bytes half.bytes half.has_ended

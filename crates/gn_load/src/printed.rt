@@ -20,7 +20,7 @@ const LONG: usize = 32_768;
 /// Why a text wasn't written whole.
 #[derive(Clone, Copy, Debug, PartialEq, Eq)]
 pub enum PrintFault {
-    /// A write failed, or took nothing.
+    /// A write failed, or wrote no bytes.
     Write,
     /// Out of memory.
     NoMemory,

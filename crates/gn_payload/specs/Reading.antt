@@ -1,5 +1,5 @@
--- The reading that bytes have, as a function: the fields, and what follows where something may; and which descriptors are
--- sound: their kind is known, and their payload has a reading.
+-- How bytes are read, as a function: the fields, and the rest; and which descriptors are sound: their kind is known, and their
+-- payload has a reading.
 use Rattle.std.specs.Prelude.{◌≡◌, ℕ, zero, suc, ◌==◌, nat_lt, if◌then◌else◌, List, [], ◌∷◌, length, drop, slice_index, Option, Some, None, option_map, option_and_then, unwrap_or, ◌-◌, Bool, true, false, ◌&&◌, nat_le, take, is_some}
 use Rattle.gn_wire.specs.declared.kind.Kind.{Kind}
 use Rattle.gn_wire.specs.declared.kind.Kind.TheVariants.{Ping, Pong, Push, Query, QueryHit, Unknown}
@@ -68,7 +68,7 @@ abbrev pub has_reading : Kind → List ℕ → Bool
 has_reading Ping bytes = length bytes == 0
 has_reading Pong bytes = length bytes == 14
 has_reading Push bytes = length bytes == 26
--- a text that a zero byte ends, after two bytes
+-- two bytes, and then a text that a zero byte ends
 has_reading Query bytes = is_some (text_reading (drop 2 bytes))
 -- as many results as the first byte says, between the first 11 bytes and the last 16
 has_reading QueryHit bytes =

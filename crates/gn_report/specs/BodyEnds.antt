@@ -46,8 +46,8 @@ abbrev pub is_turned_away : {A : Type 0} → Event A → Reply A → Bool
 is_turned_away Connect TooMany = true
 is_turned_away event reply = false
 
--- whether a writer that ended so may have closed its connection while its reader still read: after a failed write; or, on a link that
--- calls, once all was written, where not all links of the run call
+-- whether a writer that ended so may have closed before its reader was done: after a failed write; or, on a link that calls, with
+-- all written, unless all links of the run call
 abbrev pub may_close_first : Bool → Role → WriterEnd → Bool
 may_close_first all_call role WriteFailed = true
 may_close_first all_call role Drained = is_calling role && not all_call

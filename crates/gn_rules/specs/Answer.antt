@@ -28,8 +28,7 @@ is_request Ping = true
 is_request Query = true
 is_request kind = false
 
--- whether the local servent may send d: a sound Ping or Query with some TTL, which the limit on its life doesn't cut, and no
--- Hops
+-- whether the local servent may send d: a sound Ping or Query with a TTL above 0 and within the limit on a life, and Hops 0
 abbrev pub may_originate : ℕ → Packet → Bool
 may_originate life d =
     is_request d.kind && not (d.ttl == 0) && (d.hops == 0) && (life_left life d == d.ttl) && has_reading d.kind d.payload
@@ -49,8 +48,8 @@ event_answer s past Connect =
     else Ok (Connected (1 + length (connections past)))
 -- refused where c isn't live, else how many packets are discarded
 event_answer s past (Close c) = if not (live past c) then Err NotLive else Ok (Closed (length (out past c)))
--- refused where c isn't live; busy at the threshold, where as many tickets are in flight as may be; crowded at the
--- connection's own, where there is one, and as many that c admitted are in flight; else the next ticket
+-- refused where c isn't live; busy where as many tickets are in flight as may be; crowded where as many that c admitted are in
+-- flight as one connection may have; else the next ticket
 event_answer s past (Admit c d) =
     if not (live past c) then Err NotLive
     else if length (flying past) == s.numbers.stage then Ok Busy

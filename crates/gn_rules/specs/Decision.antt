@@ -39,7 +39,7 @@ checks s past a r =
     else if is_expired s.numbers.life a.packet then Drop reason.Expired
     else Forward r
 
--- a Pong or Query Hit goes by the route that its request came; 0 is the local servent's own request
+-- a Pong or Query Hit goes back to the source of its request; 0 is the local servent
 abbrev pub decide_reply : {A : Type 0} → Config → List (Step A) → Admission → Option ℕ → Decision
 decide_reply s past a None = Drop reason.NoRoute
 decide_reply s past a (Some r) = if r == 0 then Local else checks s past a r
@@ -52,8 +52,8 @@ decide_sound s past a Query = if is_remembered s past (key_of a.packet) then Dro
 -- a Pong answers the Ping of its ID, a Query Hit the Query
 decide_sound s past a Pong = decide_reply s past a (source s past (record { kind = Ping; id = a.packet.id }))
 decide_sound s past a QueryHit = decide_reply s past a (source s past (record { kind = Query; id = a.packet.id }))
--- a Push is a duplicate where its key is remembered, else for the local servent, or for the one that it names, by the route
--- that the servent's last Query Hit came
+-- a Push is a duplicate where its key is remembered; else it is for the local servent where it names that, or goes where the named
+-- servent's last Query Hit came from
 decide_sound s past a Push =
     if is_remembered s past (key_of a.packet) then Drop reason.Duplicate
     else if is_same_id (push_servent a.packet.payload) s.own.servent then Local
@@ -66,6 +66,6 @@ decide_checked s past a UnknownKind = Drop reason.UnknownKind
 decide_checked s past a Malformed = Drop reason.Malformed
 decide_checked s past a Sound = decide_sound s past a a.packet.kind
 
--- what becomes of a descriptor that is routed, its payload checked
+-- the same, once its payload was checked
 abbrev pub decide : {A : Type 0} → Config → List (Step A) → Admission → Decision
 decide s past a = decide_checked s past a (verdict_of a.packet)

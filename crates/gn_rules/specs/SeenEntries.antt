@@ -15,8 +15,8 @@ use Rattle.gn_rules.specs.declared.reply.Reply.TheVariants.{Dropped, Routed, Sen
 use Rattle.gn_rules.specs.declared.receipt.Step.{Step}
 use Rattle.gn_rules.specs.Flight.{admission}
 
--- whether the descriptor of a route with this reply is kept, to be remembered: of a Ping or Query where it was routed, of a
--- Push unless it was malformed or a duplicate, of replies never
+-- whether a Route with this reply makes its key remembered: a Ping's or Query's where it was routed, a Push's unless it was
+-- malformed or a duplicate, a Pong's or Query Hit's never
 abbrev pub keeps : {A : Type 0} → Kind → Reply A → Bool
 keeps Ping (Routed sends local) = true
 keeps Query (Routed sends local) = true
@@ -25,8 +25,8 @@ keeps Push (Dropped Duplicate) = false
 keeps Push reply = true
 keeps kind reply = false
 
--- the kept entry that a step makes, a key and its source: of a route that is kept, whose source is the connection that
--- admitted it, or of the local servent's own descriptor that was sent, whose source is 0
+-- the key and source that a step adds: a kept route's key with the connection that admitted it, or the key of the local servent's
+-- own descriptor with 0
 abbrev pub entry_of : {A : Type 0} → List (Step A) → Event A → Reply A → Option (Key × ℕ)
 entry_of earlier (Route t) reply =
     option_and_then (λ a. if keeps a.packet.kind reply then Some (key_of a.packet, a.origin) else None) (admission earlier t)
@@ -38,7 +38,7 @@ abbrev pub seen_entries : {A : Type 0} → List (Step A) → List (Key × ℕ)
 seen_entries [] = []
 seen_entries (step ∷ earlier) = option_to_list (entry_of earlier step.event step.reply) ++ seen_entries earlier
 
--- the source of a key: that of its last kept entry, where fewer kept entries follow than are remembered
+-- the source of a key: that of its last kept entry, where fewer entries came later than may be remembered
 abbrev pub source : {A : Type 0} → Config → List (Step A) → Key → Option ℕ
 source s past key = lookup (is_same_key key) (take s.numbers.seen (seen_entries past))
 

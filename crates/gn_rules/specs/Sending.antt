@@ -31,8 +31,8 @@ abbrev pub is_ping : Kind → Bool
 is_ping Ping = true
 is_ping kind = false
 
--- what a Ping or Query that is kept sends: a Ping the own Pong, where the connection that admitted it is live, and then both
--- the forward to each other live connection, unless the descriptor is expired
+-- what a Ping or Query that is kept sends: a Ping first the own Pong, where the connection that admitted it is live; then either
+-- one its forward to each other live connection, unless it is expired
 abbrev pub flood_sends : {A : Type 0} → Config → List (Step A) → Admission → List (Sending A)
 flood_sends s past a =
     (if is_ping a.packet.kind && live past a.origin then send s past (own_pong s.own a.packet) a.origin ∷ [] else [])

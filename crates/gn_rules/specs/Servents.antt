@@ -20,8 +20,7 @@ abbrev pub is_query_hit : Kind → Bool
 is_query_hit QueryHit = true
 is_query_hit kind = false
 
--- the servent and the connection that a step names: of a Query Hit that it routed, the servent that the hit names, and the
--- connection that admitted it
+-- of a step that routed a Query Hit: the servent that the hit names, and the connection that admitted it
 abbrev pub hit_of : {A : Type 0} → List (Step A) → Event A → Reply A → Option (Guid × ℕ)
 hit_of earlier (Route t) (Routed sends local) =
     option_and_then (λ a. if is_query_hit a.packet.kind then Some (hit_servent a.packet.payload, a.origin) else None)
@@ -38,6 +37,6 @@ abbrev pub servents : {A : Type 0} → List (Step A) → List (Guid × ℕ)
 servents [] = []
 servents (step ∷ earlier) = learned (hit_of earlier step.event step.reply) (servents earlier)
 
--- the route to a servent: the connection of its last hit, where fewer other servents follow than are remembered
+-- the route to a servent: the connection of its last hit, where fewer other servents are newer than may be remembered
 abbrev pub servent_route : {A : Type 0} → Config → List (Step A) → Guid → Option ℕ
 servent_route s past x = lookup (is_same_id x) (take s.numbers.servents (servents past))

@@ -9,7 +9,7 @@ use Rattle.gn_rules.specs.declared.statistics.Counter.{Counter}
 use Rattle.gn_rules.specs.declared.statistics.Counter.TheVariants as counter
 use Rattle.gn_rules.specs.declared.statistics.Stats.{Stats}
 
--- the counter of a reply: of one that drops by its reason
+-- the counter of a reply; of Dropped that of its reason
 abbrev pub counter_of : {A : Type 0} → Reply A → Counter
 counter_of (reply.Connected c) = counter.Connected
 counter_of reply.TooMany = counter.TooMany

@@ -11,7 +11,7 @@ pub type ConnId = u32;
 /// The number of an admission. They count from 0.
 pub type Ticket = u32;
 
-/// What happens to a router, one call each.
+/// What happens to a router, one at a time.
 #[derive(Debug, Drop)]
 pub enum Event<A: Allocator = Global> {
     /// A neighbour asks for a connection.

@@ -4,7 +4,7 @@ use crate::event::Event;
 use crate::reply::Reply;
 use std::alloc::{Allocator, Global};
 
-/// One answered event of a history: who called, what happened, and the reply.
+/// One answered event of a history: whose it was, what happened, and the reply.
 #[derive(Debug, Drop)]
 pub struct Step<A: Allocator = Global> {
     pub actor: u32,
@@ -12,7 +12,7 @@ pub struct Step<A: Allocator = Global> {
     pub reply: Reply<A>,
 }
 
-/// What the caller of an event gets: the index of its step, counted from 0, the event and the reply.
+/// What the one whose event it was gets: the index of its step, counted from 0, the event and the reply.
 #[derive(Debug, Drop)]
 pub struct Receipt<A: Allocator = Global> {
     pub index: u32,

@@ -16,7 +16,7 @@ pub enum DropReason {
     Malformed,
     /// A Ping, Query or Push whose key is remembered.
     Duplicate,
-    /// A reply whose request isn't remembered, or a Push to a servent that isn't known.
+    /// A Pong or Query Hit whose request isn't remembered, or a Push to a servent that isn't known.
     NoRoute,
     /// Its route back leads to a connection that has closed.
     RouteGone,
@@ -39,7 +39,7 @@ pub enum Reply<A: Allocator = Global> {
     Admitted(Ticket),
     /// As many descriptors are in flight as may be; this one is gone.
     Busy,
-    /// As many descriptors of the connection are in flight as one may have.
+    /// As many descriptors of this connection are in flight as one connection may have; this one is gone.
     Crowded,
     /// What was sent on, and whether the local servent gets it too.
     Routed { sends: Sends<A>, local: bool },

@@ -35,8 +35,7 @@ greeting_of Accepting = request_text
 greeting_of Calling = consent_text
 greeting_of Plain = []
 
--- the state, where the first n bytes of the stream agree with the greeting: done where the whole greeting came, open where
--- all that came agrees with it, else refused
+-- the state where n bytes agree with the greeting: done where that is all of it, open where it is all that came, else refused
 abbrev pub greeting_state : List ℕ → List ℕ → ShakeState
 greeting_state greeting stream =
     let n = common_prefix_len nat_eq greeting stream in

@@ -31,43 +31,43 @@ use Rattle.gn_report.specs.BodyEnds.{is_settled, is_turned_away}
 abbrev pub IsClosed : {A : Type 0} → List (Step A) → ℕ → Type 0
 IsClosed steps c = list_any (λ step. is_close c step.event) steps ≡ true
 
--- where the bytes that were read are known: how they stand with the greeting that the link awaits, and what holds of the descriptors
--- that follow it
+-- where the bytes that were read are known: the greeting that the link awaits is in this state, and the descriptors that follow it
+-- satisfy this
 abbrev pub IsGreeted : ReadHalf → Role → ShakeState → (Frames → Type 0) → Type 0
 IsGreeted half role state says =
     half.is_known ≡ true
     → (greeting_state (greeting_of role) half.bytes ≡ state) × says (frames_of (drop (length (greeting_of role)) half.bytes))
 
--- the events of a reader that connected as c and admitted these descriptors, in order
+-- a Connect, and then an Admit on c of each of these descriptors, in order
 abbrev pub admitting : {A : Type 0} → ℕ → List Packet → List (Event A)
 admitting c descriptors = Connect ∷ map (Admit c) descriptors
 
 -- the table of ends for a reader: its half, its events except the routes, and who closed its connection. `first` says whether its
--- link's writer may have closed that first
+-- link's writer may have closed it before
 abbrev pub ReaderEnds : {A : Type 0} → List (Step A) → ℕ → Bool → Role → List (Receipt A) → ReadHalf → ReaderEnd → Option ℕ → Type 0
--- a read gave no more, and the bytes have no fault; it connected, admitted each descriptor, in order, and closed nothing
+-- a read gave no more, and the bytes have no fault; it made a Connect, an Admit of each descriptor, in order, and no Close
 ReaderEnds steps writer first role own half Bytes (Some c) =
     (half.has_ended ≡ true) × (not (list_any (λ r. is_close c r.event) own) ≡ true)
     × IsGreeted half role Done (λ frames. (frames.fault ≡ None) × (link_events_in own ≡ admitting c frames.descriptors))
--- the bytes end with the fault f; it admitted each descriptor before that, and it or another closed the connection
+-- the bytes have the fault f; it made an Admit of each descriptor before that, and it or another closed the connection
 ReaderEnds steps writer first role own half (Fault f) (Some c) =
     IsClosed steps c
     × IsGreeted half role Done
     (λ frames. (frames.fault ≡ Some f) × WithClose c (link_events_in own) (admitting c frames.descriptors))
--- a read failed; it admitted each descriptor that was whole, and it or another closed the connection
+-- a read failed; it made an Admit of each descriptor that was whole, and it or another closed the connection
 ReaderEnds steps writer first role own half ReadFailed (Some c) =
     (0 < half.failures) × IsClosed steps c
     × IsGreeted half role Done (λ frames. WithClose c (link_events_in own) (admitting c frames.descriptors))
 -- a read failed within the greeting; it made no event
 ReaderEnds steps writer first role own half ReadFailed None =
     (0 < half.failures) × IsGreeted half role More (λ frames. link_events_in own ≡ [])
--- 1,000,000 reads gave bytes; all else, also within the greeting, as where a read failed
+-- 1,000,000 reads gave bytes; all else as in the two rows where a read failed
 ReaderEnds steps writer first role own half Turns (Some c) =
     (half.pieces ≡ 1000000) × IsClosed steps c
     × IsGreeted half role Done (λ frames. WithClose c (link_events_in own) (admitting c frames.descriptors))
 ReaderEnds steps writer first role own half Turns None =
     (half.pieces ≡ 1000000) × IsGreeted half role More (λ frames. link_events_in own ≡ [])
--- the writer closed first; it admitted the first n descriptors, and not the next
+-- the writer closed before the reader could admit descriptor n + 1
 ReaderEnds steps writer first role own half NotLive (Some c) =
     ((first && list_any (λ step. (step.actor == writer) && is_close c step.event) steps) ≡ true)
     × IsGreeted half role Done
@@ -86,7 +86,7 @@ ReaderEnds steps writer first role own half end conn = ⊥
 abbrev pub texts_of : {A : Type 0} → Role → List (Receipt A) → List (List ℕ)
 texts_of role own = opening_texts role ++ map bytes_of (packets_of own)
 
--- what was written, where that is known, are all texts but the last, and the first bytes of the last; and a write failed, or took nothing
+-- a write failed, or wrote no bytes; what was written, where that is known, are all texts but the last, and a prefix of that
 pub record IsHurt (half : WrittenHalf) (texts : List (List ℕ)) : Type 0 where
   pub part : half.is_known ≡ true
       → (done : List (List ℕ)) × (last : List ℕ) × (n : ℕ) × (texts ≡ done ++ last ∷ []) × (half.bytes ≡ concat done ++ take n last)
@@ -94,8 +94,8 @@ pub record IsHurt (half : WrittenHalf) (texts : List (List ℕ)) : Type 0 where
 
 -- the table of ends for a writer: what was written, where that is known, its events, and who closed its connection
 abbrev pub WriterEnds : {A : Type 0} → List (Step A) → List Role → ℕ → Role → List (Receipt A) → WrittenHalf → WriterEnd → Option ℕ → Type 0
--- all was written; it closed its connection, for which no packet waited, when nothing was in flight, and after every step of the
--- readers that the run waits for
+-- all was written; it closed c when c's output was empty, nothing was in flight, and all readers that the run waits for had made
+-- their last step
 WriterEnds steps roles writer role own half Drained (Some c) =
     (half.is_known ≡ true → half.bytes ≡ concat (texts_of role own))
     × (list_any
@@ -106,7 +106,7 @@ WriterEnds steps roles writer role own half Drained (Some c) =
 WriterEnds steps roles writer role own half Closed (Some c) =
     (half.is_known ≡ true → half.bytes ≡ concat (texts_of role own))
     × (list_any (λ step. not (step.actor == writer) && is_close c step.event) steps ≡ true)
--- a write failed: in the request of a link that calls, and it made no event; or somebody closed its connection
+-- a write failed: in the request of a link that calls, before any event; or later, and somebody closed c
 WriterEnds steps roles writer role own half WriteFailed (Some c) =
     IsHurt half (texts_of role own)
     × (((is_calling role && (length own == 0)) || list_any (λ step. is_close c step.event) steps) ≡ true)

@@ -8,7 +8,7 @@ use Rattle.gn_bodies.specs.declared.ends.BodyFault.TheVariants as body
 use Rattle.gn_threads.specs.declared.fault.RunFault.{RunFault}
 use Rattle.gn_threads.specs.declared.fault.RunFault.TheVariants.{BadWorkers, Listen, Call, Link, HistoryFull, NoMemory, Stage, Audit}
 
--- the faults of a run over so many links, all there and split, with so many workers: each but BadWorkers, Listen, Call and Link. An
+-- the faults of a run over so many links, all open and split, with so many workers: each but BadWorkers, Listen, Call and Link. An
 -- Audit names an actor of the run
 abbrev pub IsFaultOf : ℕ → ℕ → RunFault → Type 0
 IsFaultOf links workers BadWorkers = ⊥
@@ -28,7 +28,7 @@ IsArrivingFault has_peers links workers (Call k) = (has_peers ≡ true) × (k < 
 IsArrivingFault has_peers links workers (Link k) = (has_peers ≡ true) × (k < links)
 IsArrivingFault has_peers links workers fault = IsFaultOf links workers fault
 
--- the faults of a run whose links are all there and not split yet: also Link, of a link whose split may fail
+-- the same of links that aren't split yet: also Link, of a link whose split may fail
 abbrev pub IsWholeFault : List Bool → ℕ → RunFault → Type 0
 IsWholeFault may_not_split workers (Link k) = slice_get may_not_split k ≡ Some true
 IsWholeFault may_not_split workers fault = IsFaultOf (length may_not_split) workers fault

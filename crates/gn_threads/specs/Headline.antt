@@ -25,10 +25,10 @@ use Rattle.gn_threads.specs.Ends.{ReaderEnds, WriterEnds}
 -- what holds of link k, of this role, in a run whose links have these roles
 pub record LinkHolds {Rd W A : Type 0} (reads : Rd → ReadHalf) (writes : W → WrittenHalf) (roles : List Role)
     (report : Report Rd W A) (k : ℕ) (role : Role) (link : LinkReport Rd W A) : Type 0 where
-  -- the link's connection is that of its reader's first Connect that was replied Connected
+  -- the link's connection is the one that its reader's Connect got, if any
   pub conn : link.conn
       ≡ slice_get (filter_map (λ r. if is_connect r.event then connected_of r.reply else None) link.reader_receipts.items) 0
-  -- the reader's events are Connect, at most once, Admit and Close of the connection, and Route
+  -- the reader's events are at most one Connect, Admits and a Close of the connection, and Routes
   pub reader : (list_all (λ r. is_readers link.conn r.event) link.reader_receipts.items ≡ true)
       × (count_by (λ r. is_connect r.event) link.reader_receipts.items ≤ 1)
   -- the reader is as the table of ends says
@@ -39,26 +39,26 @@ pub record LinkHolds {Rd W A : Type 0} (reads : Rd → ReadHalf) (writes : W →
   -- the writer is as the table of ends says
   pub written : WriterEnds report.history.items roles (writer_of report k) role link.writer_receipts.items (writes link.writer)
       link.writer_end link.conn
-  -- the half that is written is finished
+  -- nobody can write to the link any more
   pub finished : (writes link.writer).is_finished ≡ true
 
--- what a reader that ended so has read is of its own link; `source` is what that link is to give
+-- a reader that ended so read its own link's bytes; `source` is what that link will deliver
 pub record ReadOwn (source : Source) (end : ReaderEnd) (half : ReadHalf) : Type 0 where
-  -- where the link's bytes are known beforehand: the first of them, in order, and all of them where a read gave no more
+  -- where the link's bytes are known beforehand it read a prefix of them, and all of them where a read gave no more
   pub first : IsReadFrom source half
-  -- then all of them where the reader ended as Bytes
+  -- and all of them where the reader ended as Bytes
   pub whole : source.is_foretold ≡ true → end ≡ Bytes → half.bytes ≡ source.bytes
   -- it ended as ReadFailed only where a read of the link may fail
   pub failed : end ≡ ReadFailed → source.may_fail ≡ true
 
--- what each link's reader read is of that very link; `sources` says what each link is to give, in order
+-- each reader's bytes came from its own link; `sources` says what the links will deliver, in order
 abbrev pub LinksReadOwn : {Rd W A : Type 0} → (Rd → ReadHalf) → List Source → Report Rd W A → Type 0
 LinksReadOwn {Rd} {W} {A} reads sources report =
     (k : ℕ) (source : Source) (link : LinkReport Rd W A) → k < length report.links.items
     → ReadOwn (slice_index_or sources k source) (slice_index_or report.links.items k link).reader_end
     (reads (slice_index_or report.links.items k link).reader)
 
--- both halves in each link's report say of their link what that link says of itself, in the links' order
+-- both halves in each link's report come from that very link, in the links' order
 pub record AreMadeOf {Rd W A O : Type 0} (reader_of : Rd → O) (writer_of : W → O) (origins : List O)
     (report : Report Rd W A) : Type 0 where
   pub readers : map (λ (link : LinkReport Rd W A). reader_of link.reader) report.links.items ≡ origins

@@ -5,8 +5,8 @@ use gn_links::SplitFault;
 use gn_stage::StageFault;
 use std::alloc::{AllocError, AllocFailed};
 
-/// Why a run has no report. It stops at the first that it finds; of those that its bodies ran into, a full history is stated before
-/// memory. No clause says which of several is answered.
+/// Why a run has no report. A run reports the first fault that it finds; of those that its bodies ran into, HistoryFull
+/// goes before NoMemory. No clause promises this order.
 #[derive(Clone, Copy, Debug, PartialEq, Eq)]
 pub enum RunFault {
     /// Not 1 to 64 workers.
@@ -21,10 +21,10 @@ pub enum RunFault {
     HistoryFull,
     /// Out of memory, or a thread couldn't be started.
     NoMemory,
-    /// The stage queue couldn't be settled.
+    /// The queue between readers and workers didn't come back whole at the end.
     Stage(StageFault),
-    /// The least actor of which something isn't confirmed: by the history, by the configuration of the call, or by its own
-    /// body, which was refused what the rules don't refuse it.
+    /// The least actor that failed the run's final check: against the history, against the configuration of the call,
+    /// or by a refusal that the rules don't give.
     Audit(u32),
 }
 

@@ -25,7 +25,7 @@ kind_of code =
 abbrev pub IsStored : Kind → Type 0
 IsStored kind = kind ≡ kind_of (code_of kind)
 
--- a descriptor: what its header says but the length, and its payload
+-- a descriptor: its header without the length, and its payload
 pub record Packet : Type 0 where
   pub id : Guid
   pub kind : Kind
@@ -33,8 +33,8 @@ pub record Packet : Type 0 where
   pub hops : ℕ
   pub payload : List ℕ
 
--- why no payload of this kind has this length, where none has: each Ping, Pong and Push has one length, the others any up to
--- the longest
+-- the fault of a payload length that this kind can't have: a Ping, a Pong and a Push have one length each, the others any up to
+-- 65,536
 abbrev pub fault_of : Kind → ℕ → Option FrameFault
 fault_of Ping n = if n == 0 then None else Some (FixedLength Ping n)
 fault_of Pong n = if n == 14 then None else Some (FixedLength Pong n)
@@ -56,7 +56,7 @@ pub record IsDescriptor (d : Packet) : Type 0 where
   pub ttl_fits : d.ttl < 256
   pub hops_fits : d.hops < 256
 
--- what is left of a descriptor's life: its TTL, or less, so that with its Hops it is within the limit; a limit of 0 is none
+-- what is left of a descriptor's life: its TTL, or the limit less its Hops where that is less; a limit of 0 is none
 abbrev pub life_left : ℕ → Packet → ℕ
 life_left life d = if life == 0 then d.ttl else min d.ttl (life - d.hops)
 

@@ -23,7 +23,7 @@ pub struct Header {
     pub length: u32,
 }
 
-/// A payload length, in bytes, that no descriptor of the kind has. The stream ends there.
+/// A payload length, in bytes, that the header's kind can't have. The stream ends there.
 #[derive(Clone, Copy, Debug, PartialEq, Eq)]
 pub enum FrameFault {
     /// A Ping, Pong or Push whose length isn't the only one of its kind.

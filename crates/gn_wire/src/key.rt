@@ -2,7 +2,7 @@
 
 use crate::kind::{Guid, Kind};
 
-/// A kind with an ID: two descriptors of one key are the same request.
+/// A kind with an ID: two descriptors of one key count as the same one.
 #[derive(Clone, Copy, Debug, PartialEq, Eq, Hash)]
 pub struct Key {
     pub kind: Kind,
