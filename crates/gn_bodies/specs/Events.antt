@@ -14,7 +14,7 @@ use Rattle.gn_hub.specs.ActorState.{ActorState, receipt, with_receipt}
 abbrev pub events_of : {A : Type 0} → ActorState A → List (Event A)
 events_of me = map (λ r. r.event) me.receipts
 
--- the events of these receipts except the routes, in order
+-- the events of these receipts except the Routes, in order
 abbrev pub link_events_in : {A : Type 0} → List (Receipt A) → List (Event A)
 link_events_in receipts = filter (λ event. not (is_some (ticket_of event))) (map (λ r. r.event) receipts)
 

@@ -13,7 +13,7 @@ use std::sync::ledger::Ledger;
 pub enum ReaderEnd {
     /// All bytes were read.
     Bytes,
-    /// A header has this fault.
+    /// A header says a length that its kind can't have.
     Fault(FrameFault),
     /// A read failed.
     ReadFailed,
@@ -23,9 +23,9 @@ pub enum ReaderEnd {
     GreetingRefused,
     /// The bytes end within the greeting.
     GreetingCut,
-    /// As many connections are live as may be.
+    /// The limit of live connections is reached.
     TooMany,
-    /// The connection was closed by another.
+    /// Its writer closed the connection first.
     NotLive,
 }
 

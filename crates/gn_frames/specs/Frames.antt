@@ -8,7 +8,8 @@ use Rattle.gn_wire.specs.declared.header.FrameFault.{FrameFault}
 use Rattle.gn_frames.specs.declared.head.Head.{Head}
 use Rattle.gn_frames.specs.declared.head.Head.TheVariants.{Open, Faulty, Whole}
 
--- what a string of bytes begins with: a whole descriptor; faulty where the header names an invalid length; open where bytes are wanting
+-- what a string of bytes begins with: Whole where a whole descriptor stands there, Faulty where the header names an invalid length,
+-- Open where bytes are wanting
 abbrev pub head_of : List ℕ → Head
 head_of s =
     let h = header_at (take 23 s) in
@@ -48,12 +49,13 @@ pub record IsFrames (s : List ℕ) (f : Frames) : Type 0 where
   pub valid : All IsDescriptor f.descriptors
   pub ended : IsRest f.rest f.fault
 
--- the frames of a string from its head, and from the frames of what follows its first descriptor
+-- the frames of a string, given what it begins with, and the frames of what follows its first descriptor
 abbrev pub frames_by : (List ℕ → Frames) → List ℕ → Head → Frames
 -- no whole descriptor stands first: all bytes are the rest
 frames_by later s Open = record { descriptors = []; rest = s; fault = None }
+-- the first header has a fault: all bytes are the rest
 frames_by later s (Faulty fault) = record { descriptors = []; rest = s; fault = Some fault }
--- else it is the first of the descriptors
+-- the descriptor with the header h comes first, and then what follows
 frames_by later s (Whole h) =
     let d : Packet = record { id = h.id; kind = h.kind; ttl = h.ttl; hops = h.hops; payload = take h.length (drop 23 s) } in
     let f = later (drop (23 + h.length) s) in record f { descriptors = d ∷ f.descriptors }

@@ -9,7 +9,7 @@ use bytes::Bytes;
 use gn_wire::{Descriptor, FrameFault, HEADER_BYTES, Header, read_header};
 use std::alloc::Allocator;
 
-/// What bytes begin with: a whole descriptor, a fault, or neither yet.
+/// What a string of bytes begins with: a whole descriptor, a faulty header, or too few bytes to tell.
 #[derive(Clone, Copy, Debug, PartialEq, Eq)]
 pub enum Head {
     /// Too few bytes for a descriptor.

@@ -31,21 +31,21 @@ abbrev pub is_stall : {E : Type 0} → Result ℕ E → ℕ → Bool
 is_stall (Ok n) length = (n == 0) && not (length == 0)
 is_stall (Err fault) length = false
 
--- what a link will deliver: whether all its bytes are known beforehand, and then these bytes; and whether a read may fail
+-- what a link will deliver: whether its bytes are known beforehand, the bytes, and whether a read may fail
 pub record Source : Type 0 where
   pub is_foretold : Bool
   pub bytes : List ℕ
   pub may_fail : Bool
 
--- what was read is a prefix of all the bytes, numbers below 256, and all of them where the half ended
+-- what was read is a prefix of all the bytes, each a number below 256; and it is all of them where a read found their end
 pub record IsReadOf (all read : List ℕ) (has_ended : Bool) : Type 0 where
   pub octets : All (λ b. b < 256) read
   pub rest : List ℕ
   pub whole : all ≡ read ++ rest
   pub ended : has_ended ≡ true → rest ≡ []
 
--- a half that was read: whether its bytes are known, and then these bytes, how many reads failed, how many gave bytes, and
--- whether it ended
+-- a half that was read: whether its bytes are known, the bytes, how many reads failed, how many gave bytes, and whether one found
+-- their end
 pub record ReadHalf : Type 0 where
   pub is_known : Bool
   pub bytes : List ℕ
@@ -53,8 +53,8 @@ pub record ReadHalf : Type 0 where
   pub pieces : ℕ
   pub has_ended : Bool
 
--- a half that was written: whether its bytes are known, and then these bytes, how many writes failed, whether it is stuck,
--- and whether it is finished
+-- a half that was written: whether its bytes are known, the bytes, how many writes failed, whether it is stuck, and whether it is
+-- finished
 pub record WrittenHalf : Type 0 where
   pub is_known : Bool
   pub bytes : List ℕ
@@ -93,6 +93,6 @@ pub record HasWritten {E : Type 0} (answer : Result ℕ E) (piece : List ℕ) (b
   pub failures : after.failures ≡ counted (is_err answer) before.failures
   pub stuck : after.is_stuck ≡ (before.is_stuck || is_stall answer (length piece))
 
--- the same of what a link will deliver, where all its bytes are known beforehand
+-- where the link's bytes are known beforehand, what was read is a part of them as `IsReadOf` says
 abbrev pub IsReadFrom : Source → ReadHalf → Type 0
 IsReadFrom source half = source.is_foretold ≡ true → IsReadOf source.bytes half.bytes half.has_ended

@@ -1,5 +1,4 @@
--- How bytes are read, as a function: the fields, and the rest; and which descriptors are sound: their kind is known, and their
--- payload has a reading.
+-- How payloads are parsed, and which descriptors are sound.
 use Rattle.std.specs.Prelude.{◌≡◌, ℕ, zero, suc, ◌==◌, nat_lt, if◌then◌else◌, List, [], ◌∷◌, length, drop, slice_index, Option, Some, None, option_map, option_and_then, unwrap_or, ◌-◌, Bool, true, false, ◌&&◌, nat_le, take, is_some}
 use Rattle.gn_wire.specs.declared.kind.Kind.{Kind}
 use Rattle.gn_wire.specs.declared.kind.Kind.TheVariants.{Ping, Pong, Push, Query, QueryHit, Unknown}
@@ -63,7 +62,8 @@ HasReading Query bytes = (q : QueryFields) × IsQuery bytes q
 HasReading QueryHit bytes = (h : HitFields) × IsHit bytes h
 HasReading (Unknown code) bytes = ⊥
 
--- whether a payload of this kind has a reading; one of an unknown kind has none. Of a Ping, Pong or Push the length tells
+-- whether a payload of this kind has a reading: for a Ping, Pong or Push its length alone decides, and none of an unknown kind has
+-- one
 abbrev pub has_reading : Kind → List ℕ → Bool
 has_reading Ping bytes = length bytes == 0
 has_reading Pong bytes = length bytes == 14

@@ -29,7 +29,7 @@ pub enum Fault {
     HistoryFull,
     /// A link couldn't be accepted, or the port couldn't be listened at.
     Listen,
-    /// A peer couldn't be called: its number, from 0 on.
+    /// A neighbour couldn't be called: its number, from 0 on.
     Call(u32),
     /// A link couldn't be split: its number, from 0 on.
     Link(u32),

@@ -41,13 +41,13 @@ abbrev pub is_connect : {A : Type 0} → Event A → Bool
 is_connect Connect = true
 is_connect event = false
 
--- whether an event is a Connect that was replied TooMany
+-- whether an event is a Connect with the reply TooMany
 abbrev pub is_turned_away : {A : Type 0} → Event A → Reply A → Bool
 is_turned_away Connect TooMany = true
 is_turned_away event reply = false
 
--- whether a writer that ended so may have closed before its reader was done: after a failed write; or, on a link that calls, with
--- all written, unless all links of the run call
+-- whether a writer with this end may have closed the connection before its reader was done: after a failed write; or as Drained, on
+-- a link that calls, unless all links call
 abbrev pub may_close_first : Bool → Role → WriterEnd → Bool
 may_close_first all_call role WriteFailed = true
 may_close_first all_call role Drained = is_calling role && not all_call

@@ -42,14 +42,14 @@ decision_reply s past a (Forward r) = Routed (send s past (forward_of s.numbers.
 
 -- what the rules answer to an event where the history has room for a step: a reply, or a refusal
 abbrev pub event_answer : {A : Type 0} → Config → List (Step A) → Event A → Result (Reply A) Refusal
--- too many where as many connections are live as may be, else the next number
+-- TooMany where the limit of live connections is reached, else the next number
 event_answer s past Connect =
     if length (live_connections past) == s.numbers.neighbours then Ok TooMany
     else Ok (Connected (1 + length (connections past)))
 -- refused where c isn't live, else how many packets are discarded
 event_answer s past (Close c) = if not (live past c) then Err NotLive else Ok (Closed (length (out past c)))
--- refused where c isn't live; busy where as many tickets are in flight as may be; crowded where as many that c admitted are in
--- flight as one connection may have; else the next ticket
+-- refused where c isn't live; Busy where the threshold is reached; Crowded where c has reached the threshold of one connection;
+-- else the next ticket
 event_answer s past (Admit c d) =
     if not (live past c) then Err NotLive
     else if length (flying past) == s.numbers.stage then Ok Busy

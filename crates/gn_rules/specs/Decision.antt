@@ -44,9 +44,9 @@ abbrev pub decide_reply : {A : Type 0} → Config → List (Step A) → Admissio
 decide_reply s past a None = Drop reason.NoRoute
 decide_reply s past a (Some r) = if r == 0 then Local else checks s past a r
 
--- a sound descriptor, by its kind
+-- what becomes of a sound descriptor, by its kind
 abbrev pub decide_sound : {A : Type 0} → Config → List (Step A) → Admission → Kind → Decision
--- a Ping or Query is a duplicate where its key is remembered, else it goes on
+-- a Ping or Query is a duplicate where its key is remembered, else it is a Flood
 decide_sound s past a Ping = if is_remembered s past (key_of a.packet) then Drop reason.Duplicate else Flood
 decide_sound s past a Query = if is_remembered s past (key_of a.packet) then Drop reason.Duplicate else Flood
 -- a Pong answers the Ping of its ID, a Query Hit the Query
@@ -66,6 +66,6 @@ decide_checked s past a UnknownKind = Drop reason.UnknownKind
 decide_checked s past a Malformed = Drop reason.Malformed
 decide_checked s past a Sound = decide_sound s past a a.packet.kind
 
--- the same, once its payload was checked
+-- what becomes of a descriptor: its payload is checked, and the check decides as above
 abbrev pub decide : {A : Type 0} → Config → List (Step A) → Admission → Decision
 decide s past a = decide_checked s past a (verdict_of a.packet)

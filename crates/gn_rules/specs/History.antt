@@ -70,7 +70,7 @@ abbrev pub ticket_of : {A : Type 0} → Event A → Option ℕ
 ticket_of (Route t) = Some t
 ticket_of event = None
 
--- whether a number that a reply may say is this one
+-- whether the number that a reply says, if it says one, is this one
 abbrev pub is_at : ℕ → Option ℕ → Bool
 is_at n None = false
 is_at n (Some m) = n == m
@@ -85,7 +85,7 @@ abbrev pub connections : {A : Type 0} → List (Step A) → List ℕ
 connections [] = []
 connections (step ∷ earlier) = connections earlier ++ option_to_list (connected_of step.reply)
 
--- those that are live, in the order in which they were made; their numbers rise, since each is one more than the last
+-- those that are live, in the order in which they were made, so that their numbers rise
 abbrev pub live_connections : {A : Type 0} → List (Step A) → List ℕ
 live_connections past = filter (live past) (connections past)
 

@@ -2,7 +2,7 @@
 use Rattle.std.specs.Prelude.{ℕ, ◌≤◌}
 use Rattle.gn_rules.specs.declared.limits.Numbers.{Numbers}
 
--- from 1 to the limit
+-- a number is from 1 to the limit
 pub record IsWithin (number limit : ℕ) : Type 0 where
   pub least : 1 ≤ number
   pub greatest : number ≤ limit
@@ -31,6 +31,6 @@ most_links = 256
 abbrev pub most_workers : ℕ
 most_workers = 64
 
--- so many workers may work at a run
+-- this many workers may work at a run
 abbrev pub IsCrew : ℕ → Type 0
 IsCrew workers = IsWithin workers most_workers

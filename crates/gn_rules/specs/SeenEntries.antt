@@ -15,8 +15,8 @@ use Rattle.gn_rules.specs.declared.reply.Reply.TheVariants.{Dropped, Routed, Sen
 use Rattle.gn_rules.specs.declared.receipt.Step.{Step}
 use Rattle.gn_rules.specs.Flight.{admission}
 
--- whether a Route with this reply makes its key remembered: a Ping's or Query's where it was routed, a Push's unless it was
--- malformed or a duplicate, a Pong's or Query Hit's never
+-- whether a Route with this reply makes the key remembered: of a Ping or Query where the reply is Routed, of a Push unless it is
+-- dropped as Malformed or Duplicate, of a Pong or Query Hit never
 abbrev pub keeps : {A : Type 0} → Kind → Reply A → Bool
 keeps Ping (Routed sends local) = true
 keeps Query (Routed sends local) = true
@@ -25,20 +25,20 @@ keeps Push (Dropped Duplicate) = false
 keeps Push reply = true
 keeps kind reply = false
 
--- the key and source that a step adds: a kept route's key with the connection that admitted it, or the key of the local servent's
--- own descriptor with 0
+-- the key and source that a step adds: for a Route that `keeps`, the descriptor's key and the connection that admitted it; for an
+-- Originate, the descriptor's key and 0
 abbrev pub entry_of : {A : Type 0} → List (Step A) → Event A → Reply A → Option (Key × ℕ)
 entry_of earlier (Route t) reply =
     option_and_then (λ a. if keeps a.packet.kind reply then Some (key_of a.packet, a.origin) else None) (admission earlier t)
 entry_of earlier (Originate d) (Sent sends) = Some (key_of d, 0)
 entry_of earlier event reply = None
 
--- the kept entries, the newest first
+-- these entries of all steps, the newest first
 abbrev pub seen_entries : {A : Type 0} → List (Step A) → List (Key × ℕ)
 seen_entries [] = []
 seen_entries (step ∷ earlier) = option_to_list (entry_of earlier step.event step.reply) ++ seen_entries earlier
 
--- the source of a key: that of its last kept entry, where fewer entries came later than may be remembered
+-- the source of a key: that of its newest entry, where that is among the newest, as many as may be remembered
 abbrev pub source : {A : Type 0} → Config → List (Step A) → Key → Option ℕ
 source s past key = lookup (is_same_key key) (take s.numbers.seen (seen_entries past))
 

@@ -16,12 +16,11 @@ use Rattle.gn_rules.specs.Output.{out}
 abbrev pub send : {A : Type 0} → Config → List (Step A) → Packet → ℕ → Sending A
 send s past p c = record { to = c; packet = p; queued = nat_lt (length (out past c)) s.numbers.out }
 
--- a fan-out: a send of the packet to each live connection but c, in the order in which they were made, which is ascending
+-- a fan-out: a send of the packet to each live connection but c, ascending
 abbrev pub fanout : {A : Type 0} → Config → List (Step A) → ℕ → Packet → List (Sending A)
 fanout s past c p = map (send s past p) (filter (λ d. not (d == c)) (live_connections past))
 
--- the router's own Pong to a Ping: its ID, a TTL one more than its Hops and at most 255, Hops 0, and the router's own
--- servent
+-- the own Pong to a Ping: its ID, a TTL one more than its Hops and at most 255, Hops 0, and the local servent's port, address, files and kilobytes
 abbrev pub own_pong : Own → Packet → Packet
 own_pong own ping =
     record { id = ping.id; kind = Pong; ttl = min 255 (ping.hops + 1); hops = 0; payload = pong_bytes own.port own.ip own.files own.kbytes }
@@ -31,8 +30,8 @@ abbrev pub is_ping : Kind → Bool
 is_ping Ping = true
 is_ping kind = false
 
--- what a Ping or Query that is kept sends: a Ping first the own Pong, where the connection that admitted it is live; then either
--- one its forward to each other live connection, unless it is expired
+-- what a Flood sends: for a Ping first the own Pong, where the connection that admitted it is live; then the forward to each other
+-- live connection, unless it is expired
 abbrev pub flood_sends : {A : Type 0} → Config → List (Step A) → Admission → List (Sending A)
 flood_sends s past a =
     (if is_ping a.packet.kind && live past a.origin then send s past (own_pong s.own a.packet) a.origin ∷ [] else [])

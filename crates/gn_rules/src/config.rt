@@ -6,7 +6,7 @@ ghost use Rattle.gn_rules.specs.Limits.{AreWithin, IsWithin};
 use crate::limits::Numbers;
 use gn_wire::Guid;
 
-/// The router's own servent, as its Pongs describe it.
+/// The local servent, as the router's Pongs describe it.
 #[derive(Clone, Copy, Debug, PartialEq, Eq)]
 pub struct Own {
     pub servent: Guid,
@@ -19,7 +19,7 @@ pub struct Own {
     pub kbytes: u32,
 }
 
-/// The numbers of a router, each within its limit, and its own servent.
+/// A configuration: its numbers, each within its limit, and the local servent.
 #[derive(Clone, Copy, Debug)]
 pub struct Config {
     pub numbers: Numbers,

@@ -11,7 +11,7 @@ pub type ConnId = u32;
 /// The number of an admission. They count from 0.
 pub type Ticket = u32;
 
-/// What happens to a router, one at a time.
+/// What an actor asks of a router, one at a time.
 #[derive(Debug, Drop)]
 pub enum Event<A: Allocator = Global> {
     /// A neighbour asks for a connection.
@@ -20,7 +20,7 @@ pub enum Event<A: Allocator = Global> {
     Close(ConnId),
     /// A connection delivers a descriptor.
     Admit(ConnId, Descriptor<A>),
-    /// An admitted descriptor is passed on.
+    /// An admitted descriptor is routed.
     Route(Ticket),
     /// The first packet that waits for a connection is taken.
     Take(ConnId),

@@ -4,7 +4,7 @@ use crate::event::Event;
 use crate::reply::Reply;
 use std::alloc::{Allocator, Global};
 
-/// One answered event of a history: whose it was, what happened, and the reply.
+/// One step of a history: the actor's number, the event, and the reply.
 #[derive(Debug, Drop)]
 pub struct Step<A: Allocator = Global> {
     pub actor: u32,
@@ -12,7 +12,7 @@ pub struct Step<A: Allocator = Global> {
     pub reply: Reply<A>,
 }
 
-/// What the one whose event it was gets: the index of its step, counted from 0, the event and the reply.
+/// What an actor keeps of its step: the index, from 0 on, the event, and the reply.
 #[derive(Debug, Drop)]
 pub struct Receipt<A: Allocator = Global> {
     pub index: u32,

@@ -10,7 +10,7 @@ use std::alloc::{AllocError, Allocator, Global};
 /// Why a descriptor isn't sent on.
 #[derive(Clone, Copy, Debug, PartialEq, Eq)]
 pub enum DropReason {
-    /// Version 0.4 doesn't name its payload descriptor.
+    /// Version 0.4 doesn't name its kind.
     UnknownKind,
     /// Its payload can't be read.
     Malformed,
@@ -22,7 +22,7 @@ pub enum DropReason {
     RouteGone,
     /// Its route back leads to the connection that delivered it.
     BackToSender,
-    /// It came with TTL 0 or 1, with Hops 255, or with at most 1 left of its life, where that is limited.
+    /// It came with TTL 0 or 1, or with Hops 255, or a limit leaves at most 1 of its life.
     Expired,
 }
 
@@ -31,7 +31,7 @@ pub enum DropReason {
 pub enum Reply<A: Allocator = Global> {
     /// The new connection's number.
     Connected(ConnId),
-    /// As many connections are live as may be.
+    /// The limit of live connections is reached.
     TooMany,
     /// How many packets were discarded.
     Closed(u32),

@@ -1,5 +1,4 @@
--- The two texts of the greeting, what the role of a link says of it, and where a stream stands with the greeting that is
--- awaited.
+-- The two texts of the greeting, which of them a link awaits by its role, and how far the awaited one has come.
 use Rattle.std.specs.Prelude.{ℕ, List, [], ◌∷◌, Bool, true, false, ◌||◌, not, ◌≡◌, ◌≢◌, ◌<◌, ◌↔◌, ◌==◌, if◌then◌else◌, ◌++◌, length, slice_index, nat_eq}
 use Rattle.std.specs.List.{common_prefix_len}
 use Rattle.gn_shake.specs.declared.role.Role.{Role}
@@ -7,7 +6,7 @@ use Rattle.gn_shake.specs.declared.role.Role.TheVariants.{Accepting, Calling, Pl
 use Rattle.gn_shake.specs.declared.shake.ShakeState.{ShakeState}
 use Rattle.gn_shake.specs.declared.shake.ShakeState.TheVariants.{More, Done, Refused}
 
--- the request: GNUTELLA CONNECT/0.4 and two line feeds
+-- the connection request: GNUTELLA CONNECT/0.4 and two line feeds
 abbrev pub request_text : List ℕ
 request_text =
     0x47 ∷ 0x4e ∷ 0x55 ∷ 0x54 ∷ 0x45 ∷ 0x4c ∷ 0x4c ∷ 0x41 ∷ 0x20 ∷ 0x43 ∷ 0x4f ∷ 0x4e ∷ 0x4e ∷ 0x45 ∷ 0x43 ∷ 0x54 ∷ 0x2f ∷ 0x30 ∷ 0x2e ∷ 0x34
@@ -25,17 +24,18 @@ is_calling Calling = true
 is_calling Accepting = false
 is_calling Plain = false
 
--- whether a run waits for the link's reader: the link doesn't call, or all links do
+-- whether writers wait for the link's reader before they close: the link doesn't call, or all links call
 abbrev pub is_awaited : Bool → Role → Bool
 is_awaited all_call role = all_call || not (is_calling role)
 
--- the greeting that a link awaits: none on a plain one
+-- the greeting that a link awaits: the connection request where it accepts, the consent where it calls, none where it is plain
 abbrev pub greeting_of : Role → List ℕ
 greeting_of Accepting = request_text
 greeting_of Calling = consent_text
 greeting_of Plain = []
 
--- the state where n bytes agree with the greeting: done where that is all of it, open where it is all that came, else refused
+-- how far a greeting has come in a stream of bytes: Done where the stream begins with it, More where the stream is a shorter part
+-- of it, else Refused
 abbrev pub greeting_state : List ℕ → List ℕ → ShakeState
 greeting_state greeting stream =
     let n = common_prefix_len nat_eq greeting stream in

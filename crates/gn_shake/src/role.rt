@@ -5,11 +5,11 @@ use crate::texts::{consent, request};
 /// How a link begins (Gnutella v0.4, "Protocol definition").
 #[derive(Clone, Copy, Debug, PartialEq, Eq)]
 pub enum Role {
-    /// It awaits a request, and answers with its consent.
+    /// The router is called: it awaits the connection request.
     Accepting,
-    /// It sends a request, and awaits the consent.
+    /// The router calls: it sends the connection request, and awaits the consent.
     Calling,
-    /// No greeting is exchanged.
+    /// Nobody sends a greeting.
     Plain,
 }
 

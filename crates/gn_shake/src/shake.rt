@@ -7,7 +7,7 @@ ghost use Rattle.gn_shake.specs.Greeting.{consent_text, request_text};
 use crate::texts::{consent, request};
 use std::marker::Model;
 
-/// Where a stream stands with its greeting.
+/// How far an awaited greeting has come: all of it (`Done`), a beginning (`More`), or bytes that differ (`Refused`).
 #[derive(Clone, Copy, Debug, PartialEq, Eq)]
 pub enum ShakeState {
     /// The stream so far is a beginning of the greeting.

@@ -31,8 +31,8 @@ use Rattle.gn_report.specs.BodyEnds.{is_settled, is_turned_away}
 abbrev pub IsClosed : {A : Type 0} → List (Step A) → ℕ → Type 0
 IsClosed steps c = list_any (λ step. is_close c step.event) steps ≡ true
 
--- where the bytes that were read are known: the greeting that the link awaits is in this state, and the descriptors that follow it
--- satisfy this
+-- where the bytes that were read are known: the link's greeting has come as far as `state` says, and `says` holds of the
+-- descriptors after it
 abbrev pub IsGreeted : ReadHalf → Role → ShakeState → (Frames → Type 0) → Type 0
 IsGreeted half role state says =
     half.is_known ≡ true
@@ -42,42 +42,44 @@ IsGreeted half role state says =
 abbrev pub admitting : {A : Type 0} → ℕ → List Packet → List (Event A)
 admitting c descriptors = Connect ∷ map (Admit c) descriptors
 
--- the table of ends for a reader: its half, its events except the routes, and who closed its connection. `first` says whether its
--- link's writer may have closed it before
+-- the table of ends for a reader: its half, its events except the Routes, and who closed its connection. `first` says whether its
+-- link's writer may close the connection before the reader is done
 abbrev pub ReaderEnds : {A : Type 0} → List (Step A) → ℕ → Bool → Role → List (Receipt A) → ReadHalf → ReaderEnd → Option ℕ → Type 0
--- a read gave no more, and the bytes have no fault; it made a Connect, an Admit of each descriptor, in order, and no Close
+-- a read found the end of the bytes, and they have no fault; it made a Connect, an Admit of each descriptor, in order, and no Close
 ReaderEnds steps writer first role own half Bytes (Some c) =
     (half.has_ended ≡ true) × (not (list_any (λ r. is_close c r.event) own) ≡ true)
     × IsGreeted half role Done (λ frames. (frames.fault ≡ None) × (link_events_in own ≡ admitting c frames.descriptors))
--- the bytes have the fault f; it made an Admit of each descriptor before that, and it or another closed the connection
+-- the bytes have the fault f; it made a Connect, an Admit of each descriptor before the fault, and perhaps a Close; somebody closed
+-- c
 ReaderEnds steps writer first role own half (Fault f) (Some c) =
     IsClosed steps c
     × IsGreeted half role Done
     (λ frames. (frames.fault ≡ Some f) × WithClose c (link_events_in own) (admitting c frames.descriptors))
--- a read failed; it made an Admit of each descriptor that was whole, and it or another closed the connection
+-- a read failed; it made a Connect, an Admit of each whole descriptor, and perhaps a Close; somebody closed c
 ReaderEnds steps writer first role own half ReadFailed (Some c) =
     (0 < half.failures) × IsClosed steps c
     × IsGreeted half role Done (λ frames. WithClose c (link_events_in own) (admitting c frames.descriptors))
 -- a read failed within the greeting; it made no event
 ReaderEnds steps writer first role own half ReadFailed None =
     (0 < half.failures) × IsGreeted half role More (λ frames. link_events_in own ≡ [])
--- 1,000,000 reads gave bytes; all else as in the two rows where a read failed
+-- 1,000,000 reads gave bytes; all else as at `ReadFailed, Some c`
 ReaderEnds steps writer first role own half Turns (Some c) =
     (half.pieces ≡ 1000000) × IsClosed steps c
     × IsGreeted half role Done (λ frames. WithClose c (link_events_in own) (admitting c frames.descriptors))
+-- 1,000,000 reads gave bytes within the greeting; it made no event
 ReaderEnds steps writer first role own half Turns None =
     (half.pieces ≡ 1000000) × IsGreeted half role More (λ frames. link_events_in own ≡ [])
--- the writer closed before the reader could admit descriptor n + 1
+-- its writer closed c first; it made a Connect, and an Admit of each of the first n descriptors, for some n, but not of all
 ReaderEnds steps writer first role own half NotLive (Some c) =
     ((first && list_any (λ step. (step.actor == writer) && is_close c step.event) steps) ≡ true)
     × IsGreeted half role Done
     (λ frames. (n : ℕ) × (n < length frames.descriptors) × (link_events_in own ≡ admitting c (take n frames.descriptors)))
 -- the bytes differ from the greeting; it made no event
 ReaderEnds steps writer first role own half GreetingRefused None = (own ≡ []) × IsGreeted half role Refused (λ frames. ⊤)
--- a read gave no more within the greeting; it made no event
+-- a read found the end of the bytes within the greeting; it made no event
 ReaderEnds steps writer first role own half GreetingCut None =
     (half.has_ended ≡ true) × (own ≡ []) × IsGreeted half role More (λ frames. ⊤)
--- the greeting is whole; its one event was a Connect that was replied TooMany
+-- the greeting is whole; its one event was a Connect, with the reply TooMany
 ReaderEnds steps writer first role own half TooMany None =
     (((length own == 1) && list_all (λ r. is_turned_away r.event r.reply) own) ≡ true) × IsGreeted half role Done (λ frames. ⊤)
 ReaderEnds steps writer first role own half end conn = ⊥
@@ -86,7 +88,7 @@ ReaderEnds steps writer first role own half end conn = ⊥
 abbrev pub texts_of : {A : Type 0} → Role → List (Receipt A) → List (List ℕ)
 texts_of role own = opening_texts role ++ map bytes_of (packets_of own)
 
--- a write failed, or wrote no bytes; what was written, where that is known, are all texts but the last, and a prefix of that
+-- a write failed, or wrote no bytes; where what was written is known, it is all texts but the last, and a prefix of the last
 pub record IsHurt (half : WrittenHalf) (texts : List (List ℕ)) : Type 0 where
   pub part : half.is_known ≡ true
       → (done : List (List ℕ)) × (last : List ℕ) × (n : ℕ) × (texts ≡ done ++ last ∷ []) × (half.bytes ≡ concat done ++ take n last)
@@ -94,25 +96,26 @@ pub record IsHurt (half : WrittenHalf) (texts : List (List ℕ)) : Type 0 where
 
 -- the table of ends for a writer: what was written, where that is known, its events, and who closed its connection
 abbrev pub WriterEnds : {A : Type 0} → List (Step A) → List Role → ℕ → Role → List (Receipt A) → WrittenHalf → WriterEnd → Option ℕ → Type 0
--- all was written; it closed c when c's output was empty, nothing was in flight, and all readers that the run waits for had made
--- their last step
+-- all its texts were written; it closed c when c's output was empty, nothing was in flight, and all readers that it waits for had
+-- made their last step
 WriterEnds steps roles writer role own half Drained (Some c) =
     (half.is_known ≡ true → half.bytes ≡ concat (texts_of role own))
     × (list_any
     (λ r. is_close c r.event && is_at 0 (closed_of r.reply) && is_settled steps r.index
     && list_all (λ step. not (is_awaited roles step.actor)) (drop r.index steps))
     own ≡ true)
--- all was written; another actor closed its connection
+-- all its texts were written; another actor closed c
 WriterEnds steps roles writer role own half Closed (Some c) =
     (half.is_known ≡ true → half.bytes ≡ concat (texts_of role own))
     × (list_any (λ step. not (step.actor == writer) && is_close c step.event) steps ≡ true)
--- a write failed: in the request of a link that calls, before any event; or later, and somebody closed c
+-- a write failed; somebody closed c, unless the link calls, and the writer made no event
 WriterEnds steps roles writer role own half WriteFailed (Some c) =
     IsHurt half (texts_of role own)
     × (((is_calling role && (length own == 0)) || list_any (λ step. is_close c step.event) steps) ≡ true)
+-- a write of the connection request failed; it made no event
 WriterEnds steps roles writer role own half WriteFailed None =
     IsHurt half (texts_of role own) × ((is_calling role && (length own == 0)) ≡ true)
--- the link never connected: nothing was written but the request where it calls
+-- the link never connected: nothing was written but the connection request where it calls
 WriterEnds steps roles writer role own half NeverOpened None =
     half.is_known ≡ true → half.bytes ≡ (if is_calling role then request_text else [])
 WriterEnds steps roles writer role own half end conn = ⊥

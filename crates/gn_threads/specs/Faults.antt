@@ -8,8 +8,8 @@ use Rattle.gn_bodies.specs.declared.ends.BodyFault.TheVariants as body
 use Rattle.gn_threads.specs.declared.fault.RunFault.{RunFault}
 use Rattle.gn_threads.specs.declared.fault.RunFault.TheVariants.{BadWorkers, Listen, Call, Link, HistoryFull, NoMemory, Stage, Audit}
 
--- the faults of a run over so many links, all open and split, with so many workers: each but BadWorkers, Listen, Call and Link. An
--- Audit names an actor of the run
+-- the faults of a run over this many links, already split, and with this many workers: all but BadWorkers, Listen, Call and Link;
+-- an Audit names an actor of the run
 abbrev pub IsFaultOf : ℕ → ℕ → RunFault → Type 0
 IsFaultOf links workers BadWorkers = ⊥
 IsFaultOf links workers Listen = ⊥
@@ -20,15 +20,16 @@ IsFaultOf links workers NoMemory = ⊤
 IsFaultOf links workers (Stage fault) = ⊤
 IsFaultOf links workers (Audit a) = a < links + links + workers + 1
 
--- the faults of a run whose links come one after another: where peers are called and accepted, also Listen; Call, of a peer; and Link,
--- of a link that couldn't be split
+-- the faults of a run whose links come one after another: those of `IsFaultOf`, and, where neighbours are called and accepted,
+-- Listen, Call and Link
 abbrev pub IsArrivingFault : Bool → ℕ → ℕ → RunFault → Type 0
 IsArrivingFault has_peers links workers Listen = has_peers ≡ true
 IsArrivingFault has_peers links workers (Call k) = (has_peers ≡ true) × (k < links)
 IsArrivingFault has_peers links workers (Link k) = (has_peers ≡ true) × (k < links)
 IsArrivingFault has_peers links workers fault = IsFaultOf links workers fault
 
--- the same of links that aren't split yet: also Link, of a link whose split may fail
+-- the faults of a run over links that aren't split yet: those of `IsFaultOf`, and Link with the number of a link whose split may
+-- fail
 abbrev pub IsWholeFault : List Bool → ℕ → RunFault → Type 0
 IsWholeFault may_not_split workers (Link k) = slice_get may_not_split k ≡ Some true
 IsWholeFault may_not_split workers fault = IsFaultOf (length may_not_split) workers fault

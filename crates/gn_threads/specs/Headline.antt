@@ -28,7 +28,7 @@ pub record LinkHolds {Rd W A : Type 0} (reads : Rd → ReadHalf) (writes : W →
   -- the link's connection is the one that its reader's Connect got, if any
   pub conn : link.conn
       ≡ slice_get (filter_map (λ r. if is_connect r.event then connected_of r.reply else None) link.reader_receipts.items) 0
-  -- the reader's events are at most one Connect, Admits and a Close of the connection, and Routes
+  -- the reader's events are at most one Connect, any Admits and Closes of the connection, and Routes
   pub reader : (list_all (λ r. is_readers link.conn r.event) link.reader_receipts.items ≡ true)
       × (count_by (λ r. is_connect r.event) link.reader_receipts.items ≤ 1)
   -- the reader is as the table of ends says
@@ -42,16 +42,16 @@ pub record LinkHolds {Rd W A : Type 0} (reads : Rd → ReadHalf) (writes : W →
   -- nobody can write to the link any more
   pub finished : (writes link.writer).is_finished ≡ true
 
--- a reader that ended so read its own link's bytes; `source` is what that link will deliver
+-- what a reader with this end read is its own link's; `source` is what that link will deliver
 pub record ReadOwn (source : Source) (end : ReaderEnd) (half : ReadHalf) : Type 0 where
-  -- where the link's bytes are known beforehand it read a prefix of them, and all of them where a read gave no more
+  -- where the link's bytes are known beforehand, it read a prefix of them, and all of them where a read found their end
   pub first : IsReadFrom source half
-  -- and all of them where the reader ended as Bytes
+  -- and it read all of them where it ended as Bytes
   pub whole : source.is_foretold ≡ true → end ≡ Bytes → half.bytes ≡ source.bytes
   -- it ended as ReadFailed only where a read of the link may fail
   pub failed : end ≡ ReadFailed → source.may_fail ≡ true
 
--- each reader's bytes came from its own link; `sources` says what the links will deliver, in order
+-- each reader's bytes came from its own link; `sources` is what the links will deliver, in order
 abbrev pub LinksReadOwn : {Rd W A : Type 0} → (Rd → ReadHalf) → List Source → Report Rd W A → Type 0
 LinksReadOwn {Rd} {W} {A} reads sources report =
     (k : ℕ) (source : Source) (link : LinkReport Rd W A) → k < length report.links.items
@@ -70,7 +70,7 @@ abbrev pub AreOfOne : {Rd W A O : Type 0} → (Rd → O) → (W → O) → Repor
 AreOfOne reader_of writer_of report =
     map (λ link. writer_of link.writer) report.links.items ≡ map (λ link. reader_of link.reader) report.links.items
 
--- what holds of the report of a run with this configuration, over links of these roles, with so many workers
+-- what holds of the report of a run with this configuration, over links of these roles, with this many workers
 pub record Holds {Rd W A : Type 0} (reads : Rd → ReadHalf) (writes : W → WrittenHalf) (s : Config) (roles : List Role)
     (workers : ℕ) (report : Report Rd W A) : Type 0 where
   -- the history is legal: each reply is the one that the rules give after the steps before it
@@ -85,7 +85,7 @@ pub record Holds {Rd W A : Type 0} (reads : Rd → ReadHalf) (writes : W → Wri
   -- the workers and the house made no event but Route; and at the end nothing is in flight
   pub routes : ((a : ℕ) → first_worker report ≤ a → a < actors report → AreRoutes (slice_index_or (receipts_of report) a []))
       × (is_settled report.history.items (length report.history.items) ≡ true)
-  -- the counters at the end are those of the history
+  -- the report's statistics are those of the history
   pub stats : report.stats ≡ stats_of (reverse report.history.items)
 
 -- what follows of a run of which the headline holds

@@ -5,15 +5,15 @@ use gn_links::SplitFault;
 use gn_stage::StageFault;
 use std::alloc::{AllocError, AllocFailed};
 
-/// Why a run has no report. A run reports the first fault that it finds; of those that its bodies ran into, HistoryFull
-/// goes before NoMemory. No clause promises this order.
+/// Why `run` gives no report. It gives the first fault that it finds; among those of readers, writers and workers
+/// HistoryFull comes before NoMemory. No clause promises this order.
 #[derive(Clone, Copy, Debug, PartialEq, Eq)]
 pub enum RunFault {
     /// Not 1 to 64 workers.
     BadWorkers,
     /// A link couldn't be accepted.
     Listen,
-    /// A peer couldn't be called: its number, from 0 on.
+    /// A neighbour couldn't be called: its number, from 0 on.
     Call(u32),
     /// A link couldn't be split: its number, from 0 on.
     Link(u32),
@@ -21,10 +21,10 @@ pub enum RunFault {
     HistoryFull,
     /// Out of memory, or a thread couldn't be started.
     NoMemory,
-    /// The queue between readers and workers didn't come back whole at the end.
+    /// At the end a part of the workers' queue was missing, or memory for it.
     Stage(StageFault),
-    /// The least actor that failed the run's final check: against the history, against the configuration of the call,
-    /// or by a refusal that the rules don't give.
+    /// The lowest actor that failed the check at the run's end: against the history, against the configuration, or since a
+    /// route was refused to it.
     Audit(u32),
 }
 

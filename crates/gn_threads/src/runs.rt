@@ -16,8 +16,8 @@ use std::alloc::Allocator;
 use std::sync::Wait;
 use std::thread::Threads;
 
-/// Runs a router over these links, each read and written by a thread of its own, with so many workers between them, 1 to 64,
-/// until all links are done; and reports what each actor did. At most 256 links.
+/// Runs a router over these links, each with a reader and a writer, and with this many workers, until all these threads
+/// have ended. Reports what each actor did.
 ///
 /// Of several faults it answers the one that it finds first, but a full history before memory where bodies ran into both. Whatever
 /// the fault, no thread runs on.

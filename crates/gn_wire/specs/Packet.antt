@@ -25,7 +25,7 @@ kind_of code =
 abbrev pub IsStored : Kind → Type 0
 IsStored kind = kind ≡ kind_of (code_of kind)
 
--- a descriptor: its header without the length, and its payload
+-- a descriptor, or a packet, as a value: its header without the length, and its payload
 pub record Packet : Type 0 where
   pub id : Guid
   pub kind : Kind
@@ -56,7 +56,8 @@ pub record IsDescriptor (d : Packet) : Type 0 where
   pub ttl_fits : d.ttl < 256
   pub hops_fits : d.hops < 256
 
--- what is left of a descriptor's life: its TTL, or the limit less its Hops where that is less; a limit of 0 is none
+-- what is left of a descriptor's life: its TTL, or the limit minus its Hops if that is smaller; the limit 0 means that there is
+-- none
 abbrev pub life_left : ℕ → Packet → ℕ
 life_left life d = if life == 0 then d.ttl else min d.ttl (life - d.hops)
 

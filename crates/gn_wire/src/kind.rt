@@ -7,7 +7,7 @@ ghost use Rattle.gn_wire.specs.Packet.{code_of, kind_of};
 #[derive(Clone, Copy, Debug, PartialEq, Eq, Hash)]
 pub struct Guid(pub [u8; 16]);
 
-/// What a descriptor is, by its payload descriptor (Gnutella v0.4, "Descriptor header").
+/// The kind of a descriptor (Gnutella v0.4, "Descriptor header").
 #[derive(Clone, Copy, Debug, PartialEq, Eq, Hash)]
 pub enum Kind {
     Ping,
