@@ -49,7 +49,7 @@ pub record IsFrames (s : List ℕ) (f : Frames) : Type 0 where
   pub valid : All IsDescriptor f.descriptors
   pub ended : IsRest f.rest f.fault
 
--- the frames of a string, given what it begins with, and the frames of what follows its first descriptor
+-- the frames of a string, made from its head and the frames of what follows its first descriptor
 abbrev pub frames_by : (List ℕ → Frames) → List ℕ → Head → Frames
 -- no whole descriptor stands first: all bytes are the rest
 frames_by later s Open = record { descriptors = []; rest = s; fault = None }

@@ -46,8 +46,8 @@ abbrev pub is_turned_away : {A : Type 0} → Event A → Reply A → Bool
 is_turned_away Connect TooMany = true
 is_turned_away event reply = false
 
--- whether a writer with this end may have closed the connection before its reader was done: after a failed write; or as Drained, on
--- a link that calls, unless all links call
+-- whether a writer with this end may have closed the connection before its reader was done: after a failed write; or as Drained,
+-- where its link calls and not all links call
 abbrev pub may_close_first : Bool → Role → WriterEnd → Bool
 may_close_first all_call role WriteFailed = true
 may_close_first all_call role Drained = is_calling role && not all_call

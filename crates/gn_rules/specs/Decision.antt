@@ -24,8 +24,8 @@ pub data Decision : Type 0 where
   Drop : DropReason → Decision
   -- it is for the local servent alone
   Local : Decision
-  -- it is for the local servent and, unless it is expired, for each other live connection; a Ping is answered with the own
-  -- Pong too
+  -- it is for the local servent and, unless it is expired, for each other live connection; a Ping is also answered with the
+  -- router's own Pong
   Flood : Decision
   -- it is passed on to one connection
   Forward : ℕ → Decision

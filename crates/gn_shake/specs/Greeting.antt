@@ -24,7 +24,7 @@ is_calling Calling = true
 is_calling Accepting = false
 is_calling Plain = false
 
--- whether writers wait for the link's reader before they close: the link doesn't call, or all links call
+-- whether a link's reader is waited for, by the links' roles: its link doesn't call, or all links call
 abbrev pub is_awaited : Bool → Role → Bool
 is_awaited all_call role = all_call || not (is_calling role)
 

@@ -51,7 +51,7 @@ pub record ReadOwn (source : Source) (end : ReaderEnd) (half : ReadHalf) : Type 
   -- it ended as ReadFailed only where a read of the link may fail
   pub failed : end ≡ ReadFailed → source.may_fail ≡ true
 
--- each reader's bytes came from its own link; `sources` is what the links will deliver, in order
+-- each reader read its own link, as `ReadOwn` says; `sources` is what the links will deliver, in order
 abbrev pub LinksReadOwn : {Rd W A : Type 0} → (Rd → ReadHalf) → List Source → Report Rd W A → Type 0
 LinksReadOwn {Rd} {W} {A} reads sources report =
     (k : ℕ) (source : Source) (link : LinkReport Rd W A) → k < length report.links.items

@@ -5,8 +5,8 @@ use gn_links::SplitFault;
 use gn_stage::StageFault;
 use std::alloc::{AllocError, AllocFailed};
 
-/// Why `run` gives no report. It gives the first fault that it finds; among those of readers, writers and workers
-/// HistoryFull comes before NoMemory. No clause promises this order.
+/// Why a run gives no report; `run` itself never gives Listen or Call. It gives the first fault that it finds; among
+/// those of readers, writers and workers HistoryFull comes before NoMemory. No clause promises this order.
 #[derive(Clone, Copy, Debug, PartialEq, Eq)]
 pub enum RunFault {
     /// Not 1 to 64 workers.
@@ -21,10 +21,10 @@ pub enum RunFault {
     HistoryFull,
     /// Out of memory, or a thread couldn't be started.
     NoMemory,
-    /// At the end a part of the workers' queue was missing, or memory for it.
+    /// At the end a part of the queue of tickets was missing, or memory for it.
     Stage(StageFault),
-    /// The lowest actor that failed the check at the run's end: against the history, against the configuration, or since a
-    /// route was refused to it.
+    /// The check at the run's end failed: the lowest actor that doesn't fit the history or the configuration, or was
+    /// refused a Route.
     Audit(u32),
 }
 
