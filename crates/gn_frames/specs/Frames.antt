@@ -16,7 +16,7 @@ head_of s =
     if nat_lt (length s) 23 then Open
     else option_map_or Faulty (fault_of h.kind h.length) (if nat_lt (length s - 23) h.length then Open else Whole h)
 
--- the descriptors of a string, the bytes after them, and the fault that ends it, where one does
+-- the descriptors of a string, the rest after them, and the fault that ends it, where one does
 pub record Frames : Type 0 where
   pub descriptors : List Packet
   pub rest : List ℕ

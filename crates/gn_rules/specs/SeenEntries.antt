@@ -15,8 +15,8 @@ use Rattle.gn_rules.specs.declared.reply.Reply.TheVariants.{Dropped, Routed, Sen
 use Rattle.gn_rules.specs.declared.receipt.Step.{Step}
 use Rattle.gn_rules.specs.Flight.{admission}
 
--- whether a Route with this reply makes the key remembered: of a Ping or Query where the reply is Routed, of a Push unless it is
--- dropped as Malformed or Duplicate, of a Pong or Query Hit never
+-- whether a Route with this reply makes the key remembered: a Ping's or Query's where it is Routed, a Push's unless it is dropped
+-- as Malformed or Duplicate, a Pong's or Query Hit's never
 abbrev pub keeps : {A : Type 0} → Kind → Reply A → Bool
 keeps Ping (Routed sends local) = true
 keeps Query (Routed sends local) = true
@@ -38,7 +38,7 @@ abbrev pub seen_entries : {A : Type 0} → List (Step A) → List (Key × ℕ)
 seen_entries [] = []
 seen_entries (step ∷ earlier) = option_to_list (entry_of earlier step.event step.reply) ++ seen_entries earlier
 
--- the source of a key: that of its newest entry, if it is one of the newest N, and N may be remembered
+-- the source of a key: that of its newest entry, if among the newest N, as many as may be remembered
 abbrev pub source : {A : Type 0} → Config → List (Step A) → Key → Option ℕ
 source s past key = lookup (is_same_key key) (take s.numbers.seen (seen_entries past))
 

@@ -31,8 +31,8 @@ use Rattle.gn_report.specs.BodyEnds.{is_settled, is_turned_away}
 abbrev pub IsClosed : {A : Type 0} → List (Step A) → ℕ → Type 0
 IsClosed steps c = list_any (λ step. is_close c step.event) steps ≡ true
 
--- where the bytes that were read are known: the greeting has come as far as this ShakeState, and the condition `says` holds of the
--- descriptors after it
+-- where the bytes that were read are known: the awaited greeting has come as far as this ShakeState, and `says`, a condition, holds
+-- of the descriptors after it
 abbrev pub IsGreeted : ReadHalf → Role → ShakeState → (Frames → Type 0) → Type 0
 IsGreeted half role state says =
     half.is_known ≡ true
@@ -42,10 +42,11 @@ IsGreeted half role state says =
 abbrev pub admitting : {A : Type 0} → ℕ → List Packet → List (Event A)
 admitting c descriptors = Connect ∷ map (Admit c) descriptors
 
--- the table of ends for a reader: its half, its events except the Routes, and who closed its connection. `first`: its writer may
--- close c before the reader is done; only then is there NotLive
+-- the table of ends for a reader: its half, its events except the Routes, and who closed its connection. NotLive needs `first`:
+-- that its writer may close c before the reader is done
 abbrev pub ReaderEnds : {A : Type 0} → List (Step A) → ℕ → Bool → Role → List (Receipt A) → ReadHalf → ReaderEnd → Option ℕ → Type 0
--- a read found the end of the bytes, and they have no fault; it made a Connect, an Admit of each descriptor, in order, and no Close
+-- a read found the end of the bytes, and they have no fault; it made a Connect, an Admit of each whole descriptor, in order, and no
+-- Close
 ReaderEnds steps writer first role own half Bytes (Some c) =
     (half.has_ended ≡ true) × (not (list_any (λ r. is_close c r.event) own) ≡ true)
     × IsGreeted half role Done (λ frames. (frames.fault ≡ None) × (link_events_in own ≡ admitting c frames.descriptors))
@@ -108,7 +109,7 @@ WriterEnds steps roles writer role own half Drained (Some c) =
 WriterEnds steps roles writer role own half Closed (Some c) =
     (half.is_known ≡ true → half.bytes ≡ concat (texts_of role own))
     × (list_any (λ step. not (step.actor == writer) && is_close c step.event) steps ≡ true)
--- a write failed; somebody closed c, or the link calls and the writer made no event
+-- a write failed: of the connection request, where the link calls and the writer made no event; else somebody closed c
 WriterEnds steps roles writer role own half WriteFailed (Some c) =
     IsHurt half (texts_of role own)
     × (((is_calling role && (length own == 0)) || list_any (λ step. is_close c step.event) steps) ≡ true)

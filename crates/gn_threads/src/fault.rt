@@ -5,8 +5,8 @@ use gn_links::SplitFault;
 use gn_stage::StageFault;
 use std::alloc::{AllocError, AllocFailed};
 
-/// Why a run gives no report; `run` itself never gives Listen or Call. It gives the first fault that it finds; among
-/// those of readers, writers and workers HistoryFull comes before NoMemory. No clause promises this order.
+/// Why a run gives no report; `run` itself never gives Listen or Call. It gives the first fault that it finds, but of
+/// those of its threads HistoryFull before NoMemory; no clause promises this order.
 #[derive(Clone, Copy, Debug, PartialEq, Eq)]
 pub enum RunFault {
     /// Not 1 to 64 workers.
@@ -21,10 +21,10 @@ pub enum RunFault {
     HistoryFull,
     /// Out of memory, or a thread couldn't be started.
     NoMemory,
-    /// At the end a part of the queue of tickets was missing, or memory for it.
+    /// The house couldn't close the queue of tickets at the end: a thread's end of it was missing, or memory.
     Stage(StageFault),
-    /// The check at the run's end failed: the lowest actor that doesn't fit the history or the configuration, or was
-    /// refused a Route.
+    /// The check at the end failed at this actor, the lowest whose receipts don't fit the history or the configuration,
+    /// or who was refused a Route.
     Audit(u32),
 }
 
