@@ -42,6 +42,6 @@ IsOwn report a = slice_index_or (receipts_of report) a [] ≡ mine report.histor
 abbrev pub AreOwn : {Rd W A : Type 0} → Report Rd W A → Type 0
 AreOwn report = (a : ℕ) → a < actors report → IsOwn report a
 
--- whether actor a is a reader that writers wait for before they close, by the links' roles
+-- whether actor a is an awaited reader
 abbrev pub is_awaited : List Role → ℕ → Bool
 is_awaited roles a = option_map_or (greeting.is_awaited (list_all greeting.is_calling roles)) (slice_get roles a) false

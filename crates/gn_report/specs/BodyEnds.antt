@@ -47,7 +47,7 @@ is_turned_away Connect TooMany = true
 is_turned_away event reply = false
 
 -- whether a writer with this end may have closed the connection before its reader was done: after a failed write; or as Drained,
--- where `is_awaited` isn't true of its reader
+-- where its reader isn't awaited
 abbrev pub may_close_first : Bool → Role → WriterEnd → Bool
 may_close_first all_call role WriteFailed = true
 may_close_first all_call role Drained = is_calling role && not all_call

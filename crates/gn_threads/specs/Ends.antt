@@ -97,8 +97,8 @@ pub record IsHurt (half : WrittenHalf) (texts : List (List ℕ)) : Type 0 where
 
 -- the table of ends for a writer: what was written, where that is known, its events, and who closed its connection
 abbrev pub WriterEnds : {A : Type 0} → List (Step A) → List Role → ℕ → Role → List (Receipt A) → WrittenHalf → WriterEnd → Option ℕ → Type 0
--- all its texts were written; it closed c when c's output was empty, nothing was in flight, and all readers that it waits for had
--- made their last step
+-- all its texts were written; it closed c when c's output was empty, nothing was in flight, and all awaited readers had made their
+-- last step
 WriterEnds steps roles writer role own half Drained (Some c) =
     (half.is_known ≡ true → half.bytes ≡ concat (texts_of role own))
     × (list_any
@@ -109,7 +109,8 @@ WriterEnds steps roles writer role own half Drained (Some c) =
 WriterEnds steps roles writer role own half Closed (Some c) =
     (half.is_known ≡ true → half.bytes ≡ concat (texts_of role own))
     × (list_any (λ step. not (step.actor == writer) && is_close c step.event) steps ≡ true)
--- a write failed: of the connection request, where the link calls and the writer made no event; else somebody closed c
+-- a write failed: of the connection request, where the link calls and the writer made no event; or of another text, and somebody
+-- closed c
 WriterEnds steps roles writer role own half WriteFailed (Some c) =
     IsHurt half (texts_of role own)
     × (((is_calling role && (length own == 0)) || list_any (λ step. is_close c step.event) steps) ≡ true)

@@ -21,10 +21,10 @@ pub enum RunFault {
     HistoryFull,
     /// Out of memory, or a thread couldn't be started.
     NoMemory,
-    /// The house couldn't close the queue of tickets at the end: a thread's end of it was missing, or memory.
+    /// The house couldn't close the queue of tickets at the end: a thread didn't give its side back, or out of memory.
     Stage(StageFault),
-    /// The check at the end failed at this actor, the lowest whose receipts don't fit the history or the configuration,
-    /// or who was refused a Route.
+    /// The check at the end failed at this actor, the lowest whose receipts or end don't fit the history, or who was
+    /// refused a Route; or at the house, where the router has another configuration.
     Audit(u32),
 }
 
