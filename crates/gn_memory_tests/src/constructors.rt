@@ -4,7 +4,8 @@ use gn_fixtures::{Call, Failure, Heap, growths_of_calls, usual};
 use gn_frames::Reassembler;
 use gn_rules::{Config, FreshRouter};
 use gn_search::PlainRouter;
-use gn_tables::{Flights, Neighbours, SeenTable, ServentTable, TableRouter};
+use gn_table_router::TableRouter;
+use gn_tables::{Flights, Neighbours, SeenTable, ServentTable};
 use std::alloc::{AllocError, Allocator};
 use std::test::Fail;
 

@@ -6,7 +6,7 @@ use crate::steps::{Asked, growths_of};
 use gn_fixtures::{FIRST_PING, Heap};
 use gn_rules::Historian;
 use gn_search::PlainRouter;
-use gn_tables::TableRouter;
+use gn_table_router::TableRouter;
 use std::alloc::{Allocator, Global};
 use std::test::Fail;
 

@@ -31,7 +31,8 @@ use gn_replay::{
 };
 use gn_rules::{FreshRouter, Legality};
 use gn_show::show;
-use gn_tables::{Forgetful, TableRouter};
+use gn_table_router::TableRouter;
+use gn_tables::Forgetful;
 use gn_words::{Request, ServeOptions, read_words};
 use std::alloc::Global;
 use std::convert::AsStr;

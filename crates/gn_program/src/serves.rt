@@ -17,7 +17,7 @@ use gn_links::{LinkFault, Watch};
 use gn_load::{ServeFault, ServeStopped, serve_history_kept};
 use gn_rules::{Config, Own, Step};
 use gn_service::{Ran, Serving, Stop};
-use gn_tables::TableRouter;
+use gn_table_router::TableRouter;
 use gn_tcp::Unmet;
 use gn_threads::RunFault;
 use gn_words::{Peer, ServeOptions};

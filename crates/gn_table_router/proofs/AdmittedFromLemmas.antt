@@ -17,9 +17,9 @@ use Rattle.gn_tables.specs.Flying.{Flying}
 use Rattle.gn_tables.specs.Origins.{flights_from, from_count}
 use Rattle.gn_tables.proofs.MapLemmas.{get_entries}
 use Rattle.gn_tables.proofs.OriginLemmas.{count_insert, none_from}
-use Rattle.gn_tables.specs.Tabled.{AreApart, AreFlying, flight_of}
-use Rattle.gn_tables.proofs.FlightLemmas.{ticket_listed}
-use Rattle.gn_tables.proofs.NumberLemmas.{apart_filter}
+use Rattle.gn_table_router.specs.Tabled.{AreApart, AreFlying, flight_of}
+use Rattle.gn_table_router.proofs.FlightLemmas.{ticket_listed}
+use Rattle.gn_table_router.proofs.NumberLemmas.{apart_filter}
 
 flip : (a b : ℕ) → (a == b) ≡ (b == a)
 flip a b = grind (arith, common_steps)

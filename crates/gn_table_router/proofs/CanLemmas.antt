@@ -29,15 +29,16 @@ use Rattle.gn_rules.specs.Statistics.{counter_of, stats_of, count_in}
 use Rattle.gn_rules.proofs.OutputLemmas.{counters_add_up}
 use Rattle.gn_tables.specs.declared.flights.Flight.{Flight}
 use Rattle.gn_tables.specs.Outputs.{Outputs}
-use Rattle.gn_tables.specs.declared.tables.Tables.{Tables}
-use Rattle.gn_tables.specs.Followed.{CanAdmit, CanConnect, CanFollow, CanMove, CanRemember, CanRoute, IsNewKey, moved, routed}
-use Rattle.gn_tables.specs.Sent.{CanSend}
-use Rattle.gn_tables.specs.Tabled.{IsTabled, carried, flight_of}
-use Rattle.gn_tables.proofs.DecisionLemmas.{key_is_new, route_sends, servent_is_known}
-use Rattle.gn_tables.proofs.FlightLemmas.{absent}
-use Rattle.gn_tables.proofs.FollowLemmas.{below_from, first_for, flight_for, live_for, origin_for, room_for}
-use Rattle.gn_tables.proofs.ReadLemmas.{count_known}
-use Rattle.gn_tables.proofs.SendableLemmas.{AreSendable, fanout_sends, sends_fit}
+use Rattle.gn_table_router.specs.declared.tables.Tables.{Tables}
+use Rattle.gn_tables.specs.Routed.{CanRemember, IsNewKey, carried}
+use Rattle.gn_table_router.specs.Followed.{CanAdmit, CanConnect, CanFollow, CanMove, CanRoute, moved, routed}
+use Rattle.gn_table_router.specs.Sent.{CanSend}
+use Rattle.gn_table_router.specs.Tabled.{IsTabled, flight_of}
+use Rattle.gn_table_router.proofs.DecisionLemmas.{key_is_new, route_sends, servent_is_known}
+use Rattle.gn_table_router.proofs.FlightLemmas.{absent}
+use Rattle.gn_table_router.proofs.FollowLemmas.{below_from, first_for, flight_for, live_for, origin_for, room_for}
+use Rattle.gn_table_router.proofs.ReadLemmas.{count_known}
+use Rattle.gn_table_router.proofs.SendableLemmas.{AreSendable, fanout_sends, sends_fit}
 
 none_from : {X : Type 0} (o : Option X) → is_some o ≡ false → o ≡ None
 none_from None h = refl

@@ -21,8 +21,8 @@ use Rattle.gn_rules.specs.Flight.{Admission}
 use Rattle.gn_rules.specs.History.{is_routed_reply, sends_of, connections, live}
 use Rattle.gn_rules.specs.Servents.{is_query_hit, servent_route}
 use Rattle.gn_rules.specs.SeenEntries.{is_remembered, keeps, source}
-use Rattle.gn_tables.specs.Tabled.{AreApart}
-use Rattle.gn_tables.proofs.SendableLemmas.{AreSendable, flood, no_sends, one_send}
+use Rattle.gn_table_router.specs.Tabled.{AreApart}
+use Rattle.gn_table_router.proofs.SendableLemmas.{AreSendable, flood, no_sends, one_send}
 
 -- a descriptor that is passed on to r: r is live
 pub record IsPassed {A : Type 0} (past : List (Step A)) (a : Admission) (r : ℕ) : Type 0 where

@@ -20,8 +20,8 @@ use Rattle.gn_rules.proofs.StepLemmas.{flying-admitted, flying-kept, flying-rout
 use Rattle.gn_wire.specs.Packet.{Packet}
 use Rattle.gn_tables.specs.declared.flights.Flight.{Flight}
 use Rattle.gn_tables.specs.Flying.{Flying, with_flight, without_flight}
-use Rattle.gn_tables.specs.Tabled.{AreApart, AreFlying, flight_of}
-use Rattle.gn_tables.proofs.NumberLemmas.{apart_filter, apart_more}
+use Rattle.gn_table_router.specs.Tabled.{AreApart, AreFlying, flight_of}
+use Rattle.gn_table_router.proofs.NumberLemmas.{apart_filter, apart_more}
 
 other_number : (a b : ℕ) → b < a → (a == b) ≡ false
 other_number a b h = grind (arith, common_steps)

@@ -28,15 +28,16 @@ use Rattle.gn_rules.specs.Statistics.{counter_of, raised, stats_of}
 use Rattle.gn_rules.proofs.StepLemmas.{rows-closed, rows-connected, rows-sent, rows-taken}
 use Rattle.gn_tables.specs.declared.flights.Flight.{Flight}
 use Rattle.gn_tables.specs.Outputs.{Outputs, joined, left, popped}
-use Rattle.gn_tables.specs.declared.tables.Tables.{Tables}
-use Rattle.gn_tables.specs.Followed.{counted, followed, queued, routed, with_heard, with_kept}
-use Rattle.gn_tables.specs.Sent.{sent}
-use Rattle.gn_tables.specs.Tabled.{AreFlying, AreNumbered, IsTabled, flight_of, known, outputs, remembered}
-use Rattle.gn_tables.proofs.DecisionLemmas.{route_sends}
-use Rattle.gn_tables.proofs.FlightLemmas.{flights_admitted, flights_kept, flights_routed}
-use Rattle.gn_tables.proofs.MemoryLemmas.{known_routed, remembered_routed, known_more, remembered_more, with_entry_of, with_hit_of}
-use Rattle.gn_tables.proofs.NumberLemmas.{numbered_closed, numbered_connected, numbered_kept}
-use Rattle.gn_tables.proofs.SendableLemmas.{AreSendable, fanout_sends, sends_quiet, sent_none}
+use Rattle.gn_table_router.specs.declared.tables.Tables.{Tables}
+use Rattle.gn_tables.specs.Routed.{with_heard, with_kept}
+use Rattle.gn_table_router.specs.Followed.{counted, followed, queued, routed}
+use Rattle.gn_table_router.specs.Sent.{sent}
+use Rattle.gn_table_router.specs.Tabled.{AreFlying, AreNumbered, IsTabled, flight_of, known, outputs, remembered}
+use Rattle.gn_table_router.proofs.DecisionLemmas.{route_sends}
+use Rattle.gn_table_router.proofs.FlightLemmas.{flights_admitted, flights_kept, flights_routed}
+use Rattle.gn_table_router.proofs.MemoryLemmas.{known_routed, remembered_routed, known_more, remembered_more, with_entry_of, with_hit_of}
+use Rattle.gn_table_router.proofs.NumberLemmas.{numbered_closed, numbered_connected, numbered_kept}
+use Rattle.gn_table_router.proofs.SendableLemmas.{AreSendable, fanout_sends, sends_quiet, sent_none}
 
 pub below_from : (n m : ℕ) → n ≤ m → (n == m) ≡ false → n < m
 below_from n m h e = grind (arith, common_steps)

@@ -17,9 +17,9 @@ use Rattle.gn_rules.specs.Servents.{hit_of, is_query_hit, learned, servents}
 use Rattle.gn_rules.specs.SeenEntries.{entry_of, keeps, seen_entries}
 use Rattle.gn_rules.proofs.StepLemmas.{take_more_new}
 use Rattle.gn_tables.specs.Remembered.{Remembered, with_entry}
+use Rattle.gn_tables.specs.Routed.{with_heard, with_kept}
 use Rattle.gn_tables.specs.Servents as table
-use Rattle.gn_tables.specs.Tabled.{known, remembered}
-use Rattle.gn_tables.specs.Followed.{with_heard, with_kept}
+use Rattle.gn_table_router.specs.Tabled.{known, remembered}
 
 -- the remembered seen entries with one more, where there is one
 abbrev pub with_entry_of : Option (Key × ℕ) → Remembered → Remembered

@@ -12,7 +12,7 @@ use Rattle.gn_rules.specs.declared.reply.Reply.TheVariants.{Connected, Closed}
 use Rattle.gn_rules.specs.History.{connected_of, is_close, is_take, sends_of, connections, live_connections}
 use Rattle.gn_rules.specs.Output.{out, queued_to}
 use Rattle.gn_rules.proofs.StepLemmas.{live_connections-closed, live_connections-connected, live_connections-kept}
-use Rattle.gn_tables.specs.Tabled.{AreApart, AreNumbered}
+use Rattle.gn_table_router.specs.Tabled.{AreApart, AreNumbered}
 
 pub filtered_few : {X : Type 0} (p : X → Bool) (xs : List X) → length (filter p xs) ≤ length xs
 filtered_few p [] = omega arith

@@ -18,8 +18,8 @@ use Rattle.gn_rules.proofs.StepLemmas.{is_listed, map_map}
 use Rattle.gn_rules.specs.Statistics.{no_stats}
 use Rattle.gn_tables.specs.Flying.{Flying}
 use Rattle.gn_tables.specs.Outputs.{output_of}
-use Rattle.gn_tables.specs.declared.tables.Tables.{Tables}
-use Rattle.gn_tables.specs.Tabled.{IsTabled, outputs}
+use Rattle.gn_table_router.specs.declared.tables.Tables.{Tables}
+use Rattle.gn_table_router.specs.Tabled.{IsTabled, outputs}
 
 -- a search among entries that are made of numbers
 lookup_made : {X : Type 0} (f : ℕ → X) (c : ℕ) (ns : List ℕ)

@@ -18,11 +18,11 @@ use Rattle.gn_rules.specs.Sending.{fanout, flood_sends, is_ping, own_pong, send}
 use Rattle.gn_rules.proofs.SendLemmas.{fanout_to, queued_none}
 use Rattle.gn_rules.proofs.StepLemmas.{below_is_other, listed, map_agree, map_map}
 use Rattle.gn_tables.specs.Outputs.{Outputs, has_room, pushed, row_with}
-use Rattle.gn_tables.specs.Sent.{CanSend, given, sent}
-use Rattle.gn_tables.specs.Tabled.{AreApart, AreNumbered, outputs}
-use Rattle.gn_tables.proofs.FlightLemmas.{below_all}
-use Rattle.gn_tables.proofs.NumberLemmas.{apart_filter}
-use Rattle.gn_tables.proofs.ReadLemmas.{output_is}
+use Rattle.gn_table_router.specs.Sent.{CanSend, given, sent}
+use Rattle.gn_table_router.specs.Tabled.{AreApart, AreNumbered, outputs}
+use Rattle.gn_table_router.proofs.FlightLemmas.{below_all}
+use Rattle.gn_table_router.proofs.NumberLemmas.{apart_filter}
+use Rattle.gn_table_router.proofs.ReadLemmas.{output_is}
 
 all_of : {X : Type 0} (P : X → Type 0) (xs : List X) → ((x : X) → P x) → All P xs
 all_of P [] h = All-nil P

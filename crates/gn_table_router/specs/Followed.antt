@@ -1,40 +1,23 @@
 -- What the tables become by an event with its reply, and when they can.
-use Rattle.std.specs.Prelude.{◌≡◌, ◌+◌, ◌<◌, ◌≤◌, ◌^◌, ◌&&◌, if◌then◌else◌, ℕ, true, List, length, Option, Some, None}
+use Rattle.std.specs.Prelude.{◌≡◌, ◌+◌, ◌<◌, ◌^◌, ℕ, List, length, Option, Some, None}
 use Rattle.std.specs.List.{All}
 use Rattle.std.specs.FinMap as map
-use Rattle.std.specs.Map.{lookup}
-use Rattle.gn_wire.specs.declared.key.Key.{Key}
-use Rattle.gn_wire.specs.Keys.{is_same_key, key_of}
+use Rattle.gn_wire.specs.Keys.{key_of}
 use Rattle.gn_wire.specs.Packet.{Packet}
-use Rattle.gn_payload.specs.Fields.{hit_servent}
 use Rattle.gn_rules.specs.declared.event.Event.{Event}
 use Rattle.gn_rules.specs.declared.event.Event.TheVariants.{Connect, Close, Admit, Route, Take, Originate}
 use Rattle.gn_rules.specs.declared.reply.Reply.{Reply}
 use Rattle.gn_rules.specs.declared.reply.Reply.TheVariants.{Connected, Admitted}
 use Rattle.gn_rules.specs.declared.sends.Sending.{Sending}
-use Rattle.gn_rules.specs.Flight.{Admission}
-use Rattle.gn_rules.specs.History.{is_routed_reply, sends_of}
-use Rattle.gn_rules.specs.Servents.{is_query_hit}
-use Rattle.gn_rules.specs.SeenEntries.{keeps}
+use Rattle.gn_rules.specs.History.{sends_of}
 use Rattle.gn_rules.specs.Statistics.{counter_of, raised, count_in}
 use Rattle.gn_tables.specs.declared.flights.Flight.{Flight}
 use Rattle.gn_tables.specs.Flying.{with_flight, without_flight}
 use Rattle.gn_tables.specs.Outputs.{joined, left, popped}
-use Rattle.gn_tables.specs.Remembered.{Remembered, with_entry}
-use Rattle.gn_tables.specs.Servents.{Servents, learned}
-use Rattle.gn_tables.specs.declared.tables.Tables.{Tables}
-use Rattle.gn_tables.specs.Sent.{CanSend, sent}
-use Rattle.gn_tables.specs.Tabled.{carried}
-
--- the remembered seen entries after a route with this reply: with its key and source where it is kept
-abbrev pub with_kept : {A : Type 0} → Reply A → Admission → Remembered → Remembered
-with_kept reply a seen = if keeps a.packet.kind reply then with_entry (key_of a.packet) a.origin seen else seen
-
--- the known servents after a route with this reply: with the servent that a Query Hit names where it was routed
-abbrev pub with_heard : {A : Type 0} → Reply A → Admission → Servents → Servents
-with_heard reply a servents =
-    if is_query_hit a.packet.kind && is_routed_reply reply then learned (hit_servent a.packet.payload) a.origin servents
-    else servents
+use Rattle.gn_tables.specs.Remembered.{with_entry}
+use Rattle.gn_tables.specs.Routed.{CanRemember, IsNewKey, carried, with_heard, with_kept}
+use Rattle.gn_table_router.specs.declared.tables.Tables.{Tables}
+use Rattle.gn_table_router.specs.Sent.{CanSend, sent}
 
 -- after a Connect
 abbrev pub connected : {A : Type 0} → Reply A → Tables A → Tables A
@@ -90,15 +73,6 @@ abbrev pub CanAdmit : {A : Type 0} → Reply A → Tables A → Type 0
 CanAdmit (Admitted u) t =
     (u + 1 < 2 ^ 32) × (map.len t.flights.flights < t.flights.most) × (map.get t.flights.flights u ≡ None)
 CanAdmit reply t = Unit {0}
-
--- a key that is kept isn't there yet
-abbrev pub IsNewKey : Key → Remembered → Type 0
-IsNewKey key seen = lookup (is_same_key key) seen.seen_entries ≡ None
-
--- a flight that is remembered has a new key, or a servent that its payload names
-pub record CanRemember {A : Type 0} (reply : Reply A) (a : Admission) (seen : Remembered) : Type 0 where
-  pub is_new : keeps a.packet.kind reply ≡ true → IsNewKey (key_of a.packet) seen
-  pub verdict : (is_query_hit a.packet.kind && is_routed_reply reply) ≡ true → 16 ≤ length a.packet.payload
 
 -- a flight can be remembered
 abbrev pub CanRoute : {A : Type 0} → ℕ → Reply A → Tables A → Type 0

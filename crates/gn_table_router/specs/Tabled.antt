@@ -17,11 +17,7 @@ use Rattle.gn_tables.specs.Flying.{Flying}
 use Rattle.gn_tables.specs.Outputs.{Outputs}
 use Rattle.gn_tables.specs.Remembered.{Remembered}
 use Rattle.gn_tables.specs.Servents.{Servents}
-use Rattle.gn_tables.specs.declared.tables.Tables.{Tables}
-
--- a flight is an admission
-abbrev pub carried : {A : Type 0} → Flight A → Admission
-carried f = record { origin = f.from; packet = f.descriptor }
+use Rattle.gn_table_router.specs.declared.tables.Tables.{Tables}
 
 -- what the table keeps of an admission
 abbrev pub flight_of : {A : Type 0} → Admission → Flight A

@@ -1,23 +1,17 @@
 //! What an event with its reply does to the tables.
 
-ghost use Rattle.std.specs.Prelude.{◌≡◌, true, OnErr, OnOk};
-ghost use Rattle.gn_wire.specs.Keys.{key_of};
-ghost use Rattle.gn_rules.specs.Servents.{is_query_hit};
-ghost use Rattle.gn_tables.specs.Followed as after;
-ghost use Rattle.gn_tables.specs.Sent.{CanSend, given, sent};
-ghost use Rattle.gn_tables.specs.Outputs.{has_room};
+ghost use Rattle.std.specs.Prelude.{◌≡◌, OnErr, OnOk};
 ghost use Rattle.std.specs.FinMap as map;
-ghost use Rattle.gn_tables.specs.Tabled.{carried};
+ghost use Rattle.gn_wire.specs.Keys.{key_of};
+ghost use Rattle.gn_tables.specs.Routed.{IsNewKey};
+ghost use Rattle.gn_table_router.specs.Followed as after;
+ghost use Rattle.gn_table_router.specs.Sent.{CanSend, sent};
 
-use crate::flights::Flight;
-use crate::neighbours::Neighbours;
-use crate::seen::SeenTable;
-use crate::servents::ServentTable;
 use crate::tables::Tables;
-use gn_payload::servent_of_hit;
 use gn_router::Places;
 use gn_rules::{Counter, Event, Reply, Sending, Sends, Ticket};
-use gn_wire::{Descriptor, Kind};
+use gn_tables::{Neighbours, queue_one, remember};
+use gn_wire::Descriptor;
 use std::alloc::{AllocError, Allocator};
 
 impl<A: Allocator + Copy> Tables<A> {
@@ -115,7 +109,7 @@ impl<A: Allocator + Copy> Tables<A> {
 
     /// The local servent's descriptor, which is remembered. An `Err` is out of memory, and changes nothing.
     fn originate(&mut self, packet: &Descriptor<A>) -> Result<(), AllocError>
-        requires { after.IsNewKey (key_of packet.now) self.old.seen }
+        requires { IsNewKey (key_of packet.now) self.old.seen }
         ensures ok { OnOk result (self.new ≡ after.originated packet.now self.old) }
         ensures err { OnErr result (self.new ≡ self.old) }
     {
@@ -131,36 +125,6 @@ impl<A: Allocator + Copy> Tables<A> {
     }
 }
 
-/// Keeps the key of a request that was routed, or the servent of an answer. An `Err` is out of memory, and changes
-/// nothing.
-fn remember<A: Allocator + Copy>(
-    seen: &mut SeenTable<A>,
-    servents: &mut ServentTable<A>,
-    flight: &Flight<A>,
-    reply: &Reply<A>,
-) -> Result<(), AllocError>
-    requires { after.CanRemember reply.now (carried flight.now) seen.old }
-    ensures seen { OnOk result (seen.new ≡ after.with_kept reply.now (carried flight.now) seen.old) }
-    ensures servents { OnOk result (servents.new ≡ after.with_heard reply.now (carried flight.now) servents.old) }
-    ensures err { OnErr result ((seen.new ≡ seen.old) × (servents.new ≡ servents.old)) }
-{
-    let descriptor = &flight.descriptor;
-    if reply.keeps(descriptor.kind()) {
-        return seen.keep(descriptor.kind(), descriptor.id(), flight.from);
-    }
-    if is_hit(descriptor.kind()) && reply.is_routed() {
-        return servents.learn(servent_of_hit(descriptor.payload().as_slice()), flight.from);
-    }
-    Ok(())
-}
-
-/// Whether a kind is Query Hit.
-fn is_hit(kind: Kind) -> bool
-    ensures { result ≡ is_query_hit kind }
-{
-    matches!(kind, Kind::QueryHit)
-}
-
 /// Puts the packets that are queued after those that wait. The first one's connection is looked for at the place `near` first, and each
 /// other's after the one before it, as the sends of a flood stand.
 fn queue_all<A: Allocator + Copy>(
@@ -173,26 +137,6 @@ fn queue_all<A: Allocator + Copy>(
 {
     let mut near = near;
     for sending in sends {
-        near = send_one(neighbours, near, sending);
+        near = queue_one(neighbours, near, sending);
     }
-}
-
-/// Puts a packet after those that wait, where it is queued. The connection is looked for at the place `near` first; the place
-/// after its own is given, where that of the next send is likely.
-fn send_one<A: Allocator + Copy>(
-    neighbours: &mut Neighbours<A>,
-    near: usize,
-    sending: Sending<A>,
-) -> usize
-    requires { sending.queued ≡ true → has_room sending.to neighbours.old ≡ true }
-    ensures { neighbours.new ≡ given sending neighbours.old }
-{
-    let place = neighbours.place_near(near, sending.to);
-    if sending.queued {
-        match neighbours.push_near(place, sending.to, sending.packet) {
-            Ok(()) => {}
-            Err(_) => unreachable!(),
-        }
-    }
-    place.saturating_add(1)
 }

@@ -3,16 +3,10 @@
 ghost use Rattle.std.specs.Prelude.{◌≡◌, ◌∷◌, ◌++◌, [], true, IfOk, MatchOption};
 ghost use Rattle.gn_rules.specs.History.{sends_of};
 
-use crate::flights::Flights;
-use crate::forgetful::Forgetful;
-use crate::keeper::Keeper;
-use crate::neighbours::Neighbours;
-use crate::seen::SeenTable;
-use crate::servents::ServentTable;
 use crate::tables::Tables;
-use crate::whole::Whole;
 use gn_router::{FreshStore, Lookup, Places, StepStore, Store};
 use gn_rules::{Config, ConnId, Event, Reply, Sends, Stats, Step, Ticket};
+use gn_tables::{Flights, Forgetful, Keeper, Neighbours, SeenTable, ServentTable, Whole};
 use gn_wire::{Descriptor, Guid, Key};
 use std::alloc::{AllocError, Allocator, Global};
 use std::marker::Model;
@@ -28,7 +22,7 @@ pub struct TableStore<A: Allocator + Copy = Global, K: Keeper<A> = Whole<A>> {
 
 impl<A: Allocator + Copy, K: Keeper<A>> Model for TableStore<A, K> {
     ghost use Rattle.std.specs.Prelude.{reverse};
-    ghost use Rattle.gn_tables.specs.Tabled.{IsTabled};
+    ghost use Rattle.gn_table_router.specs.Tabled.{IsTabled};
     ghost use Rattle.gn_rules.specs.Kept.{Kept};
 
     ghost Value = { Kept A };

@@ -1,15 +1,13 @@
 //! The router that answers out of tables.
 
-use crate::forgetful::Forgetful;
-use crate::keeper::Keeper;
 use crate::store::TableStore;
-use crate::whole::Whole;
 use gn_payload::Checked;
 use gn_router::Router;
 use gn_rules::{
     Config, ConnId, Event, FreshRouter, Historian, Receipt, Refusal, Reply, RouterCore, Stats,
     Step, Ticket,
 };
+use gn_tables::{Forgetful, Keeper, Whole};
 use std::alloc::{AllocError, Allocator, Global};
 
 /// A router that answers out of its tables. It gives its steps to `K`, and never asks for them for an answer.

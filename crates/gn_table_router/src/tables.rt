@@ -1,10 +1,7 @@
 //! The tables of a router.
 
-use crate::flights::Flights;
-use crate::neighbours::Neighbours;
-use crate::seen::SeenTable;
-use crate::servents::ServentTable;
 use gn_rules::{Stats, Ticket};
+use gn_tables::{Flights, Neighbours, SeenTable, ServentTable};
 use std::alloc::{Allocator, Global};
 
 /// What a router remembers, and how much it has counted.

@@ -6,12 +6,3 @@ pub mod SearchLemmas
 pub mod SeenLemmas
 pub mod ServentLemmas
 pub mod OriginLemmas
-pub mod AdmittedFromLemmas
-pub mod CanLemmas
-pub mod DecisionLemmas
-pub mod FlightLemmas
-pub mod FollowLemmas
-pub mod MemoryLemmas
-pub mod NumberLemmas
-pub mod ReadLemmas
-pub mod SendableLemmas

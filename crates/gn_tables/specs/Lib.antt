@@ -4,8 +4,5 @@ pub mod Flying
 pub mod Origins
 pub mod Outputs
 pub mod Remembered
+pub mod Routed
 pub mod Servents
--- Words of the proofs.
-pub mod Followed
-pub mod Sent
-pub mod Tabled

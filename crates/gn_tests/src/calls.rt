@@ -5,7 +5,7 @@ use gn_fixtures::{OWN, ping, usual};
 use gn_payload::Checked;
 use gn_rules::{Config, Event, FreshRouter, Historian, Refusal, RouterCore};
 use gn_search::PlainRouter;
-use gn_tables::TableRouter;
+use gn_table_router::TableRouter;
 use gn_wire::{Descriptor, Guid, Kind};
 use std::alloc::Allocator;
 use std::test::Fail;

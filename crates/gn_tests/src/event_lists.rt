@@ -6,7 +6,7 @@ use crate::run::{Run, capture_of};
 use gn_frames::Reassembler;
 use gn_rules::{Config, Event, FreshRouter, Receipt, Refusal, run_events};
 use gn_search::PlainRouter;
-use gn_tables::TableRouter;
+use gn_table_router::TableRouter;
 use gn_text::{push_refusal, push_step_of};
 use gn_wire::Descriptor;
 use std::alloc::{AllocError, Allocator, Global};

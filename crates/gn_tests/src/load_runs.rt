@@ -8,7 +8,7 @@ use gn_capture::Line;
 use gn_links::{Link, MemoryLink, NoGate};
 use gn_rules::Config;
 use gn_shake::Role;
-use gn_tables::TableRouter;
+use gn_table_router::TableRouter;
 use gn_threads::run;
 use std::alloc::{AllocError, Allocator, Global};
 use std::sync::Wait;

@@ -11,7 +11,7 @@ use gn_io::{ReaderSource, WriterSink};
 use gn_replay::{audit, play};
 use gn_rules::{Historian, Legality};
 use gn_search::PlainRouter;
-use gn_tables::TableRouter;
+use gn_table_router::TableRouter;
 use gn_witness::legal;
 use std::alloc::Allocator;
 use std::process::Abort;

@@ -6,7 +6,7 @@ use crate::run::{USUAL, capture_text};
 use gn_fixtures::Heap;
 use gn_io::{ReaderSource, Sink, Source, WriterSink};
 use gn_replay::{Exit, ReplayFault, replay, replay_text_is_one};
-use gn_tables::TableRouter;
+use gn_table_router::TableRouter;
 use std::alloc::{Allocator, Global};
 use std::test::Fail;
 

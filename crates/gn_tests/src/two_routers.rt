@@ -6,7 +6,7 @@ use bytes::Bytes;
 use gn_fixtures::OWN;
 use gn_rules::{Config, ConnId, Event, FreshRouter, Historian, Reply, RouterCore, Step, Ticket};
 use gn_search::PlainRouter;
-use gn_tables::TableRouter;
+use gn_table_router::TableRouter;
 use gn_wire::{Descriptor, Guid, Key, Kind};
 use gn_witness::{came_over, ends, routed_kind, sent_again, was_queued};
 use std::alloc::Allocator;

@@ -64,7 +64,8 @@ pub mod laws {
 pub mod router {
     pub use gn_router::{Places, Router, Store, Unfreed};
     pub use gn_search::PlainRouter;
-    pub use gn_tables::{Forgetful, Keeper, TableRouter, Whole};
+    pub use gn_table_router::TableRouter;
+    pub use gn_tables::{Forgetful, Keeper, Whole};
     pub use gn_witness::legal;
 }
 

@@ -9,7 +9,7 @@ use gn_hub::{Actor, Hub, Next, Outgoing, Role, Service, ServiceFault};
 use gn_payload::Checked;
 use gn_rules::{Event, Historian, Refusal};
 use gn_search::PlainRouter;
-use gn_tables::TableRouter;
+use gn_table_router::TableRouter;
 use std::alloc::{Allocator, Global};
 use std::marker::{Brand, PhantomData};
 use std::sync::Wait;

@@ -12,7 +12,7 @@ use gn_replay::{
     Exit, ReplayFault, audit, audit_explained, audit_unfinished, replay, replay_history,
 };
 use gn_rules::{Config, Legality, Numbers, Step};
-use gn_tables::TableRouter;
+use gn_table_router::TableRouter;
 use gn_text::{CaptureRefusal, NumberedLine, NumberedLines, fields_into, read_header};
 use std::alloc::Allocator;
 use std::test::Fail;

@@ -7,7 +7,7 @@ use gn_io::{ReaderSource, Sink, Source, WriterSink};
 use gn_load::{LoadFault, load};
 use gn_replay::{ReplayFault, audit};
 use gn_rules::{Event, Legality, Reply, Step};
-use gn_tables::TableRouter;
+use gn_table_router::TableRouter;
 use std::alloc::{AllocError, Allocator, Global};
 use std::sync::Wait;
 use std::test::Fail;

@@ -13,7 +13,7 @@ use gn_load::{ServeFault, serve_history};
 use gn_report::Report;
 use gn_rules::Config;
 use gn_service::{Serving, serve_on};
-use gn_tables::TableRouter;
+use gn_table_router::TableRouter;
 use gn_tcp::{TcpReader, TcpWriter};
 use gn_threads::RunFault;
 use peers::{LATE, Peer, play};

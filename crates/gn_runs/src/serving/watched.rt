@@ -8,7 +8,7 @@ use gn_io::{ReaderSource, Sink, Source, WriterSink};
 use gn_links::{Gate, Watch};
 use gn_load::{LoadFault, load_watched};
 use gn_service::{Serving, Stop};
-use gn_tables::TableRouter;
+use gn_table_router::TableRouter;
 use std::alloc::Allocator;
 use std::net::{Net, Shutdown, SocketAddr, TcpListener, TcpStream};
 use std::sync::Wait;

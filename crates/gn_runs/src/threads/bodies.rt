@@ -18,7 +18,7 @@ use gn_links::{Link, LinkReader, LinkWriter, MemoryLink, MemoryWriter};
 use gn_rules::{Event, Historian, RouterCore, Step};
 use gn_shake::Role;
 use gn_stage::{Intake, Job, Outlet, Site, Stage};
-use gn_tables::TableRouter;
+use gn_table_router::TableRouter;
 use std::alloc::{Allocator, Global};
 use std::marker::Brand;
 use std::sync::Wait;

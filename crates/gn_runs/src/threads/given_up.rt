@@ -3,7 +3,7 @@
 use gn_fixtures::{PING, usual};
 use gn_links::{Gate, Link, MemoryLink, MemoryReader, MemoryWriter};
 use gn_shake::Role;
-use gn_tables::TableRouter;
+use gn_table_router::TableRouter;
 use gn_threads::{Arrivals, RunFault, run_arriving};
 use std::alloc::{AllocError, Global};
 use std::sync::Wait;

@@ -8,7 +8,7 @@ use gn_links::{Gate, Link, MemoryLink, NoGate};
 use gn_report::Report;
 use gn_rules::Config;
 use gn_shake::Role;
-use gn_tables::TableRouter;
+use gn_table_router::TableRouter;
 use gn_threads::{RunFault, run};
 use std::alloc::{AllocError, Allocator, Global};
 use std::sync::Wait;

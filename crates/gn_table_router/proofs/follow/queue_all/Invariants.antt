@@ -1,6 +1,6 @@
 use Rattle.std.specs.Vec.Iter.{into_iter_items, into_iter_len}
-use Rattle.gn_tables.proofs.SendableLemmas.{IsSending}
-use Rattle.gn_tables.proofs.follow.queue_all.Given as goal
+use Rattle.gn_table_router.proofs.SendableLemmas.{IsSending}
+use Rattle.gn_table_router.proofs.follow.queue_all.Given as goal
 
 abbrev pub invariant-loop-sending : goal.invariant-loop-sending
 invariant-loop-sending g l =

@@ -1,6 +1,6 @@
 use Rattle.std.proofs.Common.{refl}
-use Rattle.gn_tables.proofs.ReadLemmas.{made}
-use Rattle.gn_tables.proofs.store.TableStore.over.Goals as goal
+use Rattle.gn_table_router.proofs.ReadLemmas.{made}
+use Rattle.gn_table_router.proofs.store.TableStore.over.Goals as goal
 
 pub invariant_of-result : goal.invariant_of-result
 invariant_of-result g c =

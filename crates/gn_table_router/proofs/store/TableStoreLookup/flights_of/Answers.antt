@@ -1,6 +1,6 @@
 use Rattle.std.proofs.Common.{◌∙◌, reverse}
-use Rattle.gn_tables.proofs.AdmittedFromLemmas.{flights_from_is}
-use Rattle.gn_tables.proofs.store.TableStoreLookup.flights_of.Goals as goal
+use Rattle.gn_table_router.proofs.AdmittedFromLemmas.{flights_from_is}
+use Rattle.gn_table_router.proofs.store.TableStoreLookup.flights_of.Goals as goal
 
 pub returns : goal.returns
 returns g c =

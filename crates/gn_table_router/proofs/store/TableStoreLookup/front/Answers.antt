@@ -1,6 +1,6 @@
 use Rattle.std.proofs.Common.{◌∙◌, reverse}
-use Rattle.gn_tables.proofs.ReadLemmas.{front_known}
-use Rattle.gn_tables.proofs.store.TableStoreLookup.front.Goals as goal
+use Rattle.gn_table_router.proofs.ReadLemmas.{front_known}
+use Rattle.gn_table_router.proofs.store.TableStoreLookup.front.Goals as goal
 
 pub returns : goal.returns
 returns g c =

@@ -1,8 +1,8 @@
 use Rattle.std.proofs.Common.{reverse}
 use Rattle.std.specs.Option.{option_map}
 use Rattle.gn_rules.specs.History.{live_connections}
-use Rattle.gn_tables.proofs.ReadLemmas.{item_at, number_known, waiting_known}
-use Rattle.gn_tables.proofs.store.TableStoreLookup.live_at.Goals as goal
+use Rattle.gn_table_router.proofs.ReadLemmas.{item_at, number_known, waiting_known}
+use Rattle.gn_table_router.proofs.store.TableStoreLookup.live_at.Goals as goal
 
 pub returns-clause-at : goal.returns-clause-at
 returns-clause-at g c =

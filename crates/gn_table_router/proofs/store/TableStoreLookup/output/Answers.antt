@@ -1,6 +1,6 @@
 use Rattle.std.proofs.Common.{◌∙◌, reverse}
-use Rattle.gn_tables.proofs.ReadLemmas.{output_known}
-use Rattle.gn_tables.proofs.store.TableStoreLookup.output.Goals as goal
+use Rattle.gn_table_router.proofs.ReadLemmas.{output_known}
+use Rattle.gn_table_router.proofs.store.TableStoreLookup.output.Goals as goal
 
 pub returns : goal.returns
 returns g c =

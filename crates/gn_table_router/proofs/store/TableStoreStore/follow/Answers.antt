@@ -1,9 +1,9 @@
 use Rattle.std.proofs.Common.{◌≡◌, Ok, reverse, subst, sym}
 use Rattle.gn_rules.specs.Answer.{answer}
 use Rattle.gn_rules.proofs.PastLemmas.{past_push}
-use Rattle.gn_tables.proofs.CanLemmas.{can_follow}
-use Rattle.gn_tables.proofs.FollowLemmas.{follows}
-use Rattle.gn_tables.proofs.store.TableStoreStore.follow.Goals as goal
+use Rattle.gn_table_router.proofs.CanLemmas.{can_follow}
+use Rattle.gn_table_router.proofs.FollowLemmas.{follows}
+use Rattle.gn_table_router.proofs.store.TableStoreStore.follow.Goals as goal
 
 pub follow-requires : goal.follow-requires
 follow-requires g c =

@@ -1,0 +1,9 @@
+pub mod AdmittedFromLemmas
+pub mod CanLemmas
+pub mod DecisionLemmas
+pub mod FlightLemmas
+pub mod FollowLemmas
+pub mod MemoryLemmas
+pub mod NumberLemmas
+pub mod ReadLemmas
+pub mod SendableLemmas

@@ -1,0 +1,4 @@
+-- Words of the proofs.
+pub mod Followed
+pub mod Sent
+pub mod Tabled

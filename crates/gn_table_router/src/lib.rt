@@ -1,0 +1,10 @@
+//! The store of a router that answers out of tables, and that router.
+#![tactic(auto)]
+
+mod follow;
+mod store;
+mod table_router;
+mod tables;
+
+pub use store::TableStore;
+pub use table_router::TableRouter;
