@@ -11,12 +11,12 @@ use Rattle.gn_rules.specs.Answer.{decision_reply}
 use Rattle.gn_rules.specs.Decision.{Decision}
 use Rattle.gn_rules.specs.Flight.{Admission}
 use Rattle.gn_rules.specs.Sending.{fanout, flood_sends}
-use Rattle.gn_router.specs.declared.plan.Outgoing.{Outgoing}
-use Rattle.gn_router.specs.declared.plan.Outgoing.TheVariants.{Nothing, One, Flood, Each}
-use Rattle.gn_router.specs.declared.plan.Found.{Found}
-use Rattle.gn_router.specs.declared.plan.Plan.{Plan}
-use Rattle.gn_router.specs.declared.plan.Plan.TheVariants.{Ready, Taken, Routed, Sent}
-use Rattle.gn_router.specs.Made.{made_packet}
+use Rattle.gn_decide.specs.declared.plan.Outgoing.{Outgoing}
+use Rattle.gn_decide.specs.declared.plan.Outgoing.TheVariants.{Nothing, One, Flood, Each}
+use Rattle.gn_decide.specs.declared.plan.Found.{Found}
+use Rattle.gn_decide.specs.declared.plan.Plan.{Plan}
+use Rattle.gn_decide.specs.declared.plan.Plan.TheVariants.{Ready, Taken, Routed, Sent}
+use Rattle.gn_decide.specs.Made.{made_packet}
 
 -- the sends that outgoing packets stand for
 abbrev pub outgoing_sends : {A : Type 0} → Config → List (Step A) → Outgoing A → List (Sending A)

@@ -5,7 +5,7 @@ ghost use Rattle.gn_wire.specs.Keys.{key_of};
 ghost use Rattle.gn_wire.specs.declared.kind.Kind.TheVariants.{Ping, Push};
 ghost use Rattle.gn_rules.specs.Decision as rules;
 ghost use Rattle.gn_rules.specs.SeenEntries as seen_entries;
-ghost use Rattle.gn_router.specs.Planned.{Decides};
+ghost use Rattle.gn_decide.specs.Planned.{Decides};
 
 use crate::lookup::Lookup;
 use crate::made::{Forwarded, Made};

@@ -10,7 +10,7 @@ ghost use Rattle.gn_rules.specs.Servents as servents;
 ghost use Rattle.gn_rules.specs.SeenEntries as seen_entries;
 ghost use Rattle.gn_rules.specs.declared.config.Config.{Config};
 ghost use Rattle.gn_rules.specs.declared.receipt.Step.{Step};
-ghost use Rattle.gn_router.specs.Seen.{admission_seen};
+ghost use Rattle.gn_decide.specs.Seen.{admission_seen};
 
 use gn_rules::{Config, ConnId, Step, Ticket};
 use gn_wire::{Descriptor, Guid, Key};

@@ -94,7 +94,7 @@ fn is_own_pong<A: Allocator>(own: &Own, ping: &Descriptor<A>, other: &Descriptor
 }
 
 impl<'a, A: Allocator> Made<'a, A> {
-    ghost use Rattle.gn_router.specs.Made.{made_packet};
+    ghost use Rattle.gn_decide.specs.Made.{made_packet};
 
     /// Whether the packet is the other. Takes no memory.
     pub fn is(&self, other: &Descriptor<A>) -> bool
@@ -109,7 +109,7 @@ impl<'a, A: Allocator> Made<'a, A> {
 }
 
 impl<'a, A: Allocator + Copy> Made<'a, A> {
-    ghost use Rattle.gn_router.specs.Made.{made_packet};
+    ghost use Rattle.gn_decide.specs.Made.{made_packet};
 
     /// The packet. An `Err` is out of memory.
     pub fn make(&self, alloc: A) -> Result<Descriptor<A>, AllocError>

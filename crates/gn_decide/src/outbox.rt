@@ -2,7 +2,7 @@
 
 ghost use Rattle.std.specs.Prelude.{◌≡◌, OnOk};
 ghost use Rattle.gn_rules.specs.declared.sends.Sending.{Sending};
-ghost use Rattle.gn_router.specs.Made.{made_packet};
+ghost use Rattle.gn_decide.specs.Made.{made_packet};
 
 use crate::made::Made;
 use gn_rules::{ConnId, Sending};

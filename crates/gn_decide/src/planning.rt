@@ -5,7 +5,7 @@ ghost use Rattle.gn_wire.specs.Packet.{Packet};
 ghost use Rattle.gn_rules.specs.Answer as rules;
 ghost use Rattle.gn_rules.specs.Flight.{flying_from, in_flight};
 ghost use Rattle.gn_rules.specs.declared.event.Event.TheVariants.{Connect, Close, Admit, Route, Take, Originate};
-ghost use Rattle.gn_router.specs.Planned.{plan_reply, planned};
+ghost use Rattle.gn_decide.specs.Planned.{plan_reply, planned};
 
 use crate::deciding::{decide, is_remembered};
 use crate::lookup::Lookup;

@@ -5,9 +5,9 @@ ghost use Rattle.std.specs.List.{fold};
 ghost use Rattle.gn_wire.specs.Packet.{forward_of, is_expired};
 ghost use Rattle.gn_rules.specs.History.{live};
 ghost use Rattle.gn_rules.specs.Sending as sending;
-ghost use Rattle.gn_router.specs.Made.{made_packet};
-ghost use Rattle.gn_router.specs.Others.{to_others};
-ghost use Rattle.gn_router.specs.Planned.{outgoing_sends};
+ghost use Rattle.gn_decide.specs.Made.{made_packet};
+ghost use Rattle.gn_decide.specs.Others.{to_others};
+ghost use Rattle.gn_decide.specs.Planned.{outgoing_sends};
 
 use crate::lookup::Lookup;
 use crate::made::{Forwarded, Made};

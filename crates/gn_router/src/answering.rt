@@ -2,14 +2,9 @@
 
 ghost use Rattle.std.specs.Prelude.{◌≡◌, ◌≤◌, ◌∷◌, ◌++◌, [], IfOk, length, reverse};
 ghost use Rattle.gn_rules.specs.Answer as rules;
-ghost use Rattle.gn_router.specs.Planned.{outgoing_sends, plan_reply};
+ghost use Rattle.gn_decide.specs.Planned.{outgoing_sends, plan_reply};
 
-use crate::lookup::Lookup;
-use crate::made::Made;
-use crate::outbox::Outbox;
-use crate::plan::{Outgoing, Plan};
-use crate::planning::plan_of;
-use crate::sending::send_all;
+use gn_decide::{Lookup, Made, Outbox, Outgoing, Plan, plan_of, send_all};
 use gn_rules::{ConnId, Event, Refusal, Reply, Sending, Sends};
 use gn_wire::Kind;
 use std::alloc::{AllocError, Allocator};

@@ -2,13 +2,10 @@
 
 ghost use Rattle.std.specs.Prelude.{◌≡◌, ◌↔◌, IsTrue, Ok, reverse};
 ghost use Rattle.gn_rules.specs.Answer as rules;
-ghost use Rattle.gn_router.specs.Planned.{outgoing_sends, plan_reply};
+ghost use Rattle.gn_decide.specs.Planned.{outgoing_sends, plan_reply};
 
-use crate::lookup::Lookup;
-use crate::plan::{Outgoing, Plan};
-use crate::planning::plan_of;
 use crate::rest::Rest;
-use crate::sending::send_all;
+use gn_decide::{Lookup, Outgoing, Plan, plan_of, send_all};
 use gn_rules::{Reply, Sending, Step, is_same_reply};
 use std::alloc::Allocator;
 

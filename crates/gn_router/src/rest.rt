@@ -2,11 +2,10 @@
 
 ghost use Rattle.std.specs.Prelude.{◌≡◌};
 ghost use Rattle.std.specs.Option.{option_copied};
-ghost use Rattle.gn_router.specs.Made.{made_packet};
+ghost use Rattle.gn_decide.specs.Made.{made_packet};
 ghost use Rattle.gn_router.specs.Rest as rest;
 
-use crate::made::Made;
-use crate::outbox::Outbox;
+use gn_decide::{Made, Outbox};
 use gn_rules::{ConnId, Sending};
 use std::alloc::Allocator;
 use std::convert::Infallible;

@@ -5,9 +5,8 @@ ghost use Rattle.gn_rules.specs.Answer as rules;
 
 use crate::answering::{find, reply_of};
 use crate::comparing;
-use crate::plan::{Found, Places};
-use crate::planning::{plan_checked, plan_of};
 use crate::store::{FreshStore, StepStore, Store};
+use gn_decide::{Found, Places, plan_checked, plan_of};
 use gn_payload::Checked;
 use gn_rules::{
     Config, ConnId, Event, FreshRouter, Historian, Receipt, Refusal, Reply, RouterCore, Stats,

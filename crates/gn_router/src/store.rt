@@ -4,8 +4,7 @@ ghost use Rattle.std.specs.Prelude.{◌≡◌, ◌∷◌, ◌++◌, [], Ok, reve
 ghost use Rattle.gn_rules.specs.Answer as rules;
 ghost use Rattle.gn_rules.specs.Statistics.{stats_of};
 
-use crate::lookup::Lookup;
-use crate::plan::Places;
+use gn_decide::{Lookup, Places};
 use gn_rules::{Config, Event, Reply, Stats, Step};
 use std::alloc::{AllocError, Allocator};
 use std::mem;

@@ -3,7 +3,7 @@
 ghost use Rattle.std.specs.Prelude.{◌≡◌, if◌then◌else◌, reverse};
 ghost use Rattle.gn_rules.specs.Flight.{admission, admission_of};
 ghost use Rattle.gn_rules.specs.History.{admitted_of, is_at};
-ghost use Rattle.gn_router.specs.Seen.{admission_seen};
+ghost use Rattle.gn_decide.specs.Seen.{admission_seen};
 
 use gn_rules::{ConnId, Event, Step, Ticket};
 use gn_wire::Descriptor;

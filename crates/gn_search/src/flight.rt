@@ -4,7 +4,7 @@ ghost use Rattle.std.specs.Prelude.{◌≡◌, ◌≤◌, ◌==◌, false, filte
 ghost use Rattle.std.specs.Option.{option_map_or, option_to_list};
 ghost use Rattle.gn_rules.specs.History.{admitted_of};
 ghost use Rattle.gn_rules.specs.Flight.{flying, flying_from, in_flight, is_routed, tickets};
-ghost use Rattle.gn_router.specs.Seen.{admission_seen};
+ghost use Rattle.gn_decide.specs.Seen.{admission_seen};
 
 use crate::admitted::admission_in;
 use gn_rules::{ConnId, Step, Ticket};

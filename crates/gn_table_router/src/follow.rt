@@ -8,7 +8,7 @@ ghost use Rattle.gn_table_router.specs.Followed as after;
 ghost use Rattle.gn_table_router.specs.Sent.{CanSend, sent};
 
 use crate::tables::Tables;
-use gn_router::Places;
+use gn_decide::Places;
 use gn_rules::{Counter, Event, Reply, Sending, Sends, Ticket};
 use gn_tables::{Neighbours, queue_one, remember};
 use gn_wire::Descriptor;

@@ -4,7 +4,8 @@ ghost use Rattle.std.specs.Prelude.{◌≡◌, ◌∷◌, ◌++◌, [], true, If
 ghost use Rattle.gn_rules.specs.History.{sends_of};
 
 use crate::tables::Tables;
-use gn_router::{FreshStore, Lookup, Places, StepStore, Store};
+use gn_decide::{Lookup, Places};
+use gn_router::{FreshStore, StepStore, Store};
 use gn_rules::{Config, ConnId, Event, Reply, Sends, Stats, Step, Ticket};
 use gn_tables::{Flights, Forgetful, Keeper, Neighbours, SeenTable, ServentTable, Whole};
 use gn_wire::{Descriptor, Guid, Key};

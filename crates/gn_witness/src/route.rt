@@ -7,8 +7,8 @@ ghost use Rattle.gn_rules.specs.Flight.{in_flight};
 ghost use Rattle.gn_witness.specs.Route.{Routes};
 
 use crate::legality::is_next;
+use gn_decide::Lookup;
 use gn_paths::{answers_go_back, life_falls, pushes_go_back, requests_spread};
-use gn_router::Lookup;
 use gn_rules::{Config, Event, Step, Ticket};
 use gn_search::Search;
 use gn_wire::Kind;

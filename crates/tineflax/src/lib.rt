@@ -62,7 +62,8 @@ pub mod laws {
 
 /// The router with tables, with what becomes of its steps; the one that searches its history; and whether a history is legal.
 pub mod router {
-    pub use gn_router::{Places, Router, Store, Unfreed};
+    pub use gn_decide::Places;
+    pub use gn_router::{Router, Store, Unfreed};
     pub use gn_search::PlainRouter;
     pub use gn_table_router::TableRouter;
     pub use gn_tables::{Forgetful, Keeper, Whole};

@@ -1,9 +1,9 @@
 use Rattle.std.proofs.Common.{◌≡◌, reverse}
 use Rattle.std.specs.List.{fold}
 use Rattle.gn_rules.specs.History.{live_connections}
-use Rattle.gn_router.specs.Made.{made_packet}
-use Rattle.gn_router.specs.Others.{to_others}
-use Rattle.gn_router.proofs.sending.fan_out.Given as goal
+use Rattle.gn_decide.specs.Made.{made_packet}
+use Rattle.gn_decide.specs.Others.{to_others}
+use Rattle.gn_decide.proofs.sending.fan_out.Given as goal
 
 abbrev pub invariant-loop-place : goal.invariant-loop-place
 invariant-loop-place g l =

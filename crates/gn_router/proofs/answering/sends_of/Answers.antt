@@ -1,5 +1,5 @@
 use Rattle.std.proofs.Common.{◌∙◌, reverse}
-use Rattle.gn_router.specs.Planned.{outgoing_sends}
+use Rattle.gn_decide.specs.Planned.{outgoing_sends}
 use Rattle.gn_router.proofs.SendLemmas.{all_made}
 use Rattle.gn_router.proofs.answering.sends_of.Goals as goal
 

@@ -1,5 +1,5 @@
 use Rattle.std.proofs.Common.{reverse}
-use Rattle.gn_router.specs.Planned.{outgoing_sends}
+use Rattle.gn_decide.specs.Planned.{outgoing_sends}
 use Rattle.gn_router.proofs.RestLemmas.{all_found}
 use Rattle.gn_router.proofs.comparing.are_outgoing.Goals as goal
 
