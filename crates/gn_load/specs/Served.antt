@@ -6,7 +6,7 @@ use Rattle.gn_rules.specs.declared.config.Config.{Config}
 use Rattle.gn_rules.specs.declared.receipt.Step.{Step}
 use Rattle.gn_rules.specs.Answer.{IsLegal}
 use Rattle.gn_report.specs.declared.report.Report.{Report}
-use Rattle.gn_tcp.specs.Tcp.{TcpReading, TcpWriting, half_read, half_written}
+use Rattle.gn_sockets.specs.TcpHalves.{TcpReading, TcpWriting, half_read, half_written}
 use Rattle.gn_threads.specs.Faults.{IsArrivingFault}
 use Rattle.gn_threads.specs.declared.fault.RunFault.{RunFault}
 use Rattle.gn_threads.specs.declared.fault.RunFault.TheVariants.{HistoryFull, NoMemory}

@@ -10,7 +10,7 @@ ghost use Rattle.gn_threads.specs.declared.fault.RunFault.TheVariants.{BadWorker
 ghost use Rattle.gn_threads.specs.Headline.{AreMadeOf, AreOfOne, Holds};
 ghost use Rattle.gn_service.specs.Links.{origins_of, roles_of};
 ghost use Rattle.gn_service.specs.Ran.{ran_of};
-ghost use Rattle.gn_tcp.specs.Tcp.{half_read, half_written};
+ghost use Rattle.gn_sockets.specs.TcpHalves.{half_read, half_written};
 ghost use Rattle.gn_load.specs.declared.serve_fault.ServeFault.TheVariants.{Run};
 ghost use Rattle.gn_load.specs.Served.{AppendsServed, AppendsServedPart, AppendsSomePart, HasKept, HasServeStopped, IsServeFault};
 

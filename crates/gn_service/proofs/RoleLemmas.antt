@@ -5,11 +5,12 @@ use Rattle.std.specs.List.{ItemBy, slice_get}
 use Rattle.std.proofs.lemmas.Option.{slice_get_past, slice_get_read}
 use Rattle.std.specs.declared.net.socket_addr.SocketAddr.{SocketAddr}
 use Rattle.gn_shake.specs.declared.role.Role.{Role}
-use Rattle.gn_tcp.specs.declared.socket.Socket.{Socket}
+use Rattle.gn_sockets.specs.declared.socket.Socket.{Socket}
 use Rattle.gn_report.specs.declared.report.Report.{Report}
-use Rattle.gn_tcp.specs.Tcp.{TcpLinked, TcpReading, TcpWriting}
+use Rattle.gn_sockets.specs.TcpHalves.{TcpReading, TcpWriting}
+use Rattle.gn_tcp.specs.Tcp.{TcpLinked}
 use Rattle.gn_threads.specs.Headline.{AreOfOne}
-use Rattle.gn_tcp.specs.declared.origin.TcpOrigin.{TcpOrigin}
+use Rattle.gn_sockets.specs.declared.origin.TcpOrigin.{TcpOrigin}
 use Rattle.std.proofs.Math.Seq.{take-append-add}
 use Rattle.std.proofs.lemmas.Simd.{map-map}
 use Rattle.std.proofs.lemmas.List.{append_assoc, length-replicate, replicate_more, set_at, take-replicate}

@@ -5,7 +5,7 @@ use Rattle.std.specs.declared.net.socket_addr.SocketAddr.{SocketAddr}
 use Rattle.gn_rules.specs.Answer.{IsLegal}
 use Rattle.gn_rules.specs.declared.config.Config.{Config}
 use Rattle.gn_report.specs.declared.report.Report.{Report}
-use Rattle.gn_tcp.specs.Tcp.{TcpReading, TcpWriting}
+use Rattle.gn_sockets.specs.TcpHalves.{TcpReading, TcpWriting}
 use Rattle.gn_threads.specs.Faults.{IsArrivingFault}
 use Rattle.gn_threads.specs.declared.fault.RunFault.{RunFault}
 use Rattle.gn_threads.specs.declared.fault.RunFault.TheVariants.{BadWorkers, HistoryFull}

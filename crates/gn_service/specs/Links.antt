@@ -4,7 +4,7 @@ use Rattle.gn_shake.specs.declared.role.Role.{Role}
 use Rattle.gn_shake.specs.declared.role.Role.TheVariants.{Accepting, Calling}
 use Rattle.std.specs.List.{slice_get}
 use Rattle.std.specs.declared.net.socket_addr.SocketAddr.{SocketAddr}
-use Rattle.gn_tcp.specs.declared.origin.TcpOrigin.{TcpOrigin}
+use Rattle.gn_sockets.specs.declared.origin.TcpOrigin.{TcpOrigin}
 
 -- the roles of the links of a run: those that call come first
 abbrev pub roles_of : ℕ → ℕ → List Role

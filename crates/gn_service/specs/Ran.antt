@@ -4,7 +4,7 @@ use Rattle.gn_rules.specs.declared.receipt.Step.{Step}
 use Rattle.gn_report.specs.declared.report.LinkReport.{LinkReport}
 use Rattle.gn_report.specs.declared.report.Report.{Report}
 use Rattle.gn_tcp.specs.Seen.{SocketSeen}
-use Rattle.gn_tcp.specs.Tcp.{TcpReading, TcpWriting}
+use Rattle.gn_sockets.specs.TcpHalves.{TcpReading, TcpWriting}
 
 -- the steps of its history, and its links, each by what its socket gave and took
 pub record Remembered (A : Type 0) : Type 0 where

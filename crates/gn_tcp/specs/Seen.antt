@@ -1,6 +1,6 @@
 -- Links that were seen: what their sockets gave and took.
 use Rattle.std.specs.Prelude.{ℕ, List, [], ◌∷◌, ◌++◌}
-use Rattle.gn_tcp.specs.Tcp.{TcpWriting}
+use Rattle.gn_sockets.specs.TcpHalves.{TcpWriting}
 use Rattle.gn_tcp.specs.declared.seen.Seen.{Seen, Nothing, Then'}
 
 -- what a link's socket gave, and the half that is written, which says what the socket is and what it took

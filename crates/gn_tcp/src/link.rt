@@ -1,28 +1,21 @@
 //! A link over TCP: accepted or called, and split into its halves.
 
-ghost use Rattle.std.specs.Prelude.{◌≡◌, IfOk, IfSome, None, OnOk, Some, true};
+ghost use Rattle.std.specs.Prelude.{◌≡◌, IfOk, None, OnOk, Some, true};
 ghost use Rattle.gn_shake.specs.declared.role.Role.TheVariants.{Accepting, Calling};
 ghost use Rattle.gn_tcp.specs.Tcp.{IsLoopback};
 
-use crate::brake::Brake;
-use crate::call::TcpCall;
-use crate::origin::TcpOrigin;
-use crate::patience::Patience;
-use crate::reader::TcpReader;
-use crate::socket::Socket;
 use crate::stopper::TcpStopper;
 use crate::unmet::Unmet;
-use crate::ways::Ways;
-use crate::writer::TcpWriter;
 use gn_links::{Link, LinkFault};
 use gn_shake::Role;
+use gn_sockets::{Socket, TcpOrigin, TcpReader, TcpWriter, halves};
+use gn_waits::{Brake, TcpCall, Ways};
 use std::alloc::{AllocError, Global};
 use std::io::ErrorKind;
 use std::marker::Model;
 use std::net::{Ipv4Addr, Net, SocketAddr, TcpListener, TcpStream};
-use std::snapshot::Snapshot;
+use std::sync::Wait;
 use std::sync::atomic::AtomicBool;
-use std::sync::{Arc, Wait};
 use std::time::Duration;
 
 /// Listens on this port of 127.0.0.1; on one that the system picks where the port is 0.
@@ -212,14 +205,12 @@ impl<'s> TcpLink<'s> {
     }
 
     /// The link, whose peer is let go at once: as one that never came.
-    pub fn without_peer(self) -> Self
+    pub fn without_peer(mut self) -> Self
         ensures { (result.role ≡ self.entry.role) × (result.origin ≡ self.entry.origin) }
     {
-        TcpLink {
-            socket: Socket::Missing,
-            other: None,
-            ..self
-        }
+        self.socket = Socket::Missing;
+        self.other = None;
+        self
     }
 
     /// The link, whose reads and writes fail where they wait for longer than this, or its greeting comes in pieces and takes more
@@ -269,15 +260,13 @@ impl<'s> TcpLink<'s> {
             origin: _,
             ways,
         } = self;
-        let Socket::Connected(stream) = socket else {
-            call.give_up(rt);
-            return Ok(());
-        };
-        let patience = Patience::new(ways.idle, ways.stop.is_some(), role);
-        let halves = both(stream, other, &ways, &patience);
-        let has_handles = halves.is_some();
-        call.settle(rt, halves);
-        if has_handles { Ok(()) } else { Err(LinkFault) }
+        match socket {
+            Socket::Connected(stream) => call.answer(rt, stream, other, role, ways),
+            Socket::Called(_) | Socket::Missing => {
+                call.give_up(rt);
+                Ok(())
+            }
+        }
     }
 
     /// The link, which has this number in its run.
@@ -286,56 +275,6 @@ impl<'s> TcpLink<'s> {
     {
         self.origin.link = link;
         self
-    }
-}
-
-/// The halves' two handles of a socket, the given one first; none where the system gives no second one, or doesn't take the time
-/// limits.
-fn both(
-    stream: TcpStream,
-    other: Option<TcpStream>,
-    ways: &Ways<'_>,
-    patience: &Patience,
-) -> Option<(TcpStream, TcpStream)>
-    ensures { IfSome result (λ handles. handles.0 ≡ stream) }
-{
-    if stream.set_read_timeout(patience.turn()).is_err()
-        || stream.set_write_timeout(ways.idle).is_err()
-    {
-        return None;
-    }
-    // A packet is small and waits for no other, so it shan't wait for the acknowledgement of the one before it either.
-    // Where the system doesn't take this, the link is slower and else the same.
-    let _ = stream.set_nodelay(true);
-    match other {
-        Some(other) => Some((stream, other)),
-        None => {
-            let other = stream.try_clone().ok()?;
-            Some((stream, other))
-        }
-    }
-}
-
-/// What the two halves of a link have of its peer, the given one first; none where a socket's handles can't be had.
-fn handles(
-    socket: Socket,
-    other: Option<TcpStream>,
-    ways: &Ways<'_>,
-    patience: &Patience,
-) -> Option<(Socket, Socket)>
-    ensures { IfSome result (λ handles. handles.0 ≡ socket) }
-{
-    match socket {
-        Socket::Connected(stream) => {
-            let (stream, other) = both(stream, other, ways, patience)?;
-            Some((Socket::Connected(stream), Socket::Connected(other)))
-        }
-        Socket::Called(call) if ways.can_be_set() => {
-            let other = Arc::try_clone(&call).ok()?;
-            Some((Socket::Called(call), Socket::Called(other)))
-        }
-        Socket::Called(_) => None,
-        Socket::Missing => Some((Socket::Missing, Socket::Missing)),
     }
 }
 
@@ -370,14 +309,6 @@ impl<'s> Link for TcpLink<'s> {
             link: origin.link,
             ..ways
         };
-        let patience = Patience::new(ways.idle, ways.stop.is_some(), role);
-        let one = Snapshot::of(&socket);
-        match handles(socket, other, &ways, &patience) {
-            Some((read, written)) => Ok((
-                TcpReader::new(read, peer, origin, patience, ways),
-                TcpWriter::new(written, one, origin, ways.lingers),
-            )),
-            None => Err(LinkFault),
-        }
+        halves(socket, other, peer, role, origin, ways)
     }
 }

@@ -1,6 +1,6 @@
 //! Links, one after another, as contracts see them.
 
-use crate::writer::TcpWriter;
+use gn_sockets::TcpWriter;
 use gn_trail::Told;
 use std::snapshot::Snapshot;
 

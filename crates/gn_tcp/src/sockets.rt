@@ -2,9 +2,8 @@
 
 ghost use Rattle.std.specs.Prelude.{◌≡◌, ◌++◌, ◌∷◌, []};
 
-use crate::reader::TcpReader;
 use crate::seen::Seen;
-use crate::writer::TcpWriter;
+use gn_sockets::{TcpReader, TcpWriter};
 use std::marker::Model;
 use std::snapshot::Snapshot;
 
@@ -38,7 +37,7 @@ impl Sockets {
         ensures { self.new ≡ self.old ++ record { gave = reader.now.bytes; writing = writer.now } ∷ [] }
     {
         let before = Snapshot::of(&self.seen);
-        let gave = Snapshot::of(&reader.told);
+        let gave = Snapshot::of(reader.told());
         self.seen = Seen::Then(before, gave, Snapshot::of(writer));
     }
 }

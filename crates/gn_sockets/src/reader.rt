@@ -1,26 +1,18 @@
 //! The half of a link over TCP that is read.
 
-ghost use Rattle.std.specs.Prelude.{◌≡◌, ◌≢◌, ◌≤◌, ◌++◌, ◌||◌, [], false, is_err, not, true, length, Err, IfOk};
-ghost use Rattle.std.specs.declared.io.ErrorKind.TheVariants.{Interrupted};
-ghost use Rattle.std.specs.Io.KnownBytes.{ReadConsumes};
+ghost use Rattle.std.specs.Prelude.{◌≡◌, ◌≤◌, ◌++◌, ◌||◌, [], false, is_err, not, true, length, IfOk};
 ghost use Rattle.gn_links.specs.Halves.{counted, gave_bytes, is_end, read_by};
-ghost use Rattle.gn_tcp.specs.Tcp.{half_read};
+ghost use Rattle.gn_sockets.specs.TcpHalves.{half_read};
 
 use crate::origin::TcpOrigin;
-use crate::patience::Patience;
 use crate::socket::Socket;
-use crate::ways::Ways;
 use gn_links::{LinkFault, LinkReader};
-use gn_trail::{Told, read_told};
-use std::io::{ErrorKind, Read};
+use gn_trail::Told;
+use gn_waits::{Patience, drain, read_unstopped};
 use std::marker::Model;
-use std::net::{SocketAddr, TcpStream};
+use std::net::SocketAddr;
 use std::snapshot::Snapshot;
 use std::sync::Wait;
-use std::sync::atomic::{AtomicBool, Ordering};
-
-/// The most bytes that a read gives under the brake: those of the least descriptor, so that it completes one at most.
-const FEW: usize = 23;
 
 /// Reads from a socket. It gives its handle of the socket up at the end of the bytes, at a read that fails, and where it is
 /// finished: once both halves have, the peer is let go.
@@ -32,18 +24,17 @@ pub struct TcpReader<'s> {
     is_missing: bool,
     peer: SocketAddr,
     origin: TcpOrigin,
-    patience: Patience,
-    ways: Ways<'s>,
+    patience: Patience<'s>,
     failures: u64,
     pieces: u64,
     has_ended: bool,
     /// The bytes that its reads gave.
-    pub(crate) told: Told,
+    told: Told,
 }
 
 impl<'s> Model for TcpReader<'s> {
     ghost use Rattle.std.specs.Prelude.{is_some};
-    ghost use Rattle.gn_tcp.specs.Tcp.{TcpReading};
+    ghost use Rattle.gn_sockets.specs.TcpHalves.{TcpReading};
 
     ghost Value = { TcpReading };
 
@@ -64,8 +55,7 @@ impl<'s> TcpReader<'s> {
         socket: Socket,
         peer: SocketAddr,
         origin: TcpOrigin,
-        patience: Patience,
-        ways: Ways<'s>,
+        patience: Patience<'s>,
     ) -> Self
         ensures { result ≡ record {
           origin = origin;
@@ -84,7 +74,6 @@ impl<'s> TcpReader<'s> {
             peer,
             origin,
             patience,
-            ways,
             failures: 0,
             pieces: 0,
             has_ended: false,
@@ -100,6 +89,13 @@ impl<'s> TcpReader<'s> {
     /// Whether the link's peer never came: the run was stopped before. So it is too of one that is still called.
     pub fn is_missing(&self) -> bool {
         self.is_missing
+    }
+
+    /// The bytes that its reads gave.
+    pub fn told(&self) -> &Told
+        ensures { result.now ≡ self.now.bytes }
+    {
+        &self.told
     }
 
     /// Waits until its peer's call is answered, where that goes on.
@@ -121,15 +117,10 @@ impl<'s> TcpReader<'s> {
         ensures rest { self.new ≡ record self.old { bytes = self.new.bytes } }
     {
         match &mut self.socket {
-            Some(Socket::Connected(stream)) => read_unstopped(
-                rt,
-                stream,
-                &mut self.told,
-                &mut self.patience,
-                &self.ways,
-                buffer,
-            ),
-            Some(Socket::Called(_) | Socket::Missing) => Ok(0),
+            Some(Socket::Connected(stream)) => {
+                read_unstopped(rt, stream, &mut self.told, &mut self.patience, buffer)
+            }
+            Some(_) => Ok(0),
             None if self.has_ended => Ok(0),
             None => Err(LinkFault),
         }
@@ -145,7 +136,7 @@ impl<'s> TcpReader<'s> {
           has_ended = self.old.has_ended || is_end answer room;
         } }
     {
-        self.ways.tell_brake(answer.unwrap_or(0));
+        self.patience.ways.tell_brake(answer.unwrap_or(0));
         match answer {
             Ok(n) if n > 0 => {
                 self.pieces = self.pieces.saturating_add(1);
@@ -167,8 +158,17 @@ impl<'s> TcpReader<'s> {
     fn leave(&mut self)
         ensures { self.new ≡ record self.old { is_open = self.new.is_open } }
     {
-        if !(self.ways.lingers && is_set(self.ways.stop)) {
+        if !self.patience.ways.holds_on() {
             self.socket = None;
+        }
+    }
+
+    /// Reads and drops what its peer still sends, where its socket is there.
+    fn drain<R: Wait>(&mut self, rt: &R)
+        ensures { self.new ≡ self.old }
+    {
+        if let Some(Socket::Connected(stream)) = &mut self.socket {
+            drain(rt, stream);
         }
     }
 
@@ -178,125 +178,6 @@ impl<'s> TcpReader<'s> {
     {
         if let Some(Socket::Connected(stream)) = &self.socket {
             self.patience.hear(stream, n);
-        }
-    }
-}
-
-/// Whether this is there and set.
-fn is_set(flag: Option<&AtomicBool>) -> bool {
-    match flag {
-        Some(flag) => flag.load(Ordering::SeqCst),
-        None => false,
-    }
-}
-
-/// How many bytes a read gives at most, of so many that there is room for.
-fn room_of(ways: &Ways<'_>, room: usize) -> usize
-    ensures { result ≤ room }
-{
-    match ways.brake {
-        Some(brake) if room > FEW && brake.is_set() => FEW,
-        _ => room,
-    }
-}
-
-/// Waits for bytes, again where a signal cut the call short, and tells those that came: they are the next ones of the stream.
-fn read_some<T: Read, R: Wait>(
-    rt: &R,
-    stream: &mut T,
-    told: &mut Told,
-    buffer: &mut [u8],
-) -> Result<usize, ErrorKind>
-    ensures within { IfOk result (λ n. n ≤ length buffer.old) }
-    ensures read { ReadConsumes (T.remaining stream.old) (T.remaining stream.new) result buffer.new }
-    ensures again { result ≢ Err Interrupted }
-    ensures told { told.new ≡ told.old ++ read_by result buffer.new }
-{
-    for _ in rt.forever() {
-        match read_told(stream, told, buffer) {
-            Ok(n) => return Ok(n),
-            Err(why) if why.kind() == ErrorKind::Interrupted => {}
-            Err(why) => return Err(why.kind()),
-        }
-    }
-    Err(ErrorKind::Other)
-}
-
-/// The same, of a few bytes at most where the brake is set.
-fn read_room<R: Wait>(
-    rt: &R,
-    stream: &mut TcpStream,
-    told: &mut Told,
-    ways: &Ways<'_>,
-    buffer: &mut [u8],
-) -> Result<usize, ErrorKind>
-    ensures within { IfOk result (λ n. n ≤ length buffer.old) }
-    ensures told { told.new ≡ told.old ++ read_by result buffer.new }
-{
-    // it is said before the brake is looked at: who sets that sees what may come still
-    ways.tell_brake(buffer.len());
-    let room = room_of(ways, buffer.len());
-    ways.tell_brake(room);
-    read_some(rt, stream, told, &mut buffer[..room])
-}
-
-/// Waits for bytes as long as the patience lasts, and tells those that came. It fails too where the stop was set meanwhile.
-fn read_patiently<R: Wait>(
-    rt: &R,
-    stream: &mut TcpStream,
-    told: &mut Told,
-    patience: &mut Patience,
-    ways: &Ways<'_>,
-    buffer: &mut [u8],
-) -> Result<usize, LinkFault>
-    ensures within { IfOk result (λ n. n ≤ length buffer.old) }
-    ensures told { told.new ≡ told.old ++ read_by result buffer.new }
-{
-    for _ in rt.forever() {
-        match read_room(rt, stream, told, ways, buffer) {
-            Ok(n) => return Ok(n),
-            Err(ErrorKind::WouldBlock) if !is_set(ways.stop) && patience.goes_on(stream) => {}
-            Err(_) => return Err(LinkFault),
-        }
-    }
-    Err(LinkFault)
-}
-
-/// The same. It gives no bytes once the stop is set.
-fn read_unstopped<R: Wait>(
-    rt: &R,
-    stream: &mut TcpStream,
-    told: &mut Told,
-    patience: &mut Patience,
-    ways: &Ways<'_>,
-    buffer: &mut [u8],
-) -> Result<usize, LinkFault>
-    ensures within { IfOk result (λ n. n ≤ length buffer.old) }
-    ensures told { told.new ≡ told.old ++ read_by result buffer.new }
-{
-    if is_set(ways.stop) {
-        return Ok(0);
-    }
-    match read_patiently(rt, stream, told, patience, ways, buffer) {
-        Err(_) if is_set(ways.stop) => Ok(0),
-        answer => answer,
-    }
-}
-
-/// Reads what a peer still sends, and drops it, until the peer ends or somebody shuts the socket. The peer can't be stuck in its
-/// sending then, and no byte is left unread, for which the system would throw away what the peer hasn't read.
-fn drain<R: Wait>(rt: &R, stream: &mut TcpStream) {
-    let mut dropped = [0u8; 4096];
-    // whoever shuts the socket ends the wait: no look is needed
-    let _ = stream.set_read_timeout(None);
-    for _ in rt.forever() {
-        match stream.read(&mut dropped) {
-            Ok(0) => return,
-            Ok(_) => {}
-            Err(why) => match why.kind() {
-                ErrorKind::Interrupted | ErrorKind::WouldBlock => {}
-                _ => return,
-            },
         }
     }
 }
@@ -325,10 +206,8 @@ impl<'s> LinkReader for TcpReader<'s> {
     /// Where the link lingers, what the peer still sends is read and dropped first, until it ends or somebody shuts the socket.
     /// What it sends later, once the writer is finished too, is refused by the system.
     fn finish<R: Wait>(&mut self, rt: &R) {
-        if self.ways.lingers {
-            if let Some(Socket::Connected(stream)) = &mut self.socket {
-                drain(rt, stream);
-            }
+        if self.patience.ways.lingers {
+            self.drain(rt);
         }
         self.socket = None;
     }

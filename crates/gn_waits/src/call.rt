@@ -1,5 +1,10 @@
 //! A call that goes on beside its link.
 
+use crate::handles::second_handle;
+use crate::patience::Patience;
+use crate::ways::Ways;
+use gn_links::LinkFault;
+use gn_shake::Role;
 use std::alloc::{AllocError, Global};
 use std::net::TcpStream;
 use std::sync::{Arc, Condvar, Mutex, MutexGuard, Wait};
@@ -45,12 +50,12 @@ impl Call {
     }
 
     /// Waits for the answer. The handle of the half that is read; none where the peer never came.
-    pub(crate) fn read_half<R: Wait>(&self, rt: &R) -> Option<TcpStream> {
+    pub fn read_half<R: Wait>(&self, rt: &R) -> Option<TcpStream> {
         self.wait(rt).read.take()
     }
 
     /// Waits for the answer. The handle of the half that is written; none where the peer never came.
-    pub(crate) fn written_half<R: Wait>(&self, rt: &R) -> Option<TcpStream> {
+    pub fn written_half<R: Wait>(&self, rt: &R) -> Option<TcpStream> {
         self.wait(rt).written.take()
     }
 }
@@ -63,26 +68,48 @@ pub struct TcpCall {
 
 impl TcpCall {
     /// A call that goes on, and what its link has of it.
-    pub(crate) fn new(alloc: Global) -> Result<(Self, Arc<Call, Global>), AllocError> {
+    pub fn new(alloc: Global) -> Result<(Self, Arc<Call, Global>), AllocError> {
         let call = Arc::new(alloc, Call::new())?;
         let other = Arc::try_clone(&call)?;
         Ok((TcpCall { call }, other))
     }
 
-    /// The call was answered, and these are the halves' handles; or the peer never comes.
-    pub(crate) fn settle<R: Wait>(self, rt: &R, halves: Option<(TcpStream, TcpStream)>) {
-        let mut answer = self.call.answer.lock(rt);
-        answer.has_come = true;
-        if let Some((read, written)) = halves {
-            answer.read = Some(read);
-            answer.written = Some(written);
+    /// The call was answered over this socket, and maybe there is a second handle of it: the halves of its link, of this role, go on
+    /// over it, in these ways. Where its handles can't be had they learn that the peer never comes, and it is a failure.
+    pub fn answer<R: Wait>(
+        self,
+        rt: &R,
+        stream: TcpStream,
+        other: Option<TcpStream>,
+        role: Role,
+        ways: Ways<'_>,
+    ) -> Result<(), LinkFault> {
+        match second_handle(&stream, other, &Patience::new(ways, role)) {
+            Some(other) => {
+                self.settle(rt, Some(stream), Some(other));
+                Ok(())
+            }
+            None => {
+                self.give_up(rt);
+                Err(LinkFault)
+            }
         }
-        drop(answer);
-        self.call.answered.notify_all();
     }
 
     /// The peer never comes.
     pub fn give_up<R: Wait>(self, rt: &R) {
-        self.settle(rt, None);
+        self.settle(rt, None, None);
+    }
+
+    /// The call was answered, and these are the halves' handles; none where the peer never comes.
+    fn settle<R: Wait>(self, rt: &R, read: Option<TcpStream>, written: Option<TcpStream>) {
+        let mut answer = self.call.answer.lock(rt);
+        *answer = Answer {
+            has_come: true,
+            read,
+            written,
+        };
+        drop(answer);
+        self.call.answered.notify_all();
     }
 }

@@ -1,7 +1,7 @@
 use Rattle.std.proofs.Common.{◌∙◌, ◌++◌, ap, append-nil, refl, sym, take}
 use Rattle.std.proofs.KnownBytes.{Keeps-refl, Keeps-trans}
-use Rattle.gn_tcp.proofs.StreamLemmas.{kept_read}
-use Rattle.gn_tcp.proofs.reader.read_some.Goals as goal
+use Rattle.gn_waits.proofs.StreamLemmas.{kept_read}
+use Rattle.gn_waits.proofs.reads.read_some.Goals as goal
 
 pub loop-init : goal.loop-init
 loop-init g c = record { kept = Keeps-refl (g.T.Read.remaining c.args.stream.now); told = refl }
@@ -10,7 +10,7 @@ pub returns-in-Ok-clause-read : goal.returns-in-Ok-clause-read
 returns-in-Ok-clause-read g c = (kept_read _ (g.T.Read.remaining c.loop.stream) _ _ c.loop.invariant.kept c.in-Ok.ensures.bytes.0, c.in-Ok.ensures.bytes.1)
 
 pub returns-in-Ok-clause-told : goal.returns-in-Ok-clause-told
-returns-in-Ok-clause-told g c = c.in-Ok.ensures.told ∙ ap (λ bytes. bytes ++ take c.in-Ok.n c.read_told.new.buffer) c.loop.invariant.told
+returns-in-Ok-clause-told g c = c.in-Ok.ensures.told ∙ ap (λ bytes. bytes ++ take c.in-Ok.n c.read_once.new.buffer) c.loop.invariant.told
 
 pub loop-preserved : goal.loop-preserved
 loop-preserved g c = record {

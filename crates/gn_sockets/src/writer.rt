@@ -1,17 +1,16 @@
 //! The half of a link over TCP that is written.
 
-ghost use Rattle.std.specs.Prelude.{◌≡◌, ◌≤◌, ◌++◌, [], false, length, IfOk};
-ghost use Rattle.std.specs.Io.KnownBytes.{WriteAppends};
-ghost use Rattle.gn_links.specs.Halves.{written_by};
-ghost use Rattle.gn_tcp.specs.Tcp.{half_written};
+ghost use Rattle.std.specs.Prelude.{◌≡◌, ◌≤◌, ◌++◌, ◌||◌, [], false, is_err, length, IfOk};
+ghost use Rattle.gn_links.specs.Halves.{counted, is_stall, written_by};
+ghost use Rattle.gn_sockets.specs.TcpHalves.{half_written};
 
 use crate::origin::TcpOrigin;
 use crate::socket::Socket;
 use gn_links::{LinkFault, LinkWriter};
-use gn_trail::{Told, write_told};
-use std::io::{ErrorKind, Write};
+use gn_trail::Told;
+use gn_waits::write_some;
 use std::marker::Model;
-use std::net::{Shutdown, TcpStream};
+use std::net::Shutdown;
 use std::snapshot::Snapshot;
 use std::sync::Wait;
 
@@ -34,7 +33,7 @@ pub struct TcpWriter {
 
 impl Model for TcpWriter {
     ghost use Rattle.std.specs.Prelude.{is_none};
-    ghost use Rattle.gn_tcp.specs.Tcp.{TcpWriting};
+    ghost use Rattle.gn_sockets.specs.TcpHalves.{TcpWriting};
 
     ghost Value = { TcpWriting };
 
@@ -87,28 +86,54 @@ impl TcpWriter {
         };
         self.socket = Some(Socket::of(met));
     }
-}
 
-/// Waits until the stream takes bytes, again where a signal cut the call short, and tells those that it took: the first ones of
-/// the piece.
-fn write_some<T: Write, R: Wait>(
-    rt: &R,
-    stream: &mut T,
-    told: &mut Told,
-    piece: &[u8],
-) -> Result<usize, LinkFault>
-    ensures within { IfOk result (λ n. n ≤ length piece.now) }
-    ensures written { WriteAppends (T.contents stream.old) (T.contents stream.new) result piece.now }
-    ensures told { told.new ≡ told.old ++ written_by result piece.now }
-{
-    for _ in rt.forever() {
-        match write_told(stream, told, piece) {
-            Ok(n) => return Ok(n),
-            Err(why) if why.kind() == ErrorKind::Interrupted => {}
-            Err(_) => return Err(LinkFault),
+    /// Writes where its socket is there, and tells the bytes that this took.
+    fn take<R: Wait>(&mut self, rt: &R, piece: &[u8]) -> Result<usize, LinkFault>
+        ensures within { IfOk result (λ n. n ≤ length piece.now) }
+        ensures told { self.new.bytes ≡ self.old.bytes ++ written_by result piece.now }
+        ensures rest { self.new ≡ record self.old { bytes = self.new.bytes } }
+    {
+        match &mut self.socket {
+            Some(Socket::Connected(stream)) => write_some(rt, stream, &mut self.told, piece),
+            _ => Err(LinkFault),
         }
     }
-    Err(LinkFault)
+
+    /// Counts what a write of so many bytes answered.
+    fn count(&mut self, answer: Result<usize, LinkFault>, bytes: usize)
+        ensures { self.new ≡ record self.old {
+          failures = counted (is_err answer) self.old.failures;
+          is_stuck = self.old.is_stuck || is_stall answer bytes;
+        } }
+    {
+        match answer {
+            Ok(n) => {
+                self.has_written = true;
+                if n == 0 && bytes > 0 {
+                    self.is_stuck = true;
+                }
+            }
+            Err(_) => self.failures = self.failures.saturating_add(1),
+        }
+    }
+
+    /// How the socket is shut at the end.
+    fn ending(&self) -> Shutdown {
+        let is_owed = self.has_written && self.failures == 0 && !self.is_stuck;
+        if self.lingers && is_owed {
+            Shutdown::Write
+        } else {
+            Shutdown::Both
+        }
+    }
+
+    /// Shuts the socket, where it is there.
+    fn shut(&self) {
+        if let Some(Socket::Connected(stream)) = &self.socket {
+            // it fails where the peer is gone, who needs no word then
+            let _ = stream.shutdown(self.ending());
+        }
+    }
 }
 
 impl LinkWriter for TcpWriter {
@@ -121,19 +146,8 @@ impl LinkWriter for TcpWriter {
     /// Fails too where it waits for longer than the link's time limit, where the peer never came, and where it was finished.
     fn write<R: Wait>(&mut self, rt: &R, piece: &[u8]) -> Result<usize, LinkFault> {
         self.meet(rt);
-        let answer = match &mut self.socket {
-            Some(Socket::Connected(stream)) => write_some(rt, stream, &mut self.told, piece),
-            Some(Socket::Called(_) | Socket::Missing) | None => Err(LinkFault),
-        };
-        match answer {
-            Ok(n) => {
-                self.has_written = true;
-                if n == 0 && !piece.is_empty() {
-                    self.is_stuck = true;
-                }
-            }
-            Err(_) => self.failures = self.failures.saturating_add(1),
-        }
+        let answer = self.take(rt, piece);
+        self.count(answer, piece.len());
         answer
     }
 
@@ -141,16 +155,7 @@ impl LinkWriter for TcpWriter {
     /// waited for, so that the system doesn't throw away what it hasn't read; else that is refused from now on, and the reader's
     /// wait for it ends.
     fn finish<R: Wait>(&mut self, _rt: &R) {
-        if let Some(Socket::Connected(stream)) = &self.socket {
-            let is_owed = self.has_written && self.failures == 0 && !self.is_stuck;
-            let how = if self.lingers && is_owed {
-                Shutdown::Write
-            } else {
-                Shutdown::Both
-            };
-            // it fails where the peer is gone, who needs no word then
-            let _ = stream.shutdown(how);
-        }
+        self.shut();
         self.socket = None;
     }
 }

@@ -1,6 +1,6 @@
 //! What a link has of its peer.
 
-use crate::call::Call;
+use gn_waits::Call;
 use std::alloc::Global;
 use std::net::TcpStream;
 use std::sync::Arc;

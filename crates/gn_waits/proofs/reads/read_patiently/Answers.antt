@@ -1,5 +1,5 @@
 use Rattle.std.proofs.Common.{◌∙◌, ◌++◌, ap, append-nil, refl, sym, take}
-use Rattle.gn_tcp.proofs.reader.read_patiently.Goals as goal
+use Rattle.gn_waits.proofs.reads.read_patiently.Goals as goal
 
 pub loop-init : goal.loop-init
 loop-init g c = record { told = refl }

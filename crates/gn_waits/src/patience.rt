@@ -3,7 +3,9 @@
 ghost use Rattle.std.specs.Prelude.{◌≡◌, ◌-◌, length};
 ghost use Rattle.gn_shake.specs.Greeting.{greeting_of};
 
+use crate::ways::Ways;
 use gn_shake::Role;
+use std::io::ErrorKind;
 use std::net::TcpStream;
 use std::time::Duration;
 
@@ -17,24 +19,22 @@ const LOOK: u64 = 200;
 /// so that this has come within little more than twice the limit; from then on each is at most the limit. Where the reader may be
 /// stopped, a wait goes on in looks.
 #[derive(Clone, Copy)]
-pub(crate) struct Patience {
-    /// The longest wait; `None`: there is no limit.
-    limit: Option<Duration>,
+pub struct Patience<'s> {
+    /// How it reads. The longest wait is the limit of these.
+    pub ways: Ways<'s>,
     /// How long a wait may be by now.
     wait: Option<Duration>,
     /// How much of this wait is left.
     left: Option<Duration>,
     /// How long the socket waits at a time.
     turn: Option<Duration>,
-    /// Whether a wait goes on in looks.
-    looks: bool,
     /// How many bytes of the greeting are missing.
     missing: usize,
 }
 
-impl Patience {
-    /// That of a reader whose first wait is at most the limit, and which may be stopped or not.
-    pub(crate) fn new(limit: Option<Duration>, looks: bool, role: Role) -> Self
+impl<'s> Patience<'s> {
+    /// That of a reader of a link of this role, which reads in these ways.
+    pub fn new(ways: Ways<'s>, role: Role) -> Self
         ensures missing { result.missing ≡ length (greeting_of role) }
     {
         let missing = match role {
@@ -43,11 +43,10 @@ impl Patience {
             Role::Plain => 0,
         };
         Patience {
-            limit,
-            wait: limit,
-            left: limit,
-            turn: turn_of(limit, looks),
-            looks,
+            ways,
+            wait: ways.idle,
+            left: ways.idle,
+            turn: turn_of(ways.idle, ways.stop.is_some()),
             missing,
         }
     }
@@ -58,22 +57,27 @@ impl Patience {
     }
 
     /// So many bytes have come over this socket.
-    pub(crate) fn hear(&mut self, stream: &TcpStream, n: usize)
+    pub fn hear(&mut self, stream: &TcpStream, n: usize)
         ensures missing { self.new.missing ≡ self.old.missing - n }
     {
         if self.missing > 0 {
             self.missing = self.missing.saturating_sub(n);
             self.wait = match self.wait {
                 Some(wait) if self.missing > 0 => Some(half(wait)),
-                _ => self.limit,
+                _ => self.ways.idle,
             };
         }
         self.left = self.wait;
         self.set_turn(stream);
     }
 
+    /// Whether a read that failed so is made again: its turn is over, and neither the patience nor the run is.
+    pub(crate) fn goes_on(&mut self, stream: &TcpStream, why: ErrorKind) -> bool {
+        why == ErrorKind::WouldBlock && !self.ways.is_stopped() && self.waits_on(stream)
+    }
+
     /// The socket has waited for its turn. Whether it may go on to wait.
-    pub(crate) fn goes_on(&mut self, stream: &TcpStream) -> bool {
+    fn waits_on(&mut self, stream: &TcpStream) -> bool {
         let Some(turn) = self.turn else {
             return false;
         };
@@ -92,7 +96,7 @@ impl Patience {
     fn set_turn(&mut self, stream: &TcpStream)
         ensures { self.new.missing ≡ self.old.missing }
     {
-        let turn = turn_of(self.left, self.looks);
+        let turn = turn_of(self.left, self.ways.stop.is_some());
         // where the system doesn't take it, the turn stays as it was
         if turn != self.turn && stream.set_read_timeout(turn).is_ok() {
             self.turn = turn;

@@ -1,7 +1,7 @@
 use Rattle.std.proofs.Common.{◌∙◌, ◌++◌, ap, append-nil, refl, sym, take}
 use Rattle.std.proofs.KnownBytes.{Keeps-refl, Keeps-trans}
-use Rattle.gn_tcp.proofs.StreamLemmas.{kept_written}
-use Rattle.gn_tcp.proofs.writer.write_some.Goals as goal
+use Rattle.gn_waits.proofs.StreamLemmas.{kept_written}
+use Rattle.gn_waits.proofs.writes.write_some.Goals as goal
 
 pub loop-init : goal.loop-init
 loop-init g c = record { kept = Keeps-refl (g.T.Write.contents c.args.stream.now); told = refl }
@@ -14,15 +14,15 @@ returns-in-Ok-clause-told g c = c.in-Ok.ensures.told ∙ ap (λ bytes. bytes ++ 
 
 pub loop-preserved : goal.loop-preserved
 loop-preserved g c = record {
-  kept = Keeps-trans _ (g.T.Write.contents c.loop.stream) _ c.loop.invariant.kept c.in-Err.ensures.bytes;
-  told = c.in-Err.ensures.told ∙ c.loop.invariant.told;
+  kept = Keeps-trans _ (g.T.Write.contents c.loop.stream) _ c.loop.invariant.kept c.in-Err-Interrupted.ensures.bytes;
+  told = c.in-Err-Interrupted.ensures.told ∙ c.loop.invariant.told;
 }
 
-pub returns-in-Err-2-clause-written : goal.returns-in-Err-2-clause-written
-returns-in-Err-2-clause-written g c = Keeps-trans _ (g.T.Write.contents c.loop.stream) _ c.loop.invariant.kept c.in-Err-2.ensures.bytes
+pub returns-in-Err-clause-written : goal.returns-in-Err-clause-written
+returns-in-Err-clause-written g c = Keeps-trans _ (g.T.Write.contents c.loop.stream) _ c.loop.invariant.kept c.in-Err.ensures.bytes
 
-pub returns-in-Err-2-clause-told : goal.returns-in-Err-2-clause-told
-returns-in-Err-2-clause-told g c = c.in-Err-2.ensures.told ∙ c.loop.invariant.told ∙ sym (append-nil c.args.told.now)
+pub returns-in-Err-clause-told : goal.returns-in-Err-clause-told
+returns-in-Err-clause-told g c = c.in-Err.ensures.told ∙ c.loop.invariant.told ∙ sym (append-nil c.args.told.now)
 
 pub returns-clause-written : goal.returns-clause-written
 returns-clause-written g c = c.loop.invariant.kept
