@@ -2,18 +2,20 @@
 
 use crate::left::a_report;
 use crate::serving::loopback::peers::{hears, sent};
-use crate::serving::loopback::{DRAINED, have_ended, serve};
+use crate::serving::loopback::{DRAINED, TcpReport, have_ended, serve};
 use crate::serving::wanted::a_listener;
 use gn_fixtures::{OWN_PONG, PING};
 use gn_service::Serving;
 use gn_threads::RunFault;
 use std::alloc::Global;
 use std::fs::File;
-use std::net::{Shutdown, TcpStream};
+use std::net::{Net, Shutdown, TcpListener, TcpStream};
 use std::rt::Files;
+use std::sync::Wait;
 use std::test::Fail;
+use std::thread;
+use std::thread::Threads;
 use std::time::{Clock, Duration};
-use std::{io, thread};
 
 /// More handles than a process may have.
 const MOST: u32 = 4_000_000;
@@ -32,23 +34,22 @@ fn take_all<R: Files<File = File>>(rt: &R, alloc: Global) -> Result<Vec<File>, F
 }
 
 /// Whether nothing comes for a fifth of a second.
-fn hears_nothing(client: &TcpStream) -> io::Result<bool> {
-    client.set_read_timeout(Some(Duration::from_millis(200)))?;
-    let is_silent = client.peek(&mut [0u8; 1]).is_err();
-    client.set_read_timeout(Some(Duration::from_secs(20)))?;
-    Ok(is_silent)
+fn hears_nothing(client: &TcpStream) -> bool {
+    client
+        .set_read_timeout(Some(Duration::from_millis(200)))
+        .is_ok()
+        && client.peek(&mut [0u8; 1]).is_err()
+        && client
+            .set_read_timeout(Some(Duration::from_secs(20)))
+            .is_ok()
 }
 
 /// Whether a client isn't served before these handles are given back, and then is.
-fn is_served_late<N: Clock>(
-    clock: &N,
-    client: &mut TcpStream,
-    held: Vec<File>,
-) -> io::Result<bool> {
+fn is_served_late<N: Clock>(clock: &N, client: &mut TcpStream, held: Vec<File>) -> bool {
     thread::sleep(clock, Duration::from_millis(200));
     let waits = hears_nothing(client);
     drop(held);
-    Ok(waits? & hears(client, gn_shake::consent())? & hears(client, OWN_PONG)?)
+    waits && hears(client, gn_shake::consent()) && hears(client, OWN_PONG)
 }
 
 /// A run that can't be called away from its listener doesn't begin, and says so.
@@ -63,21 +64,40 @@ fn want_of_handles_is_no_want_of_memory(rt: HostRuntime) -> Result<(), Fail> {
     Ok(())
 }
 
+/// Whether such a client is served so, and what the run answers.
+fn beside_client<
+    R: Threads
+        + Wait
+        + Net<Listener = TcpListener, Stream = TcpStream>
+        + Sync
+        + Clock
+        + AllocGlobal,
+>(
+    rt: &R,
+    alloc: Global,
+    listener: &TcpListener,
+    client: &mut TcpStream,
+    held: Vec<File>,
+) -> (bool, Result<TcpReport<'static>, RunFault>) {
+    thread::join(
+        rt,
+        move || is_served_late(rt, client, held),
+        move || serve(rt, alloc, listener, 100, 1, &[], &Serving::UNLIMITED),
+    )
+}
+
 /// A caller for which there is no handle waits until there is one, and ends no run.
 #[test]
 fn a_caller_waits_for_a_handle(rt: HostRuntime) -> Result<(), Fail> {
-    let alloc = rt.alloc();
     let listener = a_listener(&rt)?;
     let mut client = sent(&rt, listener.local_addr()?, PING)?;
     client.shutdown(Shutdown::Write)?;
-    let mut held = take_all(&rt, alloc)?;
+    let mut held = take_all(&rt, rt.alloc())?;
     // one is for the run's own
     let _ = held.pop();
-    let (is_good, served) = thread::join(
-        &rt,
-        || matches!(is_served_late(&rt, &mut client, held), Ok(true)),
-        || serve(&rt, alloc, &listener, 100, 1, &[], &Serving::UNLIMITED),
-    );
+    let (is_good, served) = beside_client(&rt, rt.alloc(), &listener, &mut client, held);
+    drop(client);
+    drop(listener);
     let report = a_report(served)?;
     let has_ended = have_ended(&report, 0, 1, DRAINED);
     drop(report);

@@ -5,34 +5,51 @@ use crate::serving::loopback::peers::{Peer, hears, sent};
 use crate::serving::loopback::{DRAINED, have_ended, report_of, serve_written};
 use crate::serving::wanted::a_listener;
 use gn_bodies::{ReaderEnd, WriterEnd};
-use gn_fixtures::{PING, usual};
-use gn_io::WriterSink;
+use gn_fixtures::PING;
 use gn_links::NoGate;
 use gn_load::ServeFault;
 use gn_service::{Serving, Stop};
 use gn_threads::RunFault;
+use std::alloc::Global;
 use std::io::{self, Read};
+use std::net::{Net, TcpListener, TcpStream};
+use std::process::Abort;
+use std::sync::Wait;
 use std::test::Fail;
-use std::time::Duration;
+use std::thread::Threads;
+use std::time::{Clock, Duration};
+
+/// Whether of four callers of a run one comes, and is served, where this stops the run.
+fn is_stopped<
+    R: Threads
+        + Wait
+        + Net<Listener = TcpListener, Stream = TcpStream>
+        + Sync
+        + Abort
+        + Clock
+        + AllocGlobal,
+>(rt: &R, alloc: Global, stop: &Stop, peer: Peer) -> Result<bool, Fail> {
+    let missing = (ReaderEnd::GreetingCut, WriterEnd::NeverOpened);
+    let serving = Serving {
+        stop: Some(stop),
+        ..Serving::UNLIMITED
+    };
+    let report = report_of(rt, alloc, peer, 100, 4, &serving)?;
+    let is_right = report.history.len() == 5
+        && report.stats.closed == 1
+        && have_ended(&report, 0, 1, DRAINED)
+        && have_ended(&report, 1, 4, missing);
+    drop(report);
+    Ok(is_right)
+}
 
 /// Of four callers of a run one comes, and doesn't end: a time stops the run, or the caller.
 #[test]
 fn a_run_is_stopped(rt: HostRuntime) -> Result<(), Fail> {
-    let missing = (ReaderEnd::GreetingCut, WriterEnd::NeverOpened);
-    for (limit, peer) in [
-        (Some(Duration::from_secs(3)), Peer::Stays),
-        (None, Peer::Stops),
-    ] {
-        let stop = Stop::new(limit, false);
-        let serving = Serving {
-            stop: Some(&stop),
-            ..Serving::UNLIMITED
-        };
-        let report = report_of(&rt, rt.alloc(), peer, 100, 4, &serving)?;
-        assert_eq!(rt; (report.history.len(), report.stats.closed), (5, 1));
-        assert!(rt; have_ended(&report, 0, 1, DRAINED) && have_ended(&report, 1, 4, missing));
-        drop(report);
-    }
+    let in_time = Stop::new(Some(Duration::from_secs(3)), false);
+    assert!(rt; is_stopped(&rt, rt.alloc(), &in_time, Peer::Stays)?);
+    let by_caller = Stop::new(None, false);
+    assert!(rt; is_stopped(&rt, rt.alloc(), &by_caller, Peer::Stops)?);
     Ok(())
 }
 
@@ -75,27 +92,31 @@ fn an_end_of_input_is_a_stop(rt: HostRuntime) -> Result<(), Fail> {
     Ok(())
 }
 
-/// The history of a run that stops at its third step, whose only client sends a Ping and stays.
-#[test]
-fn a_history_is_kept(rt: HostRuntime) -> Result<(), Fail> {
-    let alloc = rt.alloc();
-    let listener = a_listener(&rt)?;
-    let mut client = sent(&rt, listener.local_addr()?, PING)?;
+/// Whether the history of a run that stops at its third step is written, whose only client sends a Ping and stays.
+fn is_kept<
+    R: Threads
+        + Wait
+        + Net<Listener = TcpListener, Stream = TcpStream>
+        + Sync
+        + Clock
+        + AllocGlobal,
+>(rt: &R, alloc: Global, listener: &TcpListener) -> Result<bool, Fail> {
     let serving = Serving {
         is_kept: true,
         ..Serving::UNLIMITED
     };
-    let config = usual(3)?;
-    let mut sink = WriterSink::new(Vec::new(alloc));
-    let served = serve_written(
-        &rt, alloc, &listener, &config, 1, &serving, &NoGate, &mut sink,
-    );
-    assert_eq!(rt; served.err(), Some(ServeFault::Run(RunFault::HistoryFull)));
-    let written = sink.into_inner();
+    let (served, written) = serve_written(rt, alloc, listener, 3, 1, &serving, &NoGate);
     let is_legal = is_legal(alloc, written.as_slice(), 3);
     drop(written);
-    assert!(rt; is_legal?);
-    assert!(rt; hears(&mut client, gn_shake::consent())?);
+    Ok(is_legal? && served == Err(ServeFault::Run(RunFault::HistoryFull)))
+}
+
+#[test]
+fn a_history_is_kept(rt: HostRuntime) -> Result<(), Fail> {
+    let listener = a_listener(&rt)?;
+    let mut client = sent(&rt, listener.local_addr()?, PING)?;
+    assert!(rt; is_kept(&rt, rt.alloc(), &listener)?);
+    assert!(rt; hears(&mut client, gn_shake::consent()));
     Ok(())
 }
 

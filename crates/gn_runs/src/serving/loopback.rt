@@ -7,7 +7,7 @@ use crate::serving::in_time::watch;
 use crate::serving::wanted::a_listener;
 use gn_bodies::{ReaderEnd, WriterEnd};
 use gn_fixtures::usual;
-use gn_io::Sink;
+use gn_io::{Sink, WriterSink};
 use gn_links::{NoGate, Watch};
 use gn_load::{ServeFault, serve_history};
 use gn_report::Report;
@@ -63,9 +63,38 @@ pub(crate) fn serve<
     )
 }
 
-/// A serve of so many callers at the table router, of which the history is written.
+/// What a serve of at most so many steps and so many callers at the table router answers, within these limits, and the history
+/// that it writes.
 pub(crate) fn serve_written<
-    's,
+    A: Allocator + Copy + Send + Sync,
+    R: Threads
+        + Wait
+        + Net<Listener = TcpListener, Stream = TcpStream>
+        + Clock
+        + AllocGlobal
+        + Sync,
+    G: Watch + Sync,
+>(
+    rt: &R,
+    alloc: A,
+    listener: &TcpListener,
+    steps: u32,
+    accept: u32,
+    serving: &Serving<'_>,
+    watch: &G,
+) -> (Result<(), ServeFault>, Vec<u8, A>) {
+    let mut sink = WriterSink::new(Vec::new(alloc));
+    let served = match usual(steps) {
+        Ok(config) => serve_to(
+            rt, alloc, listener, &config, accept, serving, watch, &mut sink,
+        ),
+        Err(_) => Err(ServeFault::Write),
+    };
+    (served, sink.into_inner())
+}
+
+/// What such a serve answers, which writes its history there.
+fn serve_to<
     A: Allocator + Copy + Send + Sync,
     R: Threads
         + Wait
@@ -81,22 +110,30 @@ pub(crate) fn serve_written<
     listener: &TcpListener,
     config: &Config,
     accept: u32,
-    serving: &Serving<'s>,
+    serving: &Serving<'_>,
     watch: &G,
     sink: &mut W,
-) -> Result<Report<TcpReader<'s>, TcpWriter, A>, ServeFault> {
-    serve_history::<TableRouter<A>, A, R, G, W>(
+) -> Result<(), ServeFault> {
+    let accept = accept.min(128);
+    let served = serve_history::<TableRouter<A>, A, R, G, W>(
         rt,
         alloc,
         listener,
         config,
-        accept.min(128),
+        accept,
         &[],
         serving,
         1,
         watch,
         sink,
-    )
+    );
+    match served {
+        Ok(report) => {
+            drop(report);
+            Ok(())
+        }
+        Err(fault) => Err(fault),
+    }
 }
 
 /// Two mistakes after which a client waits for ever, for its consent or for its Pong.
@@ -149,7 +186,7 @@ fn beside<
             if peer.is_brief() {
                 watch(rt, is_over, UNSERVED);
             }
-            matches!(played, Ok(true))
+            played
         },
         move || {
             let served = serve(rt, alloc, listener, steps, accept, called, serving);
@@ -160,6 +197,38 @@ fn beside<
 }
 
 /// The report of such a run, whose peers have heard what they had to.
+fn report_at<
+    's,
+    R: Threads
+        + Wait
+        + Net<Listener = TcpListener, Stream = TcpStream>
+        + Sync
+        + Abort
+        + Clock
+        + AllocGlobal,
+>(
+    rt: &R,
+    alloc: Global,
+    listener: &TcpListener,
+    theirs: &TcpListener,
+    peer: Peer,
+    steps: u32,
+    accept: u32,
+    called: &[SocketAddr],
+    serving: &Serving<'s>,
+) -> Result<TcpReport<'s>, Fail> {
+    let at = listener.local_addr()?;
+    let (is_good, served) = beside(
+        rt, alloc, listener, at, theirs, peer, steps, accept, called, serving,
+    );
+    if !is_good {
+        drop(served);
+        return Err("what a peer has to hear".into());
+    }
+    a_report(served)
+}
+
+/// The same of a run that calls its peer, or is called by it.
 pub(crate) fn report_of<
     's,
     R: Threads
@@ -179,19 +248,57 @@ pub(crate) fn report_of<
 ) -> Result<TcpReport<'s>, Fail> {
     let listener = a_listener(rt)?;
     let theirs = a_listener(rt)?;
-    let at = listener.local_addr()?;
     let there = [called_at(peer, theirs.local_addr()?)];
     let called = called_of(&there, peer);
-    let (is_good, served) = beside(
-        rt, alloc, &listener, at, &theirs, peer, steps, accept, called, serving,
-    );
+    report_at(
+        rt, alloc, &listener, &theirs, peer, steps, accept, called, serving,
+    )
+}
+
+/// An address where nobody listens.
+pub(crate) fn nobody<N: Net<Listener = TcpListener, Stream = TcpStream>>(
+    net: &N,
+) -> Result<SocketAddr, Fail> {
+    let listener = a_listener(net)?;
+    let at = listener.local_addr()?;
     drop(listener);
-    drop(theirs);
-    if !is_good {
-        drop(served);
-        return Err("what a peer has to hear".into());
+    Ok(at)
+}
+
+/// Whom the run calls of its peer and another: only that one, where its peer calls it.
+fn called_of_both(both: &[SocketAddr; 2], peer: Peer) -> &[SocketAddr] {
+    if peer.is_called() {
+        both.as_slice()
+    } else {
+        &both[1..]
     }
-    a_report(served)
+}
+
+/// The same of a run of 100 steps that, after its peer, also calls one that isn't there.
+pub(crate) fn report_beside_nobody<
+    's,
+    R: Threads
+        + Wait
+        + Net<Listener = TcpListener, Stream = TcpStream>
+        + Sync
+        + Abort
+        + Clock
+        + AllocGlobal,
+>(
+    rt: &R,
+    alloc: Global,
+    peer: Peer,
+    accept: u32,
+    serving: &Serving<'s>,
+) -> Result<TcpReport<'s>, Fail> {
+    let nobody = nobody(rt)?;
+    let listener = a_listener(rt)?;
+    let theirs = a_listener(rt)?;
+    let both = [theirs.local_addr()?, nobody];
+    let called = called_of_both(&both, peer);
+    report_at(
+        rt, alloc, &listener, &theirs, peer, 100, accept, called, serving,
+    )
 }
 
 /// Whether the links of a run from this number on, up to that one, ended so.

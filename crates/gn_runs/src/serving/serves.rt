@@ -1,7 +1,7 @@
 //! Runs over the loopback that are called and that call.
 
 use crate::serving::loopback::peers::{LATE, Peer, is_given_up};
-use crate::serving::loopback::{DRAINED, TcpReport, have_ended, report_of, serve};
+use crate::serving::loopback::{DRAINED, TcpReport, have_ended, nobody, report_of, serve};
 use crate::serving::wanted::a_listener;
 use gn_bodies::{ReaderEnd, WriterEnd};
 use gn_service::Serving;
@@ -117,7 +117,7 @@ fn a_peer_is_called_until_it_listens(rt: HostRuntime) -> Result<(), Fail> {
 fn a_peer_that_is_not_there_ends_the_run(rt: HostRuntime) -> Result<(), Fail> {
     let listener = a_listener(&rt)?;
     let theirs = a_listener(&rt)?;
-    let nobody = a_listener(&rt)?.local_addr()?;
+    let nobody = nobody(&rt)?;
     let called = [theirs.local_addr()?, nobody];
     let served = serve(
         &rt,
@@ -130,7 +130,7 @@ fn a_peer_that_is_not_there_ends_the_run(rt: HostRuntime) -> Result<(), Fail> {
     );
     assert_eq!(rt; served.err(), Some(RunFault::Call(1)));
     let (mut peer, _) = theirs.accept()?;
-    assert!(rt; is_given_up(&mut peer)?);
+    assert!(rt; is_given_up(&mut peer));
     Ok(())
 }
 

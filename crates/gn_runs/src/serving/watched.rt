@@ -3,13 +3,13 @@
 use crate::serving::loopback::peers::sent;
 use crate::serving::loopback::serve_written;
 use crate::serving::wanted::a_listener;
-use gn_fixtures::{PING, usual};
+use gn_fixtures::PING;
 use gn_io::{ReaderSource, Sink, Source, WriterSink};
 use gn_links::{Gate, Watch};
 use gn_load::{LoadFault, load_watched};
 use gn_service::{Serving, Stop};
 use gn_table_router::TableRouter;
-use std::alloc::Allocator;
+use std::alloc::{Allocator, Global};
 use std::net::{Net, Shutdown, SocketAddr, TcpListener, TcpStream};
 use std::sync::Wait;
 use std::sync::atomic::{AtomicU32, Ordering};
@@ -137,32 +137,45 @@ join
     let recorder = Recorder::new();
     let mut source = ReaderSource::new(text.as_bytes());
     let mut sink = WriterSink::new(Vec::new(rt.alloc()));
-    load_for(&rt, rt.alloc(), &recorder, &mut source, &mut sink)?;
+    let loaded = load_for(&rt, rt.alloc(), &recorder, &mut source, &mut sink);
     drop(sink.into_inner());
+    loaded?;
     assert_eq!(rt; recorder.learned(), [145, 2, 0, 0]);
     Ok(())
 }
 
-#[test]
-fn who_watches_learns_of_a_serve(rt: HostRuntime) -> Result<(), Fail> {
-    let listener = a_listener(&rt)?;
-    let (_one, first) = caller(&rt, listener.local_addr()?)?;
-    let (_other, second) = caller(&rt, listener.local_addr()?)?;
-    let recorder = Recorder::new();
-    let config = usual(100)?;
-    let mut sink = WriterSink::new(Vec::new(rt.alloc()));
-    let served = serve_written(
-        &rt,
-        rt.alloc(),
+/// What a recorder learns of a serve of two callers that have come, and the ports of both.
+fn learned_of_two<
+    R: Threads
+        + Wait
+        + Net<Listener = TcpListener, Stream = TcpStream>
+        + Clock
+        + AllocGlobal
+        + Sync,
+>(rt: &R, alloc: Global, recorder: &Recorder) -> Result<(u32, u32), Fail> {
+    let listener = a_listener(rt)?;
+    let (one, first) = caller(rt, listener.local_addr()?)?;
+    let (other, second) = caller(rt, listener.local_addr()?)?;
+    let (served, written) = serve_written(
+        rt,
+        alloc,
         &listener,
-        &config,
+        100,
         2,
         &Serving::UNLIMITED,
-        &recorder,
-        &mut sink,
+        recorder,
     );
-    drop(sink.into_inner());
-    drop(served?);
+    drop(written);
+    drop(one);
+    drop(other);
+    served?;
+    Ok((first, second))
+}
+
+#[test]
+fn who_watches_learns_of_a_serve(rt: HostRuntime) -> Result<(), Fail> {
+    let recorder = Recorder::new();
+    let (first, second) = learned_of_two(&rt, rt.alloc(), &recorder)?;
     assert_eq!(rt; recorder.learned(), [2334, 100, first, second]);
     Ok(())
 }
@@ -170,27 +183,16 @@ fn who_watches_learns_of_a_serve(rt: HostRuntime) -> Result<(), Fail> {
 /// Also while nothing is done: nobody calls this serve.
 #[test]
 fn who_watches_learns_that_a_serve_goes_on(rt: HostRuntime) -> Result<(), Fail> {
-    let listener = a_listener(&rt)?;
     let stop = Stop::new(Some(Duration::from_millis(500)), false);
     let serving = Serving {
         stop: Some(&stop),
         ..Serving::UNLIMITED
     };
     let ticks = Ticks(AtomicU32::new(0));
-    let config = usual(100)?;
-    let mut sink = WriterSink::new(Vec::new(rt.alloc()));
-    let served = serve_written(
-        &rt,
-        rt.alloc(),
-        &listener,
-        &config,
-        1,
-        &serving,
-        &ticks,
-        &mut sink,
-    );
-    drop(sink.into_inner());
-    drop(served?);
+    let listener = a_listener(&rt)?;
+    let (served, written) = serve_written(&rt, rt.alloc(), &listener, 100, 1, &serving, &ticks);
+    drop(written);
+    served?;
     assert!(rt; ticks.0.load(Ordering::SeqCst) > 4);
     Ok(())
 }

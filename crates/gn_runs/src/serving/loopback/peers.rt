@@ -1,11 +1,18 @@
 //! What the peers of a run over the loopback do.
 
-use gn_fixtures::{OWN_PONG, PING};
+mod acts;
+
+pub(crate) use acts::hears;
+use acts::{
+    ANSWERED, CALLED, DRIPS, ECHOES, ENDS, LEAVES, LET_IN, RESETS, SHUTS_READING, hears_the_end,
+    plays, sends,
+};
+use gn_fixtures::PING;
 use gn_service::Serving;
-use gn_shake::{consent, request};
+use gn_shake::request;
 use gn_tcp::listen;
 use std::io::{ErrorKind, Read, Write};
-use std::net::{Net, Shutdown, SocketAddr, TcpListener, TcpStream};
+use std::net::{Net, SocketAddr, TcpListener, TcpStream};
 use std::time::{Clock, Duration};
 use std::{io, thread};
 
@@ -60,12 +67,6 @@ impl Peer {
 
 /// Where a peer listens late. The ports below 32768 are given to nobody who asks for any port.
 pub(crate) const LATE: u16 = 27_418;
-
-/// The Ping forwarded: TTL 6 and Hops 1.
-const FORWARDED: [u8; 23] = [
-    0xa1, 0xa1, 0xa1, 0xa1, 0xa1, 0xa1, 0xa1, 0xa1, 0xa1, 0xa1, 0xa1, 0xa1, 0xa1, 0xa1, 0xa1, 0xa1,
-    0, 6, 1, 0, 0, 0, 0,
-];
 
 /// What a caller waits for longer than 20 seconds fails, and small packets go out at once.
 fn limit(caller: &TcpStream) -> io::Result<()> {
@@ -130,61 +131,45 @@ pub(crate) fn sent<N: Net<Listener = TcpListener, Stream = TcpStream>>(
     where_well(client, sent)
 }
 
-/// Whether exactly these bytes come next, at most 64.
-pub(crate) fn hears(peer: &mut TcpStream, bytes: &[u8]) -> io::Result<bool> {
-    let mut heard = [0u8; 64];
-    let n = bytes.len().min(64);
-    peer.read_exact(&mut heard[..n])?;
-    Ok(&heard[..n] == bytes)
-}
-
-/// Whether no more bytes come.
-fn hears_the_end(peer: &mut TcpStream) -> io::Result<bool> {
-    let mut heard = [0u8; 1];
-    Ok(peer.read(&mut heard)? == 0)
-}
-
-/// Hears the consent, sends a Ping, and hears the Pong.
-fn is_answered(client: &mut TcpStream) -> io::Result<bool> {
-    let is_let_in = hears(client, consent())?;
-    client.write_all(PING)?;
-    Ok(is_let_in & hears(client, OWN_PONG)?)
-}
-
 /// Two clients whose Pings have one ID: the second one's is a duplicate.
-fn two(first: &mut TcpStream, second: &mut TcpStream) -> io::Result<bool> {
-    let mut is_good = hears(second, consent())?;
-    is_good &= is_answered(first)?;
-    is_good &= hears(second, &FORWARDED)?;
-    second.write_all(PING)?;
-    first.shutdown(Shutdown::Write)?;
-    second.shutdown(Shutdown::Write)?;
-    is_good &= hears_the_end(first)?;
-    Ok(is_good & hears_the_end(second)?)
+fn two(first: &mut TcpStream, second: &mut TcpStream) -> bool {
+    plays(second, LET_IN)
+        && plays(first, ANSWERED)
+        && plays(second, ECHOES)
+        && plays(first, ENDS)
+        && hears_the_end(second)
 }
 
 /// How often two clients send in turn.
 const TURNS: u8 = 100;
 
+/// Whether so many bytes come next, at most 64.
+fn takes(peer: &mut TcpStream, count: usize) -> bool {
+    let mut taken = [0u8; 64];
+    peer.read_exact(&mut taken[..count.min(64)]).is_ok()
+}
+
 /// Sends a Ping, and waits until its sender has the Pong and the other its forward.
-fn turn(sender: &mut TcpStream, other: &mut TcpStream, number: u8) -> io::Result<()> {
-    sender.write_all(&[number; 16])?;
-    sender.write_all(&PING[16..])?;
-    other.read_exact(&mut [0u8; 23])?;
-    sender.read_exact(&mut [0u8; 37])
+fn turn(sender: &mut TcpStream, other: &mut TcpStream, number: u8) -> bool {
+    sends(sender, &[number; 16])
+        && sends(sender, &PING[16..])
+        && takes(other, 23)
+        && takes(sender, 37)
 }
 
 /// Two clients that have read the consent, and send in turn.
-fn in_turn(first: &mut TcpStream, second: &mut TcpStream) -> io::Result<bool> {
-    let is_good = hears(first, consent())? & hears(second, consent())?;
+fn in_turn(first: &mut TcpStream, second: &mut TcpStream) -> bool {
     for number in 0..TURNS {
-        if number % 2 == 0 {
-            turn(first, second, number)?;
+        let is_good = if number % 2 == 0 {
+            turn(first, second, number)
         } else {
-            turn(second, first, number)?;
+            turn(second, first, number)
+        };
+        if !is_good {
+            return false;
         }
     }
-    Ok(is_good)
+    true
 }
 
 /// Whether the system refuses what this peer goes on sending.
@@ -198,48 +183,33 @@ fn is_refused(peer: &mut TcpStream) -> bool {
 }
 
 /// A stranger, which is let go.
-fn is_let_go(stranger: &mut TcpStream) -> io::Result<bool> {
-    stranger.write_all(b"HTTP")?;
-    Ok(hears_the_end(stranger)? & is_refused(stranger))
-}
-
-/// A client that is let in, and leaves.
-fn leaves(client: &mut TcpStream) -> io::Result<bool> {
-    let is_let_in = hears(client, consent())?;
-    client.shutdown(Shutdown::Write)?;
-    Ok(is_let_in & hears_the_end(client)?)
-}
-
-/// A peer that is called, and consents: it sends a Ping, hears the Pong and sends no more, and then hears the end.
-fn is_called(caller: &mut TcpStream) -> io::Result<bool> {
-    let is_asked = hears(caller, request())?;
-    caller.write_all(consent())?;
-    caller.write_all(PING)?;
-    caller.shutdown(Shutdown::Write)?;
-    Ok(is_asked & hears(caller, OWN_PONG)? & hears_the_end(caller)?)
+fn is_let_go(stranger: &mut TcpStream) -> bool {
+    sends(stranger, b"HTTP") && hears_the_end(stranger) && is_refused(stranger)
 }
 
 /// A peer that is called by a run that fails: it hears the request and the end, or the end before that.
-pub(crate) fn is_given_up(caller: &mut TcpStream) -> io::Result<bool> {
-    match hears(caller, request()) {
-        Ok(is_asked) => Ok(is_asked & hears_the_end(caller)?),
-        Err(why) if why.kind() == ErrorKind::UnexpectedEof => Ok(true),
-        Err(why) => Err(why),
+pub(crate) fn is_given_up(caller: &mut TcpStream) -> bool {
+    let mut heard = [0u8; 22];
+    match caller.read_exact(&mut heard) {
+        Ok(()) => heard.as_slice() == request() && hears_the_end(caller),
+        Err(why) => why.kind() == ErrorKind::UnexpectedEof,
     }
 }
 
 /// A peer that the run calls there, and that consents.
-pub(crate) fn called(listener: &TcpListener) -> io::Result<bool> {
-    let (mut caller, _) = listener.accept()?;
-    let is_good = is_called(&mut caller);
-    drop(caller);
-    is_good
+pub(crate) fn called(listener: &TcpListener) -> bool {
+    match listener.accept() {
+        Ok((mut caller, _)) => {
+            let is_good = plays(&mut caller, CALLED);
+            drop(caller);
+            is_good
+        }
+        Err(_) => false,
+    }
 }
 
 /// The same, which listens only after a while.
-fn called_late<N: Net<Listener = TcpListener, Stream = TcpStream> + Clock>(
-    net: &N,
-) -> io::Result<bool> {
+fn called_late<N: Net<Listener = TcpListener, Stream = TcpStream> + Clock>(net: &N) -> bool {
     thread::sleep(net, Duration::from_millis(200));
     match listen(net, LATE) {
         Ok(listener) => {
@@ -247,7 +217,7 @@ fn called_late<N: Net<Listener = TcpListener, Stream = TcpStream> + Clock>(
             drop(listener);
             is_good
         }
-        Err(_) => Ok(false),
+        Err(_) => false,
     }
 }
 
@@ -259,32 +229,31 @@ fn set_stop(serving: &Serving<'_>) {
 }
 
 /// A client that is answered, stops the run or not, and waits for the end.
-fn stays(client: &mut TcpStream, serving: &Serving<'_>, stops: bool) -> io::Result<bool> {
-    let is_answered = is_answered(client)?;
+fn stays(client: &mut TcpStream, serving: &Serving<'_>, stops: bool) -> bool {
+    let is_answered = plays(client, ANSWERED);
     if stops {
         set_stop(serving);
     }
-    Ok(is_answered & hears_the_end(client)?)
+    is_answered && hears_the_end(client)
 }
 
 /// How often a flooder sends a Ping at most: far more than the buffers between it and the run take.
 const MOST_PINGS: u32 = 1_000_000_000;
 
-/// A client that sends the same Ping again and again, until it is refused.
-fn floods(client: &mut TcpStream) -> io::Result<bool> {
-    let is_let_in = hears(client, consent())?;
+/// Sends the same Ping again and again, until it is refused.
+fn floods(client: &mut TcpStream) -> bool {
     for _ in 0..MOST_PINGS {
-        if client.write_all(PING).is_err() {
-            return Ok(is_let_in);
+        if !sends(client, PING) {
+            return true;
         }
     }
-    Ok(false)
+    false
 }
 
 /// Sends its greeting so slowly that it is refused before that is whole.
 fn dawdles<N: Clock>(clock: &N, client: &mut TcpStream) -> bool {
     for byte in request() {
-        if client.write_all(&[*byte]).is_err() {
+        if !sends(client, &[*byte]) {
             return true;
         }
         thread::sleep(clock, Duration::from_millis(400));
@@ -292,128 +261,100 @@ fn dawdles<N: Clock>(clock: &N, client: &mut TcpStream) -> bool {
     false
 }
 
-/// Sends a Ping and then its end, and reads nothing after the consent.
-fn shuts_reading(client: &mut TcpStream) -> io::Result<bool> {
-    let is_let_in = hears(client, consent())?;
-    client.shutdown(Shutdown::Read)?;
-    client.write_all(PING)?;
-    client.shutdown(Shutdown::Write)?;
-    Ok(is_let_in)
-}
-
-/// Sends a Ping a byte at a time, and hears its answer and the end.
-fn drips(client: &mut TcpStream) -> io::Result<bool> {
-    for byte in PING {
-        client.write_all(&[*byte])?;
-    }
-    client.shutdown(Shutdown::Write)?;
-    let is_answered = hears(client, consent())? & hears(client, OWN_PONG)?;
-    Ok(is_answered & hears_the_end(client)?)
-}
-
 /// How often the flooder of a silent peer sends at most. On Linux some 70 large packets fill the sockets of that peer.
 const STEPS: u16 = 2000;
 
-/// What comes after the ID of a large Query: kind, TTL, Hops and length, which is 61,443.
-const QUERY: &[u8] = b"\x80\x07\x00\x03\xf0\x00\x00";
+/// What comes after the ID of a large Query: kind, TTL, Hops and length, which is 61,443, a speed of 0 and no text.
+const QUERY: &[u8] = b"\x80\x07\x00\x03\xf0\x00\x00\x00\x00\x00";
 
 /// What comes after the ID of a Ping that is answered and goes no further: its TTL is 1.
 const NEAR_PING: &[u8] = b"\x00\x01\x00\x00\x00\x00\x00";
 
-/// Sends a large Query: no text, and a long tail.
-fn send_query(flooder: &mut TcpStream, id: &[u8; 16]) -> io::Result<()> {
-    flooder.write_all(id)?;
-    flooder.write_all(QUERY)?;
-    flooder.write_all(&[0; 3])?;
+/// The long tail of a Query.
+fn sends_tail(flooder: &mut TcpStream) -> bool {
     for _ in 0..15 {
-        flooder.write_all(&[b'x'; 4096])?;
+        if !sends(flooder, &[b'x'; 4096]) {
+            return false;
+        }
     }
-    Ok(())
+    true
+}
+
+/// Whether the answer to a Ping with this ID comes next.
+fn hears_pong(flooder: &mut TcpStream, id: &[u8; 16]) -> bool {
+    let mut pong = [0u8; 37];
+    flooder.read_exact(&mut pong).is_ok() && pong.starts_with(id)
 }
 
 /// Sends a large Query and a Ping with this ID, and hears whether the Ping is answered: then both have been routed.
-fn are_routed(flooder: &mut TcpStream, id: &[u8; 16]) -> io::Result<bool> {
-    send_query(flooder, id)?;
-    flooder.write_all(id)?;
-    flooder.write_all(NEAR_PING)?;
-    let mut pong = [0u8; 37];
-    flooder.read_exact(&mut pong)?;
-    Ok(pong.starts_with(id))
+fn are_routed(flooder: &mut TcpStream, id: &[u8; 16]) -> bool {
+    sends(flooder, id)
+        && sends(flooder, QUERY)
+        && sends_tail(flooder)
+        && sends(flooder, id)
+        && sends(flooder, NEAR_PING)
+        && hears_pong(flooder, id)
+}
+
+/// The ID of this number.
+fn id_of(number: u16) -> [u8; 16] {
+    let mut id = [0xb1u8; 16];
+    id[..2].copy_from_slice(&number.to_le_bytes());
+    id
 }
 
 /// Whether the run refuses what the silent peer sends: a Ping, so that it isn't idle.
 fn is_silent_refused(silent: &mut TcpStream) -> bool {
-    silent.write_all(&[0xc1; 16]).is_err() || silent.write_all(NEAR_PING).is_err()
+    !(sends(silent, &[0xc1; 16]) && sends(silent, NEAR_PING))
 }
 
 /// Sends Queries, whose packets the silent peer doesn't read, until its writer has waited too long and it is refused.
 /// Between them is time for that writer: packets are dropped where they come faster than it writes.
-fn flood<N: Clock>(clock: &N, flooder: &mut TcpStream, silent: &mut TcpStream) -> io::Result<bool> {
-    let mut is_good = hears(flooder, consent())?;
-    let mut id = [0xb1u8; 16];
+fn flood<N: Clock>(clock: &N, flooder: &mut TcpStream, silent: &mut TcpStream) -> bool {
     for number in 0..STEPS {
-        id[..2].copy_from_slice(&number.to_le_bytes());
-        is_good &= are_routed(flooder, &id)?;
+        if !are_routed(flooder, &id_of(number)) {
+            return false;
+        }
         if is_silent_refused(silent) {
-            return Ok(is_good);
+            return true;
         }
         thread::sleep(clock, Duration::from_millis(20));
     }
-    Ok(false)
-}
-
-/// A client that never reads, beside one that floods until the first is refused.
-fn never_reads<N: Clock>(
-    clock: &N,
-    silent: &mut TcpStream,
-    flooder: &mut TcpStream,
-) -> io::Result<bool> {
-    let is_good = flood(clock, flooder, silent)?;
-    flooder.shutdown(Shutdown::Write)?;
-    Ok(is_good & hears_the_end(flooder)?)
+    false
 }
 
 /// How many large Queries are sent to a peer that reads nothing, so that its sockets are full.
 const MANY: u16 = 150;
 
-/// Reads all that comes, to the end.
-fn read_out(client: &mut TcpStream) -> io::Result<()> {
-    let mut room = [0u8; 4096];
-    for _ in 0..u64::MAX {
-        if client.read(&mut room)? == 0 {
-            break;
+/// Sends more than fills the sockets of another.
+fn fills<N: Clock>(clock: &N, flooder: &mut TcpStream) -> bool {
+    for number in 0..MANY {
+        if !are_routed(flooder, &id_of(number)) {
+            return false;
         }
+        thread::sleep(clock, Duration::from_millis(10));
     }
-    Ok(())
+    true
 }
 
-/// One client reads nothing until the other has sent more than fills its sockets, and has stopped the run.
-fn read_late<N: Clock>(
-    clock: &N,
-    late: &mut TcpStream,
-    flooder: &mut TcpStream,
-    serving: &Serving<'_>,
-) -> io::Result<bool> {
-    let is_good = is_flooded(clock, flooder, serving)?;
-    read_out(late)?;
-    Ok(is_good)
+/// Reads all that comes, to the end.
+fn reads_out(client: &mut TcpStream) -> bool {
+    let mut room = [0u8; 4096];
+    for _ in 0..u64::MAX {
+        match client.read(&mut room) {
+            Ok(0) => return true,
+            Ok(_) => {}
+            Err(_) => return false,
+        }
+    }
+    false
 }
 
 /// Sends more than fills the sockets of another, stops the run, and hears the end.
-fn is_flooded<N: Clock>(
-    clock: &N,
-    flooder: &mut TcpStream,
-    serving: &Serving<'_>,
-) -> io::Result<bool> {
-    let mut is_good = hears(flooder, consent())?;
-    let mut id = [0xb2u8; 16];
-    for number in 0..MANY {
-        id[..2].copy_from_slice(&number.to_le_bytes());
-        is_good &= are_routed(flooder, &id)?;
-        thread::sleep(clock, Duration::from_millis(10));
-    }
+fn is_flooded<N: Clock>(clock: &N, flooder: &mut TcpStream, serving: &Serving<'_>) -> bool {
+    let is_good = plays(flooder, LET_IN) && fills(clock, flooder);
     set_stop(serving);
-    Ok(is_good & hears_the_end(flooder)?)
+    is_good && hears_the_end(flooder)
 }
 
 /// Whether nobody can call there.
@@ -431,13 +372,13 @@ fn play_two<N: Clock>(
     second: &mut TcpStream,
     peer: Peer,
     serving: &Serving<'_>,
-) -> io::Result<bool> {
+) -> bool {
     match peer {
         Peer::Two => two(first, second),
-        Peer::Turns => in_turn(first, second),
+        Peer::Turns => plays(first, LET_IN) && plays(second, LET_IN) && in_turn(first, second),
         Peer::Deaf => is_flooded(clock, second, serving),
-        Peer::ReadsLate => read_late(clock, first, second, serving),
-        _ => never_reads(clock, first, second),
+        Peer::ReadsLate => is_flooded(clock, second, serving) && reads_out(first),
+        _ => plays(second, LET_IN) && flood(clock, second, first) && plays(second, ENDS),
     }
 }
 
@@ -448,18 +389,15 @@ fn play_greeted<N: Net<Listener = TcpListener, Stream = TcpStream> + Clock>(
     client: &mut TcpStream,
     peer: Peer,
     serving: &Serving<'_>,
-) -> io::Result<bool> {
+) -> bool {
     match peer {
         Peer::Stays => stays(client, serving, false),
         Peer::Stops => stays(client, serving, true),
-        Peer::Floods => floods(client),
-        Peer::ShutsReading => shuts_reading(client),
-        Peer::Drips => drips(client),
-        Peer::Last => Ok(leaves(client)? & is_closed(net, at)),
-        Peer::Resets => {
-            client.write_all(&PING[..10])?;
-            Ok(true)
-        }
+        Peer::Floods => plays(client, LET_IN) && floods(client),
+        Peer::ShutsReading => plays(client, SHUTS_READING),
+        Peer::Drips => plays(client, DRIPS),
+        Peer::Last => plays(client, LEAVES) && is_closed(net, at),
+        Peer::Resets => plays(client, RESETS),
         _ => play_with_second(net, at, client, peer, serving),
     }
 }
@@ -471,8 +409,10 @@ fn play_with_second<N: Net<Listener = TcpListener, Stream = TcpStream> + Clock>(
     client: &mut TcpStream,
     peer: Peer,
     serving: &Serving<'_>,
-) -> io::Result<bool> {
-    let mut second = greeted(net, at)?;
+) -> bool {
+    let Ok(mut second) = greeted(net, at) else {
+        return false;
+    };
     let is_good = play_two(net, client, &mut second, peer, serving);
     drop(second);
     is_good
@@ -482,26 +422,39 @@ fn play_with_second<N: Net<Listener = TcpListener, Stream = TcpStream> + Clock>(
 fn play_dawdler<N: Net<Listener = TcpListener, Stream = TcpStream> + Clock>(
     net: &N,
     at: SocketAddr,
-) -> io::Result<bool> {
-    let mut client = caller(net, at)?;
+) -> bool {
+    let Ok(mut client) = caller(net, at) else {
+        return false;
+    };
     let is_good = dawdles(net, &mut client);
     drop(client);
-    Ok(is_good)
+    is_good
 }
 
-/// A stranger, which is let go, and after it a client.
+/// A stranger, which is let go.
 fn play_stranger<N: Net<Listener = TcpListener, Stream = TcpStream>>(
     net: &N,
     at: SocketAddr,
-) -> io::Result<bool> {
-    let mut stranger = caller(net, at)?;
+) -> bool {
+    let Ok(mut stranger) = caller(net, at) else {
+        return false;
+    };
     let is_let_go = is_let_go(&mut stranger);
     drop(stranger);
-    let is_let_go = is_let_go?;
-    let mut client = greeted(net, at)?;
-    let leaves = leaves(&mut client);
+    is_let_go
+}
+
+/// A client that is let in, and leaves.
+fn play_leaver<N: Net<Listener = TcpListener, Stream = TcpStream>>(
+    net: &N,
+    at: SocketAddr,
+) -> bool {
+    let Ok(mut client) = greeted(net, at) else {
+        return false;
+    };
+    let leaves = plays(&mut client, LEAVES);
     drop(client);
-    Ok(is_let_go & leaves?)
+    leaves
 }
 
 /// One or two clients that greet first.
@@ -510,8 +463,10 @@ fn play_client<N: Net<Listener = TcpListener, Stream = TcpStream> + Clock>(
     at: SocketAddr,
     peer: Peer,
     serving: &Serving<'_>,
-) -> io::Result<bool> {
-    let mut client = greeted(net, at)?;
+) -> bool {
+    let Ok(mut client) = greeted(net, at) else {
+        return false;
+    };
     let is_good = play_greeted(net, at, &mut client, peer, serving);
     drop(client);
     is_good
@@ -524,12 +479,12 @@ pub(crate) fn play<N: Net<Listener = TcpListener, Stream = TcpStream> + Clock>(
     theirs: &TcpListener,
     peer: Peer,
     serving: &Serving<'_>,
-) -> io::Result<bool> {
+) -> bool {
     match peer {
         Peer::Called => called(theirs),
         Peer::CalledLate => called_late(net),
         Peer::Dawdles => play_dawdler(net, at),
-        Peer::Stranger => play_stranger(net, at),
+        Peer::Stranger => play_stranger(net, at) && play_leaver(net, at),
         _ => play_client(net, at, peer, serving),
     }
 }
