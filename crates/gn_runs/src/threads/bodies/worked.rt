@@ -1,18 +1,19 @@
 //! The worked runs of one link.
 
-use super::{Ran, Setting, USUAL, WORKER, run_link};
+use super::{Ran, Setting, Told, USUAL, WORKER, run_link};
 use crate::threads::hub::lines_of;
 use gn_bodies::{ReaderEnd, WriterEnd};
 use gn_fixtures::{OWN_PONG, PING};
 use gn_hub::Door;
 use gn_links::{MemoryLink, MemoryWriter};
+use gn_rules::Step;
 use gn_shake::{Role, consent, request};
-use std::alloc::Global;
+use std::alloc::{AllocError, Global};
 use std::sync::Wait;
 use std::test::Fail;
 
 /// The steps of a link that sends one Ping.
-pub(super) const ONE_PING: &str = "\
+const ONE_PING: &str = "\
 0 connect = connected 1
 0 admit 1 a1a1a1a1a1a1a1a1a1a1a1a1a1a1a1a100070000000000 = admitted 0
 2 route 0 = routed local 1+a1a1a1a1a1a1a1a1a1a1a1a1a1a1a1a10101000e000000ca187f0000010500000028000000
@@ -62,46 +63,74 @@ pub(super) fn never_opens<R: Wait>(
     }
 }
 
+/// What the peer of a link in this role says first, and what it is told first.
+fn openings(role: Role) -> (&'static [u8], &'static [u8]) {
+    match role {
+        Role::Plain => (b"", b""),
+        Role::Calling => (consent(), request()),
+        Role::Accepting => (request(), consent()),
+    }
+}
+
+/// A link in this role whose peer sends one Ping, of which a read gives 5 bytes at most.
+fn link_of_one_ping(alloc: Global, role: Role) -> Result<MemoryLink, AllocError> {
+    let mut bytes = openings(role).0.to_vec(alloc)?;
+    bytes.extend_from_slice(PING)?;
+    Ok(MemoryLink::new(role, bytes, 5))
+}
+
+/// What a gate is told of such a link.
+const TOLD: Told = [
+    "connected",
+    "admitted",
+    "passed",
+    "taken",
+    "closed",
+    "",
+    "",
+    "",
+];
+
+/// Whether the bodies of such a link ended and wrote as they must, and the gate learned of it.
+fn is_answered(ran: &Ran<MemoryWriter>, role: Role) -> bool {
+    has_written(
+        ran,
+        ReaderEnd::Bytes,
+        WriterEnd::Drained,
+        openings(role).1,
+        OWN_PONG,
+    ) && ran.passed == Some((WORKER, 0))
+        && ran.ended == (true, true)
+        && ran.told == TOLD
+}
+
+/// Whether these are the steps of such a link.
+pub(super) fn are_of_one_ping(alloc: Global, history: &[Step]) -> Result<bool, Fail> {
+    let lines = lines_of(alloc, history)?;
+    let are_same = lines.as_slice() == ONE_PING.as_bytes();
+    drop(lines);
+    Ok(are_same)
+}
+
+/// Whether such a link runs as it must.
+fn runs_as_it_must<R: Wait>(rt: &R, alloc: Global, role: Role) -> Result<bool, Fail> {
+    let link = link_of_one_ping(alloc, role)?;
+    match run_link(rt, alloc, USUAL, link) {
+        Some(ran) => {
+            let is_answered = is_answered(&ran, role);
+            let are_its = are_of_one_ping(alloc, ran.history.as_slice());
+            drop(ran);
+            Ok(is_answered & are_its?)
+        }
+        None => Ok(false),
+    }
+}
+
 #[test]
 fn a_link_of_one_ping(rt: HostRuntime) -> Result<(), Fail> {
-    let alloc = rt.alloc();
-    let rows = [
-        (Role::Plain, b"".as_slice(), b"".as_slice()),
-        (Role::Calling, consent(), request()),
-        (Role::Accepting, request(), consent()),
-    ];
-    for (role, greeting, opening) in rows {
-        let mut bytes = greeting.to_vec(alloc)?;
-        bytes.extend_from_slice(PING)?;
-        let ran = run_link(&rt, alloc, USUAL, MemoryLink::new(role, bytes, 5)).ok_or("memory")?;
-        assert!(rt;
-            has_written(
-                &ran,
-                ReaderEnd::Bytes,
-                WriterEnd::Drained,
-                opening,
-                OWN_PONG
-            )
-        );
-        assert!(rt; ran.passed == Some((WORKER, 0)) && ran.ended == (true, true));
-        assert!(rt;
-            ran.told
-                == [
-                    "connected",
-                    "admitted",
-                    "passed",
-                    "taken",
-                    "closed",
-                    "",
-                    "",
-                    ""
-                ]
-        );
-        let lines = lines_of(alloc, ran.history.as_slice());
-        drop(ran);
-        let lines = lines?;
-        assert_eq!(rt; lines.as_slice(), ONE_PING.as_bytes());
-    }
+    assert!(rt; runs_as_it_must(&rt, rt.alloc(), Role::Plain)?);
+    assert!(rt; runs_as_it_must(&rt, rt.alloc(), Role::Calling)?);
+    assert!(rt; runs_as_it_must(&rt, rt.alloc(), Role::Accepting)?);
     Ok(())
 }
 
@@ -116,6 +145,28 @@ fn a_link_that_never_opens(rt: HostRuntime) -> Result<(), Fail> {
     Ok(())
 }
 
+/// Whether a plain link of one Ping ends so in this setting, in five steps, and the gate is told these.
+fn tells<R: Wait>(
+    rt: &R,
+    alloc: Global,
+    setting: Setting<'_>,
+    ends: (ReaderEnd, WriterEnd),
+    told: &Told,
+) -> Result<bool, Fail> {
+    let link = MemoryLink::new(Role::Plain, PING.to_vec(alloc)?, 4096);
+    match run_link(rt, alloc, setting, link) {
+        Some(ran) => {
+            let (reader, writer) = ends;
+            let is_told = ran.ends == (Ok(reader), Ok(()), Ok(writer))
+                && ran.told == *told
+                && ran.history.len() == 5;
+            drop(ran);
+            Ok(is_told)
+        }
+        None => Ok(false),
+    }
+}
+
 /// Without a worker the reader routes its Ping itself; and a fifth connection is one too many.
 #[test]
 fn a_gate_is_told_of_each_step(rt: HostRuntime) -> Result<(), Fail> {
@@ -123,35 +174,24 @@ fn a_gate_is_told_of_each_step(rt: HostRuntime) -> Result<(), Fail> {
         is_alone: true,
         ..USUAL
     };
+    let routed = [
+        "connected",
+        "admitted",
+        "routed",
+        "taken",
+        "closed",
+        "",
+        "",
+        "",
+    ];
+    let drained = (ReaderEnd::Bytes, WriterEnd::Drained);
+    assert!(rt; tells(&rt, rt.alloc(), alone, drained, &routed)?);
     let fifth = Setting {
         connected: 4,
         ..USUAL
     };
-    let drained = (ReaderEnd::Bytes, WriterEnd::Drained);
+    let too_many = ["too many", "", "", "", "", "", "", ""];
     let turned_away = (ReaderEnd::TooMany, WriterEnd::NeverOpened);
-    let rows = [
-        (
-            alone,
-            drained,
-            [
-                "connected",
-                "admitted",
-                "routed",
-                "taken",
-                "closed",
-                "",
-                "",
-                "",
-            ],
-        ),
-        (fifth, turned_away, ["too many", "", "", "", "", "", "", ""]),
-    ];
-    for (setting, (reader, writer), told) in rows {
-        let link = MemoryLink::new(Role::Plain, PING.to_vec(rt.alloc())?, 4096);
-        let ran = run_link(&rt, rt.alloc(), setting, link).ok_or("memory")?;
-        assert!(rt; ran.ends == (Ok(reader), Ok(()), Ok(writer)) && ran.told == told);
-        assert_eq!(rt; ran.history.len(), 5);
-        drop(ran);
-    }
+    assert!(rt; tells(&rt, rt.alloc(), fifth, turned_away, &too_many)?);
     Ok(())
 }
