@@ -153,32 +153,81 @@ fn report(
     })
 }
 
+/// Whom `flaw` names in the report of these steps, with these ends.
+fn flaw_of(
+    alloc: Global,
+    steps: Steps,
+    reader_end: ReaderEnd,
+    writer_end: WriterEnd,
+) -> Result<Option<u32>, Fail> {
+    let report = report(alloc, steps, reader_end, writer_end)?;
+    let flaw = report.flaw(&[Role::Plain]);
+    drop(report);
+    Ok(flaw)
+}
+
+/// A change of the worked run: whether its worker has no receipts, and how its link's bodies ended.
+struct Change {
+    is_emptied: bool,
+    read: ReaderEnd,
+    wrote: WriterEnd,
+    /// Whom `flaw` names then.
+    actor: Option<u32>,
+}
+
+/// None, and one of each kind.
+const CHANGES: [Change; 4] = [
+    Change {
+        is_emptied: false,
+        read: ReaderEnd::Bytes,
+        wrote: WriterEnd::Drained,
+        actor: None,
+    },
+    Change {
+        is_emptied: true,
+        read: ReaderEnd::Bytes,
+        wrote: WriterEnd::Drained,
+        actor: Some(2),
+    },
+    Change {
+        is_emptied: false,
+        read: ReaderEnd::Bytes,
+        wrote: WriterEnd::Closed,
+        actor: Some(1),
+    },
+    Change {
+        is_emptied: false,
+        read: ReaderEnd::NotLive,
+        wrote: WriterEnd::Drained,
+        actor: Some(0),
+    },
+];
+
+/// Whom `flaw` names in the worked run, changed so.
+fn flaw_after<R: Threads + Wait + Sync>(
+    rt: &R,
+    alloc: Global,
+    change: &Change,
+) -> Result<Option<u32>, Fail> {
+    let mut steps = worked(rt, alloc)?;
+    if change.is_emptied {
+        steps.worker.clear();
+    }
+    flaw_of(alloc, steps, change.read, change.wrote)
+}
+
 #[test]
 fn a_changed_part_of_the_worked_run_names_its_actor(rt: HostRuntime) -> Result<(), Fail> {
-    let alloc = rt.alloc();
-    let rows = [
-        (false, ReaderEnd::Bytes, WriterEnd::Drained, None),
-        (true, ReaderEnd::Bytes, WriterEnd::Drained, Some(2)),
-        (false, ReaderEnd::Bytes, WriterEnd::Closed, Some(1)),
-        (false, ReaderEnd::NotLive, WriterEnd::Drained, Some(0)),
-    ];
-    for (is_emptied, read, wrote, actor) in rows {
-        let mut steps = worked(&rt, alloc)?;
-        if is_emptied {
-            steps.worker.clear();
-        }
-        let changed = report(alloc, steps, read, wrote)?;
-        assert_eq!(rt; changed.flaw(&[Role::Plain]), actor);
-        drop(changed);
+    for change in CHANGES.iter() {
+        assert_eq!(rt; flaw_after(&rt, rt.alloc(), change)?, change.actor);
     }
     Ok(())
 }
 
-#[test]
-fn the_house_is_named_for_a_stranger(rt: HostRuntime) -> Result<(), Fail> {
-    let mut steps = worked(&rt, rt.alloc())?;
+/// These steps, and one of an actor that the run doesn't have.
+fn with_a_stranger(alloc: Global, mut steps: Steps) -> Result<Steps, Fail> {
     let added = add(
-        rt.alloc(),
+        alloc,
         &mut steps.history,
         5,
         4,
@@ -186,30 +235,46 @@ fn the_house_is_named_for_a_stranger(rt: HostRuntime) -> Result<(), Fail> {
         Reply::Connected(2),
     );
     match added {
-        Ok(receipt) => drop(receipt),
+        Ok(receipt) => {
+            drop(receipt);
+            Ok(steps)
+        }
         Err(fail) => {
             drop(steps);
-            return Err(fail);
+            Err(fail)
         }
     }
-    let strange = report(rt.alloc(), steps, ReaderEnd::Bytes, WriterEnd::Drained)?;
-    assert_eq!(rt; strange.flaw(&[Role::Plain]), Some(3));
-    drop(strange);
-    Ok(())
 }
 
 #[test]
-fn the_house_is_named_for_a_ticket(rt: HostRuntime) -> Result<(), Fail> {
-    let alloc = rt.alloc();
+fn the_house_is_named_for_a_stranger(rt: HostRuntime) -> Result<(), Fail> {
+    let steps = with_a_stranger(rt.alloc(), worked(&rt, rt.alloc())?)?;
+    let flaw = flaw_of(rt.alloc(), steps, ReaderEnd::Bytes, WriterEnd::Drained)?;
+    assert_eq!(rt; flaw, Some(3));
+    Ok(())
+}
+
+/// What a link's reader did that connected, admitted a Ping and closed; nobody else did anything.
+fn unrouted(alloc: Global) -> Result<Steps, Fail> {
     let mut steps = Steps {
         history: Vec::new(alloc),
         reader: Vec::new(alloc),
         writer: Vec::new(alloc),
         worker: Vec::new(alloc),
     };
-    read_a_ping(alloc, &mut steps)?;
-    let unrouted = report(alloc, steps, ReaderEnd::ReadFailed, WriterEnd::Closed)?;
-    assert_eq!(rt; unrouted.flaw(&[Role::Plain]), Some(3));
-    drop(unrouted);
+    match read_a_ping(alloc, &mut steps) {
+        Ok(()) => Ok(steps),
+        Err(fail) => {
+            drop(steps);
+            Err(fail)
+        }
+    }
+}
+
+#[test]
+fn the_house_is_named_for_a_ticket(rt: HostRuntime) -> Result<(), Fail> {
+    let steps = unrouted(rt.alloc())?;
+    let flaw = flaw_of(rt.alloc(), steps, ReaderEnd::ReadFailed, WriterEnd::Closed)?;
+    assert_eq!(rt; flaw, Some(3));
     Ok(())
 }

@@ -187,18 +187,32 @@ fn two_readers_meet(rt: HostRuntime) -> Result<(), Fail> {
     Ok(())
 }
 
+/// The fault of a run by so many workers over two links, of which the second can't be split.
+fn fault_by<R: Threads + Wait + Sync>(
+    rt: &R,
+    alloc: Global,
+    meeting: &Meeting,
+    workers: u32,
+) -> Result<Option<RunFault>, Fail> {
+    let links = paced_links(alloc, 0, meeting, None)?;
+    Ok(table_run(rt, alloc, links, workers, &NoGate).err())
+}
+
 /// A run has 1 to 64 workers, and names a link that can't be split.
 #[test]
 fn runs_that_do_not_begin(rt: HostRuntime) -> Result<(), Fail> {
     let meeting = Meeting::new();
-    for (workers, fault) in [
-        (0, RunFault::BadWorkers),
-        (65, RunFault::BadWorkers),
-        (1, RunFault::Link(1)),
-    ] {
-        let links = paced_links(rt.alloc(), 0, &meeting, None)?;
-        let ran = table_run(&rt, rt.alloc(), links, workers, &NoGate);
-        assert_eq!(rt; ran.err(), Some(fault), "{workers} workers");
-    }
+    assert_eq!(rt;
+        fault_by(&rt, rt.alloc(), &meeting, 0)?,
+        Some(RunFault::BadWorkers)
+    );
+    assert_eq!(rt;
+        fault_by(&rt, rt.alloc(), &meeting, 65)?,
+        Some(RunFault::BadWorkers)
+    );
+    assert_eq!(rt;
+        fault_by(&rt, rt.alloc(), &meeting, 1)?,
+        Some(RunFault::Link(1))
+    );
     Ok(())
 }

@@ -276,17 +276,24 @@ const ENDLESS: Row = Row {
     written: Written::AllOrNone,
 };
 
-#[test]
-fn a_link_without_end_is_closed(rt: HostRuntime) -> Result<(), Fail> {
-    let alloc = rt.alloc();
+/// Whether the run of a link without end leaves what it must.
+fn is_right_without_end<R: Threads + Wait + Sync>(rt: &R, alloc: Global) -> Result<bool, Fail> {
     let config = usual(1_000_000)?;
-    let mut pong = OWN_PONG.to_vec(alloc)?;
-    pong[..16].fill(0);
     let link = EndlessLink {
         link: MemoryLink::new(Role::Plain, Vec::new(alloc), 1),
     };
-    let (left, written) = run_over(&rt, alloc, &config, link)?;
-    assert!(rt; is_found(&left, written.as_slice(), &ENDLESS, pong.as_slice(), 0));
+    let (left, written) = run_over(rt, alloc, &config, link)?;
+    let mut pong = [0u8; 37];
+    pong[16..].copy_from_slice(&OWN_PONG[16..]);
+    let is_found = is_found(&left, written.as_slice(), &ENDLESS, &pong, 0);
+    drop(left);
+    drop(written);
+    Ok(is_found)
+}
+
+#[test]
+fn a_link_without_end_is_closed(rt: HostRuntime) -> Result<(), Fail> {
+    assert!(rt; is_right_without_end(&rt, rt.alloc())?);
     Ok(())
 }
 
@@ -300,8 +307,7 @@ fn is_full<R: Threads + Wait + Sync>(rt: &R, alloc: Global, pings: u8) -> Result
 
 #[test]
 fn two_links_need_more_than_three_steps(rt: HostRuntime) -> Result<(), Fail> {
-    for pings in [0, 1] {
-        assert!(rt; is_full(&rt, rt.alloc(), pings)?);
-    }
+    assert!(rt; is_full(&rt, rt.alloc(), 0)?);
+    assert!(rt; is_full(&rt, rt.alloc(), 1)?);
     Ok(())
 }
