@@ -1,5 +1,5 @@
-//! Calls of codecs, tables and routers where each of their growths is refused in turn, and calls that take no memory where all
-//! are. Tests alone.
+//! Calls of codecs, tables, routers and texts where each of their growths is refused in turn, and calls that take no memory where
+//! all are. Tests alone.
 #![tactic(auto)]
 
 #[cfg(test)]
@@ -18,3 +18,5 @@ mod rows;
 mod steps;
 #[cfg(test)]
 mod tables;
+#[cfg(test)]
+mod texts;

@@ -1,8 +1,7 @@
-//! Texts, what replays and audits them, the calls of the threads, and whole runs, where each of their growths is refused in turn.
+//! The calls of the threads, and whole runs, where each of their growths is refused in turn.
 
 mod bodies;
 mod lock;
 mod runs;
 mod serves;
 mod stage;
-mod texts;
