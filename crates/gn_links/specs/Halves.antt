@@ -93,6 +93,6 @@ pub record HasWritten {E : Type 0} (answer : Result ℕ E) (piece : List ℕ) (b
   pub failures : after.failures ≡ counted (is_err answer) before.failures
   pub stuck : after.is_stuck ≡ (before.is_stuck || is_stall answer (length piece))
 
--- where the link's bytes are known beforehand, what was read is a part of them as `IsReadOf` says
+-- where the link's bytes are known beforehand, what was read is a beginning of them as `IsReadOf` says
 abbrev pub IsReadFrom : Source → ReadHalf → Type 0
 IsReadFrom source half = source.is_foretold ≡ true → IsReadOf source.bytes half.bytes half.has_ended

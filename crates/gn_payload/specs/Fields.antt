@@ -9,7 +9,7 @@ pub record QueryFields : Type 0 where
   pub text : List ℕ
   pub tail : List ℕ
 
--- one result of a Query Hit: a file's index and size, its name, and bytes between the name and the end
+-- one result of a Query Hit: a file's index and size, its name, and the bytes between the zero byte after the name and the next one
 pub record ResultFields : Type 0 where
   pub file : ℕ
   pub size : ℕ

@@ -34,8 +34,8 @@ greeting_of Accepting = request_text
 greeting_of Calling = consent_text
 greeting_of Plain = []
 
--- how far a greeting has come in a stream of bytes: Done where the stream begins with it, More where the stream is a shorter part
--- of it, else Refused
+-- how far a greeting has come in a stream of bytes: Done where the stream begins with it, More where the stream is a shorter
+-- beginning of it, else Refused
 abbrev pub greeting_state : List ℕ → List ℕ → ShakeState
 greeting_state greeting stream =
     let n = common_prefix_len nat_eq greeting stream in

@@ -31,8 +31,8 @@ use Rattle.gn_report.specs.BodyEnds.{is_settled, is_turned_away}
 abbrev pub IsClosed : {A : Type 0} → List (Step A) → ℕ → Type 0
 IsClosed steps c = list_any (λ step. is_close c step.event) steps ≡ true
 
--- where the bytes that were read are known: the awaited greeting has come as far as this ShakeState, and `says`, a condition, holds
--- of the descriptors after it
+-- where the bytes that were read are known: the awaited greeting has come as far as this ShakeState, and the condition `says` holds
+-- of any descriptors after it
 abbrev pub IsGreeted : ReadHalf → Role → ShakeState → (Frames → Type 0) → Type 0
 IsGreeted half role state says =
     half.is_known ≡ true
@@ -42,8 +42,8 @@ IsGreeted half role state says =
 abbrev pub admitting : {A : Type 0} → ℕ → List Packet → List (Event A)
 admitting c descriptors = Connect ∷ map (Admit c) descriptors
 
--- the table of ends for a reader: its half, its events except the Routes, and who closed its connection. NotLive needs `first`:
--- that its writer may close c before the reader is done
+-- the table of ends for a reader: its half, its events except the Routes, and who closed its connection. The argument `first` is
+-- for NotLive: whether its writer may close c before the reader is done
 abbrev pub ReaderEnds : {A : Type 0} → List (Step A) → ℕ → Bool → Role → List (Receipt A) → ReadHalf → ReaderEnd → Option ℕ → Type 0
 -- a read found the end of the bytes, and they have no fault; it made a Connect, an Admit of each whole descriptor, in order, and no
 -- Close
@@ -109,8 +109,7 @@ WriterEnds steps roles writer role own half Drained (Some c) =
 WriterEnds steps roles writer role own half Closed (Some c) =
     (half.is_known ≡ true → half.bytes ≡ concat (texts_of role own))
     × (list_any (λ step. not (step.actor == writer) && is_close c step.event) steps ≡ true)
--- a write failed: of the connection request, where the link calls and the writer made no event; or of another text, and somebody
--- closed c
+-- a write failed: either of the connection request, and the writer made no event; or of another text, and somebody closed c
 WriterEnds steps roles writer role own half WriteFailed (Some c) =
     IsHurt half (texts_of role own)
     × (((is_calling role && (length own == 0)) || list_any (λ step. is_close c step.event) steps) ≡ true)

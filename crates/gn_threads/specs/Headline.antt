@@ -46,7 +46,7 @@ pub record LinkHolds {Rd W A : Type 0} (reads : Rd → ReadHalf) (writes : W →
 pub record ReadOwn (source : Source) (end : ReaderEnd) (half : ReadHalf) : Type 0 where
   -- where the link's bytes are known beforehand, it read a prefix of them, and all of them where a read found their end
   pub first : IsReadFrom source half
-  -- and, so known, it read all of them where it ended as Bytes
+  -- and where they are known beforehand and it ended as Bytes, it read them all
   pub whole : source.is_foretold ≡ true → end ≡ Bytes → half.bytes ≡ source.bytes
   -- it ended as ReadFailed only where a read of the link may fail
   pub failed : end ≡ ReadFailed → source.may_fail ≡ true

@@ -6,7 +6,7 @@ use gn_stage::StageFault;
 use std::alloc::{AllocError, AllocFailed};
 
 /// Why a run gives no report; `run` itself never gives Listen or Call. It gives the first fault that it finds, but of
-/// those of its threads HistoryFull before NoMemory; no clause promises this order.
+/// its threads' faults HistoryFull before NoMemory; no clause promises this order.
 #[derive(Clone, Copy, Debug, PartialEq, Eq)]
 pub enum RunFault {
     /// Not 1 to 64 workers.
@@ -21,10 +21,10 @@ pub enum RunFault {
     HistoryFull,
     /// Out of memory, or a thread couldn't be started.
     NoMemory,
-    /// The house couldn't close the queue of tickets at the end: a thread didn't give its side back, or out of memory.
+    /// The house couldn't close the queue of tickets at the end: a thread still held it, or out of memory.
     Stage(StageFault),
-    /// The check at the end failed at this actor, the lowest whose receipts or end don't fit the history, or who was
-    /// refused a Route; or at the house, where the router has another configuration.
+    /// The check at the end failed at this actor: the lowest whose receipts or end don't fit the history, or who was
+    /// refused a Route; or the house, if the router's configuration isn't the one that the run was given.
     Audit(u32),
 }
 
