@@ -9,7 +9,7 @@ use Rattle.gn_rules.specs.History.{closed_of, is_at, is_close}
 use Rattle.gn_shake.specs.declared.role.Role.{Role}
 use Rattle.gn_laws.specs.Owners.{is_readers, is_writers}
 use Rattle.gn_report.specs.declared.report.LinkReport.{LinkReport}
-use Rattle.gn_report.specs.Actors.{is_awaited}
+use Rattle.gn_report.specs.Actors.{is_awaited_reader}
 use Rattle.gn_report.specs.BodyEnds.{is_connect, is_reader_end, is_writer_end, may_close_first}
 use Rattle.gn_report.proofs.ConnLemmas.{conn_made, conn_more, made_by}
 use Rattle.gn_report.specs.Flaw.{ReaderConfirmed, WriterConfirmed}
@@ -64,7 +64,7 @@ or_off r t false b off same is = is
 -- a receipt of a writer is of the Close(c) of a drained connection
 abbrev pub is_last_close : {A : Type 0} → (ℕ → Bool) → List Role → List (Step A) → ℕ → Receipt A → Bool
 is_last_close settled roles steps c r =
-    is_close c r.event && is_at 0 (closed_of r.reply) && settled r.index && list_all (λ step. not (is_awaited roles step.actor)) (drop r.index steps)
+    is_close c r.event && is_at 0 (closed_of r.reply) && settled r.index && list_all (λ step. not (is_awaited_reader roles step.actor)) (drop r.index steps)
 
 -- a look at one item more
 pub any_here : {X : Type 0} (p : X → Bool) (xs : List X) (i : ℕ) (x : X) → i < length xs → x ≡ get_or xs i x → list_any p (drop i xs) ≡ (p x || list_any p (drop (i + 1) xs))

@@ -9,7 +9,7 @@ use Rattle.std.proofs.lemmas.Option.{slice_get-get_or, slice_get_past}
 use Rattle.gn_rules.specs.declared.receipt.Step.{Step}
 use Rattle.gn_shake.specs.declared.role.Role.{Role}
 use Rattle.gn_report.specs.declared.report.LinkReport.{LinkReport}
-use Rattle.gn_report.specs.Actors.{is_awaited}
+use Rattle.gn_report.specs.Actors.{is_awaited_reader}
 use Rattle.gn_report.specs.BodyEnds.{is_settled}
 use Rattle.gn_report.specs.Survey.{AreSettled, IsDrainsCloseAt, IsReadUntil, has_drained, is_drained, is_drained_writer}
 
@@ -31,19 +31,19 @@ none_from p (x ∷ xs) (suc k) zero d high low e = absurd (omega (arith, high))
 none_from p (x ∷ xs) (suc k) (suc j) d high low e = none_from p xs k j d (omega (arith, high)) (omega (arith, low)) e
 
 -- every awaited reader's step stands before place k exactly where the last of them does
-pub read_by : {A : Type 0} (roles : List Role) (steps : List (Step A)) (n k : ℕ) → IsReadUntil roles steps n → list_all (λ step. not (is_awaited roles step.actor)) (drop k steps) ≡ not (nat_lt k n)
+pub read_by : {A : Type 0} (roles : List Role) (steps : List (Step A)) (n k : ℕ) → IsReadUntil roles steps n → list_all (λ step. not (is_awaited_reader roles step.actor)) (drop k steps) ≡ not (nat_lt k n)
 read_by {A} roles steps n k read =
-    elim (cases_lt k n) as (λ x. list_all (λ (step : Step A). not (is_awaited roles step.actor)) (drop k steps) ≡ not (nat_lt k n)) [
+    elim (cases_lt k n) as (λ x. list_all (λ (step : Step A). not (is_awaited_reader roles step.actor)) (drop k steps) ≡ not (nat_lt k n)) [
       | inl low ↦ before steps n low read ∙ sym (ap not (lt-ltb k n low))
       | inr high ↦
-          all_from (λ (step : Step A). not (is_awaited roles step.actor)) steps k (λ j d above below. ap not (read.none j d (omega (arith, high, above)) below))
+          all_from (λ (step : Step A). not (is_awaited_reader roles step.actor)) steps k (λ j d above below. ap not (read.none j d (omega (arith, high, above)) below))
           ∙ sym (ap not (le-ltb k n (omega (arith, high))))
     ]
   where
-    before : (steps : List (Step A)) (n : ℕ) → k < n → IsReadUntil roles steps n → list_all (λ (step : Step A). not (is_awaited roles step.actor)) (drop k steps) ≡ false
+    before : (steps : List (Step A)) (n : ℕ) → k < n → IsReadUntil roles steps n → list_all (λ (step : Step A). not (is_awaited_reader roles step.actor)) (drop k steps) ≡ false
     before [] n low read = absurd (omega (arith, low, read.within))
     before (step ∷ steps) n low read =
-        none_from (λ (x : Step A). not (is_awaited roles x.actor)) (step ∷ steps) k (n - 1) step (omega (arith, low)) (omega (arith, low, read.within))
+        none_from (λ (x : Step A). not (is_awaited_reader roles x.actor)) (step ∷ steps) k (n - 1) step (omega (arith, low)) (omega (arith, low, read.within))
         (ap not (read.last (n - 1) step (omega (arith, low))))
 
 leb_is : (n k : ℕ) → leb n k ≡ not (nat_lt k n)
@@ -60,28 +60,28 @@ leb_is n k =
     ] refl
 
 -- every awaited reader's step stands before place k exactly where the code's test says so
-pub is_read_by : {A : Type 0} (roles : List Role) (steps : List (Step A)) (n k : ℕ) → IsReadUntil roles steps n → leb n k ≡ list_all (λ step. not (is_awaited roles step.actor)) (drop k steps)
+pub is_read_by : {A : Type 0} (roles : List Role) (steps : List (Step A)) (n k : ℕ) → IsReadUntil roles steps n → leb n k ≡ list_all (λ step. not (is_awaited_reader roles step.actor)) (drop k steps)
 is_read_by roles steps n k read = leb_is n k ∙ sym (read_by roles steps n k read)
 
 -- one place further back
-pub none_back : {A : Type 0} (roles : List Role) (steps : List (Step A)) (n m : ℕ) (step : Step A) → m ≡ n + 1 → n < length steps → is_awaited roles (get_or steps n step).actor ≡ false
-    → ((k : ℕ) (d : Step A) → m ≤ k → k < length steps → is_awaited roles (get_or steps k d).actor ≡ false)
-    → (k : ℕ) (d : Step A) → n ≤ k → k < length steps → is_awaited roles (get_or steps k d).actor ≡ false
+pub none_back : {A : Type 0} (roles : List Role) (steps : List (Step A)) (n m : ℕ) (step : Step A) → m ≡ n + 1 → n < length steps → is_awaited_reader roles (get_or steps n step).actor ≡ false
+    → ((k : ℕ) (d : Step A) → m ≤ k → k < length steps → is_awaited_reader roles (get_or steps k d).actor ≡ false)
+    → (k : ℕ) (d : Step A) → n ≤ k → k < length steps → is_awaited_reader roles (get_or steps k d).actor ≡ false
 none_back {A} roles steps n m step next below not_awaited after k d high low =
-    elim (cases_lt n k) as (λ x. is_awaited roles (get_or steps k d).actor ≡ false) [
+    elim (cases_lt n k) as (λ x. is_awaited_reader roles (get_or steps k d).actor ≡ false) [
       | inl over ↦ after k d (omega (arith, next, over)) low
       | inr under ↦
           let at : n ≡ k = omega (arith, under, high) in
           let same = get_or_default steps n step d below in
-          subst (λ i. is_awaited roles (get_or steps i d).actor ≡ false) at (subst (λ (x : Step A). is_awaited roles x.actor ≡ false) same not_awaited)
+          subst (λ i. is_awaited_reader roles (get_or steps i d).actor ≡ false) at (subst (λ (x : Step A). is_awaited_reader roles x.actor ≡ false) same not_awaited)
     ]
 
 -- the step that was looked at is the last one
-pub last_at : {A : Type 0} (roles : List Role) (steps : List (Step A)) (n m : ℕ) (step : Step A) → m ≡ n + 1 → n < length steps → is_awaited roles (get_or steps n step).actor ≡ true
-    → (k : ℕ) (d : Step A) → m ≡ k + 1 → is_awaited roles (get_or steps k d).actor ≡ true
+pub last_at : {A : Type 0} (roles : List Role) (steps : List (Step A)) (n m : ℕ) (step : Step A) → m ≡ n + 1 → n < length steps → is_awaited_reader roles (get_or steps n step).actor ≡ true
+    → (k : ℕ) (d : Step A) → m ≡ k + 1 → is_awaited_reader roles (get_or steps k d).actor ≡ true
 last_at {A} roles steps n m step next below awaited k d at =
     let same : n ≡ k = omega (arith, next, at) in
-    subst (λ i. is_awaited roles (get_or steps i d).actor ≡ true) same (subst (λ (x : Step A). is_awaited roles x.actor ≡ true) (get_or_default steps n step d below) awaited)
+    subst (λ i. is_awaited_reader roles (get_or steps i d).actor ≡ true) same (subst (λ (x : Step A). is_awaited_reader roles x.actor ≡ true) (get_or_default steps n step d below) awaited)
 
 -- a reader is no writer
 pub no_writer : {Rd W A : Type 0} (links : List (LinkReport Rd W A)) (a : ℕ) → a < length links → is_drained_writer links a ≡ false

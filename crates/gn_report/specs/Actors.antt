@@ -43,5 +43,5 @@ abbrev pub AreOwn : {Rd W A : Type 0} → Report Rd W A → Type 0
 AreOwn report = (a : ℕ) → a < actors report → IsOwn report a
 
 -- whether actor a is an awaited reader
-abbrev pub is_awaited : List Role → ℕ → Bool
-is_awaited roles a = option_map_or (greeting.is_awaited (list_all greeting.is_calling roles)) (slice_get roles a) false
+abbrev pub is_awaited_reader : List Role → ℕ → Bool
+is_awaited_reader roles a = option_map_or (greeting.is_awaited (list_all greeting.is_calling roles)) (slice_get roles a) false

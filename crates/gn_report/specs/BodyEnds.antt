@@ -19,7 +19,7 @@ use Rattle.gn_bodies.specs.declared.ends.WriterEnd.{WriterEnd}
 use Rattle.gn_bodies.specs.declared.ends.WriterEnd.TheVariants.{Drained, WriteFailed, Closed, NeverOpened}
 use Rattle.gn_report.specs.declared.closes.Closer.{Closer}
 use Rattle.gn_report.specs.declared.closes.Closer.TheVariants.{Anyone, Actor, Except}
-use Rattle.gn_report.specs.Actors.{is_awaited}
+use Rattle.gn_report.specs.Actors.{is_awaited_reader}
 use Rattle.gn_bodies.specs.declared.ends.ReaderEnd.TheVariants as reader
 
 -- whether actor a is one of those whose Close is looked for
@@ -81,7 +81,7 @@ abbrev pub is_writer_end : {A : Type 0} → (ℕ → Bool) → List Role → Lis
 is_writer_end settled roles steps writer role own Drained (Some c) =
     list_any
     (λ r. is_close c r.event && is_at 0 (closed_of r.reply) && settled r.index
-    && list_all (λ step. not (is_awaited roles step.actor)) (drop r.index steps))
+    && list_all (λ step. not (is_awaited_reader roles step.actor)) (drop r.index steps))
     own
 -- another actor closed its connection
 is_writer_end settled roles steps writer role own Closed (Some c) =

@@ -11,7 +11,7 @@ use Rattle.gn_bodies.specs.declared.ends.WriterEnd.TheVariants.{Drained}
 use Rattle.gn_report.specs.declared.report.LinkReport.{LinkReport}
 use Rattle.gn_report.specs.declared.report.Report.{Report}
 use Rattle.gn_report.specs.declared.survey.Survey.{Survey}
-use Rattle.gn_report.specs.Actors.{AreOwn, is_awaited}
+use Rattle.gn_report.specs.Actors.{AreOwn, is_awaited_reader}
 use Rattle.gn_report.specs.BodyEnds.{is_settled}
 
 -- whether an event is a Close, of whatever connection
@@ -50,8 +50,8 @@ AreSettled {Rd} {W} {A} links steps =
 -- the last step of a reader that the run waits for is the n-th one; n is 0 where there is none
 pub record IsReadUntil {A : Type 0} (roles : List Role) (steps : List (Step A)) (n : ℕ) : Type 0 where
   pub within : n ≤ length steps
-  pub none : (k : ℕ) (d : Step A) → n ≤ k → k < length steps → is_awaited roles (slice_index_or steps k d).actor ≡ false
-  pub last : (k : ℕ) (d : Step A) → n ≡ k + 1 → is_awaited roles (slice_index_or steps k d).actor ≡ true
+  pub none : (k : ℕ) (d : Step A) → n ≤ k → k < length steps → is_awaited_reader roles (slice_index_or steps k d).actor ≡ false
+  pub last : (k : ℕ) (d : Step A) → n ≡ k + 1 → is_awaited_reader roles (slice_index_or steps k d).actor ≡ true
 
 -- what a survey says is true of the report
 pub record IsSurvey {Rd W A : Type 0} (roles : List Role) (report : Report Rd W A) (survey : Survey) : Type 0 where

@@ -6,7 +6,7 @@ ghost use Rattle.gn_rules.specs.History.{closed_of, is_at, is_close};
 ghost use Rattle.gn_shake.specs.Greeting.{is_calling};
 ghost use Rattle.gn_shake.specs.declared.role.Role.{Role};
 ghost use Rattle.gn_bodies.specs.declared.ends.WriterEnd.TheVariants.{Drained};
-ghost use Rattle.gn_report.specs.Actors.{is_awaited};
+ghost use Rattle.gn_report.specs.Actors.{is_awaited_reader};
 ghost use Rattle.gn_report.specs.BodyEnds as ends;
 ghost use Rattle.gn_report.specs.Survey.{IsSurvey};
 
@@ -95,7 +95,7 @@ fn is_last_close<Rd, W, A: Allocator>(
     ensures { result
         ≡ (is_close c receipt.now.event && is_at 0 (closed_of receipt.now.reply)
         && ends.is_settled report.now.history.items receipt.now.index
-        && list_all (λ step. not (is_awaited roles.now step.actor))
+        && list_all (λ step. not (is_awaited_reader roles.now step.actor))
         (drop receipt.now.index report.now.history.items)) }
 {
     receipt.event.closes(c)

@@ -39,9 +39,9 @@ fn do_all_call(roles: &[Role]) -> bool
 }
 
 /// Whether an actor is a reader that the run waits for.
-fn is_awaited(roles: &[Role], all_call: bool, actor: u32) -> bool
+fn is_awaited_reader(roles: &[Role], all_call: bool, actor: u32) -> bool
     requires { all_call ≡ list_all is_calling roles.now }
-    ensures { result ≡ actors.is_awaited roles.now actor }
+    ensures { result ≡ actors.is_awaited_reader roles.now actor }
 {
     match roles.get(actor as usize) {
         Some(role) => role.is_awaited(all_call),
@@ -56,7 +56,7 @@ fn read_until<A: Allocator>(roles: &[Role], all_call: bool, steps: &[Step<A>]) -
 {
     let mut read = steps.len();
     while read > 0 {
-        if is_awaited(roles, all_call, steps[read - 1].actor) {
+        if is_awaited_reader(roles, all_call, steps[read - 1].actor) {
             return read;
         }
         read -= 1;
@@ -148,7 +148,7 @@ impl Survey {
     /// Whether each step of a reader that the run waits for stands before this place.
     pub fn is_read_by<A: Allocator>(&self, roles: &[Role], steps: &[Step<A>], k: u32) -> bool
         requires { IsReadUntil roles.now steps.now self.now.read }
-        ensures { result ≡ list_all (λ step. not (actors.is_awaited roles.now step.actor)) (drop k steps.now) }
+        ensures { result ≡ list_all (λ step. not (actors.is_awaited_reader roles.now step.actor)) (drop k steps.now) }
     {
         self.read <= k as usize
     }

@@ -24,7 +24,7 @@ use Rattle.gn_bodies.specs.declared.ends.WriterEnd.TheVariants.{Drained, WriteFa
 use Rattle.gn_bodies.specs.Events.{link_events_in}
 use Rattle.gn_bodies.specs.ReaderRows.{WithClose}
 use Rattle.gn_bodies.specs.Written.{opening_texts}
-use Rattle.gn_report.specs.Actors.{is_awaited}
+use Rattle.gn_report.specs.Actors.{is_awaited_reader}
 use Rattle.gn_report.specs.BodyEnds.{is_settled, is_turned_away}
 
 -- somebody closed the connection c
@@ -103,7 +103,7 @@ WriterEnds steps roles writer role own half Drained (Some c) =
     (half.is_known ≡ true → half.bytes ≡ concat (texts_of role own))
     × (list_any
     (λ r. is_close c r.event && is_at 0 (closed_of r.reply) && is_settled steps r.index
-    && list_all (λ step. not (is_awaited roles step.actor)) (drop r.index steps))
+    && list_all (λ step. not (is_awaited_reader roles step.actor)) (drop r.index steps))
     own ≡ true)
 -- all its texts were written; another actor closed c
 WriterEnds steps roles writer role own half Closed (Some c) =

@@ -2,7 +2,7 @@ use Rattle.std.proofs.Common.{◌≡◌, ◌∙◌, ◌&&◌, List, ap, drop, no
 use Rattle.std.specs.List.{list_all}
 use Rattle.gn_rules.specs.declared.receipt.Step.{Step}
 use Rattle.gn_rules.specs.History.{closed_of, is_at, is_close}
-use Rattle.gn_report.specs.Actors.{is_awaited}
+use Rattle.gn_report.specs.Actors.{is_awaited_reader}
 use Rattle.gn_report.specs.BodyEnds.{is_settled}
 use Rattle.gn_report.specs.Survey.{AreSettled, IsReadUntil}
 use Rattle.gn_report.proofs.ComparedLemmas.{and_off, and_on}
@@ -35,7 +35,7 @@ returns-then-is_settled_at g c =
       | else-is_empty_close w ↦ and_off _ _ (closes && empty) settled w.if-is_empty_close.false first (w.value-is ∙ w.if-is_empty_close.false)
     ] in
     and_on _ _ _ (closes && empty && settled) _ c.if-is_settled_at.true second refl
-    (c.is_read_by.ensures ∙ ap (λ (xs : List (Step _)). list_all (λ step. not (is_awaited c.args.roles.now step.actor)) (drop r.index xs)) c.as_slice-then-is_settled_at.ensures.value)
+    (c.is_read_by.ensures ∙ ap (λ (xs : List (Step _)). list_all (λ step. not (is_awaited_reader c.args.roles.now step.actor)) (drop r.index xs)) c.as_slice-then-is_settled_at.ensures.value)
 
 pub returns-else-is_settled_at : goal.returns-else-is_settled_at
 returns-else-is_settled_at g c =
