@@ -68,9 +68,9 @@ abbrev pub has_reading : Kind → List ℕ → Bool
 has_reading Ping bytes = length bytes == 0
 has_reading Pong bytes = length bytes == 14
 has_reading Push bytes = length bytes == 26
--- two bytes, and then a text that a zero byte ends
+-- two bytes, a text, a zero byte, and maybe more bytes
 has_reading Query bytes = is_some (text_reading (drop 2 bytes))
--- as many results as the first byte says, between the first 11 bytes and the last 16
+-- 11 bytes, as many results as the first of these bytes says, maybe more bytes, and 16 bytes
 has_reading QueryHit bytes =
     nat_le 27 (length bytes) && is_some (results_reading (slice_index bytes 0) (take (length bytes - 27) (drop 11 bytes)))
 has_reading (Unknown code) bytes = false

@@ -70,7 +70,7 @@ abbrev pub ticket_of : {A : Type 0} → Event A → Option ℕ
 ticket_of (Route t) = Some t
 ticket_of event = None
 
--- whether the number that a reply says, where it says one (`connected_of`, `admitted_of`, `closed_of`), is this one
+-- whether a reply says a number (`connected_of`, `admitted_of`, `closed_of`), and it is this one
 abbrev pub is_at : ℕ → Option ℕ → Bool
 is_at n None = false
 is_at n (Some m) = n == m

@@ -32,7 +32,7 @@ abbrev pub IsClosed : {A : Type 0} → List (Step A) → ℕ → Type 0
 IsClosed steps c = list_any (λ step. is_close c step.event) steps ≡ true
 
 -- where the bytes that were read are known: the awaited greeting has come as far as this ShakeState, and the condition `says` holds
--- of any descriptors after it
+-- of the bytes after it, split into `Frames`
 abbrev pub IsGreeted : ReadHalf → Role → ShakeState → (Frames → Type 0) → Type 0
 IsGreeted half role state says =
     half.is_known ≡ true
