@@ -52,8 +52,8 @@ decide_sound s past a Query = if is_remembered s past (key_of a.packet) then Dro
 -- a Pong answers the Ping of its ID, a Query Hit the Query
 decide_sound s past a Pong = decide_reply s past a (source s past (record { kind = Ping; id = a.packet.id }))
 decide_sound s past a QueryHit = decide_reply s past a (source s past (record { kind = Query; id = a.packet.id }))
--- a Push is a duplicate where its key is remembered; else it is for the local servent where it names that, or goes where the named
--- servent's last Query Hit came from
+-- a Push is a duplicate where its key is remembered; else it is for the local servent if it names this one, or goes where the
+-- named servent's last Query Hit came from
 decide_sound s past a Push =
     if is_remembered s past (key_of a.packet) then Drop reason.Duplicate
     else if is_same_id (push_servent a.packet.payload) s.own.servent then Local

@@ -89,7 +89,7 @@ connections (step ∷ earlier) = connections earlier ++ option_to_list (connecte
 abbrev pub live_connections : {A : Type 0} → List (Step A) → List ℕ
 live_connections past = filter (live past) (connections past)
 
--- actor a's receipts of these steps, the first of which has index i
+-- actor a's receipts of these steps; the first of the steps has index i
 abbrev pub mine_from : {A : Type 0} → ℕ → ℕ → List (Step A) → List (Receipt A)
 mine_from a i [] = []
 mine_from a i (step ∷ steps) =

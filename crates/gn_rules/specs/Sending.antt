@@ -20,8 +20,8 @@ send s past p c = record { to = c; packet = p; queued = nat_lt (length (out past
 abbrev pub fanout : {A : Type 0} → Config → List (Step A) → ℕ → Packet → List (Sending A)
 fanout s past c p = map (send s past p) (filter (λ d. not (d == c)) (live_connections past))
 
--- the own Pong to a Ping: its ID, a TTL one more than its Hops and at most 255, Hops 0, and the local servent's port, address,
--- files and kilobytes
+-- the own Pong to a Ping: the Ping's ID, a TTL one more than the Ping's Hops and at most 255, Hops 0, and the local servent's
+-- port, address, files and kilobytes
 abbrev pub own_pong : Own → Packet → Packet
 own_pong own ping =
     record { id = ping.id; kind = Pong; ttl = min 255 (ping.hops + 1); hops = 0; payload = pong_bytes own.port own.ip own.files own.kbytes }

@@ -1,4 +1,4 @@
--- The servents whose Query Hits were routed, and the route to them.
+-- The servents whose Query Hits were answered Routed, and the route to them.
 use Rattle.std.specs.Prelude.{ℕ, Bool, true, false, if◌then◌else◌, List, [], ◌∷◌, take, Option, Some, None}
 use Rattle.std.specs.Option.{option_and_then}
 use Rattle.std.specs.Map.{lookup, remove_entry}
@@ -20,7 +20,7 @@ abbrev pub is_query_hit : Kind → Bool
 is_query_hit QueryHit = true
 is_query_hit kind = false
 
--- of a step that routed a Query Hit: the servent that the hit names, and the connection that admitted it
+-- of a Query Hit that was answered Routed: the servent that it names, and the connection that admitted it
 abbrev pub hit_of : {A : Type 0} → List (Step A) → Event A → Reply A → Option (Guid × ℕ)
 hit_of earlier (Route t) (Routed sends local) =
     option_and_then (λ a. if is_query_hit a.packet.kind then Some (hit_servent a.packet.payload, a.origin) else None)
@@ -32,7 +32,7 @@ abbrev pub learned : Option (Guid × ℕ) → List (Guid × ℕ) → List (Guid 
 learned None known = known
 learned (Some hit) known = hit ∷ remove_entry (is_same_id hit.0) known
 
--- the servents of the Query Hits that were routed, each once with its newest hit, the newest first
+-- the servents of the Query Hits that were answered Routed, each once with its newest hit, the newest first
 abbrev pub servents : {A : Type 0} → List (Step A) → List (Guid × ℕ)
 servents [] = []
 servents (step ∷ earlier) = learned (hit_of earlier step.event step.reply) (servents earlier)

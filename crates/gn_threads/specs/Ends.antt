@@ -31,8 +31,8 @@ use Rattle.gn_report.specs.BodyEnds.{is_settled, is_turned_away}
 abbrev pub IsClosed : {A : Type 0} → List (Step A) → ℕ → Type 0
 IsClosed steps c = list_any (λ step. is_close c step.event) steps ≡ true
 
--- where the bytes that were read are known: the awaited greeting has come as far as this ShakeState, and the condition `says` holds
--- of the bytes after it, split into `Frames`
+-- where the bytes that were read are known: the awaited greeting has come as far as this ShakeState, and the given condition
+-- `says` holds of the bytes after the greeting, split into `Frames`
 abbrev pub IsGreeted : ReadHalf → Role → ShakeState → (Frames → Type 0) → Type 0
 IsGreeted half role state says =
     half.is_known ≡ true

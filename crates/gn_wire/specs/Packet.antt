@@ -56,8 +56,7 @@ pub record IsDescriptor (d : Packet) : Type 0 where
   pub ttl_fits : d.ttl < 256
   pub hops_fits : d.hops < 256
 
--- what is left of a descriptor's life: its TTL, or the limit minus its Hops if that is smaller; the limit 0 means that there is
--- none
+-- what is left of a descriptor's life: its TTL, or the limit minus its Hops if that is smaller; a limit of 0 is no limit
 abbrev pub life_left : ℕ → Packet → ℕ
 life_left life d = if life == 0 then d.ttl else min d.ttl (life - d.hops)
 
