@@ -22,7 +22,7 @@ use Rattle.gn_rules.specs.Output.{out}
 use Rattle.gn_rules.specs.Sending.{send, fanout, flood_sends}
 use Rattle.gn_rules.specs.SeenEntries.{is_remembered}
 
--- whether a kind is one that the local servent sends
+-- whether a kind is Ping or Query
 abbrev pub is_request : Kind → Bool
 is_request Ping = true
 is_request Query = true

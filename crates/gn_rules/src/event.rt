@@ -14,7 +14,7 @@ pub type Ticket = u32;
 /// What an actor asks of a router, one at a time.
 #[derive(Debug, Drop)]
 pub enum Event<A: Allocator = Global> {
-    /// A neighbour asks for a connection.
+    /// A link asks for a connection.
     Connect,
     /// A connection ends; what waits for it is discarded.
     Close(ConnId),

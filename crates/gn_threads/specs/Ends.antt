@@ -116,7 +116,7 @@ WriterEnds steps roles writer role own half WriteFailed (Some c) =
 -- a write of the connection request failed; it made no event
 WriterEnds steps roles writer role own half WriteFailed None =
     IsHurt half (texts_of role own) × ((is_calling role && (length own == 0)) ≡ true)
--- the link never connected: nothing was written but the connection request where it calls
+-- the link never connected: the connection request was written where it calls, else nothing
 WriterEnds steps roles writer role own half NeverOpened None =
     half.is_known ≡ true → half.bytes ≡ (if is_calling role then request_text else [])
 WriterEnds steps roles writer role own half end conn = ⊥

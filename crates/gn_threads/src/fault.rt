@@ -5,7 +5,7 @@ use gn_links::SplitFault;
 use gn_stage::StageFault;
 use std::alloc::{AllocError, AllocFailed};
 
-/// Why a run gives no report; `run` itself never gives Listen or Call. It gives the first fault that it finds, but of
+/// Why a run gives no report; `run` itself never gives Listen or Call. It gives the first fault that it finds, and of
 /// its threads' faults HistoryFull before NoMemory; no clause promises this order.
 #[derive(Clone, Copy, Debug, PartialEq, Eq)]
 pub enum RunFault {
@@ -17,11 +17,11 @@ pub enum RunFault {
     Call(u32),
     /// A link couldn't be split: its number, from 0 on.
     Link(u32),
-    /// The history has as many steps as it may have.
+    /// One step more than the history may have was asked for.
     HistoryFull,
     /// Out of memory, or a thread couldn't be started.
     NoMemory,
-    /// The house couldn't close the queue of tickets at the end: a thread still held it, or out of memory.
+    /// The house couldn't close the queue of tickets at the end: a thread hadn't given it up, or out of memory.
     Stage(StageFault),
     /// The check at the end failed at this actor: the lowest whose receipts or end don't fit the history, or who was
     /// refused a Route; or the house, if the router's configuration isn't the one that the run was given.

@@ -6,7 +6,7 @@ use Rattle.gn_wire.specs.declared.kind.Guid.{Guid}
 use Rattle.gn_wire.specs.declared.header.FrameFault.{FrameFault}
 use Rattle.gn_wire.specs.declared.header.FrameFault.TheVariants.{FixedLength, TooLong}
 
--- the payload descriptor of a kind
+-- the byte of a kind
 abbrev pub code_of : Kind → ℕ
 code_of Ping = 0x00
 code_of Pong = 0x01
@@ -15,7 +15,7 @@ code_of Query = 0x80
 code_of QueryHit = 0x81
 code_of (Unknown code) = code
 
--- the kind that a payload descriptor names
+-- the kind of a byte
 abbrev pub kind_of : ℕ → Kind
 kind_of code =
     if code == 0x00 then Ping else if code == 0x01 then Pong else if code == 0x40 then Push
