@@ -3,7 +3,8 @@
 ghost use Rattle.std.specs.Prelude.{◌≡◌, ◌<◌, ◌≤◌};
 
 use crate::setup::{numbered, ping, tell};
-use gn_tables::{Flights, Neighbours, SeenTable, ServentTable};
+use gn_kept::SeenTable;
+use gn_tables::{Flights, Neighbours, ServentTable};
 use gn_wire::Kind;
 use std::alloc::Global;
 use std::io;

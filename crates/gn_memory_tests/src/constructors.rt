@@ -2,10 +2,11 @@
 
 use gn_fixtures::{Call, Failure, Heap, growths_of_calls, usual};
 use gn_frames::Reassembler;
+use gn_kept::SeenTable;
 use gn_rules::{Config, FreshRouter};
 use gn_search::PlainRouter;
 use gn_table_router::TableRouter;
-use gn_tables::{Flights, Neighbours, SeenTable, ServentTable};
+use gn_tables::{Flights, Neighbours, ServentTable};
 use std::alloc::{AllocError, Allocator};
 use std::test::Fail;
 

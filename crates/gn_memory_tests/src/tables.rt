@@ -4,7 +4,8 @@ ghost use Rattle.std.specs.Prelude.{◌≡◌, ◌<◌, None};
 ghost use Rattle.std.specs.FinMap as map;
 
 use gn_fixtures::{Call, Failure, Heap, Refused, Turn, Turns, growths, growths_of_calls, ping};
-use gn_tables::{Flights, Neighbours, SeenTable, ServentTable};
+use gn_kept::SeenTable;
+use gn_tables::{Flights, Neighbours, ServentTable};
 use gn_wire::{Descriptor, Guid, Kind};
 use std::alloc::Allocator;
 use std::test::Fail;

@@ -30,7 +30,8 @@ use Rattle.gn_rules.proofs.OutputLemmas.{counters_add_up}
 use Rattle.gn_tables.specs.declared.flights.Flight.{Flight}
 use Rattle.gn_tables.specs.Outputs.{Outputs}
 use Rattle.gn_table_router.specs.declared.tables.Tables.{Tables}
-use Rattle.gn_tables.specs.Routed.{CanRemember, IsNewKey, carried}
+use Rattle.gn_kept.specs.Remembered.{IsNewKey}
+use Rattle.gn_tables.specs.Routed.{CanRemember, carried}
 use Rattle.gn_table_router.specs.Followed.{CanAdmit, CanConnect, CanFollow, CanMove, CanRoute, moved, routed}
 use Rattle.gn_table_router.specs.Sent.{CanSend}
 use Rattle.gn_table_router.specs.Tabled.{IsTabled, flight_of}

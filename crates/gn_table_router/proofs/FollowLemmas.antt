@@ -29,7 +29,8 @@ use Rattle.gn_rules.proofs.StepLemmas.{rows-closed, rows-connected, rows-sent, r
 use Rattle.gn_tables.specs.declared.flights.Flight.{Flight}
 use Rattle.gn_tables.specs.Outputs.{Outputs, joined, left, popped}
 use Rattle.gn_table_router.specs.declared.tables.Tables.{Tables}
-use Rattle.gn_tables.specs.Routed.{with_heard, with_kept}
+use Rattle.gn_kept.specs.Remembered.{with_kept}
+use Rattle.gn_tables.specs.Routed.{with_heard}
 use Rattle.gn_table_router.specs.Followed.{counted, followed, queued, routed}
 use Rattle.gn_table_router.specs.Sent.{sent}
 use Rattle.gn_table_router.specs.Tabled.{AreFlying, AreNumbered, IsTabled, flight_of, known, outputs, remembered}

@@ -16,8 +16,8 @@ use Rattle.gn_rules.specs.Flight.{Admission, admission}
 use Rattle.gn_rules.specs.Servents.{hit_of, is_query_hit, learned, servents}
 use Rattle.gn_rules.specs.SeenEntries.{entry_of, keeps, seen_entries}
 use Rattle.gn_rules.proofs.StepLemmas.{take_more_new}
-use Rattle.gn_tables.specs.Remembered.{Remembered, with_entry}
-use Rattle.gn_tables.specs.Routed.{with_heard, with_kept}
+use Rattle.gn_kept.specs.Remembered.{Remembered, with_entry, with_kept}
+use Rattle.gn_tables.specs.Routed.{with_heard}
 use Rattle.gn_tables.specs.Servents as table
 use Rattle.gn_table_router.specs.Tabled.{known, remembered}
 

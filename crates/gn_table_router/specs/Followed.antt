@@ -14,8 +14,8 @@ use Rattle.gn_rules.specs.Statistics.{counter_of, raised, count_in}
 use Rattle.gn_tables.specs.declared.flights.Flight.{Flight}
 use Rattle.gn_tables.specs.Flying.{with_flight, without_flight}
 use Rattle.gn_tables.specs.Outputs.{joined, left, popped}
-use Rattle.gn_tables.specs.Remembered.{with_entry}
-use Rattle.gn_tables.specs.Routed.{CanRemember, IsNewKey, carried, with_heard, with_kept}
+use Rattle.gn_tables.specs.Routed.{CanRemember, carried, with_heard}
+use Rattle.gn_kept.specs.Remembered.{IsNewKey, with_entry, with_kept}
 use Rattle.gn_table_router.specs.declared.tables.Tables.{Tables}
 use Rattle.gn_table_router.specs.Sent.{CanSend, sent}
 

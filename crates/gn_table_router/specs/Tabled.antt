@@ -15,7 +15,7 @@ use Rattle.gn_rules.specs.Statistics.{stats_of}
 use Rattle.gn_tables.specs.declared.flights.Flight.{Flight}
 use Rattle.gn_tables.specs.Flying.{Flying}
 use Rattle.gn_tables.specs.Outputs.{Outputs}
-use Rattle.gn_tables.specs.Remembered.{Remembered}
+use Rattle.gn_kept.specs.Remembered.{Remembered}
 use Rattle.gn_tables.specs.Servents.{Servents}
 use Rattle.gn_table_router.specs.declared.tables.Tables.{Tables}
 

@@ -3,7 +3,7 @@
 ghost use Rattle.std.specs.Prelude.{◌≡◌, OnErr, OnOk};
 ghost use Rattle.std.specs.FinMap as map;
 ghost use Rattle.gn_wire.specs.Keys.{key_of};
-ghost use Rattle.gn_tables.specs.Routed.{IsNewKey};
+ghost use Rattle.gn_kept.specs.Remembered.{IsNewKey};
 ghost use Rattle.gn_table_router.specs.Followed as after;
 ghost use Rattle.gn_table_router.specs.Sent.{CanSend, sent};
 

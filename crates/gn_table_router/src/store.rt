@@ -5,9 +5,10 @@ ghost use Rattle.gn_rules.specs.History.{sends_of};
 
 use crate::tables::Tables;
 use gn_decide::{Lookup, Places};
+use gn_kept::SeenTable;
 use gn_router::{FreshStore, StepStore, Store};
 use gn_rules::{Config, ConnId, Event, Reply, Sends, Stats, Step, Ticket};
-use gn_tables::{Flights, Forgetful, Keeper, Neighbours, SeenTable, ServentTable, Whole};
+use gn_tables::{Flights, Forgetful, Keeper, Neighbours, ServentTable, Whole};
 use gn_wire::{Descriptor, Guid, Key};
 use std::alloc::{AllocError, Allocator, Global};
 use std::marker::Model;

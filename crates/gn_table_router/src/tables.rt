@@ -1,7 +1,8 @@
 //! The tables of a router.
 
+use gn_kept::SeenTable;
 use gn_rules::{Stats, Ticket};
-use gn_tables::{Flights, Neighbours, SeenTable, ServentTable};
+use gn_tables::{Flights, Neighbours, ServentTable};
 use std::alloc::{Allocator, Global};
 
 /// What a router remembers, and how much it has counted.

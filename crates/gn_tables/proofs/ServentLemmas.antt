@@ -12,7 +12,7 @@ use Rattle.lru.specs.LruCache.{LruCache, lru_cache, put_entries}
 use Rattle.gn_wire.specs.declared.kind.Guid.{Guid}
 use Rattle.gn_wire.specs.Keys.{is_same_id}
 use Rattle.gn_wire.specs.contracts.kind.GuidPartialEq.TheImpl as derived
-use Rattle.gn_tables.proofs.KeyLists.{apart_in_first, apart_without}
+use Rattle.gn_kept.proofs.KeyLists.{apart_in_first, apart_without}
 use Rattle.gn_tables.specs.Servents.{AreServents, Servents, learned}
 
 servent_laws : IsEquivalence is_same_id

@@ -3,6 +3,5 @@ pub mod Counts
 pub mod Flying
 pub mod Origins
 pub mod Outputs
-pub mod Remembered
 pub mod Routed
 pub mod Servents

@@ -1,5 +1,5 @@
-//! The tables that a router answers out of: what it has seen, the routes to servents, what waits for its neighbours, what is in
-//! flight; and what becomes of its steps.
+//! The tables that a router answers out of: the routes to servents, what waits for its neighbours, what is in flight, beside what it has
+//! seen; and what becomes of its steps.
 #![tactic(auto)]
 
 mod counts;
@@ -9,7 +9,6 @@ mod keeper;
 mod neighbours;
 mod queueing;
 mod remembering;
-mod seen;
 mod servents;
 mod whole;
 
@@ -19,6 +18,5 @@ pub use keeper::Keeper;
 pub use neighbours::Neighbours;
 pub use queueing::queue_one;
 pub use remembering::remember;
-pub use seen::SeenTable;
 pub use servents::ServentTable;
 pub use whole::Whole;

@@ -8,12 +8,13 @@ ghost use Rattle.std.specs.Option.{option_copied, option_map};
 ghost use Rattle.gn_tables.specs.Outputs.{AreOutputs, first_of, has_room, joined, left, output_of, popped, pushed};
 
 use circular_buffer::HeapCircularBuffer;
+use gn_kept::{Output, put};
 use gn_wire::Descriptor;
 use std::alloc::{AllocError, Allocator, Global};
 use std::marker::Model;
 
 /// A connection, and the ring of the packets that wait for it.
-type Row<A> = (u32, HeapCircularBuffer<Descriptor<A>, A>);
+type Row<A> = (u32, Output<A>);
 
 /// The live connections, ascending, each with the packets that wait for it, the first to go first. A connection is found by
 /// binary search. Its ring takes its memory at once when it is added, 64 bytes for each packet that may wait: 262,144 bytes for
@@ -216,7 +217,7 @@ impl<A: Allocator + Copy> Neighbours<A> {
         let Some(place) = place_of(&self.rows, near, connection) else {
             return Err(packet);
         };
-        self.rows[place].1.try_push_back(packet)
+        put(&mut self.rows[place].1, packet)
     }
 
     /// Takes the packet that has waited longest for the connection. `None` where there is none, or no such connection.

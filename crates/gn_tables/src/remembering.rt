@@ -2,11 +2,12 @@
 
 ghost use Rattle.std.specs.Prelude.{◌≡◌, OnErr, OnOk};
 ghost use Rattle.gn_rules.specs.Servents.{is_query_hit};
-ghost use Rattle.gn_tables.specs.Routed.{CanRemember, carried, with_heard, with_kept};
+ghost use Rattle.gn_kept.specs.Remembered.{with_kept};
+ghost use Rattle.gn_tables.specs.Routed.{CanRemember, carried, with_heard};
 
 use crate::flights::Flight;
-use crate::seen::SeenTable;
 use crate::servents::ServentTable;
+use gn_kept::SeenTable;
 use gn_payload::servent_of_hit;
 use gn_rules::Reply;
 use gn_wire::Kind;
@@ -26,9 +27,7 @@ pub fn remember<A: Allocator + Copy>(
     ensures err { OnErr result ((seen.new ≡ seen.old) × (servents.new ≡ servents.old)) }
 {
     let descriptor = &flight.descriptor;
-    if reply.keeps(descriptor.kind()) {
-        return seen.keep(descriptor.kind(), descriptor.id(), flight.from);
-    }
+    seen.keep_routed(flight.from, descriptor, reply)?;
     if is_hit(descriptor.kind()) && reply.is_routed() {
         return servents.learn(servent_of_hit(descriptor.payload().as_slice()), flight.from);
     }

@@ -72,7 +72,8 @@ pub mod router {
 
 /// The tables of a router.
 pub mod tables {
-    pub use gn_tables::{Flight, Flights, Neighbours, SeenTable, ServentTable};
+    pub use gn_kept::SeenTable;
+    pub use gn_tables::{Flight, Flights, Neighbours, ServentTable};
 }
 
 /// The stage queue between readers and workers.

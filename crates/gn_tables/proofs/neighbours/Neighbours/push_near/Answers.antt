@@ -17,29 +17,29 @@ returns-in_default-clause-err g c =
 
 pub invariant_of-self : goal.invariant_of-self
 invariant_of-self g c =
-    (pushed_row c.args.connection c.self.inside.most c.self.inside.room c.self.inside.rows.items _ c.index_mut.result.now.1 c.try_push_back.new.self c.self.invariant
+    (pushed_row c.args.connection c.self.inside.most c.self.inside.room c.self.inside.rows.items _ c.index_mut.result.now.1 c.put.new.output c.self.invariant
     (record {
       found = placed c.args.connection c.self.inside.rows.items c.deref.result.now c.deref.ensures.value c.in-Some.place c.in-Some.ensures c.index_mut.result.now c.index_mut.ensures.value;
-      is = written c.args.connection c.self.inside.rows.items c.deref.result.now c.deref.ensures.value c.in-Some.place c.in-Some.ensures c.index_mut.result.now c.try_push_back.new.self c.index_mut.ensures.value;
+      is = written c.args.connection c.self.inside.rows.items c.deref.result.now c.deref.ensures.value c.in-Some.place c.in-Some.ensures c.index_mut.result.now c.put.new.output c.index_mut.ensures.value;
     })
-    c.args.packet c.try_push_back.result (record { variant = c.try_push_back.ensures.variant; ok = c.try_push_back.ensures.ok; err = c.try_push_back.ensures.err })).rings
+    c.args.packet c.put.result (record { variant = c.put.ensures.variant; ok = c.put.ensures.ok; err = c.put.ensures.err })).rings
 
 pub returns-clause-ok : goal.returns-clause-ok
 returns-clause-ok g c =
     rw (← c.self.view_is)
-    (pushed_row c.args.connection c.self.inside.most c.self.inside.room c.self.inside.rows.items _ c.index_mut.result.now.1 c.try_push_back.new.self c.self.invariant
+    (pushed_row c.args.connection c.self.inside.most c.self.inside.room c.self.inside.rows.items _ c.index_mut.result.now.1 c.put.new.output c.self.invariant
     (record {
       found = placed c.args.connection c.self.inside.rows.items c.deref.result.now c.deref.ensures.value c.in-Some.place c.in-Some.ensures c.index_mut.result.now c.index_mut.ensures.value;
-      is = written c.args.connection c.self.inside.rows.items c.deref.result.now c.deref.ensures.value c.in-Some.place c.in-Some.ensures c.index_mut.result.now c.try_push_back.new.self c.index_mut.ensures.value;
+      is = written c.args.connection c.self.inside.rows.items c.deref.result.now c.deref.ensures.value c.in-Some.place c.in-Some.ensures c.index_mut.result.now c.put.new.output c.index_mut.ensures.value;
     })
-    c.args.packet c.try_push_back.result (record { variant = c.try_push_back.ensures.variant; ok = c.try_push_back.ensures.ok; err = c.try_push_back.ensures.err })).ok
+    c.args.packet c.put.result (record { variant = c.put.ensures.variant; ok = c.put.ensures.ok; err = c.put.ensures.err })).ok
 
 pub returns-clause-err : goal.returns-clause-err
 returns-clause-err g c =
     rw (← c.self.view_is)
-    (pushed_row c.args.connection c.self.inside.most c.self.inside.room c.self.inside.rows.items _ c.index_mut.result.now.1 c.try_push_back.new.self c.self.invariant
+    (pushed_row c.args.connection c.self.inside.most c.self.inside.room c.self.inside.rows.items _ c.index_mut.result.now.1 c.put.new.output c.self.invariant
     (record {
       found = placed c.args.connection c.self.inside.rows.items c.deref.result.now c.deref.ensures.value c.in-Some.place c.in-Some.ensures c.index_mut.result.now c.index_mut.ensures.value;
-      is = written c.args.connection c.self.inside.rows.items c.deref.result.now c.deref.ensures.value c.in-Some.place c.in-Some.ensures c.index_mut.result.now c.try_push_back.new.self c.index_mut.ensures.value;
+      is = written c.args.connection c.self.inside.rows.items c.deref.result.now c.deref.ensures.value c.in-Some.place c.in-Some.ensures c.index_mut.result.now c.put.new.output c.index_mut.ensures.value;
     })
-    c.args.packet c.try_push_back.result (record { variant = c.try_push_back.ensures.variant; ok = c.try_push_back.ensures.ok; err = c.try_push_back.ensures.err })).err
+    c.args.packet c.put.result (record { variant = c.put.ensures.variant; ok = c.put.ensures.ok; err = c.put.ensures.err })).err

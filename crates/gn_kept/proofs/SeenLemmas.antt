@@ -11,8 +11,8 @@ use Rattle.gn_wire.specs.declared.key.Key.{Key}
 use Rattle.gn_wire.specs.contracts.key.KeyPartialEq.TheImpl as derived
 use Rattle.gn_wire.specs.Keys.{is_same_key}
 use Rattle.gn_wire.proofs.KeyLemmas.{same_test, key_laws}
-use Rattle.gn_tables.proofs.KeyLists.{apart_in_first}
-use Rattle.gn_tables.specs.Remembered.{AreSources, forgotten}
+use Rattle.gn_kept.proofs.KeyLists.{apart_in_first}
+use Rattle.gn_kept.specs.Remembered.{AreSources, forgotten}
 
 -- the entries after w is written at the key, by the derived `==`
 abbrev pub IsWritten : List (Key × ℕ) → List (Key × ℕ) → Key → Option ℕ → Type 0

@@ -1,10 +1,13 @@
 -- The descriptors that a router remembers.
-use Rattle.std.specs.Prelude.{◌≡◌, ◌<◌, ◌≤◌, ℕ, List, ◌∷◌, length, take, Option, cond, None}
+use Rattle.std.specs.Prelude.{◌≡◌, ◌<◌, ◌≤◌, ℕ, List, ◌∷◌, length, take, Option, cond, if◌then◌else◌, None}
 use Rattle.std.specs.List.{IsDistinct}
 use Rattle.std.specs.Map.{lookup, keys_of}
 use Rattle.std.specs.Option.{option_map_or}
 use Rattle.gn_wire.specs.declared.key.Key.{Key}
-use Rattle.gn_wire.specs.Keys.{is_same_key}
+use Rattle.gn_wire.specs.Keys.{is_same_key, key_of}
+use Rattle.gn_rules.specs.declared.reply.Reply.{Reply}
+use Rattle.gn_rules.specs.Flight.{Admission}
+use Rattle.gn_rules.specs.SeenEntries.{keeps}
 
 -- the seen entries, newest first: each the key of a descriptor and where it came from; and how many there may be
 pub record Remembered : Type 0 where
@@ -14,6 +17,14 @@ pub record Remembered : Type 0 where
 -- the table with one more seen entry first; where it was full, the last one is forgotten
 abbrev pub with_entry : Key → ℕ → Remembered → Remembered
 with_entry key from t = record t { seen_entries = take t.most ((key, from) ∷ t.seen_entries) }
+
+-- the table after a route with this reply: with the descriptor's key and source where it is kept
+abbrev pub with_kept : {A : Type 0} → Reply A → Admission → Remembered → Remembered
+with_kept reply a t = if keeps a.packet.kind reply then with_entry (key_of a.packet) a.origin t else t
+
+-- a key that is kept isn't there yet
+abbrev pub IsNewKey : Key → Remembered → Type 0
+IsNewKey key t = lookup (is_same_key key) t.seen_entries ≡ None
 
 -- what every table keeps: it isn't too long, and no key stands in it twice
 pub record IsRemembered (t : Remembered) : Type 0 where

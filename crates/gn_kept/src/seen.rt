@@ -1,14 +1,17 @@
 //! The last descriptors that were remembered, and where each came from.
 
-ghost use Rattle.std.specs.Prelude.{◌≡◌, ◌<◌, ◌≤◌, [], None, IfOk, OnErr, OnOk};
+ghost use Rattle.std.specs.Prelude.{◌≡◌, ◌<◌, ◌≤◌, [], None, true, IfOk, OnErr, OnOk};
 ghost use Rattle.std.specs.Map.{lookup};
+ghost use Rattle.circular_buffer.specs.Buffer.{buffer};
 ghost use Rattle.indexmap.specs.IndexMap.{spare};
 ghost use Rattle.gn_wire.specs.declared.key.Key.{Key};
-ghost use Rattle.gn_wire.specs.Keys.{is_same_key};
-ghost use Rattle.gn_tables.specs.Remembered.{IsRemembered, forgotten, with_entry};
+ghost use Rattle.gn_wire.specs.Keys.{is_same_key, key_of};
+ghost use Rattle.gn_rules.specs.SeenEntries.{keeps};
+ghost use Rattle.gn_kept.specs.Remembered.{IsNewKey, IsRemembered, forgotten, with_entry, with_kept};
 
 use circular_buffer::HeapCircularBuffer;
-use gn_wire::{Guid, Key, Kind};
+use gn_rules::{ConnId, Reply};
+use gn_wire::{Descriptor, Guid, Key, Kind};
 use indexmap::IndexMap;
 use std::alloc::{AllocError, Allocator, Global};
 use std::hash::{BuildHasherDefault, FoldHasher};
@@ -17,17 +20,20 @@ use std::marker::Model;
 /// The source of each key that is remembered.
 type Sources<A> = IndexMap<Key, u32, BuildHasherDefault<FoldHasher>, A>;
 
+/// The keys that are remembered, newest first, each with its source.
+type Ring<A> = HeapCircularBuffer<(Key, u32), A>;
+
 /// The keys that were kept last, newest first, each with the connection that it came from. Keys are hashed with a fixed
 /// seed. The ring takes its memory at once, 24 bytes for each key that may be kept (1,572,864 bytes for 65,536); the
 /// hashed table grows as keys come.
 #[derive(Drop)]
 pub struct SeenTable<A: Allocator + Copy = Global> {
     sources: Sources<A>,
-    ring: HeapCircularBuffer<(Key, u32), A>,
+    ring: Ring<A>,
 }
 
 impl<A: Allocator + Copy> Model for SeenTable<A> {
-    ghost use Rattle.gn_tables.specs.Remembered.{AreSources, Remembered};
+    ghost use Rattle.gn_kept.specs.Remembered.{AreSources, Remembered};
 
     ghost Value = { Remembered };
 
@@ -45,7 +51,7 @@ impl<A: Allocator + Copy> SeenTable<A> {
     {
         Ok(SeenTable {
             sources: IndexMap::new(alloc),
-            ring: HeapCircularBuffer::with_capacity(alloc, most as usize)?,
+            ring: ring_of(alloc, most)?,
         })
     }
 
@@ -59,7 +65,7 @@ impl<A: Allocator + Copy> SeenTable<A> {
 
     /// Keeps a new key first; a full table forgets its oldest one. An `Err` is out of memory, and changes nothing.
     pub fn keep(&mut self, kind: Kind, id: Guid, from: u32) -> Result<(), AllocError>
-        requires { lookup (is_same_key (record { kind = kind; id = id })) self.old.seen_entries ≡ None }
+        requires { IsNewKey (record { kind = kind; id = id }) self.old }
         ensures ok { OnOk result (self.new ≡ with_entry (record { kind = kind; id = id }) from self.old) }
         ensures err { OnErr result (self.new ≡ self.old) }
     {
@@ -72,6 +78,32 @@ impl<A: Allocator + Copy> SeenTable<A> {
             Err(_) => unreachable!(),
         }
     }
+
+    /// Keeps the key of a descriptor of this connection, where a route with this reply is kept. An `Err` is out of memory, and
+    /// changes nothing.
+    pub fn keep_routed(
+        &mut self,
+        from: ConnId,
+        descriptor: &Descriptor<A>,
+        reply: &Reply<A>,
+    ) -> Result<(), AllocError>
+        requires { keeps descriptor.now.kind reply.now ≡ true → IsNewKey (key_of descriptor.now) self.old }
+        ensures ok { OnOk result
+            (self.new ≡ with_kept reply.now (record { origin = from; packet = descriptor.now }) self.old) }
+        ensures err { OnErr result (self.new ≡ self.old) }
+    {
+        if reply.keeps(descriptor.kind()) {
+            return self.keep(descriptor.kind(), descriptor.id(), from);
+        }
+        Ok(())
+    }
+}
+
+/// The entries of a table, none of them yet.
+fn ring_of<A: Allocator>(alloc: A, most: u32) -> Result<Ring<A>, AllocError>
+    ensures { IfOk result (λ ring. ring ≡ buffer [] most) }
+{
+    HeapCircularBuffer::with_capacity(alloc, most as usize)
 }
 
 /// Forgets the source of the key that fell out of the ring.

@@ -2,9 +2,9 @@ use Rattle.std.proofs.Common.{ap, ◌∙◌}
 use Rattle.std.specs.Map.{lookup}
 use Rattle.gn_wire.specs.declared.key.Key.{Key}
 use Rattle.gn_wire.specs.Keys.{is_same_key}
-use Rattle.gn_tables.specs.Remembered.{Remembered}
-use Rattle.gn_tables.proofs.SeenLemmas.{kept_in}
-use Rattle.gn_tables.proofs.seen.SeenTable.keep.Goals as goal
+use Rattle.gn_kept.specs.Remembered.{Remembered}
+use Rattle.gn_kept.proofs.SeenLemmas.{kept_in}
+use Rattle.gn_kept.proofs.seen.SeenTable.keep.Goals as goal
 
 pub invariant_of-self-2 : goal.invariant_of-self-2
 invariant_of-self-2 g c =

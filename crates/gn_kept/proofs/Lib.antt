@@ -1,0 +1,2 @@
+pub mod KeyLists
+pub mod SeenLemmas
