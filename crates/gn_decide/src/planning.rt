@@ -3,7 +3,7 @@
 ghost use Rattle.std.specs.Prelude.{◌≡◌, ◌==◌, ◌&&◌, Ok, IfOk, length, nat_le, not, reverse};
 ghost use Rattle.gn_wire.specs.Packet.{Packet};
 ghost use Rattle.gn_rules.specs.Answer as rules;
-ghost use Rattle.gn_rules.specs.Flight.{flying_from, in_flight};
+ghost use Rattle.gn_rules.specs.Flight.{flying, flying_from, in_flight};
 ghost use Rattle.gn_rules.specs.declared.event.Event.TheVariants.{Connect, Close, Admit, Route, Take, Originate};
 ghost use Rattle.gn_decide.specs.Planned.{plan_reply, planned};
 
@@ -51,6 +51,13 @@ fn is_crowded<A: Allocator, L: Lookup<A>>(past: &L, c: ConnId) -> bool
     crowd != 0 && crowd <= past.flights_of(c)
 }
 
+/// Whether as many tickets are in flight as there may be.
+fn is_busy<A: Allocator, L: Lookup<A>>(past: &L) -> bool
+    ensures { result ≡ (length (flying (reverse (L.steps past.now))) == (L.settings past.now).numbers.stage) }
+{
+    past.flights() == past.config().numbers.stage
+}
+
 /// The plan for an Admit.
 #[inline(always)]
 fn plan_admit<A: Allocator, L: Lookup<A>>(past: &L, c: ConnId) -> Result<Found<'_, A>, Refusal>
@@ -60,7 +67,7 @@ fn plan_admit<A: Allocator, L: Lookup<A>>(past: &L, c: ConnId) -> Result<Found<'
     if !past.is_live(c) {
         return Err(Refusal::NotLive);
     }
-    if past.flights() == past.config().numbers.stage {
+    if is_busy(past) {
         return Ok(Found::anywhere(Plan::Ready(Reply::Busy)));
     }
     if is_crowded(past, c) {
