@@ -234,6 +234,6 @@ impl<A: Allocator + Copy> StepStore<A> for TableStore<A, Whole<A>> {
     }
 
     fn into_steps(self) -> Vec<Step<A>, A> {
-        self.history.steps
+        self.into_keeper().steps
     }
 }
