@@ -62,34 +62,48 @@ fn have_both_ended(
     report.history.len() == 5 && have_ended(report, 0, 1, first) && have_ended(report, 1, 2, second)
 }
 
-/// A run that is stopped while it calls a peer that isn't there ends well: that link never comes, and the one before it has all.
-#[test]
-fn a_stop_ends_the_calls(rt: HostRuntime) -> Result<(), Fail> {
-    let stop = Stop::new(Some(Duration::from_secs(1)), false);
+/// Whether a run of a peer that calls or is called, and of one that isn't there, which is called again and again, ends so: in
+/// this time, where there is one.
+fn both_end<
+    R: Threads
+        + Wait
+        + Net<Listener = TcpListener, Stream = TcpStream>
+        + Sync
+        + Abort
+        + Clock
+        + AllocGlobal,
+>(
+    rt: &R,
+    alloc: Global,
+    time: Option<Duration>,
+    peer: Peer,
+    accept: u32,
+    first: (ReaderEnd, WriterEnd),
+    second: (ReaderEnd, WriterEnd),
+) -> Result<bool, Fail> {
+    let stop = Stop::new(time, false);
     let serving = Serving {
         retry: Some(Duration::from_secs(30)),
         stop: Some(&stop),
         ..Serving::UNLIMITED
     };
-    let report = report_beside_nobody(&rt, rt.alloc(), Peer::Called, 0, &serving)?;
-    let have_ended = have_both_ended(&report, DRAINED, MISSING);
+    let report = report_beside_nobody(rt, alloc, peer, accept, &serving)?;
+    let have_ended = have_both_ended(&report, first, second);
     drop(report);
-    assert!(rt; have_ended);
+    Ok(have_ended)
+}
+
+/// A run that is stopped while it calls a peer that isn't there ends well: that link never comes, and the one before it has all.
+#[test]
+fn a_stop_ends_the_calls(rt: HostRuntime) -> Result<(), Fail> {
+    let time = Some(Duration::from_secs(1));
+    assert!(rt; both_end(&rt, rt.alloc(), time, Peer::Called, 0, DRAINED, MISSING)?);
     Ok(())
 }
 
 /// A caller is served while a peer is still called that isn't there.
 #[test]
 fn a_caller_waits_for_no_peer(rt: HostRuntime) -> Result<(), Fail> {
-    let stop = Stop::new(None, false);
-    let serving = Serving {
-        retry: Some(Duration::from_secs(60)),
-        stop: Some(&stop),
-        ..Serving::UNLIMITED
-    };
-    let report = report_beside_nobody(&rt, rt.alloc(), Peer::Stops, 1, &serving)?;
-    let have_ended = have_both_ended(&report, MISSING, DRAINED);
-    drop(report);
-    assert!(rt; have_ended);
+    assert!(rt; both_end(&rt, rt.alloc(), None, Peer::Stops, 1, MISSING, DRAINED)?);
     Ok(())
 }

@@ -52,15 +52,29 @@ fn is_served_late<N: Clock>(clock: &N, client: &mut TcpStream, held: Vec<File>) 
     waits && hears(client, gn_shake::consent()) && hears(client, OWN_PONG)
 }
 
+/// The fault of a run where no handles are left.
+fn fault_without_handles<
+    R: Threads
+        + Wait
+        + Net<Listener = TcpListener, Stream = TcpStream>
+        + Files<File = File>
+        + Sync
+        + Clock
+        + AllocGlobal,
+>(rt: &R, alloc: Global) -> Result<Option<RunFault>, Fail> {
+    let listener = a_listener(rt)?;
+    let held = take_all(rt, alloc)?;
+    let served = serve(rt, alloc, &listener, 100, 1, &[], &Serving::UNLIMITED);
+    drop(held);
+    drop(listener);
+    Ok(served.err())
+}
+
 /// A run that can't be called away from its listener doesn't begin, and says so.
 #[test]
 fn want_of_handles_is_no_want_of_memory(rt: HostRuntime) -> Result<(), Fail> {
-    let alloc = rt.alloc();
-    let listener = a_listener(&rt)?;
-    let held = take_all(&rt, alloc)?;
-    let served = serve(&rt, alloc, &listener, 100, 1, &[], &Serving::UNLIMITED);
-    drop(held);
-    assert_eq!(rt; served.err(), Some(RunFault::Listen));
+    let fault = fault_without_handles(&rt, rt.alloc())?;
+    assert_eq!(rt; fault, Some(RunFault::Listen));
     Ok(())
 }
 
@@ -86,21 +100,62 @@ fn beside_client<
     )
 }
 
-/// A caller for which there is no handle waits until there is one, and ends no run.
-#[test]
-fn a_caller_waits_for_a_handle(rt: HostRuntime) -> Result<(), Fail> {
-    let listener = a_listener(&rt)?;
-    let mut client = sent(&rt, listener.local_addr()?, PING)?;
+/// A client that has called there, and sends a Ping and its end.
+fn calling<N: Net<Listener = TcpListener, Stream = TcpStream>>(
+    net: &N,
+    listener: &TcpListener,
+) -> Result<TcpStream, Fail> {
+    let client = sent(net, listener.local_addr()?, PING)?;
     client.shutdown(Shutdown::Write)?;
-    let mut held = take_all(&rt, rt.alloc())?;
-    // one is for the run's own
-    let _ = held.pop();
-    let (is_good, served) = beside_client(&rt, rt.alloc(), &listener, &mut client, held);
+    Ok(client)
+}
+
+/// All handles except one, which is for the run's own.
+fn all_but_one<R: Files<File = File>>(rt: &R, alloc: Global) -> Result<Vec<File>, Fail> {
+    let mut held = take_all(rt, alloc)?;
+    drop(held.pop());
+    Ok(held)
+}
+
+/// Whether a client is served once there are handles again, and what the run answers.
+fn served_late<
+    R: Threads
+        + Wait
+        + Net<Listener = TcpListener, Stream = TcpStream>
+        + Files<File = File>
+        + Sync
+        + Clock
+        + AllocGlobal,
+>(rt: &R, alloc: Global) -> Result<(bool, Result<TcpReport<'static>, RunFault>), Fail> {
+    let listener = a_listener(rt)?;
+    let mut client = calling(rt, &listener)?;
+    let held = all_but_one(rt, alloc)?;
+    let both = beside_client(rt, alloc, &listener, &mut client, held);
     drop(client);
     drop(listener);
+    Ok(both)
+}
+
+/// Whether such a run serves that client, and ends.
+fn serves_late<
+    R: Threads
+        + Wait
+        + Net<Listener = TcpListener, Stream = TcpStream>
+        + Files<File = File>
+        + Sync
+        + Clock
+        + AllocGlobal,
+>(rt: &R, alloc: Global) -> Result<bool, Fail> {
+    let (is_good, served) = served_late(rt, alloc)?;
     let report = a_report(served)?;
     let has_ended = have_ended(&report, 0, 1, DRAINED);
     drop(report);
-    assert!(rt; is_good && has_ended);
+    Ok(is_good && has_ended)
+}
+
+/// A caller for which there is no handle waits until there is one, and ends no run.
+#[test]
+fn a_caller_waits_for_a_handle(rt: HostRuntime) -> Result<(), Fail> {
+    assert!(rt; serves_late(&rt, rt.alloc())?);
     Ok(())
 }

@@ -19,7 +19,7 @@ use std::test::Fail;
 use std::thread::Threads;
 use std::time::{Clock, Duration};
 
-/// Whether of four callers of a run one comes, and is served, where this stops the run.
+/// Whether of four callers of a run one comes, and is served, where this time or that caller stops the run.
 fn is_stopped<
     R: Threads
         + Wait
@@ -28,10 +28,11 @@ fn is_stopped<
         + Abort
         + Clock
         + AllocGlobal,
->(rt: &R, alloc: Global, stop: &Stop, peer: Peer) -> Result<bool, Fail> {
+>(rt: &R, alloc: Global, time: Option<Duration>, peer: Peer) -> Result<bool, Fail> {
     let missing = (ReaderEnd::GreetingCut, WriterEnd::NeverOpened);
+    let stop = Stop::new(time, false);
     let serving = Serving {
-        stop: Some(stop),
+        stop: Some(&stop),
         ..Serving::UNLIMITED
     };
     let report = report_of(rt, alloc, peer, 100, 4, &serving)?;
@@ -46,10 +47,9 @@ fn is_stopped<
 /// Of four callers of a run one comes, and doesn't end: a time stops the run, or the caller.
 #[test]
 fn a_run_is_stopped(rt: HostRuntime) -> Result<(), Fail> {
-    let in_time = Stop::new(Some(Duration::from_secs(3)), false);
-    assert!(rt; is_stopped(&rt, rt.alloc(), &in_time, Peer::Stays)?);
-    let by_caller = Stop::new(None, false);
-    assert!(rt; is_stopped(&rt, rt.alloc(), &by_caller, Peer::Stops)?);
+    let in_time = Some(Duration::from_secs(3));
+    assert!(rt; is_stopped(&rt, rt.alloc(), in_time, Peer::Stays)?);
+    assert!(rt; is_stopped(&rt, rt.alloc(), None, Peer::Stops)?);
     Ok(())
 }
 
@@ -73,21 +73,24 @@ impl<'a> Read for Slow<'a> {
     }
 }
 
+/// How many of so many bytes are left of an input once it has stopped a run, whether the run was stopped before its end, and
+/// whether it is then.
+fn stopped_at_end(bytes: u32) -> Result<(u32, bool, bool), Fail> {
+    let stop = Stop::new(None, false);
+    let mut input = Slow {
+        stop: &stop,
+        left: bytes,
+        was_set: false,
+    };
+    stop.set_at_end(&mut input)?;
+    Ok((input.left, input.was_set, stop.is_set()))
+}
+
 /// The end of an input stops a run, and nothing before it.
 #[test]
 fn an_end_of_input_is_a_stop(rt: HostRuntime) -> Result<(), Fail> {
     for bytes in 0..3 {
-        let stop = Stop::new(None, false);
-        let mut input = Slow {
-            stop: &stop,
-            left: bytes,
-            was_set: false,
-        };
-        stop.set_at_end(&mut input)?;
-        assert_eq!(rt;
-            (input.left, input.was_set, stop.is_set()),
-            (0, false, true)
-        );
+        assert_eq!(rt; stopped_at_end(bytes)?, (0, false, true));
     }
     Ok(())
 }
@@ -111,26 +114,55 @@ fn is_kept<
     Ok(is_legal? && served == Err(ServeFault::Run(RunFault::HistoryFull)))
 }
 
+/// Whether that history is written, and the client is let in.
+fn is_let_in_and_kept<
+    R: Threads
+        + Wait
+        + Net<Listener = TcpListener, Stream = TcpStream>
+        + Sync
+        + Clock
+        + AllocGlobal,
+>(rt: &R, alloc: Global) -> Result<bool, Fail> {
+    let listener = a_listener(rt)?;
+    let mut client = sent(rt, listener.local_addr()?, PING)?;
+    let is_kept = is_kept(rt, alloc, &listener);
+    let is_let_in = hears(&mut client, gn_shake::consent());
+    drop(client);
+    drop(listener);
+    Ok(is_kept? && is_let_in)
+}
+
 #[test]
 fn a_history_is_kept(rt: HostRuntime) -> Result<(), Fail> {
-    let listener = a_listener(&rt)?;
-    let mut client = sent(&rt, listener.local_addr()?, PING)?;
-    assert!(rt; is_kept(&rt, rt.alloc(), &listener)?);
-    assert!(rt; hears(&mut client, gn_shake::consent()));
+    assert!(rt; is_let_in_and_kept(&rt, rt.alloc())?);
     Ok(())
 }
 
-/// A flooder doesn't fill the history: what is read once nine tenths of it are made is one piece at most.
-#[test]
-fn a_flood_is_stopped_early(rt: HostRuntime) -> Result<(), Fail> {
+/// How many steps a run makes of at most ten thousand that a flood stops.
+fn steps_of_a_flood<
+    R: Threads
+        + Wait
+        + Net<Listener = TcpListener, Stream = TcpStream>
+        + Sync
+        + Abort
+        + Clock
+        + AllocGlobal,
+>(rt: &R, alloc: Global) -> Result<usize, Fail> {
     let stop = Stop::new(None, true);
     let serving = Serving {
         stop: Some(&stop),
         ..Serving::UNLIMITED
     };
-    let report = report_of(&rt, rt.alloc(), Peer::Floods, 10_000, 1, &serving)?;
+    let report = report_of(rt, alloc, Peer::Floods, 10_000, 1, &serving)?;
     let steps = report.history.len();
     drop(report);
+    Ok(steps)
+}
+
+/// A flooder doesn't fill the history: what is read once nine tenths of it are made is one piece at most.
+#[test]
+fn a_flood_is_stopped_early(rt: HostRuntime) -> Result<(), Fail> {
+    let steps = steps_of_a_flood(&rt, rt.alloc())?;
     assert!(rt; 9_000 < steps && steps < 10_000, "{steps}");
     Ok(())
 }

@@ -52,6 +52,29 @@ fn accepted<N: Net<Listener = TcpListener, Stream = TcpStream>>(
     }
 }
 
+/// The halves of an accepted link, and the peer that called it.
+#[derive(Drop)]
+struct Ends {
+    reader: TcpReader<'static>,
+    writer: TcpWriter,
+    peer: TcpStream,
+}
+
+/// Both ends of this link.
+fn ends_of(link: TcpLink<'static>, peer: TcpStream) -> Result<Ends, Fail> {
+    match link.split() {
+        Ok((reader, writer)) => Ok(Ends {
+            reader,
+            writer,
+            peer,
+        }),
+        Err(_) => {
+            drop(peer);
+            Err("halves".into())
+        }
+    }
+}
+
 /// What a write to a link gives. It has no clause, as the two after it: a test's own proof would carry each of them along.
 fn write<R: Wait>(rt: &R, writer: &mut TcpWriter, bytes: &[u8]) -> Result<usize, LinkFault> {
     writer.write(rt, bytes)
@@ -93,27 +116,92 @@ fn are_linked<R: Wait>(
     are_both_ways && read(rt, &mut far.0) == Ok(0) && read(rt, &mut near.0) == Ok(0)
 }
 
+/// The halves of a link that is called there.
+fn called<N: Net<Listener = TcpListener, Stream = TcpStream>>(
+    net: &N,
+    there: SocketAddr,
+) -> Result<(TcpReader<'static>, TcpWriter), Fail> {
+    halves(a_link(TcpLink::call(net, there))?)
+}
+
+/// The halves of a link that is accepted.
+fn answered(listener: &TcpListener) -> Result<(TcpReader<'static>, TcpWriter), Fail> {
+    halves(a_link(TcpLink::accept(listener))?)
+}
+
+/// Whether a link that is called there and the one that is accepted are linked.
+fn is_linked_at<R: Net<Listener = TcpListener, Stream = TcpStream> + Wait>(
+    rt: &R,
+    listener: &TcpListener,
+) -> Result<bool, Fail> {
+    let mut near = called(rt, listener.local_addr()?)?;
+    let mut far = answered(listener)?;
+    let are_linked = are_linked(rt, &mut near, &mut far);
+    drop(far);
+    drop(near);
+    Ok(are_linked)
+}
+
+/// Whether a called link and the one that is accepted are linked.
+fn is_linked<R: Net<Listener = TcpListener, Stream = TcpStream> + Wait>(
+    rt: &R,
+) -> Result<bool, Fail> {
+    let listener = a_listener(rt)?;
+    let is_linked = is_linked_at(rt, &listener);
+    drop(listener);
+    is_linked
+}
+
 #[test]
 fn a_called_link_and_an_accepted_one(rt: HostRuntime) -> Result<(), Fail> {
-    let listener = a_listener(&rt)?;
-    let called = a_link(TcpLink::call(&rt, listener.local_addr()?))?;
-    let mut near = halves(called)?;
-    let mut far = halves(a_link(TcpLink::accept(&listener))?)?;
-    assert!(rt; are_linked(&rt, &mut near, &mut far));
+    assert!(rt; is_linked(&rt)?);
     Ok(())
+}
+
+/// Whether so many bytes, fewer than 8, are there to be read.
+fn has_waiting(peer: &TcpStream, count: usize) -> bool {
+    matches!(peer.peek(&mut [0u8; 8]), Ok(n) if n == count)
+}
+
+/// Whether so many bytes, fewer than 8, come next: no byte, where no more come.
+fn takes(peer: &mut TcpStream, count: usize) -> bool {
+    matches!(peer.read(&mut [0u8; 8]), Ok(n) if n == count)
+}
+
+/// Whether bytes reach a peer, which leaves them unread and closes.
+fn is_left_unread<R: Wait>(rt: &R, writer: &mut TcpWriter, peer: TcpStream) -> bool {
+    let is_left = write(rt, writer, b"unread") == Ok(6) && has_waiting(&peer, 6);
+    drop(peer);
+    is_left
+}
+
+/// Whether a read and then a write fail.
+fn fails<R: Wait>(rt: &R, reader: &mut TcpReader<'static>, writer: &mut TcpWriter) -> bool {
+    let fails = read(rt, reader) == Err(LinkFault) && write(rt, writer, b"more") == Err(LinkFault);
+    finish(rt, writer);
+    fails
+}
+
+/// Whether a link whose peer leaves bytes unread and closes is reset.
+fn is_reset<R: Net<Listener = TcpListener, Stream = TcpStream> + Wait>(
+    rt: &R,
+) -> Result<bool, Fail> {
+    let (link, peer) = accepted(rt)?;
+    let Ends {
+        mut reader,
+        mut writer,
+        peer,
+    } = ends_of(link, peer)?;
+    let is_reset = is_left_unread(rt, &mut writer, peer) && fails(rt, &mut reader, &mut writer);
+    drop(writer);
+    drop(reader);
+    Ok(is_reset)
 }
 
 /// A peer that leaves bytes unread and closes resets the link: a read and then a write fail, and no signal ends the process.
 #[test]
 fn a_reset_is_a_fault(rt: HostRuntime) -> Result<(), Fail> {
-    let (link, peer) = accepted(&rt)?;
-    let (mut reader, mut writer) = halves(link)?;
-    assert_eq!(rt; write(&rt, &mut writer, b"unread"), Ok(6));
-    assert_eq!(rt; peer.peek(&mut [0u8; 8])?, 6);
-    drop(peer);
-    assert_eq!(rt; read(&rt, &mut reader), Err(LinkFault));
-    assert_eq!(rt; write(&rt, &mut writer, b"more"), Err(LinkFault));
-    finish(&rt, &mut writer);
+    assert!(rt; is_reset(&rt)?);
     Ok(())
 }
 
@@ -128,78 +216,127 @@ fn is_refused(peer: &mut TcpStream, bytes: &[u8]) -> bool {
     }
 }
 
+/// Whether a finished writer lets its peer go, which hears the end and is refused what it sends then.
+fn is_let_go<R: Wait>(rt: &R, ends: &mut Ends, many: &[u8]) -> bool {
+    finish(rt, &mut ends.writer);
+    takes(&mut ends.peer, 0)
+        && read(rt, &mut ends.reader) == Ok(0)
+        && is_refused(&mut ends.peer, many)
+        && write(rt, &mut ends.writer, b"more") == Err(LinkFault)
+}
+
+/// The same of a new link.
+fn lets_go<R: Net<Listener = TcpListener, Stream = TcpStream> + Wait>(
+    rt: &R,
+    many: &[u8],
+) -> Result<bool, Fail> {
+    let (link, peer) = accepted(rt)?;
+    let mut ends = ends_of(link, peer)?;
+    let is_let_go = is_let_go(rt, &mut ends, many);
+    drop(ends);
+    Ok(is_let_go)
+}
+
 /// What a peer sends after the writer was finished is refused, though the halves are still there; the reader waits no longer.
 #[test]
 fn a_peer_is_let_go_by_a_finished_writer(rt: HostRuntime) -> Result<(), Fail> {
-    let (link, mut peer) = accepted(&rt)?;
-    let (mut reader, mut writer) = halves(link)?;
-    finish(&rt, &mut writer);
-    assert_eq!(rt; peer.read(&mut [0u8; 8])?, 0);
-    assert_eq!(rt; read(&rt, &mut reader), Ok(0));
     let many = vec![in rt.alloc(); 7u8; 16_000_000]?;
-    let is_refused = is_refused(&mut peer, many.as_slice());
+    let lets_go = lets_go(&rt, many.as_slice());
     drop(many);
-    assert!(rt; is_refused);
-    assert_eq!(rt; write(&rt, &mut writer, b"more"), Err(LinkFault));
+    assert!(rt; lets_go?);
     Ok(())
 }
 
-/// Whether a peer gets all that is owed to it, and then the end: it goes on sending, and both halves are finished before it reads.
-fn gets_all<R: Wait>(
+/// Whether all that is owed to a peer is written, which sends before and after that; and both halves are finished.
+fn is_written<R: Wait>(rt: &R, ends: &mut Ends, owed: &[u8]) -> bool {
+    let is_sent = ends.peer.write_all(b"some").is_ok();
+    let is_written = write(rt, &mut ends.writer, owed) == Ok(owed.len());
+    finish(rt, &mut ends.writer);
+    let is_sent = is_sent && ends.peer.write_all(b"more").is_ok();
+    let has_ended = ends.peer.shutdown(Shutdown::Write).is_ok();
+    ends.reader.finish(rt);
+    is_sent && is_written && has_ended
+}
+
+/// Whether a peer reads exactly this, and then the end.
+fn is_read(peer: &mut TcpStream, owed: &[u8], room: &mut [u8]) -> bool {
+    peer.read_exact(room).is_ok() && &*room == owed && takes(peer, 0)
+}
+
+/// Whether a peer of a new link gets all that is owed to it, and then the end: it goes on sending, and both halves are finished
+/// before it reads.
+fn gets_all<R: Net<Listener = TcpListener, Stream = TcpStream> + Wait>(
     rt: &R,
-    reader: &mut TcpReader<'static>,
-    writer: &mut TcpWriter,
-    peer: &mut TcpStream,
     owed: &[u8],
     room: &mut [u8],
-) -> bool {
-    let is_sent = peer.write_all(b"some").is_ok() && write(rt, writer, owed) == Ok(owed.len());
-    finish(rt, writer);
-    let is_sent = is_sent
-        && peer.write_all(b"more").is_ok()
-        && peer.shutdown(Shutdown::Write).is_ok();
-    reader.finish(rt);
-    is_sent
-        && peer.read_exact(room).is_ok()
-        && &*room == owed
-        && matches!(peer.read(&mut [0u8; 1]), Ok(0))
+) -> Result<bool, Fail> {
+    let (link, peer) = accepted(rt)?;
+    let mut ends = ends_of(link.lingering(), peer)?;
+    let gets_all = is_written(rt, &mut ends, owed) && is_read(&mut ends.peer, owed, room);
+    drop(ends);
+    Ok(gets_all)
 }
 
 /// What was written reaches a peer that goes on sending, though both halves are finished before it reads.
 #[test]
 fn a_peer_that_sends_gets_all(rt: HostRuntime) -> Result<(), Fail> {
-    let (link, mut peer) = accepted(&rt)?;
-    let (mut reader, mut writer) = halves(link.lingering())?;
     let owed = vec![in rt.alloc(); 7u8; 100_000]?;
     let mut room = vec![in rt.alloc(); 0u8; 100_000]?;
-    let gets_all = gets_all(
-        &rt,
-        &mut reader,
-        &mut writer,
-        &mut peer,
-        owed.as_slice(),
-        room.as_mut_slice(),
-    );
-    assert!(rt; gets_all);
+    let gets_all = gets_all(&rt, owed.as_slice(), room.as_mut_slice());
+    drop(room);
+    drop(owed);
+    assert!(rt; gets_all?);
     Ok(())
+}
+
+/// Whether a read fails for which nothing comes in time, and a write doesn't after it.
+fn is_waited_for<R: Wait>(rt: &R, ends: &mut Ends) -> bool {
+    read(rt, &mut ends.reader) == Err(LinkFault)
+        && write(rt, &mut ends.writer, b"GNU") == Ok(3)
+        && takes(&mut ends.peer, 3)
+}
+
+/// The same of a new link whose reads wait for a fiftieth of a second.
+fn waits<R: Net<Listener = TcpListener, Stream = TcpStream> + Wait>(rt: &R) -> Result<bool, Fail> {
+    let (link, peer) = accepted(rt)?;
+    let mut ends = ends_of(link.with_idle(Some(Duration::from_millis(20))), peer)?;
+    let is_waited_for = is_waited_for(rt, &mut ends);
+    drop(ends);
+    Ok(is_waited_for)
 }
 
 #[test]
 fn a_silent_peer_is_waited_for_up_to_a_limit(rt: HostRuntime) -> Result<(), Fail> {
-    let (link, mut peer) = accepted(&rt)?;
-    let (mut reader, mut writer) = halves(link.with_idle(Some(Duration::from_millis(20))))?;
-    assert_eq!(rt; read(&rt, &mut reader), Err(LinkFault));
-    assert_eq!(rt; write(&rt, &mut writer, b"GNU"), Ok(3));
-    assert_eq!(rt; peer.read(&mut [0u8; 8])?, 3);
+    assert!(rt; waits(&rt)?);
     Ok(())
+}
+
+/// Whether somebody listens at this port.
+fn is_taken<N: Net<Listener = TcpListener, Stream = TcpStream>>(net: &N, port: u16) -> bool {
+    listen(net, port).is_err()
+}
+
+/// Whether nobody can be called there.
+fn is_not_there<N: Net<Listener = TcpListener, Stream = TcpStream>>(
+    net: &N,
+    there: SocketAddr,
+) -> bool {
+    TcpLink::call(net, there).is_err()
+}
+
+/// Whether nobody can listen where somebody does, nor be called where nobody listens any more.
+fn is_refused_twice<N: Net<Listener = TcpListener, Stream = TcpStream>>(
+    net: &N,
+) -> Result<bool, Fail> {
+    let listener = a_listener(net)?;
+    let there = listener.local_addr()?;
+    let is_taken = is_taken(net, there.port());
+    drop(listener);
+    Ok(is_taken && is_not_there(net, there))
 }
 
 #[test]
 fn a_peer_that_is_not_there(rt: HostRuntime) -> Result<(), Fail> {
-    let listener = a_listener(&rt)?;
-    let there = listener.local_addr()?;
-    assert!(rt; listen(&rt, there.port()).is_err());
-    drop(listener);
-    assert!(rt; TcpLink::call(&rt, there).is_err());
+    assert!(rt; is_refused_twice(&rt)?);
     Ok(())
 }

@@ -6,7 +6,7 @@ use crate::serving::wanted::a_listener;
 use gn_fixtures::PING;
 use gn_io::{ReaderSource, Sink, Source, WriterSink};
 use gn_links::{Gate, Watch};
-use gn_load::{LoadFault, load_watched};
+use gn_load::{LoadFault, ServeFault, load_watched};
 use gn_service::{Serving, Stop};
 use gn_table_router::TableRouter;
 use std::alloc::{Allocator, Global};
@@ -125,27 +125,57 @@ fn caller<N: Net<Listener = TcpListener, Stream = TcpStream>>(
     Ok((client, u32::from(port)))
 }
 
-#[test]
-fn who_watches_learns_of_a_load(rt: HostRuntime) -> Result<(), Fail> {
-    let text = "\
+/// A capture of two links that give nothing.
+const TWO_LINKS: &str = "\
 gnutella-capture 1
 config 4 8 4 8 8 100
 own eeeeeeeeeeeeeeeeeeeeeeeeeeeeeeee 127.0.0.1 6346 5 40
 join
 join
 ";
+
+/// What a recorder learns of a load of both.
+fn learned_of_a_load<R: Threads + Wait + Sync>(rt: &R, alloc: Global) -> Result<[u32; 4], Fail> {
     let recorder = Recorder::new();
-    let mut source = ReaderSource::new(text.as_bytes());
-    let mut sink = WriterSink::new(Vec::new(rt.alloc()));
-    let loaded = load_for(&rt, rt.alloc(), &recorder, &mut source, &mut sink);
+    let mut source = ReaderSource::new(TWO_LINKS.as_bytes());
+    let mut sink = WriterSink::new(Vec::new(alloc));
+    let loaded = load_for(rt, alloc, &recorder, &mut source, &mut sink);
+    drop(source);
     drop(sink.into_inner());
     loaded?;
-    assert_eq!(rt; recorder.learned(), [145, 2, 0, 0]);
+    Ok(recorder.learned())
+}
+
+#[test]
+fn who_watches_learns_of_a_load(rt: HostRuntime) -> Result<(), Fail> {
+    assert_eq!(rt; learned_of_a_load(&rt, rt.alloc())?, [145, 2, 0, 0]);
     Ok(())
 }
 
-/// What a recorder learns of a serve of two callers that have come, and the ports of both.
-fn learned_of_two<
+/// A serve of callers that have come, which somebody watches.
+fn serve_watched<
+    R: Threads
+        + Wait
+        + Net<Listener = TcpListener, Stream = TcpStream>
+        + Clock
+        + AllocGlobal
+        + Sync,
+    G: Watch + Sync,
+>(
+    rt: &R,
+    alloc: Global,
+    listener: &TcpListener,
+    accept: u32,
+    serving: &Serving<'_>,
+    watch: &G,
+) -> Result<(), ServeFault> {
+    let (served, written) = serve_written(rt, alloc, listener, 100, accept, serving, watch);
+    drop(written);
+    served
+}
+
+/// Serves two callers that have come, which a recorder watches: the ports of both.
+fn serve_two<
     R: Threads
         + Wait
         + Net<Listener = TcpListener, Stream = TcpStream>
@@ -156,43 +186,60 @@ fn learned_of_two<
     let listener = a_listener(rt)?;
     let (one, first) = caller(rt, listener.local_addr()?)?;
     let (other, second) = caller(rt, listener.local_addr()?)?;
-    let (served, written) = serve_written(
-        rt,
-        alloc,
-        &listener,
-        100,
-        2,
-        &Serving::UNLIMITED,
-        recorder,
-    );
-    drop(written);
-    drop(one);
+    let served = serve_watched(rt, alloc, &listener, 2, &Serving::UNLIMITED, recorder);
     drop(other);
+    drop(one);
+    drop(listener);
     served?;
     Ok((first, second))
 }
 
+/// What a recorder learns of a serve of two callers that have come, and the ports of both.
+fn learned_of_two<
+    R: Threads
+        + Wait
+        + Net<Listener = TcpListener, Stream = TcpStream>
+        + Clock
+        + AllocGlobal
+        + Sync,
+>(rt: &R, alloc: Global) -> Result<([u32; 4], (u32, u32)), Fail> {
+    let recorder = Recorder::new();
+    let ports = serve_two(rt, alloc, &recorder)?;
+    Ok((recorder.learned(), ports))
+}
+
 #[test]
 fn who_watches_learns_of_a_serve(rt: HostRuntime) -> Result<(), Fail> {
-    let recorder = Recorder::new();
-    let (first, second) = learned_of_two(&rt, rt.alloc(), &recorder)?;
-    assert_eq!(rt; recorder.learned(), [2334, 100, first, second]);
+    let (learned, (first, second)) = learned_of_two(&rt, rt.alloc())?;
+    assert_eq!(rt; learned, [2334, 100, first, second]);
     Ok(())
 }
 
-/// Also while nothing is done: nobody calls this serve.
-#[test]
-fn who_watches_learns_that_a_serve_goes_on(rt: HostRuntime) -> Result<(), Fail> {
+/// How often one is told that a serve goes on, which nobody calls and half a second stops.
+fn ticks_of_a_serve<
+    R: Threads
+        + Wait
+        + Net<Listener = TcpListener, Stream = TcpStream>
+        + Clock
+        + AllocGlobal
+        + Sync,
+>(rt: &R, alloc: Global) -> Result<u32, Fail> {
     let stop = Stop::new(Some(Duration::from_millis(500)), false);
     let serving = Serving {
         stop: Some(&stop),
         ..Serving::UNLIMITED
     };
     let ticks = Ticks(AtomicU32::new(0));
-    let listener = a_listener(&rt)?;
-    let (served, written) = serve_written(&rt, rt.alloc(), &listener, 100, 1, &serving, &ticks);
-    drop(written);
+    let listener = a_listener(rt)?;
+    let served = serve_watched(rt, alloc, &listener, 1, &serving, &ticks);
+    drop(listener);
     served?;
-    assert!(rt; ticks.0.load(Ordering::SeqCst) > 4);
+    Ok(ticks.0.load(Ordering::SeqCst))
+}
+
+/// Also while nothing is done: nobody calls this serve.
+#[test]
+fn who_watches_learns_that_a_serve_goes_on(rt: HostRuntime) -> Result<(), Fail> {
+    assert!(rt; ticks_of_a_serve(&rt, rt.alloc())? > 4);
     Ok(())
 }
