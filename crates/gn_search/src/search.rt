@@ -82,7 +82,7 @@ impl<H: Steps<A>, A: Allocator> Lookup<A> for Search<H, A> {
         live::live_count(self.steps.as_slice()) as u32
     }
 
-    #[tactic(auto, using(gn_rules::proofs::PastLemmas::past_length, gn_rules::proofs::LegalLemmas::legal_within, crate::proofs::LiveLemmas::all_from, crate::proofs::LiveLemmas::none_from))]
+    #[tactic(auto, using(gn_rules::proofs::PastLemmas::past_length, gn_rules::proofs::LegalLemmas::legal_within))]
     fn places(&self) -> u32 {
         self.steps.as_slice().len() as u32
     }
