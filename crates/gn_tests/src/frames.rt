@@ -65,13 +65,25 @@ fn fed(alloc: Global, bytes: &[u8], is_cut: bool) -> Result<(Vec<u8>, usize), Fa
     }
 }
 
+/// Whether a reassembler gives these bytes back, and none waits then.
+fn are_given(alloc: Global, bytes: &[u8], is_cut: bool) -> Result<bool, Fail> {
+    let (given, pending) = fed(alloc, bytes, is_cut)?;
+    let are_given = given.as_slice() == bytes && pending == 0;
+    drop(given);
+    Ok(are_given)
+}
+
+/// Whether that holds of a hundred Pings.
+fn pings_are_given(alloc: Global, is_cut: bool) -> Result<bool, Fail> {
+    let bytes = hundred_pings(alloc)?;
+    let are_given = are_given(alloc, &bytes, is_cut);
+    drop(bytes);
+    are_given
+}
+
 #[test]
 fn a_hundred_pings(rt: HostRuntime) -> Result<(), Fail> {
-    let bytes = hundred_pings(rt.alloc())?;
-    for is_cut in [false, true] {
-        let (given, pending) = fed(rt.alloc(), &bytes, is_cut)?;
-        assert_eq!(rt; given.as_slice(), bytes.as_slice());
-        assert_eq!(rt; pending, 0);
-    }
+    assert!(rt; pings_are_given(rt.alloc(), false)?);
+    assert!(rt; pings_are_given(rt.alloc(), true)?);
     Ok(())
 }

@@ -57,6 +57,24 @@ fn again(rt: &HostRuntime, text: &[u8]) -> Result<Vec<u8>, Fail> {
     Ok(out)
 }
 
+/// Whether this is what is written of a history that is read.
+fn is_written_as(rt: &HostRuntime, read: &str, wanted: &str) -> Result<bool, Fail> {
+    let written = again(rt, read.as_bytes())?;
+    let is_wanted = written.as_slice() == wanted.as_bytes();
+    drop(written);
+    Ok(is_wanted)
+}
+
+/// Whether the second step lines are written of a history of the first.
+fn are_written_as(rt: &HostRuntime, read: &str, wanted: &str) -> Result<bool, Fail> {
+    let read = history(rt, read)?;
+    let wanted = history(rt, wanted)?;
+    let is_written = is_written_as(rt, &read, &wanted);
+    drop(wanted);
+    drop(read);
+    is_written
+}
+
 #[test]
 fn written_as_read(rt: HostRuntime) -> Result<(), Fail> {
     let first_ping = "0 connect = connected 1\n0 connect = connected 2\n\
@@ -74,12 +92,11 @@ fn written_as_read(rt: HostRuntime) -> Result<(), Fail> {
         1-d1d1d1d1d1d1d1d1d1d1d1d1d1d1d1d100050000000000\n\
         15 admit 1 a1a1a1a1a1a1a1a1a1a1a1a1a1a1a1a100070000000000 = crowded\nend\n";
     for steps in [first_ping, each_kind, "end\n"] {
-        let text = history(&rt, steps)?;
-        assert_eq!(rt; again(&rt, text.as_bytes())?.as_slice(), text.as_bytes());
+        assert!(rt; are_written_as(&rt, steps, steps)?, "{steps}");
     }
-    let loose = history(&rt, "#\n\n00 connect = connected 01\nend\n# the end\n\n#")?;
-    let tight = history(&rt, "0 connect = connected 1\nend\n")?;
-    assert_eq!(rt; again(&rt, loose.as_bytes())?.as_slice(), tight.as_bytes());
+    let loose = "#\n\n00 connect = connected 01\nend\n# the end\n\n#";
+    let tight = "0 connect = connected 1\nend\n";
+    assert!(rt; are_written_as(&rt, loose, tight)?);
     Ok(())
 }
 
@@ -87,6 +104,16 @@ fn written_as_read(rt: HostRuntime) -> Result<(), Fail> {
 fn empty_history(rt: &HostRuntime, head: &str) -> Result<String, Fail> {
     let own = "own eeeeeeeeeeeeeeeeeeeeeeeeeeeeeeee 127.0.0.1 6346 5 40";
     Ok(format!(in rt.alloc(); "gnutella-history {head}\n{own}\nend\n")?)
+}
+
+/// Whether an empty history that begins so is written with the second beginning.
+fn begins_as(rt: &HostRuntime, read: &str, wanted: &str) -> Result<bool, Fail> {
+    let read = empty_history(rt, read)?;
+    let wanted = empty_history(rt, wanted)?;
+    let is_written = is_written_as(rt, &read, &wanted);
+    drop(wanted);
+    drop(read);
+    is_written
 }
 
 #[test]
@@ -99,27 +126,36 @@ fn in_the_least_version(rt: HostRuntime) -> Result<(), Fail> {
         ("3\nconfig 4 8 4 8 8 100 0 1", "3\nconfig 4 8 4 8 8 100 0 1"),
     ];
     for (read, written) in heads {
-        let text = empty_history(&rt, read)?;
-        let wanted = empty_history(&rt, written)?;
-        assert_eq!(rt; again(&rt, text.as_bytes())?.as_slice(), wanted.as_bytes());
+        assert!(rt; begins_as(&rt, read, written)?, "{read}");
     }
     Ok(())
+}
+
+/// Why a text is no history.
+fn refusal_of(rt: &HostRuntime, text: &[u8]) -> Option<CaptureRefusal> {
+    read_history(rt.alloc(), text).err()
+}
+
+/// Why these step lines are no history.
+fn refusal_of_steps(rt: &HostRuntime, steps: &str) -> Result<Option<CaptureRefusal>, Fail> {
+    let text = history(rt, steps)?;
+    let refusal = refusal_of(rt, text.as_bytes());
+    drop(text);
+    Ok(refusal)
 }
 
 #[test]
 fn faults(rt: HostRuntime) -> Result<(), Fail> {
     for (steps, line, cause) in FAULTS {
         let refusal = CaptureRefusal::Fault(CaptureFault { line, cause });
-        let text = history(&rt, steps)?;
-        let found = read_history(rt.alloc(), text.as_bytes()).err();
-        drop(text);
+        let found = refusal_of_steps(&rt, steps)?;
         assert!(rt; matches!(found, Some(found) if found == refusal));
     }
     let refusal = CaptureRefusal::Fault(CaptureFault {
         line: 1,
         cause: Cause::Header,
     });
-    let found = read_history(rt.alloc(), b"gnutella-capture 1\n").err();
+    let found = refusal_of(&rt, b"gnutella-capture 1\n");
     assert!(rt; matches!(found, Some(found) if found == refusal));
     read_is_encoded();
     Ok(())

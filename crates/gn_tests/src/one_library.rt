@@ -79,18 +79,29 @@ fn answer_to_ping(alloc: Global, router: &mut PlainRouter) -> Result<Vec<u8>, Fa
     written
 }
 
+/// The configuration of both programs.
+fn usual() -> Result<Config, Fail> {
+    match Config::new(4, 8, 4, 8, 8, 100, 0, 0, OWN) {
+        Ok(config) => Ok(config),
+        Err(_) => Err(Fail::from("a configuration")),
+    }
+}
+
+/// How the history of a router is judged that answers the Ping, and the packets that it sends.
+fn answered(alloc: Global) -> Result<(Legality, Vec<u8>), Fail> {
+    let config = usual()?;
+    let mut router = PlainRouter::make(alloc, &config)?;
+    let written = answer_to_ping(alloc, &mut router);
+    let history = router.into_history();
+    let legality = legal(&config, history.as_slice());
+    drop(history);
+    Ok((legality, written?))
+}
+
 #[test]
 fn a_ping_is_answered(rt: HostRuntime) -> Result<(), Fail> {
-    let Ok(config) = Config::new(4, 8, 4, 8, 8, 100, 0, 0, OWN) else {
-        return Err(Fail::from("a configuration"));
-    };
-    let mut router = PlainRouter::make(rt.alloc(), &config)?;
-    let written = answer_to_ping(rt.alloc(), &mut router);
-    let history = router.into_history();
-    assert_eq!(rt; legal(&config, history.as_slice()), Legality::Legal);
-    drop(history);
-    let written = written?;
-    assert_eq!(rt; written.as_slice(), PONG);
+    let (legality, written) = answered(rt.alloc())?;
+    assert!(rt; legality == Legality::Legal && written.as_slice() == PONG);
     Ok(())
 }
 
@@ -144,18 +155,29 @@ fn audit_with_tables<A: Allocator + Copy, S: Source, W: Sink>(
     audit::<A, TableRouter<A>, S, W>(alloc, source, sink)
 }
 
+/// What an audit finds of a history, and states.
+fn audited(alloc: Global, history: &[u8]) -> (Result<Legality, ReplayFault>, Vec<u8>) {
+    let mut source = ReaderSource::new(history);
+    let mut sink = WriterSink::new(Vec::new(alloc));
+    let legality = audit_with_tables(alloc, &mut source, &mut sink);
+    drop(source);
+    (legality, sink.into_inner())
+}
+
+/// The same of the history of that run.
+fn run_audited<R: Threads + Wait + Sync>(
+    rt: &R,
+    alloc: Global,
+) -> Result<(Result<Legality, ReplayFault>, Vec<u8>), Fail> {
+    let history = history_of(rt, alloc, &usual()?)?;
+    let audited = audited(alloc, history.as_slice());
+    drop(history);
+    Ok(audited)
+}
+
 #[test]
 fn a_run_is_audited(rt: HostRuntime) -> Result<(), Fail> {
-    let Ok(config) = Config::new(4, 8, 4, 8, 8, 100, 0, 0, OWN) else {
-        return Err(Fail::from("a configuration"));
-    };
-    let history = history_of(&rt, rt.alloc(), &config)?;
-    let mut source = ReaderSource::new(history.as_slice());
-    let mut sink = WriterSink::new(Vec::new(rt.alloc()));
-    let legality = audit_with_tables(rt.alloc(), &mut source, &mut sink);
-    drop(source);
-    drop(history);
-    assert!(rt; legality == Ok(Legality::Legal));
-    assert_eq!(rt; sink.into_inner().as_slice(), b"legal 5\n".as_slice());
+    let (legality, stated) = run_audited(&rt, rt.alloc())?;
+    assert!(rt; legality == Ok(Legality::Legal) && stated.as_slice() == b"legal 5\n".as_slice());
     Ok(())
 }

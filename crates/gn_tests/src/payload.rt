@@ -2,8 +2,7 @@
 
 use gn_payload::*;
 use gn_wire::Guid;
-use std::alloc::{AllocError, Allocator};
-use std::process::Abort;
+use std::alloc::{AllocError, Allocator, Global};
 use std::test::Fail;
 
 /// The servent of each Query Hit.
@@ -88,6 +87,18 @@ fn written_hit<A: Allocator>(
     }
 }
 
+/// Whether these bytes are written of a Query.
+fn is_written_as(alloc: Global, query: &Query<'_>, bytes: &[u8]) -> bool {
+    match written_query(alloc, query.speed, query.text, query.tail) {
+        Some(out) => {
+            let is_written = out.as_slice() == bytes;
+            drop(out);
+            is_written
+        }
+        None => false,
+    }
+}
+
 #[test]
 fn queries(rt: HostRuntime) -> Result<(), Fail> {
     let read: [(&[u8], u16, &[u8], &[u8]); 4] = [
@@ -97,12 +108,9 @@ fn queries(rt: HostRuntime) -> Result<(), Fail> {
         (b"\0\0\0\0", 0, b"", b"\0"),
     ];
     for (bytes, speed, text, tail) in read {
-        let Some(query) = read_query(bytes) else {
-            return Err("a reading".into());
-        };
-        assert_eq!(rt; query, Query { speed, text, tail });
-        let out = written_query(rt.alloc(), speed, text, tail).ok_or("nothing against it")?;
-        assert_eq!(rt; out.as_slice(), bytes);
+        let query = Query { speed, text, tail };
+        assert_eq!(rt; read_query(bytes), Some(query));
+        assert!(rt; is_written_as(rt.alloc(), &query, bytes));
     }
     let unread: [&[u8]; 4] = [b"", b"\0", b"\0\0", b"\0\0x"];
     for bytes in unread {
@@ -114,38 +122,69 @@ fn queries(rt: HostRuntime) -> Result<(), Fail> {
 /// How many results a Query Hit has, the bytes of them, and the bytes after them.
 type Encoded<'a> = (u8, &'a [u8], &'a [u8]);
 
-/// Compares what a Query Hit's payload is read as.
-fn is_read<R: Abort + AllocGlobal>(
-    rt: &R,
+/// Whether a Query Hit has so many results, these bytes of them, and these after them; and what all here have.
+fn has_fields(hit: &QueryHit<'_>, encoded: Encoded<'_>) -> bool {
+    let (count, result_bytes, trailer) = encoded;
+    (hit.hits(), hit.port(), hit.speed()) == (count, 6346, 28)
+        && (hit.ip(), hit.servent()) == ([127, 0, 0, 2], SERVENT)
+        && hit.result_bytes() == result_bytes
+        && hit.trailer() == trailer
+}
+
+/// Whether these are the results of a Query Hit.
+fn has_results(alloc: Global, hit: &QueryHit<'_>, wanted: &[HitResult<'_>]) -> Result<bool, Fail> {
+    let results = listed(alloc, hit)?;
+    let are_wanted = results.as_slice() == wanted;
+    drop(results);
+    Ok(are_wanted)
+}
+
+/// Whether a Query Hit's payload is read so.
+fn is_read(
+    alloc: Global,
     payload: &[u8],
     encoded: Encoded<'_>,
     wanted: &[HitResult<'_>],
-) -> Result<(), Fail> {
-    let (count, result_bytes, trailer) = encoded;
+) -> Result<bool, Fail> {
     let Some(hit) = read_hit(payload) else {
         return Err("a reading".into());
     };
-    assert_eq!(rt; (hit.hits(), hit.port(), hit.speed()), (count, 6346, 28));
-    assert_eq!(rt; (hit.ip(), hit.servent()), ([127, 0, 0, 2], SERVENT));
-    assert_eq!(rt; servent_of_hit(payload), SERVENT);
-    assert_eq!(rt; hit.result_bytes(), result_bytes);
-    assert_eq!(rt; hit.trailer(), trailer);
-    let results = listed(rt.alloc(), &hit)?;
-    assert_eq!(rt; results.as_slice(), wanted);
-    Ok(())
+    Ok(
+        has_fields(&hit, encoded)
+            && servent_of_hit(payload) == SERVENT
+            && has_results(alloc, &hit, wanted)?,
+    )
 }
 
-/// Compares a Query Hit's payload with what it is read as, and with what is written of that.
-fn is_encoded<R: Abort + AllocGlobal>(
-    rt: &R,
+/// Whether these bytes are written of a Query Hit.
+fn is_hit_written_as(
+    alloc: Global,
+    results: &[HitResult<'_>],
+    trailer: &[u8],
     payload: &[u8],
+) -> bool {
+    match written_hit(alloc, results, trailer) {
+        Some(out) => {
+            let is_written = out.as_slice() == payload;
+            drop(out);
+            is_written
+        }
+        None => false,
+    }
+}
+
+/// Whether a Query Hit's payload is read so, and written of what is read.
+fn is_encoded(
+    alloc: Global,
+    middle: &[u8],
     encoded: Encoded<'_>,
     wanted: &[HitResult<'_>],
-) -> Result<(), Fail> {
-    is_read(rt, payload, encoded, wanted)?;
-    let out = written_hit(rt.alloc(), wanted, encoded.2).ok_or("nothing against it")?;
-    assert_eq!(rt; out.as_slice(), payload);
-    Ok(())
+) -> Result<bool, Fail> {
+    let payload = hit_payload(alloc, encoded.0, middle)?;
+    let is_read = is_read(alloc, payload.as_slice(), encoded, wanted);
+    let is_written = is_hit_written_as(alloc, wanted, encoded.2, payload.as_slice());
+    drop(payload);
+    Ok(is_read? && is_written)
 }
 
 #[test]
@@ -161,12 +200,12 @@ fn hits(rt: HostRuntime) -> Result<(), Fail> {
         ),
     ];
     for (count, middle, result_bytes, trailer) in encoded {
-        let payload = hit_payload(rt.alloc(), count, middle)?;
         let wanted: &[HitResult<'_>] = if count == 0 { &[] } else { &results };
         let encoded = (count, result_bytes, trailer);
-        let compared = is_encoded(&rt, payload.as_slice(), encoded, wanted);
-        drop(payload);
-        compared?;
+        assert!(rt;
+            is_encoded(rt.alloc(), middle, encoded, wanted)?,
+            "{count} results"
+        );
     }
     Ok(())
 }

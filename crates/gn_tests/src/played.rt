@@ -8,14 +8,29 @@ use crate::request_runs::REQUEST_RUNS;
 use crate::run::{Run, capture_of};
 use gn_capture::{read_history, write_history};
 use gn_io::{ReaderSource, WriterSink};
-use gn_replay::{audit, play};
-use gn_rules::{Historian, Legality};
+use gn_replay::{ReplayFault, audit, play};
+use gn_rules::{Config, Historian, Legality, Step};
 use gn_search::PlainRouter;
 use gn_table_router::TableRouter;
 use gn_witness::legal;
-use std::alloc::Allocator;
+use std::alloc::{Allocator, Global};
 use std::process::Abort;
 use std::test::Fail;
+
+/// Compares what is written again of a history.
+fn is_written_again<R: Abort + AllocGlobal>(
+    rt: &R,
+    name: &'static str,
+    config: &Config,
+    steps: &[Step],
+    written: &[u8],
+) -> Result<(), Fail> {
+    let mut again = Vec::new(rt.alloc());
+    let is_written = write_history(config, steps, &mut again);
+    same(rt, name, &again, written);
+    drop(again);
+    Ok(is_written?)
+}
 
 /// Compares what a history is read back as, and gives the number of its steps, which are legal.
 fn steps_of<R: Abort + AllocGlobal>(
@@ -26,15 +41,25 @@ fn steps_of<R: Abort + AllocGlobal>(
     let Ok((config, steps)) = read_history(rt.alloc(), written) else {
         return Err(Fail::from(name));
     };
-    assert!(rt; legal(&config, &steps) == Legality::Legal, "{name}");
-    let count = steps.len();
-    let mut again = Vec::new(rt.alloc());
-    let is_written = write_history(&config, &steps, &mut again);
+    let (legality, count) = (legal(&config, &steps), steps.len());
+    let is_written = is_written_again(rt, name, &config, &steps, written);
     drop(steps);
     is_written?;
-    same(rt, name, &again, written);
-    drop(again);
+    assert!(rt; legality == Legality::Legal, "{name}");
     Ok(count)
+}
+
+/// What an audit finds of a history, and states.
+fn audited<A: Allocator + Copy, C: Historian<A> + Drop>(
+    texts: Global,
+    alloc: A,
+    written: &[u8],
+) -> (Result<Legality, ReplayFault>, Vec<u8>) {
+    let mut source = ReaderSource::new(written);
+    let mut sink = WriterSink::new(Vec::new(texts));
+    let known = audit::<A, C, _, _>(alloc, &mut source, &mut sink);
+    drop(source);
+    (known, sink.into_inner())
 }
 
 /// Compares what is stated of a history of so many steps.
@@ -46,16 +71,23 @@ fn is_audited<A: Allocator + Copy, C: Historian<A> + Drop, R: Abort + AllocGloba
     steps: usize,
 ) -> Result<(), Fail> {
     let line = format!(in rt.alloc(); "legal {steps}\n")?;
-    let mut source = ReaderSource::new(written);
-    let mut sink = WriterSink::new(Vec::new(rt.alloc()));
-    let known = audit::<A, C, _, _>(alloc, &mut source, &mut sink);
-    drop(source);
-    let found = sink.into_inner();
-    assert!(rt; known == Ok(Legality::Legal), "{name}");
+    let (known, found) = audited::<A, C>(rt.alloc(), alloc, written);
     same(rt, name, &found, line.as_bytes());
     drop(found);
     drop(line);
+    assert!(rt; known == Ok(Legality::Legal), "{name}");
     Ok(())
+}
+
+/// Compares what a history's text is read back as, and what is stated of it.
+fn text_is_kept<A: Allocator + Copy, C: Historian<A> + Drop, R: Abort + AllocGlobal>(
+    rt: &R,
+    alloc: A,
+    name: &'static str,
+    written: &[u8],
+) -> Result<(), Fail> {
+    let steps = steps_of(rt, name, written)?;
+    is_audited::<A, C, R>(rt, alloc, name, written, steps)
 }
 
 /// Compares what a router's history is read back as, and what is stated of it.
@@ -67,8 +99,9 @@ fn history_is_kept<A: Allocator + Copy, C: Historian<A> + Drop, R: Abort + Alloc
 ) -> Result<(), Fail> {
     let mut written = Vec::new(rt.alloc());
     write_history(core.config(), core.history(), &mut written)?;
-    let steps = steps_of(rt, name, &written)?;
-    is_audited::<A, C, R>(rt, alloc, name, &written, steps)
+    let is_kept = text_is_kept::<A, C, R>(rt, alloc, name, &written);
+    drop(written);
+    is_kept
 }
 
 /// Plays a run, and compares what is printed. The router, after all events.

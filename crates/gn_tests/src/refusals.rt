@@ -55,20 +55,31 @@ fn hit_of(alloc: Global, results: &[HitResult<'_>]) -> Result<usize, WriteRefusa
     Ok(size)
 }
 
+/// The same of a text with a zero byte, of one of 65,534 bytes, and of one of 65,533.
+fn three_queries(alloc: Global) -> Result<[Result<usize, WriteRefusal>; 3], Fail> {
+    let text = vec![in alloc; b'a'; 65_534]?;
+    let answers = [
+        query_of(alloc, b"a\0"),
+        query_of(alloc, &text[..65_534]),
+        query_of(alloc, &text[..65_533]),
+    ];
+    drop(text);
+    Ok(answers)
+}
+
 /// A payload has at most 65,536 bytes: a Query's speed has two, and a zero byte ends its text. A Query Hit has 11 bytes before its
 /// results, and 16 behind them.
 #[test]
 fn payloads_that_are_not_written(rt: HostRuntime) -> Result<(), Fail> {
     let alloc = rt.alloc();
-    let text = vec![in alloc; b'a'; 65_534]?;
-    let queries = [
-        (b"a\0".as_slice(), Err(WriteRefusal::ZeroInText)),
-        (&text[..65_534], Err(WriteRefusal::TooLong)),
-        (&text[..65_533], Ok(65_536)),
-    ];
-    for (text, answer) in queries {
-        assert_eq!(rt; query_of(alloc, text), answer);
-    }
+    assert_eq!(rt;
+        three_queries(alloc)?,
+        [
+            Err(WriteRefusal::ZeroInText),
+            Err(WriteRefusal::TooLong),
+            Ok(65_536),
+        ]
+    );
     let results = [RESULT; 256];
     let hits = [
         (&results[..255], Ok(11 + 255 * 12 + 16)),
@@ -82,17 +93,40 @@ fn payloads_that_are_not_written(rt: HostRuntime) -> Result<(), Fail> {
     Ok(())
 }
 
-/// A Ping of length 1 is a fault, after which no piece is taken, be it whole or empty.
+/// A Ping of length 1.
+const BROKEN: &[u8] =
+    b"\xa1\xa1\xa1\xa1\xa1\xa1\xa1\xa1\xa1\xa1\xa1\xa1\xa1\xa1\xa1\xa1\x00\x07\x00\x01\x00\x00\x00";
+
+/// Whether that Ping is a fault, and gives no descriptor.
+fn is_at_fault(frames: &mut Reassembler) -> bool {
+    match frames.feed(BROKEN) {
+        Ok(fed) => {
+            let fault = Some(FrameFault::FixedLength(Kind::Ping, 1));
+            let is_at_fault = fed.descriptors.is_empty() && fed.fault == fault;
+            drop(fed);
+            is_at_fault
+        }
+        Err(_) => false,
+    }
+}
+
+/// Whether a reassembler takes no more of this piece.
+fn has_ended(frames: &mut Reassembler, piece: &[u8]) -> bool {
+    frames.feed(piece).err() == Some(FeedRefusal::Ended)
+}
+
+/// Whether no piece is taken after that fault, be it whole or empty.
+fn ends_at_a_fault(alloc: Global) -> Result<bool, Fail> {
+    let mut frames = Reassembler::new(alloc)?;
+    let has_ended = is_at_fault(&mut frames)
+        && has_ended(&mut frames, PING)
+        && has_ended(&mut frames, b"");
+    drop(frames);
+    Ok(has_ended)
+}
+
 #[test]
 fn a_feed_after_a_fault(rt: HostRuntime) -> Result<(), Fail> {
-    let mut frames = Reassembler::<Global>::new(rt.alloc())?;
-    let mut broken = PING[..19].to_vec(rt.alloc())?;
-    broken.extend_from_slice(&[1, 0, 0, 0])?;
-    let fed = frames.feed(&broken)?;
-    assert!(rt; fed.descriptors.is_empty());
-    assert_eq!(rt; fed.fault, Some(FrameFault::FixedLength(Kind::Ping, 1)));
-    for piece in [PING, b""] {
-        assert_eq!(rt; frames.feed(piece).err(), Some(FeedRefusal::Ended));
-    }
+    assert!(rt; ends_at_a_fault(rt.alloc())?);
     Ok(())
 }

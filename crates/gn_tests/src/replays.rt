@@ -19,17 +19,34 @@ pub(crate) fn replay_with_tables<A: Allocator + Copy, S: Source, W: Sink>(
     replay::<A, TableRouter<A>, S, W>(alloc, source, sink)
 }
 
-#[test]
-fn refusals_are_counted(rt: HostRuntime) -> Result<(), Fail> {
-    let alloc = rt.alloc();
-    let lines = "open; data 1 00; data 1 00; route 7; take 1";
-    let text = capture_text(alloc, USUAL, lines)?;
-    let mut source = ReaderSource::new(text.as_bytes());
+/// What a replay of a capture gives, and what it prints.
+fn replayed(alloc: Global, capture: &[u8]) -> (Result<Exit, ReplayFault>, Vec<u8>) {
+    let mut source = ReaderSource::new(capture);
     let mut sink = WriterSink::new(Vec::new(alloc));
     let exit = replay_with_tables(alloc, &mut source, &mut sink);
     drop(source);
+    (exit, sink.into_inner())
+}
+
+/// The same of the lines of a capture.
+fn lines_replayed(
+    alloc: Global,
+    lines: &str,
+) -> Result<(Result<Exit, ReplayFault>, Vec<u8>), Fail> {
+    let text = capture_text(alloc, USUAL, lines)?;
+    let replayed = replayed(alloc, text.as_bytes());
     drop(text);
+    Ok(replayed)
+}
+
+#[test]
+fn refusals_are_counted(rt: HostRuntime) -> Result<(), Fail> {
+    let lines = "open; data 1 00; data 1 00; route 7; take 1";
+    let (exit, found) = lines_replayed(rt.alloc(), lines)?;
     replay_text_is_one::<Global>();
+    let printed = b"greeting 1 refused\nended 1\nrefused NoTicket\nrefused NotLive\n";
+    same(&rt, lines, &found, printed);
+    drop(found);
     assert_eq!(rt;
         exit,
         Ok(Exit {
@@ -37,8 +54,6 @@ fn refusals_are_counted(rt: HostRuntime) -> Result<(), Fail> {
             refusals: 2
         })
     );
-    let printed = b"greeting 1 refused\nended 1\nrefused NoTicket\nrefused NotLive\n";
-    same(&rt, lines, &sink.into_inner(), printed);
     Ok(())
 }
 
@@ -66,9 +81,41 @@ fn whole_lines(text: &[u8], written: &[u8]) -> Option<usize> {
     Some(lines)
 }
 
-#[test]
-fn what_was_played_is_written_without_memory(rt: HostRuntime) -> Result<(), Fail> {
-    let alloc = rt.alloc();
+/// Whether a replay on this heap is out of memory where this growth is refused, and how many lines of the text it has written,
+/// which are whole.
+fn lines_without(
+    alloc: Global,
+    heap: &Heap,
+    capture: &str,
+    text: &[u8],
+    growth: u64,
+) -> Result<(bool, usize), Fail> {
+    let (is_refused, written) = written_without(alloc, heap, capture, growth);
+    let lines = whole_lines(text, &written);
+    drop(written);
+    Ok((is_refused, lines.ok_or("whole lines")?))
+}
+
+/// How many lines a replay has written at most where one of its growths is refused, and how many it writes where none is.
+fn most_and_all(
+    alloc: Global,
+    heap: &Heap,
+    capture: &str,
+    text: &[u8],
+) -> Result<(usize, usize), Fail> {
+    let mut most = 0;
+    for growth in 0..1_000 {
+        let (is_refused, lines) = lines_without(alloc, heap, capture, text, growth)?;
+        if !is_refused {
+            return Ok((most, lines));
+        }
+        most = most.max(lines);
+    }
+    Err("a replay with no end of growths".into())
+}
+
+/// The same of the first Ping's capture.
+fn most_and_all_of_a_ping(alloc: Global) -> Result<(usize, usize), Fail> {
     let capture = capture_text(alloc, USUAL, "join; join; data 1 <PING a1 07 00>; route 0")?;
     let text = encoded(
         alloc,
@@ -77,18 +124,16 @@ fn what_was_played_is_written_without_memory(rt: HostRuntime) -> Result<(), Fail
             0 route 0 = routed local 1+<OWN a1 01> 2+<PING a1 06 01>",
     )?;
     let heap = Heap::new(alloc);
-    let mut most = 0;
-    for growth in 0..1_000 {
-        let (is_refused, written) = written_without(alloc, &heap, &capture, growth);
-        let lines = whole_lines(text.as_bytes(), &written);
-        drop(written);
-        let lines = lines.ok_or("whole lines")?;
-        if !is_refused {
-            // the last growth is refused within the last line
-            assert_eq!(rt; (most, lines), (3, 4));
-            return Ok(());
-        }
-        most = most.max(lines);
-    }
-    Err("a replay with no end of growths")?
+    let found = most_and_all(alloc, &heap, &capture, text.as_bytes());
+    drop(heap);
+    drop(text);
+    drop(capture);
+    found
+}
+
+/// The last growth is refused within the last line.
+#[test]
+fn what_was_played_is_written_without_memory(rt: HostRuntime) -> Result<(), Fail> {
+    assert_eq!(rt; most_and_all_of_a_ping(rt.alloc())?, (3, 4));
+    Ok(())
 }
