@@ -49,20 +49,38 @@ fn turn_of(out_of_memory: u64, has_refused: bool, refused: Refused) -> Turn {
     }
 }
 
+/// Runs these events at a new router.
+fn turn_at<A: Allocator + Copy, C: Historian<A>>(
+    heap: &Heap,
+    alloc: A,
+    core: &mut C,
+    events: &[Event<A>],
+    refused: Refused,
+) -> Turn {
+    refused.begin(heap);
+    let answers = run_events(alloc, core, events);
+    let has_refused = heap.has_refused();
+    heap.refuse_none();
+    match answers {
+        Ok(answers) => {
+            let out_of_memory = refused_of(answers.as_slice());
+            drop(answers);
+            turn_of(out_of_memory, has_refused, refused)
+        }
+        Err(_) if has_refused && core.history().is_empty() => Turn::Refused,
+        Err(_) => Turn::Wrong,
+    }
+}
+
 impl<A: Allocator + Copy, C: Historian<A> + Drop> Turns<A> for Runs<C> {
     fn turn(&self, heap: &Heap, alloc: A, refused: Refused) -> Result<Turn, Fail> {
         heap.refuse_none();
         let (config, events) = read_events(alloc, self.history)?;
         let mut core = C::make(alloc, &config)?;
-        refused.begin(heap);
-        let answers = run_events(alloc, &mut core, events.as_slice());
-        let has_refused = heap.has_refused();
-        heap.refuse_none();
-        Ok(match answers {
-            Ok(answers) => turn_of(refused_of(answers.as_slice()), has_refused, refused),
-            Err(_) if has_refused && core.history().is_empty() => Turn::Refused,
-            Err(_) => Turn::Wrong,
-        })
+        let turn = turn_at(heap, alloc, &mut core, events.as_slice(), refused);
+        drop(core);
+        drop(events);
+        Ok(turn)
     }
 }
 

@@ -138,6 +138,25 @@ fn after<A: Allocator + Copy, C: Historian<A> + Drop>(
     }
 }
 
+/// The step of this number, and the descriptor that it routes.
+fn step_of<A: Allocator + Copy>(
+    alloc: A,
+    steps: &[Step<A>],
+    number: usize,
+) -> Result<(Step<A>, Option<Checked<A>>), Fail> {
+    let Some(wanted) = steps.get(number) else {
+        return Err("a step of the history".into());
+    };
+    let checked = routed(steps, &wanted.event)?;
+    match copy_of(alloc, wanted) {
+        Ok(step) => Ok((step, checked)),
+        Err(_) => {
+            drop(checked);
+            Err("room for a step".into())
+        }
+    }
+}
+
 impl<A: Allocator + Copy, C: Historian<A> + Drop> Call<A> for Makes<C> {
     type Subject = Subject<A, C>;
 
@@ -145,18 +164,21 @@ impl<A: Allocator + Copy, C: Historian<A> + Drop> Call<A> for Makes<C> {
 
     fn subject(&self, alloc: A) -> Result<Subject<A, C>, Fail> {
         let (config, steps) = read(alloc, self.history)?;
-        let core = after(alloc, &config, before(&steps, self.number))?;
-        let Some(wanted) = steps.get(self.number) else {
-            return Err("a step of the history".into());
-        };
-        let step = copy_of(alloc, wanted)?;
-        let checked = routed(&steps, &step.event)?;
-        Ok(Subject {
-            core,
-            steps,
-            step,
-            checked,
-        })
+        let (step, checked) = step_of(alloc, &steps, self.number)?;
+        match after(alloc, &config, before(&steps, self.number)) {
+            Ok(core) => Ok(Subject {
+                core,
+                steps,
+                step,
+                checked,
+            }),
+            Err(fail) => {
+                drop(steps);
+                drop(step);
+                drop(checked);
+                Err(fail)
+            }
+        }
     }
 
     fn make(&self, subject: &mut Subject<A, C>) -> Result<Option<Receipt<A>>, Failure> {

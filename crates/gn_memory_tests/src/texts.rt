@@ -467,30 +467,39 @@ impl<A: Allocator + Copy, B: Allocator + Copy> Call<A> for Obeys<B> {
     }
 }
 
+/// How many growths a command meets where the sink has this memory.
+fn growths_of_row<A: Allocator + Copy, B: Allocator + Copy>(
+    heap: &Heap,
+    alloc: A,
+    row: Row,
+    sink: B,
+    is_shared: bool,
+) -> Result<u64, Fail> {
+    let call = Obeys {
+        row,
+        sink,
+        is_shared,
+    };
+    growths_of_call(heap, alloc, &call)
+}
+
+/// How many growths a command meets where the sink has a memory of its own, and where it hasn't.
+fn apart_and_shared<A: Allocator + Copy, B: Allocator + Copy>(
+    heap: &Heap,
+    alloc: A,
+    rich: B,
+    row: Row,
+) -> Result<(u64, u64), Fail> {
+    let apart = growths_of_row(heap, alloc, row, rich, false)?;
+    Ok((apart, growths_of_row(heap, alloc, row, alloc, true)?))
+}
+
 #[test]
 fn what_is_replayed_and_audited(rt: HostRuntime) -> Result<(), Fail> {
     let heap = Heap::new(rt.alloc());
     for (number, row) in COMMANDS.iter().copied().enumerate() {
-        let apart = Obeys {
-            row,
-            sink: rt.alloc(),
-            is_shared: false,
-        };
-        assert_eq!(rt;
-            growths_of_call(&heap, &heap, &apart)?,
-            row.3,
-            "command {number}"
-        );
-        let shared = Obeys {
-            row,
-            sink: &heap,
-            is_shared: true,
-        };
-        assert_eq!(rt;
-            growths_of_call(&heap, &heap, &shared)?,
-            row.4,
-            "command {number}, shared"
-        );
+        let met = apart_and_shared(&heap, &heap, rt.alloc(), row)?;
+        assert_eq!(rt; met, (row.3, row.4), "command {number}");
     }
     Ok(())
 }
