@@ -18,13 +18,15 @@ use std::thread::Threads;
 use std::time::{Clock, Duration};
 
 /// Keeps what it learned: a digit for each call in order, 1 for `begin`, 2 for `open`, 3 for `came`, 4 for `end` and 5 for `leave`;
-/// how many links or steps it was told, and the ports of the peers of two links.
+/// how many links or steps it was told, and the ports of the peers of two links. It counts apart how often it is told that a serve
+/// goes on, each time for the next 10 milliseconds.
 #[derive(Drop)]
 struct Recorder {
     calls: AtomicU32,
     size: AtomicU32,
     first: AtomicU32,
     second: AtomicU32,
+    ticks: AtomicU32,
 }
 
 impl Recorder {
@@ -35,6 +37,7 @@ impl Recorder {
             size: AtomicU32::new(0),
             first: AtomicU32::new(0),
             second: AtomicU32::new(0),
+            ticks: AtomicU32::new(0),
         }
     }
 
@@ -78,6 +81,11 @@ impl Watch for Recorder {
         port.store(u32::from(peer.port()), Ordering::SeqCst);
     }
 
+    fn tick(&self) -> Option<Duration> {
+        self.ticks.fetch_add(1, Ordering::SeqCst);
+        Some(Duration::from_millis(10))
+    }
+
     fn end(&self) {
         self.learn(4);
     }
@@ -85,21 +93,6 @@ impl Watch for Recorder {
     fn leave<T: Drop>(&self, rest: T) {
         self.learn(5);
         drop(rest);
-    }
-}
-
-/// Counts how often it is told that a serve goes on, each time for the next 10 milliseconds.
-#[derive(Drop)]
-struct Ticks(AtomicU32);
-
-impl Gate for Ticks {
-    fn enter<R: Wait>(&self, _rt: &R, _worker: u32, _ticket: u32) {}
-}
-
-impl Watch for Ticks {
-    fn tick(&self) -> Option<Duration> {
-        self.0.fetch_add(1, Ordering::SeqCst);
-        Some(Duration::from_millis(10))
     }
 }
 
@@ -152,7 +145,34 @@ fn who_watches_learns_of_a_load(rt: HostRuntime) -> Result<(), Fail> {
     Ok(())
 }
 
-/// A serve of callers that have come, which somebody watches.
+/// Two callers, and their ports.
+#[derive(Drop)]
+struct Callers {
+    one: TcpStream,
+    other: TcpStream,
+    ports: (u32, u32),
+}
+
+/// Two callers that have sent a Ping and their end, one after the other.
+fn callers<N: Net<Listener = TcpListener, Stream = TcpStream>>(
+    net: &N,
+    at: SocketAddr,
+) -> Result<Callers, Fail> {
+    let (one, first) = caller(net, at)?;
+    match caller(net, at) {
+        Ok((other, second)) => Ok(Callers {
+            one,
+            other,
+            ports: (first, second),
+        }),
+        Err(fail) => {
+            drop(one);
+            Err(fail)
+        }
+    }
+}
+
+/// A serve of callers that have come, which a recorder watches.
 fn serve_watched<
     R: Threads
         + Wait
@@ -160,16 +180,15 @@ fn serve_watched<
         + Clock
         + AllocGlobal
         + Sync,
-    G: Watch + Sync,
 >(
     rt: &R,
     alloc: Global,
     listener: &TcpListener,
     accept: u32,
     serving: &Serving<'_>,
-    watch: &G,
+    recorder: &Recorder,
 ) -> Result<(), ServeFault> {
-    let (served, written) = serve_written(rt, alloc, listener, 100, accept, serving, watch);
+    let (served, written) = serve_written(rt, alloc, listener, 100, accept, serving, recorder);
     drop(written);
     served
 }
@@ -184,14 +203,13 @@ fn serve_two<
         + Sync,
 >(rt: &R, alloc: Global, recorder: &Recorder) -> Result<(u32, u32), Fail> {
     let listener = a_listener(rt)?;
-    let (one, first) = caller(rt, listener.local_addr()?)?;
-    let (other, second) = caller(rt, listener.local_addr()?)?;
+    let callers = callers(rt, listener.local_addr()?)?;
     let served = serve_watched(rt, alloc, &listener, 2, &Serving::UNLIMITED, recorder);
-    drop(other);
-    drop(one);
+    let ports = callers.ports;
+    drop(callers);
     drop(listener);
     served?;
-    Ok((first, second))
+    Ok(ports)
 }
 
 /// What a recorder learns of a serve of two callers that have come, and the ports of both.
@@ -229,12 +247,12 @@ fn ticks_of_a_serve<
         stop: Some(&stop),
         ..Serving::UNLIMITED
     };
-    let ticks = Ticks(AtomicU32::new(0));
+    let recorder = Recorder::new();
     let listener = a_listener(rt)?;
-    let served = serve_watched(rt, alloc, &listener, 1, &serving, &ticks);
+    let served = serve_watched(rt, alloc, &listener, 1, &serving, &recorder);
     drop(listener);
     served?;
-    Ok(ticks.0.load(Ordering::SeqCst))
+    Ok(recorder.ticks.load(Ordering::SeqCst))
 }
 
 /// Also while nothing is done: nobody calls this serve.
