@@ -8,6 +8,7 @@ use gn_io::{ReaderSource, WriterSink};
 use gn_links::{MemoryLink, NoGate};
 use gn_load::LoadFault;
 use gn_replay::ReplayFault;
+use gn_report::Report;
 use gn_rules::{BadConfig, Config};
 use gn_shake::Role;
 use gn_stage::StageFault;
@@ -85,6 +86,20 @@ fn growths_of_runs<A: Allocator + Copy + Send + Sync, R: Threads + Wait + Sync>(
     Err("a run with no end of growths".into())
 }
 
+/// How many readers of a run ended by their bytes, and how many writers failed.
+fn ends_of<Rd, W, A: Allocator>(report: &Report<Rd, W, A>) -> (usize, usize) {
+    let (mut read, mut failed) = (0usize, 0usize);
+    for link in &report.links {
+        if link.reader_end == ReaderEnd::Bytes {
+            read = read.wrapping_add(1);
+        }
+        if link.writer_end == WriterEnd::WriteFailed {
+            failed = failed.wrapping_add(1);
+        }
+    }
+    (read, failed)
+}
+
 /// Runs so many links over a memory that refuses everything, and all else over another: how many bytes' ends and failed
 /// writers the report has.
 fn run_over_two<
@@ -100,16 +115,7 @@ fn run_over_two<
     let Ok(report) = ran else {
         return Err("a report".into());
     };
-    let (mut read, mut failed) = (0usize, 0usize);
-    for link in &report.links {
-        if link.reader_end == ReaderEnd::Bytes {
-            read = read.wrapping_add(1);
-        }
-        if link.writer_end == WriterEnd::WriteFailed {
-            failed = failed.wrapping_add(1);
-        }
-    }
-    Ok((read, failed))
+    Ok(ends_of(&report))
 }
 
 /// The same of one link and of two.

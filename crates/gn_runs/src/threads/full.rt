@@ -39,32 +39,40 @@ fn link_of<'a>(
     })
 }
 
-/// The fault of a run over two links of at most one step, which has its memory from this allocator.
-fn fault_over<A: Allocator + Copy + Send + Sync, R: Threads + Wait + Sync>(
-    rt: &R,
+/// A greeted link and a plain one, which give nothing, in a list that has its memory from this allocator.
+fn two_links<'a, A: Allocator>(
     alloc: Global,
     poor: A,
-    meeting: &Meeting,
-    gate: &Miser<'_>,
-) -> Result<Option<RunFault>, Fail> {
-    let config = usual(1)?;
+    meeting: &'a Meeting,
+) -> Result<Vec<PacedLink<'a, MemoryLink>, A>, AllocError> {
     let mut links = Vec::new(poor);
     links.push(link_of(alloc, Role::Accepting, request(), meeting)?)?;
     links.push(link_of(alloc, Role::Plain, b"", meeting)?)?;
-    Ok(run_of(rt, poor, &config, links, 1, gate).err())
+    Ok(links)
+}
+
+/// The fault of a run over both of at most one step, which has its memory from this allocator of that heap.
+fn fault_of_two<A: Allocator + Copy + Send + Sync, R: Threads + Wait + Sync>(
+    rt: &R,
+    alloc: Global,
+    heap: &Heap,
+    poor: A,
+) -> Result<Option<RunFault>, Fail> {
+    let config = usual(1)?;
+    let meeting = Meeting::new();
+    let gate = Miser { heap };
+    let links = two_links(alloc, poor, &meeting)?;
+    Ok(run_of(rt, poor, &config, links, 1, &gate).err())
 }
 
 /// The plain link connects before its first read, and makes the only step. The reader of the greeted one, whose first read comes
 /// no sooner, finds the history full, and there is no memory for what the writers give back.
 #[test]
 fn a_full_history_is_named_without_memory(rt: HostRuntime) -> Result<(), Fail> {
-    let meeting = Meeting::new();
     let heap = Heap::new(rt.alloc());
-    let gate = Miser { heap: &heap };
-    let fault = fault_over(&rt, rt.alloc(), &heap, &meeting, &gate);
+    let fault = fault_of_two(&rt, rt.alloc(), &heap, &heap);
     let has_refused = heap.has_refused();
     heap.refuse_none();
-    assert_eq!(rt; fault?, Some(RunFault::HistoryFull));
-    assert!(rt; has_refused);
+    assert_eq!(rt; (fault?, has_refused), (Some(RunFault::HistoryFull), true));
     Ok(())
 }

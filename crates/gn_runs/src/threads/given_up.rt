@@ -110,16 +110,25 @@ fn fault_over<R: Threads + Wait + Sync>(
     Ok(served.err())
 }
 
-/// The first link's reader alone finds the history full. The second link comes then, unless the reader was so quick that it isn't
-/// waited for; the third never is.
-#[test]
-fn a_full_history_is_named_by_any_thread(rt: HostRuntime) -> Result<(), Fail> {
+/// That fault, and how many links were waited for.
+fn fault_and_asked<R: Threads + Wait + Sync>(
+    rt: &R,
+    alloc: Global,
+) -> Result<(Option<RunFault>, u32), Fail> {
     let news = News {
         has_failed: AtomicBool::new(false),
         asked: AtomicU32::new(0),
     };
-    let fault = fault_over(&rt, rt.alloc(), &news);
-    assert_eq!(rt; fault?, Some(RunFault::HistoryFull));
-    assert!(rt; news.asked.load(Ordering::SeqCst) < 3);
+    let fault = fault_over(rt, alloc, &news)?;
+    Ok((fault, news.asked.load(Ordering::SeqCst)))
+}
+
+/// The first link's reader alone finds the history full. The second link comes then, unless the reader was so quick that it isn't
+/// waited for; the third never is.
+#[test]
+fn a_full_history_is_named_by_any_thread(rt: HostRuntime) -> Result<(), Fail> {
+    let (fault, asked) = fault_and_asked(&rt, rt.alloc())?;
+    assert_eq!(rt; fault, Some(RunFault::HistoryFull));
+    assert!(rt; asked < 3);
     Ok(())
 }

@@ -116,16 +116,29 @@ fn are_even<Rd, W>(report: &Report<Rd, W>) -> bool {
     report.workers.len() == 2
 }
 
+/// Whether a run of six links of a hundred Pings has two workers of 300 receipts each, and each step its receipt.
+fn is_shared<R: Threads + Wait + Sync>(
+    rt: &R,
+    alloc: Global,
+    meeting: &Meeting,
+) -> Result<bool, Fail> {
+    let links = plain_links(alloc, 6, 100)?;
+    let report = a_report(table_run(rt, alloc, links, 2, meeting))?;
+    let is_shared = are_even(&report) && receipts_of(&report) == report.history.len();
+    drop(report);
+    Ok(is_shared)
+}
+
+/// Whether the two of a meeting have begun so often, and neither gave the other up.
+fn have_met(meeting: &Meeting, begun: u64) -> bool {
+    meeting.begun() == (begun, begun) && !meeting.is_missed.load(Ordering::SeqCst)
+}
+
 #[test]
 fn two_workers_meet(rt: HostRuntime) -> Result<(), Fail> {
     let meeting = Meeting::new();
-    let links = plain_links(rt.alloc(), 6, 100)?;
-    let report = a_report(table_run(&rt, rt.alloc(), links, 2, &meeting))?;
-    assert!(rt; are_even(&report));
-    assert_eq!(rt; receipts_of(&report), report.history.len());
-    drop(report);
-    assert_eq!(rt; meeting.begun(), (300, 300));
-    assert!(rt; !meeting.is_missed.load(Ordering::SeqCst));
+    let is_shared = is_shared(&rt, rt.alloc(), &meeting)?;
+    assert!(rt; is_shared && have_met(&meeting, 300));
     Ok(())
 }
 
@@ -134,16 +147,33 @@ fn writer_end_of<Rd, W>(report: &Report<Rd, W>, link: usize) -> Option<WriterEnd
     Some(report.links.get(link)?.writer_end)
 }
 
+/// Two links of one Ping each, to the first of which no byte can be written.
+fn half_broken(alloc: Global) -> Result<Vec<MemoryLink>, AllocError> {
+    let mut links = Vec::new(alloc);
+    links.push(link_of(alloc, 0, 1)?.failing(None, Some(1)))?;
+    links.push(link_of(alloc, 1, 1)?)?;
+    Ok(links)
+}
+
+/// How the writers of both end.
+fn ends_of_half_broken<R: Threads + Wait + Sync>(
+    rt: &R,
+    alloc: Global,
+) -> Result<[Option<WriterEnd>; 2], Fail> {
+    let links = half_broken(alloc)?;
+    let report = a_report(table_run(rt, alloc, links, 1, &NoGate))?;
+    let ends = [writer_end_of(&report, 0), writer_end_of(&report, 1)];
+    drop(report);
+    Ok(ends)
+}
+
+/// Each link's own Pong is queued to it, whatever the schedule.
 #[test]
 fn writes_fail_on_their_own_link(rt: HostRuntime) -> Result<(), Fail> {
-    let failing = link_of(rt.alloc(), 0, 1)?.failing(None, Some(1));
-    let mut links = vec![in rt.alloc(); failing]?;
-    links.push(link_of(rt.alloc(), 1, 1)?)?;
-    let report = a_report(table_run(&rt, rt.alloc(), links, 1, &NoGate))?;
-    // each link's own Pong is queued to it, whatever the schedule
-    assert_eq!(rt; writer_end_of(&report, 0), Some(WriterEnd::WriteFailed));
-    assert_eq!(rt; writer_end_of(&report, 1), Some(WriterEnd::Drained));
-    drop(report);
+    assert_eq!(rt;
+        ends_of_half_broken(&rt, rt.alloc())?,
+        [Some(WriterEnd::WriteFailed), Some(WriterEnd::Drained)]
+    );
     Ok(())
 }
 
@@ -174,16 +204,25 @@ fn paced_links<'a>(
     Ok(links)
 }
 
+/// How many Pings a run routes of two such links of ten each.
+fn routed_in_step<R: Threads + Wait + Sync>(
+    rt: &R,
+    alloc: Global,
+    meeting: &Meeting,
+) -> Result<u32, Fail> {
+    let links = paced_links(alloc, 10, meeting, Some(meeting))?;
+    let report = a_report(table_run(rt, alloc, links, 1, &NoGate))?;
+    let routed = report.stats.routed;
+    drop(report);
+    Ok(routed)
+}
+
+/// Ten Pings of 23 bytes, and the read that finds no more, on both sides alike: nobody waits for one that has ended.
 #[test]
 fn two_readers_meet(rt: HostRuntime) -> Result<(), Fail> {
     let meeting = Meeting::new();
-    let links = paced_links(rt.alloc(), 10, &meeting, Some(&meeting))?;
-    let report = a_report(table_run(&rt, rt.alloc(), links, 1, &NoGate))?;
-    assert_eq!(rt; report.stats.routed, 20);
-    drop(report);
-    // ten Pings of 23 bytes, and the read that finds no more, on both sides alike: nobody waits for one that has ended
-    assert_eq!(rt; meeting.begun(), (231, 231));
-    assert!(rt; !meeting.is_missed.load(Ordering::SeqCst));
+    let routed = routed_in_step(&rt, rt.alloc(), &meeting)?;
+    assert!(rt; routed == 20 && have_met(&meeting, 231));
     Ok(())
 }
 
@@ -191,28 +230,22 @@ fn two_readers_meet(rt: HostRuntime) -> Result<(), Fail> {
 fn fault_by<R: Threads + Wait + Sync>(
     rt: &R,
     alloc: Global,
-    meeting: &Meeting,
     workers: u32,
 ) -> Result<Option<RunFault>, Fail> {
-    let links = paced_links(alloc, 0, meeting, None)?;
+    let meeting = Meeting::new();
+    let links = paced_links(alloc, 0, &meeting, None)?;
     Ok(table_run(rt, alloc, links, workers, &NoGate).err())
 }
 
 /// A run has 1 to 64 workers, and names a link that can't be split.
 #[test]
 fn runs_that_do_not_begin(rt: HostRuntime) -> Result<(), Fail> {
-    let meeting = Meeting::new();
-    assert_eq!(rt;
-        fault_by(&rt, rt.alloc(), &meeting, 0)?,
-        Some(RunFault::BadWorkers)
-    );
-    assert_eq!(rt;
-        fault_by(&rt, rt.alloc(), &meeting, 65)?,
-        Some(RunFault::BadWorkers)
-    );
-    assert_eq!(rt;
-        fault_by(&rt, rt.alloc(), &meeting, 1)?,
-        Some(RunFault::Link(1))
-    );
+    for (workers, fault) in [
+        (0, RunFault::BadWorkers),
+        (65, RunFault::BadWorkers),
+        (1, RunFault::Link(1)),
+    ] {
+        assert_eq!(rt; fault_by(&rt, rt.alloc(), workers)?, Some(fault));
+    }
     Ok(())
 }

@@ -123,13 +123,21 @@ fn hundred_plain<A: Allocator + Copy + Send + Sync, R: Threads + Wait + Sync>(
     hundred::<A, PlainRouter<A>, Brand, R>(rt, alloc, Blank::new(6))
 }
 
+/// How many steps that history has, and whether it is legal.
+fn judged<A: Allocator + Copy + Send + Sync, R: Threads + Wait + Sync>(
+    rt: &R,
+    alloc: A,
+) -> Result<(usize, Legality), Fail> {
+    let config = usual(100)?;
+    let history = hundred_plain(rt, alloc)?;
+    let judged = (history.len(), legal(&config, history.as_slice()));
+    drop(history);
+    Ok(judged)
+}
+
 #[test]
 fn two_threads_connect(rt: HostRuntime) -> Result<(), Fail> {
-    let config = usual(100)?;
-    let history = hundred_plain(&rt, rt.alloc())?;
-    assert_eq!(rt; history.len(), 100);
-    assert_eq!(rt; legal(&config, history.as_slice()), Legality::Legal);
-    drop(history);
+    assert_eq!(rt; judged(&rt, rt.alloc())?, (100, Legality::Legal));
     Ok(())
 }
 

@@ -5,6 +5,7 @@ use crate::threads::runs::table_run;
 use gn_bodies::{ReaderEnd, WriterEnd};
 use gn_fixtures::PING;
 use gn_links::{Gate, Made, MemoryLink};
+use gn_report::Report;
 use gn_shake::{Role, request};
 use gn_wire::{FrameFault, Kind};
 use std::alloc::{AllocError, Global};
@@ -12,6 +13,7 @@ use std::sync::Wait;
 use std::sync::atomic::{AtomicU32, Ordering};
 use std::test::Fail;
 use std::thread;
+use std::thread::Threads;
 
 /// How often a reader looks whether its connection is closed at most.
 const MOST_LOOKS: u32 = 100_000_000;
@@ -51,21 +53,39 @@ fn broken_link(alloc: Global) -> Result<MemoryLink, AllocError> {
     Ok(MemoryLink::new(Role::Accepting, bytes, 4096).failing(None, Some(1)))
 }
 
+/// How both bodies of a link ended.
+type BothEnds = (ReaderEnd, WriterEnd);
+
+/// How the last link of a run ended, and how often it closed a connection.
+fn ends_of<Rd, W>(report: &Report<Rd, W>) -> (Option<BothEnds>, u32) {
+    let mut ends = None;
+    for link in &report.links {
+        ends = Some((link.reader_end, link.writer_end));
+    }
+    (ends, report.stats.closed)
+}
+
+/// How the broken link ends, and how often a connection was closed.
+fn ends_of_broken<R: Threads + Wait + Sync>(
+    rt: &R,
+    alloc: Global,
+    gate: &Holder,
+) -> Result<(Option<BothEnds>, u32), Fail> {
+    let links = vec![in alloc; broken_link(alloc)?]?;
+    let report = a_report(table_run(rt, alloc, links, 1, gate))?;
+    let ends = ends_of(&report);
+    drop(report);
+    Ok(ends)
+}
+
 /// The writer closes, as its consent can't be written, and the reader, which finds a fault, finds the connection closed.
 #[test]
 fn a_close_is_told_once(rt: HostRuntime) -> Result<(), Fail> {
     let gate = Holder {
         closed: AtomicU32::new(0),
     };
-    let links = vec![in rt.alloc(); broken_link(rt.alloc())?]?;
-    let report = a_report(table_run(&rt, rt.alloc(), links, 1, &gate))?;
+    let (ends, closed) = ends_of_broken(&rt, rt.alloc(), &gate)?;
     let fault = FrameFault::FixedLength(Kind::Ping, 1);
-    let mut ends = None;
-    for link in &report.links {
-        ends = Some((link.reader_end, link.writer_end));
-    }
-    let closed = report.stats.closed;
-    drop(report);
     assert_eq!(rt;
         ends,
         Some((ReaderEnd::Fault(fault), WriterEnd::WriteFailed))

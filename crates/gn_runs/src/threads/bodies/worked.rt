@@ -134,14 +134,35 @@ fn a_link_of_one_ping(rt: HostRuntime) -> Result<(), Fail> {
     Ok(())
 }
 
+/// Whether a link in this role whose peer sends these bytes never opens, ends so, and writes this.
+fn is_shut<R: Wait>(
+    rt: &R,
+    alloc: Global,
+    role: Role,
+    bytes: &[u8],
+    read: ReaderEnd,
+    written: &[u8],
+) -> Result<bool, Fail> {
+    let link = MemoryLink::new(role, bytes.to_vec(alloc)?, 4096);
+    Ok(never_opens(rt, alloc, link, read, written))
+}
+
 #[test]
 fn a_link_that_never_opens(rt: HostRuntime) -> Result<(), Fail> {
-    let alloc = rt.alloc();
-    let answer = b"HTTP/1.0 200 OK\r\n".as_slice().to_vec(alloc)?;
-    let refused = MemoryLink::new(Role::Calling, answer, 4096);
-    assert!(rt; never_opens(&rt, alloc, refused, ReaderEnd::GreetingRefused, request()));
-    let cut = MemoryLink::new(Role::Accepting, request()[..21].to_vec(alloc)?, 4096);
-    assert!(rt; never_opens(&rt, alloc, cut, ReaderEnd::GreetingCut, b""));
+    let refused = ReaderEnd::GreetingRefused;
+    let answer = b"HTTP/1.0 200 OK\r\n";
+    assert!(rt; is_shut(&rt, rt.alloc(), Role::Calling, answer, refused, request())?);
+    let cut = &request()[..21];
+    assert!(rt;
+        is_shut(
+            &rt,
+            rt.alloc(),
+            Role::Accepting,
+            cut,
+            ReaderEnd::GreetingCut,
+            b""
+        )?
+    );
     Ok(())
 }
 
