@@ -154,7 +154,7 @@ struct Callers {
 }
 
 /// Two callers that have sent a Ping and their end, one after the other.
-fn callers<N: Net<Listener = TcpListener, Stream = TcpStream>>(
+fn two_callers<N: Net<Listener = TcpListener, Stream = TcpStream>>(
     net: &N,
     at: SocketAddr,
 ) -> Result<Callers, Fail> {
@@ -203,7 +203,7 @@ fn serve_two<
         + Sync,
 >(rt: &R, alloc: Global, recorder: &Recorder) -> Result<(u32, u32), Fail> {
     let listener = a_listener(rt)?;
-    let callers = callers(rt, listener.local_addr()?)?;
+    let callers = two_callers(rt, listener.local_addr()?)?;
     let served = serve_watched(rt, alloc, &listener, 2, &Serving::UNLIMITED, recorder);
     let ports = callers.ports;
     drop(callers);
