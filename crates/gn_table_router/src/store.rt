@@ -17,9 +17,9 @@ use std::mem;
 /// Tables that say what the steps left, and what the steps are given to.
 #[derive(Drop)]
 pub struct TableStore<A: Allocator + Copy = Global, K: Keeper<A> = Whole<A>> {
-    config: Config,
-    history: K,
-    tables: Tables<A>,
+    pub(crate) config: Config,
+    pub(crate) history: K,
+    pub(crate) tables: Tables<A>,
 }
 
 impl<A: Allocator + Copy, K: Keeper<A>> Model for TableStore<A, K> {

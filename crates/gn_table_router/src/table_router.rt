@@ -16,7 +16,7 @@ use std::alloc::{AllocError, Allocator, Global};
 /// for, and isn't written out there.
 #[derive(Drop)]
 pub struct TableRouter<A: Allocator + Copy = Global, K: Keeper<A> = Whole<A>> {
-    router: Router<TableStore<A, K>, A>,
+    pub(crate) router: Router<TableStore<A, K>, A>,
 }
 
 impl<A: Allocator + Copy, K: Keeper<A>> RouterCore<A> for TableRouter<A, K> {
