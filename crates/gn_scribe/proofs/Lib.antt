@@ -1,0 +1,3 @@
+pub mod PrintLemmas
+pub mod WrittenLemmas
+pub mod EndLemmas

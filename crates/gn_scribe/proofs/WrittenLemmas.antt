@@ -1,0 +1,179 @@
+-- Steps that a scribe took and wrote, and more after them.
+use Rattle.std.proofs.Common.{◌≡◌, ◌∙◌, ◌+◌, ◌<◌, ℕ, List, [], ◌∷◌, ◌++◌, length, refl, sym, ap, subst, arith, append-nil, append_assoc, length-append}
+use Rattle.std.proofs.lemmas.Grind.{flat_map-append}
+use Rattle.std.proofs.lemmas.List.{nil_from_length}
+use Rattle.std.specs.Io.KnownBytes.{Appends}
+use Rattle.rtrb.specs.Ring.{IsPair, SameConsumer, SameProducer, known_items, received}
+use Rattle.rtrb.specs.declared.consumer.Consumer.{Consumer}
+use Rattle.rtrb.specs.declared.producer.Producer.{Producer}
+use Rattle.gn_rules.specs.declared.receipt.Step.{Step}
+use Rattle.gn_text.specs.Steps.{step_text}
+use Rattle.gn_capture.specs.Histories.{steps_text}
+use Rattle.gn_io.specs.Parts.{AppendsPart, LeavesToWrite, block_size}
+use Rattle.gn_io.specs.Streams.{NoWriteFailed, SinkState}
+use Rattle.gn_io.proofs.StreamLemmas.{leaves_all}
+use Rattle.gn_scribe.specs.declared.scribe.Scribe.{Scribe}
+use Rattle.gn_scribe.specs.Written.{HasBroken, HasWritten}
+use Rattle.gn_scribe.proofs.PrintLemmas.{more_cut, more_left}
+
+module _ {A : Type 0} where
+  pub same_then : {P : Type 0} (a b c : Consumer (Step A) A P) → SameConsumer a b → SameConsumer b c → SameConsumer a c
+  same_then a b c h k = ((k.0.0 ∙ h.0.0, k.0.1 ∙ h.0.1, k.0.2 ∙ h.0.2, k.0.3 ∙ h.0.3), k.1 ∙ h.1)
+
+  -- the two ends of a ring are so later, too
+  pub pair_then : {P : Type 0} (p q : Producer (Step A) A P) (c d : Consumer (Step A) A P) → IsPair p c → SameProducer p q → SameConsumer c d → IsPair q d
+  pair_then p q c d h l k = (
+    k.0.0 ∙ (h.0 ∙ sym l.0.0),
+    k.0.1 ∙ (h.1 ∙ sym l.0.1),
+    k.0.2 ∙ (h.2 ∙ sym l.0.2),
+    k.0.3 ∙ (h.3 ∙ sym l.0.3),
+  )
+
+  -- a scribe has looked into the ring, and taken and written nothing
+  pub only_looked : (s0 s1 : Scribe A) (k : SinkState) → SameConsumer s0.steps s1.steps → received s1.steps ≡ received s0.steps → s1.block ≡ s0.block → HasWritten s0 s1 k k
+  only_looked s0 s1 k same taken block = record {
+    same = same;
+    steps = [];
+    taken = taken ∙ sym (append-nil (received s0.steps));
+    left = subst (λ (all : List ℕ). LeavesToWrite k.written k.written s1.block all) (block ∙ sym (append-nil s0.block)) (leaves_all k.written s1.block);
+    small = λ less. subst (λ (b : List ℕ). length b < block_size) (sym block) less;
+    unfailed = (refl, refl);
+  }
+
+  same_self : {P : Type 0} (c : Consumer (Step A) A P) → SameConsumer c c
+  same_self c = ((refl, refl, refl, refl), refl)
+
+  pub written_none : (s : Scribe A) (k : SinkState) → HasWritten s s k k
+  written_none s k = only_looked s s k (same_self s.steps) refl refl
+
+  -- the text of some steps and of others after them
+  both_texts : (waited : List ℕ) (steps more : List (Step A)) → (waited ++ steps_text steps) ++ steps_text more ≡ waited ++ steps_text (steps ++ more)
+  both_texts waited steps more = append_assoc waited (steps_text steps) (steps_text more) ∙ ap (λ r. waited ++ r) (sym (flat_map-append step_text steps more))
+
+  one_text : (waited : List ℕ) (x : Step A) → waited ++ step_text x ≡ waited ++ steps_text (x ∷ [])
+  one_text waited x = ap (λ r. waited ++ r) (sym (append-nil (step_text x)))
+
+  -- all that waited was written
+  pub waiting_written : (s0 s1 : Scribe A) (k0 k1 : SinkState) → s1.steps ≡ s0.steps → s1.block ≡ [] → Appends k0.written k1.written s0.block → NoWriteFailed k0 k1 → HasWritten s0 s1 k0 k1
+  waiting_written s0 s1 k0 k1 steps block all unfailed = record {
+    same = subst (λ (c : Consumer (Step A) A _). SameConsumer s0.steps c) (sym steps) (same_self s0.steps);
+    steps = [];
+    taken = ap (λ c. received c) steps ∙ sym (append-nil (received s0.steps));
+    left = (s0.block, all, ap (λ r. s0.block ++ r) block);
+    small = λ _. subst (λ (b : List ℕ). length b < block_size) (sym block) (omega (arith));
+    unfailed = unfailed;
+  }
+
+  -- only a prefix of what waited was
+  pub waiting_broken : (s0 s1 : Scribe A) (k0 k1 : SinkState) → s1.steps ≡ s0.steps → AppendsPart k0.written k1.written s0.block → HasBroken s0 s1 k0 k1
+  waiting_broken s0 s1 k0 k1 steps part = record {
+    same = subst (λ (c : Consumer (Step A) A _). SameConsumer s0.steps c) (sym steps) (same_self s0.steps);
+    steps = [];
+    taken = ap (λ c. received c) steps ∙ sym (append-nil (received s0.steps));
+    part = subst (λ (all : List ℕ). AppendsPart k0.written k1.written all) (sym (append-nil s0.block)) part;
+  }
+
+  module _ (s0 s1 s2 : Scribe A) (k0 k1 k2 : SinkState) (so_far : HasWritten s0 s1 k0 k1) where
+    taken_on : (more : List (Step A)) → received s2.steps ≡ received s1.steps ++ more → received s2.steps ≡ received s0.steps ++ (so_far.steps ++ more)
+    taken_on more taken = taken ∙ (ap (λ r. r ++ more) so_far.taken ∙ append_assoc (received s0.steps) so_far.steps more)
+
+    -- more was written
+    pub written_more : HasWritten s1 s2 k1 k2 → HasWritten s0 s2 k0 k2
+    written_more more = record {
+      same = same_then s0.steps s1.steps s2.steps so_far.same more.same;
+      steps = so_far.steps ++ more.steps;
+      taken = taken_on more.steps more.taken;
+      left = subst (λ (all : List ℕ). LeavesToWrite k0.written k2.written s2.block all) (both_texts s0.block so_far.steps more.steps)
+          (more_left k0.written k1.written k2.written s1.block s2.block (steps_text more.steps) (s0.block ++ steps_text so_far.steps) so_far.left more.left);
+      small = λ less. more.small (so_far.small less);
+      unfailed = (more.unfailed.0 ∙ so_far.unfailed.0, more.unfailed.1 ∙ so_far.unfailed.1);
+    }
+
+    -- only a prefix of more was
+    pub broken_after : HasBroken s1 s2 k1 k2 → HasBroken s0 s2 k0 k2
+    broken_after more = record {
+      same = same_then s0.steps s1.steps s2.steps so_far.same more.same;
+      steps = so_far.steps ++ more.steps;
+      taken = taken_on more.steps more.taken;
+      part = more_cut k0.written k1.written k2.written s1.block (steps_text more.steps) [] (s0.block ++ steps_text so_far.steps) (s0.block ++ steps_text (so_far.steps ++ more.steps)) so_far.left
+          more.part (append-nil _ ∙ both_texts s0.block so_far.steps more.steps);
+    }
+
+  -- one step was taken, and its line written
+  one_written : (s1 s2 : Scribe A) (k1 k2 : SinkState) (x : Step A) → SameConsumer s1.steps s2.steps → received s2.steps ≡ received s1.steps ++ x ∷ []
+      → LeavesToWrite k1.written k2.written s2.block (s1.block ++ step_text x) → length s2.block < block_size → NoWriteFailed k1 k2 → HasWritten s1 s2 k1 k2
+  one_written s1 s2 k1 k2 x same taken left small unfailed = record {
+    same = same;
+    steps = x ∷ [];
+    taken = taken;
+    left = subst (λ (all : List ℕ). LeavesToWrite k1.written k2.written s2.block all) (one_text s1.block x) left;
+    small = λ _. small;
+    unfailed = unfailed;
+  }
+
+  -- one step was taken, and only a prefix of its line was written
+  one_broken : (s1 s2 : Scribe A) (k1 k2 : SinkState) (x : Step A) → SameConsumer s1.steps s2.steps → received s2.steps ≡ received s1.steps ++ x ∷ []
+      → AppendsPart k1.written k2.written (s1.block ++ step_text x) → HasBroken s1 s2 k1 k2
+  one_broken s1 s2 k1 k2 x same taken part = record {
+    same = same;
+    steps = x ∷ [];
+    taken = taken;
+    part = subst (λ (all : List ℕ). AppendsPart k1.written k2.written all) (one_text s1.block x) part;
+  }
+
+  -- i of the steps that had come were taken and written
+  pub record IsWriting (s0 s1 : Scribe A) (k0 k1 : SinkState) (i : ℕ) : Type 0 where
+    pub written : HasWritten s0 s1 k0 k1
+    pub long : length written.steps ≡ i
+    pub ahead : known_items s0.steps ≡ written.steps ++ known_items s1.steps
+
+  pub writing_none : (s : Scribe A) (k : SinkState) → IsWriting s s k k 0
+  unfolding written_none only_looked
+  writing_none s k = record { written = written_none s k; long = refl; ahead = refl }
+
+  module _ (s0 s1 s2 : Scribe A) (k0 k1 k2 : SinkState) (i : ℕ) (x : Step A) (so_far : IsWriting s0 s1 k0 k1 i)
+      (same : SameConsumer s1.steps s2.steps) (taken : received s2.steps ≡ received s1.steps ++ x ∷ []) (ahead : known_items s1.steps ≡ x ∷ known_items s2.steps) where
+    all_ahead : known_items s0.steps ≡ (so_far.written.steps ++ x ∷ []) ++ known_items s2.steps
+    all_ahead = so_far.ahead ∙ (ap (λ r. so_far.written.steps ++ r) ahead ∙ sym (append_assoc so_far.written.steps (x ∷ []) (known_items s2.steps)))
+
+    -- one more was
+    pub writing_more : LeavesToWrite k1.written k2.written s2.block (s1.block ++ step_text x) → length s2.block < block_size → NoWriteFailed k1 k2 → IsWriting s0 s2 k0 k2 (i + 1)
+    unfolding written_more one_written
+    writing_more left small unfailed = record {
+      written = written_more s0 s1 s2 k0 k1 k2 so_far.written (one_written s1 s2 k1 k2 x same taken left small unfailed);
+      long = omega (arith, so_far.long, length-append so_far.written.steps (x ∷ []));
+      ahead = all_ahead;
+    }
+
+    -- one more was taken, and only a prefix of its line written
+    pub writing_cut : AppendsPart k1.written k2.written (s1.block ++ step_text x) → HasBroken s0 s2 k0 k2
+    writing_cut part = broken_after s0 s1 s2 k0 k1 k2 so_far.written (one_broken s1 s2 k1 k2 x same taken part)
+
+  -- a step is there where fewer were taken than had come
+  pub one_ahead : (s0 s1 : Scribe A) (k0 k1 : SinkState) (i : ℕ) → IsWriting s0 s1 k0 k1 i → i < length (known_items s0.steps) → 0 < length (known_items s1.steps)
+  one_ahead s0 s1 k0 k1 i so_far more = omega (arith, more, so_far.long, ap length so_far.ahead, length-append so_far.written.steps (known_items s1.steps))
+
+  -- all that had come were taken
+  pub all_known : (s0 s1 : Scribe A) (k0 k1 : SinkState) (i : ℕ) → IsWriting s0 s1 k0 k1 i → i ≡ length (known_items s0.steps)
+      → received s1.steps ≡ received s0.steps ++ known_items s0.steps
+  all_known s0 s1 k0 k1 i so_far all =
+      let steps = so_far.written.steps in
+      let none : known_items s1.steps ≡ [] = nil_from_length (known_items s1.steps) (omega (arith, all, so_far.long, ap length so_far.ahead, length-append steps (known_items s1.steps))) in
+      so_far.written.taken ∙ ap (λ r. received s0.steps ++ r) (sym (so_far.ahead ∙ (ap (λ r. steps ++ r) none ∙ append-nil steps)))
+
+  -- i of the steps that had come were taken; what was taken and what has come stay all of them
+  pub record IsKeeping {P : Type 0} (c0 c1 : Consumer (Step A) A P) (i : ℕ) : Type 0 where
+    pub all : received c1 ++ known_items c1 ≡ received c0 ++ known_items c0
+    pub many : length (known_items c1) + i ≡ length (known_items c0)
+
+  pub keeping_more : {P : Type 0} (c0 c1 c2 : Consumer (Step A) A P) (i : ℕ) (x : Step A) → IsKeeping c0 c1 i → received c2 ≡ received c1 ++ x ∷ [] → known_items c1 ≡ x ∷ known_items c2
+      → IsKeeping c0 c2 (i + 1)
+  keeping_more c0 c1 c2 i x so_far taken ahead = record {
+    all = ap (λ r. r ++ known_items c2) taken ∙ (append_assoc (received c1) (x ∷ []) (known_items c2) ∙ (ap (λ r. received c1 ++ r) (sym ahead) ∙ so_far.all));
+    many = omega (arith, so_far.many, ap length ahead);
+  }
+
+  pub keeping_all : {P : Type 0} (c0 c1 : Consumer (Step A) A P) (i : ℕ) → IsKeeping c0 c1 i → i ≡ length (known_items c0) → received c1 ≡ received c0 ++ known_items c0
+  keeping_all c0 c1 i so_far all =
+      let none : known_items c1 ≡ [] = nil_from_length (known_items c1) (omega (arith, all, so_far.many)) in
+      sym (append-nil (received c1)) ∙ (ap (λ r. received c1 ++ r) (sym none) ∙ so_far.all)

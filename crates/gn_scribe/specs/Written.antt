@@ -1,0 +1,92 @@
+-- What a scribe has written of the steps that it took.
+use Rattle.std.specs.Prelude.{◌≡◌, ◌<◌, ⊤, ℕ, List, ◌++◌, codes, drop, length, Result, Ok, Err}
+use Rattle.std.specs.Io.KnownBytes.{Appends}
+use Rattle.rtrb.specs.Ring.{SameConsumer, received}
+use Rattle.gn_rules.specs.declared.receipt.Step.{Step}
+use Rattle.gn_capture.specs.Histories.{steps_text}
+use Rattle.gn_io.specs.Parts.{AppendsPart, LeavesToWrite, block_size}
+use Rattle.gn_io.specs.Streams.{NoWriteFailed, SinkState}
+use Rattle.gn_scribe.specs.declared.ending.Waiting.{Waiting}
+use Rattle.gn_scribe.specs.declared.printed.PrintFault.{PrintFault}
+use Rattle.gn_scribe.specs.declared.scribe.Scribe.{Scribe}
+use Rattle.gn_scribe.specs.Printed.{IsPrintFault}
+
+-- some steps were taken out of the ring, and of what waited with their lines all was written but what waits now, less than a block
+-- where that was so before; no write failed
+pub record HasWritten {A : Type 0} (before after : Scribe A) (old new : SinkState) : Type 0 where
+  pub same : SameConsumer before.steps after.steps
+  pub steps : List (Step A)
+  pub taken : received after.steps ≡ received before.steps ++ steps
+  pub left : LeavesToWrite old.written new.written after.block (before.block ++ steps_text steps)
+  pub small : length before.block < block_size → length after.block < block_size
+  pub unfailed : NoWriteFailed old new
+
+-- some steps were taken, and of what waited with their lines only a prefix was written
+pub record HasBroken {A : Type 0} (before after : Scribe A) (old new : SinkState) : Type 0 where
+  pub same : SameConsumer before.steps after.steps
+  pub steps : List (Step A)
+  pub taken : received after.steps ≡ received before.steps ++ steps
+  pub part : AppendsPart old.written new.written (before.block ++ steps_text steps)
+
+-- of these steps, of which a scribe had taken some, it took all others, and of what waited with their lines all was written but what
+-- waits now
+pub record HasWrittenAll {A : Type 0} (scribe : Scribe A) (steps : List (Step A)) (old new : SinkState) (waiting : List ℕ) : Type 0 where
+  pub more : List (Step A)
+  pub all : steps ≡ received scribe.steps ++ more
+  pub left : LeavesToWrite old.written new.written waiting (scribe.block ++ steps_text more)
+  pub small : length scribe.block < block_size → length waiting < block_size
+  pub unfailed : NoWriteFailed old new
+
+-- of what waited with the lines of the others only a prefix was written
+pub record HasBrokenOff {A : Type 0} (scribe : Scribe A) (steps : List (Step A)) (old new : SinkState) (fault : PrintFault) : Type 0 where
+  pub more : List (Step A)
+  pub all : steps ≡ received scribe.steps ++ more
+  pub part : AppendsPart old.written new.written (scribe.block ++ steps_text more)
+  pub cause : IsPrintFault fault old new
+
+-- nothing was written any more, for this fault
+pub record HasStayed {A : Type 0} (scribe : Scribe A) (steps : List (Step A)) (old new : SinkState) (first fault : PrintFault) : Type 0 where
+  pub more : List (Step A)
+  pub all : steps ≡ received scribe.steps ++ more
+  pub same : new ≡ old
+  pub reason : fault ≡ first
+
+-- a scribe that could write all so far, or couldn't for a fault, took all of these steps and wrote them; or it could not; or it did
+-- nothing more
+abbrev pub HasTold : {A : Type 0} → Scribe A → Scribe A → List (Step A) → SinkState → SinkState → Result ⊤ PrintFault → Result ⊤ PrintFault → Type 0
+HasTold before after steps old new (Ok x) (Ok y) = HasWritten before after old new × (received after.steps ≡ steps)
+HasTold before after steps old new (Ok x) (Err fault) = HasBroken before after old new × IsPrintFault fault old new
+HasTold before after steps old new (Err first) (Ok y) = ⊥
+HasTold before after steps old new (Err first) (Err fault) = (after ≡ before) × (new ≡ old) × (fault ≡ first)
+
+-- the same of one that ended, and what waits then
+abbrev pub HasEnded : {A : Type 0} → Scribe A → List (Step A) → SinkState → SinkState → Result ⊤ PrintFault → Result (Waiting A) PrintFault → Type 0
+HasEnded scribe steps old new (Ok x) (Ok waiting) = HasWrittenAll scribe steps old new waiting.block × (waiting.count ≡ length steps)
+HasEnded scribe steps old new (Ok x) (Err fault) = HasBrokenOff scribe steps old new fault
+HasEnded scribe steps old new (Err first) (Ok waiting) = ⊥
+HasEnded scribe steps old new (Err first) (Err fault) = HasStayed scribe steps old new first fault
+
+-- one that began with these bytes and before any step, took steps while they came, and ended: of the text of all steps behind those bytes
+-- all was written but what waits, less than a block where those bytes are; or a prefix, at a fault
+abbrev pub HasJournalled : {A : Type 0} → List ℕ → List (Step A) → SinkState → SinkState → Result (Waiting A) PrintFault → Type 0
+HasJournalled heading steps old new (Ok waiting) =
+    LeavesToWrite old.written new.written waiting.block (heading ++ steps_text steps)
+    × (length heading < block_size → length waiting.block < block_size)
+    × NoWriteFailed old new × (waiting.count ≡ length steps)
+HasJournalled heading steps old new (Err fault) = AppendsPart old.written new.written (heading ++ steps_text steps) × IsPrintFault fault old new
+
+-- it took steps while they came, and wrote their lines, or couldn't
+abbrev pub HasFollowed : {A : Type 0} → Scribe A → Scribe A → SinkState → SinkState → Result ⊤ PrintFault → Type 0
+HasFollowed before after old new (Ok x) = HasWritten before after old new
+HasFollowed before after old new (Err fault) = HasBroken before after old new × IsPrintFault fault old new
+
+-- what waited of a text, the lines of the steps that neither were written nor wait, and the line `end` were written, or a prefix, for a fault;
+-- where the text couldn't be written before, nothing was
+abbrev pub HasFinished : {A : Type 0} → List (Step A) → SinkState → SinkState → Result (Waiting A) PrintFault → Result ⊤ PrintFault → Type 0
+HasFinished steps old new (Ok waiting) (Ok x) =
+    Appends old.written new.written (waiting.block ++ steps_text (drop waiting.count steps) ++ codes "end\n") × NoWriteFailed old new
+HasFinished steps old new (Ok waiting) (Err fault) =
+    AppendsPart old.written new.written (waiting.block ++ steps_text (drop waiting.count steps) ++ codes "end\n")
+    × IsPrintFault fault old new
+HasFinished steps old new (Err first) (Ok x) = ⊥
+HasFinished steps old new (Err first) (Err fault) = (new ≡ old) × (fault ≡ first)

@@ -1,0 +1,11 @@
+//! A history that is written while its router runs: a thread of its own takes the steps out of a ring, writes their lines in
+//! blocks, and keeps them.
+#![tactic(auto)]
+
+mod ending;
+mod printed;
+mod scribe;
+
+pub use ending::{Waiting, finish_history};
+pub use printed::{PrintFault, print_end, print_step, print_steps};
+pub use scribe::Scribe;

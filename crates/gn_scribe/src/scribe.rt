@@ -1,0 +1,203 @@
+//! Who writes a history while its router runs.
+
+ghost use Rattle.std.specs.Prelude.{◌≡◌, ◌++◌, [], List, length, IfErr, IfOk, OnErr, OnOk};
+ghost use Rattle.gn_rules.specs.declared.receipt.Step.{Step};
+ghost use Rattle.rtrb.specs.Ring.{IsPair, SameConsumer, known_items, received, sent};
+ghost use Rattle.gn_scribe.specs.Printed.{IsPrintFault};
+
+use crate::printed::{PrintFault, print_step};
+use gn_io::{Block, Sink};
+use gn_room::Room;
+use gn_rules::Step;
+use rtrb::{Consumer, Producer};
+use std::alloc::{AllocError, Allocator, Global};
+use std::sync::Wait;
+
+/// Takes the steps of a run out of their ring, writes their lines in blocks, and keeps the steps. Of the text no more is in memory
+/// than a block and a line.
+#[derive(Drop)]
+pub struct Scribe<A: Allocator = Global> {
+    pub(crate) steps: Consumer<Step<A>, A>,
+    pub(crate) block: Block<A>,
+    pub(crate) line: Vec<u8, A>,
+    pub(crate) kept: Vec<Step<A>, A>,
+    ghost whole: { kept.items ≡ received steps },
+}
+
+impl<A: Allocator + Copy> Scribe<A> {
+    ghost use Rattle.gn_scribe.specs.Written.{HasBroken, HasWritten};
+
+    /// A scribe of a ring of which no step was taken yet, with bytes that wait to be written before the first.
+    pub fn new(alloc: A, steps: Consumer<Step<A>, A>, block: Block<A>) -> Self
+        requires { received steps ≡ [] }
+        ensures steps { result.steps ≡ steps }
+        ensures block { result.block ≡ block }
+    {
+        Scribe {
+            steps,
+            block,
+            line: Vec::new(alloc),
+            kept: Vec::new(alloc),
+        }
+    }
+
+    /// Takes so many steps, which have come, and writes their lines.
+    fn write_known<W: Sink>(&mut self, count: usize, sink: &mut W) -> Result<(), PrintFault>
+        requires { count ≡ length (known_items self.old.steps) }
+        ensures same { SameConsumer self.old.steps self.new.steps }
+        ensures ok { OnOk result (HasWritten self.old self.new (W.state sink.old) (W.state sink.new)) }
+        ensures all { OnOk result (received self.new.steps ≡ received self.old.steps ++ known_items self.old.steps) }
+        ensures err { OnErr result (HasBroken self.old self.new (W.state sink.old) (W.state sink.new)) }
+        ensures cause { IfErr result (λ fault. IsPrintFault fault (W.state sink.old) (W.state sink.new)) }
+    {
+        for _ in 0..count {
+            self.kept.reserve(1)?;
+            let step = self.steps.pop_known();
+            let printed = print_step(&step, &mut self.line, &mut self.block, sink);
+            self.kept.push_reserved(step);
+            printed?;
+        }
+        Ok(())
+    }
+
+    /// Takes the steps that have come by now, and writes their lines. How many they were.
+    fn write_come<W: Sink>(&mut self, sink: &mut W) -> Result<usize, PrintFault>
+        ensures ok { OnOk result (HasWritten self.old self.new (W.state sink.old) (W.state sink.new)) }
+        ensures err { OnErr result (HasBroken self.old self.new (W.state sink.old) (W.state sink.new)) }
+        ensures cause { IfErr result (λ fault. IsPrintFault fault (W.state sink.old) (W.state sink.new)) }
+    {
+        let count = self.steps.slots();
+        self.write_known(count, sink)?;
+        Ok(count)
+    }
+
+    /// Writes all that waits, once a step was taken: of a run without steps nothing is written here.
+    #[tactic(auto, using(crate::proofs::WrittenLemmas::written_none))]
+    fn write_waiting<W: Sink>(&mut self, sink: &mut W) -> Result<(), PrintFault>
+        ensures ok { OnOk result (HasWritten self.old self.new (W.state sink.old) (W.state sink.new)) }
+        ensures err { OnErr result (HasBroken self.old self.new (W.state sink.old) (W.state sink.new)) }
+        ensures cause { IfErr result (λ fault. IsPrintFault fault (W.state sink.old) (W.state sink.new)) }
+    {
+        if self.kept.is_empty() {
+            return Ok(());
+        }
+        self.block.write_rest(sink)?;
+        Ok(())
+    }
+
+    /// Takes the steps that have come, and writes their lines; where none has, writes what waits, and waits for one. Whether no
+    /// more will come.
+    fn turn<R: Wait, W: Sink>(
+        &mut self,
+        rt: &R,
+        room: &Room,
+        sink: &mut W,
+    ) -> Result<bool, PrintFault>
+        ensures ok { OnOk result (HasWritten self.old self.new (W.state sink.old) (W.state sink.new)) }
+        ensures err { OnErr result (HasBroken self.old self.new (W.state sink.old) (W.state sink.new)) }
+        ensures cause { IfErr result (λ fault. IsPrintFault fault (W.state sink.old) (W.state sink.new)) }
+    {
+        let is_over = room.is_over();
+        let count = self.write_come(sink)?;
+        room.took(rt, count as u64);
+        if count > 0 || is_over {
+            return Ok(count == 0);
+        }
+        self.write_waiting(sink)?;
+        room.await_step(rt);
+        Ok(false)
+    }
+
+    /// Takes the steps as they come, and writes their lines, until no more will come.
+    fn write_on<R: Wait, W: Sink>(
+        &mut self,
+        rt: &R,
+        room: &Room,
+        sink: &mut W,
+    ) -> Result<(), PrintFault>
+        ensures ok { OnOk result (HasWritten self.old self.new (W.state sink.old) (W.state sink.new)) }
+        ensures err { OnErr result (HasBroken self.old self.new (W.state sink.old) (W.state sink.new)) }
+        ensures cause { IfErr result (λ fault. IsPrintFault fault (W.state sink.old) (W.state sink.new)) }
+    {
+        for _ in rt.forever() {
+            if self.turn(rt, room, sink)? {
+                return Ok(());
+            }
+        }
+        unreachable!()
+    }
+
+    /// Takes the steps as they come, and writes their lines, until no more will come. What waits is written before it waits, once
+    /// there was a step. At an `Err` the room is shut.
+    pub fn follow<R: Wait, W: Sink>(
+        &mut self,
+        rt: &R,
+        room: &Room,
+        sink: &mut W,
+    ) -> Result<(), PrintFault>
+        ensures ok { OnOk result (HasWritten self.old self.new (W.state sink.old) (W.state sink.new)) }
+        ensures err { OnErr result (HasBroken self.old self.new (W.state sink.old) (W.state sink.new)) }
+        ensures cause { IfErr result (λ fault. IsPrintFault fault (W.state sink.old) (W.state sink.new)) }
+    {
+        let written = self.write_on(rt, room, sink);
+        if written.is_err() {
+            room.shut(rt);
+        }
+        written
+    }
+
+    /// Takes the steps that are left of a ring, with its other end, and writes their lines.
+    pub(crate) fn write_left<W: Sink>(
+        &mut self,
+        producer: &mut Producer<Step<A>, A>,
+        sink: &mut W,
+    ) -> Result<(), PrintFault>
+        requires { IsPair producer.old self.old.steps }
+        ensures pair { IsPair producer.new self.new.steps × (sent producer.new ≡ sent producer.old) }
+        ensures ok { OnOk result (HasWritten self.old self.new (W.state sink.old) (W.state sink.new)) }
+        ensures all { OnOk result (received self.new.steps ≡ sent producer.old) }
+        ensures err { OnErr result (HasBroken self.old self.new (W.state sink.old) (W.state sink.new)) }
+        ensures cause { IfErr result (λ fault. IsPrintFault fault (W.state sink.old) (W.state sink.new)) }
+    {
+        let count = self.steps.slots_beside(producer);
+        self.write_known(count, sink)
+    }
+
+    /// All steps of a ring, with its other end, those that weren't taken among them, and the bytes that wait to be written. Nothing is
+    /// written any more. An `Err` is out of memory.
+    pub(crate) fn into_parts(
+        self,
+        producer: &mut Producer<Step<A>, A>,
+    ) -> Result<(Vec<Step<A>, A>, Block<A>), AllocError>
+        requires { IsPair producer.old self.steps }
+        ensures ahead { (more : List (Step A)) × (sent producer.old ≡ received self.steps ++ more) }
+        ensures history { IfOk result (λ parts. parts.0.items ≡ sent producer.old) }
+        ensures block { IfOk result (λ parts. parts.1 ≡ self.block) }
+    {
+        let mut scribe = self;
+        let count = scribe.steps.slots_beside(producer);
+        scribe.keep_known(count)?;
+        let Scribe {
+            steps,
+            block,
+            line,
+            kept,
+        } = scribe;
+        drop(steps);
+        drop(line);
+        Ok((kept, block))
+    }
+
+    /// Takes so many steps, which have come.
+    fn keep_known(&mut self, count: usize) -> Result<(), AllocError>
+        requires { count ≡ length (known_items self.old.steps) }
+        ensures all { OnOk result (received self.new.steps ≡ received self.old.steps ++ known_items self.old.steps) }
+        ensures block { self.new.block ≡ self.old.block }
+    {
+        for _ in 0..count {
+            self.kept.reserve(1)?;
+            self.kept.push_reserved(self.steps.pop_known());
+        }
+        Ok(())
+    }
+}
