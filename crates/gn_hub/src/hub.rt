@@ -28,6 +28,14 @@ pub struct Hub<C: RouterCore<A>, L: Ledger, A: Allocator + Copy = Global> {
     failed: bool,
 }
 
+/// What is left of a hub where its router was taken out.
+#[derive(Drop)]
+pub struct Frame<L: Ledger, A: Allocator = Global> {
+    pub(crate) book: Book<L>,
+    links: Vec<Mark, A>,
+    failed: bool,
+}
+
 impl<C: RouterCore<A>, L: Ledger, A: Allocator + Copy> Model for Hub<C, L, A> {
     ghost use Rattle.std.specs.Prelude.{◌≡◌, length};
     ghost use Rattle.gn_hub.specs.HubState.{HubState};
@@ -263,6 +271,45 @@ impl<C: RouterCore<A>, L: Ledger, A: Allocator + Copy> Hub<C, L, A> {
         ensures steps { C.steps result ≡ self.steps }
     {
         self.core
+    }
+
+    /// The router, and the frame that it was taken out of.
+    pub fn into_parts(self) -> (C, Frame<L, A>)
+        ensures settings { C.settings result.0 ≡ self.settings }
+        ensures steps { C.steps result.0 ≡ self.steps }
+        ensures frame { result.1.book.total ≡ length self.steps }
+    {
+        let Hub {
+            core,
+            book,
+            links,
+            failed,
+        } = self;
+        let frame = Frame {
+            book,
+            links,
+            failed,
+        };
+        (core, frame)
+    }
+
+    /// A hub of a router that has as many steps as the one that was taken out of this frame.
+    pub fn of_parts(core: C, frame: Frame<L, A>) -> Self
+        requires { frame.book.total ≡ length (C.steps core) }
+        ensures settings { result.settings ≡ C.settings core }
+        ensures steps { result.steps ≡ C.steps core }
+    {
+        let Frame {
+            book,
+            links,
+            failed,
+        } = frame;
+        Hub {
+            core,
+            book,
+            links,
+            failed,
+        }
     }
 
     /// All shares together are the book.

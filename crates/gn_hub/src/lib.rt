@@ -13,7 +13,7 @@ mod service;
 pub use actor::Actor;
 pub use found::FoundClosed;
 pub use gn_shake::Role;
-pub use hub::Hub;
+pub use hub::{Frame, Hub};
 pub use mark::{Door, Mark};
 pub use next::{Next, Outgoing};
 pub use opening::ServiceFault;

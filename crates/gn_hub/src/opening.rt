@@ -1,6 +1,6 @@
 //! How the service of a run is made, and its actors.
 
-ghost use Rattle.std.specs.Prelude.{◌≡◌, ◌+◌, ◌*◌, ◌<◌, ◌≤◌, ◌↔◌, length, map, IfErr, IfOk};
+ghost use Rattle.std.specs.Prelude.{◌≡◌, ◌+◌, ◌*◌, ◌<◌, ◌≤◌, ◌↔◌, [], length, map, IfErr, IfOk};
 ghost use Rattle.gn_rules.specs.Limits.{IsCrew, most_links};
 ghost use Rattle.gn_hub.specs.ActorState.{AreNew};
 ghost use Rattle.gn_hub.specs.HubState.{new_mark, opening};
@@ -10,7 +10,8 @@ use crate::actor::Actor;
 use crate::hub::Hub;
 use crate::mark::Mark;
 use crate::service::Service;
-use gn_rules::{Config, FreshRouter, MOST_WORKERS};
+use gn_room::Room;
+use gn_rules::{Config, FreshRouter, MOST_WORKERS, RouterCore};
 use gn_shake::Role;
 use std::alloc::{AllocError, AllocFailed, Allocator};
 use std::sync::ledger::{Blank, Ledger, Share};
@@ -55,29 +56,55 @@ impl<C: FreshRouter<A> + Drop, L: Ledger, A: Allocator + Copy> Service<C, L, A> 
         if workers == 0 || workers > MOST_WORKERS {
             return Err(ServiceFault::BadWorkers);
         }
-        let (hub, actors) = open(alloc, blank, config, roles, workers)?;
-        Ok((Service::over(hub), actors))
+        let core = C::make(alloc, config)?;
+        Service::over_router(alloc, blank, core, Room::endless(), roles, workers)
     }
 }
 
-/// The hub of a run that begins, and the actors.
-fn open<C: FreshRouter<A>, L: Ledger, A: Allocator + Copy>(
+impl<C: RouterCore<A> + Drop, L: Ledger, A: Allocator + Copy> Service<C, L, A> {
+    /// The same over a router of no steps, whose steps somebody takes to make room for others.
+    pub fn over_router(
+        alloc: A,
+        blank: Blank,
+        core: C,
+        room: Room,
+        roles: &[Role],
+        workers: u32,
+    ) -> Result<(Self, Vec<Actor<L, A>, A>), ServiceFault>
+        requires empty { C.steps core ≡ [] }
+        requires name { blank.name ≡ L.name }
+        requires parts { (blank.parts ≡ L.parts) × (blank.parts ≡ 2 * length roles.now + workers + 1) }
+        requires few { length roles.now ≤ most_links }
+        ensures actors { IfOk result (λ made. AreNew (2 * length roles.now + workers + 1) made.1.items) }
+        ensures workers { IfOk result (λ made. IsCrew workers) }
+        ensures bad_workers { IfErr result (λ fault. (fault ≡ BadWorkers) ↔ (¬ IsCrew workers)) }
+    {
+        if workers == 0 || workers > MOST_WORKERS {
+            return Err(ServiceFault::BadWorkers);
+        }
+        let (hub, actors) = open(alloc, blank, core, roles, workers)?;
+        Ok((Service::over(hub, room), actors))
+    }
+}
+
+/// The hub of a run that begins, over a router of no steps, and the actors.
+fn open<C: RouterCore<A> + Drop, L: Ledger, A: Allocator + Copy>(
     alloc: A,
     blank: Blank,
-    config: &Config,
+    core: C,
     roles: &[Role],
     workers: u32,
 ) -> Result<(Hub<C, L, A>, Vec<Actor<L, A>, A>), AllocError>
+    requires empty { C.steps core ≡ [] }
     requires name { blank.name ≡ L.name }
     requires parts { (blank.parts ≡ L.parts) × (blank.parts ≡ 2 * length roles.now + workers + 1) }
     requires few { (length roles.now ≤ most_links) × IsCrew workers }
-    ensures hub { IfOk result (λ made. made.0 ≡ opening config.now roles.now) }
+    ensures hub { IfOk result (λ made. made.0 ≡ opening (C.settings core) roles.now) }
     ensures actors { IfOk result (λ made. AreNew (2 * length roles.now + workers + 1) made.1.items) }
 {
     let links = marks_of(alloc, roles)?;
     let (book, all) = blank.open::<L>();
     let actors = make_actors(alloc, all, 2 * roles.len() as u32 + workers + 1)?;
-    let core = C::make(alloc, config)?;
     Ok((Hub::new(core, book, links), actors))
 }
 

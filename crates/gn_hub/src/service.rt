@@ -14,8 +14,9 @@ use crate::mark::Door;
 use crate::next::Outgoing;
 use crossbeam_utils::CachePadded;
 use gn_payload::Checked;
+use gn_room::Room;
 use gn_rules::{ConnId, Event, Refusal, RouterCore, Ticket};
-use std::alloc::{Allocator, Global};
+use std::alloc::{AllocError, Allocator, Global};
 use std::hint::spin_loop;
 use std::sync::ledger::Ledger;
 use std::sync::{Condvar, Mutex, MutexGuard, Wait};
@@ -28,7 +29,8 @@ const TRIES: u32 = 32;
 const LOOKS: u32 = 8;
 
 /// The hub under one lock, and the condition variable that is notified where a change may have brought what a thread waits
-/// for: a door, a packet, the end of a connection, the closing of the run, or its failure.
+/// for: a door, a packet, the end of a connection, the closing of the run, or its failure. Before it takes the lock for a step, a
+/// thread waits for room for that.
 ///
 /// Threads that try the lock write its word. The hub stands on cache lines of its own, so that they don't take one away from
 /// who has the lock.
@@ -36,15 +38,22 @@ const LOOKS: u32 = 8;
 pub struct Service<C: RouterCore<A> + Drop, L: Ledger, A: Allocator + Copy = Global> {
     hub: Mutex<CachePadded<Hub<C, L, A>>>,
     changed: Condvar,
+    room: Room,
 }
 
 impl<C: RouterCore<A> + Drop, L: Ledger, A: Allocator + Copy> Service<C, L, A> {
-    /// A hub under a lock of its own.
-    pub(crate) fn over(hub: Hub<C, L, A>) -> Self {
+    /// A hub under a lock of its own, and the room for its steps.
+    pub(crate) fn over(hub: Hub<C, L, A>, room: Room) -> Self {
         Service {
             hub: Mutex::new(CachePadded::new(hub)),
             changed: Condvar::new(),
+            room,
         }
+    }
+
+    /// The room for its steps, for who takes them.
+    pub fn room(&self) -> &Room {
+        &self.room
     }
 
     /// The hub, where it is found free within so many looks.
@@ -70,6 +79,29 @@ impl<C: RouterCore<A> + Drop, L: Ledger, A: Allocator + Copy> Service<C, L, A> {
         self.hub.lock(rt)
     }
 
+    /// Waits for room for one more step, and makes some for its receipt. An `Err` is out of memory, or nobody takes steps any
+    /// more.
+    fn make_room<R: Wait>(&self, rt: &R, me: &mut Actor<L, A>) -> Result<(), AllocError>
+        ensures { me.new ≡ me.old }
+    {
+        if !self.room.wait(rt) {
+            return Err(AllocError);
+        }
+        me.make_room()
+    }
+
+    /// Lets the hub go after a call on it, and wakes the threads that wait, where they have to look again.
+    fn release<R: Wait>(
+        &self,
+        rt: &R,
+        hub: MutexGuard<'_, CachePadded<Hub<C, L, A>>>,
+        wakes: bool,
+    ) {
+        self.room.made(hub.book());
+        drop(hub);
+        self.wake(rt, wakes);
+    }
+
     /// An actor's event.
     pub fn call<R: Wait>(
         &self,
@@ -81,9 +113,10 @@ impl<C: RouterCore<A> + Drop, L: Ledger, A: Allocator + Copy> Service<C, L, A> {
             (λ _. HasReceipt event.now me.old me.new)
             (λ refusal. (refuses event.now refusal ≡ true) × (me.new ≡ me.old)) }
     {
-        me.make_room()?;
-        let Answered { answer, wakes } = self.lock(rt).call_answered(me, event);
-        self.wake(wakes);
+        self.make_room(rt, me)?;
+        let mut hub = self.lock(rt);
+        let Answered { answer, wakes } = hub.call_answered(me, event);
+        self.release(rt, hub, wakes);
         answer
     }
 
@@ -99,9 +132,10 @@ impl<C: RouterCore<A> + Drop, L: Ledger, A: Allocator + Copy> Service<C, L, A> {
             (λ _. HasReceipt (Route ticket) me.old me.new)
             (λ refusal. (refuses {A = A} (Route ticket) refusal ≡ true) × (me.new ≡ me.old)) }
     {
-        me.make_room()?;
-        let Answered { answer, wakes } = self.lock(rt).route_answered(me, ticket, checked);
-        self.wake(wakes);
+        self.make_room(rt, me)?;
+        let mut hub = self.lock(rt);
+        let Answered { answer, wakes } = hub.route_answered(me, ticket, checked);
+        self.release(rt, hub, wakes);
         answer
     }
 
@@ -112,9 +146,10 @@ impl<C: RouterCore<A> + Drop, L: Ledger, A: Allocator + Copy> Service<C, L, A> {
             (λ _. HasReceipt Connect me.old me.new)
             (λ refusal. (refuses {A = A} Connect refusal ≡ true) × (me.new ≡ me.old)) }
     {
-        me.make_room()?;
-        let Answered { answer, wakes } = self.lock(rt).connect_answered(me, link);
-        self.wake(wakes);
+        self.make_room(rt, me)?;
+        let mut hub = self.lock(rt);
+        let Answered { answer, wakes } = hub.connect_answered(me, link);
+        self.release(rt, hub, wakes);
         answer
     }
 
@@ -129,9 +164,10 @@ impl<C: RouterCore<A> + Drop, L: Ledger, A: Allocator + Copy> Service<C, L, A> {
             (λ found. HasClosed c found me.old me.new)
             (λ refusal. (is_stop refusal ≡ true) × (me.new ≡ me.old)) }
     {
-        me.make_room()?;
-        let Answered { answer, wakes } = self.lock(rt).close_answered(me, c);
-        self.wake(wakes);
+        self.make_room(rt, me)?;
+        let mut hub = self.lock(rt);
+        let Answered { answer, wakes } = hub.close_answered(me, c);
+        self.release(rt, hub, wakes);
         answer
     }
 
@@ -150,10 +186,11 @@ impl<C: RouterCore<A> + Drop, L: Ledger, A: Allocator + Copy> Service<C, L, A> {
     {
         let mut has_yielded = false;
         for _ in rt.forever() {
-            me.make_room()?;
+            self.make_room(rt, me)?;
             let mut hub = self.lock(rt);
             let Answered { answer, wakes } = hub.outgoing_answered(me, c);
-            self.wake(wakes);
+            self.room.made(hub.book());
+            self.wake(rt, wakes);
             match answer? {
                 Some(next) => return Ok(next),
                 // Letting others run costs less than to sleep and be woken, and often brings a packet.
@@ -208,16 +245,17 @@ impl<C: RouterCore<A> + Drop, L: Ledger, A: Allocator + Copy> Service<C, L, A> {
         self.changed.notify_all();
     }
 
-    /// Wakes the threads that wait, where they have to look again.
-    fn wake(&self, wakes: bool) {
+    /// Wakes the threads that wait, where they have to look again, and who takes the steps.
+    fn wake<R: Wait>(&self, rt: &R, wakes: bool) {
         if wakes {
             self.changed.notify_all();
         }
+        self.room.wake(rt);
     }
 
     /// The hub, without its lock.
     pub fn into_hub(self) -> Hub<C, L, A> {
-        let Service { hub, changed: _ } = self;
+        let Service { hub, .. } = self;
         hub.into_inner().into_inner()
     }
 }
