@@ -5,6 +5,7 @@ pub mod ReceiptLemmas
 pub mod EndLemmas
 pub mod HoldsLemmas
 pub mod FollowLemmas
+pub mod CourseLemmas
 mod LoopLemmas
 mod ReportedLemmas
 mod UnstartedLemmas

@@ -1,4 +1,5 @@
 -- What is promised: contracts of public functions rest on it.
+pub mod Courses
 pub mod Faults
 pub mod Headline
 pub mod Ends

@@ -1,22 +1,30 @@
 //! A run whose links come one after another.
 
-ghost use Rattle.std.specs.Prelude.{◌≡◌, ◌+◌, ◌*◌, ◌≤◌, ◌↔◌, None, length, map, reverse, take, IfErr, IfOk, IfSome};
+ghost use Rattle.std.specs.Prelude.{◌≡◌, ◌+◌, ◌*◌, ◌≤◌, ◌↔◌, [], ℕ, None, length, map, reverse, take, vec_len, IfErr, IfOk, IfSome};
+ghost use Rattle.gn_bodies.specs.Done.{IsReaderDone, IsWriterDone};
 ghost use Rattle.gn_rules.specs.Answer.{IsLegal};
 ghost use Rattle.gn_rules.specs.Limits.{IsCrew, most_links};
 ghost use Rattle.gn_threads.specs.declared.fault.RunFault.TheVariants.{BadWorkers, HistoryFull};
+ghost use Rattle.gn_threads.specs.Courses.{BeginsAnswer, BeginsRun, IsLeft};
 ghost use Rattle.gn_threads.specs.Faults.{IsArrivingFault};
 ghost use Rattle.gn_threads.specs.Headline.{AreMadeOf, AreOfOne, Holds, LinksReadOwn};
+ghost use Rattle.gn_threads.specs.Joined.{AreJoinedOf};
 
 use crate::arrivals::Arrivals;
 use crate::confirming::keep_history;
+use crate::course::{Course, InMemory};
+use crate::done::Done;
 use crate::fault::RunFault;
 use crate::finishing::finish;
 use crate::opening::{Opening, open_run};
 use crate::starting::start_and_join;
 use crate::stopped::Stopped;
+use crate::unstarted::Unstarted;
+use gn_hub::{Hub, Service};
 use gn_links::Gate;
 use gn_report::Report;
-use gn_rules::{Config, Historian, MOST_WORKERS, Step};
+use gn_room::run_beside;
+use gn_rules::{Config, Historian, MOST_WORKERS, RouterCore, Step};
 use gn_shake::Role;
 use gn_stage::{Site, Stage};
 use std::alloc::Allocator;
@@ -104,13 +112,68 @@ where
     if workers == 0 || workers > MOST_WORKERS {
         return Err(Stopped::before(RunFault::BadWorkers));
     }
-    let Ok(stage) = Stage::new(alloc, config.numbers.stage as usize) else {
+    let Ok(core) = C::make(alloc, config) else {
         return Err(Stopped::before(RunFault::NoMemory));
+    };
+    let (answer, ()) = run_arriving_by::<C, InMemory, V, G, A, R>(
+        rt, alloc, config, roles, arrivals, workers, gate, core, InMemory,
+    );
+    answer
+}
+
+/// Does the same with a router of no steps, which may give its steps to somebody who runs beside it. What is left of that comes back;
+/// the history begins with the steps that it had.
+pub fn run_arriving_by<
+    C: RouterCore<A> + Drop + Send,
+    W: Course<C, A> + Send + Drop,
+    V: Arrivals,
+    G: Gate + Sync,
+    A: Allocator + Copy + Send + Sync,
+    R: Threads + Wait + Sync,
+>(
+    rt: &R,
+    alloc: A,
+    config: &Config,
+    roles: &[Role],
+    arrivals: V,
+    workers: u32,
+    gate: &G,
+    core: C,
+    course: W,
+) -> (Result<Report<V::Reader, V::Writer, A>, Stopped<A>>, W::Rest)
+where
+    V::Reader: Send,
+    V::Writer: Send,
+    W::Followed: Send + Drop,
+    requires few { length roles.now ≤ most_links }
+    requires empty { C.steps core ≡ [] }
+    ensures workers { IfOk result.0 (λ _. IsCrew workers) }
+    ensures bad_workers { IfErr result.0 (λ stopped. (stopped.fault ≡ BadWorkers) ↔ (¬ IsCrew workers)) }
+    ensures fault { IfErr result.0 (λ stopped. IsCrew workers
+        → IsArrivingFault V.has_peers (length roles.now) workers stopped.fault) }
+    ensures kept { IfErr result.0 (λ stopped. IfSome stopped.history (λ history.
+        IsLegal config.now (reverse history.items))) }
+    ensures full { IfErr result.0 (λ stopped. stopped.fault ≡ HistoryFull → IfSome stopped.history (λ history.
+        length history.items ≡ config.now.numbers.steps)) }
+    ensures holds { IfOk result.0 (λ report. Holds V.Reader.state V.Writer.state config.now roles.now workers report) }
+    ensures bytes { IfOk result.0 (λ report. LinksReadOwn V.Reader.state
+        (map (λ link. V.Reader.gives (V.Reader.made_of link.reader)) report.links.items) report) }
+    ensures made { IfOk result.0 (λ report. AreMadeOf
+        (λ reader. V.foreknown (V.Reader.made_of reader)) (λ writer. V.foreknown (V.Writer.made_of writer))
+        (take (length roles.now) (V.coming arrivals)) report) }
+    ensures one { IfOk result.0 (λ report. AreOfOne V.Reader.made_of V.Writer.made_of report) }
+    ensures rest { IsLeft (W.follows course) W.leaves result.1 (BeginsRun result.0) }
+{
+    if workers == 0 || workers > MOST_WORKERS {
+        return (Err(Stopped::before(RunFault::BadWorkers)), course.give_up());
+    }
+    let Ok(stage) = Stage::new(alloc, config.numbers.stage as usize) else {
+        return (Err(Stopped::before(RunFault::NoMemory)), course.give_up());
     };
     let parts = 2 * roles.len() as u64 + workers as u64 + 1;
     let blank = Blank::new(parts);
     let mut history = None;
-    match run_arriving_in::<Brand, C, V, G, A, R>(
+    let (answer, rest) = run_arriving_in::<Brand, C, W, V, G, A, R>(
         rt,
         alloc,
         blank,
@@ -120,17 +183,21 @@ where
         arrivals,
         workers,
         gate,
+        core,
+        course,
         &mut history,
-    ) {
-        Ok(report) => Ok(report),
-        Err(fault) => Err(Stopped { fault, history }),
+    );
+    match answer {
+        Ok(report) => (Ok(report), rest),
+        Err(fault) => (Err(Stopped { fault, history }), rest),
     }
 }
 
 /// A run with its ledger and its stage, which `B` names. Where it stops, what stands of the history is put into `history`.
 fn run_arriving_in<
     B: Site + Ledger + Send + Sync,
-    C: Historian<A> + Drop + Send,
+    C: RouterCore<A> + Drop + Send,
+    W: Course<C, A> + Send + Drop,
     V: Arrivals,
     G: Gate + Sync,
     A: Allocator + Copy + Send + Sync,
@@ -145,29 +212,35 @@ fn run_arriving_in<
     arrivals: V,
     workers: u32,
     gate: &G,
+    core: C,
+    course: W,
     history: &mut Option<Vec<Step<A>, A>>,
-) -> Result<Report<V::Reader, V::Writer, A>, RunFault>
+) -> (Result<Report<V::Reader, V::Writer, A>, RunFault>, W::Rest)
 where
     V::Reader: Send,
     V::Writer: Send,
+    W::Followed: Send + Drop,
     requires none { history.old ≡ None }
     requires blank { (blank.name ≡ B.name) × (blank.parts ≡ B.parts)
         × (blank.parts ≡ 2 * length roles.now + workers + 1) × (stage ≡ B.stage) }
     requires few { (length roles.now ≤ most_links) × IsCrew workers }
-    ensures fault { IfErr result (λ fault. IsArrivingFault V.has_peers (length roles.now) workers fault) }
-    ensures holds { IfOk result (λ report. Holds V.Reader.state V.Writer.state config.now roles.now workers report) }
-    ensures bytes { IfOk result (λ report. LinksReadOwn V.Reader.state
+    requires empty { C.steps core ≡ [] }
+    ensures fault { IfErr result.0 (λ fault. IsArrivingFault V.has_peers (length roles.now) workers fault) }
+    ensures holds { IfOk result.0 (λ report. Holds V.Reader.state V.Writer.state config.now roles.now workers report) }
+    ensures bytes { IfOk result.0 (λ report. LinksReadOwn V.Reader.state
         (map (λ link. V.Reader.gives (V.Reader.made_of link.reader)) report.links.items) report) }
-    ensures made { IfOk result (λ report. AreMadeOf
+    ensures made { IfOk result.0 (λ report. AreMadeOf
         (λ reader. V.foreknown (V.Reader.made_of reader)) (λ writer. V.foreknown (V.Writer.made_of writer))
         (take (length roles.now) (V.coming arrivals)) report) }
-    ensures one { IfOk result (λ report. AreOfOne V.Reader.made_of V.Writer.made_of report) }
+    ensures one { IfOk result.0 (λ report. AreOfOne V.Reader.made_of V.Writer.made_of report) }
     ensures kept { IfSome history.new (λ steps. IsLegal config.now (reverse steps.items)) }
-    ensures full { IfErr result (λ fault. fault ≡ HistoryFull
+    ensures full { IfErr result.0 (λ fault. fault ≡ HistoryFull
         → IfSome history.new (λ steps. length steps.items ≡ config.now.numbers.steps)) }
+    ensures rest { IsLeft (W.follows course) W.leaves result.1 (BeginsAnswer result.0 history.new) }
 {
-    let Ok(opening) = open_run::<B, C, A>(alloc, blank, stage, config, roles, workers) else {
-        return Err(RunFault::NoMemory);
+    let room = course.room();
+    let Ok(opening) = open_run::<B, C, A>(alloc, blank, stage, core, room, roles, workers) else {
+        return (Err(RunFault::NoMemory), course.give_up());
     };
     let Opening {
         service,
@@ -175,13 +248,63 @@ where
         house,
         desk,
     } = opening;
-    let joined = start_and_join(rt, alloc, &service, gate, arrivals, unstarted);
-    let hub = service.into_hub();
+    let (joined, ran) = run_bodies(rt, alloc, &service, gate, arrivals, unstarted, course);
+    let (core, frame) = service.into_hub().into_parts();
+    let (router, rest) = W::end(ran, core);
+    let Some(router) = router else {
+        return (Err(RunFault::NoMemory), rest);
+    };
+    let hub = Hub::of_parts(router, frame);
     match joined {
-        Ok(done) => finish(rt, alloc, config, roles, hub, desk, done, house, history),
+        Ok(done) => {
+            let answer = finish(rt, alloc, config, roles, hub, desk, done, house, history);
+            (answer, rest)
+        }
         Err(fault) => {
             keep_history(config, fault, hub, history);
-            Err(fault)
+            (Err(fault), rest)
         }
     }
+}
+
+/// Runs all bodies to their ends, and who takes their steps beside them.
+fn run_bodies<
+    'r,
+    B: Site + Ledger + Send + Sync,
+    C: RouterCore<A> + Drop + Send,
+    W: Course<C, A> + Send + Drop,
+    V: Arrivals,
+    G: Gate + Sync,
+    A: Allocator + Copy + Send + Sync,
+    R: Threads + Wait + Sync,
+>(
+    rt: &R,
+    alloc: A,
+    service: &Service<C, B, A>,
+    gate: &G,
+    arrivals: V,
+    unstarted: Unstarted<'r, B, A>,
+    course: W,
+) -> (
+    Result<Done<V::Reader, V::Writer, B, A>, RunFault>,
+    W::Followed,
+)
+where
+    V::Reader: Send,
+    V::Writer: Send,
+    W::Followed: Send + Drop,
+    ensures joined { IfOk result.0 (λ done. AreJoinedOf
+        (IsReaderDone V.Reader.state V.Reader.made_of V.Reader.gives) (IsWriterDone V.Writer.state V.Writer.made_of)
+        V.Reader.made_of V.Writer.made_of V.foreknown unstarted.entry.roles.now (V.coming arrivals)
+        (vec_len unstarted.entry.outlets) done) }
+    ensures fault { IfErr result.0 (λ fault. (workers : ℕ)
+        → IsArrivingFault V.has_peers (length unstarted.entry.roles.now) workers fault) }
+    ensures follows { W.follows course result.1 }
+{
+    let bodies = move || start_and_join(rt, alloc, service, gate, arrivals, unstarted);
+    if W::IS_BESIDE {
+        return run_beside(rt, service.room(), course, bodies);
+    }
+    let done = bodies();
+    (done, course.follow(rt, service.room()))
 }

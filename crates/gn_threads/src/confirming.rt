@@ -127,6 +127,7 @@ pub(crate) fn report<
     ensures holds { IfOk result (λ report.
         Holds Rd.state W.state config.now roles.now (vec_len worked.receipts) report) }
     ensures links { IfOk result (λ report. report.links.items ≡ linked.links.items) }
+    ensures steps { IfOk result (λ report. report.history.items ≡ hub.steps) }
     ensures clean { IfOk result (λ _. unconfirmed ≡ None) }
 {
     let Linked { links, shares } = linked;

@@ -3,6 +3,7 @@
 ghost use Rattle.std.specs.Prelude.{◌≡◌, ◌+◌, ◌*◌, ◌<◌, ℕ, None, length, map, reverse, slice_index_or, vec_len, IfErr, IfOk, IfSome, IsOk};
 ghost use Rattle.gn_bodies.specs.declared.worker.WorkerDone.{WorkerDone};
 ghost use Rattle.gn_rules.specs.Answer.{IsLegal};
+ghost use Rattle.gn_threads.specs.Courses.{IsBegunBy};
 ghost use Rattle.gn_threads.specs.Faults.{IsFaultOf};
 ghost use Rattle.gn_threads.specs.declared.fault.RunFault.TheVariants.{HistoryFull};
 ghost use Rattle.gn_threads.specs.Reported.{HasBodies, reader_result};
@@ -29,6 +30,7 @@ use std::sync::ledger::Ledger;
 
 /// Settles the stage of a run whose threads are joined, has the house route the rest, and reports. Where the house was stopped or
 /// memory ran out, what stands of the history is kept.
+#[tactic(auto, using(crate::proofs::CourseLemmas::begun_self, crate::proofs::CourseLemmas::begun_some))]
 pub(crate) fn finish<
     B: Site + Ledger,
     C: Historian<A> + Drop,
@@ -61,6 +63,8 @@ pub(crate) fn finish<
     ensures kept { IfSome history.new (λ steps. IsLegal config.now (reverse steps.items)) }
     ensures full { IfErr result (λ fault. fault ≡ HistoryFull
         → IfSome history.new (λ steps. length steps.items ≡ config.now.numbers.steps)) }
+    ensures begun { IfOk result (λ report. IsBegunBy hub.steps report.history.items) }
+    ensures begun_kept { IfSome history.new (λ steps. IsBegunBy hub.steps steps.items) }
 {
     let Done {
         readers,
@@ -106,6 +110,7 @@ pub(crate) fn finish<
 
 /// Settles the stage, and routes as the house, which is this actor, what it had left. The house's number, where it was refused
 /// a route.
+#[tactic(auto, using(crate::proofs::CourseLemmas::begun_self))]
 fn settle<B: Site + Ledger, C: RouterCore<A>, A: Allocator + Copy, R: Wait>(
     rt: &R,
     alloc: A,
@@ -119,6 +124,7 @@ fn settle<B: Site + Ledger, C: RouterCore<A>, A: Allocator + Copy, R: Wait>(
     ensures house { IfOk result (λ refused. IfSome refused (λ a. a ≡ number)) }
     ensures fault { IfErr result (λ fault. (links workers : ℕ)
         → number < links + links + workers + 1 → IsFaultOf links workers fault) }
+    ensures more { IsBegunBy hub.old.steps hub.new.steps }
 {
     match desk.settle(rt, alloc, intakes, outlets) {
         Err(unsettled) => Err(RunFault::Stage(unsettled.fault)),
@@ -159,6 +165,7 @@ fn assemble<L: Ledger, C: Historian<A> + Drop, Rd: LinkReader, W: LinkWriter, A:
         HasBodies (map reader_result readers.items) (map writer_ended writers.items) report) }
     ensures clean { IfOk result (λ _. unconfirmed ≡ None) }
     ensures kept { IfSome history.new (λ steps. IsLegal config.now (reverse steps.items)) }
+    ensures steps { IfOk result (λ report. report.history.items ≡ hub.steps) }
     ensures own { IfSome history.new (λ steps. steps.items ≡ hub.steps) }
     ensures full { IfErr result (λ fault. fault ≡ HistoryFull
         → IfSome history.new (λ steps. length steps.items ≡ config.now.numbers.steps)) }

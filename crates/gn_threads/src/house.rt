@@ -1,6 +1,7 @@
 //! The house: the caller of a run, who routes what the stage had left.
 
 ghost use Rattle.std.specs.Prelude.{◌∷◌, [], OnOk};
+ghost use Rattle.gn_threads.specs.Courses.{IsBegunBy};
 ghost use Rattle.gn_threads.specs.House.{HasRouted};
 
 use gn_bodies::BodyFault;
@@ -17,7 +18,8 @@ fn route_left_job<C: RouterCore<A>, L: Ledger, A: Allocator + Copy>(
     me: &mut Actor<L, A>,
     job: Job<A>,
 ) -> Result<(), BodyFault>
-    ensures { OnOk result (HasRouted (job ∷ []) me.old me.new) }
+    ensures routed { OnOk result (HasRouted (job ∷ []) me.old me.new) }
+    ensures more { IsBegunBy hub.old.steps hub.new.steps }
 {
     let Job { ticket, descriptor } = job;
     let checked = Checked::new(descriptor);
@@ -31,12 +33,14 @@ fn route_left_job<C: RouterCore<A>, L: Ledger, A: Allocator + Copy>(
 
 /// Routes each of these jobs, in order. A job that is refused its route makes no step; the house goes on with the next one,
 /// and ends as Refused.
+#[tactic(auto, using(crate::proofs::CourseLemmas::begun_self, crate::proofs::CourseLemmas::begun_then))]
 pub(crate) fn route_left<C: RouterCore<A>, L: Ledger, A: Allocator + Copy>(
     hub: &mut Hub<C, L, A>,
     me: &mut Actor<L, A>,
     jobs: Vec<Job<A>, A>,
 ) -> Result<(), BodyFault>
-    ensures { OnOk result (HasRouted jobs.items me.old me.new) }
+    ensures routed { OnOk result (HasRouted jobs.items me.old me.new) }
+    ensures more { IsBegunBy hub.old.steps hub.new.steps }
 {
     let mut is_refused = false;
     for job in jobs {

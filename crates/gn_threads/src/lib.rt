@@ -5,6 +5,7 @@ mod actors;
 mod arrivals;
 mod arriving;
 mod confirming;
+mod course;
 mod done;
 mod ended;
 mod fault;
@@ -21,7 +22,8 @@ mod stopped;
 mod unstarted;
 
 pub use arrivals::Arrivals;
-pub use arriving::{run_arriving, run_arriving_kept};
+pub use arriving::{run_arriving, run_arriving_by, run_arriving_kept};
+pub use course::{Course, InMemory};
 pub use fault::RunFault;
 pub use runs::{run, runs_add_up};
 pub use stopped::Stopped;

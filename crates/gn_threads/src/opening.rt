@@ -1,11 +1,12 @@
 //! How a run begins.
 
-ghost use Rattle.std.specs.Prelude.{◌≡◌, ◌+◌, ◌*◌, ◌≤◌, length, vec_len, IfOk};
+ghost use Rattle.std.specs.Prelude.{◌≡◌, ◌+◌, ◌*◌, ◌≤◌, [], length, vec_len, IfOk};
 ghost use Rattle.gn_rules.specs.Limits.{IsCrew, most_links};
 
 use crate::unstarted::{Unstarted, unstarted_of};
 use gn_hub::{Actor, Service};
-use gn_rules::{Config, FreshRouter, RouterCore};
+use gn_room::Room;
+use gn_rules::RouterCore;
 use gn_shake::Role;
 use gn_stage::{Desk, Site, Stage};
 use std::alloc::{AllocError, Allocator, Global};
@@ -25,12 +26,13 @@ pub(crate) struct Opening<
     pub desk: Desk<B, A>,
 }
 
-/// Opens a run with links of these roles.
-pub(crate) fn open_run<'r, B: Site + Ledger, C: FreshRouter<A> + Drop, A: Allocator + Copy>(
+/// Opens a run of this router, which has no steps, with links of these roles, where there is room for its steps.
+pub(crate) fn open_run<'r, B: Site + Ledger, C: RouterCore<A> + Drop, A: Allocator + Copy>(
     alloc: A,
     blank: Blank,
     stage: Stage<A>,
-    config: &Config,
+    core: C,
+    room: Room,
     roles: &'r [Role],
     workers: u32,
 ) -> Result<Opening<'r, C, B, A>, AllocError>
@@ -38,10 +40,13 @@ pub(crate) fn open_run<'r, B: Site + Ledger, C: FreshRouter<A> + Drop, A: Alloca
     requires parts { (blank.parts ≡ B.parts) × (blank.parts ≡ 2 * length roles.now + workers + 1) }
     requires stage { stage ≡ B.stage }
     requires few { (length roles.now ≤ most_links) × IsCrew workers }
+    requires empty { C.steps core ≡ [] }
     ensures roles { IfOk result (λ opening. opening.unstarted.roles.now ≡ roles.now) }
     ensures workers { IfOk result (λ opening. vec_len opening.unstarted.outlets ≡ workers) }
 {
-    let Ok((service, actors)) = Service::<C, B, A>::new(alloc, blank, config, roles, workers) else {
+    let Ok((service, actors)) = Service::<C, B, A>::over_router(
+        alloc, blank, core, room, roles, workers,
+    ) else {
         return Err(AllocError);
     };
     let Ok((intakes, outlets, desk)) = stage.ends::<B>(alloc, roles.len() as u32, workers) else {

@@ -16,7 +16,7 @@ pub struct Stopped<A: Allocator = Global> {
 
 impl<A: Allocator> Stopped<A> {
     /// A run that hasn't begun.
-    pub(crate) fn before(fault: RunFault) -> Self
+    pub fn before(fault: RunFault) -> Self
         ensures { (result.fault ≡ fault) × (result.history ≡ None) }
     {
         Stopped {

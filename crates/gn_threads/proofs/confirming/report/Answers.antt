@@ -1,5 +1,7 @@
 use Rattle.std.proofs.Common.{◌∙◌, ◌+◌, length, vec_len, ap, arith}
 use Rattle.std.proofs.lemmas.Result.{IfOk-weaker}
+use Rattle.gn_hub.specs.HubState.{HubState}
+use Rattle.gn_threads.proofs.CourseLemmas.{steps_kept}
 use Rattle.gn_threads.proofs.FaultLemmas.{answer_below, number_below}
 use Rattle.gn_threads.proofs.ReceiptLemmas.{receipts_counted}
 use Rattle.gn_threads.proofs.ReportedLemmas.{links_kept}
@@ -54,3 +56,7 @@ overflow_add-number g c = omega (arith, c.requires.counted.each.0, c.requires.co
 
 pub returns-clause-links : goal.returns-clause-links
 returns-clause-links g c = links_kept c.confirmed.result _ _ c.confirmed.ensures.same
+
+pub returns-clause-steps : goal.returns-clause-steps
+returns-clause-steps g c =
+    steps_kept c.confirmed.result _ _ _ (c.close-closed.ensures.steps ∙ ap (λ (h : HubState _). h.steps) c.add_up.ensures.same) c.confirmed.ensures.same

@@ -7,6 +7,7 @@ use Rattle.gn_bodies.specs.Done.{reader_ended, halved, writer_ended}
 use Rattle.gn_threads.specs.Joined.{KeepEnds}
 use Rattle.gn_threads.specs.Headline.{Holds}
 use Rattle.gn_threads.specs.Reported.{HasBodies, reader_result}
+use Rattle.gn_threads.proofs.CourseLemmas.{begun_ok, begun_self, begun_some}
 use Rattle.gn_threads.proofs.FaultLemmas.{answer_below, below_more, number_below}
 use Rattle.gn_threads.proofs.JoinedLemmas.{known_alike}
 use Rattle.gn_threads.proofs.finishing.finish.Goals as goal
@@ -56,3 +57,19 @@ pub first_refused-worker-requires : goal.first_refused-worker-requires
 first_refused-worker-requires g c = record {
   few = (omega (arith, c.len.ensures, c.requires.counted.few.0), omega (arith, ap length c.as_slice.ensures.value, c.args.done.workers.ok, c.requires.counted.few.1));
 }
+
+pub returns-clause-begun : goal.returns-clause-begun
+returns-clause-begun g c = begun_ok (λ report. report.history.items) _ _ c.assemble.result c.settle.ensures.more c.assemble.ensures.steps
+
+pub returns-clause-begun_kept : goal.returns-clause-begun_kept
+returns-clause-begun_kept g c = begun_some (λ steps. steps.items) _ _ c.assemble.new.history c.settle.ensures.more c.assemble.ensures.own
+
+pub returns-in-Err-clause-begun_kept : goal.returns-in-Err-clause-begun_kept
+returns-in-Err-clause-begun_kept g c = begun_some (λ steps. steps.items) _ _ c.keep_history-in-Err.new.history c.settle.ensures.more c.keep_history-in-Err.ensures.own
+
+pub returns-in_default-clause-begun_kept : goal.returns-in_default-clause-begun_kept
+returns-in_default-clause-begun_kept g c = begun_some (λ steps. steps.items) _ _ c.keep_history.new.history (begun_self _) c.keep_history.ensures.own
+
+pub returns-in_default-report_workers-clause-begun_kept : goal.returns-in_default-report_workers-clause-begun_kept
+returns-in_default-report_workers-clause-begun_kept g c =
+    begun_some (λ steps. steps.items) _ _ c.keep_history-in_default-report_workers.new.history (begun_self _) c.keep_history-in_default-report_workers.ensures.own

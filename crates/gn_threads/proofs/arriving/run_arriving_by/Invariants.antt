@@ -1,4 +1,4 @@
-use Rattle.gn_threads.proofs.arriving.run_arriving_kept.Given as goal
+use Rattle.gn_threads.proofs.arriving.run_arriving_by.Given as goal
 
 abbrev pub ghosts-run_arriving_in-B-Ledger : goal.ghosts-run_arriving_in-B-Ledger
 ghosts-run_arriving_in-B-Ledger g a = record { name = a.blank.name; parts = a.blank.parts }
