@@ -11,6 +11,7 @@ mod owed;
 mod peers;
 mod ran;
 mod registering;
+mod running;
 mod serve;
 mod serving;
 mod stop;
@@ -28,8 +29,11 @@ pub use gn_links::{
 pub use gn_report::{LinkReport, Report};
 pub use gn_shake::Role;
 pub use gn_tcp::{TcpLink, TcpOrigin, TcpReader, TcpWriter, listen};
-pub use gn_threads::{Arrivals, RunFault, Stopped, run, run_arriving, run_arriving_kept};
+pub use gn_threads::{
+    Arrivals, Course, InMemory, RunFault, Stopped, run, run_arriving, run_arriving_by,
+    run_arriving_kept,
+};
 pub use ran::Ran;
-pub use serve::{serve_kept, serve_on};
+pub use serve::{serve_by, serve_kept, serve_on};
 pub use serving::Serving;
 pub use stop::Stop;

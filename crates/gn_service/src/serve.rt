@@ -1,33 +1,27 @@
 //! A run over TCP.
 
-ghost use Rattle.std.specs.Prelude.{◌≡◌, ◌+◌, ◌≤◌, ◌↔◌, length, reverse, true, IfErr, IfOk, IfSome};
+ghost use Rattle.std.specs.Prelude.{◌≡◌, ◌+◌, ◌≤◌, ◌↔◌, [], length, reverse, true, IfErr, IfOk, IfSome, MatchResult};
 ghost use Rattle.gn_rules.specs.Answer.{IsLegal};
 ghost use Rattle.gn_rules.specs.Limits.{IsCrew, most_links};
 ghost use Rattle.gn_threads.specs.declared.fault.RunFault.TheVariants.{BadWorkers, HistoryFull};
+ghost use Rattle.gn_threads.specs.Courses.{IsBegunBy, IsLeft};
 ghost use Rattle.gn_threads.specs.Faults.{IsArrivingFault};
 ghost use Rattle.gn_threads.specs.Headline.{AreMadeOf, AreOfOne, Holds};
 ghost use Rattle.gn_service.specs.Links.{origins_of, roles_of};
 ghost use Rattle.gn_sockets.specs.TcpHalves.{half_read, half_written};
 ghost use Rattle.gn_service.specs.Ran.{ran_of};
-ghost use Rattle.gn_service.specs.Serves.{IsServed};
 
-use crate::calling::Callers;
-use crate::counted::Counted;
-use crate::failing::{call_fault, failed_at, failed_too};
-use crate::peers::{Peers, roles_of};
 use crate::ran::Ran;
+use crate::running::Running;
 use crate::serving::Serving;
-use crate::stop::Stop;
-use crate::stops::Stops;
 use gn_links::Watch;
 use gn_report::Report;
-use gn_rules::{Config, Historian};
+use gn_rules::{Config, Historian, MOST_WORKERS, RouterCore};
 use gn_tcp::{TcpReader, TcpWriter};
-use gn_threads::{RunFault, Stopped, run_arriving_kept};
+use gn_threads::{Course, InMemory, RunFault, Stopped};
 use std::alloc::Allocator;
 use std::net::{Net, SocketAddr, TcpListener, TcpStream};
 use std::sync::Wait;
-use std::thread;
 use std::thread::Threads;
 use std::time::Clock;
 
@@ -123,84 +117,24 @@ pub fn serve_kept<
     ensures one_socket { IfOk result (λ done. AreOfOne (λ half. half.socket) (λ half. half.socket) done.0) }
     ensures ran { IfOk result (λ done. done.1 ≡ ran_of done.0) }
 {
-    let report = run_watched::<C, G, A, R>(
-        rt, alloc, listener, config, accept, peers, serving, workers, watch,
-    )?;
-    let ran = Ran::of(&report);
-    Ok((report, ran))
-}
-
-/// Runs a router over these links, and calls the peers beside it.
-fn run_watched<
-    's,
-    C: Historian<A> + Drop + Send,
-    G: Watch + Sync,
-    A: Allocator + Copy + Send + Sync,
-    R: Threads
-        + Wait
-        + Net<Listener = TcpListener, Stream = TcpStream>
-        + Clock
-        + AllocGlobal
-        + Sync,
->(
-    rt: &R,
-    alloc: A,
-    listener: &TcpListener,
-    config: &Config,
-    accept: u32,
-    peers: &[SocketAddr],
-    serving: &Serving<'s>,
-    workers: u32,
-    watch: &G,
-) -> Result<Report<TcpReader<'s>, TcpWriter, A>, Stopped<A>>
-    requires few { accept + length peers.now ≤ most_links }
-    ensures { IsServed config.now peers.now accept workers result }
-{
-    let own = Stop::new(None, false);
-    let stop = match serving.stop {
-        Some(stop) => stop,
-        None => &own,
+    if workers == 0 || workers > MOST_WORKERS {
+        return Err(Stopped::before(RunFault::BadWorkers));
+    }
+    let Ok(core) = C::make(alloc, config) else {
+        return Err(Stopped::before(RunFault::NoMemory));
     };
-    let stops = Stops::new(rt, alloc, stop, serving.grace(), listener);
-    let stops = &stops;
-    let ((), answer) = thread::join(
-        rt,
-        || watch_and_call(rt, serving, stops, watch),
-        ||
-            requires { accept + length peers.now ≤ most_links }
-            ensures { IsServed config.entry.now peers.entry.now accept workers result }
-        {
-            run_called::<C, G, A, R>(
-                rt, alloc, listener, config, accept, peers, serving, workers, watch, stops,
-            )
-        },
+    let (answer, ()) = serve_by::<C, InMemory, G, A, R>(
+        rt, alloc, listener, config, accept, peers, serving, workers, watch, core, InMemory,
     );
     answer
 }
 
-/// Watches a run, and calls its peers, until it is over.
-fn watch_and_call<
-    G: Watch + Sync,
-    A: Allocator + Copy + Send + Sync,
-    R: Threads + Wait + Net<Listener = TcpListener, Stream = TcpStream> + Clock + Sync,
->(rt: &R, serving: &Serving<'_>, stops: &Stops<'_, A>, watch: &G) {
-    let serving = *serving;
-    thread::scope(thread::scope_env(), rt, |scope| {
-        let callers = Callers {
-            net: rt,
-            scope,
-            serving,
-            stops,
-            watch,
-        };
-        callers.watch();
-    });
-}
-
-/// Runs a router over these links. Where one of its calls fails the run has failed, whatever it answers.
-fn run_called<
+/// Does the same with a router of no steps, which may give its steps to somebody who runs beside it. What is left of that comes back;
+/// the history begins with the steps that it had.
+pub fn serve_by<
     's,
-    C: Historian<A> + Drop + Send,
+    C: RouterCore<A> + Drop + Send,
+    W: Course<C, A> + Send + Drop,
     G: Watch + Sync,
     A: Allocator + Copy + Send + Sync,
     R: Threads
@@ -219,79 +153,53 @@ fn run_called<
     serving: &Serving<'s>,
     workers: u32,
     watch: &G,
-    stops: &Stops<'_, A>,
-) -> Result<Report<TcpReader<'s>, TcpWriter, A>, Stopped<A>>
+    core: C,
+    course: W,
+) -> (
+    Result<(Report<TcpReader<'s>, TcpWriter, A>, Ran<A>), Stopped<A>>,
+    W::Rest,
+)
+where
+    W::Followed: Send + Drop,
     requires few { accept + length peers.now ≤ most_links }
-    ensures { IsServed config.now peers.now accept workers result }
-{
-    let answer = run_links::<C, G, A, R>(
-        rt, alloc, listener, config, accept, peers, serving, workers, watch, stops,
-    );
-    match (answer, call_fault(stops, peers.len())) {
-        (answer, None) => answer,
-        (Ok(report), Some(fault)) => Err(failed_at(report, fault)),
-        (Err(stopped), Some(fault)) => Err(failed_too(stopped, fault)),
-    }
-}
-
-/// Runs a router over these links, which `stops` ends where the run is stopped.
-fn run_links<
-    's,
-    C: Historian<A> + Drop + Send,
-    G: Watch + Sync,
-    A: Allocator + Copy + Send + Sync,
-    R: Threads
-        + Wait
-        + Net<Listener = TcpListener, Stream = TcpStream>
-        + Clock
-        + AllocGlobal
-        + Sync,
->(
-    rt: &R,
-    alloc: A,
-    listener: &TcpListener,
-    config: &Config,
-    accept: u32,
-    peers: &[SocketAddr],
-    serving: &Serving<'s>,
-    workers: u32,
-    watch: &G,
-    stops: &Stops<'_, A>,
-) -> Result<Report<TcpReader<'s>, TcpWriter, A>, Stopped<A>>
-    requires few { accept + length peers.now ≤ most_links }
-    ensures workers { IfOk result (λ _. IsCrew workers) }
-    ensures bad_workers { IfErr result (λ stopped. (stopped.fault ≡ BadWorkers) ↔ (¬ IsCrew workers)) }
-    ensures fault { IfErr result (λ stopped. IsCrew workers
+    requires empty { C.steps core ≡ [] }
+    ensures workers { IfOk result.0 (λ _. IsCrew workers) }
+    ensures bad_workers { IfErr result.0 (λ stopped. (stopped.fault ≡ BadWorkers) ↔ (¬ IsCrew workers)) }
+    ensures fault { IfErr result.0 (λ stopped. IsCrew workers
         → IsArrivingFault true (length peers.now + accept) workers stopped.fault) }
-    ensures kept { IfErr result (λ stopped. IfSome stopped.history (λ history.
+    ensures kept { IfErr result.0 (λ stopped. IfSome stopped.history (λ history.
         IsLegal config.now (reverse history.items))) }
-    ensures full { IfErr result (λ stopped. stopped.fault ≡ HistoryFull → IfSome stopped.history (λ history.
+    ensures full { IfErr result.0 (λ stopped. stopped.fault ≡ HistoryFull → IfSome stopped.history (λ history.
         length history.items ≡ config.now.numbers.steps)) }
-    ensures holds { IfOk result (λ report. Holds half_read half_written config.now
-        (roles_of (length peers.now) (length peers.now + accept)) workers report) }
-    ensures made { IfOk result (λ report. AreMadeOf (λ half. half.origin) (λ half. half.origin)
-        (origins_of peers.now (length peers.now + accept)) report) }
-    ensures one_socket { IfOk result (λ report. AreOfOne (λ half. half.socket) (λ half. half.socket) report) }
+    ensures holds { IfOk result.0 (λ done. Holds half_read half_written config.now
+        (roles_of (length peers.now) (length peers.now + accept)) workers done.0) }
+    ensures made { IfOk result.0 (λ done. AreMadeOf (λ half. half.origin) (λ half. half.origin)
+        (origins_of peers.now (length peers.now + accept)) done.0) }
+    ensures one_socket { IfOk result.0 (λ done. AreOfOne (λ half. half.socket) (λ half. half.socket) done.0) }
+    ensures ran { IfOk result.0 (λ done. done.1 ≡ ran_of done.0) }
+    ensures rest { IsLeft (W.follows course) W.leaves result.1 (λ steps. MatchResult result.0
+        (λ done. IsBegunBy steps done.0.history.items)
+        (λ stopped. IfSome stopped.history (λ history. IsBegunBy steps history.items))) }
 {
-    let links = peers.len() + accept as usize;
-    let all = roles_of(peers.len(), links);
-    let roles = &all[..links];
-    let numbers = &config.numbers;
-    watch.open(numbers.steps);
-    if accept == 0 {
-        stops.close_listener();
-    }
-    let gate = Counted::new(rt, watch, stops, numbers, links as u32);
-    let arrivals = Peers {
-        net: rt,
-        cells: rt.alloc(),
+    let run = Running {
+        rt,
+        alloc,
         listener,
-        called: peers,
-        next: 0,
-        left: links as u32,
-        serving: *serving,
-        stops,
+        config,
+        accept,
+        peers,
+        serving,
+        workers,
         watch,
+        core,
+        course,
     };
-    run_arriving_kept::<C, _, _, _, _>(rt, alloc, config, roles, arrivals, workers, &gate)
+    let (answer, rest) = run.watched();
+    match answer {
+        Ok(report) => {
+            let ran = Ran::of(&report);
+            (Ok((report, ran)), rest)
+        }
+        Err(stopped) => (Err(stopped), rest),
+    }
 }

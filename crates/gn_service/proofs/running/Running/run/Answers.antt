@@ -1,0 +1,69 @@
+use Rattle.std.proofs.Common.{◌≡◌, ◌≤◌, ℕ, true, length, subst, sym}
+use Rattle.std.specs.Prelude.{IfSome}
+use Rattle.gn_threads.specs.Courses.{BeginsRun, IsBegunBy}
+use Rattle.gn_threads.proofs.CourseLemmas.{left_on}
+use Rattle.gn_threads.specs.Faults.{IsArrivingFault}
+use Rattle.gn_threads.specs.declared.fault.RunFault.TheVariants.{BadWorkers, HistoryFull}
+use Rattle.gn_service.specs.Serves.{IsServed}
+use Rattle.gn_service.proofs.ServedLemmas.{failed_at, failed_too}
+use Rattle.gn_service.proofs.running.Running.run.Goals as goal
+
+pub returns-in_default-None-clause-served : goal.returns-in_default-None-clause-served
+returns-in_default-None-clause-served g c = record {
+  crew = c.over_links-answer.ensures.workers;
+  bad_workers = c.over_links-answer.ensures.bad_workers;
+  fault = c.over_links-answer.ensures.fault;
+  kept = c.over_links-answer.ensures.kept;
+  full = c.over_links-answer.ensures.full;
+  holds = c.over_links-answer.ensures.holds;
+  made = c.over_links-answer.ensures.made;
+  one_socket = c.over_links-answer.ensures.one_socket;
+}
+
+pub returns-in-Ok-Some-clause-served : goal.returns-in-Ok-Some-clause-served
+returns-in-Ok-Some-clause-served g c =
+    failed_at c.args.self.config.now c.args.self.peers.now c.args.self.accept c.args.self.workers c.in-Ok-Some.report c.failed_at.result c.in-Ok-Some.fault
+    (subst (λ answer. IsServed c.args.self.config.now c.args.self.peers.now c.args.self.accept c.args.self.workers answer) c.in-Ok-Some.is-0 (record {
+      crew = c.over_links-answer.ensures.workers;
+      bad_workers = c.over_links-answer.ensures.bad_workers;
+      fault = c.over_links-answer.ensures.fault;
+      kept = c.over_links-answer.ensures.kept;
+      full = c.over_links-answer.ensures.full;
+      holds = c.over_links-answer.ensures.holds;
+      made = c.over_links-answer.ensures.made;
+      one_socket = c.over_links-answer.ensures.one_socket;
+    }))
+    c.failed_at.ensures
+    (subst (λ o. IfSome o (λ fault. ¬ (fault ≡ BadWorkers))) c.in-Ok-Some.is-1 c.call_fault.ensures.crew)
+    (subst (λ o. IfSome o (λ fault. ¬ (fault ≡ HistoryFull))) c.in-Ok-Some.is-1 c.call_fault.ensures.full)
+    (subst (λ o. IfSome o (λ fault. (links workers : ℕ) → length c.args.self.peers.now ≤ links → IsArrivingFault true links workers fault)) c.in-Ok-Some.is-1 c.call_fault.ensures.fault)
+
+pub returns-in-Err-Some-clause-served : goal.returns-in-Err-Some-clause-served
+returns-in-Err-Some-clause-served g c =
+    failed_too c.args.self.config.now c.args.self.peers.now c.args.self.accept c.args.self.workers c.in-Err-Some.stopped c.failed_too.result c.in-Err-Some.fault
+    (subst (λ answer. IsServed c.args.self.config.now c.args.self.peers.now c.args.self.accept c.args.self.workers answer) c.in-Err-Some.is-0 (record {
+      crew = c.over_links-answer.ensures.workers;
+      bad_workers = c.over_links-answer.ensures.bad_workers;
+      fault = c.over_links-answer.ensures.fault;
+      kept = c.over_links-answer.ensures.kept;
+      full = c.over_links-answer.ensures.full;
+      holds = c.over_links-answer.ensures.holds;
+      made = c.over_links-answer.ensures.made;
+      one_socket = c.over_links-answer.ensures.one_socket;
+    }))
+    c.failed_too.ensures.fault c.failed_too.ensures.history
+    (subst (λ o. IfSome o (λ fault. ¬ (fault ≡ BadWorkers))) c.in-Err-Some.is-1 c.call_fault.ensures.crew)
+    (subst (λ o. IfSome o (λ fault. ¬ (fault ≡ HistoryFull))) c.in-Err-Some.is-1 c.call_fault.ensures.full)
+    (subst (λ o. IfSome o (λ fault. (links workers : ℕ) → length c.args.self.peers.now ≤ links → IsArrivingFault true links workers fault)) c.in-Err-Some.is-1 c.call_fault.ensures.fault)
+
+pub returns-in-Ok-Some-clause-rest : goal.returns-in-Ok-Some-clause-rest
+returns-in-Ok-Some-clause-rest g c =
+    left_on _ _ _ _ _
+    (λ steps held. subst (λ h. IfSome h (λ history. IsBegunBy steps history.items)) (sym c.failed_at.ensures.1) (subst (λ answer. BeginsRun answer steps) c.in-Ok-Some.is-0 held))
+    c.over_links-answer.ensures.rest
+
+pub returns-in-Err-Some-clause-rest : goal.returns-in-Err-Some-clause-rest
+returns-in-Err-Some-clause-rest g c =
+    left_on _ _ _ _ _
+    (λ steps held. subst (λ h. IfSome h (λ history. IsBegunBy steps history.items)) (sym c.failed_too.ensures.history) (subst (λ answer. BeginsRun answer steps) c.in-Err-Some.is-0 held))
+    c.over_links-answer.ensures.rest

@@ -1,0 +1,202 @@
+//! A run over TCP: its links come and are watched, its peers are called, and bodies run over them.
+
+ghost use Rattle.std.specs.Prelude.{◌≡◌, ◌+◌, ◌≤◌, ◌↔◌, [], length, reverse, true, IfErr, IfOk, IfSome};
+ghost use Rattle.gn_rules.specs.Answer.{IsLegal};
+ghost use Rattle.gn_rules.specs.Limits.{IsCrew, most_links};
+ghost use Rattle.gn_threads.specs.declared.fault.RunFault.TheVariants.{BadWorkers, HistoryFull};
+ghost use Rattle.gn_threads.specs.Courses.{BeginsRun, IsLeft};
+ghost use Rattle.gn_threads.specs.Faults.{IsArrivingFault};
+ghost use Rattle.gn_threads.specs.Headline.{AreMadeOf, AreOfOne, Holds};
+ghost use Rattle.gn_service.specs.Links.{origins_of, roles_of};
+ghost use Rattle.gn_sockets.specs.TcpHalves.{half_read, half_written};
+ghost use Rattle.gn_service.specs.Serves.{IsServed};
+
+use crate::calling::Callers;
+use crate::counted::Counted;
+use crate::failing::{call_fault, failed_at, failed_too};
+use crate::peers::{Peers, roles_of};
+use crate::serving::Serving;
+use crate::stop::Stop;
+use crate::stops::Stops;
+use gn_links::Watch;
+use gn_report::Report;
+use gn_rules::{Config, RouterCore};
+use gn_tcp::{TcpReader, TcpWriter};
+use gn_threads::{Course, Stopped, run_arriving_by};
+use std::alloc::{Allocator, Global};
+use std::net::{Net, SocketAddr, TcpListener, TcpStream};
+use std::sync::Wait;
+use std::thread;
+use std::thread::Threads;
+use std::time::Clock;
+
+/// A run over these links, at most 256, by a router of no steps.
+#[derive(Drop)]
+pub(crate) struct Running<'a, 's, C: RouterCore<A>, W, G, R, A: Allocator + Copy = Global> {
+    pub rt: &'a R,
+    pub alloc: A,
+    pub listener: &'a TcpListener,
+    pub config: &'a Config,
+    pub accept: u32,
+    pub peers: &'a [SocketAddr],
+    pub serving: &'a Serving<'s>,
+    pub workers: u32,
+    pub watch: &'a G,
+    pub core: C,
+    pub course: W,
+    pub ghost few: { accept + length peers.now ≤ most_links },
+    pub ghost empty: { C.steps core ≡ [] },
+}
+
+impl<
+    'a,
+    's,
+    C: RouterCore<A> + Drop + Send,
+    W: Course<C, A> + Send + Drop,
+    G: Watch + Sync,
+    R: Threads
+        + Wait
+        + Net<Listener = TcpListener, Stream = TcpStream>
+        + Clock
+        + AllocGlobal
+        + Sync,
+    A: Allocator + Copy + Send + Sync,
+> Running<'a, 's, C, W, G, R, A>
+where
+    W::Followed: Send + Drop,
+{
+    /// Runs the router, and calls the peers beside it.
+    pub(crate) fn watched(
+        self,
+    ) -> (
+        Result<Report<TcpReader<'s>, TcpWriter, A>, Stopped<A>>,
+        W::Rest,
+    )
+        ensures served { IsServed self.entry.config.now self.entry.peers.now self.entry.accept self.entry.workers
+            result.0 }
+        ensures rest { IsLeft (W.follows self.entry.course) W.leaves result.1 (BeginsRun result.0) }
+    {
+        let rt = self.rt;
+        let serving = self.serving;
+        let watch = self.watch;
+        let own = Stop::new(None, false);
+        let stop = match serving.stop {
+            Some(stop) => stop,
+            None => &own,
+        };
+        let stops = Stops::new(rt, self.alloc, stop, serving.grace(), self.listener);
+        let stops = &stops;
+        let ((), answer) = thread::join(
+            rt,
+            || watch_and_call(rt, serving, stops, watch),
+            move ||
+                ensures served { IsServed self.entry.config.now self.entry.peers.now self.entry.accept
+                    self.entry.workers result.0 }
+                ensures rest { IsLeft (W.follows self.entry.course) W.leaves result.1 (BeginsRun result.0) }
+            { self.run(stops) },
+        );
+        answer
+    }
+
+    /// Runs the router, until `stops` ends it where it is stopped. Where one of its calls fails the run has failed, whatever it answers.
+    fn run(
+        self,
+        stops: &Stops<'_, A>,
+    ) -> (
+        Result<Report<TcpReader<'s>, TcpWriter, A>, Stopped<A>>,
+        W::Rest,
+    )
+        ensures served { IsServed self.entry.config.now self.entry.peers.now self.entry.accept self.entry.workers
+            result.0 }
+        ensures rest { IsLeft (W.follows self.entry.course) W.leaves result.1 (BeginsRun result.0) }
+    {
+        let calls = self.peers.len();
+        let (answer, rest) = self.over_links(stops);
+        match (answer, call_fault(stops, calls)) {
+            (answer, None) => (answer, rest),
+            (Ok(report), Some(fault)) => (Err(failed_at(report, fault)), rest),
+            (Err(stopped), Some(fault)) => (Err(failed_too(stopped, fault)), rest),
+        }
+    }
+
+    /// Runs the router, whatever becomes of its calls.
+    fn over_links(
+        self,
+        stops: &Stops<'_, A>,
+    ) -> (
+        Result<Report<TcpReader<'s>, TcpWriter, A>, Stopped<A>>,
+        W::Rest,
+    )
+        ensures workers { IfOk result.0 (λ _. IsCrew self.entry.workers) }
+        ensures bad_workers { IfErr result.0 (λ stopped. (stopped.fault ≡ BadWorkers) ↔ (¬ IsCrew self.entry.workers)) }
+        ensures fault { IfErr result.0 (λ stopped. IsCrew self.entry.workers
+            → IsArrivingFault true (length self.entry.peers.now + self.entry.accept) self.entry.workers stopped.fault) }
+        ensures kept { IfErr result.0 (λ stopped. IfSome stopped.history (λ history.
+            IsLegal self.entry.config.now (reverse history.items))) }
+        ensures full { IfErr result.0 (λ stopped. stopped.fault ≡ HistoryFull → IfSome stopped.history (λ history.
+            length history.items ≡ self.entry.config.now.numbers.steps)) }
+        ensures holds { IfOk result.0 (λ report. Holds half_read half_written self.entry.config.now
+            (roles_of (length self.entry.peers.now) (length self.entry.peers.now + self.entry.accept))
+            self.entry.workers report) }
+        ensures made { IfOk result.0 (λ report. AreMadeOf (λ half. half.origin) (λ half. half.origin)
+            (origins_of self.entry.peers.now (length self.entry.peers.now + self.entry.accept)) report) }
+        ensures one_socket { IfOk result.0 (λ report. AreOfOne (λ half. half.socket) (λ half. half.socket) report) }
+        ensures rest { IsLeft (W.follows self.entry.course) W.leaves result.1 (BeginsRun result.0) }
+    {
+        let Running {
+            rt,
+            alloc,
+            listener,
+            config,
+            accept,
+            peers,
+            serving,
+            workers,
+            watch,
+            core,
+            course,
+        } = self;
+        let links = peers.len() + accept as usize;
+        let all = roles_of(peers.len(), links);
+        let roles = &all[..links];
+        let numbers = &config.numbers;
+        watch.open(numbers.steps);
+        if accept == 0 {
+            stops.close_listener();
+        }
+        let gate = Counted::new(rt, watch, stops, numbers, links as u32);
+        let arrivals = Peers {
+            net: rt,
+            cells: rt.alloc(),
+            listener,
+            called: peers,
+            next: 0,
+            left: links as u32,
+            serving: *serving,
+            stops,
+            watch,
+        };
+        run_arriving_by::<C, W, _, _, _, _>(
+            rt, alloc, config, roles, arrivals, workers, &gate, core, course,
+        )
+    }
+}
+
+/// Watches a run, and calls its peers, until it is over.
+fn watch_and_call<
+    G: Watch + Sync,
+    A: Allocator + Copy + Send + Sync,
+    R: Threads + Wait + Net<Listener = TcpListener, Stream = TcpStream> + Clock + Sync,
+>(rt: &R, serving: &Serving<'_>, stops: &Stops<'_, A>, watch: &G) {
+    let serving = *serving;
+    thread::scope(thread::scope_env(), rt, |scope| {
+        let callers = Callers {
+            net: rt,
+            scope,
+            serving,
+            stops,
+            watch,
+        };
+        callers.watch();
+    });
+}
