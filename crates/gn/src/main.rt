@@ -9,7 +9,6 @@ use gn_progress::Progress;
 use gn_router::Unfreed;
 use gn_table_router::TableRouter;
 use gn_tables::Forgetful;
-use std::cell::Cell;
 use std::env::Env;
 use std::process::ExitCode;
 use std::{env, io};
@@ -35,8 +34,8 @@ fn say_why<R: AllocGlobal, F: Sink>(rt: &R, faults: &mut F, stream: &str, why: &
 /// Does what the words say, and ends with its status.
 fn main(rt: HostRuntime) -> ExitCode {
     open_all(&rt);
-    let input: Why = Cell::new(None);
-    let output: Why = Cell::new(None);
+    let input: Why = Why::new();
+    let output: Why = Why::new();
     let head = Head::new();
     let mut reader = ReaderSource::new(Kept::new(Noted::new(rt.stdin(), &input), &head));
     let mut writer = WriterSink::new(Noted::new(rt.stdout(), &output));

@@ -1,11 +1,11 @@
 //! The standard streams of the program: open, and each with the reason of its last failure.
 
-use std::cell::Cell;
 use std::fs::{File, OpenOptions};
 use std::io;
 use std::io::{ErrorKind, Read, Write};
 use std::os::fd::{AsRawFd, IntoRawFd};
 use std::rt::Files;
+use std::sync::OnceLock;
 
 /// The highest number of a standard stream.
 const LAST_STREAM: i32 = 2;
@@ -28,8 +28,15 @@ pub(crate) fn open_all<R: Files<File = File>>(rt: &R) {
     }
 }
 
-/// Why the last call of a stream that failed did so.
-pub(crate) type Why = Cell<Option<ErrorKind>>;
+/// Why the first call of a stream that failed, and that isn't made again, did so. A thread that writes a history may leave it there.
+pub(crate) type Why = OnceLock<ErrorKind>;
+
+/// Leaves there why a call failed.
+fn note(why: &Why, kind: ErrorKind) {
+    if kind != ErrorKind::Interrupted {
+        let _ = why.try_set(kind);
+    }
+}
 
 /// A standard stream that leaves word of why a call failed.
 #[derive(Drop)]
@@ -49,7 +56,7 @@ impl<'w, T: Read> Read for Noted<'w, T> {
     fn read(&mut self, room: &mut [u8]) -> io::Result<usize> {
         let answer = self.stream.read(room);
         if let Err(why) = &answer {
-            self.why.set(Some(why.kind()));
+            note(self.why, why.kind());
         }
         answer
     }
@@ -59,7 +66,7 @@ impl<'w, T: Write> Write for Noted<'w, T> {
     fn write(&mut self, piece: &[u8]) -> io::Result<usize> {
         let answer = self.stream.write(piece);
         if let Err(why) = &answer {
-            self.why.set(Some(why.kind()));
+            note(self.why, why.kind());
         }
         answer
     }

@@ -3,5 +3,6 @@ pub mod UnfailedLemmas
 pub mod LineLemmas
 pub mod SendLemmas
 pub mod LoadLemmas
-pub mod PrintLemmas
 pub mod ServedLemmas
+pub mod WritingLemmas
+pub mod JournalLemmas

@@ -1,6 +1,6 @@
 -- What is promised: contracts of public functions rest on it.
 pub mod Faults
+pub mod Journalled
 pub mod Links
 pub mod Loads
-pub mod Printed
 pub mod Served

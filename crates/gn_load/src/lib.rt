@@ -2,6 +2,7 @@
 #![tactic(auto)]
 
 mod fault;
+mod journalled;
 mod link_input;
 mod links;
 mod loads;
@@ -9,11 +10,14 @@ mod printed;
 mod serve_fault;
 mod serve_stopped;
 mod served;
+mod writing;
 
 pub use fault::LoadFault;
+pub use gn_scribe::PrintFault;
+pub use journalled::serve_journalled;
 pub use links::links_of;
 pub use loads::{load, load_watched};
-pub use printed::{PrintFault, print_history};
+pub use printed::print_history;
 pub use serve_fault::ServeFault;
 pub use serve_stopped::ServeStopped;
 pub use served::{serve_history, serve_history_kept};

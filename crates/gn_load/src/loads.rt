@@ -9,11 +9,12 @@ ghost use Rattle.gn_load.specs.Loads.{AppendsLoad, HasStopped, IsLoadText, load_
 
 use crate::fault::LoadFault;
 use crate::links::links_of;
-use crate::printed::{PrintFault, print_history};
+use crate::printed::print_history;
 use gn_capture::{Capture, read_capture};
 use gn_io::{Sink, Source, read_input};
 use gn_replay::ReplayFault;
 use gn_rules::{Config, Historian};
+use gn_scribe::PrintFault;
 use gn_service::{MemoryReader, MemoryWriter, NoGate, Report, Watch, run};
 use std::alloc::Allocator;
 use std::sync::Wait;

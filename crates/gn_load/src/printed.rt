@@ -1,115 +1,17 @@
 //! A history, written in blocks.
 
-ghost use Rattle.std.specs.Prelude.{◌≡◌, ◌<◌, ◌++◌, length, IfErr, IfOk, OnErr, OnOk};
+ghost use Rattle.std.specs.Prelude.{IfErr, OnErr, OnOk};
 ghost use Rattle.std.specs.Io.KnownBytes.{Appends};
-ghost use Rattle.gn_capture.specs.Histories.{history_text, steps_text};
-ghost use Rattle.gn_io.specs.Parts.{AppendsPart, LeavesToWrite, block_size};
+ghost use Rattle.gn_capture.specs.Histories.{history_text};
+ghost use Rattle.gn_io.specs.Parts.{AppendsPart};
 ghost use Rattle.gn_io.specs.Streams.{NoWriteFailed};
-ghost use Rattle.gn_load.specs.Printed.{IsPrintFault};
-ghost use Rattle.gn_text.specs.Steps.{step_text};
+ghost use Rattle.gn_scribe.specs.Printed.{IsPrintFault};
 
-use gn_io::{Block, IoFault, Sink, write_all};
+use gn_io::Sink;
 use gn_replay::history_heading;
 use gn_rules::{Config, Step};
-use gn_text::push_step;
-use std::alloc::{AllocError, Allocator};
-
-/// A line of so many bytes or more isn't copied into what waits.
-const LONG: usize = 32_768;
-
-/// Why a text wasn't written whole.
-#[derive(Clone, Copy, Debug, PartialEq, Eq)]
-pub enum PrintFault {
-    /// A write failed, or wrote no bytes.
-    Write,
-    /// Out of memory.
-    NoMemory,
-}
-
-impl From<IoFault> for PrintFault {
-    ghost use Rattle.gn_load.specs.declared.printed.PrintFault.TheVariants.{Write};
-
-    ghost from_gives = { λ _ e. e ≡ Write };
-
-    fn from(_fault: IoFault) -> PrintFault {
-        PrintFault::Write
-    }
-}
-
-impl From<AllocError> for PrintFault {
-    ghost use Rattle.gn_load.specs.declared.printed.PrintFault.TheVariants.{NoMemory};
-
-    ghost from_gives = { λ _ e. e ≡ NoMemory };
-
-    fn from(_e: AllocError) -> PrintFault {
-        PrintFault::NoMemory
-    }
-}
-
-/// Writes what waits and a long line behind it, so that the line isn't in memory twice.
-fn print_long<B: Allocator, W: Sink>(
-    line: &[u8],
-    block: &mut Block<B>,
-    sink: &mut W,
-) -> Result<(), PrintFault>
-    ensures ok { OnOk result (LeavesToWrite (W.state sink.old).written (W.state sink.new).written block.new
-        (block.old ++ line.now)) }
-    ensures small { OnOk result (length block.new < block_size) }
-    ensures err { OnErr result (AppendsPart (W.state sink.old).written (W.state sink.new).written
-        (block.old ++ line.now)) }
-    ensures cause { IfErr result (λ fault. IsPrintFault fault (W.state sink.old) (W.state sink.new)) }
-    ensures writes { OnOk result (NoWriteFailed (W.state sink.old) (W.state sink.new)) }
-{
-    block.write_rest(sink)?;
-    write_all(sink, line)?;
-    Ok(())
-}
-
-/// Adds a step's line to what waits, which is written once it is a block.
-fn print_step<A: Allocator, B: Allocator, W: Sink>(
-    step: &Step<A>,
-    line: &mut Vec<u8, B>,
-    block: &mut Block<B>,
-    sink: &mut W,
-) -> Result<(), PrintFault>
-    ensures ok { OnOk result (LeavesToWrite (W.state sink.old).written (W.state sink.new).written block.new
-        (block.old ++ step_text step.now)) }
-    ensures small { OnOk result (length block.new < block_size) }
-    ensures err { OnErr result (AppendsPart (W.state sink.old).written (W.state sink.new).written
-        (block.old ++ step_text step.now)) }
-    ensures cause { IfErr result (λ fault. IsPrintFault fault (W.state sink.old) (W.state sink.new)) }
-    ensures writes { OnOk result (NoWriteFailed (W.state sink.old) (W.state sink.new)) }
-{
-    line.clear();
-    push_step(line, step)?;
-    if line.len() >= LONG {
-        return print_long(line, block, sink);
-    }
-    block.add(line)?;
-    block.write_full(sink)?;
-    Ok(())
-}
-
-/// Adds a line for each step to what waits, and writes in blocks.
-fn print_steps<A: Allocator, B: Allocator, W: Sink>(
-    steps: &[Step<A>],
-    line: &mut Vec<u8, B>,
-    block: &mut Block<B>,
-    sink: &mut W,
-) -> Result<(), PrintFault>
-    ensures ok { OnOk result (LeavesToWrite (W.state sink.old).written (W.state sink.new).written block.new
-        (block.old ++ steps_text steps.now)) }
-    ensures small { OnOk result (length block.old < block_size → length block.new < block_size) }
-    ensures err { OnErr result (AppendsPart (W.state sink.old).written (W.state sink.new).written
-        (block.old ++ steps_text steps.now)) }
-    ensures cause { IfErr result (λ fault. IsPrintFault fault (W.state sink.old) (W.state sink.new)) }
-    ensures writes { OnOk result (NoWriteFailed (W.state sink.old) (W.state sink.new)) }
-{
-    for step in steps {
-        print_step(step, line, block, sink)?;
-    }
-    Ok(())
-}
+use gn_scribe::{PrintFault, print_end};
+use std::alloc::Allocator;
 
 /// Writes the text of a history, as `write_history` of gn_capture has it, in blocks of at least 32,768 bytes, the last one
 /// shorter: no more than a block and a line of it are in memory. An `Err` leaves a prefix of the text.
@@ -126,12 +28,6 @@ pub fn print_history<A: Allocator, B: Allocator + Copy, W: Sink>(
     ensures cause { IfErr result (λ fault. IsPrintFault fault (W.state sink.old) (W.state sink.new)) }
     ensures unfailed { OnOk result (NoWriteFailed (W.state sink.old) (W.state sink.new)) }
 {
-    let mut block = history_heading(alloc, config)?;
-    let mut line = Vec::new(alloc);
-    let printed = print_steps(steps, &mut line, &mut block, sink);
-    drop(line);
-    printed?;
-    block.add(b"end\n")?;
-    block.write_rest(sink)?;
-    Ok(())
+    let block = history_heading(alloc, config)?;
+    print_end(alloc, block, steps, sink)
 }

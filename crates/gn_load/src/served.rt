@@ -14,11 +14,12 @@ ghost use Rattle.gn_sockets.specs.TcpHalves.{half_read, half_written};
 ghost use Rattle.gn_load.specs.declared.serve_fault.ServeFault.TheVariants.{Run};
 ghost use Rattle.gn_load.specs.Served.{AppendsServed, AppendsServedPart, AppendsSomePart, HasKept, HasServeStopped, IsServeFault};
 
-use crate::printed::{PrintFault, print_history};
+use crate::printed::print_history;
 use crate::serve_fault::ServeFault;
 use crate::serve_stopped::ServeStopped;
 use gn_io::Sink;
 use gn_rules::{Config, Historian, Step};
+use gn_scribe::PrintFault;
 use gn_service::{
     Ran, Report, RunFault, Serving, Stopped, TcpReader, TcpWriter, Watch, serve_kept,
 };

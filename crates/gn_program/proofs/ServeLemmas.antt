@@ -1,5 +1,6 @@
 -- What a serve answers, from what the run answered.
-use Rattle.std.proofs.Common.{◌≡◌, ◌+◌, ℕ, List, true, length, IfErr, OnOk, Option, Some, Result, Ok, Err, refl, sym, subst}
+use Rattle.std.proofs.Common.{◌≡◌, ◌+◌, ℕ, List, true, length, IfErr, OnOk, Option, None, Some, Result, Ok, Err, refl, sym, subst}
+use Rattle.std.specs.Prelude.{IfSome}
 use Rattle.std.specs.Result.{IsErrAnd}
 use Rattle.std.specs.declared.alloc.Global.{Global}
 use Rattle.std.specs.declared.net.socket_addr.SocketAddr.{SocketAddr}
@@ -7,8 +8,9 @@ use Rattle.std.proofs.lemmas.Result.{IfErr-weaker}
 use Rattle.gn_io.specs.Streams.{NoWriteFailed, SinkState}
 use Rattle.gn_rules.specs.Limits.{IsCrew}
 use Rattle.gn_rules.specs.declared.config.Config.{Config}
-use Rattle.gn_load.proofs.ServedLemmas.{none_written, stopped_less}
-use Rattle.gn_load.specs.Served.{AppendsServed, AppendsServedPart, HasServeStopped, IsServeFault}
+use Rattle.gn_load.proofs.JournalLemmas.{nothing_yet}
+use Rattle.gn_load.specs.Journalled.{AppendsSomeLegalPart}
+use Rattle.gn_load.specs.Served.{AppendsServed, AppendsServedPart, IsServeFault}
 use Rattle.gn_load.specs.declared.serve_fault.ServeFault.{ServeFault}
 use Rattle.gn_load.specs.declared.serve_fault.ServeFault.TheVariants.{Run}
 use Rattle.gn_threads.specs.Faults.{IsArrivingFault}
@@ -29,20 +31,28 @@ pub asked : (serving : AskedServe) (settings : Config) (called : List SocketAddr
     → AreAt serving.peers called → AppendsServed Global settings called serving.accept serving.workers ran old new → AppendsAsked serving settings (Some ran) old new
 asked serving settings called ran old new at has = (called, at, ran, refl, has)
 
+-- so was a prefix of it
+asked_part : (serving : AskedServe) (settings : Config) (called : List SocketAddr) (remembered : Option (Remembered Global)) (old new : Option (List ℕ)) → AreAt serving.peers called
+    → IfSome remembered (λ _. AppendsServedPart Global settings called serving.accept serving.workers remembered old new) → IfSome remembered (λ _. AppendsAskedPart serving settings remembered old new)
+asked_part serving settings called None old new at has = tt
+asked_part serving settings called (Some ran) old new at has = (called, at, has)
+
 -- all that is answered, of a run over links that are called at the peers' addresses
 pub answered : (serving : AskedServe) (settings : Config) (called : List SocketAddr) (remembered : Option (Remembered Global)) (sink sink_new : SinkState) (answer : Result (Unit {0}) ServeFault)
     → IsServing serving settings → AreAt serving.peers called → length called ≡ length serving.peers → IsCrew serving.workers → OnOk answer (NoWriteFailed sink sink_new)
     → OnOk answer (AppendsAsked serving settings remembered sink.written sink_new.written)
-    → IfErr answer (λ fault. HasServeStopped Global (AppendsServedPart Global settings called serving.accept serving.workers remembered) serving.keeps settings fault sink.written sink_new.written)
+    → IfErr answer (λ _. AppendsSomeLegalPart Global settings sink.written sink_new.written)
+    → IfErr answer (λ _. IfSome remembered (λ _. AppendsServedPart Global settings called serving.accept serving.workers remembered sink.written sink_new.written))
     → IfErr answer (λ fault. IsCrew serving.workers → IsServeFault (length called + serving.accept) serving.workers fault sink sink_new)
     → IsServeAnswer serving sink sink_new answer remembered
-answered serving settings called remembered sink sink_new answer configured at many within unfailed written stopped fault =
+answered serving settings called remembered sink sink_new answer configured at many within unfailed written stopped part fault =
     record {
       settings = settings;
       configured = configured;
       unfailed = unfailed;
       written = written;
-      stopped = IfErr-weaker _ _ _ (λ fault has. stopped_less Global (AppendsServedPart Global settings called serving.accept serving.workers remembered) (AppendsAskedPart serving settings remembered) serving.keeps settings fault sink.written sink_new.written (λ part. (called, at, part)) has) stopped;
+      stopped = stopped;
+      part = IfErr-weaker _ _ _ (λ fault has. asked_part serving settings called remembered sink.written sink_new.written at has) part;
       fault = known (length serving.peers + serving.accept) serving.workers sink sink_new answer within
           (subst (λ n. IfErr answer (λ fault. IsCrew serving.workers → IsServeFault (n + serving.accept) serving.workers fault sink sink_new)) many fault);
     }
@@ -50,26 +60,27 @@ answered serving settings called remembered sink sink_new answer configured at m
 -- all that is answered where the run has no report, or its history wasn't written
 pub failed : (serving : AskedServe) (settings : Config) (called : List SocketAddr) (remembered : Option (Remembered Global)) (sink sink_new : SinkState) (answer : Result (Unit {0}) ServeFault) (fault : ServeFault)
     → IsServing serving settings → AreAt serving.peers called → length called ≡ length serving.peers → IsCrew serving.workers → IsErrAnd answer (λ e. e ≡ fault)
-    → HasServeStopped Global (AppendsServedPart Global settings called serving.accept serving.workers remembered) serving.keeps settings fault sink.written sink_new.written
+    → AppendsSomeLegalPart Global settings sink.written sink_new.written
+    → IfSome remembered (λ _. AppendsServedPart Global settings called serving.accept serving.workers remembered sink.written sink_new.written)
     → (IsCrew serving.workers → IsServeFault (length called + serving.accept) serving.workers fault sink sink_new)
     → IsServeAnswer serving sink sink_new answer remembered
-failed serving settings called remembered sink sink_new (Ok done) fault configured at many within is stopped one = absurd is
-failed serving settings called remembered sink sink_new (Err e) fault configured at many within is stopped one =
-    answered serving settings called remembered sink sink_new (Err e) configured at many within tt tt
-    (subst (λ f. HasServeStopped Global (AppendsServedPart Global settings called serving.accept serving.workers remembered) serving.keeps settings f sink.written sink_new.written) (sym is) stopped)
+failed serving settings called remembered sink sink_new (Ok done) fault configured at many within is stopped part one = absurd is
+failed serving settings called remembered sink sink_new (Err e) fault configured at many within is stopped part one =
+    answered serving settings called remembered sink sink_new (Err e) configured at many within tt tt stopped part
     (subst (λ f. IsCrew serving.workers → IsServeFault (length called + serving.accept) serving.workers f sink sink_new) (sym is) one)
 
 -- all that is answered where there was no run
-pub unserved : (serving : AskedServe) (settings : Config) (remembered : Option (Remembered Global)) (sink : SinkState) (answer : Result (Unit {0}) ServeFault) (fault : RunFault)
+pub unserved : (serving : AskedServe) (settings : Config) (remembered : Option (Remembered Global)) → remembered ≡ None → (sink : SinkState) (answer : Result (Unit {0}) ServeFault) (fault : RunFault)
     → IsServing serving settings → IsErrAnd answer (λ e. e ≡ Run fault) → IsArrivingFault true (length serving.peers + serving.accept) serving.workers fault
     → IsServeAnswer serving sink sink answer remembered
-unserved serving settings remembered sink (Ok done) fault configured is one = absurd is
-unserved serving settings remembered sink (Err e) fault configured is one =
+unserved serving settings remembered none sink (Ok done) fault configured is one = absurd is
+unserved serving settings remembered none sink (Err e) fault configured is one =
     record {
       settings = settings;
       configured = configured;
       unfailed = tt;
       written = tt;
-      stopped = subst (λ f. HasServeStopped Global (AppendsAskedPart serving settings remembered) serving.keeps settings f sink.written sink.written) (sym is) (none_written Global (AppendsAskedPart serving settings remembered) serving.keeps settings fault sink.written);
+      stopped = (None, nothing_yet Global settings sink.written);
+      part = subst (λ r. IfSome r (λ _. AppendsAskedPart serving settings r sink.written sink.written)) (sym none) tt;
       fault = subst (λ f. IsServeFault (length serving.peers + serving.accept) serving.workers f sink sink) (sym is) one;
     }

@@ -21,7 +21,8 @@ use Rattle.gn_show.specs.declared.form.View.{View}
 use Rattle.gn_load.specs.Faults.{IsLoadFault}
 use Rattle.gn_load.specs.Loads.{AppendsLoad, HasStopped as HasLoadStopped, load_of}
 use Rattle.gn_load.specs.declared.fault.LoadFault.{LoadFault}
-use Rattle.gn_load.specs.Served.{AppendsServed, AppendsServedPart, HasServeStopped, IsServeFault}
+use Rattle.gn_load.specs.Journalled.{AppendsSomeLegalPart}
+use Rattle.gn_load.specs.Served.{AppendsServed, AppendsServedPart, IsServeFault}
 use Rattle.gn_program.specs.Peers.{AreAt}
 use Rattle.gn_service.specs.Ran.{Remembered}
 use Rattle.gn_load.specs.declared.serve_fault.ServeFault.{ServeFault}
@@ -124,15 +125,16 @@ AppendsAskedPart serving settings remembered old new =
 
 -- what serve answers: no write failed, and the history of the run that is remembered was written, one with so many workers, over
 -- links to the peers of the words, which are called, and to so many that call; or it stopped, and what was written then is a prefix
--- of that history, or of one that is kept
+-- of the text of a history that is legal, and of the run that is remembered, where one is
 pub record IsServeAnswer (serving : AskedServe) (sink sink_new : SinkState) (answer : Result (Unit {0}) ServeFault)
     (remembered : Option (Remembered Global)) : Type 0 where
   pub settings : Config
   pub configured : IsServing serving settings
   pub unfailed : OnOk answer (NoWriteFailed sink sink_new)
   pub written : OnOk answer (AppendsAsked serving settings remembered sink.written sink_new.written)
-  pub stopped : IfErr answer (λ fault. HasServeStopped Global (AppendsAskedPart serving settings remembered)
-      serving.keeps settings fault sink.written sink_new.written)
+  pub stopped : IfErr answer (λ _. AppendsSomeLegalPart Global settings sink.written sink_new.written)
+  pub part : IfErr answer (λ _. IfSome remembered (λ _.
+      AppendsAskedPart serving settings remembered sink.written sink_new.written))
   pub fault : IfErr answer (λ fault.
       IsServeFault (length serving.peers + serving.accept) serving.workers fault sink sink_new)
 

@@ -144,7 +144,7 @@ fn serve_watched<
         + AllocGlobal
         + Sync,
     G: Watch + Sync,
-    W: Sink,
+    W: Sink + Send,
     F: Sink,
 >(rt: &R, alloc: Global, serving: &ServeOptions, watch: &G, writer: &mut W, faults: &mut F) -> Ended
     ensures { ServesTo serving.now result.ran (W.state writer.old) (W.state writer.new) result.status }
@@ -172,7 +172,7 @@ fn obey<
         + Sync,
     G: Watch + Sync,
     S: Source,
-    W: Sink,
+    W: Sink + Send,
     F: Sink,
 >(
     rt: &R,
@@ -262,7 +262,7 @@ pub fn command<
         + Sync,
     T: AsStr,
     S: Source,
-    W: Sink,
+    W: Sink + Send,
     F: Sink,
 >(rt: &R, alloc: Global, words: &[T], reader: &mut S, writer: &mut W, faults: &mut F) -> u8
     ensures asked { (request : Asked) → request_of (map T.text words.now) ≡ Some request
@@ -302,7 +302,7 @@ pub fn command_with<
     G: Watch + Sync,
     T: AsStr,
     S: Source,
-    W: Sink,
+    W: Sink + Send,
     F: Sink,
 >(
     rt: &R,

@@ -1,6 +1,6 @@
 //! A router that serves, as a command line asks for it.
 
-ghost use Rattle.std.specs.Prelude.{◌≡◌, ◌*◌, length, IfOk};
+ghost use Rattle.std.specs.Prelude.{◌≡◌, ◌*◌, None, length, IfOk};
 ghost use Rattle.std.specs.Option.{IsSomeAnd};
 ghost use Rattle.std.specs.Bool.{then_some};
 ghost use Rattle.std.specs.Duration.{as_nanos};
@@ -14,10 +14,9 @@ use crate::text::write_text;
 use crate::told::Told;
 use gn_io::Sink;
 use gn_links::{LinkFault, Watch};
-use gn_load::{ServeFault, ServeStopped, serve_history_kept};
+use gn_load::{ServeFault, ServeStopped, serve_journalled};
 use gn_rules::{Config, Own, Step};
 use gn_service::{Ran, Serving, Stop};
-use gn_table_router::TableRouter;
 use gn_tcp::Unmet;
 use gn_threads::RunFault;
 use gn_words::{Peer, ServeOptions};
@@ -167,7 +166,7 @@ fn report_stopped<F: Sink>(
     }
 }
 
-/// Listens, says so with the faults, runs the router, writes its history, and then what became of its links with the faults,
+/// Listens, says so with the faults, runs the router, writes its history while it runs, and then what became of its links with the faults,
 /// where that is asked for. It is watched as it runs. What the system said of the port stays in `told`, and what is remembered of the
 /// run in `remembered`.
 pub(crate) fn serve<
@@ -179,7 +178,7 @@ pub(crate) fn serve<
         + AllocGlobal
         + Sync,
     G: Watch + Sync,
-    W: Sink,
+    W: Sink + Send,
     F: Sink,
 >(
     rt: &R,
@@ -191,6 +190,7 @@ pub(crate) fn serve<
     told: &mut Told,
     remembered: &mut Option<Ran>,
 ) -> Result<(), ServeFault>
+    requires { remembered.old ≡ None }
     ensures { IsServeAnswer serving.now (W.state writer.old) (W.state writer.new) result remembered.new }
 {
     let config = settings(serving);
@@ -201,7 +201,7 @@ pub(crate) fn serve<
     };
     let _ = write_text(faults, Listening(serving.port));
     let limits = limits(serving, &stop);
-    let answer = serve_history_kept::<TableRouter, _, _, _, _>(
+    let answer = serve_journalled::<_, _, _>(
         rt,
         alloc,
         &listener,

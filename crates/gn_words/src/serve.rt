@@ -35,8 +35,9 @@ const TEXTS: &str = "\
 The peers are called first, in their order, and then A others may call: each that does is one of
 the A, whatever becomes of it. Each link is greeted and read by a thread of its own and written by
 another, and V workers route what the readers admitted. `listening PORT` on standard error says that
-the router can be called. Once all links have ended, standard output is the history of the router,
-which `gn audit` reads.
+the router can be called. Standard output is the history of the router, which `gn audit` reads. It is
+written while the router runs: nothing waits for long where little is done, and where the output is
+slow the router waits. A write that fails ends the run.
 
 A link ends as its peer closes it. Two routers that call each other and nobody else each wait for
 the other's end: `--idle 2` ends a link of which nothing was heard for 2 seconds. A router waits for
@@ -44,17 +45,17 @@ its A callers without a limit. One whose run has failed, as by a full history, l
 and calls and waits for nobody else. A neighbour that has closed its socket keeps its place until
 something is written to it: `--idle` doesn't free it. It frees that of one which is silent.
 
-Ctrl-C and a kill end the program at once: nothing is printed, and the history is lost, also with
-`--keep-history`. Three ways stop it well, with its whole history: `--for`, in so many seconds;
-`--until-eof`, as standard input ends, by Ctrl-D or as the writer of a pipe ends; `--stop-early`,
-before its most steps. What it owes by then is written, and after the grace it ends in any case.
+Ctrl-C and a kill end the program at once. `gn audit --unfinished` reads what was written by then.
+Three ways stop it well, with its whole history: `--for`, in so many seconds; `--until-eof`, as
+standard input ends, by Ctrl-D or as the writer of a pipe ends; `--stop-early`, before its most
+steps. What it owes by then is written, and after the grace it ends in any case.
 examples/gn.service is a unit for a service manager, with a standard input that the manager ends.
 
-A run that would make more than its most steps prints no history, unless `--keep-history` is given:
-one neighbour alone makes a million in a second. With `--stop-early` the router stops before, and
-prints its whole history; what it still has to read of a piece and to write takes the last tenth of
-the steps. An audit has no limit. `gn show` reads at most 64 MiB, some 600,000 small steps, and fewer
-the more neighbours there are: `--steps 300000` keeps below it with 64 of them.
+A run that would make more than its most steps ends there, with the fault `history full`: one
+neighbour alone makes a million in a second. With `--stop-early` the router stops before, and is
+done; what it still has to read of a piece and to write takes the last tenth of the steps. An audit
+has no limit. `gn show` reads at most 64 MiB, some 600,000 small steps, and fewer the more neighbours
+there are: `--steps 300000` keeps below it with 64 of them.
 
 Example: two routers of which the second calls the first, in whichever order they start. Both end
 after 5 seconds.
@@ -219,8 +220,8 @@ const OUTPUT: [OptionRow; 3] = [
         letter: None,
         takes: Takes::Nothing,
         help: "\
-Prints what stands of the history also where the run stops at a fault, as
-where it has its most steps",
+Changes nothing: what stands of the history is always printed, also
+where the run stops at a fault",
     },
     OptionRow {
         name: "report",

@@ -65,7 +65,7 @@ pub mod router {
     pub use gn_decide::Places;
     pub use gn_router::{Router, Store, Unfreed};
     pub use gn_search::PlainRouter;
-    pub use gn_table_router::TableRouter;
+    pub use gn_table_router::{Exchange, TableRouter};
     pub use gn_tables::{Forgetful, Keeper, Whole};
     pub use gn_witness::legal;
 }
@@ -86,7 +86,10 @@ pub mod stage {
 
 /// The router under its lock, and the actors that call it.
 pub mod hub {
-    pub use gn_hub::{Actor, Door, FoundClosed, Hub, Mark, Next, Outgoing, Service, ServiceFault};
+    pub use gn_hub::{
+        Actor, Door, FoundClosed, Frame, Hub, Mark, Next, Outgoing, Service, ServiceFault,
+    };
+    pub use gn_room::{Following, Room, run_beside};
 }
 
 /// Links over memory and over TCP.
@@ -112,8 +115,11 @@ pub mod bodies {
 /// Runs of many threads, and their reports.
 pub mod run {
     pub use gn_report::{LinkReport, Report};
-    pub use gn_service::{Ran, Serving, Stop, serve_kept, serve_on};
-    pub use gn_threads::{Arrivals, RunFault, Stopped, run, run_arriving, run_arriving_kept};
+    pub use gn_service::{Ran, Serving, Stop, serve_by, serve_kept, serve_on};
+    pub use gn_threads::{
+        Arrivals, Course, InMemory, RunFault, Stopped, run, run_arriving, run_arriving_by,
+        run_arriving_kept,
+    };
 }
 
 /// Sources and sinks of bytes.
@@ -150,7 +156,7 @@ pub mod load {
     pub use gn_links::Watch;
     pub use gn_load::{
         LoadFault, PrintFault, ServeFault, ServeStopped, links_of, load, load_watched,
-        print_history, serve_history, serve_history_kept,
+        print_history, serve_history, serve_history_kept, serve_journalled,
     };
 }
 

@@ -1,6 +1,4 @@
-use Rattle.std.proofs.Common.{◌≡◌, ◌∙◌, Bool, ap, refl, length, subst, sym, Ok, Err}
-use Rattle.std.specs.declared.alloc.Global.{Global}
-use Rattle.gn_load.specs.Served.{AppendsServedPart, HasServeStopped}
+use Rattle.std.proofs.Common.{◌≡◌, ◌∙◌, ap, refl, length, subst, sym, Ok, Err}
 use Rattle.gn_program.specs.Peers.{AreAt}
 use Rattle.gn_threads.specs.declared.fault.RunFault.TheVariants.{Listen, NoMemory}
 use Rattle.gn_program.specs.Commands.{IsServing}
@@ -10,16 +8,16 @@ use Rattle.gn_program.proofs.serves.serve.Goals as goal
 
 pub returns-in_err-peers : goal.returns-in_err-peers
 returns-in_err-peers g c =
-    unserved c.args.serving.now c.settings-config.result c.args.remembered.now (g.W.Sink.state c.args.writer.now) c.from_residual.result NoMemory c.settings-config.ensures
+    unserved c.args.serving.now c.settings-config.result c.args.remembered.now c.requires (g.W.Sink.state c.args.writer.now) c.from_residual.result NoMemory c.settings-config.ensures
     c.from_residual.ensures.1 tt
 
 pub returns-in_err-stop : goal.returns-in_err-stop
 returns-in_err-stop g c =
-    unserved c.args.serving.now c.settings-config.result c.args.remembered.now (g.W.Sink.state c.args.writer.now) c.from_residual-in_err-stop.result NoMemory c.settings-config.ensures
+    unserved c.args.serving.now c.settings-config.result c.args.remembered.now c.requires (g.W.Sink.state c.args.writer.now) c.from_residual-in_err-stop.result NoMemory c.settings-config.ensures
     c.from_residual-in_err-stop.ensures.1 tt
 
 pub returns-in_default : goal.returns-in_default
-returns-in_default g c = unserved c.args.serving.now c.settings-config.result c.args.remembered.now (g.W.Sink.state c.args.writer.now) _ Listen c.settings-config.ensures refl refl
+returns-in_default g c = unserved c.args.serving.now c.settings-config.result c.args.remembered.now c.requires (g.W.Sink.state c.args.writer.now) _ Listen c.settings-config.ensures refl refl
 
 pub returns : goal.returns
 returns g c =
@@ -29,11 +27,6 @@ returns g c =
     ap (λ xs. length xs) c.deref-3.ensures.value ∙ c.in_ok-peers.ensures.many ∙ ap (λ xs. length xs) c.deref.ensures.value in
     let at : AreAt inside.peers.items c.deref-3.result.now =
     subst (λ peers. AreAt peers c.deref-3.result.now) c.deref.ensures.value (subst (λ called. AreAt c.deref.result.now called) (sym c.deref-3.ensures.value) c.in_ok-peers.ensures.each) in
-    let kept : c.limits-limits.result.is_kept ≡ inside.keeps = c.limits-limits.ensures.kept ∙ ap (λ (s : AskedServe). s.keeps) (sym c.serving.view_is) in
-    let stopped =
-    subst (λ (keeps : Bool). HasServeStopped Global (AppendsServedPart Global c.settings-config.result c.deref-3.result.now inside.accept inside.workers c.in-Err.field-0.ran) keeps c.settings-config.result c.in-Err.field-0.fault
-    (g.W.Sink.state c.args.writer.now).written (g.W.Sink.state c.serve_history_kept-answer.new.sink).written) kept ran.stopped
-    in
     rw (← c.serving.view_is) (failed (record {
       port = inside.port;
       accept = inside.accept;
@@ -50,9 +43,9 @@ returns g c =
       keeps = inside.keeps;
       report = inside.report;
       progress = inside.progress;
-    }) c.settings-config.result c.deref-3.result.now c.in-Err.field-0.ran (g.W.Sink.state c.args.writer.now) (g.W.Sink.state c.serve_history_kept-answer.new.sink) (Err c.in-Err.field-0.fault)
+    }) c.settings-config.result c.deref-3.result.now c.in-Err.field-0.ran (g.W.Sink.state c.args.writer.now) (g.W.Sink.state c.serve_journalled-answer.new.sink) (Err c.in-Err.field-0.fault)
     c.in-Err.field-0.fault (subst (λ s. IsServing s c.settings-config.result) (sym c.serving.view_is) c.settings-config.ensures) at many c.serving.invariant.0
-    refl stopped ran.fault)
+    refl (c.in-Err.field-0.history, ran.part) ran.remembered ran.fault)
 
 pub returns-in-Ok-answer : goal.returns-in-Ok-answer
 returns-in-Ok-answer g c =
@@ -79,5 +72,5 @@ returns-in-Ok-answer g c =
       report = inside.report;
       progress = inside.progress;
     } in
-    rw (← c.serving.view_is) (answered served c.settings-config.result c.deref-3.result.now _ (g.W.Sink.state c.args.writer.now) (g.W.Sink.state c.serve_history_kept-answer.new.sink) (Ok tt)
-    (subst (λ s. IsServing s c.settings-config.result) (sym c.serving.view_is) c.settings-config.ensures) at many c.serving.invariant.0 ran.unfailed (asked served c.settings-config.result c.deref-3.result.now _ (g.W.Sink.state c.args.writer.now).written (g.W.Sink.state c.serve_history_kept-answer.new.sink).written at ran.written) tt tt)
+    rw (← c.serving.view_is) (answered served c.settings-config.result c.deref-3.result.now _ (g.W.Sink.state c.args.writer.now) (g.W.Sink.state c.serve_journalled-answer.new.sink) (Ok tt)
+    (subst (λ s. IsServing s c.settings-config.result) (sym c.serving.view_is) c.settings-config.ensures) at many c.serving.invariant.0 ran.unfailed (asked served c.settings-config.result c.deref-3.result.now _ (g.W.Sink.state c.args.writer.now).written (g.W.Sink.state c.serve_journalled-answer.new.sink).written at ran.written) tt tt tt)

@@ -1,0 +1,186 @@
+//! A run over TCP whose history is written while it goes on.
+
+ghost use Rattle.std.specs.Prelude.{◌≡◌, ◌+◌, ◌≤◌, [], None, Some, length, IfOk, IfSome, MatchResult};
+ghost use Rattle.rtrb.specs.Ring.{IsPair, received, sent};
+ghost use Rattle.gn_rules.specs.Limits.{IsCrew, most_links};
+ghost use Rattle.gn_journal.specs.Rings.{name_of};
+ghost use Rattle.gn_text.specs.Header.{header_text};
+ghost use Rattle.gn_text.specs.declared.title.Text.TheVariants.{History};
+ghost use Rattle.gn_load.specs.declared.serve_fault.ServeFault.TheVariants.{Run};
+ghost use Rattle.gn_load.specs.Journalled.{HasStoppedWriting, IsJournalled, of_print};
+
+use crate::serve_fault::ServeFault;
+use crate::serve_stopped::ServeStopped;
+use crate::writing::{Begun, Writing};
+use gn_io::{Block, Sink};
+use gn_journal::{Journal, JournalRouter, Naming};
+use gn_replay::history_heading;
+use gn_rules::{Config, MOST_WORKERS, Step};
+use gn_scribe::{PrintFault, Scribe, Waiting, finish_history};
+use gn_service::{Ran, Report, RunFault, Serving, Stopped, TcpReader, TcpWriter, Watch, serve_by};
+use gn_table_router::TableRouter;
+use rtrb::{Consumer, Producer, RingBuffer};
+use std::alloc::{Allocator, Global};
+use std::marker::{Brand, PhantomData};
+use std::net::{Net, SocketAddr, TcpListener, TcpStream};
+use std::sync::Wait;
+use std::thread::Threads;
+use std::time::Clock;
+
+/// How many steps a ring has places for: more than wait at most, and one more of each actor of a run of 256 links and 64 workers.
+const PLACES: usize = 4096;
+
+/// A run that hasn't begun.
+fn unbegun<A: Allocator>(fault: RunFault) -> ServeStopped<A>
+    ensures { (result.fault ≡ Run fault) × (result.history ≡ None) × (result.ran ≡ None) }
+{
+    ServeStopped {
+        fault: ServeFault::Run(fault),
+        history: None,
+        ran: None,
+    }
+}
+
+/// The fault of a serve whose text couldn't be written for this.
+fn of_print(fault: PrintFault) -> ServeFault
+    ensures { result ≡ of_print fault }
+{
+    match fault {
+        PrintFault::Write => ServeFault::Write,
+        PrintFault::NoMemory => ServeFault::Run(RunFault::NoMemory),
+    }
+}
+
+/// Writes what is left of the text of the history of a run that stopped, where that stands and has a step. Its fault is that of the
+/// run, unless its text couldn't be written while it went on.
+fn finish_stopped<A: Allocator + Copy, W: Sink>(
+    alloc: A,
+    stopped: Stopped<A>,
+    waiting: Result<Waiting<A>, PrintFault>,
+    sink: &mut W,
+) -> ServeStopped<A>
+    requires { IfOk waiting (λ waiting. IfSome stopped.history (λ steps. waiting.count ≤ length steps.items)) }
+    ensures history { (result.history ≡ stopped.history) × (result.ran ≡ None) }
+    ensures fault { MatchResult waiting (λ _. result.fault ≡ Run stopped.fault) (λ why. result.fault ≡ of_print why) }
+    ensures written { HasStoppedWriting stopped.history (W.state sink.old) (W.state sink.new) waiting }
+{
+    let Stopped { fault, history } = stopped;
+    let fault = match (waiting, &history) {
+        (Err(why), _) => of_print(why),
+        (Ok(waiting), Some(steps)) if !steps.is_empty() => {
+            // that it can't be written changes no fault
+            let _ = finish_history(alloc, steps, Ok(waiting), sink);
+            ServeFault::Run(fault)
+        }
+        (Ok(_), _) => ServeFault::Run(fault),
+    };
+    ServeStopped {
+        fault,
+        history,
+        ran: None,
+    }
+}
+
+/// Runs a router as `serve_on` does, and writes its history, which `audit` reads, while the run goes on: a step that was made is written
+/// once nobody makes another, or a block is full. The report comes back with what is remembered of the run, and a fault with what stands
+/// of the history. At a fault what was written is a prefix of the history; all of it, where that stands, unless a write failed.
+pub fn serve_journalled<
+    's,
+    R: Threads
+        + Wait
+        + Net<Listener = TcpListener, Stream = TcpStream>
+        + Clock
+        + AllocGlobal
+        + Sync,
+    G: Watch + Sync,
+    W: Sink + Send,
+>(
+    rt: &R,
+    alloc: Global,
+    listener: &TcpListener,
+    config: &Config,
+    accept: u32,
+    peers: &[SocketAddr],
+    serving: &Serving<'s>,
+    workers: u32,
+    watch: &G,
+    sink: &mut W,
+) -> Result<(Report<TcpReader<'s>, TcpWriter>, Ran), ServeStopped>
+    requires few { accept + length peers.now ≤ most_links }
+    ensures { IsJournalled config.now peers.now accept workers (W.state sink.old) (W.state sink.new) result }
+{
+    if workers == 0 || workers > MOST_WORKERS {
+        return Err(unbegun(RunFault::BadWorkers));
+    }
+    let Ok(heading) = history_heading(alloc, config) else {
+        return Err(unbegun(RunFault::NoMemory));
+    };
+    let Ok((producer, consumer)) = RingBuffer::new(alloc, PLACES) else {
+        return Err(unbegun(RunFault::NoMemory));
+    };
+    serve_named::<Brand, R, G, W>(
+        rt, alloc, listener, config, accept, peers, serving, workers, watch, heading, producer,
+        consumer, sink,
+    )
+}
+
+/// The same over the ring that `N` names.
+fn serve_named<
+    's,
+    N: Naming<Global> + Send,
+    R: Threads
+        + Wait
+        + Net<Listener = TcpListener, Stream = TcpStream>
+        + Clock
+        + AllocGlobal
+        + Sync,
+    G: Watch + Sync,
+    W: Sink + Send,
+>(
+    rt: &R,
+    alloc: Global,
+    listener: &TcpListener,
+    config: &Config,
+    accept: u32,
+    peers: &[SocketAddr],
+    serving: &Serving<'s>,
+    workers: u32,
+    watch: &G,
+    heading: Block,
+    producer: Producer<Step>,
+    consumer: Consumer<Step>,
+    sink: &mut W,
+) -> Result<(Report<TcpReader<'s>, TcpWriter>, Ran), ServeStopped>
+    requires named { (N.ring ≡ Some (name_of producer.end)) × (N.config ≡ Some config.now) }
+    requires ring { IsPair producer consumer × (sent producer ≡ []) × (received consumer ≡ []) }
+    requires heading { heading ≡ header_text History config.now }
+    requires few { (accept + length peers.now ≤ most_links) × IsCrew workers }
+    ensures { IsJournalled config.now peers.now accept workers (W.state sink.old) (W.state sink.new) result }
+{
+    let journal = Journal::<N>::new(producer);
+    let Ok(router) = TableRouter::over(alloc, config, journal) else {
+        return Err(unbegun(RunFault::NoMemory));
+    };
+    let core = JournalRouter::<N> { router };
+    let writing = Writing::<W, N> {
+        scribe: Scribe::new(alloc, consumer, heading),
+        sink,
+        of: PhantomData,
+    };
+    let (answer, begun) = serve_by::<JournalRouter<N>, Writing<W, N>, G, Global, R>(
+        rt, alloc, listener, config, accept, peers, serving, workers, watch, core, writing,
+    );
+    watch.end();
+    let Begun { sink, waiting } = begun;
+    match answer {
+        Ok((report, ran)) => match finish_history(alloc, &report.history, waiting, sink) {
+            Ok(()) => Ok((report, ran)),
+            Err(why) => Err(ServeStopped {
+                fault: of_print(why),
+                history: Some(report.history),
+                ran: Some(ran),
+            }),
+        },
+        Err(stopped) => Err(finish_stopped(alloc, stopped, waiting, sink)),
+    }
+}

@@ -1,0 +1,141 @@
+//! A history that is written while its run goes on.
+
+ghost use Rattle.std.specs.Prelude.{◌≡◌, [], List, Some, reverse, IfSome};
+ghost use Rattle.rtrb.specs.Ring.{received};
+ghost use Rattle.gn_journal.specs.Rings.{name_of};
+ghost use Rattle.gn_rules.specs.declared.config.Config.{Config};
+ghost use Rattle.gn_rules.specs.declared.receipt.Step.{Step};
+ghost use Rattle.gn_rules.specs.Answer.{IsLegal};
+ghost use Rattle.gn_scribe.specs.Written.{HasEnded, HasFollowed};
+
+use gn_io::Sink;
+use gn_journal::{Journal, JournalRouter, Naming, WholeRouter};
+use gn_room::{Following, Room};
+use gn_rules::{RouterCore, Step};
+use gn_scribe::{PrintFault, Scribe, Waiting};
+use gn_table_router::Exchange;
+use gn_tables::Whole;
+use gn_threads::Course;
+use std::alloc::{Allocator, Global};
+use std::marker::PhantomData;
+use std::sync::Wait;
+
+/// How many steps wait at most to be written before those who make more wait, too. Their ring has places for one more of each actor of a
+/// run.
+const MOST_WAITING: u64 = 2048;
+
+/// A scribe of the ring that `N` names, which has taken no step yet, and where it writes.
+#[derive(Drop)]
+pub(crate) struct Writing<'a, W, N: Naming<Global>> {
+    pub scribe: Scribe,
+    pub sink: &'a mut W,
+    pub of: PhantomData<N>,
+    pub ghost here: { N.ring ≡ Some (name_of scribe.steps.end) },
+    pub ghost fresh: { received scribe.steps ≡ [] },
+}
+
+/// A scribe that has followed a run, where it writes, and whether it could.
+#[derive(Drop)]
+pub(crate) struct Written<'a, W, N: Naming<Global>> {
+    pub scribe: Scribe,
+    pub sink: &'a mut W,
+    pub written: Result<(), PrintFault>,
+    pub of: PhantomData<N>,
+    pub ghost here: { N.ring ≡ Some (name_of scribe.steps.end) },
+}
+
+/// Where a history is written, and what of it waits, if it could be written.
+#[derive(Drop)]
+pub(crate) struct Begun<'a, W> {
+    pub sink: &'a mut W,
+    pub waiting: Result<Waiting, PrintFault>,
+}
+
+impl<'a, W: Sink, N: Naming<Global>> Following for Writing<'a, W, N> {
+    type Followed = Written<'a, W, N>;
+
+    ghost follows = { λ w r. (r.sink.ghost_name ≡ w.sink.ghost_name)
+        × HasFollowed w.scribe r.scribe (W.state w.sink.now) (W.state r.sink.now) r.written };
+
+    #[tactic(auto, using(crate::proofs::WritingLemmas::followed_of, crate::proofs::WritingLemmas::stays_here))]
+    fn follow<R: Wait>(self, rt: &R, room: &Room) -> Written<'a, W, N> {
+        let Writing {
+            mut scribe,
+            sink,
+            of,
+        } = self;
+        let written = scribe.follow(rt, room, sink);
+        Written {
+            scribe,
+            sink,
+            written,
+            of,
+        }
+    }
+}
+
+/// The keeper of these steps, where there are any.
+fn whole_of<A: Allocator>(history: Option<Vec<Step<A>, A>>) -> Option<Whole<A>>
+    ensures { (steps : List (Step A)) → IfSome history (λ kept. kept.items ≡ steps)
+        → IfSome result (λ whole. whole.steps.items ≡ steps) }
+{
+    match history {
+        Some(steps) => Some(Whole { steps }),
+        None => None,
+    }
+}
+
+impl<'a, W: Sink, N: Naming<Global>> Exchange<Global, Journal<N>, Whole> for Written<'a, W, N> {
+    type Rest = Begun<'a, W>;
+
+    ghost leaves = { λ w steps rest. (rest.sink.ghost_name ≡ w.sink.ghost_name)
+        × HasEnded w.scribe steps (W.state w.sink.now) (W.state rest.sink.now) w.written rest.waiting };
+
+    #[tactic(auto, using(crate::proofs::WritingLemmas::ends_meet))]
+    fn exchange(self, keeper: Journal<N>) -> (Option<Whole>, Begun<'a, W>) {
+        let Written {
+            scribe,
+            sink,
+            written,
+            ..
+        } = self;
+        let mut producer = keeper.into_steps();
+        let (history, waiting) = scribe.end(written, &mut producer, sink);
+        drop(producer);
+        (whole_of(history), Begun { sink, waiting })
+    }
+}
+
+impl<'a, W: Sink + Send, N: Naming<Global> + Send> Course<JournalRouter<N>, Global>
+    for Writing<'a, W, N> {
+    const IS_BESIDE: bool = true;
+
+    type Router = WholeRouter;
+
+    type Rest = Begun<'a, W>;
+
+    ghost leaves = { λ w steps rest. ((rest.sink.ghost_name ≡ w.sink.ghost_name)
+        × HasEnded w.scribe steps (W.state w.sink.now) (W.state rest.sink.now) w.written rest.waiting)
+        × ((s : Config) → N.config ≡ Some s → IsLegal s (reverse steps)) };
+
+    fn room(&self) -> Room {
+        Room::of(MOST_WAITING)
+    }
+
+    #[tactic(auto, using(crate::proofs::WritingLemmas::legal_by_name))]
+    fn end(ran: Written<'a, W, N>, core: JournalRouter<N>) -> (Option<WholeRouter>, Begun<'a, W>) {
+        let JournalRouter { router } = core;
+        router.is_legal();
+        let (router, rest) = router.exchange(ran);
+        match router {
+            Some(router) => (Some(WholeRouter { router }), rest),
+            None => (None, rest),
+        }
+    }
+
+    fn give_up(self) -> Begun<'a, W> {
+        let Writing { scribe, sink, .. } = self;
+        let waiting = Ok(scribe.give_up());
+        Begun { sink, waiting }
+    }
+}
