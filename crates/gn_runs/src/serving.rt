@@ -1,8 +1,10 @@
 //! Links over TCP, serves and what stops them, loads, and what is told to who watches.
 
+mod crew;
 mod ends;
 mod handles;
 mod in_time;
+mod journal;
 mod limited;
 pub(crate) mod loads;
 pub(crate) mod loopback;

@@ -6,7 +6,7 @@ mod failing;
 mod full;
 mod given_up;
 pub(crate) mod hub;
-mod in_step;
+pub(crate) mod in_step;
 mod report;
 pub(crate) mod runs;
 mod service;

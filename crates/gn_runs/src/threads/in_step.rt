@@ -1,6 +1,6 @@
 //! Readers that read in step, and workers that route in step.
 
-use gn_links::{Gate, Link, LinkFault, LinkReader};
+use gn_links::{Gate, Link, LinkFault, LinkReader, Watch};
 use gn_shake::Role;
 use std::sync::Wait;
 use std::sync::atomic::{AtomicBool, AtomicU64, Ordering};
@@ -59,6 +59,8 @@ impl Gate for Meeting {
         self.meet(worker == 0);
     }
 }
+
+impl Watch for Meeting {}
 
 /// A reader that begins each read together with another.
 #[derive(Drop)]

@@ -17,7 +17,7 @@ use std::test::Fail;
 use std::thread::Threads;
 
 /// Pings with these numbers in their IDs, TTL 7 and Hops 0, one after another.
-fn pings(alloc: Global, link: u8, count: u8) -> Result<Vec<u8>, AllocError> {
+pub(crate) fn pings(alloc: Global, link: u8, count: u8) -> Result<Vec<u8>, AllocError> {
     let mut bytes = Vec::new(alloc);
     for number in 0..count {
         bytes.extend_from_slice(&[link, number])?;
@@ -107,7 +107,7 @@ fn receipts_of<Rd, W>(report: &Report<Rd, W>) -> usize {
 }
 
 /// Whether a run has two workers of 300 receipts each.
-fn are_even<Rd, W>(report: &Report<Rd, W>) -> bool {
+pub(crate) fn are_even<Rd, W>(report: &Report<Rd, W>) -> bool {
     for receipts in &report.workers {
         if receipts.len() != 300 {
             return false;
@@ -130,7 +130,7 @@ fn is_shared<R: Threads + Wait + Sync>(
 }
 
 /// Whether the two of a meeting have begun so often, and neither gave the other up.
-fn have_met(meeting: &Meeting, begun: u64) -> bool {
+pub(crate) fn have_met(meeting: &Meeting, begun: u64) -> bool {
     meeting.begun() == (begun, begun) && !meeting.is_missed.load(Ordering::SeqCst)
 }
 

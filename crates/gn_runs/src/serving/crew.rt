@@ -1,0 +1,122 @@
+//! Two workers of a serve that begin each route together, while its history is written.
+
+use crate::serving::loads::is_legal;
+use crate::serving::loopback::peers::sent;
+use crate::serving::wanted::a_listener;
+use crate::threads::in_step::Meeting;
+use crate::threads::runs::{are_even, have_met, pings};
+use gn_fixtures::OWN;
+use gn_io::{Sink, WriterSink};
+use gn_load::serve_journalled;
+use gn_rules::Config;
+use gn_service::Serving;
+use std::alloc::Global;
+use std::net::{Net, Shutdown, SocketAddr, TcpListener, TcpStream};
+use std::sync::Wait;
+use std::test::Fail;
+use std::thread::Threads;
+use std::time::Clock;
+
+/// A caller that has sent a hundred Pings and its end.
+fn a_caller<N: Net<Listener = TcpListener, Stream = TcpStream>>(
+    net: &N,
+    alloc: Global,
+    at: SocketAddr,
+    number: u8,
+) -> Result<TcpStream, Fail> {
+    let bytes = pings(alloc, number, 100)?;
+    let client = sent(net, at, &bytes);
+    drop(bytes);
+    let client = client?;
+    client.shutdown(Shutdown::Write)?;
+    Ok(client)
+}
+
+/// Six of them.
+fn six_callers<N: Net<Listener = TcpListener, Stream = TcpStream>>(
+    net: &N,
+    alloc: Global,
+    at: SocketAddr,
+) -> Result<Vec<TcpStream>, Fail> {
+    let mut callers = Vec::new(alloc);
+    for number in 0..6 {
+        callers.push(a_caller(net, alloc, at, number)?)?;
+    }
+    Ok(callers)
+}
+
+/// How many steps a serve of them has, of which each of its two workers routes a half.
+fn serve_six<
+    R: Threads
+        + Wait
+        + Net<Listener = TcpListener, Stream = TcpStream>
+        + Clock
+        + AllocGlobal
+        + Sync,
+    W: Sink + Send,
+>(
+    rt: &R,
+    alloc: Global,
+    listener: &TcpListener,
+    meeting: &Meeting,
+    sink: &mut W,
+) -> Result<usize, Fail> {
+    let config = Config::new(8, 1024, 64, 1024, 1024, 100_000, 0, 0, OWN)?;
+    let serving = Serving::UNLIMITED;
+    let served = serve_journalled::<R, Meeting, W>(
+        rt,
+        alloc,
+        listener,
+        &config,
+        6,
+        &[],
+        &serving,
+        2,
+        meeting,
+        sink,
+    );
+    match served {
+        Ok((report, _ran)) => {
+            let (steps, are_even) = (report.history.len(), are_even(&report));
+            drop(report);
+            if are_even {
+                Ok(steps)
+            } else {
+                Err("two workers of 300 routes".into())
+            }
+        }
+        Err(_stopped) => Err("a serve".into()),
+    }
+}
+
+/// Whether what such a serve writes is legal, and whole.
+fn is_shared<
+    R: Threads
+        + Wait
+        + Net<Listener = TcpListener, Stream = TcpStream>
+        + Clock
+        + AllocGlobal
+        + Sync,
+>(rt: &R, alloc: Global, meeting: &Meeting) -> Result<bool, Fail> {
+    let listener = a_listener(rt)?;
+    let callers = six_callers(rt, alloc, listener.local_addr()?)?;
+    let mut sink = WriterSink::new(Vec::new(alloc));
+    let steps = serve_six(rt, alloc, &listener, meeting, &mut sink);
+    let written = sink.into_inner();
+    drop(callers);
+    drop(listener);
+    let is_legal = match steps {
+        Ok(steps) => is_legal(alloc, &written, steps),
+        Err(fail) => Err(fail),
+    };
+    drop(written);
+    is_legal
+}
+
+#[test]
+fn two_workers_meet_beside_a_scribe(rt: HostRuntime) -> Result<(), Fail> {
+    let meeting = Meeting::new();
+    let is_shared = is_shared(&rt, rt.alloc(), &meeting)?;
+    assert!(rt; is_shared && have_met(&meeting, 300));
+    Ok(())
+}

@@ -1,0 +1,336 @@
+//! Serves whose history is written while they go on.
+
+use crate::serving::loopback::peers::{hears, sent};
+use crate::serving::wanted::a_listener;
+use gn_fixtures::{OWN_PONG, PING, usual};
+use gn_io::{Sink, WriterSink};
+use gn_links::NoGate;
+use gn_load::{ServeFault, ServeStopped, print_history, serve_journalled};
+use gn_report::Report;
+use gn_rules::{Config, Step};
+use gn_service::{Ran, Serving};
+use gn_tcp::{TcpReader, TcpWriter};
+use std::alloc::Global;
+use std::io::{self, ErrorKind, Write};
+use std::net::{Net, Shutdown, SocketAddr, TcpListener, TcpStream};
+use std::sync::Wait;
+use std::sync::atomic::{AtomicU64, Ordering};
+use std::test::Fail;
+use std::thread;
+use std::thread::Threads;
+use std::time::{Clock, Duration};
+
+/// What a stream does that takes no more.
+#[derive(Clone, Copy)]
+enum Full {
+    Fails,
+    TakesNothing,
+}
+
+/// A stream that takes one byte a write, and so many in all.
+#[derive(Drop)]
+struct Narrow {
+    taken: Vec<u8>,
+    left: usize,
+    full: Full,
+}
+
+impl Write for Narrow {
+    fn write(&mut self, piece: &[u8]) -> io::Result<usize> {
+        if self.left > 0 {
+            self.left -= 1;
+            return self.taken.write(&piece[..piece.len().min(1)]);
+        }
+        match self.full {
+            Full::Fails => Err(io::Error::from(ErrorKind::StorageFull)),
+            Full::TakesNothing => Ok(0),
+        }
+    }
+
+    fn flush(&mut self) -> io::Result<()> {
+        Ok(())
+    }
+}
+
+/// A stream that counts what it takes.
+#[derive(Drop)]
+struct Counted<'a>(&'a AtomicU64);
+
+impl<'a> Write for Counted<'a> {
+    fn write(&mut self, piece: &[u8]) -> io::Result<usize> {
+        self.0.fetch_add(piece.len() as u64, Ordering::SeqCst);
+        Ok(piece.len())
+    }
+
+    fn flush(&mut self) -> io::Result<()> {
+        Ok(())
+    }
+}
+
+/// Serves one caller, and writes the history as it goes on.
+fn serve_one<
+    's,
+    R: Threads
+        + Wait
+        + Net<Listener = TcpListener, Stream = TcpStream>
+        + Clock
+        + AllocGlobal
+        + Sync,
+    W: Sink + Send,
+>(
+    rt: &R,
+    alloc: Global,
+    listener: &TcpListener,
+    config: &Config,
+    serving: &Serving<'s>,
+    sink: &mut W,
+) -> Result<(Report<TcpReader<'s>, TcpWriter>, Ran), ServeStopped> {
+    serve_journalled::<R, NoGate, W>(
+        rt,
+        alloc,
+        listener,
+        config,
+        1,
+        &[],
+        serving,
+        1,
+        &NoGate,
+        sink,
+    )
+}
+
+/// How a serve ended, and what stands of its history.
+#[derive(Drop)]
+struct Ended {
+    fault: Option<ServeFault>,
+    history: Option<Vec<Step>>,
+}
+
+/// The same of what it answers.
+fn ended_of(served: Result<(Report<TcpReader<'_>, TcpWriter>, Ran), ServeStopped>) -> Ended {
+    match served {
+        Ok((report, _ran)) => {
+            let Report { history, .. } = report;
+            Ended {
+                fault: None,
+                history: Some(history),
+            }
+        }
+        Err(stopped) => {
+            let ServeStopped { fault, history, .. } = stopped;
+            Ended {
+                fault: Some(fault),
+                history,
+            }
+        }
+    }
+}
+
+/// How a serve of one caller ends, of whose history so many bytes can be written, and which were.
+fn serve_narrow<
+    R: Threads
+        + Wait
+        + Net<Listener = TcpListener, Stream = TcpStream>
+        + Clock
+        + AllocGlobal
+        + Sync,
+>(
+    rt: &R,
+    alloc: Global,
+    listener: &TcpListener,
+    config: &Config,
+    most: usize,
+    full: Full,
+) -> (Ended, Vec<u8>) {
+    let mut sink = WriterSink::new(Narrow {
+        taken: Vec::new(alloc),
+        left: most,
+        full,
+    });
+    let serving = Serving::UNLIMITED;
+    let served = serve_one(rt, alloc, listener, config, &serving, &mut sink);
+    let ended = ended_of(served);
+    let Narrow { taken, .. } = sink.into_inner();
+    (ended, taken)
+}
+
+/// Whether a text is a beginning of the text of this history.
+fn begins(alloc: Global, config: &Config, steps: &[Step], written: &[u8]) -> bool {
+    let mut sink = WriterSink::new(Vec::new(alloc));
+    let printed = print_history(alloc, config, steps, &mut sink);
+    let whole = sink.into_inner();
+    let is_begun = printed.is_ok() && whole.as_slice().starts_with(written);
+    drop(whole);
+    is_begun
+}
+
+/// A caller that has sent a Ping and its end.
+fn a_caller<N: Net<Listener = TcpListener, Stream = TcpStream>>(
+    net: &N,
+    at: SocketAddr,
+) -> Result<TcpStream, Fail> {
+    let client = sent(net, at, PING)?;
+    client.shutdown(Shutdown::Write)?;
+    Ok(client)
+}
+
+/// The fault of a serve of such a caller where so many bytes can be written; and whether as many were, and begin the text of the
+/// history that comes back.
+fn written_at_most<
+    R: Threads
+        + Wait
+        + Net<Listener = TcpListener, Stream = TcpStream>
+        + Clock
+        + AllocGlobal
+        + Sync,
+>(rt: &R, alloc: Global, most: usize, full: Full) -> Result<(Option<ServeFault>, bool), Fail> {
+    let config = usual(100)?;
+    let listener = a_listener(rt)?;
+    let client = a_caller(rt, listener.local_addr()?)?;
+    let (ended, written) = serve_narrow(rt, alloc, &listener, &config, most, full);
+    drop(client);
+    drop(listener);
+    let is_begun = match &ended.history {
+        Some(steps) => begins(alloc, &config, steps, &written),
+        None => false,
+    };
+    let is_right = is_begun && written.len() == most;
+    let fault = ended.fault;
+    drop(written);
+    drop(ended);
+    Ok((fault, is_right))
+}
+
+/// Each of the first 200 writes that may fail ends the run, and each that may take nothing.
+#[test]
+fn a_write_that_fails_ends_the_run(rt: HostRuntime) -> Result<(), Fail> {
+    for most in 0..200 {
+        for full in [Full::Fails, Full::TakesNothing] {
+            let ended = written_at_most(&rt, rt.alloc(), most, full)?;
+            assert_eq!(rt; ended, (Some(ServeFault::Write), true), "{most}");
+        }
+    }
+    Ok(())
+}
+
+/// What a serve writes of a caller that sends a Ping and its end.
+const ONE_PING: &str = "\
+gnutella-history 1
+config 4 8 4 8 8 100
+own eeeeeeeeeeeeeeeeeeeeeeeeeeeeeeee 127.0.0.1 6346 5 40
+0 connect = connected 1
+0 admit 1 a1a1a1a1a1a1a1a1a1a1a1a1a1a1a1a100070000000000 = admitted 0
+2 route 0 = routed local 1+a1a1a1a1a1a1a1a1a1a1a1a1a1a1a1a10101000e000000ca187f0000010500000028000000
+1 take 1 = taken a1a1a1a1a1a1a1a1a1a1a1a1a1a1a1a10101000e000000ca187f0000010500000028000000
+1 close 1 = closed 0
+end
+";
+
+/// Whether a serve of such a caller ends well, and writes that.
+fn is_written<
+    R: Threads
+        + Wait
+        + Net<Listener = TcpListener, Stream = TcpStream>
+        + Clock
+        + AllocGlobal
+        + Sync,
+>(rt: &R, alloc: Global) -> Result<bool, Fail> {
+    let config = usual(100)?;
+    let listener = a_listener(rt)?;
+    let client = a_caller(rt, listener.local_addr()?)?;
+    let (ended, written) = serve_narrow(rt, alloc, &listener, &config, 1_000_000, Full::Fails);
+    drop(client);
+    drop(listener);
+    let is_right = ended.fault.is_none() && written.as_slice() == ONE_PING.as_bytes();
+    drop(written);
+    drop(ended);
+    Ok(is_right)
+}
+
+#[test]
+fn a_worked_run_is_written(rt: HostRuntime) -> Result<(), Fail> {
+    assert!(rt; is_written(&rt, rt.alloc())?);
+    Ok(())
+}
+
+/// Whether a client that has heard its Pong sees that something was written, and goes then.
+fn sees_written<R: Clock>(rt: &R, client: &mut TcpStream, written: &AtomicU64) -> bool {
+    let is_answered = hears(client, gn_shake::consent()) && hears(client, OWN_PONG);
+    for _ in 0..10_000u32 {
+        if written.load(Ordering::SeqCst) > 0 {
+            break;
+        }
+        thread::sleep(rt, Duration::from_millis(1));
+    }
+    let is_seen = written.load(Ordering::SeqCst) > 0;
+    client.shutdown(Shutdown::Write).is_ok() && is_answered && is_seen
+}
+
+/// Whether a serve of one caller ends well, whose history is counted as it is written.
+fn is_served<
+    R: Threads
+        + Wait
+        + Net<Listener = TcpListener, Stream = TcpStream>
+        + Clock
+        + AllocGlobal
+        + Sync,
+>(rt: &R, alloc: Global, listener: &TcpListener, written: &AtomicU64) -> bool {
+    let Ok(config) = usual(100) else {
+        return false;
+    };
+    let mut sink = WriterSink::new(Counted(written));
+    let serving = Serving::UNLIMITED;
+    let served = serve_one(rt, alloc, listener, &config, &serving, &mut sink);
+    let Ended { fault, .. } = ended_of(served);
+    drop(sink);
+    fault.is_none()
+}
+
+/// Whether such a serve ends well, and its client sees that beside it.
+fn beside<
+    R: Threads
+        + Wait
+        + Net<Listener = TcpListener, Stream = TcpStream>
+        + Clock
+        + AllocGlobal
+        + Sync,
+>(
+    rt: &R,
+    alloc: Global,
+    listener: &TcpListener,
+    client: &mut TcpStream,
+    written: &AtomicU64,
+) -> bool {
+    let (is_seen, is_served) = thread::join(
+        rt,
+        move || sees_written(rt, client, written),
+        move || is_served(rt, alloc, listener, written),
+    );
+    is_seen && is_served
+}
+
+/// The same with a client that sends a Ping.
+fn is_seen_and_served<
+    R: Threads
+        + Wait
+        + Net<Listener = TcpListener, Stream = TcpStream>
+        + Clock
+        + AllocGlobal
+        + Sync,
+>(rt: &R, alloc: Global) -> Result<bool, Fail> {
+    let listener = a_listener(rt)?;
+    let mut client = sent(rt, listener.local_addr()?, PING)?;
+    let written = AtomicU64::new(0);
+    let is_right = beside(rt, alloc, &listener, &mut client, &written);
+    drop(written);
+    drop(client);
+    drop(listener);
+    Ok(is_right)
+}
+
+/// What was done is written before the run is over.
+#[test]
+fn steps_are_written_while_the_run_goes_on(rt: HostRuntime) -> Result<(), Fail> {
+    assert!(rt; is_seen_and_served(&rt, rt.alloc())?);
+    Ok(())
+}
