@@ -2,7 +2,7 @@
 
 ghost use Rattle.gn_rules.specs.Answer.{IsLegal};
 ghost use Rattle.gn_rules.specs.Statistics.{stats_of};
-ghost use Rattle.std.specs.Prelude.{◌≡◌, IfSome, length, reverse, true};
+ghost use Rattle.std.specs.Prelude.{◌≡◌, IfSome, None, Some, if◌then◌else◌, length, reverse, true};
 
 use gn_hub::Hub;
 use gn_rules::{Config, Historian, Stats, Step, is_same_config};
@@ -64,5 +64,12 @@ pub fn kept<L: Ledger, C: Historian<A>, A: Allocator + Copy>(
         ..
     } = close(config, hub);
     let is_kept = is_configured && is_as_long(config, is_full, steps.len());
+    given(is_kept, steps)
+}
+
+/// The history, where it is kept.
+fn given<A: Allocator>(is_kept: bool, steps: Vec<Step<A>, A>) -> Option<Vec<Step<A>, A>>
+    ensures { result ≡ (if is_kept then Some steps else None) }
+{
     if is_kept { Some(steps) } else { None }
 }
