@@ -1,3 +1,4 @@
+pub mod EntryLemmas
 pub mod HeaderLemmas
 pub mod LineLemmas
 pub mod NumberedLemmas

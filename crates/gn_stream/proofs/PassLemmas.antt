@@ -35,7 +35,7 @@ ended_then a b c xs ys first second = record {
 }
 
 -- what may come after the second may come after the first, behind what the second read
-may_before : (b c : Place) (ys more : List ℕ) → HasEnded b c ys → MayCome c.reading more → MayCome b.reading (ys ++ more)
+pub may_before : (b c : Place) (ys more : List ℕ) → HasEnded b c ys → MayCome c.reading more → MayCome b.reading (ys ++ more)
 may_before b c ys more ended may = λ is. let none = ended.none is in ap (λ (zs : List ℕ). zs ++ more) none.0 ∙ may none.1
 
 pub passes_then : (First Second Both : Left → Left → Type 0) (a b c : Place) → ((l m n : Left) → First l m → Second m n → Both l n)

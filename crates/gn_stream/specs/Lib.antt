@@ -3,6 +3,7 @@ pub mod Left
 pub mod Unfinished
 pub mod Reading
 pub mod Steps
+pub mod Entries
 -- Words of the proofs.
 pub mod Lines
 pub mod Numbered

@@ -49,6 +49,17 @@ pub record HasEnded (old new : Place) (bytes : List ℕ) : Type 0 where
   pub none : old.reading.is_ended ≡ true → (bytes ≡ []) × (new.reading.is_ended ≡ true)
   pub end : (old.reading.is_ended ≡ true → IsAtEnd old.source.rest) → new.reading.is_ended ≡ true → IsAtEnd new.source.rest
 
+-- a source gave these bytes, whether a read failed or not
+pub record Gives (old new : SourceState) (bytes : List ℕ) : Type 0 where
+  pub told : new.told ≡ old.told ++ bytes
+  pub rest : Consumes old.rest new.rest bytes
+
+-- a source went on, and its reader with it, as far as it went well
+pub record Goes (old new : Place) : Type 0 where
+  pub bytes : List ℕ
+  pub given : Gives old.source new.source bytes
+  pub ended : HasEnded old new bytes
+
 -- what is left where these bytes are still to come
 abbrev pub left_of : Reading → List ℕ → Left
 left_of reading more =

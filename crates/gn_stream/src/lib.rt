@@ -2,6 +2,7 @@
 #![tactic(auto)]
 
 mod ending;
+mod entries;
 mod fault;
 mod header;
 mod lines;
@@ -9,6 +10,7 @@ mod numbered;
 mod piece;
 mod steps;
 
+pub use entries::{Due, Entry, next_entry};
 pub use fault::StreamFault;
 pub use header::read_history_header;
 pub use lines::LineReader;

@@ -1,10 +1,10 @@
 //! The lines of an input that is never whole in memory.
 
-ghost use Rattle.std.specs.Prelude.{◌≡◌, ◌≢◌, ◌≤◌, ◌<◌, ◌+◌, ◌++◌, ◌∷◌, [], All, false, length, true, IfErr, IfOk, IfNone, IfSome, OnOk};
+ghost use Rattle.std.specs.Prelude.{◌≡◌, ◌≢◌, ◌≤◌, ◌<◌, ◌+◌, ◌++◌, ◌∷◌, [], All, false, length, true, IfErr, IfOk, IfNone, IfSome, OnErr, OnOk};
 ghost use Rattle.gn_stream.specs.Left.{line_limit};
 ghost use Rattle.gn_capture.specs.Histories.{ending};
 ghost use Rattle.gn_stream.specs.Pieces.{line_at};
-ghost use Rattle.gn_stream.specs.Reading.{IsPieceFault, fresh, fresh_cut, place};
+ghost use Rattle.gn_stream.specs.Reading.{Gives, Goes, IsPieceFault, fresh, fresh_cut, place};
 ghost use Rattle.gn_stream.specs.Lines.{IsCounted, IsLastFault, IsLastOf, IsLineRead, IsOver, TakesOn};
 ghost use Rattle.gn_stream.specs.Unfinished.{ending_after, is_added};
 ghost use Rattle.gn_stream.specs.declared.ending.Ending.TheVariants.{Added, Due};
@@ -118,6 +118,14 @@ impl<A: Allocator> LineReader<A> {
         self.next
     }
 
+    /// Whether the next line is read already, with its line feed, so that the source isn't asked for it.
+    pub fn has_line(&self) -> bool
+        ensures none { result ≡ false → All (λ b. b ≢ 10) self.now.held }
+        ensures some { result ≡ true → All (λ b. b ≢ 10) self.now.held → ⊥ }
+    {
+        self.piece.has_line()
+    }
+
     /// Whether `end` was given that doesn't stand in the text.
     pub fn has_added_end(&self) -> bool
         ensures { result ≡ is_added self.now.ending }
@@ -152,6 +160,8 @@ impl<A: Allocator> LineReader<A> {
         ensures more { IfOk result (λ more. more ≡ true → 0 < length self.new.held) }
         ensures end { IfOk result (λ more. more ≡ false → (self.new.held ≡ []) × (self.new.is_ended ≡ true)) }
         ensures fault { IfErr result (λ fault. IsPieceFault fault (S.state source.old) (S.state source.new)) }
+        ensures goes { OnErr result (Gives (S.state source.old) (S.state source.new) []) }
+        ensures begun { OnErr result ((self.old.is_ended ≡ false) × (self.new.is_ended ≡ false)) }
     {
         if !self.piece.is_empty() {
             return Ok(true);
@@ -177,6 +187,7 @@ impl<A: Allocator> LineReader<A> {
         ensures kept { OnOk result ((self.new.is_ended ≡ self.old.is_ended) × (self.new.next ≡ self.old.next)
             × (self.new.ending ≡ self.old.ending)) }
         ensures fault { IfErr result (λ fault. fault ≡ NoMemory) }
+        ensures still { OnErr result (self.new.is_ended ≡ self.old.is_ended) }
     {
         if self.line().is_empty() {
             self.is_copied = false;
@@ -217,6 +228,7 @@ impl<A: Allocator> LineReader<A> {
         ensures counted { IfOk result (λ number. IsCounted number ending self.old self.new) }
         ensures ending { OnOk result (self.new.ending ≡ Added) }
         ensures fault { IfErr result (λ fault. IsLastFault Due fault self.old self.new) }
+        ensures still { OnErr result (self.new.is_ended ≡ self.old.is_ended) }
     {
         self.copied.clear();
         self.is_copied = true;
@@ -230,7 +242,8 @@ impl<A: Allocator> LineReader<A> {
 
     /// What is given of the line that no line feed ends.
     fn count_last(&mut self) -> Result<Option<u64>, InputFault>
-        ensures { IsLastOf self.old.ending result self.old self.new }
+        ensures last { IsLastOf self.old.ending result self.old self.new }
+        ensures still { OnErr result (self.new.is_ended ≡ self.old.is_ended) }
     {
         match self.ending {
             Ending::Own if !self.line().is_empty() => Ok(Some(self.count_line()?)),
@@ -241,7 +254,8 @@ impl<A: Allocator> LineReader<A> {
 
     /// The number of the next line, which then is the one that was given last; or `None` after the last.
     pub(crate) fn next_line<S: Source>(&mut self, source: &mut S) -> Result<Option<u64>, InputFault>
-        ensures { IsLineRead result (place (S.state source.old) self.old) (place (S.state source.new) self.new) }
+        ensures read { IsLineRead result (place (S.state source.old) self.old) (place (S.state source.new) self.new) }
+        ensures goes { OnErr result (Goes (place (S.state source.old) self.old) (place (S.state source.new) self.new)) }
     {
         self.clear_line();
         while self.is_short() {

@@ -1,10 +1,10 @@
 //! A piece of an input, as far as it wasn't gone over, and the line that was found in it.
 
-ghost use Rattle.std.specs.Prelude.{◌≡◌, ◌≢◌, ◌<◌, ◌++◌, ◌∷◌, [], All, false, length, true, IfErr, IfOk, OnOk};
+ghost use Rattle.std.specs.Prelude.{◌≡◌, ◌≢◌, ◌<◌, ◌++◌, ◌∷◌, [], All, false, length, true, IfErr, IfOk, OnErr, OnOk};
 ghost use Rattle.std.specs.Io.KnownBytes.{IsAtEnd};
 ghost use Rattle.gn_io.specs.declared.input.InputFault.TheVariants.{NoMemory};
 ghost use Rattle.gn_stream.specs.Pieces.{untouched};
-ghost use Rattle.gn_stream.specs.Reading.{HasGiven, IsPieceFault};
+ghost use Rattle.gn_stream.specs.Reading.{Gives, HasGiven, IsPieceFault};
 
 use gn_io::{InputFault, Source};
 use memchr::memchr;
@@ -85,6 +85,17 @@ impl<A: Allocator> Piece<A> {
         &self.bytes[self.at..self.end]
     }
 
+    /// Whether a line feed stands in what is left of it.
+    pub(crate) fn has_line(&self) -> bool
+        ensures none { result ≡ false → All (λ b. b ≢ 10) self.now.held }
+        ensures some { result ≡ true → All (λ b. b ≢ 10) self.now.held → ⊥ }
+    {
+        match memchr(b'\n', self.left()) {
+            Some(_) => true,
+            None => false,
+        }
+    }
+
     /// Goes over what is left of it up to the first line feed, and over this, or over all that is left; what stands before the line
     /// feed is the line that was found. Whether one stands there.
     pub(crate) fn take_line(&mut self) -> bool
@@ -115,6 +126,7 @@ impl<A: Allocator> Piece<A> {
         ensures more { IfOk result (λ more. more ≡ true → 0 < length self.new.held) }
         ensures end { IfOk result (λ more. more ≡ false → (self.new.held ≡ []) × IsAtEnd (S.state source.new).rest) }
         ensures fault { IfErr result (λ fault. IsPieceFault fault (S.state source.old) (S.state source.new)) }
+        ensures goes { OnErr result (Gives (S.state source.old) (S.state source.new) []) }
     {
         self.from = 0;
         self.to = 0;
