@@ -16,7 +16,7 @@ use Rattle.gn_capture.specs.Histories.{history_of}
 use Rattle.gn_stream.specs.Left.{all_lines, finished_lines}
 use Rattle.gn_replay.specs.Audits.{AppendsCutVerdict, AppendsVerdict, HasCutStopped, HasStopped as HasAuditStopped, cut_history_of}
 use Rattle.gn_replay.specs.Explained.{AppendsExplained, HasExplainedStopped}
-use Rattle.gn_show.specs.Shown.{AppendsShown, HasShowStopped}
+use Rattle.gn_show.specs.Shown.{AppendsShown, HasShowStopped, IsShowOn}
 use Rattle.gn_show.specs.declared.form.View.{View}
 use Rattle.gn_load.specs.Faults.{IsLoadFault}
 use Rattle.gn_load.specs.Loads.{AppendsLoad, HasStopped as HasLoadStopped, load_of}
@@ -75,10 +75,11 @@ pub record IsUnfinishedAnswer (s : Streams) (answer : Result Legality ReplayFaul
       AppendsCutVerdict Global text legality s.sink.written s.sink_new.written))
   pub stopped : IfErr answer (λ fault. HasCutStopped Global fault (text_of s) s.sink.written s.sink_new.written)
 
--- what show answers: the input was a history, no longer than it may be, and what is shown of it was written; or it stopped,
--- at a fault that the streams confirm, and what was written then is a prefix of that
+-- what show answers: the input was a history, none of whose lines is longer than a line may be, and what is shown of it was written;
+-- or it stopped, at a fault that the streams confirm, and what was written then is a prefix of what is shown of the steps before
+-- the input's first fault
 pub record IsShowAnswer (view : View) (s : Streams) (answer : Result (Unit {0}) ReplayFault) : Type 0 where
-  pub answered : IsAnswerOn (history_of {A = Global}) s answer
+  pub answered : IsShowOn view s answer
   pub written : OnOk answer (IfSome (text_of s) (λ text. AppendsShown view text s.sink.written s.sink_new.written))
   pub stopped : IfErr answer (λ fault. HasShowStopped view fault (text_of s) s.sink.written s.sink_new.written)
 

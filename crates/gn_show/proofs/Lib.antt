@@ -3,5 +3,6 @@ pub mod FloatLemmas
 pub mod LinesLemmas
 pub mod RowLemmas
 pub mod ShowLemmas
+pub mod ShowingLemmas
 pub mod TimeLemmas
 pub mod ValueLemmas

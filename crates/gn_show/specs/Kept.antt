@@ -5,11 +5,9 @@ use Rattle.std.specs.Ordering.{nat_cmp}
 use Rattle.std.specs.declared.alloc.Global.{Global}
 use Rattle.gn_rules.specs.Flight.{Admission}
 use Rattle.gn_rules.specs.declared.receipt.Step.{Step}
-use Rattle.gn_text.specs.Lines.{lines_of}
 use Rattle.gn_show.specs.Rows.{Row}
 use Rattle.gn_show.specs.Subjects.{waiting}
-use Rattle.gn_show.specs.Times.{Place, times_from}
-use Rattle.gn_show.specs.declared.clock.Clock.{Clock}
+use Rattle.gn_show.specs.Times.{Place}
 use Rattle.gn_show.specs.declared.clock.Moment.{Moment}
 use Rattle.gn_show.specs.declared.flight.Flight.{Flight}
 use Rattle.gn_show.specs.declared.flight.Subject.{Subject}
@@ -39,10 +37,6 @@ seen subject = option_map (λ s. record { origin = s.origin; packet = s.packet.n
 -- where a step stands
 abbrev pub placed : Moment → Place
 placed moment = record { index = moment.index; time = moment.time.now }
-
--- the times that are left
-abbrev pub times_left : Clock → List (List ℕ)
-times_left clock = times_from clock.time.now (lines_of clock.rest.now)
 
 -- what a row says
 abbrev pub row_seen : Shown → Row

@@ -7,3 +7,5 @@ pub mod Subjects
 pub mod Times
 pub mod Values
 pub mod Words
+-- Words of the proofs.
+pub mod Showing

@@ -1,5 +1,5 @@
 -- What is shown of a history.
-use Rattle.std.specs.Prelude.{◌≡◌, ◌⊎◌, ◌+◌, ◌-◌, ℕ, List, [], ◌∷◌, ◌++◌, codes, length, reverse, take, Option, IfSome, Result, Ok}
+use Rattle.std.specs.Prelude.{◌≡◌, ◌+◌, ◌-◌, ℕ, List, [], ◌∷◌, ◌++◌, codes, length, reverse, take, Option, Some, None, IfErr, IfSome, IsOk, OnOk, Result, Ok}
 use Rattle.std.specs.Io.KnownBytes.{Appends, Keeps}
 use Rattle.std.specs.declared.alloc.Global.{Global}
 use Rattle.serde_json.specs.Written.{compact_text}
@@ -7,12 +7,17 @@ use Rattle.gn_rules.specs.Flight.{Admission}
 use Rattle.gn_rules.specs.Statistics.{stats_of}
 use Rattle.gn_rules.specs.declared.config.Own.{Own}
 use Rattle.gn_rules.specs.declared.receipt.Step.{Step}
-use Rattle.gn_rules.specs.declared.statistics.Stats.{Stats}
 use Rattle.gn_rules.specs.declared.limits.Numbers.{Numbers}
 use Rattle.gn_text.specs.Statistics.{stats_text}
-use Rattle.gn_text.specs.declared.fault.CaptureFault.{CaptureFault}
 use Rattle.gn_capture.specs.Histories.{history_of}
 use Rattle.gn_io.specs.Parts.{AppendsPart}
+use Rattle.gn_io.specs.Streams.{HasWriteFailed, NoneFailed, Streams, text_of as text_given}
+use Rattle.gn_text.specs.declared.title.Text.TheVariants.{History}
+use Rattle.gn_text.specs.Header.{header_of}
+use Rattle.gn_text.specs.Parsed.{line_after, parsed_of}
+use Rattle.gn_stream.specs.Entries.{begun_after}
+use Rattle.gn_stream.specs.Left.{AreShort, all_lines}
+use Rattle.gn_replay.specs.Faults.{IsAuditFault}
 use Rattle.gn_replay.specs.declared.fault.ReplayFault.{ReplayFault}
 use Rattle.gn_replay.specs.declared.fault.ReplayFault.TheVariants as fault
 use Rattle.gn_show.specs.declared.form.Form.{Form}
@@ -75,30 +80,33 @@ AppendsShown view text old new = (out : List ℕ) × IsShown view text out × Ap
 abbrev pub AppendsShownPart : View → List ℕ → Option (List ℕ) → Option (List ℕ) → Type 0
 AppendsShownPart view text old new = (out : List ℕ) × IsShown view text out × AppendsPart old new out
 
--- what was written where it stopped: at Write a prefix of what is shown, at NoMemory nothing or a prefix of it, at any
--- other fault nothing
+-- what is shown of steps that stand before the first fault of a text; nothing, where that is in its header
+abbrev pub begun_text : Form → List (List ℕ) → Option (List (Step Global)) → List ℕ
+begun_text form times (Some steps) = text_of form times steps
+begun_text form times None = []
+
+-- what is shown of the steps before the first fault of a text; of a history all of its steps
+abbrev pub shown_begun : Form → List ℕ → List ℕ
+shown_begun form text =
+    begun_text form (step_times text) (begun_after (header_of History (line_after text) (parsed_of text)))
+
+-- what was written where it stopped: at a fault of the text exactly the lines of the steps before it, at any other fault a prefix
+-- of them; of the counters a prefix of their line at Write, else nothing
 abbrev pub HasShowStopped : View → ReplayFault → Option (List ℕ) → Option (List ℕ) → Option (List ℕ) → Type 0
-HasShowStopped view fault.Write rest old new = IfSome rest (λ text. AppendsShownPart view text old new)
-HasShowStopped view fault.NoMemory rest old new =
-    IfSome rest (λ text. Keeps old new ⊎ AppendsShownPart view text old new)
-HasShowStopped view fault rest old new = Keeps old new
+HasShowStopped (Steps form) (fault.Capture at) rest old new = IfSome rest (λ text. Appends old new (shown_begun form text))
+HasShowStopped (Steps form) fault rest old new = IfSome rest (λ text. AppendsPart old new (shown_begun form text))
+HasShowStopped Counters fault.Write rest old new = IfSome rest (λ text. AppendsShownPart Counters text old new)
+HasShowStopped Counters fault rest old new = Keeps old new
 
--- what is left of a history says steps, and these are their counters
-abbrev pub AreCounted : Stats → Result (List (Step Global)) CaptureFault → Type 0
-AreCounted stats left = (steps : List (Step Global)) × (left ≡ Ok steps) × (stats ≡ stats_of (reverse steps))
+-- when each fault comes: as an audit's; but that a write of steps failed says nothing of the text, which isn't read to its end then
+abbrev pub IsShowFault : View → ReplayFault → Streams → Type 0
+IsShowFault (Steps form) fault.Write s = HasWriteFailed s.sink s.sink_new
+IsShowFault view fault s = IsAuditFault fault all_lines (history_of {A = Global}) s
 
--- a text is a history, and these are its counters
-abbrev pub IsCounted : Stats → List ℕ → Type 0
-IsCounted stats text =
-    (settings : Numbers × Own) × (steps : List (Step Global)) × (history_of text ≡ Ok (settings, steps))
-    × (stats ≡ stats_of (reverse steps))
-
--- what is left of a history says steps, and known bytes grew by their lines at these times
-abbrev pub AppendsLines : Form → List (List ℕ) → Result (List (Step Global)) CaptureFault → Option (List ℕ) → Option (List ℕ) → Type 0
-AppendsLines form times left old new =
-    (steps : List (Step Global)) × (left ≡ Ok steps) × Appends old new (text_of form times steps)
-
--- what is left of a history says steps, and known bytes grew by a prefix of their lines at these times
-abbrev pub AppendsLinesPart : Form → List (List ℕ) → Result (List (Step Global)) CaptureFault → Option (List ℕ) → Option (List ℕ) → Type 0
-AppendsLinesPart form times left old new =
-    (steps : List (Step Global)) × (left ≡ Ok steps) × AppendsPart old new (text_of form times steps)
+-- what is answered: at Ok no line of the input is longer than a line may be, the input is a history, and no read and no write failed; an Err
+-- is a fault that the streams confirm
+pub record IsShowOn (view : View) (s : Streams) (answer : Result (Unit {0}) ReplayFault) : Type 0 where
+  pub short : OnOk answer (IfSome (text_given s) (λ text. AreShort (all_lines text).lines))
+  pub valid : OnOk answer (IfSome (text_given s) (λ text. IsOk (history_of {A = Global} text)))
+  pub unfailed : OnOk answer (NoneFailed s)
+  pub fault : IfErr answer (λ fault. IsShowFault view fault s)

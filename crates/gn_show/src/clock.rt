@@ -1,12 +1,12 @@
 //! The times that comments of a history give its steps.
 
-ghost use Rattle.std.specs.Prelude.{◌≡◌, [], drop, get_or};
+ghost use Rattle.std.specs.Prelude.{◌≡◌, OnOk};
 ghost use Rattle.std.specs.List.{list_all};
 ghost use Rattle.std.specs.Char.{is_ascii_digit};
-ghost use Rattle.gn_show.specs.Kept.{times_left};
-ghost use Rattle.gn_show.specs.Times.{is_parts, is_seconds, is_time, step_times, time_below};
+ghost use Rattle.gn_show.specs.Times.{is_parts, is_seconds, is_time, time_below};
 
-use gn_text::{first_line, is_skipped, is_word};
+use gn_text::is_word;
+use std::alloc::AllocError;
 
 /// Where a step stands.
 #[derive(Clone, Copy)]
@@ -15,13 +15,6 @@ pub(crate) struct Moment<'a> {
     pub(crate) index: u32,
     /// Its time, in digits; empty where none is known.
     pub(crate) time: &'a [u8],
-}
-
-/// What is left of a history's text, read for the times that its comments give.
-#[derive(Drop)]
-pub(crate) struct Clock<'a> {
-    rest: &'a [u8],
-    time: &'a [u8],
 }
 
 /// Whether all bytes are digits.
@@ -62,48 +55,15 @@ fn is_time(text: &[u8]) -> bool
     is_seconds(&text[..dot]) && is_parts(&text[dot..])
 }
 
-/// The time below a comment, where this was the time above it.
+/// Puts the time below a comment in place of the time above it.
 #[tactic(auto, using(std::proofs::lemmas::List::take_min, std::proofs::lemmas::List::drop_min))]
-fn time_below<'a>(last: &'a [u8], line: &'a [u8]) -> &'a [u8]
-    ensures { result.now ≡ time_below last.now line.now }
+pub(crate) fn pass_comment(time: &mut Vec<u8>, line: &[u8]) -> Result<(), AllocError>
+    ensures { OnOk result (time.new.items ≡ time_below time.old.items line.now) }
 {
-    let (title, time) = line.split_at(4.min(line.len()));
-    if is_word(title, b"# t ") && is_time(time) {
-        time
-    } else {
-        last
+    let (title, digits) = line.split_at(4.min(line.len()));
+    if is_word(title, b"# t ") && is_time(digits) {
+        time.clear();
+        time.extend_from_slice(digits)?;
     }
-}
-
-impl<'a> Clock<'a> {
-    /// That of a history's steps.
-    #[tactic(auto, using(crate::proofs::TimeLemmas::three_gone))]
-    pub(crate) fn of(text: &'a [u8]) -> Self
-        ensures { times_left result ≡ step_times text.now }
-    {
-        let mut clock = Clock {
-            rest: text,
-            time: &[],
-        };
-        clock.next_time();
-        clock.next_time();
-        clock.next_time();
-        clock
-    }
-
-    /// The time of the next line that isn't skipped, which is then gone. None is empty.
-    #[tactic(auto, using(crate::proofs::TimeLemmas::time_skipped, crate::proofs::TimeLemmas::time_given, crate::proofs::TimeLemmas::time_gone, crate::proofs::TimeLemmas::none_given, crate::proofs::TimeLemmas::none_gone))]
-    pub(crate) fn next_time(&mut self) -> &'a [u8]
-        ensures time { result.now ≡ get_or (times_left self.old) 0 [] }
-        ensures rest { times_left self.new ≡ drop 1 (times_left self.old) }
-    {
-        while let Some((line, rest)) = first_line(self.rest) {
-            self.rest = rest;
-            if !is_skipped(line) {
-                return self.time;
-            }
-            self.time = time_below(self.time, line);
-        }
-        &[]
-    }
+    Ok(())
 }

@@ -11,10 +11,10 @@ mod payload_json;
 mod plain;
 mod plain_descriptor;
 mod rows;
+mod showing;
 mod shows;
 mod stats;
 mod step_json;
-mod steps;
 mod text;
 
 pub use form::{Form, View};

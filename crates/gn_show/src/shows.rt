@@ -1,53 +1,31 @@
 //! A history shown from stream to stream.
 
-ghost use Rattle.std.specs.Prelude.{◌≤◌, Some, length, IfErr, IfSome, IsOk, OnOk};
-ghost use Rattle.gn_capture.specs.Histories.{history_of};
-ghost use Rattle.gn_io.specs.Input.{input_limit};
-ghost use Rattle.gn_io.specs.Streams.{NoWriteFailed, streams, text_between};
-ghost use Rattle.gn_replay.specs.Faults.{IsAnswerOn, IsReplayFault, input_of};
-ghost use Rattle.gn_show.specs.Shown.{AppendsShown, HasShowStopped};
+ghost use Rattle.std.specs.Prelude.{IfErr, IfSome, OnOk};
+ghost use Rattle.gn_io.specs.Streams.{streams, text_between};
+ghost use Rattle.gn_show.specs.Shown.{AppendsShown, HasShowStopped, IsShowOn};
 
 use crate::form::View;
-use crate::stats::{count_text, write_stats};
-use crate::steps::write_text;
-use gn_io::{Sink, Source, read_input};
+use crate::showing::show_steps;
+use crate::stats::show_stats;
+use gn_io::{Sink, Source};
 use gn_replay::ReplayFault;
 use std::alloc::Global;
 
-/// Shows a history's text.
-fn show_text<W: Sink>(
-    alloc: Global,
-    view: View,
-    text: &[u8],
-    sink: &mut W,
-) -> Result<(), ReplayFault>
-    requires { length text.now ≤ input_limit }
-    ensures valid { OnOk result (IsOk (history_of {A = Global} text.now)) }
-    ensures written { OnOk result (AppendsShown view text.now (W.state sink.old).written (W.state sink.new).written) }
-    ensures writes { OnOk result (NoWriteFailed (W.state sink.old) (W.state sink.new)) }
-    ensures stopped { IfErr result (λ fault. HasShowStopped view fault (Some text.now)
-        (W.state sink.old).written (W.state sink.new).written) }
-    ensures fault { IfErr result (λ fault. IsReplayFault fault (history_of {A = Global})
-        (streams (input_of text.now) (input_of text.now) (W.state sink.old) (W.state sink.new))) }
-{
-    let stats = count_text(alloc, text)?;
-    match view {
-        View::Steps(form) => write_text(alloc, form, text, sink),
-        View::Stats => write_stats(alloc, &stats, sink),
-    }
-}
-
-/// Reads a history's text whole, and writes what is shown of it: the lines of each step, which is read and written one after
-/// another, in blocks of at least 32,768 bytes, the last one shorter; or the line of its counters. Whether the history is
-/// legal isn't looked at. An `Ok` says that no read failed and no write failed or took nothing. After an `Err` a prefix of
-/// it was written, and nothing where the history wasn't read or has a fault.
+/// Reads a history's text to its end, and writes what is shown of it: the lines of each step; or the line of its counters. Whether the
+/// history is legal isn't looked at. The text may have any length, and a line of it at most 67,108,864 bytes: no more is held than a
+/// line, 16,384 bytes of the text, what is shown of one step and waits, and what was admitted and isn't routed.
+///
+/// Lines of steps are written in blocks of at least 32,768 bytes, and all that wait before the source is asked for more, where the next
+/// line isn't read yet, so that what is shown is seen while the source waits. The text is read no further than its first fault, and the
+/// lines of the steps before it are written then. Counters are written at the end alone. A history of more than 4,294,967,295 steps is
+/// `NoMemory`. An `Ok` says that no read failed and no write failed or took nothing.
 pub fn show<S: Source, W: Sink>(
     alloc: Global,
     view: View,
     source: &mut S,
     sink: &mut W,
 ) -> Result<(), ReplayFault>
-    ensures answer { IsAnswerOn (history_of {A = Global})
+    ensures answer { IsShowOn view
         (streams (S.state source.old) (S.state source.new) (W.state sink.old) (W.state sink.new)) result }
     ensures written { OnOk result (IfSome (text_between (S.state source.old) (S.state source.new)) (λ text.
         AppendsShown view text (W.state sink.old).written (W.state sink.new).written)) }
@@ -55,6 +33,8 @@ pub fn show<S: Source, W: Sink>(
         HasShowStopped view fault (text_between (S.state source.old) (S.state source.new))
         (W.state sink.old).written (W.state sink.new).written) }
 {
-    let text = read_input(alloc, source)?;
-    show_text(alloc, view, &text, sink)
+    match view {
+        View::Steps(form) => show_steps(alloc, form, source, sink),
+        View::Stats => show_stats(alloc, source, sink),
+    }
 }

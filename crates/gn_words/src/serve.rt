@@ -54,8 +54,7 @@ examples/gn.service is a unit for a service manager, with a standard input that 
 A run that would make more than its most steps ends there, with the fault `history full`: one
 neighbour alone makes a million in a second. With `--stop-early` the router stops before, and is
 done; what it still has to read of a piece and to write takes the last tenth of the steps. An audit
-has no limit. `gn show` reads at most 64 MiB, some 600,000 small steps, and fewer the more neighbours
-there are: `--steps 300000` keeps below it with 64 of them.
+and `gn show` have no limit.
 
 Example: two routers of which the second calls the first, in whichever order they start. Both end
 after 5 seconds.
@@ -172,8 +171,7 @@ How many descriptors of one peer may be in flight at once, 0 to 4096;
         takes: Takes::Usual("N", "1000000"),
         help: "\
 The most steps of the history, 1 to 1000000; a run that needs more ends
-with `fault: history full`. With 64 neighbours 300000 of small packets
-are within the 64 MiB that `gn show` reads",
+with `fault: history full`",
     },
 ];
 

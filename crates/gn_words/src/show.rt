@@ -23,8 +23,8 @@ const USAGE: &str =
 /// What it reads and prints, with an example.
 const TEXTS: &str = "\
 Standard input is a history, which need not be legal. Standard output is a line for each step: its
-index, its actor, its event and its answer, with the payloads read. A history with a fault prints
-none, and its first fault is a line on standard error.
+index, its actor, its event and its answer, with the payloads read, as soon as the step is read. The
+history may have any length. At its first fault, which is a line on standard error, showing ends.
 
 Example: the third and fourth step of examples/first_ping.history, the last one cut.
 

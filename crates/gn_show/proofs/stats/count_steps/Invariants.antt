@@ -1,10 +1,10 @@
-use Rattle.std.specs.Prelude.{length}
-use Rattle.gn_capture.specs.Histories.{steps_left}
-use Rattle.gn_show.proofs.CountLemmas.{IsCounting}
+use Rattle.std.proofs.Common.{◌-◌, ◌^◌}
+use Rattle.gn_stream.specs.Reading.{Passes, place}
+use Rattle.gn_show.proofs.CountLemmas.{Counts}
 use Rattle.gn_show.proofs.stats.count_steps.Given as goal
 
 abbrev pub invariant-loop-step : goal.invariant-loop-step
-invariant-loop-step l = IsCounting l.stats l.index l.steps (steps_left l.fn.steps)
+invariant-loop-step g l = Passes (Counts l.stats l.index) (place (g.S.Source.state l.fn.source) l.fn.lines) (place (g.S.Source.state l.source) l.lines)
 
 abbrev pub decreases-loop-step : goal.decreases-loop-step
-decreases-loop-step l = length l.steps.lines
+decreases-loop-step g l = 2 ^ 64 - l.lines.next

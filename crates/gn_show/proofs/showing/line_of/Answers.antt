@@ -1,4 +1,4 @@
-use Rattle.gn_show.proofs.steps.line_of.Goals as goal
+use Rattle.gn_show.proofs.showing.line_of.Goals as goal
 
 pub returns-in-Json : goal.returns-in-Json
 returns-in-Json c = rw c.in-Json.is c.next_json.ensures
