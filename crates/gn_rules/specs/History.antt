@@ -70,7 +70,7 @@ abbrev pub ticket_of : {A : Type 0} → Event A → Option ℕ
 ticket_of (Route t) = Some t
 ticket_of event = None
 
--- whether a reply says a number (`connected_of`, `admitted_of`, `closed_of`), and it is this one
+-- whether a look at a reply or an event, as `connected_of` or `ticket_of`, gave a number, and it is this one
 abbrev pub is_at : ℕ → Option ℕ → Bool
 is_at n None = false
 is_at n (Some m) = n == m

@@ -27,7 +27,7 @@ hit_of earlier (Route t) (Routed sends local) =
     (admission earlier t)
 hit_of earlier event reply = None
 
--- the known servents after one more hit: its servent comes first, and stands nowhere else
+-- the list of servents after one more hit: its servent comes first, and stands nowhere else
 abbrev pub learned : Option (Guid × ℕ) → List (Guid × ℕ) → List (Guid × ℕ)
 learned None known = known
 learned (Some hit) known = hit ∷ remove_entry (is_same_id hit.0) known

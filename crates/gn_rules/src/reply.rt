@@ -16,7 +16,7 @@ pub enum DropReason {
     Malformed,
     /// A Ping, Query or Push whose key is remembered.
     Duplicate,
-    /// A Pong or Query Hit whose request isn't remembered, or a Push to a servent that isn't known.
+    /// A Pong or Query Hit whose request isn't remembered, or a Push whose servent isn't.
     NoRoute,
     /// Its route back leads to a connection that has closed.
     RouteGone,

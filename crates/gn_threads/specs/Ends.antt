@@ -109,11 +109,12 @@ WriterEnds steps roles writer role own half Drained (Some c) =
 WriterEnds steps roles writer role own half Closed (Some c) =
     (half.is_known ≡ true → half.bytes ≡ concat (texts_of role own))
     × (list_any (λ step. not (step.actor == writer) && is_close c step.event) steps ≡ true)
--- a write failed: either of the connection request, and the writer made no event; or of another text, and somebody closed c
+-- a write failed or wrote no bytes: one of the connection request, and the writer made no event; or one of another text, and
+-- somebody closed c
 WriterEnds steps roles writer role own half WriteFailed (Some c) =
     IsHurt half (texts_of role own)
     × (((is_calling role && (length own == 0)) || list_any (λ step. is_close c step.event) steps) ≡ true)
--- a write of the connection request failed; it made no event
+-- a write of the connection request failed or wrote no bytes; it made no event
 WriterEnds steps roles writer role own half WriteFailed None =
     IsHurt half (texts_of role own) × ((is_calling role && (length own == 0)) ≡ true)
 -- the link never connected: the connection request was written where it calls, else nothing
