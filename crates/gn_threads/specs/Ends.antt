@@ -32,7 +32,7 @@ abbrev pub IsClosed : {A : Type 0} → List (Step A) → ℕ → Type 0
 IsClosed steps c = list_any (λ step. is_close c step.event) steps ≡ true
 
 -- where the bytes that were read are known: the awaited greeting has come as far as this ShakeState, and the given condition
--- `says` holds of the bytes after the greeting, split into `Frames`
+-- `says` holds of the `Frames` of the bytes past the greeting's length
 abbrev pub IsGreeted : ReadHalf → Role → ShakeState → (Frames → Type 0) → Type 0
 IsGreeted half role state says =
     half.is_known ≡ true
@@ -42,8 +42,8 @@ IsGreeted half role state says =
 abbrev pub admitting : {A : Type 0} → ℕ → List Packet → List (Event A)
 admitting c descriptors = Connect ∷ map (Admit c) descriptors
 
--- the table of ends for a reader: its half, its events except the Routes, and who closed its connection. The argument `first` is
--- for NotLive: whether its writer may close c before the reader is done
+-- the table of ends for a reader: what was read, where that is known, its events except the Routes, and who closed its
+-- connection. The argument `first` is for NotLive: whether its writer may close c before the reader is done
 abbrev pub ReaderEnds : {A : Type 0} → List (Step A) → ℕ → Bool → Role → List (Receipt A) → ReadHalf → ReaderEnd → Option ℕ → Type 0
 -- a read found the end of the bytes, and they have no fault; it made a Connect, an Admit of each whole descriptor, in order, and no
 -- Close
