@@ -5,7 +5,7 @@ use Rattle.std.specs.List.{ItemBy, slice_get}
 use Rattle.std.proofs.lemmas.Option.{slice_get_past, slice_get_read}
 use Rattle.std.specs.declared.net.socket_addr.SocketAddr.{SocketAddr}
 use Rattle.gn_shake.specs.declared.role.Role.{Role}
-use Rattle.gn_sockets.specs.declared.socket.Socket.{Socket}
+use Rattle.gn_waits.specs.declared.socket.Socket.{Socket}
 use Rattle.gn_report.specs.declared.report.Report.{Report}
 use Rattle.gn_sockets.specs.TcpHalves.{TcpReading, TcpWriting}
 use Rattle.gn_tcp.specs.Tcp.{TcpLinked}

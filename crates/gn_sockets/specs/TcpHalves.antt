@@ -2,7 +2,7 @@
 use Rattle.std.specs.Prelude.{ℕ, Bool, true, List}
 use Rattle.gn_links.specs.Halves.{ReadHalf, WrittenHalf}
 use Rattle.gn_sockets.specs.declared.origin.TcpOrigin.{TcpOrigin}
-use Rattle.gn_sockets.specs.declared.socket.Socket.{Socket}
+use Rattle.gn_waits.specs.declared.socket.Socket.{Socket}
 
 -- the half that is read: where its link comes from, the link's one socket, whether it still has its handle of that, the bytes
 -- that the socket gave, how many reads failed, how many gave bytes, and whether the bytes ended

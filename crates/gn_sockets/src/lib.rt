@@ -3,12 +3,11 @@
 
 mod origin;
 mod reader;
-mod socket;
 mod split;
 mod writer;
 
+pub use gn_waits::Socket;
 pub use origin::TcpOrigin;
 pub use reader::TcpReader;
-pub use socket::Socket;
 pub use split::halves;
 pub use writer::TcpWriter;

@@ -5,23 +5,18 @@ ghost use Rattle.gn_links.specs.Halves.{counted, gave_bytes, is_end, read_by};
 ghost use Rattle.gn_sockets.specs.TcpHalves.{half_read};
 
 use crate::origin::TcpOrigin;
-use crate::socket::Socket;
 use gn_links::{LinkFault, LinkReader};
 use gn_trail::Told;
-use gn_waits::{Patience, drain, read_unstopped};
+use gn_waits::{Handle, Patience, Socket};
 use std::marker::Model;
 use std::net::SocketAddr;
-use std::snapshot::Snapshot;
 use std::sync::Wait;
 
 /// Reads from a socket. It gives its handle of the socket up at the end of the bytes, at a read that fails, and where it is
 /// finished: once both halves have, the peer is let go.
 #[derive(Drop)]
 pub struct TcpReader<'s> {
-    socket: Option<Socket>,
-    /// The one socket of its link.
-    one: Snapshot<Socket>,
-    is_missing: bool,
+    handle: Handle,
     peer: SocketAddr,
     origin: TcpOrigin,
     patience: Patience<'s>,
@@ -33,15 +28,14 @@ pub struct TcpReader<'s> {
 }
 
 impl<'s> Model for TcpReader<'s> {
-    ghost use Rattle.std.specs.Prelude.{is_some};
     ghost use Rattle.gn_sockets.specs.TcpHalves.{TcpReading};
 
     ghost Value = { TcpReading };
 
     ghost view = { λ r. record {
       origin = r.origin;
-      socket = r.one.value;
-      is_open = is_some r.socket;
+      socket = r.handle.0;
+      is_open = r.handle.1;
       bytes = r.told;
       failures = r.failures;
       pieces = r.pieces;
@@ -52,15 +46,15 @@ impl<'s> Model for TcpReader<'s> {
 impl<'s> TcpReader<'s> {
     /// A reader that has given nothing. One whose call isn't answered yet waits for its socket at the first read.
     pub(crate) fn new(
-        socket: Socket,
+        handle: Handle,
         peer: SocketAddr,
         origin: TcpOrigin,
         patience: Patience<'s>,
     ) -> Self
         ensures { result ≡ record {
           origin = origin;
-          socket = socket;
-          is_open = true;
+          socket = handle.0;
+          is_open = handle.1;
           bytes = [];
           failures = 0;
           pieces = 0;
@@ -68,9 +62,7 @@ impl<'s> TcpReader<'s> {
         } }
     {
         TcpReader {
-            is_missing: !matches!(socket, Socket::Connected(_)),
-            one: Snapshot::of(&socket),
-            socket: Some(socket),
+            handle,
             peer,
             origin,
             patience,
@@ -88,7 +80,7 @@ impl<'s> TcpReader<'s> {
 
     /// Whether the link's peer never came: the run was stopped before. So it is too of one that is still called.
     pub fn is_missing(&self) -> bool {
-        self.is_missing
+        self.handle.is_missing()
     }
 
     /// The bytes that its reads gave.
@@ -98,32 +90,17 @@ impl<'s> TcpReader<'s> {
         &self.told
     }
 
-    /// Waits until its peer's call is answered, where that goes on.
-    fn meet<R: Wait>(&mut self, rt: &R)
-        ensures { self.new ≡ self.old }
-    {
-        let met = match &self.socket {
-            Some(Socket::Called(call)) => call.read_half(rt),
-            _ => return,
-        };
-        self.is_missing = met.is_none();
-        self.socket = Some(Socket::of(met));
-    }
-
     /// Waits for bytes where its socket is there, and tells those that came.
     fn give<R: Wait>(&mut self, rt: &R, buffer: &mut [u8]) -> Result<usize, LinkFault>
         ensures within { IfOk result (λ n. n ≤ length buffer.old) }
         ensures told { self.new.bytes ≡ self.old.bytes ++ read_by result buffer.new }
         ensures rest { self.new ≡ record self.old { bytes = self.new.bytes } }
     {
-        match &mut self.socket {
-            Some(Socket::Connected(stream)) => {
-                read_unstopped(rt, stream, &mut self.told, &mut self.patience, buffer)
-            }
-            Some(_) => Ok(0),
-            None if self.has_ended => Ok(0),
-            None => Err(LinkFault),
+        if self.has_ended {
+            return Ok(0);
         }
+        self.handle
+            .read(rt, &mut self.told, &mut self.patience, buffer)
     }
 
     /// Counts what a read into so much room answered, and tells the brake. It leaves the peer where the bytes ended, and gives its
@@ -140,7 +117,7 @@ impl<'s> TcpReader<'s> {
         match answer {
             Ok(n) if n > 0 => {
                 self.pieces = self.pieces.saturating_add(1);
-                self.hear(n);
+                self.handle.hear(&mut self.patience, n);
             }
             Ok(_) if room > 0 => {
                 self.has_ended = true;
@@ -149,7 +126,7 @@ impl<'s> TcpReader<'s> {
             Ok(_) => {}
             Err(_) => {
                 self.failures = self.failures.saturating_add(1);
-                self.socket = None;
+                self.handle.let_go();
             }
         }
     }
@@ -159,25 +136,7 @@ impl<'s> TcpReader<'s> {
         ensures { self.new ≡ record self.old { is_open = self.new.is_open } }
     {
         if !self.patience.ways.holds_on() {
-            self.socket = None;
-        }
-    }
-
-    /// Reads and drops what its peer still sends, where its socket is there.
-    fn drain<R: Wait>(&mut self, rt: &R)
-        ensures { self.new ≡ self.old }
-    {
-        if let Some(Socket::Connected(stream)) = &mut self.socket {
-            drain(rt, stream);
-        }
-    }
-
-    /// So many bytes have come, and the next wait has its limit.
-    fn hear(&mut self, n: usize)
-        ensures { self.new ≡ self.old }
-    {
-        if let Some(Socket::Connected(stream)) = &self.socket {
-            self.patience.hear(stream, n);
+            self.handle.let_go();
         }
     }
 }
@@ -197,7 +156,6 @@ impl<'s> LinkReader for TcpReader<'s> {
     /// Gives no bytes once the link's stop is set, and where the peer never came. Fails too where it waits for longer than the
     /// link's time limit allows, and where it failed before or was finished.
     fn read<R: Wait>(&mut self, rt: &R, buffer: &mut [u8]) -> Result<usize, LinkFault> {
-        self.meet(rt);
         let answer = self.give(rt, buffer);
         self.count(answer, buffer.len());
         answer
@@ -207,8 +165,8 @@ impl<'s> LinkReader for TcpReader<'s> {
     /// What it sends later, once the writer is finished too, is refused by the system.
     fn finish<R: Wait>(&mut self, rt: &R) {
         if self.patience.ways.lingers {
-            self.drain(rt);
+            self.handle.drain(rt);
         }
-        self.socket = None;
+        self.handle.let_go();
     }
 }

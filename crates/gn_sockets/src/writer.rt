@@ -1,26 +1,22 @@
 //! The half of a link over TCP that is written.
 
-ghost use Rattle.std.specs.Prelude.{◌≡◌, ◌≤◌, ◌++◌, ◌||◌, [], false, is_err, length, IfOk};
+ghost use Rattle.std.specs.Prelude.{◌≡◌, ◌≤◌, ◌++◌, ◌||◌, [], false, is_err, not, length, IfOk};
 ghost use Rattle.gn_links.specs.Halves.{counted, is_stall, written_by};
 ghost use Rattle.gn_sockets.specs.TcpHalves.{half_written};
 
 use crate::origin::TcpOrigin;
-use crate::socket::Socket;
 use gn_links::{LinkFault, LinkWriter};
 use gn_trail::Told;
-use gn_waits::write_some;
+use gn_waits::{Handle, Socket};
 use std::marker::Model;
 use std::net::Shutdown;
-use std::snapshot::Snapshot;
 use std::sync::Wait;
 
 /// Writes to a socket. Where it is finished it shuts both directions, or that of a peer to which something is still owed alone,
 /// and gives its handle of the socket up: once both halves have, the peer is let go.
 #[derive(Drop)]
 pub struct TcpWriter {
-    socket: Option<Socket>,
-    /// The one socket of its link, of which it has another handle.
-    one: Snapshot<Socket>,
+    handle: Handle,
     origin: TcpOrigin,
     /// Whether it shuts its own direction alone where the peer may not have read all yet.
     lingers: bool,
@@ -32,15 +28,15 @@ pub struct TcpWriter {
 }
 
 impl Model for TcpWriter {
-    ghost use Rattle.std.specs.Prelude.{is_none};
+    ghost use Rattle.std.specs.Prelude.{not};
     ghost use Rattle.gn_sockets.specs.TcpHalves.{TcpWriting};
 
     ghost Value = { TcpWriting };
 
     ghost view = { λ w. record {
       origin = w.origin;
-      socket = w.one.value;
-      is_finished = is_none w.socket;
+      socket = w.handle.0;
+      is_finished = not w.handle.1;
       bytes = w.told;
       failures = w.failures;
       is_stuck = w.is_stuck;
@@ -49,24 +45,18 @@ impl Model for TcpWriter {
 
 impl TcpWriter {
     /// One that writes to this handle of its link's socket.
-    pub(crate) fn new(
-        socket: Socket,
-        one: Snapshot<Socket>,
-        origin: TcpOrigin,
-        lingers: bool,
-    ) -> Self
+    pub(crate) fn new(handle: Handle, origin: TcpOrigin, lingers: bool) -> Self
         ensures { result ≡ record {
           origin = origin;
-          socket = one.value;
-          is_finished = false;
+          socket = handle.0;
+          is_finished = not handle.1;
           bytes = [];
           failures = 0;
           is_stuck = false;
         } }
     {
         TcpWriter {
-            socket: Some(socket),
-            one,
+            handle,
             origin,
             lingers,
             has_written: false,
@@ -76,27 +66,13 @@ impl TcpWriter {
         }
     }
 
-    /// Waits until its peer's call is answered, where that goes on.
-    fn meet<R: Wait>(&mut self, rt: &R)
-        ensures { self.new ≡ self.old }
-    {
-        let met = match &self.socket {
-            Some(Socket::Called(call)) => call.written_half(rt),
-            _ => return,
-        };
-        self.socket = Some(Socket::of(met));
-    }
-
     /// Writes where its socket is there, and tells the bytes that this took.
     fn take<R: Wait>(&mut self, rt: &R, piece: &[u8]) -> Result<usize, LinkFault>
         ensures within { IfOk result (λ n. n ≤ length piece.now) }
         ensures told { self.new.bytes ≡ self.old.bytes ++ written_by result piece.now }
         ensures rest { self.new ≡ record self.old { bytes = self.new.bytes } }
     {
-        match &mut self.socket {
-            Some(Socket::Connected(stream)) => write_some(rt, stream, &mut self.told, piece),
-            _ => Err(LinkFault),
-        }
+        self.handle.write(rt, &mut self.told, piece)
     }
 
     /// Counts what a write of so many bytes answered.
@@ -126,14 +102,6 @@ impl TcpWriter {
             Shutdown::Both
         }
     }
-
-    /// Shuts the socket, where it is there.
-    fn shut(&self) {
-        if let Some(Socket::Connected(stream)) = &self.socket {
-            // it fails where the peer is gone, who needs no word then
-            let _ = stream.shutdown(self.ending());
-        }
-    }
 }
 
 impl LinkWriter for TcpWriter {
@@ -145,7 +113,6 @@ impl LinkWriter for TcpWriter {
 
     /// Fails too where it waits for longer than the link's time limit, where the peer never came, and where it was finished.
     fn write<R: Wait>(&mut self, rt: &R, piece: &[u8]) -> Result<usize, LinkFault> {
-        self.meet(rt);
         let answer = self.take(rt, piece);
         self.count(answer, piece.len());
         answer
@@ -155,7 +122,7 @@ impl LinkWriter for TcpWriter {
     /// waited for, so that the system doesn't throw away what it hasn't read; else that is refused from now on, and the reader's
     /// wait for it ends.
     fn finish<R: Wait>(&mut self, _rt: &R) {
-        self.shut();
-        self.socket = None;
+        self.handle.shut(self.ending());
+        self.handle.let_go();
     }
 }

@@ -4,7 +4,7 @@ use crate::patience::Patience;
 use std::net::TcpStream;
 
 /// The second handle of a socket, the given one or else one that the system gives; none too where it doesn't take the time limits.
-pub fn second_handle(
+pub(crate) fn second_handle(
     stream: &TcpStream,
     other: Option<TcpStream>,
     patience: &Patience<'_>,

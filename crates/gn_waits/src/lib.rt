@@ -3,16 +3,17 @@
 
 mod brake;
 mod call;
+mod handle;
 mod handles;
 mod patience;
 mod reads;
+mod socket;
 mod ways;
 mod writes;
 
 pub use brake::Brake;
 pub use call::{Call, TcpCall};
-pub use handles::second_handle;
+pub use handle::Handle;
 pub use patience::Patience;
-pub use reads::{drain, read_unstopped};
+pub use socket::Socket;
 pub use ways::Ways;
-pub use writes::write_some;

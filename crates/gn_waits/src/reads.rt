@@ -92,7 +92,7 @@ fn read_patiently<R: Wait>(
 }
 
 /// The same. It gives no bytes once the stop is set.
-pub fn read_unstopped<R: Wait>(
+pub(crate) fn read_unstopped<R: Wait>(
     rt: &R,
     stream: &mut TcpStream,
     told: &mut Told,
@@ -113,7 +113,7 @@ pub fn read_unstopped<R: Wait>(
 
 /// Reads what a peer still sends, and drops it, until the peer ends or somebody shuts the socket. The peer can't be stuck in its
 /// sending then, and no byte is left unread, for which the system would throw away what the peer hasn't read.
-pub fn drain<R: Wait>(rt: &R, stream: &mut TcpStream) {
+pub(crate) fn drain<R: Wait>(rt: &R, stream: &mut TcpStream) {
     let mut dropped = [0u8; 4096];
     // whoever shuts the socket ends the wait: no look is needed
     let _ = stream.set_read_timeout(None);

@@ -24,7 +24,7 @@ fn write_once<T: Write>(stream: &mut T, told: &mut Told, piece: &[u8]) -> Result
 
 /// Waits until the stream takes bytes, again where a signal cut the call short, and tells those that it took: the first ones of
 /// the piece.
-pub fn write_some<T: Write, R: Wait>(
+pub(crate) fn write_some<T: Write, R: Wait>(
     rt: &R,
     stream: &mut T,
     told: &mut Told,

@@ -1,4 +1,4 @@
-use Rattle.std.proofs.Common.{◌∙◌, ◌++◌, ap, append-nil, refl, sym, take}
+use Rattle.std.proofs.Common.{◌∙◌, ◌++◌, ap, refl, take}
 use Rattle.gn_waits.proofs.reads.read_patiently.Goals as goal
 
 pub loop-init : goal.loop-init
