@@ -1,7 +1,7 @@
 //! A run that is given up, since its history is full before all its links have come.
 
 use gn_fixtures::{PING, usual};
-use gn_links::{Gate, Link, MemoryLink, MemoryReader, MemoryWriter};
+use gn_links::{Gate, Link, Made, MemoryLink, MemoryReader, MemoryWriter};
 use gn_shake::Role;
 use gn_table_router::TableRouter;
 use gn_threads::{Arrivals, RunFault, run_arriving};
@@ -12,7 +12,7 @@ use std::test::Fail;
 use std::thread::{self, Threads};
 use std::vec::IntoIter;
 
-/// How often one looks at most whether a run has failed.
+/// How often one looks at most whether a run has failed, or its second link is waited for.
 const MOST_LOOKS: u32 = 100_000_000;
 
 /// Whether a run has failed, and how many links it has waited for.
@@ -24,6 +24,16 @@ struct News {
 
 impl Gate for News {
     fn enter<R: Wait>(&self, _rt: &R, _worker: u32, _ticket: u32) {}
+
+    /// The first link's reader goes on from its only step once the second link is waited for.
+    fn made(&self, _link: u32, _step: Made) {
+        for _ in 0..MOST_LOOKS {
+            if self.asked.load(Ordering::SeqCst) > 1 {
+                return;
+            }
+            thread::yield_now();
+        }
+    }
 
     fn failed(&self) {
         self.has_failed.store(true, Ordering::SeqCst);
@@ -123,12 +133,11 @@ fn fault_and_asked<R: Threads + Wait + Sync>(
     Ok((fault, news.asked.load(Ordering::SeqCst)))
 }
 
-/// The first link's reader alone finds the history full. The second link comes then, unless the reader was so quick that it isn't
-/// waited for; the third never is.
+/// The first link's reader alone finds the history full, while the second link is waited for. That comes then; the third is never
+/// waited for.
 #[test]
 fn a_full_history_is_named_by_any_thread(rt: HostRuntime) -> Result<(), Fail> {
     let (fault, asked) = fault_and_asked(&rt, rt.alloc())?;
-    assert_eq!(rt; fault, Some(RunFault::HistoryFull));
-    assert!(rt; asked < 3);
+    assert_eq!(rt; (fault, asked), (Some(RunFault::HistoryFull), 2));
     Ok(())
 }
