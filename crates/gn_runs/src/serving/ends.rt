@@ -83,7 +83,7 @@ fn both_end<
 ) -> Result<bool, Fail> {
     let stop = Stop::new(time, false);
     let serving = Serving {
-        retry: Some(Duration::from_secs(30)),
+        retry: Some(Duration::from_secs(60)),
         stop: Some(&stop),
         ..Serving::UNLIMITED
     };
