@@ -63,7 +63,7 @@ pub struct ServeOptions {
     pub early: bool,
     /// Whether the run is stopped at the end of standard input.
     pub until_eof: bool,
-    /// Whether what stands of the history is written where the run stops at a fault.
+    /// Whether `--keep-history` is given, which changes nothing.
     pub keeps: bool,
     /// Whether it is written what became of each link.
     pub report: bool,

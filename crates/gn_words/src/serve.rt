@@ -32,12 +32,12 @@ const USAGE: &str = "gn serve --port P --accept A --workers V [--servent HEX32] 
 
 /// What it does, how it ends, and what it prints, with an example.
 const TEXTS: &str = "\
-The peers are called first, in their order, and then A others may call: each that does is one of
-the A, whatever becomes of it. Each link is greeted and read by a thread of its own and written by
-another, and V workers route what the readers admitted. `listening PORT` on standard error says that
-the router can be called. Standard output is the history of the router, which `gn audit` reads. It is
-written while the router runs: nothing waits for long where little is done, and where the output is
-slow the router waits. A write that fails ends the run.
+The peers are called, and beside them A others may call: each that does is one of the A, whatever
+becomes of it. Each link is greeted and read by a thread of its own and written by another, and V
+workers route what the readers admitted. `listening PORT` on standard error says that the router can
+be called. Standard output is the history of the router, which `gn audit` reads. It is written while
+the router runs: nothing waits for long where little is done, and where the output is slow the
+router waits. A write that fails ends the run at its next step.
 
 A link ends as its peer closes it. Two routers that call each other and nobody else each wait for
 the other's end: `--idle 2` ends a link of which nothing was heard for 2 seconds. A router waits for
@@ -48,7 +48,7 @@ something is written to it: `--idle` doesn't free it. It frees that of one which
 Ctrl-C and a kill end the program at once. `gn audit --unfinished` reads what was written by then.
 Three ways stop it well, with its whole history: `--for`, in so many seconds; `--until-eof`, as
 standard input ends, by Ctrl-D or as the writer of a pipe ends; `--stop-early`, before its most
-steps. What it owes by then is written, and after the grace it ends in any case.
+steps. What it owes by then is written, and after the grace it ends, whatever its neighbours do.
 examples/gn.service is a unit for a service manager, with a standard input that the manager ends.
 
 A run that would make more than its most steps ends there, with the fault `history full`: one
