@@ -18,7 +18,8 @@ legal_take s steps k legal =
     let parts : reverse steps ≡ reverse (drop k steps) ++ reverse (take k steps) = ap reverse (sym (take-append-drop k steps)) ∙ reverse-append (take k steps) (drop k steps) in
     legal_before s (reverse (drop k steps)) (reverse (take k steps)) (rw parts at legal)
 
-others_differ : (n m : ℕ) → (n == m) ≡ false → n ≤ m → n + 1 ≤ m
+-- a number that is another is below one that it isn't above
+pub others_differ : (n m : ℕ) → (n == m) ≡ false → n ≤ m → n + 1 ≤ m
 others_differ n m other within = grind (arith, common_steps)
 
 -- a legal history has no more steps than it may have

@@ -9,7 +9,7 @@ pub record IsWithin (number limit : ℕ) : Type 0 where
 
 -- the greatest that each number of a configuration may be
 abbrev pub most : Numbers
-most = record { neighbours = 256; seen = 65536; servents = 65536; stage = 4096; out = 4096; steps = 1000000; life = 255; crowd = 4096 }
+most = record { neighbours = 256; seen = 65536; servents = 65536; stage = 4096; out = 4096; steps = 4294967295; life = 255; crowd = 4096 }
 
 -- each number of a configuration is from 1 to its limit; the limit on a descriptor's life and the threshold of a connection may
 -- be 0, which is none

@@ -29,7 +29,7 @@ impl Numbers {
         servents: 65_536,
         stage: 4_096,
         out: 4_096,
-        steps: 1_000_000,
+        steps: u32::MAX,
         life: u8::MAX,
         crowd: 4_096,
     };

@@ -93,7 +93,7 @@ impl<H: Steps<A>, A: Allocator> Lookup<A> for Search<H, A> {
         Some((c, out_count(&self.config, steps, c) as u32))
     }
 
-    #[tactic(auto, using(gn_rules::proofs::PastLemmas::past_length, gn_rules::proofs::LegalLemmas::legal_within))]
+    #[tactic(auto, using(gn_rules::proofs::LiveLemmas::next_fits))]
     fn next_connection(&self) -> ConnId {
         1 + live::connection_count(self.steps.as_slice()) as u32
     }

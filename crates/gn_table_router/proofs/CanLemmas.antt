@@ -21,6 +21,7 @@ use Rattle.gn_rules.specs.declared.statistics.Counter.TheVariants as counter
 use Rattle.gn_rules.specs.Answer.{answer, decision_reply, event_answer, may_originate}
 use Rattle.gn_rules.specs.Decision.{decide}
 use Rattle.gn_rules.specs.Flight.{Admission, flying, flying_from, in_flight, tickets}
+use Rattle.gn_rules.specs.Limits.{most}
 use Rattle.gn_rules.specs.History.{connections, live, live_connections, sends_of}
 use Rattle.gn_rules.specs.Output.{out}
 use Rattle.gn_rules.specs.Sending.{fanout}
@@ -87,7 +88,7 @@ module _ {A : Type 0} (s : Config) (past : List (Step A)) (t : Tables A) (are : 
       let few : length t.neighbours.rows < t.neighbours.most = omega (arith, room, most, count_known s past t are) in
       subst (λ (r : Reply A). CanConnect r t) is (greater, few)
 
-  admits : (busy : Bool) → (length (flying past) == s.numbers.stage) ≡ busy → (crowded : Bool) → length past < 1000000 → (reply : Reply A)
+  admits : (busy : Bool) → (length (flying past) == s.numbers.stage) ≡ busy → (crowded : Bool) → length past < most.steps → (reply : Reply A)
       → cond {A = Result (Reply A) Refusal} busy (Ok Busy) (cond crowded (Ok Crowded) (Ok (Admitted (length (tickets past))))) ≡ Ok reply → CanAdmit reply t
   admits true e crowded short reply f = let is : Busy ≡ reply = cc in subst (λ (r : Reply A). CanAdmit r t) is tt
   admits false e true short reply f = let is : Crowded ≡ reply = cc in subst (λ (r : Reply A). CanAdmit r t) is tt
@@ -110,7 +111,7 @@ module _ {A : Type 0} (s : Config) (past : List (Step A)) (t : Tables A) (are : 
         verdict = λ hit. servent_is_known s past a hit;
       }))
 
-  can_move : (event : Event A) (reply : Reply A) → length past < 1000000 → answer s past event ≡ Ok reply → CanMove event reply t
+  can_move : (event : Event A) (reply : Reply A) → length past < most.steps → answer s past event ≡ Ok reply → CanMove event reply t
   can_move Connect reply short h = connects (length (live_connections past) == s.numbers.neighbours) refl reply (room_for _ _ reply h).1
   can_move (Close c) reply short h = tt
   can_move (Admit c d) reply short h = admits (length (flying past) == s.numbers.stage) refl (not (s.numbers.crowd == 0) && nat_le s.numbers.crowd (length (flying_from past c))) short reply (live_for (live past c) _ reply (room_for _ _ reply h).1).1
@@ -167,7 +168,7 @@ module _ {A : Type 0} (s : Config) (past : List (Step A)) (t : Tables A) (are : 
   pub can_follow : (event : Event A) (reply : Reply A) → answer s past event ≡ Ok reply → CanFollow event reply t
   can_follow event reply h =
       let room : length past < s.numbers.steps = below_from (length past) s.numbers.steps are.short (room_for _ _ reply h).0 in
-      let limit : s.numbers.steps ≤ 1000000 = s.within.steps.greatest in
-      let short : length past < 1000000 = omega (arith, room, limit) in
+      let limit : s.numbers.steps ≤ most.steps = s.within.steps.greatest in
+      let short : length past < most.steps = omega (arith, room, limit) in
       let few : count_in (counter_of reply) t.stats ≤ length past = rw (ap (count_in (counter_of reply)) are.stats_are) (known_few past (counter_of reply)) in
       record { moves = can_move event reply short h; counts = omega (arith, few, short); sends = can_send event reply h }

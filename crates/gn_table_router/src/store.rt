@@ -105,6 +105,7 @@ impl<A: Allocator + Copy, K: Keeper<A>> Lookup<A> for TableStore<A, K> {
         self.tables.neighbours.at(place)
     }
 
+    #[tactic(auto, using(gn_rules::proofs::LiveLemmas::next_fits))]
     fn next_connection(&self) -> ConnId {
         1 + self.tables.connected
     }

@@ -33,7 +33,7 @@ const FAULTS: [Faults; 21] = [
         "gnutella-capture 1\n",
         "config 0 8 4 8 8 100\nconfig 257 8 4 8 8 100\nconfig 64 65537 4 8 8 100\n\
         config 64 65536 65537 8 8 100\nconfig 64 65536 65536 4097 8 100\nconfig 64 65536 65536 4096 4097 100\n\
-        config 64 65536 65536 4096 4096 1000001\nconfig 4 8 4 8 8\nconfig 4 8 4 8 8 100 1\n\
+        config 64 65536 65536 4096 4096 4294967296\nconfig 4 8 4 8 8\nconfig 4 8 4 8 8 100 1\n\
         config 4 8 4 8 8 100 \nown",
         2,
         Cause::Config,
@@ -52,7 +52,7 @@ const FAULTS: [Faults; 21] = [
         Cause::Config,
     ),
     (
-        "gnutella-capture 1\nconfig 256 65536 65536 4096 4096 1000000\n",
+        "gnutella-capture 1\nconfig 256 65536 65536 4096 4096 4294967295\n",
         "own ee 127.0.0.1 6346 5 40\nown eeeeeeeeeeeeeeeeeeeeeeeeeeeeeeee 127.0.0.256 6346 5 40\n\
         own eeeeeeeeeeeeeeeeeeeeeeeeeeeeeeee 127.0.0.1 65536 5 40\njoin",
         3,

@@ -170,8 +170,8 @@ How many descriptors of one peer may be in flight at once, 0 to 4096;
         letter: None,
         takes: Takes::Usual("N", "1000000"),
         help: "\
-The most steps of the history, 1 to 1000000; a run that needs more ends
-with `fault: history full`",
+The most steps of the history, 1 to 4294967295; a run that needs more
+ends with `fault: history full`",
     },
 ];
 
@@ -346,7 +346,7 @@ const STEPS: NumberOption = NumberOption {
     name: "steps",
     least: 1,
     most: Numbers::MOST.steps,
-    mistake: "--steps takes a number of 1 to 1000000",
+    mistake: "--steps takes a number of 1 to 4294967295",
 };
 
 /// What `--for` takes: at most a day.

@@ -7,7 +7,7 @@ use Rattle.gn_search.proofs.counting.stats_in.Goals as goal
 
 pub loop-step-preserved : goal.loop-step-preserved
 loop-step-preserved g c =
-    c.raise.ensures.more (may_rise c.args.history.now c.loop-step.step-index c.of.result c.loop-step.stats c.requires c.loop-step.invariant)
+    c.raise.ensures.more (may_rise c.args.history.now c.loop-step.step-index c.of.result c.loop-step.stats c.requires c.loop-step-test.true c.loop-step.invariant)
     ∙ ap (λ k. raised k c.loop-step.stats) c.of.ensures
     ∙ ap (raised (counter_of c.step-item.result.reply)) c.loop-step.invariant
     ∙ sym (ap stats_of (past_more c.args.history.now c.loop-step.step-index c.step-item.result c.loop-step-test.true c.step-item.is))
