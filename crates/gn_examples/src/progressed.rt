@@ -38,14 +38,14 @@ impl Screen for Expecting<'_> {
     }
 }
 
-/// A serve: a link comes, and brings 1,005 descriptors, most of them after a second, and 7 that are refused. Then nothing is done for
-/// three seconds.
+/// A serve of as many steps as there may be: a link comes, and brings 1,005 descriptors, most of them after a second, and 7 that
+/// are refused. Then nothing is done for three seconds.
 const SERVE: &str = "\
 link 0 127.0.0.1:5000 came at 12:34:56
-routed 0 of 65 admitted, 1 links, 0 busy, 999,935 steps left at 12:34:57
-routed 0 of 1,005 admitted, 1 links, 7 busy, 998,988 steps left at 12:34:58
+routed 0 of 65 admitted, 1 links, 0 busy, 4,294,967,230 steps left at 12:34:57
+routed 0 of 1,005 admitted, 1 links, 7 busy, 4,294,966,283 steps left at 12:34:58
 link 0 reader ended at 12:35:00
-routed 0 of 1,006 admitted, 1 links, 7 busy, 998,987 steps left at 12:35:00
+routed 0 of 1,006 admitted, 1 links, 7 busy, 4,294,966,282 steps left at 12:35:00
 ";
 
 /// Nothing is done from second 1 to 3.
@@ -68,7 +68,7 @@ fn admit<W: Watch>(watch: &W, now: &Cell<u64>) {
 
 /// Makes the run of `SERVE`.
 fn serve<W: Watch>(watch: &W, now: &Cell<u64>) {
-    watch.open(1_000_000);
+    watch.open(u32::MAX);
     watch.came(0, SocketAddr::from((Ipv4Addr::LOCALHOST, 5_000)));
     admit(watch, now);
     for _ in 0..7 {

@@ -49,7 +49,11 @@ fn write_grouped<A: Allocator>(text: &mut String<A>, number: u64) -> Result<(), 
     if millions == 0 {
         return write!(text, "{thousands},{ones:03}");
     }
-    write!(text, "{millions},{thousands:03},{ones:03}")
+    let (billions, millions) = (millions / 1_000, millions % 1_000);
+    if billions == 0 {
+        return write!(text, "{millions},{thousands:03},{ones:03}");
+    }
+    write!(text, "{billions},{millions:03},{thousands:03},{ones:03}")
 }
 
 /// Writes how far a run is; of a serve also how many steps are left of so many.
