@@ -120,15 +120,15 @@ alone_of_reading {A} (reading.Greeting shake) me none is = ap (λ w. map (λ (x 
 alone_of_reading (reading.Joined c frames) me has is = absurd (cc)
 
 -- an end that bytes bring says nothing of the half
-pub bytes_source : (end : ReaderEnd) (half : ReadHalf) → is_of_bytes end ≡ true → SourceRow end half
-bytes_source Bytes half is = absurd (cc)
-bytes_source (Fault f) half is = tt
-bytes_source ReadFailed half is = absurd (cc)
-bytes_source Turns half is = absurd (cc)
-bytes_source GreetingRefused half is = tt
-bytes_source GreetingCut half is = absurd (cc)
-bytes_source TooMany half is = tt
-bytes_source NotLive half is = tt
+pub bytes_source : (turns : ℕ) (end : ReaderEnd) (half : ReadHalf) → is_of_bytes end ≡ true → SourceRow turns end half
+bytes_source turns Bytes half is = absurd (cc)
+bytes_source turns (Fault f) half is = tt
+bytes_source turns ReadFailed half is = absurd (cc)
+bytes_source turns Turns half is = absurd (cc)
+bytes_source turns GreetingRefused half is = tt
+bytes_source turns GreetingCut half is = absurd (cc)
+bytes_source turns TooMany half is = tt
+bytes_source turns NotLive half is = tt
 
 -- nor that a read failed
 pub bytes_not_failed : {X : Type 0} (end : ReaderEnd) → is_of_bytes end ≡ true → end ≡ ReadFailed → X
@@ -184,13 +184,13 @@ connected_row {A} role end made c es before b is closes row =
     subst (λ (o : Option ℕ). ReaderRow role end o es b) (sym is) (here.0, closes here.1)
 
 -- what a reader promises of its half, by what it read
-pub reading_done : {A Rd O : Type 0} (state : Rd → ReadHalf) (made_of : Rd → O) (gives : O → Source) (link : Half Rd) (me : ActorState A) (half : Rd) (end : Result ReaderEnd BodyFault)
+pub reading_done : {A Rd O : Type 0} (state : Rd → ReadHalf) (made_of : Rd → O) (gives : O → Source) (turns : ℕ) (link : Half Rd) (me : ActorState A) (half : Rd) (end : Result ReaderEnd BodyFault)
     → made_of half ≡ made_of link.half → IsReadFrom (gives (made_of half)) (state half)
-    → IfOk end (λ e. ReadsAs link.role e (connection_of me) me.receipts (state half))
+    → IfOk end (λ e. ReadsAs turns link.role e (connection_of me) me.receipts (state half))
     → OnOk end (connection_of me ≡ None → events_of me ≡ link_events me)
     → IfOk end (λ e. e ≡ ReadFailed → (gives (made_of half)).may_fail ≡ true)
-    → IsReaderDone state made_of gives link (record { receipts = me.receipts; half = half; end = end })
-reading_done {A} {Rd} {O} state made_of gives link me half end made own kept alone failed =
+    → IsReaderDone state made_of gives turns link (record { receipts = me.receipts; half = half; end = end })
+reading_done {A} {Rd} {O} state made_of gives turns link me half end made own kept alone failed =
     record {
       kept = kept;
       alone = alone;
@@ -200,12 +200,12 @@ reading_done {A} {Rd} {O} state made_of gives link me half end made own kept alo
     }
 
 -- a half that was finished is done as it was
-pub finished_done : {A Rd O : Type 0} (state : Rd → ReadHalf) (made_of : Rd → O) (gives : O → Source) (link : Half Rd) (receipts : List (Receipt A)) (before after : Rd) (end : Result ReaderEnd BodyFault)
+pub finished_done : {A Rd O : Type 0} (state : Rd → ReadHalf) (made_of : Rd → O) (gives : O → Source) (turns : ℕ) (link : Half Rd) (receipts : List (Receipt A)) (before after : Rd) (end : Result ReaderEnd BodyFault)
     → made_of after ≡ made_of before → state after ≡ state before
-    → IsReaderDone state made_of gives link (record { receipts = receipts; half = before; end = end }) → IsReaderDone state made_of gives link (record { receipts = receipts; half = after; end = end })
-finished_done {A} state made_of gives link receipts before after end made same was =
+    → IsReaderDone state made_of gives turns link (record { receipts = receipts; half = before; end = end }) → IsReaderDone state made_of gives turns link (record { receipts = receipts; half = after; end = end })
+finished_done {A} state made_of gives turns link receipts before after end made same was =
     record {
-      kept = subst (λ (h : ReadHalf). ReaderKeeps {A = A} link.role (record { receipts = receipts; half = h; end = end })) (sym same) was.kept;
+      kept = subst (λ (h : ReadHalf). ReaderKeeps {A = A} turns link.role (record { receipts = receipts; half = h; end = end })) (sym same) was.kept;
       alone = was.alone;
       made = made ∙ was.made;
       own = subst (λ (h : ReadHalf). IsReadFrom (gives (made_of link.half)) h) (sym same) was.own;
@@ -257,33 +257,33 @@ piece_connected made p old me us them first none number did intake refused taken
 }
 
 -- a piece that was taken, after so many
-pub pieces_taken : {A : Type 0} (role : Role) (p : Piece A) (before after : Admitting A) (half : ReadHalf) (may_fail : Bool) (count : ℕ) → HasTakenPiece p before after
-    → (half.is_known ≡ true → IsTaken role p half.bytes after.actor) → half.pieces ≡ count → half.failures ≡ 0 → HasReadPieces role p after.actor half may_fail count
-pieces_taken role (piece.More r) before after half may_fail count did is pieces unfailed = record { has = did.connection; is = is; pieces = pieces; unfailed = unfailed }
-pieces_taken role (piece.End made end) before after half may_fail count did is pieces unfailed = record {
+pub pieces_taken : {A : Type 0} (turns : ℕ) (role : Role) (p : Piece A) (before after : Admitting A) (half : ReadHalf) (may_fail : Bool) (count : ℕ) → HasTakenPiece p before after
+    → (half.is_known ≡ true → IsTaken role p half.bytes after.actor) → half.pieces ≡ count → half.failures ≡ 0 → HasReadPieces turns role p after.actor half may_fail count
+pieces_taken turns role (piece.More r) before after half may_fail count did is pieces unfailed = record { has = did.connection; is = is; pieces = pieces; unfailed = unfailed }
+pieces_taken turns role (piece.End made end) before after half may_fail count did is pieces unfailed = record {
   connection = did.connection;
   alone = did.alone;
   row = is;
-  counts = bytes_source end half did.ends;
+  counts = bytes_source turns end half did.ends;
   failed = bytes_not_failed end did.ends;
 }
-pieces_taken role (piece.Stop f) before after half may_fail count did is pieces unfailed = tt
+pieces_taken turns role (piece.Stop f) before after half may_fail count did is pieces unfailed = tt
 
 -- a reader that goes on
-pub pieces_more : {A : Type 0} (role : Role) (p : Piece A) (r : Reading A) (me : ActorState A) (half : ReadHalf) (may_fail : Bool) (count : ℕ) → p ≡ piece.More r
-    → HasReadPieces role p me half may_fail count → HasReadOn role r me half count
-pieces_more {A} role p r me half may_fail count is did = subst (λ (q : Piece A). HasReadPieces role q me half may_fail count) is did
+pub pieces_more : {A : Type 0} (turns : ℕ) (role : Role) (p : Piece A) (r : Reading A) (me : ActorState A) (half : ReadHalf) (may_fail : Bool) (count : ℕ) → p ≡ piece.More r
+    → HasReadPieces turns role p me half may_fail count → HasReadOn role r me half count
+pieces_more {A} turns role p r me half may_fail count is did = subst (λ (q : Piece A). HasReadPieces turns role q me half may_fail count) is did
 
 -- one that reads no more: a piece ended it, or its turns are over
-pub pieces_ended : {A : Type 0} (role : Role) (p : Piece A) (me : ActorState A) (half : ReadHalf) (may_fail : Bool) (count : ℕ) → GreetingIsKnown
-    → ((r : Reading A) → p ≡ piece.More r → count ≡ 1000000) → HasReadPieces role p me half may_fail count
-    → IfOk (end_of_turns p) (λ e. EndsReading role e.1 e.0 me half may_fail)
-pieces_ended role (piece.More r) me half may_fail count known over did = record {
+pub pieces_ended : {A : Type 0} (turns : ℕ) (role : Role) (p : Piece A) (me : ActorState A) (half : ReadHalf) (may_fail : Bool) (count : ℕ) → GreetingIsKnown
+    → ((r : Reading A) → p ≡ piece.More r → count ≡ turns) → HasReadPieces turns role p me half may_fail count
+    → IfOk (end_of_turns p) (λ e. EndsReading turns role e.1 e.0 me half may_fail)
+pieces_ended turns role (piece.More r) me half may_fail count known over did = record {
   connection = conn_of_reading r me did.has;
   alone = λ none. alone_of_reading r me did.has none;
   row = λ is_known. turns_row known role r half.bytes me (did.is is_known) did.has;
   counts = did.pieces ∙ over r refl;
   failed = λ ends. absurd (cc);
 }
-pieces_ended role (piece.End made end) me half may_fail count known over did = did
-pieces_ended role (piece.Stop f) me half may_fail count known over did = tt
+pieces_ended turns role (piece.End made end) me half may_fail count known over did = did
+pieces_ended turns role (piece.Stop f) me half may_fail count known over did = tt

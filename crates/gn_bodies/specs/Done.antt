@@ -37,14 +37,14 @@ pub record Ended (A E H : Type 0) : Type 0 where
 abbrev pub halved : {A E H T : Type 0} → (H → T) → Ended A E H → Ended A E T
 halved view body = record { receipts = body.receipts; half = view body.half; end = body.end }
 
--- what a reader's end says of the connection, of the receipts, and of the half that was read
-pub record ReadsAs {A : Type 0} (role : Role) (end : ReaderEnd) (conn : Option ℕ) (receipts : List (Receipt A))
+-- what a reader's end says of the connection, of the receipts, and of the half that was read, of which `turns` reads may give bytes
+pub record ReadsAs {A : Type 0} (turns : ℕ) (role : Role) (end : ReaderEnd) (conn : Option ℕ) (receipts : List (Receipt A))
     (half : ReadHalf) : Type 0 where
   -- its events except the routes, in order, and its bytes are as the table of ends says, where the bytes are known
   pub row : half.is_known ≡ true
       → ReaderRow role end conn (filter (λ event. not (is_some (ticket_of event))) (map (λ r. r.event) receipts)) half.bytes
   -- the half ended, or a read failed, or as many reads gave bytes as may be, as the end says
-  pub counts : SourceRow end half
+  pub counts : SourceRow turns end half
 
 -- what a writer's end says of the packets that were taken, and of the half that was written
 pub record WritesAs (role : Role) (end : WriterEnd) (packets : List Packet) (half : WrittenHalf) : Type 0 where
@@ -54,9 +54,9 @@ pub record WritesAs (role : Role) (end : WriterEnd) (packets : List Packet) (hal
   pub hurt : end ≡ WriteFailed → (0 < half.failures) ⊎ (half.is_stuck ≡ true)
 
 -- a reader's receipts and its half are as its end says, where it has one
-abbrev pub ReaderKeeps : {A : Type 0} → Role → Ended A ReaderEnd ReadHalf → Type 0
-ReaderKeeps role body =
-    IfOk body.end (λ end. ReadsAs role end (known_conn body.receipts) body.receipts body.half)
+abbrev pub ReaderKeeps : {A : Type 0} → ℕ → Role → Ended A ReaderEnd ReadHalf → Type 0
+ReaderKeeps turns role body =
+    IfOk body.end (λ end. ReadsAs turns role end (known_conn body.receipts) body.receipts body.half)
 
 -- so are a writer's, and its half is finished
 abbrev pub WriterKeeps : {A : Type 0} → Role → Ended A WriterEnd WrittenHalf → Type 0
@@ -64,11 +64,11 @@ WriterKeeps role body =
     IfOk body.end (λ end. WritesAs role end (packets_of body.receipts) body.half) × (body.half.is_finished ≡ true)
 
 -- what the body of a reader promises of the half that it began with, where a half says this of itself and of the link that it
--- was split from, and a reader of such a link is to give this
-pub record IsReaderDone {A Rd O : Type 0} (state : Rd → ReadHalf) (made_of : Rd → O) (gives : O → Source)
+-- was split from, a reader of such a link is to give this, and so many of its reads may give bytes
+pub record IsReaderDone {A Rd O : Type 0} (state : Rd → ReadHalf) (made_of : Rd → O) (gives : O → Source) (turns : ℕ)
     (link : Half Rd) (body : Ended A ReaderEnd Rd) : Type 0 where
   -- its receipts and its half are as its end says
-  pub kept : ReaderKeeps link.role (halved state body)
+  pub kept : ReaderKeeps turns link.role (halved state body)
   -- it routed nothing where it didn't connect
   pub alone : OnOk body.end (known_conn body.receipts ≡ None
       → map (λ r. r.event) body.receipts ≡ link_events_in body.receipts)

@@ -59,10 +59,10 @@ HasClosedAt {A} end found me =
     closes end ≡ true → (c : ℕ) → connection_of me ≡ Some c → (before : ActorState A) × HasClosed c found before me
 
 -- what the end says of the half: at Bytes that it ended, at ReadFailed that a read failed, at Turns that as many reads gave bytes as
--- may be
-abbrev pub SourceRow : ReaderEnd → ReadHalf → Type 0
-SourceRow Bytes half = half.has_ended ≡ true
-SourceRow GreetingCut half = half.has_ended ≡ true
-SourceRow ReadFailed half = 0 < half.failures
-SourceRow Turns half = half.pieces ≡ 1000000
-SourceRow end half = ⊤
+-- may, `turns`
+abbrev pub SourceRow : ℕ → ReaderEnd → ReadHalf → Type 0
+SourceRow turns Bytes half = half.has_ended ≡ true
+SourceRow turns GreetingCut half = half.has_ended ≡ true
+SourceRow turns ReadFailed half = 0 < half.failures
+SourceRow turns Turns half = half.pieces ≡ turns
+SourceRow turns end half = ⊤

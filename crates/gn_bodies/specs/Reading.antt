@@ -65,12 +65,12 @@ reading_connection (reading.Joined c frames) = Some c
 
 -- what a reader's end says before it closes what it closes: of its connection and its events, of the half that was read, and
 -- that a read of the link may fail
-pub record EndsReading {A : Type 0} (role : Role) (end : ReaderEnd) (made : Option ℕ) (me : ActorState A) (half : ReadHalf)
+pub record EndsReading {A : Type 0} (turns : ℕ) (role : Role) (end : ReaderEnd) (made : Option ℕ) (me : ActorState A) (half : ReadHalf)
     (may_fail : Bool) : Type 0 where
   pub connection : connection_of me ≡ made
   pub alone : made ≡ None → events_of me ≡ link_events me
   pub row : half.is_known ≡ true → ReadRow role end made (link_events me) half.bytes
-  pub counts : SourceRow end half
+  pub counts : SourceRow turns end half
   pub failed : end ≡ ReadFailed → may_fail ≡ true
 
 -- how a reader ends where its bytes do
@@ -141,10 +141,10 @@ pub record HasReadOn {A : Type 0} (role : Role) (r : Reading A) (me : ActorState
   pub unfailed : half.failures ≡ 0
 
 -- what so many pieces did, of a link of which a read may fail or not
-abbrev pub HasReadPieces : {A : Type 0} → Role → Piece A → ActorState A → ReadHalf → Bool → ℕ → Type 0
-HasReadPieces role (piece.More r) me half may_fail count = HasReadOn role r me half count
-HasReadPieces role (piece.End made end) me half may_fail count = EndsReading role end made me half may_fail
-HasReadPieces role (piece.Stop f) me half may_fail count = ⊤
+abbrev pub HasReadPieces : {A : Type 0} → ℕ → Role → Piece A → ActorState A → ReadHalf → Bool → ℕ → Type 0
+HasReadPieces turns role (piece.More r) me half may_fail count = HasReadOn role r me half count
+HasReadPieces turns role (piece.End made end) me half may_fail count = EndsReading turns role end made me half may_fail
+HasReadPieces turns role (piece.Stop f) me half may_fail count = ⊤
 
 -- how a reader ends that reads no more after a piece: as the piece ended it, or because its turns are over
 abbrev pub end_of_turns : {A : Type 0} → Piece A → Result (Option ℕ × ReaderEnd) BodyFault

@@ -17,7 +17,7 @@ pub enum ReaderEnd {
     Fault(FrameFault),
     /// A read failed.
     ReadFailed,
-    /// 1,000,000 reads gave bytes, which is the limit.
+    /// As many reads gave bytes as may.
     Turns,
     /// The bytes differ from the greeting.
     GreetingRefused,

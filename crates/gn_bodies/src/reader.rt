@@ -35,9 +35,6 @@ pub struct ReaderDone<Rd, B: Site + Ledger, A: Allocator = Global> {
     pub found_closed: Option<FoundClosed>,
 }
 
-/// The most reads of a link that give bytes.
-const TURNS: u32 = 1_000_000;
-
 impl<'s, G: Gate, B: Site + Ledger, C: RouterCore<A> + Drop, A: Allocator + Copy> ReaderHandler<
     's,
     G,
@@ -58,12 +55,13 @@ impl<'s, G: Gate, B: Site + Ledger, C: RouterCore<A> + Drop, A: Allocator + Copy
         }
     }
 
-    /// Reads to the end, and closes nothing.
+    /// Reads to the end, or as often as so many reads give bytes, and closes nothing.
     fn read_all<Rd: LinkReader, R: Wait>(
         &mut self,
         rt: &R,
         reader: &mut Rd,
         role: Role,
+        turns: u32,
     ) -> Result<(Option<ConnId>, ReaderEnd), BodyFault>
         requires new { IsNewReader (Rd.state reader.old) }
         requires none { self.old.actor.receipts ≡ [] }
@@ -71,13 +69,13 @@ impl<'s, G: Gate, B: Site + Ledger, C: RouterCore<A> + Drop, A: Allocator + Copy
         ensures settled { StaysSettled self.old self.new }
         ensures made { Rd.made_of reader.new ≡ Rd.made_of reader.old }
         ensures own { IsReadFrom (Rd.gives (Rd.made_of reader.new)) (Rd.state reader.new) }
-        ensures read { IfOk result (λ r. EndsReading role r.1 r.0 self.new.actor (Rd.state reader.new)
+        ensures read { IfOk result (λ r. EndsReading turns role r.1 r.0 self.new.actor (Rd.state reader.new)
             (Rd.gives (Rd.made_of reader.new)).may_fail) }
     {
         gn_shake::greeting_is_known();
         let mut buffer = [0u8; 4096];
         let mut piece = self.begin(rt, role);
-        for _ in 0..TURNS {
+        for _ in 0..turns {
             piece = match piece {
                 Piece::More(reading) => self.read_piece(rt, reader, reading, &mut buffer),
                 ended => return ended.into_end(),
@@ -121,18 +119,19 @@ impl<'s, G: Gate, B: Site + Ledger, C: RouterCore<A> + Drop, A: Allocator + Copy
         rt: &R,
         reader: &mut Rd,
         role: Role,
+        turns: u32,
         found: &mut Option<FoundClosed>,
     ) -> Result<ReaderEnd, BodyFault>
         requires new { IsNewReader (Rd.state reader.old) }
         requires none { self.old.actor.receipts ≡ [] }
         ensures numbers { HasSameNumbers self.old self.new }
-        ensures done { IsReaderDone Rd.state Rd.made_of Rd.gives (half_of role reader.old)
+        ensures done { IsReaderDone Rd.state Rd.made_of Rd.gives turns (half_of role reader.old)
             (record { receipts = self.new.actor.receipts; half = reader.new; end = result }) }
         ensures put { OnOk result (self.old.is_refused ≡ false
             → self.new.intake.jobs ≡ self.old.intake.jobs ++ jobs_left self.new.actor.receipts) }
         ensures closed { IfOk result (λ end. HasClosedAt end found.new self.new.actor) }
     {
-        match self.read_all(rt, reader, role) {
+        match self.read_all(rt, reader, role, turns) {
             Ok((connection, end)) => match self.close_at(rt, connection, end, found) {
                 Ok(()) if self.is_refused => Err(BodyFault::Refused),
                 Ok(()) => Ok(end),
@@ -156,7 +155,7 @@ fn closes(end: ReaderEnd) -> bool
 /// The body of a reader: it awaits the greeting, connects, and admits what its bytes offer, in order. The job of each admitted
 /// descriptor is put, or routed by the reader itself where the intake hands it back. The gate learns of each step.
 ///
-/// Where a read failed, at a fault of the bytes and after as many reads as may be it closes the connection, or finds it closed.
+/// Where a read failed, at a fault of the bytes and once `turns` reads gave bytes it closes the connection, or finds it closed.
 /// The link's door is shut where it doesn't connect, and a stop fails the run. In any case the reader is done, and the
 /// link's reader and the intake are finished.
 pub fn reader_body<
@@ -174,6 +173,7 @@ pub fn reader_body<
     actor: Actor<B, A>,
     link: u32,
     role: Role,
+    turns: u32,
     reader: Rd,
     intake: Intake<B, A>,
 ) -> ReaderDone<Rd, B, A>
@@ -181,7 +181,7 @@ pub fn reader_body<
     requires number { actor.number ≡ link }
     requires none { actor.receipts ≡ [] }
     ensures same { (result.actor.number ≡ link) × (result.role ≡ role) × (result.home.number ≡ intake.number) }
-    ensures done { IsReaderDone Rd.state Rd.made_of Rd.gives (half_of role reader) (reader_ended result) }
+    ensures done { IsReaderDone Rd.state Rd.made_of Rd.gives turns (half_of role reader) (reader_ended result) }
     ensures put { OnOk result.end (result.home.jobs ≡ intake.jobs ++ jobs_left result.actor.receipts) }
     ensures finished { Rd.is_finished result.reader ≡ true }
     ensures closed { IfOk result.end (λ end. HasClosedAt end result.found_closed result.actor) }
@@ -196,7 +196,7 @@ pub fn reader_body<
         is_refused: false,
     };
     let mut found_closed = None;
-    let end = me.read_link(rt, &mut reader, role, &mut found_closed);
+    let end = me.read_link(rt, &mut reader, role, turns, &mut found_closed);
     fail_at_stop(rt, service, gate, &end);
     service.reader_done(rt, link);
     reader.finish(rt);

@@ -1,6 +1,6 @@
 //! How a reader takes the bytes of its link.
 
-ghost use Rattle.std.specs.Prelude.{◌≡◌, ◌+◌, ◌<◌, ◌++◌, [], ℕ, List, Some};
+ghost use Rattle.std.specs.Prelude.{◌≡◌, ◌+◌, ◌^◌, ◌<◌, ◌++◌, [], ℕ, List, Some};
 ghost use Rattle.gn_shake.specs.declared.role.Role.{Role};
 ghost use Rattle.gn_shake.specs.Greeting.{greeting_of};
 ghost use Rattle.gn_links.specs.Halves.{IsReadFrom};
@@ -42,10 +42,10 @@ impl<'s, G: Gate, B: Site + Ledger, C: RouterCore<A> + Drop, A: Allocator + Copy
         ensures settled { StaysSettled self.old self.new }
         ensures made { Rd.made_of reader.new ≡ Rd.made_of reader.old }
         ensures own { IsReadFrom (Rd.gives (Rd.made_of reader.new)) (Rd.state reader.new) }
-        ensures read { (role : Role) (count : ℕ) → count < 1000000
+        ensures read { (turns : ℕ) (role : Role) (count : ℕ) → count < 2 ^ 32
             → HasReadOn role reading self.old.actor (Rd.state reader.old) count
-            → HasReadPieces role result self.new.actor (Rd.state reader.new) (Rd.gives (Rd.made_of reader.new)).may_fail
-            (count + 1) }
+            → HasReadPieces turns role result self.new.actor (Rd.state reader.new)
+            (Rd.gives (Rd.made_of reader.new)).may_fail (count + 1) }
     {
         gn_shake::greeting_is_known();
         match reader.read(rt, buffer) {

@@ -1,5 +1,5 @@
 -- The limits of a configuration's numbers, and of a run.
-use Rattle.std.specs.Prelude.{ℕ, ◌≤◌}
+use Rattle.std.specs.Prelude.{ℕ, ◌≤◌, max}
 use Rattle.gn_rules.specs.declared.limits.Numbers.{Numbers}
 
 -- a number is from 1 to the limit
@@ -22,6 +22,10 @@ pub record AreWithin (n : Numbers) : Type 0 where
   pub steps : IsWithin n.steps most.steps
   pub life : n.life ≤ most.life
   pub crowd : n.crowd ≤ most.crowd
+
+-- how many reads of one link may give bytes in a run whose history may have so many steps: a million, or as many as that
+abbrev pub most_reads : ℕ → ℕ
+most_reads steps = max steps 1000000
 
 -- the most links of a run
 abbrev pub most_links : ℕ

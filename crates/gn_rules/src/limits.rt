@@ -1,5 +1,8 @@
 //! The numbers of a configuration, their limits, and those of a run.
 
+ghost use Rattle.std.specs.Prelude.{◌≡◌};
+ghost use Rattle.gn_rules.specs.Limits.{most_reads};
+
 /// The numbers of a router.
 #[derive(Clone, Copy, Debug, PartialEq, Eq)]
 pub struct Numbers {
@@ -33,6 +36,13 @@ impl Numbers {
         life: u8::MAX,
         crowd: 4_096,
     };
+
+    /// How many reads of one link may give bytes in a run: a million, or as many as the history may have steps, where these are more.
+    pub fn most_reads(&self) -> u32
+        ensures { result ≡ most_reads self.now.steps }
+    {
+        self.steps.max(1_000_000)
+    }
 }
 
 /// The most links of a run or of a capture.

@@ -67,52 +67,52 @@ turned_away {A} (r ∷ s ∷ rs) e =
     absurd (omega (arith, eqb-true (length (r ∷ s ∷ rs)) 1 (and_parts (length (r ∷ s ∷ rs) == 1) rest e).0))
 
 -- what a reader promised, and what the history confirms of it, is its row of the table
-pub reader_row : {A : Type 0} (steps : List (Step A)) (writer : ℕ) (first : Bool) (role : Role) (own : List (Receipt A)) (half : ReadHalf) (end : ReaderEnd) (conn : Option ℕ)
-    → conn ≡ conn_made own → ReadsAs role end conn own half → is_reader_end steps writer first own end conn ≡ true
-    → ReaderEnds steps writer first role own half end conn
-reader_row steps writer first role own half Bytes (Some c) is reads confirms = (reads.counts, confirms, reads.row)
-reader_row steps writer first role own half (Fault f) (Some c) is reads confirms = (confirms, reads.row)
-reader_row steps writer first role own half ReadFailed (Some c) is reads confirms = (reads.counts, confirms, reads.row)
-reader_row steps writer first role own half ReadFailed None is reads confirms = (reads.counts, reads.row)
-reader_row steps writer first role own half Turns (Some c) is reads confirms = (reads.counts, confirms, reads.row)
-reader_row steps writer first role own half Turns None is reads confirms = (reads.counts, reads.row)
-reader_row steps writer first role own half NotLive (Some c) is reads confirms = (confirms, reads.row)
-reader_row steps writer first role own half GreetingRefused None is reads confirms = (none_of own confirms, λ known. ((reads.row known).0, tt))
-reader_row steps writer first role own half GreetingCut None is reads confirms =
+pub reader_row : {A : Type 0} (turns : ℕ) (steps : List (Step A)) (writer : ℕ) (first : Bool) (role : Role) (own : List (Receipt A)) (half : ReadHalf) (end : ReaderEnd) (conn : Option ℕ)
+    → conn ≡ conn_made own → ReadsAs turns role end conn own half → is_reader_end steps writer first own end conn ≡ true
+    → ReaderEnds turns steps writer first role own half end conn
+reader_row turns steps writer first role own half Bytes (Some c) is reads confirms = (reads.counts, confirms, reads.row)
+reader_row turns steps writer first role own half (Fault f) (Some c) is reads confirms = (confirms, reads.row)
+reader_row turns steps writer first role own half ReadFailed (Some c) is reads confirms = (reads.counts, confirms, reads.row)
+reader_row turns steps writer first role own half ReadFailed None is reads confirms = (reads.counts, reads.row)
+reader_row turns steps writer first role own half Turns (Some c) is reads confirms = (reads.counts, confirms, reads.row)
+reader_row turns steps writer first role own half Turns None is reads confirms = (reads.counts, reads.row)
+reader_row turns steps writer first role own half NotLive (Some c) is reads confirms = (confirms, reads.row)
+reader_row turns steps writer first role own half GreetingRefused None is reads confirms = (none_of own confirms, λ known. ((reads.row known).0, tt))
+reader_row turns steps writer first role own half GreetingCut None is reads confirms =
     (reads.counts, none_of own confirms, λ known. ((reads.row known).0, tt))
-reader_row steps writer first role own half TooMany None is reads confirms = (confirms, λ known. ((reads.row known).0, tt))
-reader_row steps writer first role own half GreetingRefused (Some c) is reads confirms =
+reader_row turns steps writer first role own half TooMany None is reads confirms = (confirms, λ known. ((reads.row known).0, tt))
+reader_row turns steps writer first role own half GreetingRefused (Some c) is reads confirms =
     let no : Some c ≡ None = is ∙ ap conn_made (none_of own confirms) in absurd (cc)
-reader_row steps writer first role own half GreetingCut (Some c) is reads confirms =
+reader_row turns steps writer first role own half GreetingCut (Some c) is reads confirms =
     let no : Some c ≡ None = is ∙ ap conn_made (none_of own confirms) in absurd (cc)
-reader_row steps writer first role own half TooMany (Some c) is reads confirms =
+reader_row turns steps writer first role own half TooMany (Some c) is reads confirms =
     let no : Some c ≡ None = is ∙ (turned_away own confirms).1 in absurd (cc)
-reader_row steps writer first role own half Bytes None is reads confirms = absurd (cc)
-reader_row steps writer first role own half (Fault f) None is reads confirms = absurd (cc)
-reader_row steps writer first role own half NotLive None is reads confirms = absurd (cc)
+reader_row turns steps writer first role own half Bytes None is reads confirms = absurd (cc)
+reader_row turns steps writer first role own half (Fault f) None is reads confirms = absurd (cc)
+reader_row turns steps writer first role own half NotLive None is reads confirms = absurd (cc)
 
 -- and its row says all of that
-pub reader_back : {A : Type 0} (steps : List (Step A)) (writer : ℕ) (first : Bool) (role : Role) (own : List (Receipt A)) (half : ReadHalf) (end : ReaderEnd) (conn : Option ℕ)
-    → ReaderEnds steps writer first role own half end conn
+pub reader_back : {A : Type 0} (turns : ℕ) (steps : List (Step A)) (writer : ℕ) (first : Bool) (role : Role) (own : List (Receipt A)) (half : ReadHalf) (end : ReaderEnd) (conn : Option ℕ)
+    → ReaderEnds turns steps writer first role own half end conn
     → (half.is_known ≡ true → ReaderRow role end conn (link_events_in own) half.bytes) × (is_reader_end steps writer first own end conn ≡ true)
-reader_back steps writer first role own half Bytes (Some c) row = (row.2, row.1)
-reader_back steps writer first role own half (Fault f) (Some c) row = (row.1, row.0)
-reader_back steps writer first role own half ReadFailed (Some c) row = (row.2, row.1)
-reader_back steps writer first role own half ReadFailed None row = (row.1, refl)
-reader_back steps writer first role own half Turns (Some c) row = (row.2, row.1)
-reader_back steps writer first role own half Turns None row = (row.1, refl)
-reader_back steps writer first role own half NotLive (Some c) row = (row.1, row.0)
-reader_back {A} steps writer first role own half GreetingRefused None row =
+reader_back turns steps writer first role own half Bytes (Some c) row = (row.2, row.1)
+reader_back turns steps writer first role own half (Fault f) (Some c) row = (row.1, row.0)
+reader_back turns steps writer first role own half ReadFailed (Some c) row = (row.2, row.1)
+reader_back turns steps writer first role own half ReadFailed None row = (row.1, refl)
+reader_back turns steps writer first role own half Turns (Some c) row = (row.2, row.1)
+reader_back turns steps writer first role own half Turns None row = (row.1, refl)
+reader_back turns steps writer first role own half NotLive (Some c) row = (row.1, row.0)
+reader_back {A} turns steps writer first role own half GreetingRefused None row =
     (λ known. ((row.1 known).0, ap link_events_in row.0), ap (λ (rs : List (Receipt A)). length rs == 0) row.0)
-reader_back {A} steps writer first role own half GreetingCut None row =
+reader_back {A} turns steps writer first role own half GreetingCut None row =
     (λ known. ((row.2 known).0, ap link_events_in row.1), ap (λ (rs : List (Receipt A)). length rs == 0) row.1)
-reader_back steps writer first role own half TooMany None row = (λ known. ((row.1 known).0, (turned_away own row.0).0), row.0)
-reader_back steps writer first role own half GreetingRefused (Some c) row = absurd row
-reader_back steps writer first role own half GreetingCut (Some c) row = absurd row
-reader_back steps writer first role own half TooMany (Some c) row = absurd row
-reader_back steps writer first role own half Bytes None row = absurd row
-reader_back steps writer first role own half (Fault f) None row = absurd row
-reader_back steps writer first role own half NotLive None row = absurd row
+reader_back turns steps writer first role own half TooMany None row = (λ known. ((row.1 known).0, (turned_away own row.0).0), row.0)
+reader_back turns steps writer first role own half GreetingRefused (Some c) row = absurd row
+reader_back turns steps writer first role own half GreetingCut (Some c) row = absurd row
+reader_back turns steps writer first role own half TooMany (Some c) row = absurd row
+reader_back turns steps writer first role own half Bytes None row = absurd row
+reader_back turns steps writer first role own half (Fault f) None row = absurd row
+reader_back turns steps writer first role own half NotLive None row = absurd row
 
 -- the same of a writer
 pub writer_row : {A : Type 0} (steps : List (Step A)) (roles : List Role) (writer : ℕ) (role : Role) (own : List (Receipt A)) (half : WrittenHalf) (end : WriterEnd) (conn : Option ℕ)
@@ -140,17 +140,17 @@ writer_back steps roles writer role own half Closed None row = absurd row
 writer_back steps roles writer role own half NeverOpened (Some c) row = absurd row
 
 -- what the headline says of a link's reader, as the body promised it and as the history confirms it
-pub link_read : {Rd W A : Type 0} (reads : Rd → ReadHalf) (writes : W → WrittenHalf) (roles : List Role) (report : Report Rd W A) (k : ℕ) (role : Role) (link : LinkReport Rd W A)
-    → LinkHolds reads writes roles report k role link
+pub link_read : {Rd W A : Type 0} (reads : Rd → ReadHalf) (writes : W → WrittenHalf) (turns : ℕ) (roles : List Role) (report : Report Rd W A) (k : ℕ) (role : Role) (link : LinkReport Rd W A)
+    → LinkHolds reads writes turns roles report k role link
     → ((reads link.reader).is_known ≡ true → ReaderRow role link.reader_end link.conn (link_events_in link.reader_receipts.items) (reads link.reader).bytes)
     × (is_reader_end report.history.items (writer_of report k) (may_close_first (list_all is_calling roles) role link.writer_end) link.reader_receipts.items link.reader_end link.conn ≡ true)
-link_read reads writes roles report k role link holds =
-    reader_back report.history.items (writer_of report k) (may_close_first (list_all is_calling roles) role link.writer_end) role link.reader_receipts.items (reads link.reader) link.reader_end link.conn holds.read
+link_read reads writes turns roles report k role link holds =
+    reader_back turns report.history.items (writer_of report k) (may_close_first (list_all is_calling roles) role link.writer_end) role link.reader_receipts.items (reads link.reader) link.reader_end link.conn holds.read
 
 -- the same of its writer
-pub link_written : {Rd W A : Type 0} (reads : Rd → ReadHalf) (writes : W → WrittenHalf) (roles : List Role) (report : Report Rd W A) (k : ℕ) (role : Role) (link : LinkReport Rd W A)
-    → LinkHolds reads writes roles report k role link
+pub link_written : {Rd W A : Type 0} (reads : Rd → ReadHalf) (writes : W → WrittenHalf) (turns : ℕ) (roles : List Role) (report : Report Rd W A) (k : ℕ) (role : Role) (link : LinkReport Rd W A)
+    → LinkHolds reads writes turns roles report k role link
     → ((writes link.writer).is_known ≡ true → WriterRow link.writer_end role (texts_of role link.writer_receipts.items) (writes link.writer).bytes)
     × (is_writer_end (is_settled report.history.items) roles report.history.items (writer_of report k) role link.writer_receipts.items link.writer_end link.conn ≡ true)
-link_written reads writes roles report k role link holds =
+link_written reads writes turns roles report k role link holds =
     writer_back report.history.items roles (writer_of report k) role link.writer_receipts.items (writes link.writer) link.writer_end link.conn holds.written

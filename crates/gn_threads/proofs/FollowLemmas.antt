@@ -11,6 +11,7 @@ use Rattle.gn_rules.specs.declared.receipt.Step.{Step}
 use Rattle.gn_rules.specs.Answer.{IsLegal}
 use Rattle.gn_rules.specs.Flight.{flying}
 use Rattle.gn_rules.specs.History.{mine}
+use Rattle.gn_rules.specs.Limits.{most_reads}
 use Rattle.gn_shake.specs.declared.role.Role.{Role}
 use Rattle.gn_links.specs.Halves.{ReadHalf, WrittenHalf}
 use Rattle.gn_laws.specs.Owners.{LinkAgrees, receipts_below}
@@ -34,10 +35,10 @@ confirmed_of reads writes s roles workers report holds = record {
   only = holds.own.1;
   reader = λ k role link below.
       let at = holds.links k role link below in
-      record { conn = at.conn; events = at.reader.0; once = at.reader.1; end = (link_read reads writes roles report k (get_or roles k role) (get_or report.links.items k link) at).1 };
+      record { conn = at.conn; events = at.reader.0; once = at.reader.1; end = (link_read reads writes (most_reads s.numbers.steps) roles report k (get_or roles k role) (get_or report.links.items k link) at).1 };
   writer = λ k role link below.
       let at = holds.links k role link below in
-      record { events = at.writer; end = (link_written reads writes roles report k (get_or roles k role) (get_or report.links.items k link) at).1 };
+      record { events = at.writer; end = (link_written reads writes (most_reads s.numbers.steps) roles report k (get_or roles k role) (get_or report.links.items k link) at).1 };
   routes = holds.routes.0;
 }
 

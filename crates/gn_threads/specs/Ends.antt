@@ -43,47 +43,48 @@ abbrev pub admitting : {A : Type 0} → ℕ → List Packet → List (Event A)
 admitting c descriptors = Connect ∷ map (Admit c) descriptors
 
 -- the table of ends for a reader: what was read, where that is known, its events except the Routes, and who closed its
--- connection. The argument `first` is for NotLive: whether its writer may close c before the reader is done
-abbrev pub ReaderEnds : {A : Type 0} → List (Step A) → ℕ → Bool → Role → List (Receipt A) → ReadHalf → ReaderEnd → Option ℕ → Type 0
+-- connection. The argument `turns` is for Turns: how many reads of a link may give bytes; `first` is for NotLive: whether its writer
+-- may close c before the reader is done
+abbrev pub ReaderEnds : {A : Type 0} → ℕ → List (Step A) → ℕ → Bool → Role → List (Receipt A) → ReadHalf → ReaderEnd → Option ℕ → Type 0
 -- a read found the end of the bytes, and they have no fault; it made a Connect, an Admit of each whole descriptor, in order, and no
 -- Close
-ReaderEnds steps writer first role own half Bytes (Some c) =
+ReaderEnds turns steps writer first role own half Bytes (Some c) =
     (half.has_ended ≡ true) × (not (list_any (λ r. is_close c r.event) own) ≡ true)
     × IsGreeted half role Done (λ frames. (frames.fault ≡ None) × (link_events_in own ≡ admitting c frames.descriptors))
 -- the bytes have the fault f; it made a Connect, an Admit of each descriptor before the fault, and perhaps a Close; somebody closed
 -- c
-ReaderEnds steps writer first role own half (Fault f) (Some c) =
+ReaderEnds turns steps writer first role own half (Fault f) (Some c) =
     IsClosed steps c
     × IsGreeted half role Done
     (λ frames. (frames.fault ≡ Some f) × WithClose c (link_events_in own) (admitting c frames.descriptors))
 -- a read failed; it made a Connect, an Admit of each whole descriptor, and perhaps a Close; somebody closed c
-ReaderEnds steps writer first role own half ReadFailed (Some c) =
+ReaderEnds turns steps writer first role own half ReadFailed (Some c) =
     (0 < half.failures) × IsClosed steps c
     × IsGreeted half role Done (λ frames. WithClose c (link_events_in own) (admitting c frames.descriptors))
 -- a read failed within the greeting; it made no event
-ReaderEnds steps writer first role own half ReadFailed None =
+ReaderEnds turns steps writer first role own half ReadFailed None =
     (0 < half.failures) × IsGreeted half role More (λ frames. link_events_in own ≡ [])
--- 1,000,000 reads gave bytes; all else as at `ReadFailed, Some c`
-ReaderEnds steps writer first role own half Turns (Some c) =
-    (half.pieces ≡ 1000000) × IsClosed steps c
+-- as many reads gave bytes as may; all else as at `ReadFailed, Some c`
+ReaderEnds turns steps writer first role own half Turns (Some c) =
+    (half.pieces ≡ turns) × IsClosed steps c
     × IsGreeted half role Done (λ frames. WithClose c (link_events_in own) (admitting c frames.descriptors))
--- 1,000,000 reads gave bytes within the greeting; it made no event
-ReaderEnds steps writer first role own half Turns None =
-    (half.pieces ≡ 1000000) × IsGreeted half role More (λ frames. link_events_in own ≡ [])
+-- as many reads gave bytes as may, within the greeting; it made no event
+ReaderEnds turns steps writer first role own half Turns None =
+    (half.pieces ≡ turns) × IsGreeted half role More (λ frames. link_events_in own ≡ [])
 -- its writer closed c first; it made a Connect, and an Admit of each of the first n descriptors, for some n, but not of all
-ReaderEnds steps writer first role own half NotLive (Some c) =
+ReaderEnds turns steps writer first role own half NotLive (Some c) =
     ((first && list_any (λ step. (step.actor == writer) && is_close c step.event) steps) ≡ true)
     × IsGreeted half role Done
     (λ frames. (n : ℕ) × (n < length frames.descriptors) × (link_events_in own ≡ admitting c (take n frames.descriptors)))
 -- the bytes differ from the greeting; it made no event
-ReaderEnds steps writer first role own half GreetingRefused None = (own ≡ []) × IsGreeted half role Refused (λ frames. ⊤)
+ReaderEnds turns steps writer first role own half GreetingRefused None = (own ≡ []) × IsGreeted half role Refused (λ frames. ⊤)
 -- a read found the end of the bytes within the greeting; it made no event
-ReaderEnds steps writer first role own half GreetingCut None =
+ReaderEnds turns steps writer first role own half GreetingCut None =
     (half.has_ended ≡ true) × (own ≡ []) × IsGreeted half role More (λ frames. ⊤)
 -- the greeting is whole; its one event was a Connect, with the reply TooMany
-ReaderEnds steps writer first role own half TooMany None =
+ReaderEnds turns steps writer first role own half TooMany None =
     (((length own == 1) && list_all (λ r. is_turned_away r.event r.reply) own) ≡ true) × IsGreeted half role Done (λ frames. ⊤)
-ReaderEnds steps writer first role own half end conn = ⊥
+ReaderEnds turns steps writer first role own half end conn = ⊥
 
 -- what a writer had to write: the opening text, and the packets that it took
 abbrev pub texts_of : {A : Type 0} → Role → List (Receipt A) → List (List ℕ)

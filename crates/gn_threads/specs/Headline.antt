@@ -7,6 +7,7 @@ use Rattle.std.specs.List.{count_by, filter_map, list_all, slice_get, sum_by}
 use Rattle.gn_rules.specs.declared.config.Config.{Config}
 use Rattle.gn_rules.specs.Answer.{IsLegal}
 use Rattle.gn_rules.specs.History.{connected_of}
+use Rattle.gn_rules.specs.Limits.{most_reads}
 use Rattle.gn_rules.specs.Statistics.{stats_of}
 use Rattle.gn_links.specs.Halves.{Source, IsReadFrom, ReadHalf, WrittenHalf}
 use Rattle.gn_shake.specs.declared.role.Role.{Role}
@@ -22,8 +23,8 @@ use Rattle.gn_report.specs.BodyEnds.{is_connect, is_settled, may_close_first}
 use Rattle.gn_report.specs.Flaw.{AreRoutes, TookAll}
 use Rattle.gn_threads.specs.Ends.{ReaderEnds, WriterEnds}
 
--- what holds of link k, of this role, in a run whose links have these roles
-pub record LinkHolds {Rd W A : Type 0} (reads : Rd → ReadHalf) (writes : W → WrittenHalf) (roles : List Role)
+-- what holds of link k, of this role, in a run whose links have these roles, and give bytes to at most `turns` reads each
+pub record LinkHolds {Rd W A : Type 0} (reads : Rd → ReadHalf) (writes : W → WrittenHalf) (turns : ℕ) (roles : List Role)
     (report : Report Rd W A) (k : ℕ) (role : Role) (link : LinkReport Rd W A) : Type 0 where
   -- the link's connection is the one that its reader's Connect got, if any
   pub conn : link.conn
@@ -32,7 +33,7 @@ pub record LinkHolds {Rd W A : Type 0} (reads : Rd → ReadHalf) (writes : W →
   pub reader : (list_all (λ r. is_readers link.conn r.event) link.reader_receipts.items ≡ true)
       × (count_by (λ r. is_connect r.event) link.reader_receipts.items ≤ 1)
   -- the reader is as the table of ends says
-  pub read : ReaderEnds report.history.items (writer_of report k) (may_close_first (list_all is_calling roles) role link.writer_end)
+  pub read : ReaderEnds turns report.history.items (writer_of report k) (may_close_first (list_all is_calling roles) role link.writer_end)
       role link.reader_receipts.items (reads link.reader) link.reader_end link.conn
   -- the writer's events are Take and Close of the connection
   pub writer : list_all (λ r. is_writers link.conn r.event) link.writer_receipts.items ≡ true
@@ -81,7 +82,7 @@ pub record Holds {Rd W A : Type 0} (reads : Rd → ReadHalf) (writes : W → Wri
   pub own : AreOwn report × (list_all (λ step. nat_lt step.actor (actors report)) report.history.items ≡ true)
   -- each link's reader and writer did what their ends say
   pub links : (k : ℕ) (role : Role) (link : LinkReport Rd W A) → k < length report.links.items
-      → LinkHolds reads writes roles report k (slice_index_or roles k role) (slice_index_or report.links.items k link)
+      → LinkHolds reads writes (most_reads s.numbers.steps) roles report k (slice_index_or roles k role) (slice_index_or report.links.items k link)
   -- the workers and the house made no event but Route; and at the end nothing is in flight
   pub routes : ((a : ℕ) → first_worker report ≤ a → a < actors report → AreRoutes (slice_index_or (receipts_of report) a []))
       × (is_settled report.history.items (length report.history.items) ≡ true)

@@ -3,7 +3,7 @@
 ghost use Rattle.std.specs.Prelude.{◌≡◌, ◌+◌, ◌*◌, ◌≤◌, ◌↔◌, [], ℕ, None, length, map, reverse, take, vec_len, IfErr, IfOk, IfSome};
 ghost use Rattle.gn_bodies.specs.Done.{IsReaderDone, IsWriterDone};
 ghost use Rattle.gn_rules.specs.Answer.{IsLegal};
-ghost use Rattle.gn_rules.specs.Limits.{IsCrew, most_links};
+ghost use Rattle.gn_rules.specs.Limits.{IsCrew, most_links, most_reads};
 ghost use Rattle.gn_threads.specs.declared.fault.RunFault.TheVariants.{BadWorkers, HistoryFull};
 ghost use Rattle.gn_threads.specs.Courses.{BeginsAnswer, BeginsRun, IsLeft};
 ghost use Rattle.gn_threads.specs.Faults.{IsArrivingFault};
@@ -19,6 +19,7 @@ use crate::finishing::finish;
 use crate::opening::{Opening, open_run};
 use crate::starting::start_and_join;
 use crate::stopped::Stopped;
+use crate::turns::{Limited, Turns};
 use crate::unstarted::Unstarted;
 use gn_hub::{Hub, Service};
 use gn_links::Gate;
@@ -193,9 +194,10 @@ where
     }
 }
 
-/// A run with its ledger and its stage, which `B` names. Where it stops, what stands of the history is put into `history`.
+/// A run with its ledger, its stage and its limit of reads, which `B` names. Where it stops, what stands of the history is put
+/// into `history`.
 fn run_arriving_in<
-    B: Site + Ledger + Send + Sync,
+    B: Site + Ledger + Limited + Send + Sync,
     C: RouterCore<A> + Drop + Send,
     W: Course<C, A> + Send + Drop,
     V: Arrivals,
@@ -223,6 +225,7 @@ where
     requires none { history.old ≡ None }
     requires blank { (blank.name ≡ B.name) × (blank.parts ≡ B.parts)
         × (blank.parts ≡ 2 * length roles.now + workers + 1) × (stage ≡ B.stage) }
+    requires turns { B.turns ≡ most_reads config.now.numbers.steps }
     requires few { (length roles.now ≤ most_links) × IsCrew workers }
     requires empty { C.steps core ≡ [] }
     ensures fault { IfErr result.0 (λ fault. IsArrivingFault V.has_peers (length roles.now) workers fault) }
@@ -248,7 +251,10 @@ where
         house,
         desk,
     } = opening;
-    let (joined, ran) = run_bodies(rt, alloc, &service, gate, arrivals, unstarted, course);
+    let turns = Turns::of(config);
+    let (joined, ran) = run_bodies(
+        rt, alloc, &service, gate, &turns, arrivals, unstarted, course,
+    );
     let (core, frame) = service.into_hub().into_parts();
     let (router, rest) = W::end(ran, core);
     let Some(router) = router else {
@@ -270,7 +276,7 @@ where
 /// Runs all bodies to their ends, and who takes their steps beside them.
 fn run_bodies<
     'r,
-    B: Site + Ledger + Send + Sync,
+    B: Site + Ledger + Limited + Send + Sync,
     C: RouterCore<A> + Drop + Send,
     W: Course<C, A> + Send + Drop,
     V: Arrivals,
@@ -282,6 +288,7 @@ fn run_bodies<
     alloc: A,
     service: &Service<C, B, A>,
     gate: &G,
+    turns: &Turns<B>,
     arrivals: V,
     unstarted: Unstarted<'r, B, A>,
     course: W,
@@ -294,14 +301,15 @@ where
     V::Writer: Send,
     W::Followed: Send + Drop,
     ensures joined { IfOk result.0 (λ done. AreJoinedOf
-        (IsReaderDone V.Reader.state V.Reader.made_of V.Reader.gives) (IsWriterDone V.Writer.state V.Writer.made_of)
+        (IsReaderDone V.Reader.state V.Reader.made_of V.Reader.gives B.turns)
+        (IsWriterDone V.Writer.state V.Writer.made_of)
         V.Reader.made_of V.Writer.made_of V.foreknown unstarted.entry.roles.now (V.coming arrivals)
         (vec_len unstarted.entry.outlets) done) }
     ensures fault { IfErr result.0 (λ fault. (workers : ℕ)
         → IsArrivingFault V.has_peers (length unstarted.entry.roles.now) workers fault) }
     ensures follows { W.follows course result.1 }
 {
-    let bodies = move || start_and_join(rt, alloc, service, gate, arrivals, unstarted);
+    let bodies = move || start_and_join(rt, alloc, service, gate, turns, arrivals, unstarted);
     if W::IS_BESIDE {
         return run_beside(rt, service.room(), course, bodies);
     }

@@ -20,6 +20,7 @@ ghost use Rattle.std.specs.Prelude.{
 ghost use Rattle.std.specs.List.{sum_by};
 ghost use Rattle.gn_report.specs.Actors.{receipts_of};
 ghost use Rattle.gn_rules.specs.Answer.{IsLegal};
+ghost use Rattle.gn_rules.specs.Limits.{most_reads};
 ghost use Rattle.gn_rules.specs.Statistics.{stats_of};
 ghost use Rattle.gn_threads.specs.Faults.{IsFaultOf};
 ghost use Rattle.gn_threads.specs.declared.fault.RunFault.TheVariants.{HistoryFull};
@@ -119,7 +120,8 @@ pub(crate) fn report<
 ) -> Result<Report<Rd, W, A>, RunFault>
     requires counted { AreCounted L.parts (length roles.now) (vec_len linked.links) (vec_len linked.links)
         (vec_len worked.receipts) }
-    requires ends { KeepEnds roles.now (map (λ l. halved Rd.state (reader_reported l)) linked.links.items)
+    requires ends { KeepEnds (most_reads config.now.numbers.steps) roles.now
+        (map (λ l. halved Rd.state (reader_reported l)) linked.links.items)
         (map (λ l. halved W.state (writer_reported l)) linked.links.items) }
     requires unconfirmed { IfSome unconfirmed
         (λ a. a < length roles.now + length roles.now + vec_len worked.receipts + 1) }
@@ -167,7 +169,8 @@ fn confirmed<Rd: LinkReader, W: LinkWriter, A: Allocator>(
     requires legal { unconfirmed ≡ None → IsLegal config.now (reverse report.history.items) }
     requires counted { (sum_by (λ receipts. length receipts) (receipts_of report) ≡ length report.history.items)
         × (report.stats ≡ stats_of (reverse report.history.items)) }
-    requires ends { KeepEnds roles.now (map (λ l. halved Rd.state (reader_reported l)) report.links.items)
+    requires ends { KeepEnds (most_reads config.now.numbers.steps) roles.now
+        (map (λ l. halved Rd.state (reader_reported l)) report.links.items)
         (map (λ l. halved W.state (writer_reported l)) report.links.items) }
     requires unconfirmed { IfSome unconfirmed
         (λ a. a < length roles.now + length roles.now + vec_len report.workers + 1) }

@@ -3,6 +3,7 @@
 ghost use Rattle.std.specs.Prelude.{◌≡◌, ◌+◌, ◌*◌, ◌<◌, ℕ, None, length, map, reverse, slice_index_or, vec_len, IfErr, IfOk, IfSome, IsOk};
 ghost use Rattle.gn_bodies.specs.declared.worker.WorkerDone.{WorkerDone};
 ghost use Rattle.gn_rules.specs.Answer.{IsLegal};
+ghost use Rattle.gn_rules.specs.Limits.{most_reads};
 ghost use Rattle.gn_threads.specs.Courses.{IsBegunBy};
 ghost use Rattle.gn_threads.specs.Faults.{IsFaultOf};
 ghost use Rattle.gn_threads.specs.declared.fault.RunFault.TheVariants.{HistoryFull};
@@ -52,7 +53,8 @@ pub(crate) fn finish<
     requires none { history.old ≡ None }
     requires counted { AreCounted B.parts (length roles.now) (vec_len done.readers) (vec_len done.writers)
         (vec_len done.workers) }
-    requires ends { KeepEnds roles.now (map (λ d. halved Rd.state (reader_ended d)) done.readers.items)
+    requires ends { KeepEnds (most_reads config.now.numbers.steps) roles.now
+        (map (λ d. halved Rd.state (reader_ended d)) done.readers.items)
         (map (λ d. halved W.state (writer_ended d)) done.writers.items) }
     ensures fault { IfErr result (λ fault. IsFaultOf (length roles.now) (vec_len done.workers) fault) }
     ensures holds { IfOk result (λ report. Holds Rd.state W.state config.now roles.now (vec_len done.workers) report) }
@@ -154,7 +156,8 @@ fn assemble<L: Ledger, C: Historian<A> + Drop, Rd: LinkReader, W: LinkWriter, A:
     requires none { history.old ≡ None }
     requires counted { AreCounted L.parts (length roles.now) (vec_len readers) (vec_len writers)
         (vec_len worked.receipts) }
-    requires ends { KeepEnds roles.now (map (λ d. halved Rd.state (reader_result d)) readers.items)
+    requires ends { KeepEnds (most_reads config.now.numbers.steps) roles.now
+        (map (λ d. halved Rd.state (reader_result d)) readers.items)
         (map (λ d. halved W.state (writer_ended d)) writers.items) }
     requires unconfirmed { IfSome unconfirmed
         (λ a. a < length roles.now + length roles.now + vec_len worked.receipts + 1) }

@@ -11,6 +11,7 @@ use crate::done::Done;
 use crate::ended::{Body, any_ended_with};
 use crate::fault::RunFault;
 use crate::start::{ReaderHandle, WorkerHandle, WriterHandle};
+use crate::turns::Limited;
 use gn_bodies::BodyFault;
 use gn_hub::Service;
 use gn_links::{LinkReader, LinkWriter};
@@ -77,13 +78,23 @@ fn join_each<T: Body, P: Promise<T>, A: Allocator + Copy, R: Threads>(
 
 /// The threads of a run that have started.
 #[derive(Drop)]
-pub(crate) struct Handles<Rd: LinkReader, W: LinkWriter, B: Site + Ledger, A: Allocator = Global> {
+pub(crate) struct Handles<
+    Rd: LinkReader,
+    W: LinkWriter,
+    B: Site + Ledger + Limited,
+    A: Allocator = Global,
+> {
     pub readers: Vec<ReaderHandle<Rd, B, A>, A>,
     pub writers: Vec<WriterHandle<W, B, A>, A>,
     pub workers: Vec<WorkerHandle<B, A>, A>,
 }
 
-impl<Rd: LinkReader, W: LinkWriter, B: Site + Ledger, A: Allocator + Copy> Handles<Rd, W, B, A> {
+impl<Rd: LinkReader, W: LinkWriter, B: Site + Ledger + Limited, A: Allocator + Copy> Handles<
+    Rd,
+    W,
+    B,
+    A,
+> {
     /// No threads.
     pub(crate) fn new(alloc: A) -> Self
         ensures { (result.readers.items ≡ []) × (result.writers.items ≡ []) × (result.workers.items ≡ []) }
@@ -119,7 +130,7 @@ impl<Rd: LinkReader, W: LinkWriter, B: Site + Ledger, A: Allocator + Copy> Handl
     /// that one of them found, or else memory.
     pub(crate) fn join<R: Threads>(self, rt: &R) -> Result<Done<Rd, W, B, A>, RunFault>
         ensures joined { IfOk result (λ done. AreJoined
-            (IsReaderDone Rd.state Rd.made_of Rd.gives) (IsWriterDone W.state W.made_of)
+            (IsReaderDone Rd.state Rd.made_of Rd.gives B.turns) (IsWriterDone W.state W.made_of)
             (map (λ h. half_of h.promise.start.value.role h.promise.start.value.reader) self.readers.items)
             (map (λ h. half_of h.promise.start.value.role h.promise.start.value.writer) self.writers.items)
             (vec_len self.workers) done) }

@@ -19,6 +19,7 @@ mod shares;
 mod start;
 mod starting;
 mod stopped;
+mod turns;
 mod unstarted;
 
 pub use arrivals::Arrivals;

@@ -7,6 +7,7 @@ ghost use Rattle.gn_bodies.specs.Done.{half_of, IsReaderDone, IsWriterDone, read
 ghost use Rattle.gn_bodies.specs.Events.{link_events};
 
 use crate::actors::UnstartedActors;
+use crate::turns::{Limited, Turns};
 use gn_bodies::{ReaderDone, WorkerDone, WriterDone, reader_body, worker_body, writer_body};
 use gn_hub::{Actor, Service};
 use gn_links::{Gate, LinkReader, LinkWriter};
@@ -58,11 +59,11 @@ pub(crate) struct Reads<Rd: LinkReader, B: Site + Ledger, A: Allocator = Global>
     pub start: Snapshot<ReaderStart<Rd, B, A>>,
 }
 
-impl<Rd: LinkReader, B: Site + Ledger, A: Allocator> Promise<ReaderDone<Rd, B, A>>
+impl<Rd: LinkReader, B: Site + Ledger + Limited, A: Allocator> Promise<ReaderDone<Rd, B, A>>
     for Reads<Rd, B, A> {
     ghost use Rattle.gn_bodies.specs.Done.{IsReaderDone, half_of, reader_ended};
 
-    ghost kept_by = { λ p r. IsReaderDone Rd.state Rd.made_of Rd.gives
+    ghost kept_by = { λ p r. IsReaderDone Rd.state Rd.made_of Rd.gives B.turns
         (half_of p.start.value.role p.start.value.reader) (reader_ended r) };
 }
 
@@ -102,7 +103,7 @@ pub(crate) type WorkerHandle<B, A> = PromisedHandle<WorkerDone<B, A>, Works>;
 /// The body of a reader, from its start.
 fn run_reader<
     Rd: LinkReader,
-    B: Site + Ledger,
+    B: Site + Ledger + Limited,
     C: RouterCore<A> + Drop,
     G: Gate,
     A: Allocator + Copy,
@@ -112,9 +113,11 @@ fn run_reader<
     alloc: A,
     service: &Service<C, B, A>,
     gate: &G,
+    turns: &Turns<B>,
     start: ReaderStart<Rd, B, A>,
 ) -> ReaderDone<Rd, B, A>
-    ensures { IsReaderDone Rd.state Rd.made_of Rd.gives (half_of start.role start.reader) (reader_ended result) }
+    ensures { IsReaderDone Rd.state Rd.made_of Rd.gives B.turns (half_of start.role start.reader)
+        (reader_ended result) }
 {
     let ReaderStart {
         actor,
@@ -123,7 +126,9 @@ fn run_reader<
         reader,
         intake,
     } = start;
-    reader_body(rt, alloc, service, gate, actor, link, role, reader, intake)
+    reader_body(
+        rt, alloc, service, gate, actor, link, role, turns.many, reader, intake,
+    )
 }
 
 /// The body of a writer, from its start.
@@ -198,19 +203,28 @@ fn start_thread<
 
 /// What each thread of a run is started with.
 #[derive(Drop)]
-pub(crate) struct Starter<'s, E, C: RouterCore<A> + Drop, B: Ledger, G, A: Allocator + Copy, R> {
+pub(crate) struct Starter<
+    's,
+    E,
+    C: RouterCore<A> + Drop,
+    B: Ledger + Limited,
+    G,
+    A: Allocator + Copy,
+    R,
+> {
     pub rt: &'s R,
     pub alloc: A,
     pub scope: &'s Scope<'s, E>,
     pub service: &'s Service<C, B, A>,
     pub gate: &'s G,
+    pub turns: &'s Turns<B>,
 }
 
 impl<
     's,
     E: 's,
     C: RouterCore<A> + Drop + Send + 's,
-    B: Site + Ledger + Send + Sync + 's,
+    B: Site + Ledger + Limited + Send + Sync + 's,
     G: Gate + Sync + 's,
     A: Allocator + Copy + Send + Sync + 's,
     R: Threads + Wait + Sync + 's,
@@ -228,10 +242,11 @@ impl<
             start: Snapshot::of(&start),
         };
         let (rt, alloc, service, gate) = (self.rt, self.alloc, self.service, self.gate);
+        let turns = self.turns;
         start_thread(
             self.scope,
             promise,
-            move || run_reader(rt, alloc, service, gate, start),
+            move || run_reader(rt, alloc, service, gate, turns, start),
             handles,
         )
     }

@@ -11,6 +11,7 @@ use crate::done::Done;
 use crate::fault::RunFault;
 use crate::joins::Handles;
 use crate::start::{ReaderStart, Starter, WriterStart};
+use crate::turns::{Limited, Turns};
 use crate::unstarted::{Unstarted, UnstartedLink, UnstartedLinks};
 use gn_hub::Service;
 use gn_links::{Gate, LinkReader, LinkWriter};
@@ -27,7 +28,7 @@ impl<
     's,
     E: 's,
     C: RouterCore<A> + Drop + Send + 's,
-    B: Site + Ledger + Send + Sync + 's,
+    B: Site + Ledger + Limited + Send + Sync + 's,
     G: Gate + Sync + 's,
     A: Allocator + Copy + Send + Sync + 's,
     R: Threads + Wait + Sync + 's,
@@ -209,7 +210,8 @@ impl<
         V::Reader: Send + 's,
         V::Writer: Send + 's,
         ensures joined { IfOk result (λ done. AreJoinedOf
-            (IsReaderDone V.Reader.state V.Reader.made_of V.Reader.gives) (IsWriterDone V.Writer.state V.Writer.made_of)
+            (IsReaderDone V.Reader.state V.Reader.made_of V.Reader.gives B.turns)
+            (IsWriterDone V.Writer.state V.Writer.made_of)
             V.Reader.made_of V.Writer.made_of V.foreknown unstarted.entry.roles.now (V.coming arrivals)
             (vec_len unstarted.entry.outlets) done) }
         ensures fault { IfErr result (λ fault. (workers : ℕ)
@@ -242,7 +244,7 @@ fn first(fault: RunFault, found: RunFault) -> RunFault
 pub(crate) fn start_and_join<
     'r,
     V: Arrivals,
-    B: Site + Ledger + Send + Sync,
+    B: Site + Ledger + Limited + Send + Sync,
     C: RouterCore<A> + Drop + Send,
     G: Gate + Sync,
     A: Allocator + Copy + Send + Sync,
@@ -252,6 +254,7 @@ pub(crate) fn start_and_join<
     alloc: A,
     service: &Service<C, B, A>,
     gate: &G,
+    turns: &Turns<B>,
     arrivals: V,
     unstarted: Unstarted<'r, B, A>,
 ) -> Result<Done<V::Reader, V::Writer, B, A>, RunFault>
@@ -259,7 +262,8 @@ where
     V::Reader: Send,
     V::Writer: Send,
     ensures joined { IfOk result (λ done. AreJoinedOf
-        (IsReaderDone V.Reader.state V.Reader.made_of V.Reader.gives) (IsWriterDone V.Writer.state V.Writer.made_of)
+        (IsReaderDone V.Reader.state V.Reader.made_of V.Reader.gives B.turns)
+        (IsWriterDone V.Writer.state V.Writer.made_of)
         V.Reader.made_of V.Writer.made_of V.foreknown unstarted.entry.roles.now (V.coming arrivals)
         (vec_len unstarted.entry.outlets) done) }
     ensures fault { IfErr result (λ fault. (workers : ℕ)
@@ -272,6 +276,7 @@ where
             scope,
             service,
             gate,
+            turns,
         };
         starter.run_all(arrivals, unstarted)
     })

@@ -251,7 +251,9 @@ where
     } = actors;
     let gate = Doorman::new();
     begin_refusals(refused);
-    let done = reader_body(rt, alloc, &service, &gate, a, 0, role, reader, intake);
+    let done = reader_body(
+        rt, alloc, &service, &gate, a, 0, role, 1_000_000, reader, intake,
+    );
     let read = (done.end, done.actor.receipts().len());
     drop(done);
     let worked = worker_end(rt, &service, k, &gate, outlet);

@@ -1,3 +1,4 @@
+use Rattle.gn_rules.specs.Limits.{most_reads}
 use Rattle.gn_threads.proofs.arriving.run_arriving_by.Given as goal
 
 abbrev pub ghosts-run_arriving_in-B-Ledger : goal.ghosts-run_arriving_in-B-Ledger
@@ -5,3 +6,6 @@ ghosts-run_arriving_in-B-Ledger g a = record { name = a.blank.name; parts = a.bl
 
 abbrev pub ghosts-run_arriving_in-B-Site : goal.ghosts-run_arriving_in-B-Site
 ghosts-run_arriving_in-B-Site g a = record { stage = a.stage }
+
+abbrev pub ghosts-run_arriving_in-B-Limited : goal.ghosts-run_arriving_in-B-Limited
+ghosts-run_arriving_in-B-Limited g a = record { turns = most_reads a.config.now.numbers.steps }

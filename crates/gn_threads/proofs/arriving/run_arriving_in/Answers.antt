@@ -3,10 +3,11 @@ use Rattle.std.proofs.lemmas.List.{length-map}
 use Rattle.std.proofs.lemmas.Result.{IfOk-weaker}
 use Rattle.std.proofs.lemmas.Simd.{map-map}
 use Rattle.std.specs.Prelude.{IfErr, IfOk, IfSome}
-use Rattle.gn_bodies.specs.Done.{reader_ended, writer_ended}
+use Rattle.gn_bodies.specs.Done.{ReaderKeeps, halved, reader_ended, writer_ended}
 use Rattle.gn_threads.specs.Faults.{IsArrivingFault, IsFaultOf}
 use Rattle.gn_threads.specs.Headline.{Holds}
 use Rattle.gn_threads.specs.Courses.{IsBegunBy}
+use Rattle.gn_threads.specs.Joined.{EachKeeps}
 use Rattle.gn_threads.proofs.CourseLemmas.{begins_answer, begun_as, begun_some, err_of, left_unopened, ok_of, some_of}
 use Rattle.gn_threads.proofs.FaultLemmas.{err_in_arriving}
 use Rattle.gn_threads.proofs.HoldsLemmas.{are_made_of, links_read_own, readers_keep, readers_made_of, writers_keep, writers_made_of}
@@ -16,8 +17,9 @@ pub finish-answer-requires-clause-ends : goal.finish-answer-requires-clause-ends
 finish-answer-requires-clause-ends g c =
     let all = (ok_of c.run_bodies-joined.result.0 c.in-Ok-joined.done _ c.in-Ok-joined.is c.run_bodies-joined.ensures.joined) in
     record {
-      readers = readers_keep g.V.Reader.LinkReader.state g.V.Reader.LinkReader.made_of g.V.Reader.LinkReader.gives all.reading _ c.in-Ok-joined.done.readers.items
-          (all.reading_roles ∙ c.in-Ok.ensures.roles) (omega (arith, c.in-Ok-joined.done.readers.ok, all.joined.read)) all.joined.readers;
+      readers = subst (λ turns. EachKeeps (ReaderKeeps turns) c.args.roles.now (map (λ d. halved g.V.Reader.LinkReader.state (reader_ended d)) c.in-Ok-joined.done.readers.items)) c.requires.turns
+          (readers_keep g.V.Reader.LinkReader.state g.V.Reader.LinkReader.made_of g.V.Reader.LinkReader.gives g.B.Limited.turns all.reading _ c.in-Ok-joined.done.readers.items
+          (all.reading_roles ∙ c.in-Ok.ensures.roles) (omega (arith, c.in-Ok-joined.done.readers.ok, all.joined.read)) all.joined.readers);
       writers = writers_keep g.V.Writer.LinkWriter.state g.V.Writer.LinkWriter.made_of all.writing _ c.in-Ok-joined.done.writers.items
           (all.writing_roles ∙ c.in-Ok.ensures.roles) (omega (arith, c.in-Ok-joined.done.writers.ok, all.joined.written)) all.joined.writers;
     }
@@ -57,9 +59,9 @@ returns-in-Ok-joined-clause-bytes g c =
     let many : length bodies ≡ length all.reading = omega (arith, length-map c.in-Ok-joined.done.readers.items reader_ended, c.in-Ok-joined.done.readers.ok, all.joined.read) in
     IfOk-weaker _ _ _
     (λ report has.
-    let made = readers_made_of g.V.Reader.LinkReader.state reader_of gives all.reading bodies report many all.joined.readers has.readers in
+    let made = readers_made_of g.V.Reader.LinkReader.state reader_of gives g.B.Limited.turns all.reading bodies report many all.joined.readers has.readers in
     let own = sym (map-map gives (λ h. reader_of h.half) all.reading) ∙ ap (map gives) (sym made) ∙ map-map gives (λ link. reader_of link.reader) report.links.items in
-    links_read_own g.V.Reader.LinkReader.state reader_of gives all.reading _ bodies report own many has.readers all.joined.readers)
+    links_read_own g.V.Reader.LinkReader.state reader_of gives g.B.Limited.turns all.reading _ bodies report own many has.readers all.joined.readers)
     c.finish-answer.ensures.bodies
 
 pub returns-in-Ok-joined-clause-made : goal.returns-in-Ok-joined-clause-made
@@ -71,7 +73,7 @@ returns-in-Ok-joined-clause-made g c =
     let more : length written ≡ length all.writing = omega (arith, length-map c.in-Ok-joined.done.writers.items writer_ended, c.in-Ok-joined.done.writers.ok, all.joined.written) in
     let first = ap (λ roles. take (length roles) (g.V.Arrivals.coming c.args.arrivals)) c.in-Ok.ensures.roles in
     IfOk-weaker _ _ _
-    (λ report has. are_made_of g.V.Reader.LinkReader.state g.V.Reader.LinkReader.made_of g.V.Reader.LinkReader.gives g.V.Writer.LinkWriter.state g.V.Writer.LinkWriter.made_of g.V.Arrivals.foreknown all.reading all.writing read written _ report (all.reading_made ∙ first) all.writing_made many more all.joined.readers all.joined.writers has.readers has.writers)
+    (λ report has. are_made_of g.V.Reader.LinkReader.state g.V.Reader.LinkReader.made_of g.V.Reader.LinkReader.gives g.B.Limited.turns g.V.Writer.LinkWriter.state g.V.Writer.LinkWriter.made_of g.V.Arrivals.foreknown all.reading all.writing read written _ report (all.reading_made ∙ first) all.writing_made many more all.joined.readers all.joined.writers has.readers has.writers)
     c.finish-answer.ensures.bodies
 
 pub returns-in-Ok-joined-clause-one : goal.returns-in-Ok-joined-clause-one
@@ -83,7 +85,7 @@ returns-in-Ok-joined-clause-one g c =
     let more : length written ≡ length all.writing = omega (arith, length-map c.in-Ok-joined.done.writers.items writer_ended, c.in-Ok-joined.done.writers.ok, all.joined.written) in
     IfOk-weaker _ _ _
     (λ report has. writers_made_of g.V.Writer.LinkWriter.state g.V.Writer.LinkWriter.made_of all.writing written report more all.joined.writers has.writers ∙ all.writing_made
-    ∙ sym (readers_made_of g.V.Reader.LinkReader.state g.V.Reader.LinkReader.made_of g.V.Reader.LinkReader.gives all.reading read report many all.joined.readers has.readers))
+    ∙ sym (readers_made_of g.V.Reader.LinkReader.state g.V.Reader.LinkReader.made_of g.V.Reader.LinkReader.gives g.B.Limited.turns all.reading read report many all.joined.readers has.readers))
     c.finish-answer.ensures.bodies
 
 pub returns-in-Ok-joined-clause-rest : goal.returns-in-Ok-joined-clause-rest

@@ -1,5 +1,6 @@
 use Rattle.std.proofs.Common.{◌≡◌, ◌<◌, ◌+◌, length, vec_len, refl, sym, subst, arith}
 use Rattle.std.specs.Prelude.{IfSome}
+use Rattle.gn_rules.specs.Limits.{most_reads}
 use Rattle.gn_report.specs.Actors.{actors}
 use Rattle.gn_report.specs.BodyEnds.{is_settled}
 use Rattle.gn_report.specs.Flaw.{IsFlaw}
@@ -21,7 +22,7 @@ returns-in-None-clause-holds g c =
       legal = legal;
       each = (sym c.requires.roles, omega (arith, it.workers.ok));
       own = (all.own, all.only);
-      links = links_hold s g.Rd.LinkReader.state g.W.LinkWriter.state roles it legal all c.requires.ends.readers c.requires.ends.writers;
+      links = links_hold s g.Rd.LinkReader.state g.W.LinkWriter.state (most_reads s.numbers.steps) roles it legal all c.requires.ends.readers c.requires.ends.writers;
       routes = (all.routes, (house_at (is_settled it.history.items) roles it settled).tickets);
       stats = c.requires.counted.1;
     }

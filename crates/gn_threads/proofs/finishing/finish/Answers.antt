@@ -3,6 +3,7 @@ use Rattle.std.specs.Prelude.{IfErr, IfOk, IsOk}
 use Rattle.gn_bodies.specs.declared.worker.WorkerDone.{WorkerDone}
 use Rattle.gn_threads.specs.Faults.{IsFaultOf}
 use Rattle.std.proofs.lemmas.Result.{on_ok_weaker}
+use Rattle.gn_rules.specs.Limits.{most_reads}
 use Rattle.gn_bodies.specs.Done.{reader_ended, halved, writer_ended}
 use Rattle.gn_threads.specs.Joined.{KeepEnds}
 use Rattle.gn_threads.specs.Headline.{Holds}
@@ -26,7 +27,7 @@ assemble-requires-clause-counted g c =
 
 pub assemble-requires-clause-ends : goal.assemble-requires-clause-ends
 assemble-requires-clause-ends g c =
-    subst (λ bodies. KeepEnds c.args.roles.now bodies (map (λ d. halved g.W.LinkWriter.state (writer_ended d)) c.args.done.writers.items))
+    subst (λ bodies. KeepEnds (most_reads c.args.config.now.numbers.steps) c.args.roles.now bodies (map (λ d. halved g.W.LinkWriter.state (writer_ended d)) c.args.done.writers.items))
     (sym (known_alike reader_result reader_ended (halved g.Rd.LinkReader.state) _ c.args.done.readers.items c.in-Ok.ensures.readers)) c.requires.ends
 
 pub assemble-requires-clause-unconfirmed : goal.assemble-requires-clause-unconfirmed

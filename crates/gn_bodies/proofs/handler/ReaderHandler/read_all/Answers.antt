@@ -8,13 +8,13 @@ loop-init g c = record {
   settled = λ jobs is. is;
   made = refl;
   own = nothing_read (g.Rd.LinkReader.gives (g.Rd.LinkReader.made_of c.args.reader.now)) _ c.requires.new;
-  read = pieces_taken c.args.role c.begin-piece.result c.args.self.now c.begin-piece.new.self (g.Rd.LinkReader.state c.args.reader.now) _ 0 c.begin-piece.ensures.piece
+  read = pieces_taken c.args.turns c.args.role c.begin-piece.result c.args.self.now c.begin-piece.new.self (g.Rd.LinkReader.state c.args.reader.now) _ 0 c.begin-piece.ensures.piece
       (λ _. rw c.requires.new.none c.begin-piece.ensures.taken) c.requires.new.unread c.requires.new.unfailed;
 }
 
 pub read_piece-requires : goal.read_piece-requires
 read_piece-requires g c = record {
-  connection = (pieces_more c.args.role c.loop.piece c.in-More.reading c.loop.self.actor (g.Rd.LinkReader.state c.loop.reader) _ c.loop.counter c.in-More.is c.loop.invariant.read).has;
+  connection = (pieces_more c.args.turns c.args.role c.loop.piece c.in-More.reading c.loop.self.actor (g.Rd.LinkReader.state c.loop.reader) _ c.loop.counter c.in-More.is c.loop.invariant.read).has;
 }
 
 pub loop-preserved : goal.loop-preserved
@@ -26,8 +26,8 @@ loop-preserved g c =
       settled = λ jobs is. did.settled jobs (was.settled jobs is);
       made = did.made ∙ was.made;
       own = did.own;
-      read = did.read c.args.role c.loop.counter (omega arith)
-          (pieces_more c.args.role c.loop.piece c.in-More.reading c.loop.self.actor (g.Rd.LinkReader.state c.loop.reader) _ c.loop.counter c.in-More.is was.read);
+      read = did.read c.args.turns c.args.role c.loop.counter (omega arith)
+          (pieces_more c.args.turns c.args.role c.loop.piece c.in-More.reading c.loop.self.actor (g.Rd.LinkReader.state c.loop.reader) _ c.loop.counter c.in-More.is was.read);
     }
 
 pub returns-in_default-clause-numbers : goal.returns-in_default-clause-numbers
@@ -44,7 +44,7 @@ returns-in_default-clause-own g c = c.loop.invariant.own
 
 pub returns-in_default-clause-read : goal.returns-in_default-clause-read
 returns-in_default-clause-read g c =
-    rw c.into_end.ensures (pieces_ended c.args.role c.loop.piece c.loop.self.actor (g.Rd.LinkReader.state c.loop.reader) _ c.loop.counter c.greeting_is_known.ensures (λ r is. absurd (c.in_default.not-More r is)) c.loop.invariant.read)
+    rw c.into_end.ensures (pieces_ended c.args.turns c.args.role c.loop.piece c.loop.self.actor (g.Rd.LinkReader.state c.loop.reader) _ c.loop.counter c.greeting_is_known.ensures (λ r is. absurd (c.in_default.not-More r is)) c.loop.invariant.read)
 
 pub returns-clause-numbers : goal.returns-clause-numbers
 returns-clause-numbers g c = (c.loop.invariant.numbers.0 ∙ c.begin-piece.ensures.piece.numbers.0, c.loop.invariant.numbers.1 ∙ c.begin-piece.ensures.piece.numbers.1)
@@ -60,4 +60,4 @@ returns-clause-own g c = c.loop.invariant.own
 
 pub returns-clause-read : goal.returns-clause-read
 returns-clause-read g c =
-    rw c.into_end-2.ensures (pieces_ended c.args.role c.loop.piece c.loop.self.actor (g.Rd.LinkReader.state c.loop.reader) _ c.loop.counter c.greeting_is_known.ensures (λ r is. search rules) c.loop.invariant.read)
+    rw c.into_end-2.ensures (pieces_ended c.args.turns c.args.role c.loop.piece c.loop.self.actor (g.Rd.LinkReader.state c.loop.reader) _ c.loop.counter c.greeting_is_known.ensures (λ r is. search rules) c.loop.invariant.read)

@@ -10,5 +10,5 @@ invariant-loop g l = record {
   settled : StaysSettled l.initial.self l.self;
   made : g.Rd.LinkReader.made_of l.reader ≡ g.Rd.LinkReader.made_of l.initial.reader;
   own : IsReadFrom (g.Rd.LinkReader.gives (g.Rd.LinkReader.made_of l.reader)) (g.Rd.LinkReader.state l.reader);
-  read : HasReadPieces l.fn.role l.piece l.self.actor (g.Rd.LinkReader.state l.reader) (g.Rd.LinkReader.gives (g.Rd.LinkReader.made_of l.reader)).may_fail l.counter;
+  read : HasReadPieces l.fn.turns l.fn.role l.piece l.self.actor (g.Rd.LinkReader.state l.reader) (g.Rd.LinkReader.gives (g.Rd.LinkReader.made_of l.reader)).may_fail l.counter;
 }

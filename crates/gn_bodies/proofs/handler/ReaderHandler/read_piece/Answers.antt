@@ -3,7 +3,7 @@ use Rattle.gn_bodies.proofs.ReadingLemmas.{alone_of_reading, conn_of_reading, en
 use Rattle.gn_bodies.proofs.handler.ReaderHandler.read_piece.Goals as goal
 
 pub returns-in-Err-clause-read : goal.returns-in-Err-clause-read
-returns-in-Err-clause-read g c role count below was =
+returns-in-Err-clause-read g c turns role count below was =
     let before = g.Rd.LinkReader.state c.args.reader.now in
     let did = c.in-Err.ensures.state in
     record {
@@ -18,7 +18,7 @@ returns-in-Err-clause-read g c role count below was =
     }
 
 pub returns-in-Ok-eq0-clause-read : goal.returns-in-Ok-eq0-clause-read
-returns-in-Ok-eq0-clause-read g c role count below was =
+returns-in-Ok-eq0-clause-read g c turns role count below was =
     let before = g.Rd.LinkReader.state c.args.reader.now in
     let did = c.in-Ok-eq0.ensures.state in
     let zero : c.in-Ok-eq0.field-0 ≡ 0 = search rules in
@@ -34,12 +34,12 @@ returns-in-Ok-eq0-clause-read g c role count below was =
     }
 
 pub returns-in-Greeting-clause-read : goal.returns-in-Greeting-clause-read
-returns-in-Greeting-clause-read g c role count below was =
+returns-in-Greeting-clause-read g c turns role count below was =
     let before = g.Rd.LinkReader.state c.args.reader.now in
     let did = c.in-Ok.ensures.state in
     let taken = c.greet.ensures in
     let pieces : (g.Rd.LinkReader.state c.read.new.self).pieces ≡ count + 1 = search rules in
-    pieces_taken role c.greet.result c.args.self.now c.greet.new.self (g.Rd.LinkReader.state c.read.new.self) _ (count + 1) taken.piece
+    pieces_taken turns role c.greet.result c.args.self.now c.greet.new.self (g.Rd.LinkReader.state c.read.new.self) _ (count + 1) taken.piece
     (λ known.
     let is_known : before.is_known ≡ true = sym did.known ∙ known in
     let is = read_greeting role c.args.reading c.in-Greeting.shake before.bytes c.args.self.now.actor c.in-Greeting.is (was.is is_known) in
@@ -47,12 +47,12 @@ returns-in-Greeting-clause-read g c role count below was =
     pieces (did.failures ∙ was.unfailed)
 
 pub returns-in-Joined-clause-read : goal.returns-in-Joined-clause-read
-returns-in-Joined-clause-read g c role count below was =
+returns-in-Joined-clause-read g c turns role count below was =
     let before = g.Rd.LinkReader.state c.args.reader.now in
     let did = c.in-Ok.ensures.state in
     let taken = c.deliver_on.ensures in
     let pieces : (g.Rd.LinkReader.state c.read.new.self).pieces ≡ count + 1 = search rules in
-    pieces_taken role c.deliver_on.result c.args.self.now c.deliver_on.new.self (g.Rd.LinkReader.state c.read.new.self) _ (count + 1) taken.piece
+    pieces_taken turns role c.deliver_on.result c.args.self.now c.deliver_on.new.self (g.Rd.LinkReader.state c.read.new.self) _ (count + 1) taken.piece
     (λ known.
     let is_known : before.is_known ≡ true = sym did.known ∙ known in
     let is = read_joined role c.args.reading c.in-Joined.connection c.in-Joined.frames before.bytes c.args.self.now.actor c.in-Joined.is (was.is is_known) in
