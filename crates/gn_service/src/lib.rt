@@ -31,7 +31,7 @@ pub use gn_shake::Role;
 pub use gn_tcp::{TcpLink, TcpOrigin, TcpReader, TcpWriter, listen};
 pub use gn_threads::{
     Arrivals, Course, InMemory, RunFault, Stopped, run, run_arriving, run_arriving_by,
-    run_arriving_kept,
+    run_arriving_kept, run_by,
 };
 pub use ran::Ran;
 pub use serve::{serve_by, serve_kept, serve_on};

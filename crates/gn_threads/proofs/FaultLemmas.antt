@@ -76,11 +76,11 @@ without_peers links workers (Stage fault) holds = holds
 without_peers links workers (Audit a) holds = holds
 
 -- so of a run with as many workers as it may have, over links of which as much is known
-pub err_without_peers : {T : Type 0} (may : List Bool) (links workers : ℕ) (r : Result T RunFault) → length may ≡ links
-    → IfErr r (λ fault. IsCrew workers → IsArrivingFault false links workers fault) → IfErr r (λ fault. IsCrew workers → IsWholeFault may workers fault)
-err_without_peers may links workers (Ok x) many holds = tt
-err_without_peers may links workers (Err fault) many holds =
-    λ crew. in_whole may workers fault (subst (λ n. IsFaultOf n workers fault) (sym many) (without_peers links workers fault (holds crew)))
+pub err_without_peers : {T E : Type 0} (of : E → RunFault) (may : List Bool) (links workers : ℕ) (r : Result T E) → length may ≡ links
+    → IfErr r (λ e. IsCrew workers → IsArrivingFault false links workers (of e)) → IfErr r (λ e. IsCrew workers → IsWholeFault may workers (of e))
+err_without_peers of may links workers (Ok x) many holds = tt
+err_without_peers of may links workers (Err e) many holds =
+    λ crew. in_whole may workers (of e) (subst (λ n. IsFaultOf n workers (of e)) (sym many) (without_peers links workers (of e) (holds crew)))
 
 -- such a fault isn't that there are too few or too many workers
 pub not_bad_workers : (may : List Bool) (workers : ℕ) (fault : RunFault) → IsWholeFault may workers fault → ¬ (fault ≡ BadWorkers)

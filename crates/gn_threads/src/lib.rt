@@ -26,5 +26,5 @@ pub use arrivals::Arrivals;
 pub use arriving::{run_arriving, run_arriving_by, run_arriving_kept};
 pub use course::{Course, InMemory};
 pub use fault::RunFault;
-pub use runs::{run, runs_add_up};
+pub use runs::{run, run_by, runs_add_up};
 pub use stopped::Stopped;

@@ -1,17 +1,21 @@
 //! A run from its links to its report.
 
-ghost use Rattle.std.specs.Prelude.{◌≡◌, ◌≤◌, ◌↔◌, length, map, IfErr, IfOk};
+ghost use Rattle.std.specs.Prelude.{◌≡◌, ◌≤◌, ◌↔◌, [], length, map, reverse, IfErr, IfOk, IfSome};
+ghost use Rattle.gn_rules.specs.Answer.{IsLegal};
 ghost use Rattle.gn_rules.specs.Limits.{IsCrew, most_links};
-ghost use Rattle.gn_threads.specs.declared.fault.RunFault.TheVariants.{BadWorkers};
+ghost use Rattle.gn_threads.specs.declared.fault.RunFault.TheVariants.{BadWorkers, HistoryFull};
+ghost use Rattle.gn_threads.specs.Courses.{BeginsRun, IsLeft};
 ghost use Rattle.gn_threads.specs.Faults.{IsWholeFault};
 ghost use Rattle.gn_threads.specs.Headline.{AreMadeOf, Holds, LinksReadOwn, RunsAddUp};
 
 use crate::arrivals::Arrived;
-use crate::arriving::run_arriving;
+use crate::arriving::run_arriving_by;
+use crate::course::{Course, InMemory};
 use crate::fault::RunFault;
+use crate::stopped::Stopped;
 use gn_links::{Gate, Link, SplitLinks, split_all};
 use gn_report::Report;
-use gn_rules::{Config, Historian, MOST_WORKERS};
+use gn_rules::{Config, Historian, MOST_WORKERS, RouterCore};
 use std::alloc::Allocator;
 use std::sync::Wait;
 use std::thread::Threads;
@@ -53,12 +57,77 @@ where
     if workers == 0 || workers > MOST_WORKERS {
         return Err(RunFault::BadWorkers);
     }
-    let split = split_all(alloc, links)?;
+    let Ok(core) = C::make(alloc, config) else {
+        return Err(RunFault::NoMemory);
+    };
+    let (answer, ()) = run_by::<C, InMemory, K, G, A, R>(
+        rt, alloc, config, links, workers, gate, core, InMemory,
+    );
+    match answer {
+        Ok(report) => Ok(report),
+        Err(stopped) => Err(stopped.fault),
+    }
+}
+
+/// Does the same with a router of no steps, which may give its steps to somebody who runs beside it. What is left of that comes back;
+/// the history begins with the steps that it had. A fault comes with what stands of the history, which is legal by the configuration
+/// of the call, and has as many steps as it may have where the fault is a full history.
+pub fn run_by<
+    C: RouterCore<A> + Drop + Send,
+    W: Course<C, A> + Send + Drop,
+    K: Link,
+    G: Gate + Sync,
+    A: Allocator + Copy + Send + Sync,
+    R: Threads + Wait + Sync,
+>(
+    rt: &R,
+    alloc: A,
+    config: &Config,
+    links: Vec<K, A>,
+    workers: u32,
+    gate: &G,
+    core: C,
+    course: W,
+) -> (Result<Report<K::Reader, K::Writer, A>, Stopped<A>>, W::Rest)
+where
+    K::Reader: Send,
+    K::Writer: Send,
+    W::Followed: Send + Drop,
+    requires few { length links.items ≤ most_links }
+    requires empty { C.steps core ≡ [] }
+    ensures workers { IfOk result.0 (λ _. IsCrew workers) }
+    ensures bad_workers { IfErr result.0 (λ stopped. (stopped.fault ≡ BadWorkers) ↔ (¬ IsCrew workers)) }
+    ensures fault { IfErr result.0 (λ stopped. IsCrew workers
+        → IsWholeFault (map K.may_not_split links.items) workers stopped.fault) }
+    ensures kept { IfErr result.0 (λ stopped. IfSome stopped.history (λ history.
+        IsLegal config.now (reverse history.items))) }
+    ensures full { IfErr result.0 (λ stopped. stopped.fault ≡ HistoryFull → IfSome stopped.history (λ history.
+        length history.items ≡ config.now.numbers.steps)) }
+    ensures holds { IfOk result.0 (λ report. Holds K.Reader.state K.Writer.state config.now
+        (map K.role_of links.items) workers report) }
+    ensures bytes { IfOk result.0 (λ report. LinksReadOwn K.Reader.state
+        (map (λ link. K.Reader.gives (K.origin_of link)) links.items) report) }
+    ensures made { IfOk result.0 (λ report. AreMadeOf K.Reader.made_of K.Writer.made_of
+        (map K.origin_of links.items) report) }
+    ensures rest { IsLeft (W.follows course) W.leaves result.1 (BeginsRun result.0) }
+{
+    if workers == 0 || workers > MOST_WORKERS {
+        return (Err(Stopped::before(RunFault::BadWorkers)), course.give_up());
+    }
+    let split = match split_all(alloc, links) {
+        Ok(split) => split,
+        Err(fault) => {
+            return (
+                Err(Stopped::before(RunFault::from(fault))),
+                course.give_up(),
+            );
+        }
+    };
     let SplitLinks { roles, links } = split;
     let arrivals = Arrived {
         links: links.into_iter(),
     };
-    run_arriving::<C, Arrived<K, A>, G, A, R>(
+    run_arriving_by::<C, W, Arrived<K, A>, G, A, R>(
         rt,
         alloc,
         config,
@@ -66,6 +135,8 @@ where
         arrivals,
         workers,
         gate,
+        core,
+        course,
     )
 }
 
