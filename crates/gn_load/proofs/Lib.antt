@@ -6,3 +6,4 @@ pub mod LoadLemmas
 pub mod ServedLemmas
 pub mod WritingLemmas
 pub mod JournalLemmas
+pub mod JournalledLoadLemmas

@@ -11,18 +11,19 @@ use Rattle.gn_io.specs.declared.input.InputFault.TheVariants as input_fault
 use Rattle.gn_io.specs.Input.{IsInputFault, input_limit}
 use Rattle.gn_io.specs.Streams.{Streams, text_of}
 use Rattle.gn_links.specs.Memory.{Memory, MemoryReading, MemoryWriting, half_read, half_written, source_of}
+use Rattle.gn_rules.specs.declared.config.Config.{Config}
 use Rattle.gn_rules.specs.declared.config.Own.{Own}
 use Rattle.gn_rules.specs.Limits.{IsCrew}
 use Rattle.gn_text.specs.declared.fault.CaptureFault.{CaptureFault}
 use Rattle.gn_text.specs.declared.fault.CaptureRefusal.{CaptureRefusal}
 use Rattle.gn_text.specs.declared.fault.CaptureRefusal.TheVariants as refusal
-use Rattle.gn_text.specs.Faults.{IsRefused}
+use Rattle.gn_text.specs.Faults.{◌>>=◌, IsRefused}
 use Rattle.gn_rules.specs.declared.limits.Numbers.{Numbers}
 use Rattle.gn_text.specs.Settings.{settings_of}
 use Rattle.gn_capture.specs.declared.capture.Capture.{Capture}
 use Rattle.gn_capture.specs.declared.line.Line.{Line}
-use Rattle.gn_capture.specs.Captures.{capture_of, capture_seen}
-use Rattle.gn_capture.specs.Histories.{history_text}
+use Rattle.gn_capture.specs.Captures.{Parsed, capture_of, capture_seen}
+use Rattle.gn_capture.specs.Histories.{history_text, map_result}
 use Rattle.gn_replay.specs.Faults.{of_input, of_refusal}
 use Rattle.gn_replay.specs.declared.fault.ReplayFault.TheVariants as replay
 use Rattle.gn_report.specs.declared.report.Report.{Report}
@@ -83,11 +84,16 @@ stopped_unloaded A workers (Text replay.Write) read rest old is = absurd is
 stopped_unloaded A workers (Text replay.NoMemory) read rest old is = inl (kept old)
 stopped_unloaded A workers (Run fault) read rest old is = kept old
 
--- the fault of a text that is no capture
-pub refused_capture : (A : Type 0) (text : List ℕ) (workers : ℕ) (why : CaptureRefusal) → IsRefused why (capture_of {A = A} text)
-    → IsRunLoadFault workers (Text (of_refusal why)) (load_of A text)
-refused_capture A text workers (refusal.Fault fault) is = rw is refl
-refused_capture A text workers refusal.NoMemory is = tt
+-- the fault of a text that a load can't read
+pub refused_text : {X L : Type 0} (workers : ℕ) (why : CaptureRefusal) (read : Result (X × List L) CaptureFault) → IsRefused why read
+    → IsRunLoadFault workers (Text (of_refusal why)) read
+refused_text workers (refusal.Fault fault) read is = is
+refused_text workers refusal.NoMemory read is = tt
+
+-- a text that is no capture
+pub refused_capture : (A : Type 0) (text : List ℕ) (why : CaptureRefusal) → IsRefused why (capture_of {A = A} text) → IsRefused why (load_of A text)
+refused_capture A text (refusal.Fault fault) is = rw is refl
+refused_capture A text refusal.NoMemory is = tt
 
 -- what was read is read
 pub is_read : {X E : Type 0} (r : Result X E) (x : X) → r ≡ Ok x → IsOk r
@@ -128,36 +134,54 @@ module _ {A : Type 0} (text : List ℕ) (capture : Capture A) where
   loaded links read made = rw (read, made) refl
 
   -- a line that a load doesn't take
-  pub refused_links : (workers : ℕ) (why : CaptureRefusal) → capture_of text ≡ Ok (capture_seen capture)
-      → IsRefused why (links_from [] capture.lines.items) → IsRunLoadFault workers (Text (of_refusal why)) (load_of A text)
-  refused_links workers (refusal.Fault fault) read is = rw (read, is) refl
-  refused_links workers refusal.NoMemory read is = tt
+  pub refused_links : (why : CaptureRefusal) → capture_of text ≡ Ok (capture_seen capture) → IsRefused why (links_from [] capture.lines.items) → IsRefused why (load_of A text)
+  refused_links (refusal.Fault fault) read is = rw (read, is) refl
+  refused_links refusal.NoMemory read is = tt
 
+ok_is : {T E : Type 0} (a b : T) (r : Result T E) → r ≡ Ok a → r ≡ Ok b → a ≡ b
+ok_is a b r is eq = cc
+
+-- what a load reads, if it reads anything, are links of some lines
+of_links : {A : Type 0} (x y : Numbers × Own) (lines : List (ℕ × Line A)) (links : List Memory) (made : Result (List Memory) CaptureFault)
+    → links_from [] lines ≡ made → map_result {Y = (Numbers × Own) × List Memory} (λ l. (x, l)) made ≡ Ok (y, links) → links_from [] lines ≡ Ok links
+of_links x y lines links (Ok made) is eq =
+    let same : made ≡ links = ap (λ (loaded : (Numbers × Own) × List Memory). loaded.1) (ok_is (x, made) (y, links) _ refl eq) in
+    is ∙ ap (λ (l : List Memory). Ok l) same
+of_links x y lines links (Err e) is eq = absurd (cc)
+
+abbrev loaded_of : {A : Type 0} → Parsed A → Result ((Numbers × Own) × List Memory) CaptureFault
+loaded_of parsed = map_result (λ links. ((parsed.numbers, parsed.own), links)) (links_from [] parsed.lines)
+
+of_parsed : {A : Type 0} (read : Result (Parsed A) CaptureFault) (y : Numbers × Own) (links : List Memory) → (read >>= loaded_of) ≡ Ok (y, links)
+    → (lines : List (ℕ × Line A)) × (links_from [] lines ≡ Ok links)
+of_parsed (Ok parsed) y links is = (parsed.lines, of_links (parsed.numbers, parsed.own) y parsed.lines links (links_from [] parsed.lines) refl is)
+of_parsed (Err e) y links is = absurd (cc)
+
+-- a text of which a load reads this configuration and these links
+module _ (A : Type 0) (text : List ℕ) (s : Config) (links : List Memory) (read : load_of A text ≡ Ok (settings_of s, links)) (workers : ℕ) where
   -- a run that has no report
-  pub refused_run : (workers : ℕ) (links : List Memory) (fault : RunFault) → capture_of text ≡ Ok (capture_seen capture)
-      → links_from [] capture.lines.items ≡ Ok links → (fault ≡ BadWorkers) ↔ (¬ IsCrew workers)
-      → (IsCrew workers → IsFaultOf (length links) workers fault) → IsRunLoadFault workers (Run fault) (load_of A text)
-  refused_run workers links fault read made bad other =
+  pub refused_run : (fault : RunFault) → (fault ≡ BadWorkers) ↔ (¬ IsCrew workers) → (IsCrew workers → IsFaultOf (length links) workers fault)
+      → IsRunLoadFault workers (Run fault) (load_of A text)
+  refused_run fault bad other =
       let P : Result ((Numbers × Own) × List Memory) CaptureFault → Type 0 = λ r. IsOkAnd r (λ l. IsRunFault (length l.1) workers fault) in
-      subst P (sym (loaded links read made)) (record { bad = bad; other = other })
+      subst P (sym read) (record { bad = bad; other = other })
 
   -- the history of a run that has one
-  pub history_printed : (workers : ℕ) (links : List Memory) (report : Report MemoryReading MemoryWriting A)
-      → capture_of text ≡ Ok (capture_seen capture) → links_from [] capture.lines.items ≡ Ok links
-      → Holds half_read half_written capture.config (map (λ link. link.role) links) workers report
+  pub history_printed : (report : Report MemoryReading MemoryWriting A) → Holds half_read half_written s (map (λ link. link.role) links) workers report
       → LinksReadOwn half_read (map source_of links) report
       → AreMadeOf (λ (half : MemoryReading). half.link) (λ (half : MemoryWriting). half.link) links report → IsCrew workers
-      → IsLoadText A workers text (history_text capture.config report.history.items)
-  history_printed workers links report read made holds bytes halves within =
+      → IsLoadText A workers text (history_text s report.history.items)
+  history_printed report holds bytes halves within =
+      let of_lines = of_parsed (capture_of {A = A} text) (settings_of s) links read in
       record {
-        settings = capture.config;
+        settings = s;
         links = links;
         report = report;
-        read = loaded links read made;
+        read = read;
         holds = holds;
         bytes = bytes;
         made = halves;
-        unfailed = none_failed capture.lines.items links report made (holds.each.0 ∙ length-map links (λ link. link.role)) bytes;
+        unfailed = none_failed of_lines.0 links report of_lines.1 (holds.each.0 ∙ length-map links (λ link. link.role)) bytes;
         within = within;
         printed = refl;
       }

@@ -1,5 +1,5 @@
 -- A scribe beside a run, and the two ends of its ring.
-use Rattle.std.proofs.Common.{◌≡◌, ◌∙◌, ◌<◌, ℕ, List, [], length, Option, Some, Result, Ok, Err, OnErr, OnOk, ap, append-nil, refl, reverse, subst, sym}
+use Rattle.std.proofs.Common.{◌≡◌, ◌∙◌, ◌<◌, ℕ, List, [], length, Option, Some, Result, Ok, Err, OnErr, OnOk, Vec, ap, append-nil, inl, refl, reverse, subst, sym}
 use Rattle.std.specs.Prelude.{⊤, IfErr}
 use Rattle.rtrb.specs.Ends.{SameRing}
 use Rattle.rtrb.specs.Ring.{received}
@@ -16,6 +16,7 @@ use Rattle.gn_scribe.specs.declared.printed.PrintFault.{PrintFault}
 use Rattle.gn_scribe.specs.declared.scribe.Scribe.{Scribe}
 use Rattle.gn_scribe.specs.Printed.{IsPrintFault}
 use Rattle.gn_scribe.specs.Written.{HasBroken, HasEnded, HasFollowed, HasWritten}
+use Rattle.gn_load.specs.Journalled.{HasStoppedWriting}
 
 -- two ends that have one name are of one ring
 same_ring : {T A P : Type 0} (p c : End T A P) → name_of c ≡ name_of p → SameRing p c
@@ -70,3 +71,8 @@ module _ {A : Type 0} where
     },
     is.1,
   )
+
+  -- where nothing more is written of a run that stopped
+  pub still_stopped : (history : Option (Vec (Step A) A)) (sink : SinkState) (waiting : Result (Waiting A) PrintFault) → HasStoppedWriting history sink sink waiting
+  still_stopped history sink (Ok waiting) = inl refl
+  still_stopped history sink (Err fault) = refl

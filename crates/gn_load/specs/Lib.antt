@@ -1,6 +1,7 @@
 -- What is promised: contracts of public functions rest on it.
 pub mod Faults
 pub mod Journalled
+pub mod JournalledLoads
 pub mod Links
 pub mod Loads
 pub mod Served

@@ -4,9 +4,11 @@ ghost use Rattle.std.specs.Prelude.{◌≡◌};
 ghost use Rattle.gn_replay.specs.Faults.{of_input, of_refusal};
 ghost use Rattle.gn_replay.specs.declared.fault.ReplayFault.TheVariants as replay;
 ghost use Rattle.gn_load.specs.declared.fault.LoadFault.TheVariants.{Run, Text};
+ghost use Rattle.gn_load.specs.JournalledLoads.{of_print};
 
 use gn_io::{InputFault, IoFault};
 use gn_replay::ReplayFault;
+use gn_scribe::PrintFault;
 use gn_service::RunFault;
 use gn_text::CaptureRefusal;
 use std::alloc::AllocError;
@@ -42,6 +44,17 @@ impl From<IoFault> for LoadFault {
 
     fn from(fault: IoFault) -> LoadFault {
         LoadFault::Text(ReplayFault::from(fault))
+    }
+}
+
+impl From<PrintFault> for LoadFault {
+    ghost from_gives = { λ fault e. e ≡ of_print fault };
+
+    fn from(fault: PrintFault) -> LoadFault {
+        match fault {
+            PrintFault::Write => LoadFault::Text(ReplayFault::Write),
+            PrintFault::NoMemory => LoadFault::Text(ReplayFault::NoMemory),
+        }
     }
 }
 

@@ -11,7 +11,7 @@ ghost use Rattle.gn_load.specs.Journalled.{HasStoppedWriting, IsJournalled, of_p
 
 use crate::serve_fault::ServeFault;
 use crate::serve_stopped::ServeStopped;
-use crate::writing::{Begun, Writing};
+use crate::writing::{Begun, PLACES, Writing, write_stopped};
 use gn_io::{Block, Sink};
 use gn_journal::{Journal, JournalRouter, Naming};
 use gn_replay::history_heading;
@@ -26,9 +26,6 @@ use std::net::{Net, SocketAddr, TcpListener, TcpStream};
 use std::sync::Wait;
 use std::thread::Threads;
 use std::time::Clock;
-
-/// How many steps a ring has places for: more than wait at most, and one more of each actor of a run of 256 links and 64 workers.
-const PLACES: usize = 4096;
 
 /// A run that hasn't begun.
 fn unbegun<A: Allocator>(fault: RunFault) -> ServeStopped<A>
@@ -51,6 +48,16 @@ fn of_print(fault: PrintFault) -> ServeFault
     }
 }
 
+/// The fault of a serve whose run stopped at this one, by what waits of its text.
+fn fault_of<A: Allocator>(fault: RunFault, waiting: &Result<Waiting<A>, PrintFault>) -> ServeFault
+    ensures { MatchResult waiting.now (λ _. result ≡ Run fault) (λ why. result ≡ of_print why) }
+{
+    match waiting {
+        Ok(_) => ServeFault::Run(fault),
+        Err(why) => of_print(*why),
+    }
+}
+
 /// Writes what is left of the text of the history of a run that stopped, where that stands and has a step. Its fault is that of the
 /// run, unless its text couldn't be written while it went on.
 fn finish_stopped<A: Allocator + Copy, W: Sink>(
@@ -65,15 +72,8 @@ fn finish_stopped<A: Allocator + Copy, W: Sink>(
     ensures written { HasStoppedWriting stopped.history (W.state sink.old) (W.state sink.new) waiting }
 {
     let Stopped { fault, history } = stopped;
-    let fault = match (waiting, &history) {
-        (Err(why), _) => of_print(why),
-        (Ok(waiting), Some(steps)) if !steps.is_empty() => {
-            // that it can't be written changes no fault
-            let _ = finish_history(alloc, steps, Ok(waiting), sink);
-            ServeFault::Run(fault)
-        }
-        (Ok(_), _) => ServeFault::Run(fault),
-    };
+    let fault = fault_of(fault, &waiting);
+    write_stopped(alloc, &history, waiting, sink);
     ServeStopped {
         fault,
         history,

@@ -3,6 +3,7 @@
 
 mod fault;
 mod journalled;
+mod journalled_load;
 mod link_input;
 mod links;
 mod loads;
@@ -15,6 +16,7 @@ mod writing;
 pub use fault::LoadFault;
 pub use gn_scribe::PrintFault;
 pub use journalled::serve_journalled;
+pub use journalled_load::load_journalled;
 pub use links::links_of;
 pub use loads::{load, load_watched};
 pub use printed::print_history;

@@ -4,6 +4,9 @@ ghost use Rattle.std.specs.Prelude.{◌≤◌, length, IfOk, IfErr, IfSome, IsOk
 ghost use Rattle.gn_capture.specs.Histories.{history_text};
 ghost use Rattle.gn_io.specs.Input.{input_limit};
 ghost use Rattle.gn_io.specs.Streams.{NoneFailed, streams, text_between};
+ghost use Rattle.gn_rules.specs.Limits.{most_links};
+ghost use Rattle.gn_text.specs.Faults.{IsRead};
+ghost use Rattle.gn_text.specs.Settings.{settings_of};
 ghost use Rattle.gn_load.specs.Faults.{IsLoadFault, IsRunLoadFault};
 ghost use Rattle.gn_load.specs.Loads.{AppendsLoad, HasStopped, IsLoadText, load_of};
 
@@ -15,13 +18,31 @@ use gn_io::{Sink, Source, read_input};
 use gn_replay::ReplayFault;
 use gn_rules::{Config, Historian};
 use gn_scribe::PrintFault;
-use gn_service::{MemoryReader, MemoryWriter, NoGate, Report, Watch, run};
+use gn_service::{MemoryLink, MemoryReader, MemoryWriter, NoGate, Report, Watch, run};
+use gn_text::CaptureRefusal;
 use std::alloc::Allocator;
 use std::sync::Wait;
 use std::thread::Threads;
 
-/// How a router is set up that so many workers run over the links that a capture makes, and the report of the run. Of the
-/// capture only what its links hold lasts through the run.
+/// How a router is set up by a capture, and the links that its lines make. Of the capture only what these hold lasts.
+pub(crate) fn read_load<A: Allocator + Copy>(
+    alloc: A,
+    text: Vec<u8, A>,
+) -> Result<(Config, Vec<MemoryLink<A>, A>), CaptureRefusal>
+    ensures read { IsRead (λ loaded. (settings_of loaded.0, loaded.1.items)) result (load_of A text.items) }
+    ensures few { IfOk result (λ loaded. length loaded.1.items ≤ most_links) }
+{
+    let read = read_capture(alloc, &text);
+    drop(text);
+    let capture = read?;
+    let made = links_of(alloc, &capture.lines);
+    let Capture { config, lines } = capture;
+    drop(lines);
+    let links = made?;
+    Ok((config, links))
+}
+
+/// How a router is set up that so many workers run over the links that a capture makes, and the report of the run.
 fn run_links<
     A: Allocator + Copy + Send + Sync,
     C: Historian<A> + Drop + Send,
@@ -37,13 +58,7 @@ fn run_links<
     ensures history { IfOk result (λ ran. IsLoadText A workers text.items (history_text ran.0 ran.1.history.items)) }
     ensures fault { IfErr result (λ fault. IsRunLoadFault workers fault (load_of A text.items)) }
 {
-    let read = read_capture(alloc, &text);
-    drop(text);
-    let capture = read?;
-    let made = links_of(alloc, &capture.lines);
-    let Capture { config, lines } = capture;
-    drop(lines);
-    let links = made?;
+    let (config, links) = read_load(alloc, text)?;
     watch.begin(links.len());
     let report = run::<C, _, _, A, R>(rt, alloc, &config, links, workers, watch)?;
     Ok((config, report))

@@ -1,18 +1,19 @@
 //! A history that is written while its run goes on.
 
-ghost use Rattle.std.specs.Prelude.{◌≡◌, [], List, Some, reverse, IfSome};
+ghost use Rattle.std.specs.Prelude.{◌≡◌, ◌≤◌, [], List, Some, length, reverse, IfOk, IfSome};
 ghost use Rattle.rtrb.specs.Ring.{received};
 ghost use Rattle.gn_journal.specs.Rings.{name_of};
 ghost use Rattle.gn_rules.specs.declared.config.Config.{Config};
 ghost use Rattle.gn_rules.specs.declared.receipt.Step.{Step};
 ghost use Rattle.gn_rules.specs.Answer.{IsLegal};
 ghost use Rattle.gn_scribe.specs.Written.{HasEnded, HasFollowed};
+ghost use Rattle.gn_load.specs.Journalled.{HasStoppedWriting};
 
 use gn_io::Sink;
 use gn_journal::{Journal, JournalRouter, Naming, WholeRouter};
 use gn_room::{Following, Room};
 use gn_rules::{RouterCore, Step};
-use gn_scribe::{PrintFault, Scribe, Waiting};
+use gn_scribe::{PrintFault, Scribe, Waiting, finish_history};
 use gn_table_router::Exchange;
 use gn_tables::Whole;
 use gn_threads::Course;
@@ -20,9 +21,11 @@ use std::alloc::{Allocator, Global};
 use std::marker::PhantomData;
 use std::sync::Wait;
 
-/// How many steps wait at most to be written before those who make more wait, too. Their ring has places for one more of each actor of a
-/// run.
+/// How many steps wait at most to be written before those who make more wait, too.
 const MOST_WAITING: u64 = 2048;
+
+/// How many steps a ring has places for: more than wait at most, and one more of each actor of a run of 256 links and 64 workers.
+pub(crate) const PLACES: usize = 4096;
 
 /// A scribe of the ring that `N` names, which has taken no step yet, and where it writes.
 #[derive(Drop)]
@@ -71,6 +74,26 @@ impl<'a, W: Sink, N: Naming<Global>> Following for Writing<'a, W, N> {
             written,
             of,
         }
+    }
+}
+
+/// Writes what is left of the text of the history of a run that stopped, where that stands and has a step. That it can't be written changes
+/// no fault.
+#[tactic(auto, using(crate::proofs::WritingLemmas::still_stopped))]
+pub(crate) fn write_stopped<A: Allocator + Copy, W: Sink>(
+    alloc: A,
+    history: &Option<Vec<Step<A>, A>>,
+    waiting: Result<Waiting<A>, PrintFault>,
+    sink: &mut W,
+)
+    requires { IfOk waiting (λ waiting. IfSome history.now (λ steps. waiting.count ≤ length steps.items)) }
+    ensures { HasStoppedWriting history.now (W.state sink.old) (W.state sink.new) waiting }
+{
+    match (waiting, history) {
+        (Ok(waiting), Some(steps)) if !steps.is_empty() => {
+            let _ = finish_history(alloc, steps, Ok(waiting), sink);
+        }
+        _ => {}
     }
 }
 

@@ -1,0 +1,229 @@
+-- A load whose history was written while its run went on.
+use Rattle.std.proofs.Common.{◌≡◌, ◌≤◌, ◌↔◌, ℕ, List, length, map, reverse, Option, None, Some, Result, Ok, Err, Vec, inl, inr, refl, subst, sym}
+use Rattle.std.specs.Prelude.{⊤, IfErr, IfSome, IsOk, MatchResult, OnOk}
+use Rattle.std.specs.Result.{IsErrAnd, IsOkAnd}
+use Rattle.std.specs.declared.alloc.Global.{Global}
+use Rattle.gn_rules.specs.Answer.{IsLegal}
+use Rattle.gn_rules.specs.Limits.{IsCrew}
+use Rattle.gn_rules.specs.declared.config.Config.{Config}
+use Rattle.gn_rules.specs.declared.config.Own.{Own}
+use Rattle.gn_rules.specs.declared.limits.Numbers.{Numbers}
+use Rattle.gn_rules.specs.declared.receipt.Step.{Step}
+use Rattle.gn_links.specs.Memory.{Memory, MemoryReading, MemoryWriting, half_read, half_written, source_of}
+use Rattle.gn_text.specs.Header.{header_text}
+use Rattle.gn_text.specs.Settings.{settings_of}
+use Rattle.gn_text.specs.declared.fault.CaptureFault.{CaptureFault}
+use Rattle.gn_text.specs.declared.title.Text.TheVariants.{History}
+use Rattle.gn_capture.specs.Histories.{history_text}
+use Rattle.gn_io.specs.Input.{input_limit}
+use Rattle.gn_io.specs.Streams.{NoneFailed, SinkState, Streams, text_of}
+use Rattle.gn_io.specs.declared.input.InputFault.{InputFault}
+use Rattle.gn_io.specs.declared.input.InputFault.TheVariants as input_fault
+use Rattle.gn_replay.specs.Faults.{of_input, of_refusal}
+use Rattle.gn_text.specs.declared.fault.CaptureRefusal.{CaptureRefusal}
+use Rattle.gn_text.specs.declared.fault.CaptureRefusal.TheVariants as refusal
+use Rattle.gn_replay.specs.declared.fault.ReplayFault.TheVariants as replay
+use Rattle.gn_report.specs.declared.report.Report.{Report}
+use Rattle.gn_scribe.specs.Printed.{IsPrintFault}
+use Rattle.gn_scribe.specs.Written.{HasFinished, HasJournalled}
+use Rattle.gn_scribe.specs.declared.ending.Waiting.{Waiting}
+use Rattle.gn_scribe.specs.declared.printed.PrintFault.{PrintFault}
+use Rattle.gn_scribe.specs.declared.printed.PrintFault.TheVariants as print
+use Rattle.gn_threads.specs.Courses.{BeginsRun, IsBegunBy}
+use Rattle.gn_threads.specs.Faults.{IsFaultOf}
+use Rattle.gn_threads.specs.Headline.{AreMadeOf, Holds, LinksReadOwn}
+use Rattle.gn_threads.specs.declared.fault.RunFault.{RunFault}
+use Rattle.gn_threads.specs.declared.fault.RunFault.TheVariants.{BadWorkers, Listen, Call, Link, HistoryFull, NoMemory, Stage, Audit}
+use Rattle.gn_threads.specs.declared.stopped.Stopped.{Stopped}
+use Rattle.gn_load.specs.declared.fault.LoadFault.{LoadFault}
+use Rattle.gn_load.specs.declared.fault.LoadFault.TheVariants.{Run, Text}
+use Rattle.gn_load.specs.Faults.{IsLoadFault, IsRunFault}
+use Rattle.gn_load.specs.Journalled.{AppendsLegalPart, HasStoppedWriting}
+use Rattle.gn_load.specs.JournalledLoads.{AppendsStopped, HasStoppedAt, HasStoppedIn, HasStoppedOf, IsFaultAfter, IsJournalledLoad, of_print}
+use Rattle.gn_load.specs.Loads.{AppendsLoad, load_of}
+use Rattle.gn_load.proofs.JournalLemmas.{all_finished, done_part, left_part, nothing_yet, part_finished}
+use Rattle.gn_load.proofs.LoadLemmas.{history_printed, is_read, of_known}
+use Rattle.gn_load.proofs.ServedLemmas.{kept}
+
+-- an answered run began with these steps
+pub begun_ok : {Rd W A : Type 0} (r : Result (Report Rd W A) (Stopped A)) (report : Report Rd W A) (steps : List (Step A)) → r ≡ Ok report → BeginsRun r steps
+    → IsBegunBy steps report.history.items
+begun_ok r report steps is begun = subst (λ q. BeginsRun q steps) is begun
+
+-- and so did one that stopped
+pub begun_err : {Rd W A : Type 0} (r : Result (Report Rd W A) (Stopped A)) (stopped : Stopped A) (steps : List (Step A)) → r ≡ Err stopped → BeginsRun r steps
+    → IfSome stopped.history (λ history. IsBegunBy steps history.items)
+begun_err r stopped steps is begun = subst (λ q. BeginsRun q steps) is begun
+
+-- what is answered where no run began, since memory ran out
+pub unbegun_load : (s : Config) (links : List Memory) (workers : ℕ) (sink : SinkState) (answer : Result ⊤ LoadFault) → IsErrAnd answer (λ e. e ≡ Text replay.NoMemory)
+    → IsJournalledLoad s links workers sink sink answer
+unbegun_load s links workers sink (Ok x) is = absurd is
+unbegun_load s links workers sink (Err e) is =
+    subst (λ (f : LoadFault). IsJournalledLoad s links workers sink sink (Err f)) (sym is)
+    (record { written = tt; unfailed = tt; stopped = (None, nothing_yet Global s sink.written); fault = tt })
+
+-- what is answered where a fault was handed on
+pub handed_load : (s : Config) (links : List Memory) (workers : ℕ) (old new : SinkState) (answer : Result ⊤ LoadFault) (fault : LoadFault) → IsErrAnd answer (λ e. e ≡ fault)
+    → IsJournalledLoad s links workers old new (Err fault) → IsJournalledLoad s links workers old new answer
+handed_load s links workers old new (Ok x) fault is has = absurd is
+handed_load s links workers old new (Err e) fault is has = subst (λ (f : LoadFault). IsJournalledLoad s links workers old new (Err f)) (sym is) has
+
+-- or since there are too few workers, or too many
+pub no_crew : (s : Config) (links : List Memory) (workers : ℕ) (sink : SinkState) → (BadWorkers ≡ BadWorkers) ↔ (¬ IsCrew workers)
+    → (IsCrew workers → IsFaultOf (length links) workers BadWorkers) → IsJournalledLoad s links workers sink sink (Err (Run BadWorkers))
+no_crew s links workers sink bad other = record { written = tt; unfailed = tt; stopped = kept sink.written; fault = record { bad = bad; other = other } }
+
+-- what is answered where the text of a history wasn't written whole, for this
+unwritten_load : (s : Config) (links : List Memory) (workers : ℕ) (old new : SinkState) (why : PrintFault) (history : Option (Vec (Step Global) Global))
+    → AppendsLegalPart Global s history old.written new.written → IsPrintFault why old new → IsJournalledLoad s links workers old new (Err (of_print why))
+unwritten_load s links workers old new print.Write history part cause = record { written = tt; unfailed = tt; stopped = (history, part); fault = cause }
+unwritten_load s links workers old new print.NoMemory history part cause = record { written = tt; unfailed = tt; stopped = (history, part); fault = tt }
+
+module _ (s : Config) (links : List Memory) (workers : ℕ) (steps : List (Step Global)) (old mid new : SinkState) (waiting : Result (Waiting Global) PrintFault)
+    (has : HasJournalled (header_text History s) steps old mid waiting) where
+  -- what is answered of a run with a report whose text was written
+  pub all_loaded : (report : Report MemoryReading MemoryWriting Global) (done : ⊤) → Holds half_read half_written s (map (λ link. link.role) links) workers report
+      → LinksReadOwn half_read (map source_of links) report
+      → AreMadeOf (λ (half : MemoryReading). half.link) (λ (half : MemoryWriting). half.link) links report → IsCrew workers
+      → IsBegunBy steps report.history.items → HasFinished report.history.items mid new waiting (Ok done) → IsJournalledLoad s links workers old new (Ok tt)
+  all_loaded report done holds bytes halves within begun finished =
+      let whole = all_finished s steps report.history.items old mid new waiting done begun has finished in
+      record {
+        written = λ input read. (history_text s report.history.items, history_printed Global input s links read workers report holds bytes halves within, whole.0);
+        unfailed = whole.1;
+        stopped = tt;
+        fault = tt;
+      }
+
+  -- what is answered of one whose text wasn't
+  pub cut_load : (report : Report MemoryReading MemoryWriting Global) (why : PrintFault) → IsLegal s (reverse report.history.items)
+      → IsBegunBy steps report.history.items → HasFinished report.history.items mid new waiting (Err why) → IsJournalledLoad s links workers old new (Err (of_print why))
+  cut_load report why legal begun finished =
+      let cut = part_finished s steps report.history.items old mid new waiting why begun has finished in
+      unwritten_load s links workers old new why (Some report.history) (legal, cut.0) cut.1
+
+-- what a run answered that stopped, as far as that is known
+pub record StoppedLoad (s : Config) (links workers : ℕ) (steps : List (Step Global)) (stopped : Stopped Global) : Type 0 where
+  pub crew : IsCrew workers
+  pub bad_workers : (stopped.fault ≡ BadWorkers) ↔ (¬ IsCrew workers)
+  pub fault : IsCrew workers → IsFaultOf links workers stopped.fault
+  pub kept : IfSome stopped.history (λ history. IsLegal s (reverse history.items))
+  pub full : stopped.fault ≡ HistoryFull → IfSome stopped.history (λ history. length history.items ≡ s.numbers.steps)
+  pub begun : IfSome stopped.history (λ history. IsBegunBy steps history.items)
+  pub legal : IsLegal s (reverse steps)
+
+-- a prefix of the text of the history that stands, or of a legal one, was written, and the fault isn't that there are too few workers
+stopped_part : (s : Config) (fault : RunFault) (old new : SinkState) (history : Option (Vec (Step Global) Global)) → ¬ (fault ≡ BadWorkers)
+    → AppendsLegalPart Global s history old.written new.written → (fault ≡ HistoryFull → IfSome history (λ steps. length steps.items ≡ s.numbers.steps))
+    → AppendsStopped fault s old.written new.written
+stopped_part s BadWorkers old new history not part full = absurd (not refl)
+stopped_part s Listen old new history not part full = (history, part, full)
+stopped_part s (Call k) old new history not part full = (history, part, full)
+stopped_part s (Link k) old new history not part full = (history, part, full)
+stopped_part s HistoryFull old new history not part full = (history, part, full)
+stopped_part s NoMemory old new history not part full = (history, part, full)
+stopped_part s (Stage fault) old new history not part full = (history, part, full)
+stopped_part s (Audit a) old new history not part full = (history, part, full)
+
+module _ (s : Config) (links : List Memory) (workers : ℕ) (steps : List (Step Global)) (old mid new : SinkState) (stopped : Stopped Global)
+    (run : StoppedLoad s (length links) workers steps stopped) where
+  -- its text could be written while it went on
+  stopped_whole : (waiting : Waiting Global) → HasJournalled (header_text History s) steps old mid (Ok waiting) → HasStoppedWriting stopped.history mid new (Ok waiting)
+      → IsJournalledLoad s links workers old new (Err (Run stopped.fault))
+  stopped_whole waiting has either =
+      let part : AppendsLegalPart Global s stopped.history old.written new.written = elim either [
+        | inl still ↦ subst (λ (k : SinkState). AppendsLegalPart Global s stopped.history old.written k.written) (sym still) (left_part s steps old mid mid (Ok waiting) run.legal has stopped.history run.kept run.begun)
+        | inr finished ↦ done_part s steps old mid new (Ok waiting) run.legal has stopped.history run.kept run.begun finished
+      ] in
+      record {
+        written = tt;
+        unfailed = tt;
+        stopped = stopped_part s stopped.fault old new stopped.history (λ is. run.bad_workers.0 is run.crew) part run.full;
+        fault = record { bad = run.bad_workers; other = run.fault };
+      }
+
+  -- or it couldn't
+  stopped_cut : (why : PrintFault) → HasJournalled (header_text History s) steps old mid (Err why) → new ≡ mid → IsJournalledLoad s links workers old new (Err (of_print why))
+  stopped_cut why has still =
+      unwritten_load s links workers old new why stopped.history
+      (subst (λ (k : SinkState). AppendsLegalPart Global s stopped.history old.written k.written) (sym still) (left_part s steps old mid mid (Err why) run.legal has stopped.history run.kept run.begun))
+      (subst (λ (k : SinkState). IsPrintFault why old k) (sym still) has.1)
+
+  -- by what waited
+  pub stopped_as : (waiting : Result (Waiting Global) PrintFault) (fault : LoadFault) → HasJournalled (header_text History s) steps old mid waiting
+      → MatchResult waiting (λ _. fault ≡ Run stopped.fault) (λ why. fault ≡ of_print why) → HasStoppedWriting stopped.history mid new waiting
+      → IsJournalledLoad s links workers old new (Err fault)
+  stopped_as (Ok waiting) fault has is wrote =
+      subst (λ (f : LoadFault). IsJournalledLoad s links workers old new (Err f)) (sym is) (stopped_whole waiting has wrote)
+  stopped_as (Err why) fault has is wrote =
+      subst (λ (f : LoadFault). IsJournalledLoad s links workers old new (Err f)) (sym is) (stopped_cut why has wrote)
+
+-- what follows of an answer
+at_ok : {P Q : Type 0} (r : Result ⊤ LoadFault) → (P → Q) → OnOk r P → OnOk r Q
+at_ok (Ok x) more h = more h
+at_ok (Err e) more h = tt
+
+at_err : {P Q R : LoadFault → Type 0} (r : Result ⊤ LoadFault) → ((fault : LoadFault) → P fault → Q fault → R fault) → IfErr r P → IfErr r Q → IfErr r R
+at_err (Ok x) more h k = tt
+at_err (Err e) more h k = more e h k
+
+-- an answer to an input that is read so
+module _ (s : Config) (links : List Memory) (workers : ℕ) (k : Streams) (text : List ℕ) (read : load_of Global text ≡ Ok (settings_of s, links))
+    (whole : IfSome (text_of k) (λ bytes. text ≡ bytes)) (short : length text ≤ input_limit) where
+  -- what of its text was written
+  stopped_in : (fault : LoadFault) → HasStoppedOf fault s k.sink.written k.sink_new.written → HasStoppedIn fault (text_of k) k.sink.written k.sink_new.written
+  stopped_in fault stop =
+      of_known (text_of k) text (λ input. IsOkAnd (load_of Global input) (λ loaded. (c : Config) × (loaded.0 ≡ settings_of c) × HasStoppedOf fault c k.sink.written k.sink_new.written))
+      whole (subst (λ (r : Result ((Numbers × Own) × List Memory) CaptureFault). IsOkAnd r (λ loaded. (c : Config) × (loaded.0 ≡ settings_of c) × HasStoppedOf fault c k.sink.written k.sink_new.written)) (sym read) (s, refl, stop))
+
+  pub stopped_at : (fault : LoadFault) → HasStoppedOf fault s k.sink.written k.sink_new.written → IsFaultAfter (length links) workers fault k.sink k.sink_new
+      → HasStoppedAt fault (text_of k) k.sink.written k.sink_new.written
+  stopped_at (Text replay.Write) stop is = stopped_in (Text replay.Write) stop
+  stopped_at (Text replay.NoMemory) stop is = inr (stopped_in (Text replay.NoMemory) stop)
+  stopped_at (Text replay.Read) stop is = absurd is
+  stopped_at (Text replay.TooLarge) stop is = absurd is
+  stopped_at (Text (replay.Capture fault)) stop is = absurd is
+  stopped_at (Run fault) stop is = stopped_in (Run fault) stop
+
+  -- why it stopped
+  fault_at : (fault : LoadFault) → IsFaultAfter (length links) workers fault k.sink k.sink_new → IsLoadFault workers fault (load_of Global) k
+  fault_at (Text replay.Write) is =
+      (of_known (text_of k) text (λ input. (length input ≤ input_limit) × IsOk (load_of Global input)) whole (short, is_read _ _ read), is)
+  fault_at (Text replay.NoMemory) is = tt
+  fault_at (Text replay.Read) is = absurd is
+  fault_at (Text replay.TooLarge) is = absurd is
+  fault_at (Text (replay.Capture fault)) is = absurd is
+  fault_at (Run fault) is =
+      of_known (text_of k) text (λ input. (length input ≤ input_limit) × IsOkAnd (load_of Global input) (λ loaded. IsRunFault (length loaded.1) workers fault)) whole
+      (short, subst (λ (r : Result ((Numbers × Own) × List Memory) CaptureFault). IsOkAnd r (λ loaded. IsRunFault (length loaded.1) workers fault)) (sym read) is)
+
+  pub known_written : (answer : Result ⊤ LoadFault) (is : IsJournalledLoad s links workers k.sink k.sink_new answer) → OnOk answer (IfSome (text_of k) (λ input. AppendsLoad Global workers input k.sink.written k.sink_new.written))
+  known_written answer is =
+      at_ok answer (λ h. of_known (text_of k) text (λ input. AppendsLoad Global workers input k.sink.written k.sink_new.written) whole (h text read)) is.written
+
+  pub known_stopped : (answer : Result ⊤ LoadFault) (is : IsJournalledLoad s links workers k.sink k.sink_new answer) → IfErr answer (λ fault. HasStoppedAt fault (text_of k) k.sink.written k.sink_new.written)
+  known_stopped answer is = at_err answer (λ fault stop may. stopped_at fault stop may) is.stopped is.fault
+
+  pub known_fault : (answer : Result ⊤ LoadFault) (is : IsJournalledLoad s links workers k.sink k.sink_new answer) → IfErr answer (λ fault. IsLoadFault workers fault (load_of Global) k)
+  known_fault answer is = at_err answer (λ fault may same. fault_at fault may) is.fault is.fault
+
+  -- the input is short and can be read, and no read failed
+  pub known_short : (answer : Result ⊤ LoadFault) (is : IsJournalledLoad s links workers k.sink k.sink_new answer) → OnOk answer (IfSome (text_of k) (λ input. length input ≤ input_limit))
+  known_short answer is = at_ok answer (λ h. of_known (text_of k) text (λ input. length input ≤ input_limit) whole short) is.unfailed
+
+  pub known_valid : (answer : Result ⊤ LoadFault) (is : IsJournalledLoad s links workers k.sink k.sink_new answer) → OnOk answer (IfSome (text_of k) (λ input. IsOk (load_of Global input)))
+  known_valid answer is = at_ok answer (λ h. of_known (text_of k) text (λ input. IsOk (load_of Global input)) whole (is_read _ _ read)) is.unfailed
+
+  pub known_unfailed : (answer : Result ⊤ LoadFault) (is : IsJournalledLoad s links workers k.sink k.sink_new answer) → k.source_new.failures ≡ k.source.failures → OnOk answer (NoneFailed k)
+  known_unfailed answer is none = at_ok answer (λ h. (none, h)) is.unfailed
+
+-- what was written where the input wasn't read
+pub unread_at : (fault : InputFault) (rest old : Option (List ℕ)) → HasStoppedAt (Text (of_input fault)) rest old old
+unread_at input_fault.Read rest old = kept old
+unread_at input_fault.TooLarge rest old = kept old
+unread_at input_fault.NoMemory rest old = inl (kept old)
+
+pub refused_at : (why : CaptureRefusal) (rest old : Option (List ℕ)) → HasStoppedAt (Text (of_refusal why)) rest old old
+refused_at (refusal.Fault fault) rest old = kept old
+refused_at refusal.NoMemory rest old = inl (kept old)
