@@ -19,7 +19,8 @@ use Rattle.gn_replay.specs.Explained.{AppendsExplained, HasExplainedStopped}
 use Rattle.gn_show.specs.Shown.{AppendsShown, HasShowStopped, IsShowOn}
 use Rattle.gn_show.specs.declared.form.View.{View}
 use Rattle.gn_load.specs.Faults.{IsLoadFault}
-use Rattle.gn_load.specs.Loads.{AppendsLoad, HasStopped as HasLoadStopped, load_of}
+use Rattle.gn_load.specs.JournalledLoads.{HasStoppedAt}
+use Rattle.gn_load.specs.Loads.{AppendsLoad, load_of}
 use Rattle.gn_load.specs.declared.fault.LoadFault.{LoadFault}
 use Rattle.gn_load.specs.Journalled.{AppendsSomeLegalPart}
 use Rattle.gn_load.specs.Served.{AppendsServed, AppendsServedPart, IsServeFault}
@@ -85,15 +86,15 @@ pub record IsShowAnswer (view : View) (s : Streams) (answer : Result (Unit {0}) 
 
 -- what load answers: the input was a capture of lines that a load takes, no longer than it may be, no read and no write
 -- failed, and the history of a run with so many workers over the links of those lines was written; or it stopped, at a
--- fault that the streams confirm, and what was written then is a prefix of such a history
+-- fault that the streams confirm, and what was written then is a prefix of the text of a history that is legal by the input's
+-- configuration
 pub record IsLoadAnswer (workers : ℕ) (s : Streams) (answer : Result (Unit {0}) LoadFault) : Type 0 where
   pub short : OnOk answer (IfSome (text_of s) (λ text. length text ≤ input_limit))
   pub valid : OnOk answer (IfSome (text_of s) (λ text. IsOk (load_of Global text)))
   pub unfailed : OnOk answer (NoneFailed s)
   pub written : OnOk answer (IfSome (text_of s) (λ text.
       AppendsLoad Global workers text s.sink.written s.sink_new.written))
-  pub stopped :
-      IfErr answer (λ fault. HasLoadStopped Global workers fault (text_of s) s.sink.written s.sink_new.written)
+  pub stopped : IfErr answer (λ fault. HasStoppedAt fault (text_of s) s.sink.written s.sink_new.written)
   pub fault : IfErr answer (λ fault. IsLoadFault workers fault (load_of Global) s)
 
 -- the own servent of a router that serves: it is on the port of 127.0.0.1 that is asked for, and shares nothing

@@ -25,7 +25,7 @@ use clap::Error;
 use clap::error::ErrorKind;
 use gn_io::{Sink, Source};
 use gn_links::{NoGate, Watch};
-use gn_load::{LoadFault, ServeFault, load_watched};
+use gn_load::{LoadFault, ServeFault, load_journalled};
 use gn_replay::{
     Exit, ReplayFault, audit, audit_explained, audit_unfinished, replay, replay_history,
 };
@@ -116,7 +116,7 @@ fn end_serve<F: Sink>(faults: &mut F, answer: Result<(), ServeFault>, told: Told
 }
 
 /// Does a load under this watch, and gives the status.
-fn load<R: Threads + Wait + Sync, G: Watch + Sync, S: Source, W: Sink, F: Sink>(
+fn load<R: Threads + Wait + Sync, G: Watch + Sync, S: Source, W: Sink + Send, F: Sink>(
     rt: &R,
     alloc: Global,
     workers: u32,
@@ -128,9 +128,7 @@ fn load<R: Threads + Wait + Sync, G: Watch + Sync, S: Source, W: Sink, F: Sink>(
     ensures { Loads workers
         (streams (S.state reader.old) (S.state reader.new) (W.state writer.old) (W.state writer.new)) result }
 {
-    let answer = load_watched::<Global, TableRouter, R, G, S, W>(
-        rt, alloc, workers, watch, reader, writer,
-    );
+    let answer = load_journalled(rt, alloc, workers, watch, reader, writer);
     end_load(faults, answer)
 }
 

@@ -2,6 +2,7 @@
 
 pub use Rattle.gn_load.specs.Faults
 pub use Rattle.gn_load.specs.Journalled
+pub use Rattle.gn_load.specs.JournalledLoads
 pub use Rattle.gn_load.specs.Links
 pub use Rattle.gn_load.specs.Loads
 pub use Rattle.gn_scribe.specs.Printed

@@ -118,7 +118,7 @@ pub mod run {
     pub use gn_service::{Ran, Serving, Stop, serve_by, serve_kept, serve_on};
     pub use gn_threads::{
         Arrivals, Course, InMemory, RunFault, Stopped, run, run_arriving, run_arriving_by,
-        run_arriving_kept,
+        run_arriving_kept, run_by,
     };
 }
 
@@ -155,8 +155,8 @@ pub mod show {
 pub mod load {
     pub use gn_links::Watch;
     pub use gn_load::{
-        LoadFault, PrintFault, ServeFault, ServeStopped, links_of, load, load_watched,
-        print_history, serve_history, serve_history_kept, serve_journalled,
+        LoadFault, PrintFault, ServeFault, ServeStopped, links_of, load, load_journalled,
+        load_watched, print_history, serve_history, serve_history_kept, serve_journalled,
     };
 }
 
