@@ -1,6 +1,7 @@
 //! Links over TCP, serves and what stops them, loads, and what is told to who watches.
 
 mod crew;
+mod cut_loads;
 mod ends;
 mod handles;
 mod in_time;

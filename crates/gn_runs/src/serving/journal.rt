@@ -22,17 +22,17 @@ use std::time::{Clock, Duration};
 
 /// What a stream does that takes no more.
 #[derive(Clone, Copy)]
-enum Full {
+pub(crate) enum Full {
     Fails,
     TakesNothing,
 }
 
 /// A stream that takes one byte a write, and so many in all.
 #[derive(Drop)]
-struct Narrow {
-    taken: Vec<u8>,
-    left: usize,
-    full: Full,
+pub(crate) struct Narrow {
+    pub(crate) taken: Vec<u8>,
+    pub(crate) left: usize,
+    pub(crate) full: Full,
 }
 
 impl Write for Narrow {
@@ -213,8 +213,8 @@ fn a_write_that_fails_ends_the_run(rt: HostRuntime) -> Result<(), Fail> {
     Ok(())
 }
 
-/// What a serve writes of a caller that sends a Ping and its end.
-const ONE_PING: &str = "\
+/// What a serve writes of a caller that sends a Ping and its end, and a load of such a link.
+pub(crate) const ONE_PING: &str = "\
 gnutella-history 1
 config 4 8 4 8 8 100
 own eeeeeeeeeeeeeeeeeeeeeeeeeeeeeeee 127.0.0.1 6346 5 40

@@ -4,7 +4,8 @@ ghost use Rattle.std.specs.Prelude.{◌<◌};
 
 use gn_capture::read_history;
 use gn_io::{ReaderSource, Sink, Source, WriterSink};
-use gn_load::{LoadFault, load};
+use gn_links::NoGate;
+use gn_load::{LoadFault, load, load_journalled};
 use gn_replay::{ReplayFault, audit};
 use gn_rules::{Event, Legality, Reply, Step};
 use gn_table_router::TableRouter;
@@ -102,17 +103,34 @@ fn audit_with_tables<A: Allocator + Copy, S: Source, W: Sink>(
     audit::<A, TableRouter<A>, S, W>(alloc, source, sink)
 }
 
+/// A load, whose history is written while it runs, or then.
+fn load_so<R: Threads + Wait + Sync, S: Source, W: Sink + Send>(
+    rt: &R,
+    alloc: Global,
+    workers: u32,
+    is_journalled: bool,
+    source: &mut S,
+    sink: &mut W,
+) -> Result<(), LoadFault> {
+    if is_journalled {
+        load_journalled(rt, alloc, workers, &NoGate, source, sink)
+    } else {
+        load_with_tables(rt, alloc, workers, source, sink)
+    }
+}
+
 /// The history that a load by so many workers writes.
 fn history_of<R: Threads + Wait + Sync>(
     rt: &R,
     alloc: Global,
     head: &str,
     workers: u32,
+    is_journalled: bool,
 ) -> Result<Vec<u8>, Fail> {
     let text = six_links(alloc, head)?;
     let mut source = ReaderSource::new(text.as_bytes());
     let mut sink = WriterSink::new(Vec::new(alloc));
-    let loaded = load_with_tables(rt, alloc, workers, &mut source, &mut sink);
+    let loaded = load_so(rt, alloc, workers, is_journalled, &mut source, &mut sink);
     drop(source);
     drop(text);
     let written = sink.into_inner();
@@ -174,8 +192,9 @@ fn kinds_of_load<R: Threads + Wait + Sync>(
     alloc: Global,
     head: &str,
     workers: u32,
+    is_journalled: bool,
 ) -> Result<Kinds, Fail> {
-    let history = history_of(rt, alloc, head, workers)?;
+    let history = history_of(rt, alloc, head, workers, is_journalled)?;
     let kinds = kinds_of_history(alloc, history.as_slice());
     drop(history);
     kinds
@@ -184,8 +203,8 @@ fn kinds_of_load<R: Threads + Wait + Sync>(
 #[test]
 fn six_links_of_a_hundred_pings(rt: HostRuntime) -> Result<(), Fail> {
     let head = "gnutella-capture 1\nconfig 8 1024 64 1024 1024 100000\n";
-    for workers in [4, 64] {
-        let kinds = kinds_of_load(&rt, rt.alloc(), head, workers)?;
+    for (workers, is_journalled) in [(4, false), (4, true), (64, false), (64, true)] {
+        let kinds = kinds_of_load(&rt, rt.alloc(), head, workers, is_journalled)?;
         assert!(rt; are_all_of_six(&kinds) && kinds.crowded == 0);
         assert!(rt; kinds.taken >= 600 && kinds.taken <= 3600);
     }
@@ -196,7 +215,7 @@ fn six_links_of_a_hundred_pings(rt: HostRuntime) -> Result<(), Fail> {
 #[test]
 fn six_links_of_which_none_crowds(rt: HostRuntime) -> Result<(), Fail> {
     let head = "gnutella-capture 3\nconfig 8 1024 64 1024 1024 100000 0 1\n";
-    let kinds = kinds_of_load(&rt, rt.alloc(), head, 64)?;
+    let kinds = kinds_of_load(&rt, rt.alloc(), head, 64, true)?;
     assert!(rt; are_all_of_six(&kinds) && kinds.admitted >= 6);
     Ok(())
 }

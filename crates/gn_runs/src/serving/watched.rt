@@ -6,7 +6,7 @@ use crate::serving::wanted::a_listener;
 use gn_fixtures::PING;
 use gn_io::{ReaderSource, Sink, Source, WriterSink};
 use gn_links::{Gate, Watch};
-use gn_load::{LoadFault, ServeFault, load_watched};
+use gn_load::{LoadFault, ServeFault, load_journalled, load_watched};
 use gn_service::{Serving, Stop};
 use gn_table_router::TableRouter;
 use std::alloc::{Allocator, Global};
@@ -127,12 +127,20 @@ join
 join
 ";
 
-/// What a recorder learns of a load of both.
-fn learned_of_a_load<R: Threads + Wait + Sync>(rt: &R, alloc: Global) -> Result<[u32; 4], Fail> {
+/// What a recorder learns of a load of both, whose history is written while it runs, or then.
+fn learned_of_a_load<R: Threads + Wait + Sync>(
+    rt: &R,
+    alloc: Global,
+    is_journalled: bool,
+) -> Result<[u32; 4], Fail> {
     let recorder = Recorder::new();
     let mut source = ReaderSource::new(TWO_LINKS.as_bytes());
     let mut sink = WriterSink::new(Vec::new(alloc));
-    let loaded = load_for(rt, alloc, &recorder, &mut source, &mut sink);
+    let loaded = if is_journalled {
+        load_journalled(rt, alloc, 1, &recorder, &mut source, &mut sink)
+    } else {
+        load_for(rt, alloc, &recorder, &mut source, &mut sink)
+    };
     drop(source);
     drop(sink.into_inner());
     loaded?;
@@ -141,7 +149,8 @@ fn learned_of_a_load<R: Threads + Wait + Sync>(rt: &R, alloc: Global) -> Result<
 
 #[test]
 fn who_watches_learns_of_a_load(rt: HostRuntime) -> Result<(), Fail> {
-    assert_eq!(rt; learned_of_a_load(&rt, rt.alloc())?, [145, 2, 0, 0]);
+    assert_eq!(rt; learned_of_a_load(&rt, rt.alloc(), false)?, [145, 2, 0, 0]);
+    assert_eq!(rt; learned_of_a_load(&rt, rt.alloc(), true)?, [145, 2, 0, 0]);
     Ok(())
 }
 
