@@ -1,8 +1,10 @@
 -- Steps that a scribe took and wrote, and more after them.
-use Rattle.std.proofs.Common.{◌≡◌, ◌∙◌, ◌+◌, ◌<◌, ℕ, List, [], ◌∷◌, ◌++◌, length, refl, sym, ap, subst, arith, append-nil, append_assoc, length-append}
+use Rattle.std.proofs.Common.{◌≡◌, ◌∙◌, ◌+◌, ◌<◌, ◌≤◌, ℕ, List, [], ◌∷◌, ◌++◌, drop, length, refl, sym, ap, subst, arith, append-nil, append_assoc, length-append}
+use Rattle.std.proofs.Math.Seq.{drop-append_seam}
 use Rattle.std.proofs.lemmas.Grind.{flat_map-append}
 use Rattle.std.proofs.lemmas.List.{nil_from_length}
 use Rattle.std.specs.Io.KnownBytes.{Appends}
+use Rattle.std.specs.Prelude.{⊤, OnErr, OnOk, Result, Ok, Err}
 use Rattle.rtrb.specs.Ring.{IsPair, SameConsumer, SameProducer, known_items, received}
 use Rattle.rtrb.specs.declared.consumer.Consumer.{Consumer}
 use Rattle.rtrb.specs.declared.producer.Producer.{Producer}
@@ -12,9 +14,10 @@ use Rattle.gn_capture.specs.Histories.{steps_text}
 use Rattle.gn_io.specs.Parts.{AppendsPart, LeavesToWrite, block_size}
 use Rattle.gn_io.specs.Streams.{NoWriteFailed, SinkState}
 use Rattle.gn_io.proofs.StreamLemmas.{leaves_all}
+use Rattle.gn_scribe.specs.declared.printed.PrintFault.{PrintFault}
 use Rattle.gn_scribe.specs.declared.scribe.Scribe.{Scribe}
 use Rattle.gn_scribe.specs.Written.{HasBroken, HasWritten}
-use Rattle.gn_scribe.proofs.PrintLemmas.{more_cut, more_left}
+use Rattle.gn_scribe.proofs.PrintLemmas.{more_cut, more_left, none_written}
 
 module _ {A : Type 0} where
   pub same_then : {P : Type 0} (a b c : Consumer (Step A) A P) → SameConsumer a b → SameConsumer b c → SameConsumer a c
@@ -49,9 +52,6 @@ module _ {A : Type 0} where
   -- the text of some steps and of others after them
   both_texts : (waited : List ℕ) (steps more : List (Step A)) → (waited ++ steps_text steps) ++ steps_text more ≡ waited ++ steps_text (steps ++ more)
   both_texts waited steps more = append_assoc waited (steps_text steps) (steps_text more) ∙ ap (λ r. waited ++ r) (sym (flat_map-append step_text steps more))
-
-  one_text : (waited : List ℕ) (x : Step A) → waited ++ step_text x ≡ waited ++ steps_text (x ∷ [])
-  one_text waited x = ap (λ r. waited ++ r) (sym (append-nil (step_text x)))
 
   -- all that waited was written
   pub waiting_written : (s0 s1 : Scribe A) (k0 k1 : SinkState) → s1.steps ≡ s0.steps → s1.block ≡ [] → Appends k0.written k1.written s0.block → NoWriteFailed k0 k1 → HasWritten s0 s1 k0 k1
@@ -99,81 +99,79 @@ module _ {A : Type 0} where
           more.part (append-nil _ ∙ both_texts s0.block so_far.steps more.steps);
     }
 
-  -- one step was taken, and its line written
-  one_written : (s1 s2 : Scribe A) (k1 k2 : SinkState) (x : Step A) → SameConsumer s1.steps s2.steps → received s2.steps ≡ received s1.steps ++ x ∷ []
-      → LeavesToWrite k1.written k2.written s2.block (s1.block ++ step_text x) → length s2.block < block_size → NoWriteFailed k1 k2 → HasWritten s1 s2 k1 k2
-  one_written s1 s2 k1 k2 x same taken left small unfailed = record {
-    same = same;
-    steps = x ∷ [];
-    taken = taken;
-    left = subst (λ (all : List ℕ). LeavesToWrite k1.written k2.written s2.block all) (one_text s1.block x) left;
-    small = λ _. small;
-    unfailed = unfailed;
-  }
+  -- the steps that a scribe keeps behind those that it had before
+  pub kept_behind : (s0 s1 : Scribe A) (more : List (Step A)) (before : ℕ) → before ≡ length s0.kept.items → received s1.steps ≡ received s0.steps ++ more → drop before s1.kept.items ≡ more
+  kept_behind s0 s1 more before at taken =
+      ap (λ n. drop n s1.kept.items) at
+      ∙ (ap (λ xs. drop (length s0.kept.items) xs) (s1.whole ∙ (taken ∙ ap (λ r. r ++ more) (sym s0.whole))) ∙ drop-append_seam s0.kept.items more)
 
-  -- one step was taken, and only a prefix of its line was written
-  one_broken : (s1 s2 : Scribe A) (k1 k2 : SinkState) (x : Step A) → SameConsumer s1.steps s2.steps → received s2.steps ≡ received s1.steps ++ x ∷ []
-      → AppendsPart k1.written k2.written (s1.block ++ step_text x) → HasBroken s1 s2 k1 k2
-  one_broken s1 s2 k1 k2 x same taken part = record {
-    same = same;
-    steps = x ∷ [];
-    taken = taken;
-    part = subst (λ (all : List ℕ). AppendsPart k1.written k2.written all) (one_text s1.block x) part;
-  }
+  -- so many are there
+  pub before_within : (s0 s1 : Scribe A) (more : List (Step A)) (before : ℕ) → before ≡ length s0.kept.items → received s1.steps ≡ received s0.steps ++ more → before ≤ length s1.kept.items
+  before_within s0 s1 more before at taken =
+      omega (arith, at, ap length s0.whole, ap length s1.whole, ap length taken, length-append (received s0.steps) more)
 
-  -- i of the steps that had come were taken and written
-  pub record IsWriting (s0 s1 : Scribe A) (k0 k1 : SinkState) (i : ℕ) : Type 0 where
-    pub written : HasWritten s0 s1 k0 k1
-    pub long : length written.steps ≡ i
-    pub ahead : known_items s0.steps ≡ written.steps ++ known_items s1.steps
+  -- steps were taken, and nothing was written
+  pub not_written : (s0 s1 : Scribe A) (k : SinkState) → SameConsumer s0.steps s1.steps → (more : List (Step A)) × (received s1.steps ≡ received s0.steps ++ more) → HasBroken s0 s1 k k
+  not_written s0 s1 k same some = record { same = same; steps = some.0; taken = some.1; part = none_written k.written (s0.block ++ steps_text some.0) }
 
-  pub writing_none : (s : Scribe A) (k : SinkState) → IsWriting s s k k 0
-  unfolding written_none only_looked
-  writing_none s k = record { written = written_none s k; long = refl; ahead = refl }
+  -- steps were taken, and their lines written
+  module _ (s0 s1 s2 : Scribe A) (k0 k1 : SinkState) (more printed : List (Step A)) (same : SameConsumer s0.steps s1.steps) (taken : received s1.steps ≡ received s0.steps ++ more)
+      (block : s1.block ≡ s0.block) (is : printed ≡ more) (steps : s2.steps ≡ s1.steps) where
+    text : s1.block ++ steps_text printed ≡ s0.block ++ steps_text more
+    text = ap (λ (b : List ℕ). b ++ steps_text printed) block ∙ ap (λ (xs : List (Step A)). s0.block ++ steps_text xs) is
 
-  module _ (s0 s1 s2 : Scribe A) (k0 k1 k2 : SinkState) (i : ℕ) (x : Step A) (so_far : IsWriting s0 s1 k0 k1 i)
-      (same : SameConsumer s1.steps s2.steps) (taken : received s2.steps ≡ received s1.steps ++ x ∷ []) (ahead : known_items s1.steps ≡ x ∷ known_items s2.steps) where
-    all_ahead : known_items s0.steps ≡ (so_far.written.steps ++ x ∷ []) ++ known_items s2.steps
-    all_ahead = so_far.ahead ∙ (ap (λ r. so_far.written.steps ++ r) ahead ∙ sym (append_assoc so_far.written.steps (x ∷ []) (known_items s2.steps)))
+    same_ring : SameConsumer s0.steps s2.steps
+    same_ring = subst (λ (c : Consumer (Step A) A _). SameConsumer s0.steps c) (sym steps) same
 
-    -- one more was
-    pub writing_more : LeavesToWrite k1.written k2.written s2.block (s1.block ++ step_text x) → length s2.block < block_size → NoWriteFailed k1 k2 → IsWriting s0 s2 k0 k2 (i + 1)
-    unfolding written_more one_written
-    writing_more left small unfailed = record {
-      written = written_more s0 s1 s2 k0 k1 k2 so_far.written (one_written s1 s2 k1 k2 x same taken left small unfailed);
-      long = omega (arith, so_far.long, length-append so_far.written.steps (x ∷ []));
-      ahead = all_ahead;
+    pub lines_written : (r : Result ⊤ PrintFault) → OnOk r (LeavesToWrite k0.written k1.written s2.block (s1.block ++ steps_text printed))
+        → OnOk r (length s1.block < block_size → length s2.block < block_size) → OnOk r (NoWriteFailed k0 k1) → OnOk r (HasWritten s0 s2 k0 k1)
+    lines_written (Ok x) left small unfailed = record {
+      same = same_ring;
+      steps = more;
+      taken = ap (λ c. received c) steps ∙ taken;
+      left = subst (λ (all : List ℕ). LeavesToWrite k0.written k1.written s2.block all) text left;
+      small = λ less. small (subst (λ (b : List ℕ). length b < block_size) (sym block) less);
+      unfailed = unfailed;
     }
+    lines_written (Err e) left small unfailed = _
 
-    -- one more was taken, and only a prefix of its line written
-    pub writing_cut : AppendsPart k1.written k2.written (s1.block ++ step_text x) → HasBroken s0 s2 k0 k2
-    writing_cut part = broken_after s0 s1 s2 k0 k1 k2 so_far.written (one_broken s1 s2 k1 k2 x same taken part)
-
-  -- a step is there where fewer were taken than had come
-  pub one_ahead : (s0 s1 : Scribe A) (k0 k1 : SinkState) (i : ℕ) → IsWriting s0 s1 k0 k1 i → i < length (known_items s0.steps) → 0 < length (known_items s1.steps)
-  one_ahead s0 s1 k0 k1 i so_far more = omega (arith, more, so_far.long, ap length so_far.ahead, length-append so_far.written.steps (known_items s1.steps))
-
-  -- all that had come were taken
-  pub all_known : (s0 s1 : Scribe A) (k0 k1 : SinkState) (i : ℕ) → IsWriting s0 s1 k0 k1 i → i ≡ length (known_items s0.steps)
-      → received s1.steps ≡ received s0.steps ++ known_items s0.steps
-  all_known s0 s1 k0 k1 i so_far all =
-      let steps = so_far.written.steps in
-      let none : known_items s1.steps ≡ [] = nil_from_length (known_items s1.steps) (omega (arith, all, so_far.long, ap length so_far.ahead, length-append steps (known_items s1.steps))) in
-      so_far.written.taken ∙ ap (λ r. received s0.steps ++ r) (sym (so_far.ahead ∙ (ap (λ r. steps ++ r) none ∙ append-nil steps)))
+    -- or only a prefix of them
+    pub lines_cut : (r : Result ⊤ PrintFault) → OnErr r (AppendsPart k0.written k1.written (s1.block ++ steps_text printed)) → OnErr r (HasBroken s0 s2 k0 k1)
+    lines_cut (Ok x) part = _
+    lines_cut (Err e) part = record {
+      same = same_ring;
+      steps = more;
+      taken = ap (λ c. received c) steps ∙ taken;
+      part = subst (λ (all : List ℕ). AppendsPart k0.written k1.written all) text part;
+    }
 
   -- i of the steps that had come were taken; what was taken and what has come stay all of them
   pub record IsKeeping {P : Type 0} (c0 c1 : Consumer (Step A) A P) (i : ℕ) : Type 0 where
-    pub all : received c1 ++ known_items c1 ≡ received c0 ++ known_items c0
-    pub many : length (known_items c1) + i ≡ length (known_items c0)
+    pub same : SameConsumer c0 c1
+    pub more : List (Step A)
+    pub taken : received c1 ≡ received c0 ++ more
+    pub ahead : known_items c0 ≡ more ++ known_items c1
+    pub many : length more ≡ i
 
-  pub keeping_more : {P : Type 0} (c0 c1 c2 : Consumer (Step A) A P) (i : ℕ) (x : Step A) → IsKeeping c0 c1 i → received c2 ≡ received c1 ++ x ∷ [] → known_items c1 ≡ x ∷ known_items c2
-      → IsKeeping c0 c2 (i + 1)
-  keeping_more c0 c1 c2 i x so_far taken ahead = record {
-    all = ap (λ r. r ++ known_items c2) taken ∙ (append_assoc (received c1) (x ∷ []) (known_items c2) ∙ (ap (λ r. received c1 ++ r) (sym ahead) ∙ so_far.all));
-    many = omega (arith, so_far.many, ap length ahead);
+  pub keeping_none : {P : Type 0} (c : Consumer (Step A) A P) → IsKeeping c c 0
+  keeping_none c = record { same = same_self c; more = []; taken = sym (append-nil (received c)); ahead = refl; many = refl }
+
+  pub keeping_more : {P : Type 0} (c0 c1 c2 : Consumer (Step A) A P) (i : ℕ) (x : Step A) → IsKeeping c0 c1 i → SameConsumer c1 c2 → received c2 ≡ received c1 ++ x ∷ []
+      → known_items c1 ≡ x ∷ known_items c2 → IsKeeping c0 c2 (i + 1)
+  keeping_more c0 c1 c2 i x so_far same taken ahead = record {
+    same = same_then c0 c1 c2 so_far.same same;
+    more = so_far.more ++ x ∷ [];
+    taken = taken ∙ (ap (λ r. r ++ x ∷ []) so_far.taken ∙ append_assoc (received c0) so_far.more (x ∷ []));
+    ahead = so_far.ahead ∙ (ap (λ r. so_far.more ++ r) ahead ∙ sym (append_assoc so_far.more (x ∷ []) (known_items c2)));
+    many = omega (arith, so_far.many, length-append so_far.more (x ∷ []));
   }
 
+  -- a step is there where fewer were taken than had come
+  pub one_ahead : {P : Type 0} (c0 c1 : Consumer (Step A) A P) (i : ℕ) → IsKeeping c0 c1 i → i < length (known_items c0) → 0 < length (known_items c1)
+  one_ahead c0 c1 i so_far less = omega (arith, less, so_far.many, ap length so_far.ahead, length-append so_far.more (known_items c1))
+
+  -- all that had come were taken
   pub keeping_all : {P : Type 0} (c0 c1 : Consumer (Step A) A P) (i : ℕ) → IsKeeping c0 c1 i → i ≡ length (known_items c0) → received c1 ≡ received c0 ++ known_items c0
   keeping_all c0 c1 i so_far all =
-      let none : known_items c1 ≡ [] = nil_from_length (known_items c1) (omega (arith, all, so_far.many)) in
-      sym (append-nil (received c1)) ∙ (ap (λ r. received c1 ++ r) (sym none) ∙ so_far.all)
+      let none : known_items c1 ≡ [] = nil_from_length (known_items c1) (omega (arith, all, so_far.many, ap length so_far.ahead, length-append so_far.more (known_items c1))) in
+      so_far.taken ∙ ap (λ r. received c0 ++ r) (sym (so_far.ahead ∙ (ap (λ r. so_far.more ++ r) none ∙ append-nil so_far.more)))

@@ -72,7 +72,7 @@ impl<A: Allocator + Copy> Scribe<A> {
 }
 
 /// The steps but for so many first ones.
-fn behind<A: Allocator>(steps: &[Step<A>], count: usize) -> &[Step<A>]
+pub(crate) fn behind<A: Allocator>(steps: &[Step<A>], count: usize) -> &[Step<A>]
     requires { count ≤ length steps.now }
     ensures { result.now ≡ drop count steps.now }
 {

@@ -5,13 +5,21 @@ ghost use Rattle.gn_rules.specs.declared.receipt.Step.{Step};
 ghost use Rattle.rtrb.specs.Ring.{IsPair, SameConsumer, known_items, received, sent};
 ghost use Rattle.gn_scribe.specs.Printed.{IsPrintFault};
 
-use crate::printed::{PrintFault, print_step};
+use crate::ending::behind;
+use crate::printed::{PrintFault, print_steps};
 use gn_io::{Block, Sink};
 use gn_room::Room;
 use gn_rules::Step;
 use rtrb::{Consumer, Producer};
 use std::alloc::{AllocError, Allocator, Global};
 use std::sync::Wait;
+use std::thread::yield_now;
+
+/// How often a scribe lets others run and looks for more steps before it writes what waits.
+const LOOKS: u32 = 8;
+
+/// As many steps as it took since it wrote what waited, before it looks no more.
+const UNWRITTEN: usize = 64;
 
 /// Takes the steps of a run out of their ring, writes their lines in blocks, and keeps the steps. Of the text no more is in memory
 /// than a block and a line.
@@ -25,6 +33,7 @@ pub struct Scribe<A: Allocator = Global> {
 }
 
 impl<A: Allocator + Copy> Scribe<A> {
+    ghost use Rattle.gn_io.specs.Streams.{SinkState};
     ghost use Rattle.gn_scribe.specs.Written.{HasBroken, HasWritten};
 
     /// A scribe of a ring of which no step was taken yet, with bytes that wait to be written before the first.
@@ -50,14 +59,14 @@ impl<A: Allocator + Copy> Scribe<A> {
         ensures err { OnErr result (HasBroken self.old self.new (W.state sink.old) (W.state sink.new)) }
         ensures cause { IfErr result (λ fault. IsPrintFault fault (W.state sink.old) (W.state sink.new)) }
     {
-        for _ in 0..count {
-            self.kept.reserve(1)?;
-            let step = self.steps.pop_known();
-            let printed = print_step(&step, &mut self.line, &mut self.block, sink);
-            self.kept.push_reserved(step);
-            printed?;
-        }
-        Ok(())
+        let before = self.kept.len();
+        self.keep_known(count)?;
+        print_steps(
+            behind(&self.kept, before),
+            &mut self.line,
+            &mut self.block,
+            sink,
+        )
     }
 
     /// Takes the steps that have come by now, and writes their lines. How many they were.
@@ -73,7 +82,11 @@ impl<A: Allocator + Copy> Scribe<A> {
 
     /// Writes all that waits, once a step was taken: of a run without steps nothing is written here.
     #[tactic(auto, using(crate::proofs::WrittenLemmas::written_none))]
-    fn write_waiting<W: Sink>(&mut self, sink: &mut W) -> Result<(), PrintFault>
+    fn write_waiting<W: Sink>(
+        &mut self,
+        unwritten: &mut usize,
+        sink: &mut W,
+    ) -> Result<(), PrintFault>
         ensures ok { OnOk result (HasWritten self.old self.new (W.state sink.old) (W.state sink.new)) }
         ensures err { OnErr result (HasBroken self.old self.new (W.state sink.old) (W.state sink.new)) }
         ensures cause { IfErr result (λ fault. IsPrintFault fault (W.state sink.old) (W.state sink.new)) }
@@ -81,16 +94,31 @@ impl<A: Allocator + Copy> Scribe<A> {
         if self.kept.is_empty() {
             return Ok(());
         }
+        *unwritten = 0;
         self.block.write_rest(sink)?;
         Ok(())
     }
 
-    /// Takes the steps that have come, and writes their lines; where none has, writes what waits, and waits for one. Whether no
-    /// more will come.
+    /// Lets other threads run and looks again, so many times at most, until a step has come. Whether one has.
+    fn has_more(&mut self, looks: u32) -> bool
+        ensures { (k : SinkState) → HasWritten self.old self.new k k }
+    {
+        for _ in 0..looks {
+            yield_now();
+            if !self.steps.is_empty() {
+                return true;
+            }
+        }
+        false
+    }
+
+    /// Takes the steps that have come, and writes their lines; where no more come soon, or so many were taken since what waited was
+    /// written, writes what waits, and waits for one. Whether no more will come.
     fn turn<R: Wait, W: Sink>(
         &mut self,
         rt: &R,
         room: &Room,
+        unwritten: &mut usize,
         sink: &mut W,
     ) -> Result<bool, PrintFault>
         ensures ok { OnOk result (HasWritten self.old self.new (W.state sink.old) (W.state sink.new)) }
@@ -100,15 +128,20 @@ impl<A: Allocator + Copy> Scribe<A> {
         let is_over = room.is_over();
         let count = self.write_come(sink)?;
         room.took(rt, count as u64);
-        if count > 0 || is_over {
+        if is_over {
             return Ok(count == 0);
         }
-        self.write_waiting(sink)?;
+        *unwritten = unwritten.saturating_add(count);
+        let looks = if *unwritten < UNWRITTEN { LOOKS } else { 0 };
+        if self.has_more(looks) {
+            return Ok(false);
+        }
+        self.write_waiting(unwritten, sink)?;
         room.await_step(rt);
         Ok(false)
     }
 
-    /// Takes the steps as they come, and writes their lines, until no more will come.
+    /// Takes the steps as they come, and writes their lines, until no more will come. The first are written at once.
     fn write_on<R: Wait, W: Sink>(
         &mut self,
         rt: &R,
@@ -119,8 +152,9 @@ impl<A: Allocator + Copy> Scribe<A> {
         ensures err { OnErr result (HasBroken self.old self.new (W.state sink.old) (W.state sink.new)) }
         ensures cause { IfErr result (λ fault. IsPrintFault fault (W.state sink.old) (W.state sink.new)) }
     {
+        let mut unwritten = UNWRITTEN;
         for _ in rt.forever() {
-            if self.turn(rt, room, sink)? {
+            if self.turn(rt, room, &mut unwritten, sink)? {
                 return Ok(());
             }
         }
@@ -191,7 +225,9 @@ impl<A: Allocator + Copy> Scribe<A> {
     /// Takes so many steps, which have come.
     fn keep_known(&mut self, count: usize) -> Result<(), AllocError>
         requires { count ≡ length (known_items self.old.steps) }
+        ensures same { SameConsumer self.old.steps self.new.steps }
         ensures all { OnOk result (received self.new.steps ≡ received self.old.steps ++ known_items self.old.steps) }
+        ensures some { (more : List (Step A)) × (received self.new.steps ≡ received self.old.steps ++ more) }
         ensures block { self.new.block ≡ self.old.block }
     {
         for _ in 0..count {

@@ -1,52 +1,43 @@
-use Rattle.std.proofs.Common.{◌<◌, arith, subst}
-use Rattle.gn_scribe.proofs.PrintLemmas.{cause_handed, on_err}
-use Rattle.gn_scribe.proofs.WrittenLemmas.{all_known, one_ahead, same_then, writing_cut, writing_more, writing_none}
+use Rattle.std.proofs.Common.{◌∙◌, ◌≤◌, List, ap, drop, length, refl, subst, sym}
+use Rattle.std.proofs.lemmas.Result.{on_ok_weaker}
+use Rattle.rtrb.specs.Ring.{known_items}
+use Rattle.gn_rules.specs.declared.receipt.Step.{Step}
+use Rattle.gn_scribe.proofs.PrintLemmas.{on_err}
+use Rattle.gn_scribe.proofs.WrittenLemmas.{before_within, kept_behind, lines_cut, lines_written, not_written}
 use Rattle.gn_scribe.proofs.scribe.Scribe.write_known.Goals as goal
 
-pub loop-init : goal.loop-init
-loop-init g c = writing_none c.args.self.now (g.W.Sink.state c.args.sink.now)
+pub behind-requires : goal.behind-requires
+behind-requires g c =
+    subst (λ (kept : List (Step _)). c.len-before.result ≤ length kept) (sym c.deref.ensures.value)
+    (before_within c.args.self.now c.keep_known.new.self (known_items c.args.self.now.steps) c.len-before.result (c.len-before.ensures ∙ c.args.self.now.kept.ok.0)
+    c.in_ok-keep_known.ensures.all)
 
-pub pop_known-step-requires : goal.pop_known-step-requires
-pop_known-step-requires g c =
-    one_ahead c.args.self.now c.loop.self (g.W.Sink.state c.args.sink.now) (g.W.Sink.state c.loop.sink) c.loop.counter c.loop.invariant
-    (subst (λ n. c.loop.counter < n) c.requires c.loop-test.true)
+pub returns-in_err-keep_known-clause-same : goal.returns-in_err-keep_known-clause-same
+returns-in_err-keep_known-clause-same g c = c.keep_known.ensures.same
 
-pub returns-in_err-reserve-clause-same : goal.returns-in_err-reserve-clause-same
-returns-in_err-reserve-clause-same g c = c.loop.invariant.written.same
-
-pub returns-in_err-printed-clause-same : goal.returns-in_err-printed-clause-same
-returns-in_err-printed-clause-same g c =
-    same_then c.args.self.now.steps c.loop.self.steps c.pop_known-step.new.self c.loop.invariant.written.same c.pop_known-step.ensures.ring
+pub returns-in_err-keep_known-clause-err : goal.returns-in_err-keep_known-clause-err
+returns-in_err-keep_known-clause-err g c =
+    on_err c.from_residual.result
+    (not_written c.args.self.now c.keep_known.new.self (g.W.Sink.state c.args.sink.now) c.keep_known.ensures.same c.keep_known.ensures.some)
 
 pub returns-clause-same : goal.returns-clause-same
-returns-clause-same g c = c.loop.invariant.written.same
-
-pub returns-in_err-reserve-clause-err : goal.returns-in_err-reserve-clause-err
-returns-in_err-reserve-clause-err g c =
-    let so_far = c.loop.invariant.written in
-    on_err c.from_residual.result (record { same = so_far.same; steps = so_far.steps; taken = so_far.taken; part = (c.loop.self.block, so_far.left) })
-
-pub returns-in_err-printed-clause-err : goal.returns-in_err-printed-clause-err
-returns-in_err-printed-clause-err g c =
-    on_err c.from_residual-in_err-printed.result
-    (writing_cut c.args.self.now c.loop.self _ (g.W.Sink.state c.args.sink.now) (g.W.Sink.state c.loop.sink) (g.W.Sink.state c.print_step-printed.new.sink) c.loop.counter
-    c.pop_known-step.result c.loop.invariant c.pop_known-step.ensures.ring c.pop_known-step.ensures.received.0 c.pop_known-step.ensures.received.1 c.in_err-printed.ensures.err)
-
-pub returns-in_err-printed-clause-cause : goal.returns-in_err-printed-clause-cause
-returns-in_err-printed-clause-cause g c =
-    cause_handed c.from_residual-in_err-printed.result c.in_err-printed.field-0.0 (g.W.Sink.state c.args.sink.now) (g.W.Sink.state c.loop.sink)
-    (g.W.Sink.state c.print_step-printed.new.sink) c.from_residual-in_err-printed.ensures.1 c.loop.invariant.written.unfailed c.in_err-printed.ensures.cause
-
-pub loop-preserved : goal.loop-preserved
-loop-preserved g c =
-    writing_more c.args.self.now c.loop.self _ (g.W.Sink.state c.args.sink.now) (g.W.Sink.state c.loop.sink) (g.W.Sink.state c.print_step-printed.new.sink) c.loop.counter
-    c.pop_known-step.result c.loop.invariant c.pop_known-step.ensures.ring c.pop_known-step.ensures.received.0 c.pop_known-step.ensures.received.1 c.in_ok-printed.ensures.ok
-    c.in_ok-printed.ensures.small c.in_ok-printed.ensures.writes
+returns-clause-same g c = c.keep_known.ensures.same
 
 pub returns-clause-ok : goal.returns-clause-ok
-returns-clause-ok g c = c.loop.invariant.written
+returns-clause-ok g c =
+    let known = known_items c.args.self.now.steps in
+    let taken = c.in_ok-keep_known.ensures.all in
+    lines_written c.args.self.now c.keep_known.new.self _ (g.W.Sink.state c.args.sink.now) (g.W.Sink.state c.print_steps.new.sink) known c.behind.result.now c.keep_known.ensures.same
+    taken c.keep_known.ensures.block (c.behind.ensures ∙ (ap (λ (kept : List (Step _)). drop c.len-before.result kept) c.deref.ensures.value ∙ kept_behind c.args.self.now c.keep_known.new.self known c.len-before.result (c.len-before.ensures ∙ c.args.self.now.kept.ok.0) taken)) refl
+    c.print_steps.result c.print_steps.ensures.ok c.print_steps.ensures.small c.print_steps.ensures.writes
 
 pub returns-clause-all : goal.returns-clause-all
-returns-clause-all g c =
-    all_known c.args.self.now c.loop.self (g.W.Sink.state c.args.sink.now) (g.W.Sink.state c.loop.sink) c.loop.counter c.loop.invariant
-    (omega (arith, c.loop-test.false, c.loop.auto.counter-end, c.requires))
+returns-clause-all g c = on_ok_weaker c.print_steps.result (λ _. c.in_ok-keep_known.ensures.all) c.print_steps.ensures.ok
+
+pub returns-clause-err : goal.returns-clause-err
+returns-clause-err g c =
+    let known = known_items c.args.self.now.steps in
+    let taken = c.in_ok-keep_known.ensures.all in
+    lines_cut c.args.self.now c.keep_known.new.self _ (g.W.Sink.state c.args.sink.now) (g.W.Sink.state c.print_steps.new.sink) known c.behind.result.now c.keep_known.ensures.same
+    taken c.keep_known.ensures.block (c.behind.ensures ∙ (ap (λ (kept : List (Step _)). drop c.len-before.result kept) c.deref.ensures.value ∙ kept_behind c.args.self.now c.keep_known.new.self known c.len-before.result (c.len-before.ensures ∙ c.args.self.now.kept.ok.0) taken)) refl
+    c.print_steps.result c.print_steps.ensures.err
