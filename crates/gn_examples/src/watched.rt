@@ -75,7 +75,7 @@ impl Told {
 const SILENT: &[u8] =
     b"gnutella-capture 1\nconfig 4 8 4 8 8 100\nown eeeeeeeeeeeeeeeeeeeeeeeeeeeeeeee 127.0.0.1 6346 5 40\njoin\n";
 
-/// Whether a watch is told what it is asked to watch: a load or a serve with `--progress` alone. Each load leaves what it made.
+/// Whether a watch is told what it is asked to watch: a load or a serve with `--progress` alone. Each leaves what it made.
 pub(crate) fn are_told<
     R: Threads
         + Wait
@@ -102,8 +102,8 @@ pub(crate) fn are_told<
     let rows = [
         (load, [0, 0, 0, 0, 1]),
         (watched_load, [1, 0, 0, 1, 1]),
-        (serve, [0, 0, 0, 0, 0]),
-        (watched_serve, [0, 99, 0, 1, 0]),
+        (serve, [0, 0, 0, 0, 1]),
+        (watched_serve, [0, 99, 0, 1, 1]),
     ];
     for (words, counts) in rows {
         let told = Told::new();

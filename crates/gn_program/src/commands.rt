@@ -220,7 +220,10 @@ fn obey<
         Request::Serve(serving) if serving.progress => {
             serve_watched(rt, alloc, &serving, watch, writer, faults)
         }
-        Request::Serve(serving) => serve_watched(rt, alloc, &serving, &NoGate, writer, faults),
+        Request::Serve(serving) => {
+            let unwatched = Unwatched(watch);
+            serve_watched(rt, alloc, &serving, &unwatched, writer, faults)
+        }
     }
 }
 

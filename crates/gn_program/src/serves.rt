@@ -16,7 +16,7 @@ use gn_io::Sink;
 use gn_links::{LinkFault, Watch};
 use gn_load::{ServeFault, ServeStopped, serve_journalled};
 use gn_rules::{Config, Own, Step};
-use gn_service::{Ran, Serving, Stop};
+use gn_service::{Ran, Report, Serving, Stop, TcpReader, TcpWriter};
 use gn_tcp::Unmet;
 use gn_threads::RunFault;
 use gn_words::{Peer, ServeOptions};
@@ -150,20 +150,37 @@ fn listen<N: Net<Listener = TcpListener, Stream = TcpStream>>(
     }
 }
 
-/// Writes what became of the links of a run that has no report, where that is asked for and something stands of its history.
-fn report_stopped<F: Sink>(
+/// Writes what became of the links of a run, where that is asked for, and lets go of its report.
+fn report_ended<G: Watch, F: Sink>(
     alloc: Global,
     serving: &ServeOptions,
-    peers: &[SocketAddr],
-    history: &Option<Vec<Step>>,
+    watch: &G,
+    report: Report<TcpReader<'_>, TcpWriter>,
     faults: &mut F,
 ) {
-    if let Some(steps) = history
+    if serving.report {
+        write_report(alloc, faults, &report);
+    }
+    watch.leave(report);
+}
+
+/// Writes what became of the links of a run that has no report, where that is asked for and something stands of its history, and lets
+/// go of that.
+fn report_stopped<G: Watch, F: Sink>(
+    alloc: Global,
+    serving: &ServeOptions,
+    watch: &G,
+    peers: &[SocketAddr],
+    history: Option<Vec<Step>>,
+    faults: &mut F,
+) {
+    if let Some(steps) = &history
         && serving.report
     {
         let links = peers.len().saturating_add(serving.accept as usize);
         write_stopped(alloc, faults, peers, links, steps);
     }
+    watch.leave(history);
 }
 
 /// Listens, says so with the faults, runs the router, writes its history while it runs, and then what became of its links with the faults,
@@ -216,9 +233,7 @@ pub(crate) fn serve<
     match answer {
         Ok((report, ran)) => {
             *remembered = Some(ran);
-            if serving.report {
-                write_report(alloc, faults, &report);
-            }
+            report_ended(alloc, serving, watch, report, faults);
             Ok(())
         }
         Err(
@@ -229,7 +244,7 @@ pub(crate) fn serve<
             },
         ) => {
             *remembered = ran;
-            report_stopped(alloc, serving, &peers, &history, faults);
+            report_stopped(alloc, serving, watch, &peers, history, faults);
             Err(fault)
         }
     }

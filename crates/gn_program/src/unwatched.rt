@@ -1,4 +1,4 @@
-//! A load that nobody watches.
+//! A load or a serve that nobody watches.
 
 use gn_links::{Gate, Watch};
 use std::sync::Wait;
