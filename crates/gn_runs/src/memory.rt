@@ -3,5 +3,4 @@
 mod bodies;
 mod lock;
 mod runs;
-mod serves;
 mod stage;

@@ -6,7 +6,6 @@ mod failing;
 mod full;
 mod given_up;
 pub(crate) mod hub;
-pub(crate) mod in_step;
 mod report;
 pub(crate) mod runs;
 mod service;

@@ -4,10 +4,10 @@ mod endless;
 mod rows;
 mod slow;
 
-use crate::left::{Left, a_report, left_of};
 use crate::threads::runs::run_of;
 use gn_links::{Link, MemoryLink, NoGate};
 use gn_rules::Config;
+use gn_run_fixtures::{Left, a_report, left_of};
 use slow::SlowWriter;
 use std::alloc::Global;
 use std::sync::Wait;

@@ -1,9 +1,9 @@
 //! A full history, found where no memory is left for what the threads give back.
 
-use crate::threads::in_step::{Meeting, PacedLink};
 use crate::threads::runs::run_of;
 use gn_fixtures::{Heap, usual};
 use gn_links::{Gate, MemoryLink};
+use gn_run_fixtures::{Meeting, PacedLink};
 use gn_shake::{Role, request};
 use gn_threads::RunFault;
 use std::alloc::{AllocError, Allocator, Global};

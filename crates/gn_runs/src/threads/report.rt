@@ -2,13 +2,13 @@
 
 ghost use Rattle.std.specs.Prelude.{◌≡◌, length, IfOk};
 
-use crate::left::a_report;
 use crate::threads::runs::table_run;
 use gn_bodies::{ReaderEnd, WriterEnd};
 use gn_fixtures::{PING, ping};
 use gn_links::{MemoryLink, NoGate};
 use gn_report::*;
 use gn_rules::{Event, Receipt, Reply, Stats, Step};
+use gn_run_fixtures::a_report;
 use gn_shake::Role;
 use std::alloc::Global;
 use std::sync::Wait;

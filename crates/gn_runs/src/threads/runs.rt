@@ -1,12 +1,11 @@
 //! Small runs of many threads over memory links.
 
-use crate::left::a_report;
-use crate::threads::in_step::{Meeting, PacedLink};
 use gn_bodies::WriterEnd;
 use gn_fixtures::{OWN, PING};
 use gn_links::{Gate, Link, MemoryLink, NoGate};
 use gn_report::Report;
 use gn_rules::Config;
+use gn_run_fixtures::{Meeting, PacedLink, a_report, are_even, have_met, pings};
 use gn_shake::Role;
 use gn_table_router::TableRouter;
 use gn_threads::{RunFault, run};
@@ -15,16 +14,6 @@ use std::sync::Wait;
 use std::sync::atomic::Ordering;
 use std::test::Fail;
 use std::thread::Threads;
-
-/// Pings with these numbers in their IDs, TTL 7 and Hops 0, one after another.
-pub(crate) fn pings(alloc: Global, link: u8, count: u8) -> Result<Vec<u8>, AllocError> {
-    let mut bytes = Vec::new(alloc);
-    for number in 0..count {
-        bytes.extend_from_slice(&[link, number])?;
-        bytes.extend_from_slice(&PING[2..])?;
-    }
-    Ok(bytes)
-}
 
 /// A plain link of so many Pings.
 fn link_of(alloc: Global, number: u8, count: u8) -> Result<MemoryLink, AllocError> {
@@ -106,16 +95,6 @@ fn receipts_of<Rd, W>(report: &Report<Rd, W>) -> usize {
     count
 }
 
-/// Whether a run has two workers of 300 receipts each.
-pub(crate) fn are_even<Rd, W>(report: &Report<Rd, W>) -> bool {
-    for receipts in &report.workers {
-        if receipts.len() != 300 {
-            return false;
-        }
-    }
-    report.workers.len() == 2
-}
-
 /// Whether a run of six links of a hundred Pings has two workers of 300 receipts each, and each step its receipt.
 fn is_shared<R: Threads + Wait + Sync>(
     rt: &R,
@@ -127,11 +106,6 @@ fn is_shared<R: Threads + Wait + Sync>(
     let is_shared = are_even(&report) && receipts_of(&report) == report.history.len();
     drop(report);
     Ok(is_shared)
-}
-
-/// Whether the two of a meeting have begun so often, and neither gave the other up.
-pub(crate) fn have_met(meeting: &Meeting, begun: u64) -> bool {
-    meeting.begun() == (begun, begun) && !meeting.is_missed.load(Ordering::SeqCst)
 }
 
 #[test]

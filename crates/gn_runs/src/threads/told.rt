@@ -1,11 +1,11 @@
 //! What a gate is told of a connection that a link's two threads would close.
 
-use crate::left::a_report;
 use crate::threads::runs::table_run;
 use gn_bodies::{ReaderEnd, WriterEnd};
 use gn_fixtures::PING;
 use gn_links::{Gate, Made, MemoryLink};
 use gn_report::Report;
+use gn_run_fixtures::a_report;
 use gn_shake::{Role, request};
 use gn_wire::{FrameFault, Kind};
 use std::alloc::{AllocError, Global};

@@ -3,12 +3,12 @@
 use super::endless::EndlessLink;
 use super::run_over;
 use super::slow::SlowLink;
-use crate::left::{Left, READER, WRITER};
 use crate::threads::runs::{plain_links, run_of};
 use gn_bodies::{ReaderEnd, WriterEnd};
 use gn_fixtures::{OWN_PONG, PING, usual};
 use gn_links::{MemoryLink, NoGate};
 use gn_rules::Config;
+use gn_run_fixtures::{Left, READER, WRITER};
 use gn_shake::{Role, consent, request};
 use gn_threads::RunFault;
 use std::alloc::{AllocError, Global};

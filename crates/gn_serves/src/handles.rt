@@ -1,10 +1,10 @@
 //! Runs over the loopback that the system has no handles for.
 
-use crate::left::a_report;
-use crate::serving::loopback::peers::{hears, sent};
-use crate::serving::loopback::{DRAINED, TcpReport, have_ended, serve};
-use crate::serving::wanted::a_listener;
+use crate::loopback::peers::{hears, sent};
+use crate::loopback::{DRAINED, TcpReport, have_ended, serve};
+use crate::wanted::a_listener;
 use gn_fixtures::{OWN_PONG, PING};
+use gn_run_fixtures::a_report;
 use gn_service::Serving;
 use gn_threads::RunFault;
 use std::alloc::Global;

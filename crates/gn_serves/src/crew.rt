@@ -1,14 +1,13 @@
 //! Two workers of a serve that begin each route together, while its history is written.
 
-use crate::serving::loads::is_legal;
-use crate::serving::loopback::peers::sent;
-use crate::serving::wanted::a_listener;
-use crate::threads::in_step::Meeting;
-use crate::threads::runs::{are_even, have_met, pings};
+use crate::loads::is_legal;
+use crate::loopback::peers::sent;
+use crate::wanted::a_listener;
 use gn_fixtures::OWN;
 use gn_io::{Sink, WriterSink};
 use gn_load::serve_journalled;
 use gn_rules::Config;
+use gn_run_fixtures::{Meeting, are_even, have_met, pings};
 use gn_service::Serving;
 use std::alloc::Global;
 use std::net::{Net, Shutdown, SocketAddr, TcpListener, TcpStream};

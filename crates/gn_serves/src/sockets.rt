@@ -1,9 +1,9 @@
 //! Runs over sockets whose peers reset, shut a half, send a byte at a time or never read, row by row.
 
-use crate::left::{Left, READER, WRITER, left_of};
-use crate::serving::loopback::peers::Peer;
-use crate::serving::loopback::report_of;
+use crate::loopback::peers::Peer;
+use crate::loopback::report_of;
 use gn_bodies::{ReaderEnd, WriterEnd};
+use gn_run_fixtures::{Left, READER, WRITER, left_of};
 use gn_service::Serving;
 use std::alloc::Global;
 use std::net::{Net, TcpListener, TcpStream};

@@ -1,7 +1,7 @@
 //! Serves whose history is written while they go on.
 
-use crate::serving::loopback::peers::{hears, sent};
-use crate::serving::wanted::a_listener;
+use crate::loopback::peers::{hears, sent};
+use crate::wanted::a_listener;
 use gn_fixtures::{OWN_PONG, PING, usual};
 use gn_io::{Sink, WriterSink};
 use gn_links::NoGate;

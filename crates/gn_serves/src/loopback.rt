@@ -2,9 +2,8 @@
 
 pub(crate) mod peers;
 
-use crate::left::a_report;
-use crate::serving::in_time::watch;
-use crate::serving::wanted::a_listener;
+use crate::in_time::watch;
+use crate::wanted::a_listener;
 use gn_bodies::{ReaderEnd, WriterEnd};
 use gn_fixtures::usual;
 use gn_io::{Sink, WriterSink};
@@ -12,6 +11,7 @@ use gn_links::{NoGate, Watch};
 use gn_load::{ServeFault, serve_history};
 use gn_report::Report;
 use gn_rules::Config;
+use gn_run_fixtures::a_report;
 use gn_service::{Serving, serve_on};
 use gn_table_router::TableRouter;
 use gn_tcp::{TcpReader, TcpWriter};

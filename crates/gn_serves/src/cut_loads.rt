@@ -1,6 +1,6 @@
 //! Loads whose history is written while they run, and can't be written whole.
 
-use crate::serving::journal::{Full, Narrow, ONE_PING};
+use crate::journal::{Full, Narrow, ONE_PING};
 use gn_io::{ReaderSource, WriterSink};
 use gn_links::NoGate;
 use gn_load::{LoadFault, load_journalled};

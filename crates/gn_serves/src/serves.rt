@@ -1,8 +1,8 @@
 //! Runs over the loopback that are called and that call.
 
-use crate::serving::loopback::peers::{LATE, Peer, is_given_up};
-use crate::serving::loopback::{DRAINED, TcpReport, have_ended, nobody, report_of, serve};
-use crate::serving::wanted::a_listener;
+use crate::loopback::peers::{LATE, Peer, is_given_up};
+use crate::loopback::{DRAINED, TcpReport, have_ended, nobody, report_of, serve};
+use crate::wanted::a_listener;
 use gn_bodies::{ReaderEnd, WriterEnd};
 use gn_service::Serving;
 use gn_threads::RunFault;

@@ -1,6 +1,6 @@
 //! Both ends of a link in one process.
 
-use crate::serving::wanted::a_listener;
+use crate::wanted::a_listener;
 use gn_links::{Link, LinkFault, LinkReader, LinkWriter};
 use gn_tcp::{TcpLink, TcpReader, TcpWriter, listen};
 use std::io::{self, ErrorKind, Read, Write};

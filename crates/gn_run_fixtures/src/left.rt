@@ -10,27 +10,27 @@ use std::alloc::{AllocError, Global};
 use std::test::Fail;
 
 /// The actor of the reader of a run's only link.
-pub(crate) const READER: u32 = 0;
+pub const READER: u32 = 0;
 
 /// The actor of its writer.
-pub(crate) const WRITER: u32 = 1;
+pub const WRITER: u32 = 1;
 
 /// What a run left. Its history is legal, by what a run promises.
 #[derive(Drop)]
-pub(crate) struct Left {
+pub struct Left {
     /// How the bodies of the first link ended.
-    pub(crate) ends: (ReaderEnd, WriterEnd),
+    pub ends: (ReaderEnd, WriterEnd),
     /// The number of connections.
-    pub(crate) connects: usize,
+    pub connects: usize,
     /// The number of Admit events.
-    pub(crate) admits: usize,
+    pub admits: usize,
     /// Who made each Close event, in order.
-    pub(crate) closers: Vec<u32>,
+    pub closers: Vec<u32>,
 }
 
 impl Left {
     /// Whether no connection is live at the end: a legal history closes each once at most.
-    pub(crate) fn is_all_closed(&self) -> bool {
+    pub fn is_all_closed(&self) -> bool {
         self.closers.len() == self.connects
     }
 }
@@ -82,10 +82,7 @@ fn left_by(
 }
 
 /// What a run left, and the writer of the first link.
-pub(crate) fn left_of<Rd: Drop, W: Drop>(
-    alloc: Global,
-    report: Report<Rd, W>,
-) -> Result<(Left, W), Fail> {
+pub fn left_of<Rd: Drop, W: Drop>(alloc: Global, report: Report<Rd, W>) -> Result<(Left, W), Fail> {
     let Report {
         history,
         mut links,
@@ -115,7 +112,7 @@ pub(crate) fn left_of<Rd: Drop, W: Drop>(
 }
 
 /// The report of a run.
-pub(crate) fn a_report<T: Drop>(ran: Result<T, RunFault>) -> Result<T, Fail>
+pub fn a_report<T: Drop>(ran: Result<T, RunFault>) -> Result<T, Fail>
     ensures { IfOk result (λ report. ran ≡ Ok report) }
 {
     match ran {

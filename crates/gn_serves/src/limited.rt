@@ -1,9 +1,9 @@
 //! Runs over the loopback that are stopped, and what is written of one.
 
-use crate::serving::loads::is_legal;
-use crate::serving::loopback::peers::{Peer, hears, sent};
-use crate::serving::loopback::{DRAINED, have_ended, report_of, serve_written};
-use crate::serving::wanted::a_listener;
+use crate::loads::is_legal;
+use crate::loopback::peers::{Peer, hears, sent};
+use crate::loopback::{DRAINED, have_ended, report_of, serve_written};
+use crate::wanted::a_listener;
 use gn_bodies::{ReaderEnd, WriterEnd};
 use gn_fixtures::PING;
 use gn_links::NoGate;

@@ -1,7 +1,7 @@
 //! How runs over the loopback end: nobody holds one that is stopped, and nobody waits for it in vain.
 
-use crate::serving::loopback::peers::Peer;
-use crate::serving::loopback::{DRAINED, TcpReport, have_ended, report_beside_nobody, report_of};
+use crate::loopback::peers::Peer;
+use crate::loopback::{DRAINED, TcpReport, have_ended, report_beside_nobody, report_of};
 use gn_bodies::{ReaderEnd, WriterEnd};
 use gn_service::{Serving, Stop};
 use std::alloc::Global;

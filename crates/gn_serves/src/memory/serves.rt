@@ -1,7 +1,7 @@
 //! A run over the loopback, of two clients that call.
 
-use crate::serving::loopback;
-use crate::serving::wanted::a_listener;
+use crate::loopback;
+use crate::wanted::a_listener;
 use gn_fixtures::{Heap, Refused, Turn, has_answered, refused_at};
 use gn_report::Report;
 use gn_service::Serving;

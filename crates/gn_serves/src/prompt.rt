@@ -1,8 +1,8 @@
 //! Runs over the loopback that wait for nobody: small packets go out at once, and a run that has failed lets its peers go.
 
-use crate::serving::loopback::peers::{Peer, sent};
-use crate::serving::loopback::{report_of, serve};
-use crate::serving::wanted::a_listener;
+use crate::loopback::peers::{Peer, sent};
+use crate::loopback::{report_of, serve};
+use crate::wanted::a_listener;
 use gn_fixtures::PING;
 use gn_service::Serving;
 use gn_threads::RunFault;

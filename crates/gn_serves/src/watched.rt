@@ -1,8 +1,8 @@
 //! What who watches a run learns of it as a whole.
 
-use crate::serving::loopback::peers::sent;
-use crate::serving::loopback::serve_written;
-use crate::serving::wanted::a_listener;
+use crate::loopback::peers::sent;
+use crate::loopback::serve_written;
+use crate::wanted::a_listener;
 use gn_fixtures::PING;
 use gn_io::{ReaderSource, Sink, Source, WriterSink};
 use gn_links::{Gate, Watch};

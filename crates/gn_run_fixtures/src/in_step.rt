@@ -11,15 +11,15 @@ const MOST_LOOKS: u32 = 100_000_000;
 
 /// Where two readers meet, or two workers: how many reads or routes each of them has begun, and whether one gave the other up.
 #[derive(Drop)]
-pub(crate) struct Meeting {
+pub struct Meeting {
     first: AtomicU64,
     second: AtomicU64,
-    pub(crate) is_missed: AtomicBool,
+    pub is_missed: AtomicBool,
 }
 
 impl Meeting {
     /// Nobody has begun.
-    pub(crate) fn new() -> Self {
+    pub fn new() -> Self {
         Meeting {
             first: AtomicU64::new(0),
             second: AtomicU64::new(0),
@@ -28,7 +28,7 @@ impl Meeting {
     }
 
     /// How often each of them has begun.
-    pub(crate) fn begun(&self) -> (u64, u64) {
+    pub fn begun(&self) -> (u64, u64) {
         (
             self.first.load(Ordering::SeqCst),
             self.second.load(Ordering::SeqCst),
@@ -64,7 +64,7 @@ impl Watch for Meeting {}
 
 /// A reader that begins each read together with another.
 #[derive(Drop)]
-pub(crate) struct PacedReader<'a, Rd: LinkReader> {
+pub struct PacedReader<'a, Rd: LinkReader> {
     reader: Rd,
     meeting: &'a Meeting,
     is_first: bool,
@@ -94,10 +94,10 @@ impl<'a, Rd: LinkReader> LinkReader for PacedReader<'a, Rd> {
 /// A link whose reader begins each read together with another, as the first or the second of a meeting. Without a meeting it
 /// can't be split.
 #[derive(Drop)]
-pub(crate) struct PacedLink<'a, K: Link> {
-    pub(crate) link: K,
-    pub(crate) meeting: Option<&'a Meeting>,
-    pub(crate) is_first: bool,
+pub struct PacedLink<'a, K: Link> {
+    pub link: K,
+    pub meeting: Option<&'a Meeting>,
+    pub is_first: bool,
 }
 
 impl<'a, K: Link> Link for PacedLink<'a, K> {
@@ -136,4 +136,9 @@ impl<'a, K: Link> Link for PacedLink<'a, K> {
         };
         Ok((reader, writer))
     }
+}
+
+/// Whether the two of a meeting have begun so often, and neither gave the other up.
+pub fn have_met(meeting: &Meeting, begun: u64) -> bool {
+    meeting.begun() == (begun, begun) && !meeting.is_missed.load(Ordering::SeqCst)
 }

@@ -1,0 +1,4 @@
+//! Serves and loads, where each of their growths is refused in turn.
+
+mod loads;
+mod serves;
