@@ -12,7 +12,7 @@ use Rattle.gn_bodies.specs.declared.ends.WriterEnd.{WriterEnd}
 use Rattle.gn_bodies.specs.declared.ends.WriterEnd.TheVariants.{Drained, WriteFailed, Closed, NeverOpened}
 use Rattle.gn_bodies.specs.Events.{events_of, packets_of}
 
--- the opening text of a connected link: the connection request where it calls, the consent where it accepts, none where it is plain
+-- the opening text of a connected link: the connection request where it calls, the consent where it accepts, else none
 abbrev pub opening_texts : Role → List (List ℕ)
 opening_texts Accepting = consent_text ∷ []
 opening_texts Calling = request_text ∷ []

@@ -17,7 +17,7 @@ pub enum ReaderEnd {
     Fault(FrameFault),
     /// A read failed.
     ReadFailed,
-    /// As many reads gave bytes as may.
+    /// The limit of reads that give bytes was reached.
     Turns,
     /// The bytes differ from the greeting.
     GreetingRefused,

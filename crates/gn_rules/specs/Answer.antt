@@ -1,4 +1,4 @@
--- What the rules answer to an event, a reply or a refusal; and when a history is legal.
+-- What the rules answer to an event, and when a history is legal.
 use Rattle.std.specs.Prelude.{◌≡◌, ◌+◌, ℕ, Bool, true, false, ◌==◌, ◌&&◌, not, nat_le, if◌then◌else◌, List, [], ◌∷◌, length, slice_get, Option, option_map, ok_or, Result, Ok, Err, IsOk}
 use Rattle.std.specs.Option.{option_map_or}
 use Rattle.gn_wire.specs.declared.kind.Kind.{Kind}

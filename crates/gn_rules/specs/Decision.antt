@@ -30,8 +30,8 @@ pub data Decision : Type 0 where
   -- it is passed on to one connection
   Forward : ℕ → Decision
 
--- the checks of a route to the connection r: it is live, it isn't where the descriptor came from, and the descriptor isn't
--- expired
+-- the checks of a route to the connection r, in order: RouteGone where r isn't live, BackToSender where r admitted the
+-- descriptor, Expired where that is expired; else a Forward to r
 abbrev pub checks : {A : Type 0} → Config → List (Step A) → Admission → ℕ → Decision
 checks s past a r =
     if not (live past r) then Drop reason.RouteGone

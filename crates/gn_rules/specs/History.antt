@@ -1,4 +1,4 @@
--- What one step of a history says, the connections of a history, and the steps of one actor.
+-- What one step says, the connections of a history, and the steps of one actor.
 --
 -- A history is the list of a router's steps. Contracts have it in order. The definitions of the rules are given the
 -- steps before an event with the newest first: there the newest step is the head, and "the steps before it" the tail.
@@ -85,7 +85,7 @@ abbrev pub connections : {A : Type 0} → List (Step A) → List ℕ
 connections [] = []
 connections (step ∷ earlier) = connections earlier ++ option_to_list (connected_of step.reply)
 
--- those that are live, in the order in which they were made, so that their numbers rise
+-- those that are live, in that order, so that their numbers rise
 abbrev pub live_connections : {A : Type 0} → List (Step A) → List ℕ
 live_connections past = filter (live past) (connections past)
 
@@ -96,7 +96,7 @@ mine_from a i (step ∷ steps) =
     if step.actor == a then record { index = i; event = step.event; reply = step.reply } ∷ mine_from a (i + 1) steps
     else mine_from a (i + 1) steps
 
--- actor a's own steps, as receipts: each with its place in the history, counted from 0
+-- actor a's own steps, as receipts: each with its place in the history
 abbrev pub mine : {A : Type 0} → List (Step A) → ℕ → List (Receipt A)
 mine steps a = mine_from a 0 steps
 

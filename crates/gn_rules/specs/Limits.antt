@@ -23,7 +23,7 @@ pub record AreWithin (n : Numbers) : Type 0 where
   pub life : n.life ≤ most.life
   pub crowd : n.crowd ≤ most.crowd
 
--- how many reads of one link may give bytes in a run whose history may have so many steps: a million, or as many as that
+-- how many reads of a link may give bytes where the history may have so many steps: as many, but at least a million
 abbrev pub most_reads : ℕ → ℕ
 most_reads steps = max steps 1000000
 

@@ -10,8 +10,7 @@ use Rattle.gn_rules.specs.History.{is_take, sends_of, taken_of, live, live_conne
 abbrev pub queued_to : {A : Type 0} → ℕ → List (Sending A) → List Packet
 queued_to c sends = map (λ x. x.packet) (filter (λ x. (x.to == c) && x.queued) sends)
 
--- the output of c: the packets that were queued to it and not taken yet, from the first on; a step that takes from c takes
--- the first
+-- the output of c: the packets that were queued to it and not taken yet, from the first on; a Take takes the first
 abbrev pub out : {A : Type 0} → List (Step A) → ℕ → List Packet
 out [] c = []
 out (step ∷ earlier) c =

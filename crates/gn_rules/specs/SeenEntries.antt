@@ -38,7 +38,7 @@ abbrev pub seen_entries : {A : Type 0} → List (Step A) → List (Key × ℕ)
 seen_entries [] = []
 seen_entries (step ∷ earlier) = option_to_list (entry_of earlier step.event step.reply) ++ seen_entries earlier
 
--- the source of a key: that of its newest entry, if this is among the newest N entries; N is how many may be remembered
+-- the source of a key: that of its newest entry, if that is among the newest N; N keys may be remembered
 abbrev pub source : {A : Type 0} → Config → List (Step A) → Key → Option ℕ
 source s past key = lookup (is_same_key key) (take s.numbers.seen (seen_entries past))
 

@@ -16,7 +16,7 @@ use Rattle.gn_rules.specs.Output.{out}
 abbrev pub send : {A : Type 0} → Config → List (Step A) → Packet → ℕ → Sending A
 send s past p c = record { to = c; packet = p; queued = nat_lt (length (out past c)) s.numbers.out }
 
--- a fan-out: a send of the packet to each live connection but c, ascending
+-- a send of the packet to each live connection but c, ascending
 abbrev pub fanout : {A : Type 0} → Config → List (Step A) → ℕ → Packet → List (Sending A)
 fanout s past c p = map (send s past p) (filter (λ d. not (d == c)) (live_connections past))
 

@@ -37,6 +37,6 @@ abbrev pub servents : {A : Type 0} → List (Step A) → List (Guid × ℕ)
 servents [] = []
 servents (step ∷ earlier) = learned (hit_of earlier step.event step.reply) (servents earlier)
 
--- the route to a servent: the connection of its newest hit, if it is among the newest N servents; N is how many may be remembered
+-- the route to a servent: the connection of its newest hit, if it is among the newest N; N may be remembered
 abbrev pub servent_route : {A : Type 0} → Config → List (Step A) → Guid → Option ℕ
 servent_route s past x = lookup (is_same_id x) (take s.numbers.servents (servents past))

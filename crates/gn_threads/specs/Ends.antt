@@ -1,6 +1,7 @@
 -- The tables of ends: what each end of a link's reader and of its writer says, in one row.
 --
--- Here `steps` is the history, in order, and `own` are the receipts of the reader or the writer.
+-- Here `steps` is the history, in order, and `own` are the receipts of the reader or the writer; `turns` is how many reads of a link
+-- may give bytes, and `first` whether a link's writer may close its connection before the reader is done.
 use Rattle.std.specs.Prelude.{◌≡◌, ◌<◌, ◌⊎◌, ◌==◌, ◌&&◌, ◌||◌, ℕ, Bool, true, not, if◌then◌else◌, List, [], ◌∷◌, ◌++◌, drop, length, map, take, Option, Some, None, ⊤}
 use Rattle.std.specs.List.{concat, list_all, list_any}
 use Rattle.gn_wire.specs.Encoding.{bytes_of}
@@ -27,7 +28,7 @@ use Rattle.gn_bodies.specs.Written.{opening_texts}
 use Rattle.gn_report.specs.Actors.{is_awaited_reader}
 use Rattle.gn_report.specs.BodyEnds.{is_settled, is_turned_away}
 
--- somebody closed the connection c
+-- somebody closed connection c
 abbrev pub IsClosed : {A : Type 0} → List (Step A) → ℕ → Type 0
 IsClosed steps c = list_any (λ step. is_close c step.event) steps ≡ true
 
@@ -38,13 +39,13 @@ IsGreeted half role state says =
     half.is_known ≡ true
     → (greeting_state (greeting_of role) half.bytes ≡ state) × says (frames_of (drop (length (greeting_of role)) half.bytes))
 
--- a Connect, and then an Admit on c of each of these descriptors, in order
+-- a Connect, then an Admit on c of each of these descriptors, in order
 abbrev pub admitting : {A : Type 0} → ℕ → List Packet → List (Event A)
 admitting c descriptors = Connect ∷ map (Admit c) descriptors
 
--- the table of ends for a reader: what was read, where that is known, its events except the Routes, and who closed its
--- connection. The argument `turns` is for Turns: how many reads of a link may give bytes; `first` is for NotLive: whether its writer
--- may close c before the reader is done
+-- the table of ends for a reader: how its reads ended and who closed its connection; and, only where the bytes that were read are
+-- known, what they were, and its events except the Routes. Known or not, GreetingRefused and GreetingCut made no event at all, Bytes
+-- no Close, and TooMany the one Connect alone. `first`: whether its writer may close c before the reader is done
 abbrev pub ReaderEnds : {A : Type 0} → ℕ → List (Step A) → ℕ → Bool → Role → List (Receipt A) → ReadHalf → ReaderEnd → Option ℕ → Type 0
 -- a read found the end of the bytes, and they have no fault; it made a Connect, an Admit of each whole descriptor, in order, and no
 -- Close
@@ -61,17 +62,18 @@ ReaderEnds turns steps writer first role own half (Fault f) (Some c) =
 ReaderEnds turns steps writer first role own half ReadFailed (Some c) =
     (0 < half.failures) × IsClosed steps c
     × IsGreeted half role Done (λ frames. WithClose c (link_events_in own) (admitting c frames.descriptors))
--- a read failed within the greeting; it made no event
+-- a read failed within the greeting; it made no event but Routes
 ReaderEnds turns steps writer first role own half ReadFailed None =
     (0 < half.failures) × IsGreeted half role More (λ frames. link_events_in own ≡ [])
--- as many reads gave bytes as may; all else as at `ReadFailed, Some c`
+-- the limit of reads was reached; all else as at `ReadFailed, Some c`
 ReaderEnds turns steps writer first role own half Turns (Some c) =
     (half.pieces ≡ turns) × IsClosed steps c
     × IsGreeted half role Done (λ frames. WithClose c (link_events_in own) (admitting c frames.descriptors))
--- as many reads gave bytes as may, within the greeting; it made no event
+-- the same within the greeting; it made no event but Routes
 ReaderEnds turns steps writer first role own half Turns None =
     (half.pieces ≡ turns) × IsGreeted half role More (λ frames. link_events_in own ≡ [])
--- its writer closed c first; it made a Connect, and an Admit of each of the first n descriptors, for some n, but not of all
+-- its writer may close c first, as `first` says, and did; it made a Connect, and an Admit of each of the first n descriptors, for some
+-- n, but not of all
 ReaderEnds turns steps writer first role own half NotLive (Some c) =
     ((first && list_any (λ step. (step.actor == writer) && is_close c step.event) steps) ≡ true)
     × IsGreeted half role Done

@@ -23,7 +23,7 @@ use Rattle.gn_report.specs.BodyEnds.{is_connect, is_settled, may_close_first}
 use Rattle.gn_report.specs.Flaw.{AreRoutes, TookAll}
 use Rattle.gn_threads.specs.Ends.{ReaderEnds, WriterEnds}
 
--- what holds of link k, of this role, in a run whose links have these roles, and give bytes to at most `turns` reads each
+-- what holds of link k, of this role, in a run whose links have these roles
 pub record LinkHolds {Rd W A : Type 0} (reads : Rd → ReadHalf) (writes : W → WrittenHalf) (turns : ℕ) (roles : List Role)
     (report : Report Rd W A) (k : ℕ) (role : Role) (link : LinkReport Rd W A) : Type 0 where
   -- the link's connection is the one that its reader's Connect got, if any
@@ -45,9 +45,9 @@ pub record LinkHolds {Rd W A : Type 0} (reads : Rd → ReadHalf) (writes : W →
 
 -- what a reader with this end read is its own link's; `source` is what that link will deliver
 pub record ReadOwn (source : Source) (end : ReaderEnd) (half : ReadHalf) : Type 0 where
-  -- where the link's bytes are known beforehand, it read a prefix of them, and all of them where a read found their end
+  -- what it read is its link's, as `IsReadFrom` says
   pub first : IsReadFrom source half
-  -- and where they are known beforehand and it ended as Bytes, it read them all
+  -- where all the link's bytes are known beforehand and it ended as Bytes, it read them all
   pub whole : source.is_foretold ≡ true → end ≡ Bytes → half.bytes ≡ source.bytes
   -- it ended as ReadFailed only where a read of the link may fail
   pub failed : end ≡ ReadFailed → source.may_fail ≡ true
@@ -59,7 +59,7 @@ LinksReadOwn {Rd} {W} {A} reads sources report =
     → ReadOwn (slice_index_or sources k source) (slice_index_or report.links.items k link).reader_end
     (reads (slice_index_or report.links.items k link).reader)
 
--- both halves in each link's report come from that very link, in the links' order
+-- both halves in each link's report come from that very link, in order
 pub record AreMadeOf {Rd W A O : Type 0} (reader_of : Rd → O) (writer_of : W → O) (origins : List O)
     (report : Report Rd W A) : Type 0 where
   pub readers : map (λ (link : LinkReport Rd W A). reader_of link.reader) report.links.items ≡ origins
@@ -78,12 +78,12 @@ pub record Holds {Rd W A : Type 0} (reads : Rd → ReadHalf) (writes : W → Wri
   pub legal : IsLegal s (reverse report.history.items)
   -- there is a report of each link, in their order, and a list of receipts for each worker
   pub each : (length report.links.items ≡ length roles) × (length report.workers.items ≡ workers)
-  -- each actor's receipts are its own steps, each once and in order; and no step is of anybody else
+  -- each actor's receipts are its own steps, each once and in order; no step is of anybody else
   pub own : AreOwn report × (list_all (λ step. nat_lt step.actor (actors report)) report.history.items ≡ true)
   -- each link's reader and writer did what their ends say
   pub links : (k : ℕ) (role : Role) (link : LinkReport Rd W A) → k < length report.links.items
       → LinkHolds reads writes (most_reads s.numbers.steps) roles report k (slice_index_or roles k role) (slice_index_or report.links.items k link)
-  -- the workers and the house made no event but Route; and at the end nothing is in flight
+  -- the workers and the house made no event but Route; at the end nothing is in flight
   pub routes : ((a : ℕ) → first_worker report ≤ a → a < actors report → AreRoutes (slice_index_or (receipts_of report) a []))
       × (is_settled report.history.items (length report.history.items) ≡ true)
   -- the report's statistics are those of the history

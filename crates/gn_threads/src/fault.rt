@@ -5,17 +5,16 @@ use gn_links::SplitFault;
 use gn_stage::StageFault;
 use std::alloc::{AllocError, AllocFailed};
 
-/// Why a run gives no report; `run` itself never gives Listen or Call. It gives the first fault that it finds, and of
-/// its threads' faults HistoryFull before NoMemory; no clause promises this order.
+/// Why a run gives no report.
 #[derive(Clone, Copy, Debug, PartialEq, Eq)]
 pub enum RunFault {
     /// Not 1 to 64 workers.
     BadWorkers,
-    /// A link couldn't be accepted.
+    /// A link couldn't be accepted; never of `run` itself.
     Listen,
-    /// A neighbour couldn't be called: its number, from 0 on.
+    /// A neighbour couldn't be called: its number among those called, from 0 on; never of `run` itself.
     Call(u32),
-    /// A link couldn't be split: its number, from 0 on.
+    /// A link couldn't be split: its number.
     Link(u32),
     /// One step more than the history may have was asked for.
     HistoryFull,
@@ -24,7 +23,7 @@ pub enum RunFault {
     /// The house couldn't close the queue of tickets at the end: a thread hadn't given it up, or out of memory.
     Stage(StageFault),
     /// The check at the end failed at this actor: the lowest whose receipts or end don't fit the history, or who was
-    /// refused a Route; or the house, if the router's configuration isn't the one that the run was given.
+    /// refused a Route; or the house, if the router has another configuration than the run was given.
     Audit(u32),
 }
 

@@ -21,10 +21,10 @@ use std::sync::Wait;
 use std::thread::Threads;
 
 /// Runs a router over these links, each with a reader and a writer, and with this many workers, until all these threads
-/// have ended. Reports what each actor did.
+/// have ended.
 ///
-/// Of several faults it answers the one that it finds first, but a full history before memory where bodies ran into both. Whatever
-/// the fault, no thread runs on.
+/// Of several faults it answers the one that it finds first, but a full history before memory where bodies ran into both; no
+/// clause says so. Whatever the fault, no thread runs on.
 pub fn run<
     C: Historian<A> + Drop + Send,
     K: Link,
