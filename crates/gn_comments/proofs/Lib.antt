@@ -1,0 +1,2 @@
+pub mod CommentLemmas
+pub mod SinkLemmas
