@@ -129,6 +129,8 @@ serving_of rows = do
     early = is_set (codes "stop-early") rows;
     until_eof = is_set (codes "until-eof") rows;
     keeps = is_set (codes "keep-history") rows;
+    times = is_set (codes "times") rows;
+    links = is_set (codes "links") rows;
     report = is_set (codes "report") rows;
     progress = is_set (codes "progress") rows;
   })

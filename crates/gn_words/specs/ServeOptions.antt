@@ -8,7 +8,8 @@ use Rattle.gn_words.specs.declared.request.Peer.{Peer}
 -- are called; the seconds after which a silent peer is given up, 0 for never; the seconds for which a peer that doesn't listen is
 -- called again; the numbers of the router's rules; the seconds after which the run is stopped, 0 for never, and those that it then
 -- has to end; whether it is stopped at nine tenths of its steps, and at the end of standard input; whether the history of a run
--- that stops at a fault is kept; and whether a report of the links is written, and how far the run is
+-- that stops at a fault is kept; whether times and links stand in the history as comments; and whether a report of the links is
+-- written, and how far the run is
 pub record AskedServe : Type 0 where
   pub port : ℕ
   pub accept : ℕ
@@ -23,5 +24,7 @@ pub record AskedServe : Type 0 where
   pub early : Bool
   pub until_eof : Bool
   pub keeps : Bool
+  pub times : Bool
+  pub links : Bool
   pub report : Bool
   pub progress : Bool

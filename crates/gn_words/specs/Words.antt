@@ -54,10 +54,10 @@ show_app = with_rules (new_app (codes "show")) (flag_rule (codes "csv") ∷ flag
 abbrev pub load_app : App
 load_app = with_rules (new_app (codes "load")) (workers_rule ∷ flag_rule (codes "progress") ∷ [])
 
--- the subcommand `serve`: what has to be given and who the router is; whom it calls, and when it gives a peer up; the numbers of
--- its rules; what stops it, and how long it then has; and what is printed beside its history
-abbrev pub serve_app : App
-serve_app = with_rules (new_app (codes "serve"))
+-- the subcommand `serve` before it is said what is printed: what has to be given and who the router is; whom it calls, and when it
+-- gives a peer up; the numbers of its rules; what stops it, and how long it then has
+abbrev pub quiet_app : App
+quiet_app = with_rules (new_app (codes "serve"))
     (value_rule (codes "port")
     ∷ value_rule (codes "accept")
     ∷ workers_rule
@@ -77,7 +77,14 @@ serve_app = with_rules (new_app (codes "serve"))
     ∷ default_rule (codes "grace") (codes "5")
     ∷ flag_rule (codes "stop-early")
     ∷ flag_rule (codes "until-eof")
-    ∷ flag_rule (codes "keep-history")
+    ∷ [])
+
+-- the subcommand `serve`: it is also said what is printed in and beside its history
+abbrev pub serve_app : App
+serve_app = with_rules quiet_app
+    (flag_rule (codes "keep-history")
+    ∷ flag_rule (codes "times")
+    ∷ flag_rule (codes "links")
     ∷ flag_rule (codes "report")
     ∷ flag_rule (codes "progress")
     ∷ [])
@@ -226,6 +233,8 @@ pub record PlainWordsAreRead : Type 0 where
         early = false;
         until_eof = false;
         keeps = false;
+        times = false;
+        links = false;
         report = false;
         progress = false;
       }))

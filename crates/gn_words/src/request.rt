@@ -65,6 +65,10 @@ pub struct ServeOptions {
     pub until_eof: bool,
     /// Whether `--keep-history` is given, which changes nothing.
     pub keeps: bool,
+    /// Whether times stand in the history, as comments.
+    pub times: bool,
+    /// Whether the neighbours of its links stand there, as comments.
+    pub links: bool,
     /// Whether it is written what became of each link.
     pub report: bool,
     /// Whether how far the run is is said as it goes on.
@@ -92,6 +96,8 @@ impl Model for ServeOptions {
       early = s.early;
       until_eof = s.until_eof;
       keeps = s.keeps;
+      times = s.times;
+      links = s.links;
       report = s.report;
       progress = s.progress;
     } };

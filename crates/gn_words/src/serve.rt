@@ -6,7 +6,7 @@ ghost use Rattle.clap.specs.declared.builder.command.Command.TheViews.{out-Comma
 ghost use Rattle.gn_rules.specs.Limits.{AreWithin, most};
 ghost use Rattle.gn_text.specs.Bytes.{guid_of};
 ghost use Rattle.gn_words.specs.Options.{IsReadAs, number_asked, numbers_of, servent_of, serving_of, times_of};
-ghost use Rattle.gn_words.specs.Words.{serve_app};
+ghost use Rattle.gn_words.specs.Words.{quiet_app, serve_app};
 
 use crate::numbers::{NumberOption, WORKERS, WORKERS_ROW, asked};
 use crate::peers::peers_of;
@@ -28,7 +28,7 @@ const USAGE: &str = "gn serve --port P --accept A --workers V [--servent HEX32] 
                 [--idle SECONDS] [--retry SECONDS] [--neighbours N] [--remembered N]
                 [--servents N] [--stage N] [--queue N] [--life L] [--crowd Q] [--steps N]
                 [--for SECONDS] [--grace SECONDS] [--stop-early] [--until-eof]
-                [--keep-history] [--report] [--progress]";
+                [--keep-history] [--times] [--links] [--report] [--progress]";
 
 /// What it does, how it ends, and what it prints, with an example.
 const TEXTS: &str = "\
@@ -211,8 +211,8 @@ read and not looked at",
     },
 ];
 
-/// What is printed beside its history.
-const OUTPUT: [OptionRow; 3] = [
+/// What is printed in and beside its history.
+const OUTPUT: [OptionRow; 5] = [
     OptionRow {
         name: "keep-history",
         letter: None,
@@ -220,6 +220,22 @@ const OUTPUT: [OptionRow; 3] = [
         help: "\
 Changes nothing: what stands of the history is always printed, also
 where the run stops at a fault",
+    },
+    OptionRow {
+        name: "times",
+        letter: None,
+        takes: Takes::Nothing,
+        help: "\
+Writes comments with times into the history, once a millisecond at most: when
+what stands below was written",
+    },
+    OptionRow {
+        name: "links",
+        letter: None,
+        takes: Takes::Nothing,
+        help: "\
+Writes a comment for each link that comes into the history, with the address
+of its neighbour",
     },
     OptionRow {
         name: "report",
@@ -240,17 +256,25 @@ link offered most",
     },
 ];
 
-/// The command `gn serve`.
-pub(crate) fn serve_command<'a>(alloc: Global) -> Result<Command<'a>, AllocError>
-    ensures shape { IfOk result (λ command. app_of command ≡ serve_app) }
+/// The command `gn serve` before it is said what is printed.
+fn quiet_command<'a>(alloc: Global) -> Result<Command<'a>, AllocError>
+    ensures shape { IfOk result (λ command. app_of command ≡ quiet_app) }
     ensures globals { IfOk result (λ command. (fields_of command).has_globals ≡ false) }
 {
     let bare = leaf(alloc, "serve", ABOUT, USAGE, TEXTS);
     let named = with_options(alloc, bare, None, &OPTIONS)?;
     let called = with_options(alloc, named, Some("Neighbours"), &NEIGHBOURS)?;
     let ruled = with_options(alloc, called, Some("Rules"), &RULES)?;
-    let ended = with_options(alloc, ruled, Some("End of the run"), &END)?;
-    with_options(alloc, ended, Some("Output"), &OUTPUT)
+    with_options(alloc, ruled, Some("End of the run"), &END)
+}
+
+/// The command `gn serve`.
+pub(crate) fn serve_command<'a>(alloc: Global) -> Result<Command<'a>, AllocError>
+    ensures shape { IfOk result (λ command. app_of command ≡ serve_app) }
+    ensures globals { IfOk result (λ command. (fields_of command).has_globals ≡ false) }
+{
+    let quiet = quiet_command(alloc)?;
+    with_options(alloc, quiet, Some("Output"), &OUTPUT)
 }
 
 /// What `--port` takes.
@@ -477,6 +501,8 @@ pub(crate) fn serving_of(alloc: Global, options: &ArgMatches<'_>) -> Result<Serv
         early: is_set(options, "stop-early"),
         until_eof: is_set(options, "until-eof"),
         keeps: is_set(options, "keep-history"),
+        times: is_set(options, "times"),
+        links: is_set(options, "links"),
         report: is_set(options, "report"),
         progress: is_set(options, "progress"),
     })
