@@ -1,10 +1,12 @@
 -- What a serve answers, from what the run answered.
-use Rattle.std.proofs.Common.{◌≡◌, ◌+◌, ℕ, List, true, length, IfErr, OnOk, Option, None, Some, Result, Ok, Err, refl, sym, subst}
+use Rattle.std.proofs.Common.{◌≡◌, ◌+◌, ℕ, Bool, false, true, List, [], length, IfErr, OnOk, Option, None, Some, Result, Ok, Err, refl, sym, subst}
 use Rattle.std.specs.Prelude.{IfSome}
 use Rattle.std.specs.Result.{IsErrAnd}
 use Rattle.std.specs.declared.alloc.Global.{Global}
 use Rattle.std.specs.declared.net.socket_addr.SocketAddr.{SocketAddr}
 use Rattle.std.proofs.lemmas.Result.{IfErr-weaker}
+use Rattle.gn_comments.proofs.SinkLemmas.{nothing_both, nothing_said}
+use Rattle.gn_comments.specs.Sinks.{HasWrittenBoth, without_comments}
 use Rattle.gn_io.specs.Streams.{NoWriteFailed, SinkState}
 use Rattle.gn_rules.specs.Limits.{IsCrew}
 use Rattle.gn_rules.specs.declared.config.Config.{Config}
@@ -15,10 +17,31 @@ use Rattle.gn_load.specs.declared.serve_fault.ServeFault.{ServeFault}
 use Rattle.gn_load.specs.declared.serve_fault.ServeFault.TheVariants.{Run}
 use Rattle.gn_threads.specs.Faults.{IsArrivingFault}
 use Rattle.gn_threads.specs.declared.fault.RunFault.{RunFault}
-use Rattle.gn_program.specs.Commands.{AppendsAsked, AppendsAskedPart, IsServeAnswer, IsServing}
+use Rattle.gn_program.specs.Commands.{AppendsAsked, AppendsAskedPart, IsBeside, IsServeAnswer, IsServing}
 use Rattle.gn_program.specs.Peers.{AreAt}
 use Rattle.gn_service.specs.Ran.{Remembered}
 use Rattle.gn_words.specs.ServeOptions.{AskedServe}
+
+-- a sink to which nothing was written, beside itself
+pub beside_itself : (has : Bool) (sink : SinkState) → IsBeside has sink sink sink
+beside_itself false sink = refl
+beside_itself true sink = ([], sym (nothing_said sink), nothing_both sink)
+
+module _ (J : SinkState → SinkState → Type 0) where
+  -- what holds of a sink without its comments, which a text was written to
+  pub as_commented : (begun old first mid new : SinkState) (text : List ℕ) → old ≡ begun → first ≡ begun → mid ≡ new → HasWrittenBoth begun mid text → J first (without_comments begun mid text)
+      → (text : List ℕ) × HasWrittenBoth old new text × J old (without_comments old new text)
+  as_commented begun old first mid new text e₀ e₁ e₂ both ran = (
+    text,
+    subst (λ old. HasWrittenBoth old new text) (sym e₀) (subst (λ new. HasWrittenBoth begun new text) e₂ both),
+    subst (λ old. J old (without_comments old new text)) (sym e₀) (subst (λ new. J begun (without_comments begun new text)) e₂ (subst (λ first. J first (without_comments begun mid text)) e₁ ran)),
+  )
+
+  -- it holds of the sink beside it
+  pub is_beside : (has : Bool) (old new : SinkState) → has ≡ true → (text : List ℕ) × HasWrittenBoth old new text × J old (without_comments old new text)
+      → (bare : SinkState) × IsBeside has old bare new × J old bare
+  is_beside true old new is ran = (without_comments old new ran.0, (ran.0, refl, ran.1), ran.2)
+  is_beside false old new is ran = cc
 
 -- a fault where the number of workers is one that a run may have
 known : (links workers : ℕ) (sink sink_new : SinkState) (answer : Result (Unit {0}) ServeFault) → IsCrew workers

@@ -1,9 +1,10 @@
 -- What a command does: what replay, audit, show, load or serve answers to its input and output, and the status that stands for it.
-use Rattle.std.specs.Prelude.{◌≡◌, ◌≢◌, ◌⊎◌, ◌≤◌, ◌+◌, ◌∷◌, [], ℕ, List, Option, Some, length, IfSome, IsOk, Result, Ok, Err, IfOk, IfErr, OnOk}
+use Rattle.std.specs.Prelude.{◌≡◌, ◌≢◌, ◌⊎◌, ◌≤◌, ◌+◌, ◌∷◌, ◌||◌, [], ℕ, Bool, false, true, List, Option, Some, length, IfSome, IsOk, Result, Ok, Err, IfOk, IfErr, OnOk}
 use Rattle.std.specs.declared.alloc.Global.{Global}
 use Rattle.std.specs.declared.net.socket_addr.SocketAddr.{SocketAddr}
 use Rattle.clap.specs.declared.error.kind.ErrorKind.{ErrorKind}
 use Rattle.clap.specs.declared.error.kind.ErrorKind.TheVariants.{DisplayHelp, DisplayVersion, OutOfMemory}
+use Rattle.gn_comments.specs.Sinks.{HasWrittenBoth, without_comments}
 use Rattle.gn_replay.specs.Faults.{IsAnswerOn, IsAuditOn}
 use Rattle.gn_replay.specs.declared.fault.ReplayFault.{ReplayFault}
 use Rattle.gn_io.specs.Input.{input_limit}
@@ -140,6 +141,21 @@ pub record IsServeAnswer (serving : AskedServe) (sink sink_new : SinkState) (ans
   pub fault : IfErr answer (λ fault.
       IsServeFault (length serving.peers + serving.accept) serving.workers fault sink sink_new)
 
+-- whether comments stand in the history of a serve: times, or links
+abbrev pub has_comments : AskedServe → Bool
+has_comments serving = serving.times || serving.links
+
+-- a sink, and how it would stand without comments: as it stands, where there are none; where there are, a text was written to it that is
+-- the same but for them
+abbrev pub IsBeside : Bool → SinkState → SinkState → SinkState → Type 0
+IsBeside false old bare new = bare ≡ new
+IsBeside true old bare new = (text : List ℕ) × (bare ≡ without_comments old new text) × HasWrittenBoth old new text
+
+-- what serve answers to a sink without its comments
+abbrev pub HasServed : AskedServe → SinkState → SinkState → Result (Unit {0}) ServeFault → Option (Remembered Global) → Type 0
+HasServed serving sink sink_new answer remembered =
+    (bare : SinkState) × IsBeside (has_comments serving) sink bare sink_new × IsServeAnswer serving sink bare answer remembered
+
 -- the status of a replay: 0 where it was done, else 1
 abbrev pub replay_status : Result Exit ReplayFault → ℕ
 replay_status (Ok exit) = 0
@@ -202,7 +218,7 @@ Loads workers s status =
 abbrev pub ServesTo : AskedServe → Option (Remembered Global) → SinkState → SinkState → ℕ → Type 0
 ServesTo serving remembered sink sink_new status =
     (answer : Result (Unit {0}) ServeFault)
-    × IsServeAnswer serving sink sink_new answer remembered × (status ≡ serve_status answer)
+    × HasServed serving sink sink_new answer remembered × (status ≡ serve_status answer)
 
 -- nothing is read, and the output and the status are so
 abbrev pub Serves : AskedServe → Option (Remembered Global) → Streams → ℕ → Type 0

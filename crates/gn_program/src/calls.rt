@@ -1,4 +1,4 @@
-//! The watch of a serve, which keeps why a peer can't be called.
+//! The watch of a serve, which keeps who came, and why a peer can't be called.
 
 use crate::told::Told;
 use gn_links::{Gate, Half, Made, Watch};
@@ -13,20 +13,31 @@ use std::time::Duration;
 /// As many peers as a command line names at most.
 const PEERS: usize = 64;
 
-/// Passes all on to who watches the run, and keeps what the system said of each peer that can't be called.
+/// As many links as a serve has at most: its peers, and as many callers as it may take.
+pub(crate) const LINKS: usize = PEERS + 128;
+
+/// Passes all on to who watches the run, and keeps the address of each peer that came, and what the system said of each that can't be
+/// called.
 #[derive(Drop)]
 pub(crate) struct Calls<'w, G> {
     watch: &'w G,
+    came: [OnceLock<SocketAddr>; LINKS],
     whys: [OnceLock<(SocketAddr, ErrorKind)>; PEERS],
 }
 
 impl<'w, G> Calls<'w, G> {
-    /// Each peer may be called.
+    /// No peer has come, and each may be called.
     pub(crate) fn new(watch: &'w G) -> Self {
         Calls {
             watch,
+            came: array::from_fn(|_| OnceLock::new()),
             whys: array::from_fn(|_| OnceLock::new()),
         }
+    }
+
+    /// The address of the peer of this link, once it has come.
+    pub(crate) fn peer_of(&self, link: usize) -> Option<SocketAddr> {
+        self.came.get(link)?.get().copied()
     }
 
     /// What the system said where the run came to this: of a peer that can't be called, or else this.
@@ -72,6 +83,9 @@ impl<'w, G: Watch> Watch for Calls<'w, G> {
     }
 
     fn came(&self, link: u32, peer: SocketAddr) {
+        if let Some(slot) = self.came.get(link as usize) {
+            let _ = slot.try_set(peer);
+        }
         self.watch.came(link, peer);
     }
 

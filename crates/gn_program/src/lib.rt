@@ -8,6 +8,7 @@ mod ended;
 mod eof;
 mod fault;
 mod head;
+mod remarks;
 mod reports;
 mod serves;
 mod tally;

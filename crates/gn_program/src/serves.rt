@@ -1,17 +1,24 @@
 //! A router that serves, as a command line asks for it.
 
-ghost use Rattle.std.specs.Prelude.{◌≡◌, ◌*◌, None, length, IfOk};
+ghost use Rattle.std.specs.Prelude.{◌≡◌, ◌*◌, ◌+◌, ◌≤◌, ℕ, List, None, length, IfOk};
 ghost use Rattle.std.specs.Option.{IsSomeAnd};
 ghost use Rattle.std.specs.Bool.{then_some};
 ghost use Rattle.std.specs.Duration.{as_nanos};
-ghost use Rattle.gn_program.specs.Commands.{IsServeAnswer, IsServing};
+ghost use Rattle.gn_comments.specs.Sinks.{HasWrittenBoth, without_comments};
+ghost use Rattle.gn_io.specs.Streams.{SinkState};
+ghost use Rattle.gn_load.specs.Journalled.{IsJournalled};
+ghost use Rattle.gn_program.specs.Commands.{HasServed, IsBeside, IsServing, has_comments};
 ghost use Rattle.gn_program.specs.Limits.{IsLimit, IsStopOf, may_stop};
 ghost use Rattle.gn_program.specs.Peers.{AreAt};
+ghost use Rattle.gn_rules.specs.Limits.{most_links};
 
+use crate::calls::Calls;
 use crate::eof::stop_at_eof;
+use crate::remarks::Remarks;
 use crate::reports::{write_report, write_stopped};
 use crate::text::write_text;
 use crate::told::Told;
+use gn_comments::{Commented, Lent, Naming};
 use gn_io::Sink;
 use gn_links::{LinkFault, Watch};
 use gn_load::{ServeFault, ServeStopped, serve_journalled};
@@ -24,6 +31,7 @@ use std::alloc::{AllocError, Global};
 use std::fmt;
 use std::fmt::{Display, Formatter, Write};
 use std::io::StdinLock;
+use std::marker::Brand;
 use std::net::{Ipv4Addr, Net, SocketAddr, SocketAddrV4, TcpListener, TcpStream};
 use std::sync::{Arc, Wait};
 use std::thread::Threads;
@@ -183,8 +191,114 @@ fn report_stopped<G: Watch, F: Sink>(
     watch.leave(history);
 }
 
+/// Whether comments stand in the history: times, or links.
+fn has_comments(serving: &ServeOptions) -> bool
+    ensures { result ≡ has_comments serving.now }
+{
+    serving.times || serving.links
+}
+
+/// Runs the router, and writes its history while it runs, with comments.
+fn run_commented<
+    's,
+    'w,
+    B: Naming + Send,
+    R: Threads
+        + Wait
+        + Net<Listener = TcpListener, Stream = TcpStream>
+        + Clock
+        + AllocGlobal
+        + Sync,
+    G: Watch + Sync,
+    W: Sink + Send,
+>(
+    rt: &R,
+    alloc: Global,
+    listener: &TcpListener,
+    config: &Config,
+    peers: &[SocketAddr],
+    limits: &Serving<'s>,
+    serving: &ServeOptions,
+    calls: &Calls<'_, G>,
+    lent: Lent<'w, W>,
+) -> (
+    Result<(Report<TcpReader<'s>, TcpWriter>, Ran), ServeStopped>,
+    Lent<'w, W>,
+)
+    requires named { lent.sink.ghost_name ≡ B.sink }
+    requires begun { W.state lent.sink.now ≡ B.begun }
+    requires few { serving.now.accept + length peers.now ≤ most_links }
+    ensures here { result.1.sink.ghost_name ≡ lent.entry.sink.ghost_name }
+    ensures ran { (text : List ℕ) × HasWrittenBoth (W.state lent.entry.sink.now) (W.state result.1.sink.now) text
+        × IsJournalled config.now peers.now serving.now.accept serving.now.workers (W.state lent.entry.sink.now)
+        (without_comments (W.state lent.entry.sink.now) (W.state result.1.sink.now) text) result.0 }
+{
+    let remarks = Remarks::new(rt, alloc, calls, serving);
+    let mut commented = Commented::<B, W, Remarks<'_, '_, R, G>>::new(alloc, lent, remarks);
+    let answer = serve_journalled::<_, _, _>(
+        rt,
+        alloc,
+        listener,
+        config,
+        serving.accept,
+        peers,
+        limits,
+        serving.workers,
+        calls,
+        &mut commented,
+    );
+    (answer, commented.into_inner())
+}
+
+/// Runs the router, and writes its history while it runs, with comments where they are asked for.
+fn run<
+    's,
+    R: Threads
+        + Wait
+        + Net<Listener = TcpListener, Stream = TcpStream>
+        + Clock
+        + AllocGlobal
+        + Sync,
+    G: Watch + Sync,
+    W: Sink + Send,
+>(
+    rt: &R,
+    alloc: Global,
+    listener: &TcpListener,
+    config: &Config,
+    peers: &[SocketAddr],
+    limits: &Serving<'s>,
+    serving: &ServeOptions,
+    calls: &Calls<'_, G>,
+    writer: &mut W,
+) -> Result<(Report<TcpReader<'s>, TcpWriter>, Ran), ServeStopped>
+    requires few { serving.now.accept + length peers.now ≤ most_links }
+    ensures { (bare : SinkState) × IsBeside (has_comments serving.now) (W.state writer.old) bare (W.state writer.new)
+        × IsJournalled config.now peers.now serving.now.accept serving.now.workers (W.state writer.old) bare result }
+{
+    if has_comments(serving) {
+        let lent = Lent { sink: writer };
+        let (answer, Lent { sink: _sink }) = run_commented::<Brand, R, G, W>(
+            rt, alloc, listener, config, peers, limits, serving, calls, lent,
+        );
+        return answer;
+    }
+    serve_journalled::<_, _, _>(
+        rt,
+        alloc,
+        listener,
+        config,
+        serving.accept,
+        peers,
+        limits,
+        serving.workers,
+        calls,
+        writer,
+    )
+}
+
 /// Listens, says so with the faults, runs the router, writes its history while it runs, and then what became of its links with the faults,
-/// where that is asked for. It is watched as it runs. What the system said of the port stays in `told`, and what is remembered of the
+/// where that is asked for. It is watched as it runs, by `calls`. What the system said of the port stays in `told`, and what is remembered of the
 /// run in `remembered`.
 pub(crate) fn serve<
     R: Threads
@@ -201,14 +315,14 @@ pub(crate) fn serve<
     rt: &R,
     alloc: Global,
     serving: &ServeOptions,
-    watch: &G,
+    calls: &Calls<'_, G>,
     writer: &mut W,
     faults: &mut F,
     told: &mut Told,
     remembered: &mut Option<Ran>,
 ) -> Result<(), ServeFault>
     requires { remembered.old ≡ None }
-    ensures { IsServeAnswer serving.now (W.state writer.old) (W.state writer.new) result remembered.new }
+    ensures { HasServed serving.now (W.state writer.old) (W.state writer.new) result remembered.new }
 {
     let config = settings(serving);
     let peers = addresses(alloc, &serving.peers)?;
@@ -218,22 +332,13 @@ pub(crate) fn serve<
     };
     let _ = write_text(faults, Listening(serving.port));
     let limits = limits(serving, &stop);
-    let answer = serve_journalled::<_, _, _>(
-        rt,
-        alloc,
-        &listener,
-        &config,
-        serving.accept,
-        &peers,
-        &limits,
-        serving.workers,
-        watch,
-        writer,
+    let answer = run(
+        rt, alloc, &listener, &config, &peers, &limits, serving, calls, writer,
     );
     match answer {
         Ok((report, ran)) => {
             *remembered = Some(ran);
-            report_ended(alloc, serving, watch, report, faults);
+            report_ended(alloc, serving, calls, report, faults);
             Ok(())
         }
         Err(
@@ -244,7 +349,7 @@ pub(crate) fn serve<
             },
         ) => {
             *remembered = ran;
-            report_stopped(alloc, serving, watch, &peers, history, faults);
+            report_stopped(alloc, serving, calls, &peers, history, faults);
             Err(fault)
         }
     }
