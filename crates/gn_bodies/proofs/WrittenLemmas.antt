@@ -1,5 +1,5 @@
 -- What was written piece by piece.
-use Rattle.std.proofs.Common.{◌≡◌, ℕ, ◌+◌, List, [], ◌∷◌, ◌++◌, take, drop, map, ap, ◌∙◌, sym, refl, append_assoc, append-nil}
+use Rattle.std.proofs.Common.{◌≡◌, ◌<◌, ◌≤◌, ℕ, ◌+◌, ◌-◌, List, [], ◌∷◌, ◌++◌, length, take, drop, map, ap, ◌∙◌, sym, refl, append_assoc, append-nil, arith, length-drop}
 use Rattle.std.proofs.Common.{◌⊎◌, inl, inr, Bool, true, false, if◌then◌else◌, Option, Some, None, Ok, Err, subst}
 use Rattle.std.specs.Prelude.{IfOk, Result}
 use Rattle.std.proofs.Math.Seq.{take-add}
@@ -10,7 +10,9 @@ use Rattle.gn_bodies.specs.declared.ends.BodyFault.{BodyFault}
 use Rattle.gn_bodies.specs.declared.ends.WriterEnd.{WriterEnd}
 use Rattle.gn_bodies.specs.declared.ends.WriterEnd.TheVariants.{Drained, WriteFailed, Closed, NeverOpened}
 use Rattle.gn_bodies.specs.Done.{Half, IsWriterDone, WritesAs}
-use Rattle.std.proofs.lemmas.List.{map-append}
+use Rattle.std.proofs.lemmas.List.{drop_at, length-map, map-append, take_all}
+use Rattle.std.proofs.lemmas.Simd.{map-map}
+use Rattle.std.proofs.lemmas.List.Elements.{filter_map-append}
 use Rattle.std.proofs.lemmas.List.Folds.{concat-append}
 use Rattle.std.specs.List.{concat}
 use Rattle.gn_wire.specs.Packet.{Packet}
@@ -19,14 +21,14 @@ use Rattle.gn_shake.specs.declared.role.Role.{Role}
 use Rattle.gn_shake.specs.declared.role.Role.TheVariants.{Accepting, Calling, Plain}
 use Rattle.gn_shake.specs.Greeting.{is_calling, request_text}
 use Rattle.gn_rules.specs.declared.event.Event.TheVariants.{Take}
-use Rattle.gn_rules.specs.declared.reply.Reply.TheVariants.{Taken}
-use Rattle.gn_hub.specs.ActorState.{ActorState, receipt, with_receipt}
-use Rattle.gn_hub.specs.Receipts.{HasClosed, HasDrained}
-use Rattle.gn_bodies.specs.Events.{packets_of}
+use Rattle.gn_rules.specs.History.{taken_of}
+use Rattle.gn_hub.specs.ActorState.{ActorState}
+use Rattle.gn_hub.specs.Receipts.{HasClosed, HasDrained, HasTakenSome, TakenAt, taken_receipt}
+use Rattle.gn_bodies.specs.Events.{events_of, packets_of}
 use Rattle.gn_laws.specs.Owners as laws
-use Rattle.gn_bodies.specs.Writing.{HasWrittenPacket, WritesOn, WritesPackets}
-use Rattle.gn_bodies.specs.Written.{AreTakes, HasWrittenText, PacketSteps, WriterSteps, opening_texts}
-use Rattle.gn_bodies.proofs.EventLemmas.{drained_packets, events-receipt, packets-receipt}
+use Rattle.gn_bodies.specs.Writing.{HasWrittenPackets, WritesOn, WritesPackets, text_of}
+use Rattle.gn_bodies.specs.Written.{AreTakes, HasWrittenText, PacketSteps, WriterRow, WriterSteps, opening_texts}
+use Rattle.gn_bodies.proofs.EventLemmas.{drained_packets}
 
 pub written_on : (t u s text piece : List ℕ) (n m : ℕ) → piece ≡ drop n text → t ≡ s ++ take n text → u ≡ t ++ take m piece → u ≡ s ++ take (n + m) text
 written_on t u s text piece n m cut was more = more ∙ (ap (λ w. w ++ take m piece) was ∙ (append_assoc s (take n text) (take m piece) ∙ (ap (λ w. s ++ (take n text ++ take m w)) cut ∙ ap (λ w. s ++ w) (sym (take-add n m text)))))
@@ -35,27 +37,36 @@ written_on t u s text piece n m cut was more = more ∙ (ap (λ w. w ++ take m p
 abbrev pub texts : Role → List Packet → List (List ℕ)
 texts role ds = opening_texts role ++ map bytes_of ds
 
--- all of the texts except the last, and a prefix of the last
-abbrev pub Breaks : List (List ℕ) → List ℕ → Type 0
-Breaks all written = (done : List (List ℕ)) × (last : List ℕ) × (n : ℕ) × (all ≡ done ++ last ∷ []) × (written ≡ concat done ++ take n last)
+-- all of the texts except the last ones, at most so many, and a prefix of these
+abbrev pub Breaks : ℕ → List (List ℕ) → List ℕ → Type 0
+Breaks batch all written =
+    (done last : List (List ℕ)) × (n : ℕ) × (all ≡ done ++ last) × (0 < length last) × (length last ≤ batch) × (written ≡ concat done ++ take n (concat last))
 
-texts_more : (role : Role) (ds : List Packet) (d : Packet) → texts role (ds ++ d ∷ []) ≡ texts role ds ++ bytes_of d ∷ []
-texts_more role ds d = ap (λ w. opening_texts role ++ w) (map-append bytes_of ds (d ∷ [])) ∙ sym (append_assoc (opening_texts role) (map bytes_of ds) (bytes_of d ∷ []))
+texts_more : (role : Role) (ds more : List Packet) → texts role (ds ++ more) ≡ texts role ds ++ map bytes_of more
+texts_more role ds more = ap (λ w. opening_texts role ++ w) (map-append bytes_of ds more) ∙ sym (append_assoc (opening_texts role) (map bytes_of ds) (map bytes_of more))
 
--- one packet more is written
-pub encoded_more : (role : Role) (ds es : List Packet) (w u : List ℕ) (d : Packet) → es ≡ ds ++ d ∷ [] → w ≡ concat (texts role ds) → u ≡ w ++ bytes_of d → u ≡ concat (texts role es)
-encoded_more role ds es w u d e was more =
-    let joined : concat (texts role es) ≡ concat (texts role ds) ++ bytes_of d = ap (λ x. concat (texts role x)) e ∙ (ap concat (texts_more role ds d) ∙ (concat-append (texts role ds) (bytes_of d ∷ []) ∙ ap (λ x. concat (texts role ds) ++ x) (append-nil (bytes_of d)))) in
-    more ∙ (ap (λ x. x ++ bytes_of d) was ∙ sym joined)
+-- some packets more are written
+pub encoded_more : (role : Role) (ds es more : List Packet) (w u : List ℕ) → es ≡ ds ++ more → w ≡ concat (texts role ds) → u ≡ w ++ text_of more → u ≡ concat (texts role es)
+encoded_more role ds es more w u e was did =
+    let joined : concat (texts role es) ≡ concat (texts role ds) ++ text_of more = ap (λ x. concat (texts role x)) e ∙ (ap concat (texts_more role ds more) ∙ concat-append (texts role ds) (map bytes_of more)) in
+    did ∙ (ap (λ x. x ++ text_of more) was ∙ sym joined)
 
--- a part of one packet more is written
-pub encoded_part : (role : Role) (ds es : List Packet) (w u : List ℕ) (d : Packet) (n : ℕ) → es ≡ ds ++ d ∷ [] → w ≡ concat (texts role ds) → u ≡ w ++ take n (bytes_of d) → Breaks (texts role es) u
-encoded_part role ds es w u d n e was more =
-    (texts role ds, bytes_of d, n, ap (texts role) e ∙ texts_more role ds d, more ∙ ap (λ x. x ++ take n (bytes_of d)) was)
+-- a part of some packets more is written
+pub encoded_part : (batch : ℕ) (role : Role) (ds es more : List Packet) (w u : List ℕ) (n : ℕ) → 0 < length more → length more ≤ batch → es ≡ ds ++ more → w ≡ concat (texts role ds)
+    → u ≡ w ++ take n (text_of more) → Breaks batch (texts role es) u
+encoded_part batch role ds es more w u n some few e was did = (
+  texts role ds,
+  map bytes_of more,
+  n,
+  ap (texts role) e ∙ texts_more role ds more,
+  omega (arith, length-map more bytes_of),
+  omega (arith, length-map more bytes_of),
+  did ∙ ap (λ x. x ++ take n (text_of more)) was,
+)
 
 -- a part of the first text is written
-pub opened_part : (text u w : List ℕ) (n : ℕ) → w ≡ [] → u ≡ w ++ take n text → Breaks (text ∷ []) u
-opened_part text u w n none more = ([], text, n, refl, more ∙ ap (λ x. x ++ take n text) none)
+pub opened_part : (text u w : List ℕ) (n : ℕ) → w ≡ [] → u ≡ w ++ take n text → Breaks 1 (text ∷ []) u
+opened_part text u w n none more = ([], text ∷ [], n, refl, omega arith, omega arith, more ∙ ap (λ x. x ++ take n text) none ∙ ap (λ x. take n x) (sym (append-nil text)))
 
 -- the one text of these was written, all of it
 pub whole_text : (text : List ℕ) (all : List (List ℕ)) (is_all : Bool) (before after : WrittenHalf) → all ≡ text ∷ [] → (before.is_known ≡ true → before.bytes ≡ [])
@@ -66,11 +77,11 @@ whole_text text all is_all before after only none did whole known =
 
 -- or a part of it
 pub part_text : (text : List ℕ) (all : List (List ℕ)) (is_all : Bool) (before after : WrittenHalf) → all ≡ text ∷ [] → (before.is_known ≡ true → before.bytes ≡ [])
-    → HasWrittenText is_all text before after → is_all ≡ false → after.is_known ≡ true → Breaks all after.bytes
+    → HasWrittenText is_all text before after → is_all ≡ false → after.is_known ≡ true → Breaks 1 all after.bytes
 part_text text all is_all before after only none did fails known =
     let was : before.is_known ≡ true = sym did.known ∙ known in
     let (n, more) = did.part fails was in
-    subst (λ (a : List (List ℕ)). Breaks a after.bytes) (sym only) (opened_part text after.bytes before.bytes n (none was) more)
+    subst (λ (a : List (List ℕ)). Breaks 1 a after.bytes) (sym only) (opened_part text after.bytes before.bytes n (none was) more)
 
 -- what is written before a link has connected: the request of one that calls
 abbrev called : Role → List ℕ
@@ -94,11 +105,34 @@ no_consent role (inr is) = ap called is ∙ sym (ap (λ r. concat (texts r [])) 
 pub takes_none : {A : Type 0} (c : ℕ) (me : ActorState A) → me.receipts ≡ [] → AreTakes c me
 takes_none c me none = ap (λ w. map (λ r. r.event) w) none ∙ ap (λ w. map (λ packet. Take c) (laws.packets_of w)) (sym none)
 
--- one packet more is taken
-pub takes_more : {A : Type 0} (c index : ℕ) (packet : Packet) (me us : ActorState A) → us ≡ with_receipt me (receipt index (Take c) (Taken packet)) → AreTakes c me → AreTakes c us
-takes_more c index packet me us got was =
-    let r = receipt index (Take c) (Taken packet) in
-    events-receipt me us r got ∙ ap (λ w. w ++ Take c ∷ []) was ∙ sym (map-append (λ p. Take c) (packets_of me) (packet ∷ [])) ∙ ap (λ w. map (λ p. Take c) w) (sym (packets-receipt me us r got))
+-- these packets were taken from connection c: at least one, and at most a batch
+pub record Took {A : Type 0} (batch c : ℕ) (packets : List Packet) (me us : ActorState A) : Type 0 where
+  pub more : packets_of us ≡ packets_of me ++ packets
+  pub some : 0 < length packets
+  pub few : length packets ≤ batch
+  pub events : AreTakes c me → AreTakes c us
+
+-- the packets of receipts of packets that were taken
+taken_packets : (A : Type 0) (c : ℕ) (taken : List TakenAt) → laws.packets_of {A = A} (map (taken_receipt c) taken) ≡ map (λ at. at.packet) taken
+taken_packets A c [] = refl
+taken_packets A c (at ∷ taken) = ap (λ w. at.packet ∷ w) (taken_packets A c taken)
+
+-- some packets more are taken
+pub takes_some : {A : Type 0} (batch c : ℕ) (taken : List TakenAt) (me us : ActorState A) → 0 < length taken → length taken ≤ batch → us ≡ record me { receipts = me.receipts ++ map (taken_receipt c) taken }
+    → Took batch c (map (λ at. at.packet) taken) me us
+takes_some {A} batch c taken me us some few got =
+    let new : List (Receipt A) = map (taken_receipt c) taken in
+    let ds : List Packet = map (λ at. at.packet) taken in
+    let packets : packets_of us ≡ packets_of me ++ ds = ap packets_of got ∙ filter_map-append (λ r. taken_of r.reply) me.receipts new ∙ ap (λ w. packets_of me ++ w) (taken_packets A c taken) in
+    record {
+      more = packets;
+      some = omega (arith, length-map taken (λ at. at.packet));
+      few = omega (arith, length-map taken (λ at. at.packet));
+      events = λ was.
+          ap events_of got ∙ map-append (λ r. r.event) me.receipts new ∙ ap (λ w. w ++ map (λ r. r.event) new) was
+          ∙ ap (λ w. map (λ p. Take c) (packets_of me) ++ w) (map-map (λ r. r.event) (taken_receipt c) taken ∙ sym (map-map (λ p. Take c) (λ at. at.packet) taken))
+          ∙ sym (map-append (λ p. Take c) (packets_of me) ds) ∙ ap (map (λ p. Take c)) (sym packets);
+    }
 
 -- how a writer on connection c ends that found no packet: it closed the drained connection, or did nothing
 abbrev pub FoundNone : {A : Type 0} → WriterEnd → ℕ → ActorState A → ActorState A → Type 0
@@ -108,48 +142,44 @@ FoundNone WriteFailed c me us = ⊥
 FoundNone NeverOpened c me us = ⊥
 
 -- it has written all that it took
-pub found_none : {A : Type 0} (role : Role) (end : WriterEnd) (c : ℕ) (me us : ActorState A) (half : WrittenHalf) → FoundNone end c me us → WritesPackets role Closed c me half
-    → WritesPackets role end c us half
-found_none role Drained c me us half found was = record {
+pub found_none : {A : Type 0} (batch : ℕ) (role : Role) (end : WriterEnd) (c : ℕ) (me us : ActorState A) (half : WrittenHalf) → FoundNone end c me us → WritesPackets batch role Closed c me half
+    → WritesPackets batch role end c us half
+found_none batch role Drained c me us half found was = record {
   written = record {
     row = λ known. was.written.row known ∙ ap (λ packets. concat (texts role packets)) (sym (drained_packets c me us found));
     hurt = λ ends. absurd (cc);
   };
   steps = (me, was.steps, found);
 }
-found_none {A} role Closed c me us half found was = subst (λ (w : ActorState A). WritesPackets role Closed c w half) (sym found) was
-found_none role WriteFailed c me us half found was = absurd found
-found_none role NeverOpened c me us half found was = absurd found
+found_none {A} batch role Closed c me us half found was = subst (λ (w : ActorState A). WritesPackets batch role Closed c w half) (sym found) was
+found_none batch role WriteFailed c me us half found was = absurd found
+found_none batch role NeverOpened c me us half found was = absurd found
 
--- a packet was taken, and written whole
-pub packet_written : {A : Type 0} (role : Role) (c index : ℕ) (packet : Packet) (me us : ActorState A) (text : List ℕ) (is_all : Bool) (before after : WrittenHalf)
-    → us ≡ with_receipt me (receipt index (Take c) (Taken packet)) → text ≡ bytes_of packet → HasWrittenText is_all text before after → is_all ≡ true
-    → WritesPackets role Closed c me before → WritesPackets role Closed c us after
-packet_written role c index packet me us text is_all before after got same did whole was = record {
+-- packets were taken, and written whole
+pub packets_written : {A : Type 0} (batch : ℕ) (role : Role) (c : ℕ) (packets : List Packet) (me us : ActorState A) (before after : WrittenHalf) → Took batch c packets me us
+    → HasWrittenText true (text_of packets) before after → WritesPackets batch role Closed c me before → WritesPackets batch role Closed c us after
+packets_written batch role c packets me us before after took did was = record {
   written = record {
     row = λ known.
         let is_known : before.is_known ≡ true = sym did.known ∙ known in
-        encoded_more role (packets_of me) (packets_of us) before.bytes after.bytes packet (packets-receipt me us (receipt index (Take c) (Taken packet)) got) (was.written.row is_known)
-        (did.all whole is_known ∙ ap (λ w. before.bytes ++ w) same);
+        encoded_more role (packets_of me) (packets_of us) packets before.bytes after.bytes took.more (was.written.row is_known) (did.all refl is_known);
     hurt = λ ends. absurd (cc);
   };
-  steps = takes_more c index packet me us got was.steps;
+  steps = took.events was.steps;
 }
 
 -- or in part
-pub packet_broken : {A : Type 0} (role : Role) (c index : ℕ) (packet : Packet) (me us : ActorState A) (text : List ℕ) (is_all : Bool) (before after : WrittenHalf)
-    → us ≡ with_receipt me (receipt index (Take c) (Taken packet)) → text ≡ bytes_of packet → HasWrittenText is_all text before after → is_all ≡ false
-    → WritesPackets role Closed c me before → WritesPackets role WriteFailed c us after
-packet_broken role c index packet me us text is_all before after got same did fails was = record {
+pub packets_broken : {A : Type 0} (batch : ℕ) (role : Role) (c : ℕ) (packets : List Packet) (me us : ActorState A) (before after : WrittenHalf) → Took batch c packets me us
+    → HasWrittenText false (text_of packets) before after → WritesPackets batch role Closed c me before → WritesPackets batch role WriteFailed c us after
+packets_broken batch role c packets me us before after took did was = record {
   written = record {
     row = λ known.
         let is_known : before.is_known ≡ true = sym did.known ∙ known in
-        let (n, more) = did.part fails is_known in
-        encoded_part role (packets_of me) (packets_of us) before.bytes after.bytes packet n (packets-receipt me us (receipt index (Take c) (Taken packet)) got) (was.written.row is_known)
-        (more ∙ ap (λ w. before.bytes ++ take n w) same);
-    hurt = λ _. did.hurt fails;
+        let (n, more) = did.part refl is_known in
+        encoded_part batch role (packets_of me) (packets_of us) packets before.bytes after.bytes n took.some took.few took.more (was.written.row is_known) more;
+    hurt = λ _. did.hurt refl;
   };
-  steps = takes_more c index packet me us got was.steps;
+  steps = took.events was.steps;
 }
 
 -- a text that was written so far is this one
@@ -157,32 +187,57 @@ pub same_text : (is_all all : Bool) (text other : List ℕ) (before after : Writ
 same_text is_all all text other before after is same did =
     subst (λ (b : Bool). HasWrittenText b other before after) is (subst (λ (t : List ℕ). HasWrittenText is_all t before after) same did)
 
--- a packet was taken, and written whole or in part
-pub packet_done : {A : Type 0} (role : Role) (c index : ℕ) (packet : Packet) (me us : ActorState A) (text : List ℕ) (end : Option (Result WriterEnd BodyFault)) (before after : WrittenHalf)
-    → us ≡ with_receipt me (receipt index (Take c) (Taken packet)) → text ≡ bytes_of packet → HasWrittenPacket end text before after → WritesPackets role Closed c me before → WritesOn role end c us after
-packet_done role c index packet me us text None before after got same did was = packet_written role c index packet me us text true before after got same did refl was
-packet_done role c index packet me us text (Some (Ok WriteFailed)) before after got same did was = packet_broken role c index packet me us text false before after got same did refl was
-packet_done role c index packet me us text (Some (Ok Drained)) before after got same did was = absurd did
-packet_done role c index packet me us text (Some (Ok Closed)) before after got same did was = absurd did
-packet_done role c index packet me us text (Some (Ok NeverOpened)) before after got same did was = absurd did
-packet_done role c index packet me us text (Some (Err fault)) before after got same did was = tt
+-- packets were taken, and written whole or in part
+pub packets_done : {A : Type 0} (batch : ℕ) (role : Role) (c : ℕ) (packets : List Packet) (me us : ActorState A) (end : Option (Result WriterEnd BodyFault)) (before after : WrittenHalf)
+    → Took batch c packets me us → HasWrittenPackets end packets before after → WritesPackets batch role Closed c me before → WritesOn batch role end c us after
+packets_done batch role c packets me us None before after took did was = packets_written batch role c packets me us before after took did was
+packets_done batch role c packets me us (Some (Ok WriteFailed)) before after took did was = packets_broken batch role c packets me us before after took did was
+packets_done batch role c packets me us (Some (Ok Drained)) before after took did was = absurd did
+packets_done batch role c packets me us (Some (Ok Closed)) before after took did was = absurd did
+packets_done batch role c packets me us (Some (Ok NeverOpened)) before after took did was = absurd did
+packets_done batch role c packets me us (Some (Err fault)) before after took did was = tt
+
+-- so they were where the receipts after the old ones say so
+pub packets_taken : {A : Type 0} (batch : ℕ) (role : Role) (c : ℕ) (me us : ActorState A) (old new : List (Receipt A)) (end : Option (Result WriterEnd BodyFault)) (before after : WrittenHalf)
+    → old ≡ me.receipts → new ≡ us.receipts → HasTakenSome batch c me us → HasWrittenPackets end (laws.packets_of (take (length new - length old) (drop (length old) new))) before after
+    → WritesPackets batch role Closed c me before → WritesOn batch role end c us after
+packets_taken {A} batch role c me us old new end before after old_is new_is (taken, some, few, got) did was =
+    let fresh : List (Receipt A) = map (taken_receipt c) taken in
+    let whole : take (length new - length old) (drop (length old) new) ≡ drop (length old) new = take_all (length new - length old) (drop (length old) new) (omega (arith, length-drop (length old) new)) in
+    let cut : drop (length old) new ≡ fresh =
+    ap (λ w. drop (length w) new) old_is ∙ ap (λ w. drop (length me.receipts) w) (new_is ∙ ap (λ w. w.receipts) got) ∙ drop_at me.receipts fresh (length me.receipts) refl in
+    packets_done batch role c (map (λ at. at.packet) taken) me us end before after (takes_some batch c taken me us some few got)
+    (subst (λ (ps : List Packet). HasWrittenPackets end ps before after) (ap laws.packets_of (whole ∙ cut) ∙ taken_packets A c taken) did) was
+
+-- one that took one at once took a batch at once
+wider_row : (batch : ℕ) (end : WriterEnd) (role : Role) (all : List (List ℕ)) (written : List ℕ) → 0 < batch → WriterRow 1 end role all written → WriterRow batch end role all written
+wider_row batch Drained role all written some row = row
+wider_row batch Closed role all written some row = row
+wider_row batch WriteFailed role all written some (done, last, n, parts, more, few, is) = (done, last, n, parts, more, omega arith, is)
+wider_row batch NeverOpened role all written some row = row
+
+-- what was written where nothing was taken
+pub took_none : {A : Type 0} (batch : ℕ) (role : Role) (end : WriterEnd) (me : ActorState A) (half : WrittenHalf) → 0 < batch → me.receipts ≡ [] → WritesAs 1 role end [] half
+    → WritesAs batch role end (packets_of me) half
+took_none batch role end me half some none did =
+    let wide : WritesAs batch role end [] half = record { row = λ known. wider_row batch end role (texts role []) half.bytes some (did.row known); hurt = did.hurt } in
+    let no : packets_of me ≡ [] = ap laws.packets_of none in
+    subst (λ packets. WritesAs batch role end packets half) (sym no) wide
 
 -- a writer that did nothing on its connection yet
-pub opened : {A : Type 0} (role : Role) (end : WriterEnd) (c : ℕ) (me : ActorState A) (half : WrittenHalf) → me.receipts ≡ [] → WritesAs role end [] half → PacketSteps end c me
-    → WritesPackets role end c me half
-opened role end c me half none did steps =
-    let no : packets_of me ≡ [] = ap laws.packets_of none in
-    record { written = subst (λ packets. WritesAs role end packets half) (sym no) did; steps = steps }
+pub opened : {A : Type 0} (batch : ℕ) (role : Role) (end : WriterEnd) (c : ℕ) (me : ActorState A) (half : WrittenHalf) → 0 < batch → me.receipts ≡ [] → WritesAs 1 role end [] half
+    → PacketSteps end c me → WritesPackets batch role end c me half
+opened batch role end c me half some none did steps = record { written = took_none batch role end me half some none did; steps = steps }
 
 -- a writer that goes on
-pub writes_more : {A : Type 0} (role : Role) (asked : Option (Result WriterEnd BodyFault)) (c : ℕ) (me : ActorState A) (half : WrittenHalf) → asked ≡ None → WritesOn role asked c me half
-    → WritesPackets role Closed c me half
-writes_more role asked c me half is did = subst (λ (w : Option (Result WriterEnd BodyFault)). WritesOn role w c me half) is did
+pub writes_more : {A : Type 0} (batch : ℕ) (role : Role) (asked : Option (Result WriterEnd BodyFault)) (c : ℕ) (me : ActorState A) (half : WrittenHalf) → asked ≡ None
+    → WritesOn batch role asked c me half → WritesPackets batch role Closed c me half
+writes_more batch role asked c me half is did = subst (λ (w : Option (Result WriterEnd BodyFault)). WritesOn batch role w c me half) is did
 
 -- one that ends
-pub writes_last : {A : Type 0} (role : Role) (asked : Option (Result WriterEnd BodyFault)) (end : Result WriterEnd BodyFault) (c : ℕ) (me : ActorState A) (half : WrittenHalf) → asked ≡ Some end
-    → WritesOn role asked c me half → IfOk end (λ e. WritesPackets role e c me half)
-writes_last role asked end c me half is did = subst (λ (w : Option (Result WriterEnd BodyFault)). WritesOn role w c me half) is did
+pub writes_last : {A : Type 0} (batch : ℕ) (role : Role) (asked : Option (Result WriterEnd BodyFault)) (end : Result WriterEnd BodyFault) (c : ℕ) (me : ActorState A) (half : WrittenHalf)
+    → asked ≡ Some end → WritesOn batch role asked c me half → IfOk end (λ e. WritesPackets batch role e c me half)
+writes_last batch role asked end c me half is did = subst (λ (w : Option (Result WriterEnd BodyFault)). WritesOn batch role w c me half) is did
 
 -- a writer that closes nothing more is done with its steps
 pub steps_kept : {A : Type 0} (role : Role) (end : WriterEnd) (c : ℕ) (found : Option ℕ) (me : ActorState A) → ¬ (end ≡ WriteFailed) → PacketSteps end c me → WriterSteps role end c found me
@@ -200,16 +255,16 @@ steps_closed role WriteFailed c found me us is steps closed = inr (me, steps, cl
 steps_closed role NeverOpened c found me us is steps closed = absurd (cc)
 
 -- a writer that is finished keeps what its end says
-pub finished_writer : {A W O : Type 0} (state : W → WrittenHalf) (made_of : W → O) (link : Half W) (receipts : List (Receipt A)) (before after : W) (end : Result WriterEnd BodyFault)
+pub finished_writer : {A W O : Type 0} (state : W → WrittenHalf) (made_of : W → O) (batch : ℕ) (link : Half W) (receipts : List (Receipt A)) (before after : W) (end : Result WriterEnd BodyFault)
     → made_of after ≡ made_of link.half → state after ≡ record (state before) { is_finished = true }
-    → IfOk end (λ e. WritesAs link.role e (laws.packets_of receipts) (state before))
-    → IsWriterDone state made_of link (record { receipts = receipts; half = after; end = end })
-finished_writer {A} state made_of link receipts before after end made same was =
-    let more : IfOk end (λ e. WritesAs link.role e (laws.packets_of receipts) (record (state before) { is_finished = true })) =
-    IfOk-weaker end (λ e. WritesAs link.role e (laws.packets_of receipts) (state before)) _ (λ e written. record { row = written.row; hurt = written.hurt }) was in
+    → IfOk end (λ e. WritesAs batch link.role e (laws.packets_of receipts) (state before))
+    → IsWriterDone state made_of batch link (record { receipts = receipts; half = after; end = end })
+finished_writer {A} state made_of batch link receipts before after end made same was =
+    let more : IfOk end (λ e. WritesAs batch link.role e (laws.packets_of receipts) (record (state before) { is_finished = true })) =
+    IfOk-weaker end (λ e. WritesAs batch link.role e (laws.packets_of receipts) (state before)) _ (λ e written. record { row = written.row; hurt = written.hurt }) was in
     record {
       kept = (
-        subst (λ (h : WrittenHalf). IfOk end (λ e. WritesAs link.role e (laws.packets_of receipts) h)) (sym same) more,
+        subst (λ (h : WrittenHalf). IfOk end (λ e. WritesAs batch link.role e (laws.packets_of receipts) h)) (sym same) more,
         subst (λ (h : WrittenHalf). h.is_finished ≡ true) (sym same) refl,
       );
       made = made;

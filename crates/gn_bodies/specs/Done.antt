@@ -46,10 +46,10 @@ pub record ReadsAs {A : Type 0} (turns : ℕ) (role : Role) (end : ReaderEnd) (c
   -- the half ended, or a read failed, or as many reads gave bytes as may be, as the end says
   pub counts : SourceRow turns end half
 
--- what a writer's end says of the packets that were taken, and of the half that was written
-pub record WritesAs (role : Role) (end : WriterEnd) (packets : List Packet) (half : WrittenHalf) : Type 0 where
+-- what a writer's end says of the packets that were taken, at most `batch` at once, and of the half that was written
+pub record WritesAs (batch : ℕ) (role : Role) (end : WriterEnd) (packets : List Packet) (half : WrittenHalf) : Type 0 where
   -- what was written are the opening text and the packets, all or up to where a write failed, where the bytes are known
-  pub row : half.is_known ≡ true → WriterRow end role (opening_texts role ++ map bytes_of packets) half.bytes
+  pub row : half.is_known ≡ true → WriterRow batch end role (opening_texts role ++ map bytes_of packets) half.bytes
   -- a write failed, or took nothing, where the end says so
   pub hurt : end ≡ WriteFailed → (0 < half.failures) ⊎ (half.is_stuck ≡ true)
 
@@ -59,9 +59,9 @@ ReaderKeeps turns role body =
     IfOk body.end (λ end. ReadsAs turns role end (known_conn body.receipts) body.receipts body.half)
 
 -- so are a writer's, and its half is finished
-abbrev pub WriterKeeps : {A : Type 0} → Role → Ended A WriterEnd WrittenHalf → Type 0
-WriterKeeps role body =
-    IfOk body.end (λ end. WritesAs role end (packets_of body.receipts) body.half) × (body.half.is_finished ≡ true)
+abbrev pub WriterKeeps : {A : Type 0} → ℕ → Role → Ended A WriterEnd WrittenHalf → Type 0
+WriterKeeps batch role body =
+    IfOk body.end (λ end. WritesAs batch role end (packets_of body.receipts) body.half) × (body.half.is_finished ≡ true)
 
 -- what the body of a reader promises of the half that it began with, where a half says this of itself and of the link that it
 -- was split from, a reader of such a link is to give this, and so many of its reads may give bytes
@@ -79,11 +79,11 @@ pub record IsReaderDone {A Rd O : Type 0} (state : Rd → ReadHalf) (made_of : R
   -- a read failed only where one may
   pub failed : IfOk body.end (λ end. end ≡ ReadFailed → (gives (made_of link.half)).may_fail ≡ true)
 
--- what the body of a writer promises of the half that it began with
-pub record IsWriterDone {A W O : Type 0} (state : W → WrittenHalf) (made_of : W → O) (link : Half W)
+-- what the body of a writer that takes at most `batch` packets at once promises of the half that it began with
+pub record IsWriterDone {A W O : Type 0} (state : W → WrittenHalf) (made_of : W → O) (batch : ℕ) (link : Half W)
     (body : Ended A WriterEnd W) : Type 0 where
   -- its receipts and its half are as its end says
-  pub kept : WriterKeeps link.role (halved state body)
+  pub kept : WriterKeeps batch link.role (halved state body)
   -- the half that it gives back was split from the same link
   pub made : made_of body.half ≡ made_of link.half
 

@@ -1,5 +1,5 @@
 -- What a writer's end says of its receipts, of the packets that it took, and of the bytes that it wrote.
-use Rattle.std.specs.Prelude.{◌≡◌, ◌<◌, ◌⊎◌, ℕ, Bool, true, false, if◌then◌else◌, List, [], ◌∷◌, ◌++◌, take, map, Option}
+use Rattle.std.specs.Prelude.{◌≡◌, ◌<◌, ◌≤◌, ◌⊎◌, ℕ, Bool, true, false, if◌then◌else◌, List, [], ◌∷◌, ◌++◌, length, take, map, Option}
 use Rattle.std.specs.List.{concat}
 use Rattle.gn_rules.specs.declared.event.Event.TheVariants.{Take}
 use Rattle.gn_shake.specs.declared.role.Role.{Role}
@@ -19,16 +19,17 @@ opening_texts Calling = request_text ∷ []
 opening_texts Plain = []
 
 -- the table of ends for a writer: what its end says of what was written, where `texts` are the opening text and the encodings of the
--- packets that were taken
-abbrev pub WriterRow : WriterEnd → Role → List (List ℕ) → List ℕ → Type 0
+-- packets that were taken, at most `batch` at once
+abbrev pub WriterRow : (batch : ℕ) → WriterEnd → Role → List (List ℕ) → List ℕ → Type 0
 -- all of them; so where it ended as Closed
-WriterRow Drained role texts written = written ≡ concat texts
-WriterRow Closed role texts written = written ≡ concat texts
--- all of them but the last, and a prefix of the last
-WriterRow WriteFailed role texts written =
-    (done : List (List ℕ)) × (last : List ℕ) × (n : ℕ) × (texts ≡ done ++ last ∷ []) × (written ≡ concat done ++ take n last)
+WriterRow batch Drained role texts written = written ≡ concat texts
+WriterRow batch Closed role texts written = written ≡ concat texts
+-- all of them but the last ones, of which there are at most `batch`, and a prefix of these
+WriterRow batch WriteFailed role texts written =
+    (done last : List (List ℕ)) × (n : ℕ) × (texts ≡ done ++ last) × (0 < length last) × (length last ≤ batch)
+    × (written ≡ concat done ++ take n (concat last))
 -- nothing, but the request where the link calls
-WriterRow NeverOpened role texts written = written ≡ (if is_calling role then request_text else [])
+WriterRow batch NeverOpened role texts written = written ≡ (if is_calling role then request_text else [])
 
 -- what was written of a text: all of it; or a prefix, where a write failed or took nothing
 pub record HasWrittenText (is_all : Bool) (text : List ℕ) (before after : WrittenHalf) : Type 0 where

@@ -1,21 +1,24 @@
 //! The body of a writer.
 
-ghost use Rattle.std.specs.Prelude.{◌≡◌, [], ℕ, false, true, IfOk, OnOk};
+ghost use Rattle.std.specs.Prelude.{◌≡◌, ◌<◌, ◌∷◌, ◌++◌, [], ℕ, false, true, IfOk, OnOk};
+ghost use Rattle.std.specs.Option.{option_copied};
 ghost use Rattle.gn_wire.specs.Encoding.{bytes_of};
+ghost use Rattle.gn_rules.specs.History.{taken_of};
+ghost use Rattle.gn_laws.specs.Owners as laws;
 ghost use Rattle.gn_links.specs.Halves.{IsNewWriter};
 ghost use Rattle.gn_shake.specs.Greeting.{is_calling};
 ghost use Rattle.gn_shake.specs.declared.role.Role.{Role};
 ghost use Rattle.gn_bodies.specs.declared.ends.WriterEnd.TheVariants.{Closed, NeverOpened, WriteFailed};
 ghost use Rattle.gn_bodies.specs.Done.{IsWriterDone, WritesAs, half_of, writer_ended};
 ghost use Rattle.gn_bodies.specs.Events.{packets_of};
-ghost use Rattle.gn_bodies.specs.Writing.{HasWrittenPacket, WritesOn, WritesPackets};
+ghost use Rattle.gn_bodies.specs.Writing.{HasWrittenPackets, WritesOn, WritesPackets, text_of};
 ghost use Rattle.gn_bodies.specs.Written.{HasWrittenText, WriterSteps};
 
 use crate::asking::close;
 use crate::ends::{BodyFault, WriterEnd, fail_at_stop};
-use gn_hub::{Actor, FoundClosed, Outgoing, Service};
+use gn_hub::{Actor, Batch, FoundClosed, Outgoing, Service};
 use gn_links::{Gate, Half, LinkWriter, Made};
-use gn_rules::{ConnId, RouterCore};
+use gn_rules::{ConnId, Receipt, Reply, RouterCore};
 use gn_shake::Role;
 use gn_wire::{Descriptor, HEADER_BYTES};
 use std::alloc::{AllocError, Allocator, Global};
@@ -49,29 +52,68 @@ fn write_text<W: LinkWriter, R: Wait>(rt: &R, writer: &mut W, text: &[u8]) -> bo
     true
 }
 
-/// Puts the encoding of a packet in place of a text. An `Err` is out of memory.
-fn encode_into<A: Allocator>(
-    packet: &Descriptor<A>,
-    text: &mut Vec<u8, A>,
-) -> Result<(), AllocError>
-    ensures { OnOk result (text.new.items ≡ bytes_of packet.now) }
+/// The packet of a receipt, where it was taken.
+fn taken_in<A: Allocator>(receipt: &Receipt<A>) -> Option<&Descriptor<A>>
+    ensures { option_copied result ≡ taken_of receipt.now.reply }
 {
-    text.clear();
+    match &receipt.reply {
+        Reply::Taken(packet) => Some(packet),
+        _ => None,
+    }
+}
+
+/// Appends the encoding of a packet to a text. An `Err` is out of memory.
+fn encode<A: Allocator>(packet: &Descriptor<A>, text: &mut Vec<u8, A>) -> Result<(), AllocError>
+    ensures { OnOk result (text.new.items ≡ text.old.items ++ bytes_of packet.now) }
+{
     text.reserve(HEADER_BYTES + packet.payload().len())?;
     packet.write_to(text)
 }
 
-/// Encodes a packet, and writes it. None where all of it was written; else how the body ends.
-fn write_packet<W: LinkWriter, A: Allocator, R: Wait>(
+/// Appends the encoding of the packet of a receipt to a text, where it was taken. An `Err` is out of memory.
+fn encode_receipt<A: Allocator>(
+    receipt: &Receipt<A>,
+    text: &mut Vec<u8, A>,
+) -> Result<(), AllocError>
+    ensures { OnOk result (text.new.items ≡ text.old.items ++ text_of (laws.packets_of (receipt.now ∷ []))) }
+{
+    match taken_in(receipt) {
+        Some(packet) => encode(packet, text),
+        None => Ok(()),
+    }
+}
+
+/// Puts the encodings of the packets that were taken in place of a text, in order. An `Err` is out of memory.
+fn encode_all<A: Allocator>(
+    receipts: &[Receipt<A>],
+    text: &mut Vec<u8, A>,
+) -> Result<(), AllocError>
+    ensures { OnOk result (text.new.items ≡ text_of (laws.packets_of receipts.now)) }
+{
+    text.clear();
+    for receipt in receipts {
+        encode_receipt(receipt, text)?;
+    }
+    Ok(())
+}
+
+/// Tells the gate of the packets that were taken, encodes them, and writes them as one text. None where all of it was written;
+/// else how the body ends.
+fn write_taken<W: LinkWriter, G: Gate, A: Allocator, R: Wait>(
     rt: &R,
+    gate: &G,
+    link: u32,
     writer: &mut W,
-    packet: &Descriptor<A>,
+    receipts: &[Receipt<A>],
     text: &mut Vec<u8, A>,
 ) -> Option<Result<WriterEnd, BodyFault>>
     ensures made { W.made_of writer.new ≡ W.made_of writer.old }
-    ensures state { HasWrittenPacket result (bytes_of packet.now) (W.state writer.old) (W.state writer.new) }
+    ensures state { HasWrittenPackets result (laws.packets_of receipts.now) (W.state writer.old) (W.state writer.new) }
 {
-    let Ok(()) = encode_into(packet, text) else {
+    for _ in receipts {
+        gate.made(link, Made::Taken);
+    }
+    let Ok(()) = encode_all(receipts, text) else {
         return Some(Err(BodyFault::NoMemory));
     };
     if !write_text(rt, writer, text.as_slice()) {
@@ -80,7 +122,7 @@ fn write_packet<W: LinkWriter, A: Allocator, R: Wait>(
     None
 }
 
-/// Takes the link's next packet, and writes it. None where all of it was written; else how the body ends.
+/// Takes the link's next packets, at most a batch, and writes them. None where all of them were written; else how the body ends.
 fn write_next<
     W: LinkWriter,
     G: Gate,
@@ -96,17 +138,18 @@ fn write_next<
     link: u32,
     writer: &mut W,
     c: ConnId,
+    batch: Batch,
     text: &mut Vec<u8, A>,
 ) -> Option<Result<WriterEnd, BodyFault>>
     ensures number { me.new.number ≡ me.old.number }
     ensures made { W.made_of writer.new ≡ W.made_of writer.old }
-    ensures written { (role : Role) → WritesPackets role Closed c me.old (W.state writer.old)
-        → WritesOn role result c me.new (W.state writer.new) }
+    ensures written { (role : Role) → WritesPackets batch role Closed c me.old (W.state writer.old)
+        → WritesOn batch role result c me.new (W.state writer.new) }
 {
-    match service.next_out(rt, me, c) {
+    let before = me.receipts().len();
+    match service.next_batch(rt, me, c, batch) {
         Ok(Outgoing::Packet) => {
-            gate.made(link, Made::Taken);
-            write_packet(rt, writer, me.last_taken(), text)
+            write_taken(rt, gate, link, writer, &me.receipts()[before..], text)
         }
         Ok(Outgoing::Drained) => {
             gate.made(link, Made::Closed);
@@ -121,8 +164,8 @@ fn write_next<
 fn write_request<W: LinkWriter, R: Wait>(rt: &R, writer: &mut W, role: Role) -> bool
     requires new { (W.state writer.old).bytes ≡ [] }
     ensures made { W.made_of writer.new ≡ W.made_of writer.old }
-    ensures all { result ≡ true → WritesAs role NeverOpened [] (W.state writer.new) }
-    ensures part { result ≡ false → WritesAs role WriteFailed [] (W.state writer.new) }
+    ensures all { result ≡ true → WritesAs 1 role NeverOpened [] (W.state writer.new) }
+    ensures part { result ≡ false → WritesAs 1 role WriteFailed [] (W.state writer.new) }
     ensures calls { result ≡ false → is_calling role ≡ true }
 {
     match role {
@@ -133,10 +176,10 @@ fn write_request<W: LinkWriter, R: Wait>(rt: &R, writer: &mut W, role: Role) -> 
 
 /// Writes the consent of an accepting link. False where a write failed, or took nothing.
 fn write_consent<W: LinkWriter, R: Wait>(rt: &R, writer: &mut W, role: Role) -> bool
-    requires called { WritesAs role NeverOpened [] (W.state writer.old) }
+    requires called { WritesAs 1 role NeverOpened [] (W.state writer.old) }
     ensures made { W.made_of writer.new ≡ W.made_of writer.old }
-    ensures all { result ≡ true → WritesAs role Closed [] (W.state writer.new) }
-    ensures part { result ≡ false → WritesAs role WriteFailed [] (W.state writer.new) }
+    ensures all { result ≡ true → WritesAs 1 role Closed [] (W.state writer.new) }
+    ensures part { result ≡ false → WritesAs 1 role WriteFailed [] (W.state writer.new) }
 {
     match role {
         Role::Accepting => write_text(rt, writer, gn_shake::consent()),
@@ -144,7 +187,7 @@ fn write_consent<W: LinkWriter, R: Wait>(rt: &R, writer: &mut W, role: Role) -> 
     }
 }
 
-/// Writes the consent of an accepting link, and then each packet that it takes. `text` holds the encoding of one at a time.
+/// Writes the consent of an accepting link, and then the packets that it takes. `text` holds the encodings of one batch at a time.
 fn write_packets<
     W: LinkWriter,
     G: Gate,
@@ -161,19 +204,21 @@ fn write_packets<
     writer: &mut W,
     role: Role,
     c: ConnId,
+    batch: Batch,
     text: &mut Vec<u8, A>,
 ) -> Result<WriterEnd, BodyFault>
+    requires some { 0 < batch }
     requires none { me.old.receipts ≡ [] }
-    requires called { WritesAs role NeverOpened [] (W.state writer.old) }
+    requires called { WritesAs 1 role NeverOpened [] (W.state writer.old) }
     ensures number { me.new.number ≡ me.old.number }
     ensures made { W.made_of writer.new ≡ W.made_of writer.old }
-    ensures written { IfOk result (λ end. WritesPackets role end c me.new (W.state writer.new)) }
+    ensures written { IfOk result (λ end. WritesPackets batch role end c me.new (W.state writer.new)) }
 {
     if !write_consent(rt, writer, role) {
         return Ok(WriterEnd::WriteFailed);
     }
     for _ in rt.forever() {
-        if let Some(end) = write_next(rt, service, gate, me, link, writer, c, text) {
+        if let Some(end) = write_next(rt, service, gate, me, link, writer, c, batch, text) {
             return end;
         }
     }
@@ -195,15 +240,17 @@ fn write_link<
     me: &mut Actor<L, A>,
     link: u32,
     role: Role,
+    batch: Batch,
     writer: &mut W,
     text: &mut Vec<u8, A>,
     found: &mut Option<FoundClosed>,
 ) -> Result<WriterEnd, BodyFault>
+    requires some { 0 < batch }
     requires none { me.old.receipts ≡ [] }
     requires new { (W.state writer.old).bytes ≡ [] }
     ensures number { me.new.number ≡ me.old.number }
     ensures made { W.made_of writer.new ≡ W.made_of writer.old }
-    ensures written { IfOk result (λ end. WritesAs role end (packets_of me.new) (W.state writer.new)) }
+    ensures written { IfOk result (λ end. WritesAs batch role end (packets_of me.new) (W.state writer.new)) }
     ensures steps { IfOk result (λ end. (c : ℕ) × WriterSteps role end c found.new me.new) }
 {
     if !write_request(rt, writer, role) {
@@ -212,7 +259,7 @@ fn write_link<
     let Some(c) = service.meet(rt, link) else {
         return Ok(WriterEnd::NeverOpened);
     };
-    let end = write_packets(rt, service, gate, me, link, writer, role, c, text)?;
+    let end = write_packets(rt, service, gate, me, link, writer, role, c, batch, text)?;
     if let WriterEnd::WriteFailed = end {
         *found = close(rt, service, gate, me, link, c)?;
     }
@@ -220,8 +267,8 @@ fn write_link<
 }
 
 /// The body of a writer: it writes the request of a calling link, waits until the link has connected, writes the consent of
-/// an accepting one, and then each packet that it takes. Where a write failed it closes the connection, or finds it closed. The
-/// gate learns of each step.
+/// an accepting one, and then the packets that it takes: at most `batch` at once, which it writes as one text. Where a write
+/// failed it closes the connection, or finds it closed. The gate learns of each step.
 ///
 /// A stop fails the run. In any case the link's writer is finished.
 pub fn writer_body<
@@ -239,15 +286,18 @@ pub fn writer_body<
     actor: Actor<L, A>,
     link: u32,
     role: Role,
+    batch: Batch,
     writer: W,
 ) -> WriterDone<W, L, A>
     requires none { actor.receipts ≡ [] }
     requires new { IsNewWriter (W.state writer) }
     ensures same { (result.actor.number ≡ actor.number) × (result.role ≡ role) }
-    ensures done { IsWriterDone W.state W.made_of (half_of role writer) (writer_ended result) }
+    ensures done { IsWriterDone W.state W.made_of batch (half_of role writer) (writer_ended result) }
     ensures steps { IfOk result.end (λ end. (c : ℕ) × WriterSteps role end c result.found_closed result.actor) }
 {
     let (mut actor, mut writer) = (actor, writer);
+    // It shows that a batch is one packet at least.
+    let _most = batch.most();
     let mut text = Vec::new(alloc);
     let mut found_closed = None;
     let end = write_link(
@@ -257,6 +307,7 @@ pub fn writer_body<
         &mut actor,
         link,
         role,
+        batch,
         &mut writer,
         &mut text,
         &mut found_closed,

@@ -1,3 +1,4 @@
 pub mod ActorLemmas
+pub mod BatchLemmas
 pub mod StepLemmas
 pub mod WakingLemmas

@@ -47,7 +47,7 @@ outgoing_packet take answer c before after me us is (same, step) = step
 outgoing_packet close answer c before after me us is (same, none, step) = let no : Some outgoing.Packet ≡ Some outgoing.Drained = sym is ∙ same in absurd (cc)
 outgoing_packet later answer c before after me us is (same, kept, mine) = let no : Some outgoing.Packet ≡ None = sym is ∙ same in absurd (cc)
 
-taken_reply : {A : Type 0} (c : ℕ) (reply : Reply A) → replies (Take c) reply ≡ true → (packet : Packet) × (reply ≡ kind.Taken packet)
+pub taken_reply : {A : Type 0} (c : ℕ) (reply : Reply A) → replies (Take c) reply ≡ true → (packet : Packet) × (reply ≡ kind.Taken packet)
 taken_reply c (kind.Connected d) fits = absurd (cc)
 taken_reply c kind.TooMany fits = absurd (cc)
 taken_reply c (kind.Closed n) fits = absurd (cc)

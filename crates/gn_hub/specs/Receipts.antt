@@ -1,5 +1,5 @@
 -- What the calls that take the lock do to their actor.
-use Rattle.std.specs.Prelude.{◌≡◌, ℕ, Bool, true, false, List, [], ◌∷◌, ◌++◌, Option, Some, None}
+use Rattle.std.specs.Prelude.{◌≡◌, ◌<◌, ◌≤◌, ℕ, Bool, true, false, List, [], ◌∷◌, ◌++◌, length, map, Option, Some, None}
 use Rattle.gn_wire.specs.Packet.{Packet}
 use Rattle.gn_rules.specs.declared.event.Event.{Event}
 use Rattle.gn_rules.specs.declared.event.Event.TheVariants.{Close, Take}
@@ -19,6 +19,27 @@ HasReceipt {A} event me us =
 -- an actor got a receipt of a packet that was taken
 abbrev pub HasTaken : {A : Type 0} → ℕ → ActorState A → ActorState A → Type 0
 HasTaken {A} c me us = (index : ℕ) × (packet : Packet) × (us ≡ with_receipt me (receipt index (Take c) (Taken packet)))
+
+-- a packet that was taken, and the number of its step
+pub record TakenAt : Type 0 where
+  pub index : ℕ
+  pub packet : Packet
+
+-- the receipt of a packet that was taken from a connection
+abbrev pub taken_receipt : {A : Type 0} → ℕ → TakenAt → Receipt A
+taken_receipt c at = receipt at.index (Take c) (Taken at.packet)
+
+-- an actor got receipts of at most so many packets that were taken
+abbrev pub HasTakenMore : {A : Type 0} → ℕ → ℕ → ActorState A → ActorState A → Type 0
+HasTakenMore most c me us =
+    (taken : List TakenAt) × (length taken ≤ most)
+    × (us ≡ record me { receipts = me.receipts ++ map (taken_receipt c) taken })
+
+-- an actor got receipts of packets that were taken: of at least one, and of at most so many
+abbrev pub HasTakenSome : {A : Type 0} → ℕ → ℕ → ActorState A → ActorState A → Type 0
+HasTakenSome most c me us =
+    (taken : List TakenAt) × (0 < length taken) × (length taken ≤ most)
+    × (us ≡ record me { receipts = me.receipts ++ map (taken_receipt c) taken })
 
 -- an actor got a receipt of a close that discarded nothing
 abbrev pub HasDrained : {A : Type 0} → ℕ → ActorState A → ActorState A → Type 0

@@ -86,17 +86,18 @@ impl<L: Ledger, A: Allocator> Actor<L, A> {
         }
     }
 
-    /// Makes room for the next receipt, where there is none, and for many more: it is called before the lock is taken. An `Err`
-    /// is out of memory.
-    pub(crate) fn make_room(&mut self) -> Result<(), AllocError>
+    /// Makes room for the next receipts, so many, where there is none, and for many more: it is called before the lock is taken.
+    /// An `Err` is out of memory.
+    pub(crate) fn make_room(&mut self, most: u32) -> Result<(), AllocError>
         ensures { self.new ≡ self.old }
     {
         let len = self.receipts.len();
-        if len < self.receipts.capacity() {
+        let most = most as usize;
+        if most <= self.receipts.capacity().saturating_sub(len) {
             return Ok(());
         }
         let more = if len < FEW { FEW } else { len.max(ROOM) };
-        self.receipts.reserve(more)
+        self.receipts.reserve(more.max(most))
     }
 
     /// Its share of the ledger: how many receipts it has.

@@ -7,15 +7,17 @@ ghost use Rattle.std.specs.List.{list_any};
 ghost use Rattle.gn_rules.specs.Fits.{refuses};
 ghost use Rattle.gn_rules.specs.History.{live, sends_of};
 ghost use Rattle.gn_hub.specs.HubState.{past_of};
-ghost use Rattle.gn_hub.specs.Receipts.{HasClosed, HasDrained, HasReceipt, HasTaken, is_stop};
+ghost use Rattle.gn_hub.specs.Receipts.{HasClosed, HasDrained, HasReceipt, HasTaken, HasTakenMore, HasTakenSome, is_stop};
 ghost use Rattle.gn_hub.specs.Waking.{LeavesWaiting, closes, may_wake};
 ghost use Rattle.gn_hub.specs.declared.next.Outgoing.TheVariants.{Packet, Drained, Closed};
 
 use crate::actor::Actor;
+use crate::batch::Batch;
 use crate::found::FoundClosed;
 use crate::hub::Hub;
 use crate::next::Outgoing;
 use gn_payload::Checked;
+use gn_room::Room;
 use gn_rules::{
     ConnId, Event, Refusal, Reply, RouterCore, Ticket, answers_fit, checked_answers_fit,
 };
@@ -125,6 +127,66 @@ impl<C: RouterCore<A>, L: Ledger, A: Allocator + Copy> Hub<C, L, A> {
             },
             Err(refusal) => Answered::refused(refusal),
         }
+    }
+
+    /// As `outgoing_answered`, with further packets where the first was one: at most a batch in all.
+    pub(crate) fn batch_answered(
+        &mut self,
+        me: &mut Actor<L, A>,
+        c: ConnId,
+        batch: Batch,
+        room: &Room,
+    ) -> Answered<Option<Outgoing>>
+        ensures packet { IfOk result.answer (λ next. next ≡ Some Packet → HasTakenSome batch c me.old me.new) }
+        ensures drained { IfOk result.answer (λ next. next ≡ Some Drained → HasDrained c me.old me.new) }
+        ensures closed { IfOk result.answer (λ next. next ≡ Some Closed → me.new ≡ me.old) }
+        ensures later { IfOk result.answer (λ next. next ≡ None → me.new ≡ me.old) }
+        ensures refused { IfErr result.answer (λ refusal. (is_stop refusal ≡ true) × (me.new ≡ me.old)) }
+        ensures quiet { result.wakes ≡ false → LeavesWaiting self.old self.new }
+    {
+        let Answered { answer, wakes } = self.outgoing_answered(me, c);
+        if !matches!(answer, Ok(Some(Outgoing::Packet))) {
+            return Answered { answer, wakes };
+        }
+        let more = self.take_more(me, c, batch.most() - 1, room);
+        Answered {
+            answer,
+            wakes: wakes || more,
+        }
+    }
+
+    /// Takes further packets of a connection, at most so many, until none waits, a step is refused, or one would have to wait for room.
+    /// Whether the threads that wait have to look again.
+    fn take_more(&mut self, me: &mut Actor<L, A>, c: ConnId, most: u32, room: &Room) -> bool
+        ensures taken { HasTakenMore most c me.old me.new }
+        ensures quiet { result ≡ false → LeavesWaiting self.old self.new }
+    {
+        let mut wakes = false;
+        for _ in 0..most {
+            let Answered {
+                answer,
+                wakes: woken,
+            } = self.take_another(me, c, room);
+            wakes = wakes || woken;
+            if answer.is_err() {
+                break;
+            }
+        }
+        wakes
+    }
+
+    /// Takes one more packet of a connection. `NothingWaiting` also where its step would have to wait for room.
+    fn take_another(&mut self, me: &mut Actor<L, A>, c: ConnId, room: &Room) -> Answered<()>
+        ensures answer { MatchResult result.answer (λ _. HasTaken c me.old me.new) (λ _. me.new ≡ me.old) }
+        ensures quiet { result.wakes ≡ false → LeavesWaiting self.old self.new }
+    {
+        if self.router().waiting(c) == 0 || !room.has_more(self.book()) {
+            return Answered::refused(Refusal::NothingWaiting);
+        }
+        let event = Event::Take(c);
+        let answered = self.call_answered(me, &event);
+        drop(event);
+        answered
     }
 
     /// `close`, for the lock. The end of a connection is what somebody waits for.

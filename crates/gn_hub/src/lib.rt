@@ -3,6 +3,7 @@
 
 mod actor;
 mod answered;
+mod batch;
 mod found;
 mod hub;
 mod mark;
@@ -11,6 +12,7 @@ mod opening;
 mod service;
 
 pub use actor::Actor;
+pub use batch::Batch;
 pub use found::FoundClosed;
 pub use gn_shake::Role;
 pub use hub::{Frame, Hub};

@@ -4,10 +4,11 @@ ghost use Rattle.std.specs.Prelude.{◌≡◌, true, false, IfOk, IfErr, MatchRe
 ghost use Rattle.gn_rules.specs.declared.event.Event.TheVariants.{Connect, Route};
 ghost use Rattle.gn_rules.specs.Fits.{refuses};
 ghost use Rattle.gn_hub.specs.declared.next.Outgoing.TheVariants.{Packet, Drained, Closed};
-ghost use Rattle.gn_hub.specs.Receipts.{HasClosed, HasDrained, HasReceipt, HasTaken, is_stop};
+ghost use Rattle.gn_hub.specs.Receipts.{HasClosed, HasDrained, HasReceipt, HasTakenSome, is_stop};
 
 use crate::actor::Actor;
 use crate::answered::Answered;
+use crate::batch::Batch;
 use crate::found::FoundClosed;
 use crate::hub::Hub;
 use crate::mark::Door;
@@ -79,15 +80,15 @@ impl<C: RouterCore<A> + Drop, L: Ledger, A: Allocator + Copy> Service<C, L, A> {
         self.hub.lock(rt)
     }
 
-    /// Waits for room for one more step, and makes some for its receipt. An `Err` is out of memory, or nobody takes steps any
-    /// more.
-    fn make_room<R: Wait>(&self, rt: &R, me: &mut Actor<L, A>) -> Result<(), AllocError>
+    /// Waits for room for one more step, and makes some for its receipt and those of further ones, at most so many in all. An `Err`
+    /// is out of memory, or nobody takes steps any more.
+    fn make_room<R: Wait>(&self, rt: &R, me: &mut Actor<L, A>, most: u32) -> Result<(), AllocError>
         ensures { me.new ≡ me.old }
     {
         if !self.room.wait(rt) {
             return Err(AllocError);
         }
-        me.make_room()
+        me.make_room(most)
     }
 
     /// Lets the hub go after a call on it, and wakes the threads that wait, where they have to look again.
@@ -113,7 +114,7 @@ impl<C: RouterCore<A> + Drop, L: Ledger, A: Allocator + Copy> Service<C, L, A> {
             (λ _. HasReceipt event.now me.old me.new)
             (λ refusal. (refuses event.now refusal ≡ true) × (me.new ≡ me.old)) }
     {
-        self.make_room(rt, me)?;
+        self.make_room(rt, me, 1)?;
         let mut hub = self.lock(rt);
         let Answered { answer, wakes } = hub.call_answered(me, event);
         self.release(rt, hub, wakes);
@@ -132,7 +133,7 @@ impl<C: RouterCore<A> + Drop, L: Ledger, A: Allocator + Copy> Service<C, L, A> {
             (λ _. HasReceipt (Route ticket) me.old me.new)
             (λ refusal. (refuses {A = A} (Route ticket) refusal ≡ true) × (me.new ≡ me.old)) }
     {
-        self.make_room(rt, me)?;
+        self.make_room(rt, me, 1)?;
         let mut hub = self.lock(rt);
         let Answered { answer, wakes } = hub.route_answered(me, ticket, checked);
         self.release(rt, hub, wakes);
@@ -146,7 +147,7 @@ impl<C: RouterCore<A> + Drop, L: Ledger, A: Allocator + Copy> Service<C, L, A> {
             (λ _. HasReceipt Connect me.old me.new)
             (λ refusal. (refuses {A = A} Connect refusal ≡ true) × (me.new ≡ me.old)) }
     {
-        self.make_room(rt, me)?;
+        self.make_room(rt, me, 1)?;
         let mut hub = self.lock(rt);
         let Answered { answer, wakes } = hub.connect_answered(me, link);
         self.release(rt, hub, wakes);
@@ -164,45 +165,55 @@ impl<C: RouterCore<A> + Drop, L: Ledger, A: Allocator + Copy> Service<C, L, A> {
             (λ found. HasClosed c found me.old me.new)
             (λ refusal. (is_stop refusal ≡ true) × (me.new ≡ me.old)) }
     {
-        self.make_room(rt, me)?;
+        self.make_room(rt, me, 1)?;
         let mut hub = self.lock(rt);
         let Answered { answer, wakes } = hub.close_answered(me, c);
         self.release(rt, hub, wakes);
         answer
     }
 
-    /// Waits until the connection has a packet for its writer, which is in the last receipt, or is over, also where this
-    /// call closed it.
-    pub fn next_out<R: Wait>(
+    /// Waits until the connection has packets for its writer, or is over, also where this call closed it. At most `batch` packets are
+    /// taken at once, and are in the last receipts. A further packet is left where its step is refused, or would have to wait for room.
+    pub fn next_batch<R: Wait>(
         &self,
         rt: &R,
         me: &mut Actor<L, A>,
         c: ConnId,
+        batch: Batch,
     ) -> Result<Outgoing, Refusal>
-        ensures packet { IfOk result (λ next. next ≡ Packet → HasTaken c me.old me.new) }
+        ensures packet { IfOk result (λ next. next ≡ Packet → HasTakenSome batch c me.old me.new) }
         ensures drained { IfOk result (λ next. next ≡ Drained → HasDrained c me.old me.new) }
         ensures closed { IfOk result (λ next. next ≡ Closed → me.new ≡ me.old) }
         ensures refused { IfErr result (λ refusal. (is_stop refusal ≡ true) × (me.new ≡ me.old)) }
     {
+        self.make_room(rt, me, batch.most())?;
+        let mut hub = self.lock(rt);
         let mut has_yielded = false;
         for _ in rt.forever() {
-            self.make_room(rt, me)?;
-            let mut hub = self.lock(rt);
-            let Answered { answer, wakes } = hub.outgoing_answered(me, c);
-            self.room.made(hub.book());
-            self.wake(rt, wakes);
-            match answer? {
-                Some(next) => return Ok(next),
-                // Letting others run costs less than to sleep and be woken, and often brings a packet.
-                None if !has_yielded => {
-                    drop(hub);
-                    yield_now();
-                }
-                None => drop(self.changed.wait(rt, hub)),
+            let Answered { answer, wakes } = hub.batch_answered(me, c, batch, &self.room);
+            if let Some(next) = answer? {
+                self.release(rt, hub, wakes);
+                return Ok(next);
             }
+            hub = if has_yielded {
+                self.changed.wait(rt, hub)
+            } else {
+                self.pass(rt, hub)
+            };
             has_yielded = !has_yielded;
         }
         unreachable!()
+    }
+
+    /// Lets the hub go, lets others run, and takes it again. That costs less than to sleep and be woken, and often brings a packet.
+    fn pass<'s, R: Wait>(
+        &'s self,
+        rt: &R,
+        hub: MutexGuard<'s, CachePadded<Hub<C, L, A>>>,
+    ) -> MutexGuard<'s, CachePadded<Hub<C, L, A>>> {
+        drop(hub);
+        yield_now();
+        self.lock(rt)
     }
 
     /// Waits until the door of the link is open or shut, or the run has failed. The connection, where it is open.

@@ -153,10 +153,10 @@ pub held_err : {T E : Type 0} (r : Result T E) (e : E) (P : T → Type 0) (Q : E
 held_err r e P Q is h = subst (λ q. MatchResult q P Q) is h
 
 -- what is answered where no run began
-pub unbegun : {A : Type 0} (s : Config) (peers : List SocketAddr) (accept workers : ℕ) (sink : SinkState) (stopped : ServeStopped A) (fault : RunFault)
+pub unbegun : {A : Type 0} (batch : ℕ) (s : Config) (peers : List SocketAddr) (accept workers : ℕ) (sink : SinkState) (stopped : ServeStopped A) (fault : RunFault)
     → (stopped.fault ≡ Run fault) × (stopped.history ≡ None) × (stopped.ran ≡ None) → (fault ≡ BadWorkers) ↔ (¬ IsCrew workers)
-    → (IsCrew workers → IsArrivingFault true (length peers + accept) workers fault) → IsJournalled s peers accept workers sink sink (Err stopped)
-unbegun {A} s peers accept workers sink stopped fault is crew may =
+    → (IsCrew workers → IsArrivingFault true (length peers + accept) workers fault) → IsJournalled batch s peers accept workers sink sink (Err stopped)
+unbegun {A} batch s peers accept workers sink stopped fault is crew may =
     record {
       crew = tt;
       bad_workers = subst (λ f. (f ≡ Run BadWorkers) ↔ (¬ IsCrew workers)) (sym is.0) (run_is fault _ crew);
@@ -170,7 +170,7 @@ unbegun {A} s peers accept workers sink stopped fault is crew may =
       one_socket = tt;
       part = subst (λ h. AppendsLegalPart A s h sink.written sink.written) (sym is.1) (nothing_yet A s sink.written);
       full = λ all. subst (λ (h : Option (Vec (Step A) A)). IfSome h (λ history. length history.items ≡ s.numbers.steps)) (sym is.1) tt;
-      remembered = subst (λ r. IfSome r (λ _. AppendsServedPart A s peers accept workers r sink.written sink.written)) (sym is.2) tt;
+      remembered = subst (λ r. IfSome r (λ _. AppendsServedPart A batch s peers accept workers r sink.written sink.written)) (sym is.2) tt;
     }
 
 -- a prefix of the text of a legal history was written, where one stands of that
@@ -200,12 +200,12 @@ pub record HasStopped {A : Type 0} (s : Config) (links workers : ℕ) (steps : L
   pub begun : IfSome stopped.history (λ history. IsBegunBy steps history.items)
   pub legal : IsLegal s (reverse steps)
 
-module _ {A : Type 0} (s : Config) (peers : List SocketAddr) (accept workers : ℕ) (steps : List (Step A)) (old mid new : SinkState) (stopped : Stopped A) (after : ServeStopped A)
+module _ {A : Type 0} (batch : ℕ) (s : Config) (peers : List SocketAddr) (accept workers : ℕ) (steps : List (Step A)) (old mid new : SinkState) (stopped : Stopped A) (after : ServeStopped A)
     (run : HasStopped s (length peers + accept) workers steps stopped) (same : (after.history ≡ stopped.history) × (after.ran ≡ None)) where
   -- what is answered, by its fault and by what was written
   stopped_so : (fault : ServeFault) → after.fault ≡ fault → (fault ≡ Run BadWorkers) ↔ (¬ IsCrew workers) → IsServeFault (length peers + accept) workers fault old new
       → (fault ≡ Run HistoryFull → stopped.fault ≡ HistoryFull) → AppendsLegalPart A s stopped.history old.written new.written
-      → IsJournalled s peers accept workers old new (Err after)
+      → IsJournalled batch s peers accept workers old new (Err after)
   stopped_so fault is bad may all part =
       record {
         crew = tt;
@@ -220,13 +220,13 @@ module _ {A : Type 0} (s : Config) (peers : List SocketAddr) (accept workers : �
         one_socket = tt;
         part = subst (λ h. AppendsLegalPart A s h old.written new.written) (sym same.0) part;
         full = λ full. subst (λ (h : Option (Vec (Step A) A)). IfSome h (λ history. length history.items ≡ s.numbers.steps)) (sym same.0) (run.full (all (sym is ∙ full)));
-        remembered = subst (λ r. IfSome r (λ _. AppendsServedPart A s peers accept workers r old.written new.written)) (sym same.1) tt;
+        remembered = subst (λ r. IfSome r (λ _. AppendsServedPart A batch s peers accept workers r old.written new.written)) (sym same.1) tt;
       }
 
   -- its text could be written while it went on
   pub stopped_whole : (waiting : Waiting A) → HasJournalled (header_text History s) steps old mid (Ok waiting) → after.fault ≡ Run stopped.fault
       → (new ≡ mid) ⊎ IsSomeAnd stopped.history (λ h. (printed : Result ⊤ PrintFault) × HasFinished h.items mid new (Ok waiting) printed)
-      → IsJournalled s peers accept workers old new (Err after)
+      → IsJournalled batch s peers accept workers old new (Err after)
   stopped_whole waiting has is either =
       let part : AppendsLegalPart A s stopped.history old.written new.written = elim either [
         | inl still ↦ subst (λ (k : SinkState). AppendsLegalPart A s stopped.history old.written k.written) (sym still) (left_part s steps old mid mid (Ok waiting) run.legal has stopped.history run.kept run.begun)
@@ -236,7 +236,7 @@ module _ {A : Type 0} (s : Config) (peers : List SocketAddr) (accept workers : �
 
   -- or it couldn't
   pub stopped_cut : (why : PrintFault) → HasJournalled (header_text History s) steps old mid (Err why) → after.fault ≡ of_print why → new ≡ mid
-      → IsJournalled s peers accept workers old new (Err after)
+      → IsJournalled batch s peers accept workers old new (Err after)
   stopped_cut Write has is still =
       stopped_so of_serve.Write is (write_is_other workers run.crew) (subst (λ (k : SinkState). IsPrintFault Write old k) (sym still) has.1) (λ full. absurd (cc))
       (subst (λ (k : SinkState). AppendsLegalPart A s stopped.history old.written k.written) (sym still) (left_part s steps old mid mid (Err Write) run.legal has stopped.history run.kept run.begun))
@@ -247,25 +247,25 @@ module _ {A : Type 0} (s : Config) (peers : List SocketAddr) (accept workers : �
   -- by what waited
   pub stopped_as : (waiting : Result (Waiting A) PrintFault) → HasJournalled (header_text History s) steps old mid waiting
       → MatchResult waiting (λ _. after.fault ≡ Run stopped.fault) (λ why. after.fault ≡ of_print why) → HasStoppedWriting stopped.history mid new waiting
-      → IsJournalled s peers accept workers old new (Err after)
+      → IsJournalled batch s peers accept workers old new (Err after)
   stopped_as (Ok waiting) has is wrote = stopped_whole waiting has is wrote
   stopped_as (Err why) has is still = stopped_cut why has is still
 
 -- what is answered of a run with a report whose text was written
-pub all_written_of : {A : Type 0} (s : Config) (peers : List SocketAddr) (accept workers : ℕ) (steps : List (Step A)) (old mid new : SinkState) (report : Report TcpReading TcpWriting A) (ran : Remembered A)
+pub all_written_of : {A : Type 0} (batch : ℕ) (s : Config) (peers : List SocketAddr) (accept workers : ℕ) (steps : List (Step A)) (old mid new : SinkState) (report : Report TcpReading TcpWriting A) (ran : Remembered A)
     (waiting : Result (Waiting A) PrintFault) (done : ⊤) → IsCrew workers → ran ≡ ran_of report
-    → Holds half_read half_written s (roles_of (length peers) (length peers + accept)) workers report
+    → Holds batch half_read half_written s (roles_of (length peers) (length peers + accept)) workers report
     → AreMadeOf (λ half. half.origin) (λ half. half.origin) (origins_of peers (length peers + accept)) report → AreOfOne (λ half. half.socket) (λ half. half.socket) report
     → IsBegunBy steps report.history.items → HasJournalled (header_text History s) steps old mid waiting → HasFinished report.history.items mid new waiting (Ok done)
-    → IsJournalled s peers accept workers old new (Ok (report, ran))
-all_written_of {A} s peers accept workers steps old mid new report ran waiting done crew remembered holds made one begun has finished =
+    → IsJournalled batch s peers accept workers old new (Ok (report, ran))
+all_written_of {A} batch s peers accept workers steps old mid new report ran waiting done crew remembered holds made one begun has finished =
     let whole = all_finished s steps report.history.items old mid new waiting done begun has finished in
     record {
       crew = crew;
       bad_workers = tt;
       fault = tt;
       ran = remembered;
-      written = written s peers accept workers report ran remembered holds made one report.history.items old.written new.written refl whole.0;
+      written = written batch s peers accept workers report ran remembered holds made one report.history.items old.written new.written refl whole.0;
       report = whole.0;
       unfailed = whole.1;
       holds = holds;
@@ -277,13 +277,13 @@ all_written_of {A} s peers accept workers steps old mid new report ran waiting d
     }
 
 -- what is answered of a run with a report whose text wasn't written whole
-pub unwritten : {A : Type 0} (s : Config) (peers : List SocketAddr) (accept workers : ℕ) (steps : List (Step A)) (old mid new : SinkState) (report : Report TcpReading TcpWriting A) (ran : Remembered A)
+pub unwritten : {A : Type 0} (batch : ℕ) (s : Config) (peers : List SocketAddr) (accept workers : ℕ) (steps : List (Step A)) (old mid new : SinkState) (report : Report TcpReading TcpWriting A) (ran : Remembered A)
     (after : ServeStopped A) (waiting : Result (Waiting A) PrintFault) (why : PrintFault) → IsCrew workers → ran ≡ ran_of report
-    → Holds half_read half_written s (roles_of (length peers) (length peers + accept)) workers report
+    → Holds batch half_read half_written s (roles_of (length peers) (length peers + accept)) workers report
     → AreMadeOf (λ half. half.origin) (λ half. half.origin) (origins_of peers (length peers + accept)) report → AreOfOne (λ half. half.socket) (λ half. half.socket) report
     → IsBegunBy steps report.history.items → HasJournalled (header_text History s) steps old mid waiting → HasFinished report.history.items mid new waiting (Err why)
-    → (after.fault ≡ of_print why) × (after.history ≡ Some report.history) × (after.ran ≡ Some ran) → IsJournalled s peers accept workers old new (Err after)
-unwritten {A} s peers accept workers steps old mid new report ran after waiting why crew remembered holds made one begun has finished is =
+    → (after.fault ≡ of_print why) × (after.history ≡ Some report.history) × (after.ran ≡ Some ran) → IsJournalled batch s peers accept workers old new (Err after)
+unwritten {A} batch s peers accept workers steps old mid new report ran after waiting why crew remembered holds made one begun has finished is =
     let cut = part_finished s steps report.history.items old mid new waiting why begun has finished in
     record {
       crew = tt;
@@ -298,6 +298,6 @@ unwritten {A} s peers accept workers steps old mid new report ran after waiting 
       one_socket = tt;
       part = subst (λ h. AppendsLegalPart A s h old.written new.written) (sym is.1) (holds.legal, cut.0);
       full = λ all. absurd (never_full why (sym is.0 ∙ all));
-      remembered = subst (λ r. IfSome r (λ _. AppendsServedPart A s peers accept workers r old.written new.written)) (sym is.2)
-          (written_part s peers accept workers report ran remembered holds made one report.history.items old.written new.written refl cut.0);
+      remembered = subst (λ r. IfSome r (λ _. AppendsServedPart A batch s peers accept workers r old.written new.written)) (sym is.2)
+          (written_part batch s peers accept workers report ran remembered holds made one report.history.items old.written new.written refl cut.0);
     }

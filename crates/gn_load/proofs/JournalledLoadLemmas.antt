@@ -56,41 +56,41 @@ pub begun_err : {Rd W A : Type 0} (r : Result (Report Rd W A) (Stopped A)) (stop
 begun_err r stopped steps is begun = subst (λ q. BeginsRun q steps) is begun
 
 -- what is answered where no run began, since memory ran out
-pub unbegun_load : (s : Config) (links : List Memory) (workers : ℕ) (sink : SinkState) (answer : Result ⊤ LoadFault) → IsErrAnd answer (λ e. e ≡ Text replay.NoMemory)
-    → IsJournalledLoad s links workers sink sink answer
-unbegun_load s links workers sink (Ok x) is = absurd is
-unbegun_load s links workers sink (Err e) is =
-    subst (λ (f : LoadFault). IsJournalledLoad s links workers sink sink (Err f)) (sym is)
+pub unbegun_load : (batch : ℕ) (s : Config) (links : List Memory) (workers : ℕ) (sink : SinkState) (answer : Result ⊤ LoadFault) → IsErrAnd answer (λ e. e ≡ Text replay.NoMemory)
+    → IsJournalledLoad batch s links workers sink sink answer
+unbegun_load batch s links workers sink (Ok x) is = absurd is
+unbegun_load batch s links workers sink (Err e) is =
+    subst (λ (f : LoadFault). IsJournalledLoad batch s links workers sink sink (Err f)) (sym is)
     (record { written = tt; unfailed = tt; stopped = (None, nothing_yet Global s sink.written); fault = tt })
 
 -- what is answered where a fault was handed on
-pub handed_load : (s : Config) (links : List Memory) (workers : ℕ) (old new : SinkState) (answer : Result ⊤ LoadFault) (fault : LoadFault) → IsErrAnd answer (λ e. e ≡ fault)
-    → IsJournalledLoad s links workers old new (Err fault) → IsJournalledLoad s links workers old new answer
-handed_load s links workers old new (Ok x) fault is has = absurd is
-handed_load s links workers old new (Err e) fault is has = subst (λ (f : LoadFault). IsJournalledLoad s links workers old new (Err f)) (sym is) has
+pub handed_load : (batch : ℕ) (s : Config) (links : List Memory) (workers : ℕ) (old new : SinkState) (answer : Result ⊤ LoadFault) (fault : LoadFault) → IsErrAnd answer (λ e. e ≡ fault)
+    → IsJournalledLoad batch s links workers old new (Err fault) → IsJournalledLoad batch s links workers old new answer
+handed_load batch s links workers old new (Ok x) fault is has = absurd is
+handed_load batch s links workers old new (Err e) fault is has = subst (λ (f : LoadFault). IsJournalledLoad batch s links workers old new (Err f)) (sym is) has
 
 -- or since there are too few workers, or too many
-pub no_crew : (s : Config) (links : List Memory) (workers : ℕ) (sink : SinkState) → (BadWorkers ≡ BadWorkers) ↔ (¬ IsCrew workers)
-    → (IsCrew workers → IsFaultOf (length links) workers BadWorkers) → IsJournalledLoad s links workers sink sink (Err (Run BadWorkers))
-no_crew s links workers sink bad other = record { written = tt; unfailed = tt; stopped = kept sink.written; fault = record { bad = bad; other = other } }
+pub no_crew : (batch : ℕ) (s : Config) (links : List Memory) (workers : ℕ) (sink : SinkState) → (BadWorkers ≡ BadWorkers) ↔ (¬ IsCrew workers)
+    → (IsCrew workers → IsFaultOf (length links) workers BadWorkers) → IsJournalledLoad batch s links workers sink sink (Err (Run BadWorkers))
+no_crew batch s links workers sink bad other = record { written = tt; unfailed = tt; stopped = kept sink.written; fault = record { bad = bad; other = other } }
 
 -- what is answered where the text of a history wasn't written whole, for this
-unwritten_load : (s : Config) (links : List Memory) (workers : ℕ) (old new : SinkState) (why : PrintFault) (history : Option (Vec (Step Global) Global))
-    → AppendsLegalPart Global s history old.written new.written → IsPrintFault why old new → IsJournalledLoad s links workers old new (Err (of_print why))
-unwritten_load s links workers old new print.Write history part cause = record { written = tt; unfailed = tt; stopped = (history, part); fault = cause }
-unwritten_load s links workers old new print.NoMemory history part cause = record { written = tt; unfailed = tt; stopped = (history, part); fault = tt }
+unwritten_load : (batch : ℕ) (s : Config) (links : List Memory) (workers : ℕ) (old new : SinkState) (why : PrintFault) (history : Option (Vec (Step Global) Global))
+    → AppendsLegalPart Global s history old.written new.written → IsPrintFault why old new → IsJournalledLoad batch s links workers old new (Err (of_print why))
+unwritten_load batch s links workers old new print.Write history part cause = record { written = tt; unfailed = tt; stopped = (history, part); fault = cause }
+unwritten_load batch s links workers old new print.NoMemory history part cause = record { written = tt; unfailed = tt; stopped = (history, part); fault = tt }
 
-module _ (s : Config) (links : List Memory) (workers : ℕ) (steps : List (Step Global)) (old mid new : SinkState) (waiting : Result (Waiting Global) PrintFault)
+module _ (batch : ℕ) (s : Config) (links : List Memory) (workers : ℕ) (steps : List (Step Global)) (old mid new : SinkState) (waiting : Result (Waiting Global) PrintFault)
     (has : HasJournalled (header_text History s) steps old mid waiting) where
   -- what is answered of a run with a report whose text was written
-  pub all_loaded : (report : Report MemoryReading MemoryWriting Global) (done : ⊤) → Holds half_read half_written s (map (λ link. link.role) links) workers report
+  pub all_loaded : (report : Report MemoryReading MemoryWriting Global) (done : ⊤) → Holds batch half_read half_written s (map (λ link. link.role) links) workers report
       → LinksReadOwn half_read (map source_of links) report
       → AreMadeOf (λ (half : MemoryReading). half.link) (λ (half : MemoryWriting). half.link) links report → IsCrew workers
-      → IsBegunBy steps report.history.items → HasFinished report.history.items mid new waiting (Ok done) → IsJournalledLoad s links workers old new (Ok tt)
+      → IsBegunBy steps report.history.items → HasFinished report.history.items mid new waiting (Ok done) → IsJournalledLoad batch s links workers old new (Ok tt)
   all_loaded report done holds bytes halves within begun finished =
       let whole = all_finished s steps report.history.items old mid new waiting done begun has finished in
       record {
-        written = λ input read. (history_text s report.history.items, history_printed Global input s links read workers report holds bytes halves within, whole.0);
+        written = λ input read. (history_text s report.history.items, history_printed Global input s links read workers batch report holds bytes halves within, whole.0);
         unfailed = whole.1;
         stopped = tt;
         fault = tt;
@@ -98,10 +98,10 @@ module _ (s : Config) (links : List Memory) (workers : ℕ) (steps : List (Step 
 
   -- what is answered of one whose text wasn't
   pub cut_load : (report : Report MemoryReading MemoryWriting Global) (why : PrintFault) → IsLegal s (reverse report.history.items)
-      → IsBegunBy steps report.history.items → HasFinished report.history.items mid new waiting (Err why) → IsJournalledLoad s links workers old new (Err (of_print why))
+      → IsBegunBy steps report.history.items → HasFinished report.history.items mid new waiting (Err why) → IsJournalledLoad batch s links workers old new (Err (of_print why))
   cut_load report why legal begun finished =
       let cut = part_finished s steps report.history.items old mid new waiting why begun has finished in
-      unwritten_load s links workers old new why (Some report.history) (legal, cut.0) cut.1
+      unwritten_load batch s links workers old new why (Some report.history) (legal, cut.0) cut.1
 
 -- what a run answered that stopped, as far as that is known
 pub record StoppedLoad (s : Config) (links workers : ℕ) (steps : List (Step Global)) (stopped : Stopped Global) : Type 0 where
@@ -126,11 +126,11 @@ stopped_part s NoMemory old new history not part full = (history, part, full)
 stopped_part s (Stage fault) old new history not part full = (history, part, full)
 stopped_part s (Audit a) old new history not part full = (history, part, full)
 
-module _ (s : Config) (links : List Memory) (workers : ℕ) (steps : List (Step Global)) (old mid new : SinkState) (stopped : Stopped Global)
+module _ (batch : ℕ) (s : Config) (links : List Memory) (workers : ℕ) (steps : List (Step Global)) (old mid new : SinkState) (stopped : Stopped Global)
     (run : StoppedLoad s (length links) workers steps stopped) where
   -- its text could be written while it went on
   stopped_whole : (waiting : Waiting Global) → HasJournalled (header_text History s) steps old mid (Ok waiting) → HasStoppedWriting stopped.history mid new (Ok waiting)
-      → IsJournalledLoad s links workers old new (Err (Run stopped.fault))
+      → IsJournalledLoad batch s links workers old new (Err (Run stopped.fault))
   stopped_whole waiting has either =
       let part : AppendsLegalPart Global s stopped.history old.written new.written = elim either [
         | inl still ↦ subst (λ (k : SinkState). AppendsLegalPart Global s stopped.history old.written k.written) (sym still) (left_part s steps old mid mid (Ok waiting) run.legal has stopped.history run.kept run.begun)
@@ -144,20 +144,20 @@ module _ (s : Config) (links : List Memory) (workers : ℕ) (steps : List (Step 
       }
 
   -- or it couldn't
-  stopped_cut : (why : PrintFault) → HasJournalled (header_text History s) steps old mid (Err why) → new ≡ mid → IsJournalledLoad s links workers old new (Err (of_print why))
+  stopped_cut : (why : PrintFault) → HasJournalled (header_text History s) steps old mid (Err why) → new ≡ mid → IsJournalledLoad batch s links workers old new (Err (of_print why))
   stopped_cut why has still =
-      unwritten_load s links workers old new why stopped.history
+      unwritten_load batch s links workers old new why stopped.history
       (subst (λ (k : SinkState). AppendsLegalPart Global s stopped.history old.written k.written) (sym still) (left_part s steps old mid mid (Err why) run.legal has stopped.history run.kept run.begun))
       (subst (λ (k : SinkState). IsPrintFault why old k) (sym still) has.1)
 
   -- by what waited
   pub stopped_as : (waiting : Result (Waiting Global) PrintFault) (fault : LoadFault) → HasJournalled (header_text History s) steps old mid waiting
       → MatchResult waiting (λ _. fault ≡ Run stopped.fault) (λ why. fault ≡ of_print why) → HasStoppedWriting stopped.history mid new waiting
-      → IsJournalledLoad s links workers old new (Err fault)
+      → IsJournalledLoad batch s links workers old new (Err fault)
   stopped_as (Ok waiting) fault has is wrote =
-      subst (λ (f : LoadFault). IsJournalledLoad s links workers old new (Err f)) (sym is) (stopped_whole waiting has wrote)
+      subst (λ (f : LoadFault). IsJournalledLoad batch s links workers old new (Err f)) (sym is) (stopped_whole waiting has wrote)
   stopped_as (Err why) fault has is wrote =
-      subst (λ (f : LoadFault). IsJournalledLoad s links workers old new (Err f)) (sym is) (stopped_cut why has wrote)
+      subst (λ (f : LoadFault). IsJournalledLoad batch s links workers old new (Err f)) (sym is) (stopped_cut why has wrote)
 
 -- what follows of an answer
 at_ok : {P Q : Type 0} (r : Result ⊤ LoadFault) → (P → Q) → OnOk r P → OnOk r Q
@@ -169,7 +169,7 @@ at_err (Ok x) more h k = tt
 at_err (Err e) more h k = more e h k
 
 -- an answer to an input that is read so
-module _ (s : Config) (links : List Memory) (workers : ℕ) (k : Streams) (text : List ℕ) (read : load_of Global text ≡ Ok (settings_of s, links))
+module _ (batch : ℕ) (s : Config) (links : List Memory) (workers : ℕ) (k : Streams) (text : List ℕ) (read : load_of Global text ≡ Ok (settings_of s, links))
     (whole : IfSome (text_of k) (λ bytes. text ≡ bytes)) (short : length text ≤ input_limit) where
   -- what of its text was written
   stopped_in : (fault : LoadFault) → HasStoppedOf fault s k.sink.written k.sink_new.written → HasStoppedIn fault (text_of k) k.sink.written k.sink_new.written
@@ -198,24 +198,24 @@ module _ (s : Config) (links : List Memory) (workers : ℕ) (k : Streams) (text 
       of_known (text_of k) text (λ input. (length input ≤ input_limit) × IsOkAnd (load_of Global input) (λ loaded. IsRunFault (length loaded.1) workers fault)) whole
       (short, subst (λ (r : Result ((Numbers × Own) × List Memory) CaptureFault). IsOkAnd r (λ loaded. IsRunFault (length loaded.1) workers fault)) (sym read) is)
 
-  pub known_written : (answer : Result ⊤ LoadFault) (is : IsJournalledLoad s links workers k.sink k.sink_new answer) → OnOk answer (IfSome (text_of k) (λ input. AppendsLoad Global workers input k.sink.written k.sink_new.written))
+  pub known_written : (answer : Result ⊤ LoadFault) (is : IsJournalledLoad batch s links workers k.sink k.sink_new answer) → OnOk answer (IfSome (text_of k) (λ input. AppendsLoad Global batch workers input k.sink.written k.sink_new.written))
   known_written answer is =
-      at_ok answer (λ h. of_known (text_of k) text (λ input. AppendsLoad Global workers input k.sink.written k.sink_new.written) whole (h text read)) is.written
+      at_ok answer (λ h. of_known (text_of k) text (λ input. AppendsLoad Global batch workers input k.sink.written k.sink_new.written) whole (h text read)) is.written
 
-  pub known_stopped : (answer : Result ⊤ LoadFault) (is : IsJournalledLoad s links workers k.sink k.sink_new answer) → IfErr answer (λ fault. HasStoppedAt fault (text_of k) k.sink.written k.sink_new.written)
+  pub known_stopped : (answer : Result ⊤ LoadFault) (is : IsJournalledLoad batch s links workers k.sink k.sink_new answer) → IfErr answer (λ fault. HasStoppedAt fault (text_of k) k.sink.written k.sink_new.written)
   known_stopped answer is = at_err answer (λ fault stop may. stopped_at fault stop may) is.stopped is.fault
 
-  pub known_fault : (answer : Result ⊤ LoadFault) (is : IsJournalledLoad s links workers k.sink k.sink_new answer) → IfErr answer (λ fault. IsLoadFault workers fault (load_of Global) k)
+  pub known_fault : (answer : Result ⊤ LoadFault) (is : IsJournalledLoad batch s links workers k.sink k.sink_new answer) → IfErr answer (λ fault. IsLoadFault workers fault (load_of Global) k)
   known_fault answer is = at_err answer (λ fault may same. fault_at fault may) is.fault is.fault
 
   -- the input is short and can be read, and no read failed
-  pub known_short : (answer : Result ⊤ LoadFault) (is : IsJournalledLoad s links workers k.sink k.sink_new answer) → OnOk answer (IfSome (text_of k) (λ input. length input ≤ input_limit))
+  pub known_short : (answer : Result ⊤ LoadFault) (is : IsJournalledLoad batch s links workers k.sink k.sink_new answer) → OnOk answer (IfSome (text_of k) (λ input. length input ≤ input_limit))
   known_short answer is = at_ok answer (λ h. of_known (text_of k) text (λ input. length input ≤ input_limit) whole short) is.unfailed
 
-  pub known_valid : (answer : Result ⊤ LoadFault) (is : IsJournalledLoad s links workers k.sink k.sink_new answer) → OnOk answer (IfSome (text_of k) (λ input. IsOk (load_of Global input)))
+  pub known_valid : (answer : Result ⊤ LoadFault) (is : IsJournalledLoad batch s links workers k.sink k.sink_new answer) → OnOk answer (IfSome (text_of k) (λ input. IsOk (load_of Global input)))
   known_valid answer is = at_ok answer (λ h. of_known (text_of k) text (λ input. IsOk (load_of Global input)) whole (is_read _ _ read)) is.unfailed
 
-  pub known_unfailed : (answer : Result ⊤ LoadFault) (is : IsJournalledLoad s links workers k.sink k.sink_new answer) → k.source_new.failures ≡ k.source.failures → OnOk answer (NoneFailed k)
+  pub known_unfailed : (answer : Result ⊤ LoadFault) (is : IsJournalledLoad batch s links workers k.sink k.sink_new answer) → k.source_new.failures ≡ k.source.failures → OnOk answer (NoneFailed k)
   known_unfailed answer is none = at_ok answer (λ h. (none, h)) is.unfailed
 
 -- what was written where the input wasn't read

@@ -57,10 +57,10 @@ unread workers input_fault.TooLarge read s is = is
 unread workers input_fault.NoMemory read s is = tt
 
 -- and nothing was written
-pub stopped_unread : (A : Type 0) (workers : ℕ) (fault : InputFault) (rest old : Option (List ℕ)) → HasStopped A workers (Text (of_input fault)) rest old old
-stopped_unread A workers input_fault.Read rest old = kept old
-stopped_unread A workers input_fault.TooLarge rest old = kept old
-stopped_unread A workers input_fault.NoMemory rest old = inl (kept old)
+pub stopped_unread : (A : Type 0) (batch workers : ℕ) (fault : InputFault) (rest old : Option (List ℕ)) → HasStopped A batch workers (Text (of_input fault)) rest old old
+stopped_unread A batch workers input_fault.Read rest old = kept old
+stopped_unread A batch workers input_fault.TooLarge rest old = kept old
+stopped_unread A batch workers input_fault.NoMemory rest old = inl (kept old)
 
 -- the fault of an input that was read and has no history is one of its load
 pub unloaded : {X L : Type 0} (workers : ℕ) (fault : LoadFault) (text : List ℕ) (read : List ℕ → Result (X × List L) CaptureFault) (s : Streams)
@@ -75,14 +75,14 @@ unloaded workers (Run fault) text read s whole short is =
     of_known (text_of s) text (λ bytes. (length bytes ≤ input_limit) × IsOkAnd (read bytes) (λ loaded. IsRunFault (length loaded.1) workers fault)) whole (short, is)
 
 -- and nothing was written
-pub stopped_unloaded : {X L : Type 0} (A : Type 0) (workers : ℕ) (fault : LoadFault) (read : Result (X × List L) CaptureFault) (rest old : Option (List ℕ))
-    → IsRunLoadFault workers fault read → HasStopped A workers fault rest old old
-stopped_unloaded A workers (Text replay.Read) read rest old is = absurd is
-stopped_unloaded A workers (Text replay.TooLarge) read rest old is = absurd is
-stopped_unloaded A workers (Text (replay.Capture fault)) read rest old is = kept old
-stopped_unloaded A workers (Text replay.Write) read rest old is = absurd is
-stopped_unloaded A workers (Text replay.NoMemory) read rest old is = inl (kept old)
-stopped_unloaded A workers (Run fault) read rest old is = kept old
+pub stopped_unloaded : {X L : Type 0} (A : Type 0) (batch workers : ℕ) (fault : LoadFault) (read : Result (X × List L) CaptureFault) (rest old : Option (List ℕ))
+    → IsRunLoadFault workers fault read → HasStopped A batch workers fault rest old old
+stopped_unloaded A batch workers (Text replay.Read) read rest old is = absurd is
+stopped_unloaded A batch workers (Text replay.TooLarge) read rest old is = absurd is
+stopped_unloaded A batch workers (Text (replay.Capture fault)) read rest old is = kept old
+stopped_unloaded A batch workers (Text replay.Write) read rest old is = absurd is
+stopped_unloaded A batch workers (Text replay.NoMemory) read rest old is = inl (kept old)
+stopped_unloaded A batch workers (Run fault) read rest old is = kept old
 
 -- the fault of a text that a load can't read
 pub refused_text : {X L : Type 0} (workers : ℕ) (why : CaptureRefusal) (read : Result (X × List L) CaptureFault) → IsRefused why read
@@ -167,11 +167,11 @@ module _ (A : Type 0) (text : List ℕ) (s : Config) (links : List Memory) (read
       subst P (sym read) (record { bad = bad; other = other })
 
   -- the history of a run that has one
-  pub history_printed : (report : Report MemoryReading MemoryWriting A) → Holds half_read half_written s (map (λ link. link.role) links) workers report
+  pub history_printed : (batch : ℕ) (report : Report MemoryReading MemoryWriting A) → Holds batch half_read half_written s (map (λ link. link.role) links) workers report
       → LinksReadOwn half_read (map source_of links) report
       → AreMadeOf (λ (half : MemoryReading). half.link) (λ (half : MemoryWriting). half.link) links report → IsCrew workers
-      → IsLoadText A workers text (history_text s report.history.items)
-  history_printed report holds bytes halves within =
+      → IsLoadText A batch workers text (history_text s report.history.items)
+  history_printed batch report holds bytes halves within =
       let of_lines = of_parsed (capture_of {A = A} text) (settings_of s) links read in
       record {
         settings = s;

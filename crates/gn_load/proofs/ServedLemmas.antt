@@ -25,24 +25,24 @@ pub kept : (old : Option (List ℕ)) → Keeps old old
 kept None = _
 kept (Some xs) = refl
 
-module _ {A : Type 0} (s : Config) (peers : List SocketAddr) (accept workers : ℕ) (report : Report TcpReading TcpWriting A) (ran : Remembered A)
+module _ {A : Type 0} (batch : ℕ) (s : Config) (peers : List SocketAddr) (accept workers : ℕ) (report : Report TcpReading TcpWriting A) (ran : Remembered A)
     (remembered : ran ≡ ran_of report)
-    (holds : Holds half_read half_written s (roles_of (length peers) (length peers + accept)) workers report)
+    (holds : Holds batch half_read half_written s (roles_of (length peers) (length peers + accept)) workers report)
     (made : AreMadeOf (λ half. half.origin) (λ half. half.origin) (origins_of peers (length peers + accept)) report)
     (one_socket : AreOfOne (λ half. half.socket) (λ half. half.socket) report) where
   -- the text of its history
-  served : IsServedText A s peers accept workers ran (history_text s ran.steps)
+  served : IsServedText A batch s peers accept workers ran (history_text s ran.steps)
   served = record { report = report; remembered = remembered; holds = holds; made = made; one_socket = one_socket; printed = refl }
 
   -- it was written
   pub written : (steps : List (Step A)) (old new : Option (List ℕ)) → steps ≡ report.history.items → Appends old new (history_text s steps)
-      → AppendsServed A s peers accept workers ran old new
+      → AppendsServed A batch s peers accept workers ran old new
   written steps old new same whole =
       (history_text s ran.steps, served, subst (λ (xs : List (Step A)). Appends old new (history_text s xs)) (same ∙ sym (ap (λ (r : Remembered A). r.steps) remembered)) whole)
 
   -- a prefix of it was
   pub written_part : (steps : List (Step A)) (old new : Option (List ℕ)) → steps ≡ report.history.items → AppendsPart old new (history_text s steps)
-      → AppendsServedPart A s peers accept workers (Some ran) old new
+      → AppendsServedPart A batch s peers accept workers (Some ran) old new
   written_part steps old new same part =
       (ran, refl, history_text s ran.steps, served, subst (λ (xs : List (Step A)). AppendsPart old new (history_text s xs)) (same ∙ sym (ap (λ (r : Remembered A). r.steps) remembered)) part)
 

@@ -50,19 +50,19 @@ abbrev pub of_print : PrintFault → ServeFault
 of_print print.Write = Write
 of_print print.NoMemory = Run NoMemory
 
--- what such a run answers, and what was written by then
-pub record IsJournalled {A : Type 0} (s : Config) (peers : List SocketAddr) (accept workers : ℕ) (old new : SinkState)
+-- what such a run answers, whose writers write at most so many packets at once, and what was written by then
+pub record IsJournalled {A : Type 0} (batch : ℕ) (s : Config) (peers : List SocketAddr) (accept workers : ℕ) (old new : SinkState)
     (answer : Result (Report TcpReading TcpWriting A × Remembered A) (ServeStopped A)) : Type 0 where
   pub crew : OnOk answer (IsCrew workers)
   pub bad_workers : IfErr answer (λ stopped. (stopped.fault ≡ Run BadWorkers) ↔ (¬ IsCrew workers))
   pub fault : IfErr answer (λ stopped. IsCrew workers → IsServeFault (length peers + accept) workers stopped.fault old new)
   -- it is remembered, and the text of its history was written, whole; no write failed
   pub ran : IfOk answer (λ done. done.1 ≡ ran_of done.0)
-  pub written : IfOk answer (λ done. AppendsServed A s peers accept workers done.1 old.written new.written)
+  pub written : IfOk answer (λ done. AppendsServed A batch s peers accept workers done.1 old.written new.written)
   pub report : IfOk answer (λ done. Appends old.written new.written (history_text s done.0.history.items))
   pub unfailed : OnOk answer (NoWriteFailed old new)
   -- all of the headline holds of its report, its links were met as the peers say, and the halves of each are over one socket
-  pub holds : IfOk answer (λ done. Holds half_read half_written s (roles_of (length peers) (length peers + accept)) workers done.0)
+  pub holds : IfOk answer (λ done. Holds batch half_read half_written s (roles_of (length peers) (length peers + accept)) workers done.0)
   pub made : IfOk answer (λ done. AreMadeOf (λ half. half.origin) (λ half. half.origin) (origins_of peers (length peers + accept)) done.0)
   pub one_socket : IfOk answer (λ done. AreOfOne (λ half. half.socket) (λ half. half.socket) done.0)
   -- at a fault a prefix of the text of a history was written, which is legal whatever the fault
@@ -71,4 +71,4 @@ pub record IsJournalled {A : Type 0} (s : Config) (peers : List SocketAddr) (acc
       → IfSome stopped.history (λ history. length history.items ≡ s.numbers.steps))
   -- where the run itself has a report, that history is its
   pub remembered : IfErr answer (λ stopped. IfSome stopped.ran (λ _.
-      AppendsServedPart A s peers accept workers stopped.ran old.written new.written))
+      AppendsServedPart A batch s peers accept workers stopped.ran old.written new.written))

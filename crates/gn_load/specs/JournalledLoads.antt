@@ -60,10 +60,11 @@ IsFaultAfter links workers (Text replay.NoMemory) old new = ⊤
 IsFaultAfter links workers (Text fault) old new = ⊥
 IsFaultAfter links workers (Run fault) old new = IsRunFault links workers fault
 
--- what a load answers whose input was read as this configuration and these links, and what was written by then
-pub record IsJournalledLoad (s : Config) (links : List Memory) (workers : ℕ) (old new : SinkState) (answer : Result ⊤ LoadFault) : Type 0 where
+-- what a load answers whose input was read as this configuration and these links, and whose writers write at most so many packets at
+-- once, and what was written by then
+pub record IsJournalledLoad (batch : ℕ) (s : Config) (links : List Memory) (workers : ℕ) (old new : SinkState) (answer : Result ⊤ LoadFault) : Type 0 where
   pub written : OnOk answer ((input : List ℕ) → load_of Global input ≡ Ok (settings_of s, links)
-      → AppendsLoad Global workers input old.written new.written)
+      → AppendsLoad Global batch workers input old.written new.written)
   pub unfailed : OnOk answer (NoWriteFailed old new)
   pub stopped : IfErr answer (λ fault. HasStoppedOf fault s old.written new.written)
   pub fault : IfErr answer (λ fault. IsFaultAfter (length links) workers fault old new)

@@ -34,14 +34,14 @@ NoReadFailed {Rd} {W} {A} report =
     (k : ℕ) (link : LinkReport Rd W A) → k < length report.links.items
     → ¬ ((slice_index_or report.links.items k link).reader_end ≡ ReadFailed)
 
--- a text is the history of a run with so many workers, 1 to 64, over the links of the input: there is a report of such a run, of
--- which all of the headline holds, and the text is that of its history
-pub record IsLoadText (A : Type 0) (workers : ℕ) (input text : List ℕ) : Type 0 where
+-- a text is the history of a run with so many workers, 1 to 64, over the links of the input, whose writers write at most so many
+-- packets at once: there is a report of such a run, of which all of the headline holds, and the text is that of its history
+pub record IsLoadText (A : Type 0) (batch workers : ℕ) (input text : List ℕ) : Type 0 where
   pub settings : Config
   pub links : List Memory
   pub report : Report MemoryReading MemoryWriting A
   pub read : load_of A input ≡ Ok (settings_of settings, links)
-  pub holds : Holds half_read half_written settings (map (λ link. link.role) links) workers report
+  pub holds : Holds batch half_read half_written settings (map (λ link. link.role) links) workers report
   pub bytes : LinksReadOwn half_read (map source_of links) report
   -- both halves of each link were split from that very link of the input
   pub made : AreMadeOf (λ (half : MemoryReading). half.link) (λ (half : MemoryWriting). half.link) links report
@@ -50,17 +50,17 @@ pub record IsLoadText (A : Type 0) (workers : ℕ) (input text : List ℕ) : Typ
   pub printed : text ≡ history_text settings report.history.items
 
 -- known bytes grew by the text of such a history
-abbrev pub AppendsLoad : (A : Type 0) → ℕ → List ℕ → Option (List ℕ) → Option (List ℕ) → Type 0
-AppendsLoad A workers input old new = (text : List ℕ) × IsLoadText A workers input text × Appends old new text
+abbrev pub AppendsLoad : (A : Type 0) → ℕ → ℕ → List ℕ → Option (List ℕ) → Option (List ℕ) → Type 0
+AppendsLoad A batch workers input old new = (text : List ℕ) × IsLoadText A batch workers input text × Appends old new text
 
 -- known bytes grew by a prefix of the text of such a history
-abbrev pub AppendsLoadPart : (A : Type 0) → ℕ → List ℕ → Option (List ℕ) → Option (List ℕ) → Type 0
-AppendsLoadPart A workers input old new = (text : List ℕ) × IsLoadText A workers input text × AppendsPart old new text
+abbrev pub AppendsLoadPart : (A : Type 0) → ℕ → ℕ → List ℕ → Option (List ℕ) → Option (List ℕ) → Type 0
+AppendsLoadPart A batch workers input old new = (text : List ℕ) × IsLoadText A batch workers input text × AppendsPart old new text
 
 -- what was written where a load stopped: a prefix of such a text at Write, where a write failed or took nothing; where memory
 -- ran out, nothing or such a prefix; at any other fault nothing
-abbrev pub HasStopped : (A : Type 0) → ℕ → LoadFault → Option (List ℕ) → Option (List ℕ) → Option (List ℕ) → Type 0
-HasStopped A workers (Text Write) rest old new = IfSome rest (λ input. AppendsLoadPart A workers input old new)
-HasStopped A workers (Text NoMemory) rest old new =
-    Keeps old new ⊎ IfSome rest (λ input. AppendsLoadPart A workers input old new)
-HasStopped A workers fault rest old new = Keeps old new
+abbrev pub HasStopped : (A : Type 0) → ℕ → ℕ → LoadFault → Option (List ℕ) → Option (List ℕ) → Option (List ℕ) → Type 0
+HasStopped A batch workers (Text Write) rest old new = IfSome rest (λ input. AppendsLoadPart A batch workers input old new)
+HasStopped A batch workers (Text NoMemory) rest old new =
+    Keeps old new ⊎ IfSome rest (λ input. AppendsLoadPart A batch workers input old new)
+HasStopped A batch workers fault rest old new = Keeps old new

@@ -20,13 +20,13 @@ use Rattle.gn_load.specs.declared.serve_fault.ServeFault.{ServeFault}
 use Rattle.gn_load.specs.declared.serve_fault.ServeFault.TheVariants.{Run, Write}
 
 -- a text is the history of the run that is remembered, one of this configuration with so many workers, over links to these peers
--- and to so many that call: all of the headline holds of its report, its links were met as those peers say, the halves of each over
--- one socket, and the text is that of its history
-pub record IsServedText (A : Type 0) (s : Config) (peers : List SocketAddr) (accept workers : ℕ) (ran : Remembered A)
+-- and to so many that call, whose writers write at most so many packets at once: all of the headline holds of its report, its links
+-- were met as those peers say, the halves of each over one socket, and the text is that of its history
+pub record IsServedText (A : Type 0) (batch : ℕ) (s : Config) (peers : List SocketAddr) (accept workers : ℕ) (ran : Remembered A)
     (text : List ℕ) : Type 0 where
   pub report : Report TcpReading TcpWriting A
   pub remembered : ran ≡ ran_of report
-  pub holds : Holds half_read half_written s (roles_of (length peers) (length peers + accept)) workers report
+  pub holds : Holds batch half_read half_written s (roles_of (length peers) (length peers + accept)) workers report
   pub made :
       AreMadeOf (λ half. half.origin) (λ half. half.origin) (origins_of peers (length peers + accept)) report
   pub one_socket : AreOfOne (λ half. half.socket) (λ half. half.socket) report
@@ -34,22 +34,22 @@ pub record IsServedText (A : Type 0) (s : Config) (peers : List SocketAddr) (acc
 
 -- known bytes grew by the text of such a history
 abbrev pub AppendsServed :
-    (A : Type 0) → Config → List SocketAddr → ℕ → ℕ → Remembered A → Option (List ℕ) → Option (List ℕ) → Type 0
-AppendsServed A s peers accept workers ran old new =
-    (text : List ℕ) × IsServedText A s peers accept workers ran text × Appends old new text
+    (A : Type 0) → ℕ → Config → List SocketAddr → ℕ → ℕ → Remembered A → Option (List ℕ) → Option (List ℕ) → Type 0
+AppendsServed A batch s peers accept workers ran old new =
+    (text : List ℕ) × IsServedText A batch s peers accept workers ran text × Appends old new text
 
 -- a run is remembered, and known bytes grew by a prefix of the text of its history
 abbrev pub AppendsServedPart :
-    (A : Type 0) → Config → List SocketAddr → ℕ → ℕ → Option (Remembered A) → Option (List ℕ) → Option (List ℕ) → Type 0
-AppendsServedPart A s peers accept workers remembered old new =
+    (A : Type 0) → ℕ → Config → List SocketAddr → ℕ → ℕ → Option (Remembered A) → Option (List ℕ) → Option (List ℕ) → Type 0
+AppendsServedPart A batch s peers accept workers remembered old new =
     (ran : Remembered A) × (remembered ≡ Some ran)
-    × (text : List ℕ) × IsServedText A s peers accept workers ran text × AppendsPart old new text
+    × (text : List ℕ) × IsServedText A batch s peers accept workers ran text × AppendsPart old new text
 
 -- known bytes grew by a prefix of the text of the history of such a run, which isn't remembered any more
 abbrev pub AppendsSomePart :
-    (A : Type 0) → Config → List SocketAddr → ℕ → ℕ → Option (List ℕ) → Option (List ℕ) → Type 0
-AppendsSomePart A s peers accept workers old new =
-    (remembered : Option (Remembered A)) × AppendsServedPart A s peers accept workers remembered old new
+    (A : Type 0) → ℕ → Config → List SocketAddr → ℕ → ℕ → Option (List ℕ) → Option (List ℕ) → Type 0
+AppendsSomePart A batch s peers accept workers old new =
+    (remembered : Option (Remembered A)) × AppendsServedPart A batch s peers accept workers remembered old new
 
 -- a text is the history of a run of this configuration that stopped at this fault: each of its answers is the one that the rules
 -- give, and where the history is full it has as many steps as it may have

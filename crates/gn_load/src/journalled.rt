@@ -17,7 +17,9 @@ use gn_journal::{Journal, JournalRouter, Naming};
 use gn_replay::history_heading;
 use gn_rules::{Config, MOST_WORKERS, Step};
 use gn_scribe::{PrintFault, Scribe, Waiting, finish_history};
-use gn_service::{Ran, Report, RunFault, Serving, Stopped, TcpReader, TcpWriter, Watch, serve_by};
+use gn_service::{
+    Batch, Ran, Report, RunFault, Serving, Stopped, TcpReader, TcpWriter, Watch, serve_by,
+};
 use gn_table_router::TableRouter;
 use rtrb::{Consumer, Producer, RingBuffer};
 use std::alloc::{Allocator, Global};
@@ -82,8 +84,9 @@ fn finish_stopped<A: Allocator + Copy, W: Sink>(
 }
 
 /// Runs a router as `serve_on` does, and writes its history, which `audit` reads, while the run goes on: a step that was made is written
-/// once nobody makes another, or a block is full. The report comes back with what is remembered of the run, and a fault with what stands
-/// of the history. At a fault what was written is a prefix of the history; all of it, where that stands, unless a write failed.
+/// once nobody makes another, or a block is full. Up to `batch` packets are written to a neighbour at once. The report comes back with
+/// what is remembered of the run, and a fault with what stands of the history. At a fault what was written is a prefix of the history; all
+/// of it, where that stands, unless a write failed.
 pub fn serve_journalled<
     's,
     R: Threads
@@ -104,10 +107,11 @@ pub fn serve_journalled<
     serving: &Serving<'s>,
     workers: u32,
     watch: &G,
+    batch: Batch,
     sink: &mut W,
 ) -> Result<(Report<TcpReader<'s>, TcpWriter>, Ran), ServeStopped>
     requires few { accept + length peers.now ≤ most_links }
-    ensures { IsJournalled config.now peers.now accept workers (W.state sink.old) (W.state sink.new) result }
+    ensures { IsJournalled batch config.now peers.now accept workers (W.state sink.old) (W.state sink.new) result }
 {
     if workers == 0 || workers > MOST_WORKERS {
         return Err(unbegun(RunFault::BadWorkers));
@@ -119,8 +123,8 @@ pub fn serve_journalled<
         return Err(unbegun(RunFault::NoMemory));
     };
     serve_named::<Brand, R, G, W>(
-        rt, alloc, listener, config, accept, peers, serving, workers, watch, heading, producer,
-        consumer, sink,
+        rt, alloc, listener, config, accept, peers, serving, workers, watch, batch, heading,
+        producer, consumer, sink,
     )
 }
 
@@ -146,6 +150,7 @@ fn serve_named<
     serving: &Serving<'s>,
     workers: u32,
     watch: &G,
+    batch: Batch,
     heading: Block,
     producer: Producer<Step>,
     consumer: Consumer<Step>,
@@ -155,7 +160,7 @@ fn serve_named<
     requires ring { IsPair producer consumer × (sent producer ≡ []) × (received consumer ≡ []) }
     requires heading { heading ≡ header_text History config.now }
     requires few { (accept + length peers.now ≤ most_links) × IsCrew workers }
-    ensures { IsJournalled config.now peers.now accept workers (W.state sink.old) (W.state sink.new) result }
+    ensures { IsJournalled batch config.now peers.now accept workers (W.state sink.old) (W.state sink.new) result }
 {
     let journal = Journal::<N>::new(producer);
     let Ok(router) = TableRouter::over(alloc, config, journal) else {
@@ -168,7 +173,7 @@ fn serve_named<
         of: PhantomData,
     };
     let (answer, begun) = serve_by::<JournalRouter<N>, Writing<W, N>, G, Global, R>(
-        rt, alloc, listener, config, accept, peers, serving, workers, watch, core, writing,
+        rt, alloc, listener, config, accept, peers, serving, workers, watch, batch, core, writing,
     );
     watch.end();
     let Begun { sink, waiting } = begun;

@@ -22,7 +22,7 @@ use gn_journal::{Journal, JournalRouter, Naming};
 use gn_replay::history_heading;
 use gn_rules::{Config, MOST_WORKERS, Step};
 use gn_scribe::{PrintFault, Scribe, Waiting, finish_history};
-use gn_service::{MemoryLink, RunFault, Watch, run_by};
+use gn_service::{Batch, MemoryLink, RunFault, Watch, run_by};
 use gn_table_router::TableRouter;
 use rtrb::{Consumer, Producer, RingBuffer};
 use std::alloc::Global;
@@ -41,13 +41,14 @@ fn fault_of(fault: RunFault, waiting: &Result<Waiting, PrintFault>) -> LoadFault
 }
 
 /// Does what `load_watched` does, and writes the history while the run goes on: a step that was made is written once nobody makes
-/// another, or a block is full. At a fault of the run what stands of the history is written to its end, unless a write fails or memory
-/// is wanting.
+/// another, or a block is full. Up to `batch` packets are written to a link at once. At a fault of the run what stands of the history is
+/// written to its end, unless a write fails or memory is wanting.
 pub fn load_journalled<R: Threads + Wait + Sync, G: Watch + Sync, S: Source, W: Sink + Send>(
     rt: &R,
     alloc: Global,
     workers: u32,
     watch: &G,
+    batch: Batch,
     source: &mut S,
     sink: &mut W,
 ) -> Result<(), LoadFault>
@@ -56,7 +57,7 @@ pub fn load_journalled<R: Threads + Wait + Sync, G: Watch + Sync, S: Source, W: 
     ensures valid { OnOk result (
         IfSome (text_between (S.state source.old) (S.state source.new)) (λ text. IsOk (load_of Heap text))) }
     ensures written { OnOk result (IfSome (text_between (S.state source.old) (S.state source.new)) (λ text.
-        AppendsLoad Heap workers text (W.state sink.old).written (W.state sink.new).written)) }
+        AppendsLoad Heap batch workers text (W.state sink.old).written (W.state sink.new).written)) }
     ensures unfailed { OnOk result (NoneFailed
         (streams (S.state source.old) (S.state source.new) (W.state sink.old) (W.state sink.new))) }
     ensures stopped { IfErr result (λ fault.
@@ -67,7 +68,7 @@ pub fn load_journalled<R: Threads + Wait + Sync, G: Watch + Sync, S: Source, W: 
 {
     let text = read_input(alloc, source)?;
     let (config, links) = read_load(alloc, text)?;
-    write_load(rt, alloc, workers, watch, &config, links, sink)
+    write_load(rt, alloc, workers, watch, batch, &config, links, sink)
 }
 
 /// Runs these links, and writes the history.
@@ -76,12 +77,13 @@ fn write_load<R: Threads + Wait + Sync, G: Watch + Sync, W: Sink + Send>(
     alloc: Global,
     workers: u32,
     watch: &G,
+    batch: Batch,
     config: &Config,
     links: Vec<MemoryLink>,
     sink: &mut W,
 ) -> Result<(), LoadFault>
     requires few { length links.items ≤ most_links }
-    ensures { IsJournalledLoad config.now links.items workers (W.state sink.old) (W.state sink.new) result }
+    ensures { IsJournalledLoad batch config.now links.items workers (W.state sink.old) (W.state sink.new) result }
 {
     if workers == 0 || workers > MOST_WORKERS {
         return Err(LoadFault::Run(RunFault::BadWorkers));
@@ -89,7 +91,7 @@ fn write_load<R: Threads + Wait + Sync, G: Watch + Sync, W: Sink + Send>(
     let heading = history_heading(alloc, config)?;
     let (producer, consumer) = RingBuffer::new(alloc, PLACES)?;
     load_named::<Brand, R, G, W>(
-        rt, alloc, workers, watch, config, links, heading, producer, consumer, sink,
+        rt, alloc, workers, watch, batch, config, links, heading, producer, consumer, sink,
     )
 }
 
@@ -99,6 +101,7 @@ fn load_named<N: Naming<Global> + Send, R: Threads + Wait + Sync, G: Watch + Syn
     alloc: Global,
     workers: u32,
     watch: &G,
+    batch: Batch,
     config: &Config,
     links: Vec<MemoryLink>,
     heading: Block,
@@ -110,7 +113,7 @@ fn load_named<N: Naming<Global> + Send, R: Threads + Wait + Sync, G: Watch + Syn
     requires ring { IsPair producer consumer × (sent producer ≡ []) × (received consumer ≡ []) }
     requires heading { heading ≡ header_text History config.now }
     requires few { (length links.items ≤ most_links) × IsCrew workers }
-    ensures { IsJournalledLoad config.now links.items workers (W.state sink.old) (W.state sink.new) result }
+    ensures { IsJournalledLoad batch config.now links.items workers (W.state sink.old) (W.state sink.new) result }
 {
     let journal = Journal::<N>::new(producer);
     let router = TableRouter::over(alloc, config, journal)?;
@@ -122,7 +125,7 @@ fn load_named<N: Naming<Global> + Send, R: Threads + Wait + Sync, G: Watch + Syn
     };
     watch.begin(links.len());
     let (answer, begun) = run_by::<JournalRouter<N>, Writing<W, N>, _, _, Global, R>(
-        rt, alloc, config, links, workers, watch, core, writing,
+        rt, alloc, config, links, workers, watch, batch, core, writing,
     );
     watch.end();
     let Begun { sink, waiting } = begun;

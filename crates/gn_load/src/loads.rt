@@ -55,7 +55,7 @@ fn run_links<
     watch: &G,
     text: Vec<u8, A>,
 ) -> Result<(Config, Report<MemoryReader<A>, MemoryWriter<A>, A>), LoadFault>
-    ensures history { IfOk result (λ ran. IsLoadText A workers text.items (history_text ran.0 ran.1.history.items)) }
+    ensures history { IfOk result (λ ran. IsLoadText A 1 workers text.items (history_text ran.0 ran.1.history.items)) }
     ensures fault { IfErr result (λ fault. IsRunLoadFault workers fault (load_of A text.items)) }
 {
     let (config, links) = read_load(alloc, text)?;
@@ -82,11 +82,11 @@ pub fn load<
     ensures valid { OnOk result (
         IfSome (text_between (S.state source.old) (S.state source.new)) (λ text. IsOk (load_of A text))) }
     ensures written { OnOk result (IfSome (text_between (S.state source.old) (S.state source.new)) (λ text.
-        AppendsLoad A workers text (W.state sink.old).written (W.state sink.new).written)) }
+        AppendsLoad A 1 workers text (W.state sink.old).written (W.state sink.new).written)) }
     ensures unfailed { OnOk result (NoneFailed
         (streams (S.state source.old) (S.state source.new) (W.state sink.old) (W.state sink.new))) }
     ensures stopped { IfErr result (λ fault.
-        HasStopped A workers fault (text_between (S.state source.old) (S.state source.new))
+        HasStopped A 1 workers fault (text_between (S.state source.old) (S.state source.new))
         (W.state sink.old).written (W.state sink.new).written) }
     ensures fault { IfErr result (λ fault. IsLoadFault workers fault (load_of A)
         (streams (S.state source.old) (S.state source.new) (W.state sink.old) (W.state sink.new))) }
@@ -108,11 +108,11 @@ pub fn load_watched<
     ensures valid { OnOk result (
         IfSome (text_between (S.state source.old) (S.state source.new)) (λ text. IsOk (load_of A text))) }
     ensures written { OnOk result (IfSome (text_between (S.state source.old) (S.state source.new)) (λ text.
-        AppendsLoad A workers text (W.state sink.old).written (W.state sink.new).written)) }
+        AppendsLoad A 1 workers text (W.state sink.old).written (W.state sink.new).written)) }
     ensures unfailed { OnOk result (NoneFailed
         (streams (S.state source.old) (S.state source.new) (W.state sink.old) (W.state sink.new))) }
     ensures stopped { IfErr result (λ fault.
-        HasStopped A workers fault (text_between (S.state source.old) (S.state source.new))
+        HasStopped A 1 workers fault (text_between (S.state source.old) (S.state source.new))
         (W.state sink.old).written (W.state sink.new).written) }
     ensures fault { IfErr result (λ fault. IsLoadFault workers fault (load_of A)
         (streams (S.state source.old) (S.state source.new) (W.state sink.old) (W.state sink.new))) }

@@ -83,17 +83,17 @@ pub fn serve_history<
     ensures bad_workers { IfErr result (λ fault. (fault ≡ Run BadWorkers) ↔ (¬ IsCrew workers)) }
     ensures fault { IfErr result (λ fault. IsCrew workers → IsServeFault (length peers.now + accept) workers fault
         (W.state sink.old) (W.state sink.new)) }
-    ensures written { IfOk result (λ report. AppendsServed A config.now peers.now accept workers (ran_of report)
+    ensures written { IfOk result (λ report. AppendsServed A 1 config.now peers.now accept workers (ran_of report)
         (W.state sink.old).written (W.state sink.new).written) }
     ensures report { IfOk result (λ report. Appends (W.state sink.old).written (W.state sink.new).written
         (history_text config.now report.history.items)) }
     ensures unfailed { OnOk result (NoWriteFailed (W.state sink.old) (W.state sink.new)) }
-    ensures holds { IfOk result (λ report. Holds half_read half_written config.now
+    ensures holds { IfOk result (λ report. Holds 1 half_read half_written config.now
         (roles_of (length peers.now) (length peers.now + accept)) workers report) }
     ensures made { IfOk result (λ report. AreMadeOf (λ half. half.origin) (λ half. half.origin)
         (origins_of peers.now (length peers.now + accept)) report) }
     ensures one_socket { IfOk result (λ report. AreOfOne (λ half. half.socket) (λ half. half.socket) report) }
-    ensures stopped { IfErr result (λ fault. HasServeStopped A (AppendsSomePart A config.now peers.now accept workers)
+    ensures stopped { IfErr result (λ fault. HasServeStopped A (AppendsSomePart A 1 config.now peers.now accept workers)
         serving.now.is_kept config.now fault (W.state sink.old).written (W.state sink.new).written) }
 {
     match serve_history_kept::<C, A, R, G, W>(
@@ -136,18 +136,18 @@ pub fn serve_history_kept<
     ensures fault { IfErr result (λ stopped. IsCrew workers → IsServeFault (length peers.now + accept) workers
         stopped.fault (W.state sink.old) (W.state sink.new)) }
     ensures ran { IfOk result (λ done. done.1 ≡ ran_of done.0) }
-    ensures written { IfOk result (λ done. AppendsServed A config.now peers.now accept workers done.1
+    ensures written { IfOk result (λ done. AppendsServed A 1 config.now peers.now accept workers done.1
         (W.state sink.old).written (W.state sink.new).written) }
     ensures report { IfOk result (λ done. Appends (W.state sink.old).written (W.state sink.new).written
         (history_text config.now done.0.history.items)) }
     ensures unfailed { OnOk result (NoWriteFailed (W.state sink.old) (W.state sink.new)) }
-    ensures holds { IfOk result (λ done. Holds half_read half_written config.now
+    ensures holds { IfOk result (λ done. Holds 1 half_read half_written config.now
         (roles_of (length peers.now) (length peers.now + accept)) workers done.0) }
     ensures made { IfOk result (λ done. AreMadeOf (λ half. half.origin) (λ half. half.origin)
         (origins_of peers.now (length peers.now + accept)) done.0) }
     ensures one_socket { IfOk result (λ done. AreOfOne (λ half. half.socket) (λ half. half.socket) done.0) }
     ensures stopped { IfErr result (λ stopped. HasServeStopped A
-        (AppendsServedPart A config.now peers.now accept workers stopped.ran) serving.now.is_kept config.now
+        (AppendsServedPart A 1 config.now peers.now accept workers stopped.ran) serving.now.is_kept config.now
         stopped.fault (W.state sink.old).written (W.state sink.new).written) }
     ensures kept { IfErr result (λ stopped. IfSome stopped.history (λ history.
         IsLegal config.now (reverse history.items))) }

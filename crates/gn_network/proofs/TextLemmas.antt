@@ -35,27 +35,27 @@ pub record Begins (bytes text : List ℕ) : Type 0 where
   pub more : List ℕ
   pub whole : text ≡ bytes ++ more
 
-all_but_last : (texts done : List (List ℕ)) (last written : List ℕ) (n : ℕ) → texts ≡ done ++ last ∷ [] → written ≡ concat done ++ take n last → Begins written (concat texts)
+all_but_last : (texts done last : List (List ℕ)) (written : List ℕ) (n : ℕ) → texts ≡ done ++ last → written ≡ concat done ++ take n (concat last) → Begins written (concat texts)
 all_but_last texts done last written n e w = record {
-  more = drop n last;
+  more = drop n (concat last);
   whole = ap concat e
-      ∙ concat-append done (last ∷ [])
-      ∙ ap (λ bs. concat done ++ bs) (append-nil last ∙ sym (take-append-drop n last))
-      ∙ sym (append_assoc (concat done) (take n last) (drop n last))
-      ∙ ap (λ bs. bs ++ drop n last) (sym w);
+      ∙ concat-append done last
+      ∙ ap (λ bs. concat done ++ bs) (sym (take-append-drop n (concat last)))
+      ∙ sym (append_assoc (concat done) (take n (concat last)) (drop n (concat last)))
+      ∙ ap (λ bs. bs ++ drop n (concat last)) (sym w);
 }
 
 -- however a writer ended, what it wrote begins all of it
-pub written_begins : (end : WriterEnd) (role : Role) (packets : List Packet) (written : List ℕ) → WriterRow end role (opening_texts role ++ map bytes_of packets) written → Begins written (all_text role packets)
-written_begins Drained role packets written row = record { more = []; whole = sym row ∙ sym (append-nil written) }
-written_begins Closed role packets written row = record { more = []; whole = sym row ∙ sym (append-nil written) }
-written_begins WriteFailed role packets written row = all_but_last (opening_texts role ++ map bytes_of packets) row.0 row.1 written row.2 row.3 row.4
-written_begins NeverOpened Calling packets written row = record {
+pub written_begins : (batch : ℕ) (end : WriterEnd) (role : Role) (packets : List Packet) (written : List ℕ) → WriterRow batch end role (opening_texts role ++ map bytes_of packets) written → Begins written (all_text role packets)
+written_begins batch Drained role packets written row = record { more = []; whole = sym row ∙ sym (append-nil written) }
+written_begins batch Closed role packets written row = record { more = []; whole = sym row ∙ sym (append-nil written) }
+written_begins batch WriteFailed role packets written row = all_but_last (opening_texts role ++ map bytes_of packets) row.0 row.1 written row.2 row.3 row.6
+written_begins batch NeverOpened Calling packets written row = record {
   more = concat (map bytes_of packets);
   whole = concat-append (request_text ∷ []) (map bytes_of packets) ∙ ap (λ bs. bs ++ concat (map bytes_of packets)) (append-nil request_text ∙ sym row);
 }
-written_begins NeverOpened Accepting packets written row = record { more = all_text Accepting packets; whole = ap (λ bs. bs ++ all_text Accepting packets) (sym row) }
-written_begins NeverOpened Plain packets written row = record { more = all_text Plain packets; whole = ap (λ bs. bs ++ all_text Plain packets) (sym row) }
+written_begins batch NeverOpened Accepting packets written row = record { more = all_text Accepting packets; whole = ap (λ bs. bs ++ all_text Accepting packets) (sym row) }
+written_begins batch NeverOpened Plain packets written row = record { more = all_text Plain packets; whole = ap (λ bs. bs ++ all_text Plain packets) (sym row) }
 
 -- encodings, joined
 joined_is : (packets : List Packet) → concat (map bytes_of packets) ≡ flat_map bytes_of packets

@@ -49,9 +49,11 @@ pub record Leads {Rd W A : Type 0} (reads : Rd → ReadHalf) (writes : W → Wri
   pub delivered : IsDelivered (writes giver.writer) (reads taker.reader)
   pub valid : All IsDescriptor (taken (reverse first.history.items) c)
 
--- runs by numbers, each with its configuration, its links' roles, how many workers it has, and its report; and what their
--- connections are joined to: a connection of another run, or nothing of these runs, which is the outside
+-- runs by numbers, each with how many packets its writers take at once at most, its configuration, its links' roles, how many
+-- workers it has, and its report; and what their connections are joined to: a connection of another run, or nothing of these runs,
+-- which is the outside
 pub record Runs (Rd W A : Type 0) : Type 0 where
+  pub batch : ℕ → ℕ
   pub settings : ℕ → Config
   pub roles : ℕ → List Role
   pub workers : ℕ → ℕ
@@ -60,7 +62,7 @@ pub record Runs (Rd W A : Type 0) : Type 0 where
 
 -- the headline holds of each run, and a socket leads from each joined connection to the one that it is joined to, and back
 pub record AreJoined {Rd W A : Type 0} (reads : Rd → ReadHalf) (writes : W → WrittenHalf) (runs : Runs Rd W A) : Type 0 where
-  pub holds : (i : ℕ) → Holds reads writes (runs.settings i) (runs.roles i) (runs.workers i) (runs.report i)
+  pub holds : (i : ℕ) → Holds (runs.batch i) reads writes (runs.settings i) (runs.roles i) (runs.workers i) (runs.report i)
   pub both : (i c j d : ℕ) → runs.joined i c ≡ Some (j, d) → runs.joined j d ≡ Some (i, c)
   pub leads : (i c j d : ℕ) → runs.joined i c ≡ Some (j, d)
       → Leads reads writes (runs.roles i) (runs.roles j) (runs.report i) (runs.report j) c d
@@ -72,11 +74,11 @@ routers_of runs =
 
 -- runs that sockets join are a network, of which the laws of paths hold
 pub record RunsMakeANetwork (Rd W A : Type 0) : Type 0 where
-  -- between two runs of which the headline holds: where a socket leads from the one to the other, all that the second admitted
-  -- on its connection was taken from the first one's
-  pub link : (reads : Rd → ReadHalf) (writes : W → WrittenHalf) (s t : Config) (roles others : List Role) (workers crew : ℕ)
-      (first second : Report Rd W A) (c d : ℕ)
-      → Holds reads writes s roles workers first → Holds reads writes t others crew second
+  -- between two runs of which the headline holds, whatever the batch of each: where a socket leads from the one to the other, all
+  -- that the second admitted on its connection was taken from the first one's
+  pub link : (first_batch second_batch : ℕ) (reads : Rd → ReadHalf) (writes : W → WrittenHalf) (s t : Config)
+      (roles others : List Role) (workers crew : ℕ) (first second : Report Rd W A) (c d : ℕ)
+      → Holds first_batch reads writes s roles workers first → Holds second_batch reads writes t others crew second
       → Leads reads writes roles others first second c d
       → Carries (reverse first.history.items) c (reverse second.history.items) d
   -- of any number of runs

@@ -85,6 +85,10 @@ pub record IsShowAnswer (view : View) (s : Streams) (answer : Result (Unit {0}) 
   pub written : OnOk answer (IfSome (text_of s) (λ text. AppendsShown view text s.sink.written s.sink_new.written))
   pub stopped : IfErr answer (λ fault. HasShowStopped view fault (text_of s) s.sink.written s.sink_new.written)
 
+-- how many packets a load writes to a link at once at most
+abbrev pub load_batch : ℕ
+load_batch = 64
+
 -- what load answers: the input was a capture of lines that a load takes, no longer than it may be, no read and no write
 -- failed, and the history of a run with so many workers over the links of those lines was written; or it stopped, at a
 -- fault that the streams confirm, and what was written then is a prefix of the text of a history that is legal by the input's
@@ -94,7 +98,7 @@ pub record IsLoadAnswer (workers : ℕ) (s : Streams) (answer : Result (Unit {0}
   pub valid : OnOk answer (IfSome (text_of s) (λ text. IsOk (load_of Global text)))
   pub unfailed : OnOk answer (NoneFailed s)
   pub written : OnOk answer (IfSome (text_of s) (λ text.
-      AppendsLoad Global workers text s.sink.written s.sink_new.written))
+      AppendsLoad Global load_batch workers text s.sink.written s.sink_new.written))
   pub stopped : IfErr answer (λ fault. HasStoppedAt fault (text_of s) s.sink.written s.sink_new.written)
   pub fault : IfErr answer (λ fault. IsLoadFault workers fault (load_of Global) s)
 
@@ -113,18 +117,18 @@ own_served serving =
 abbrev pub IsServing : AskedServe → Config → Type 0
 IsServing serving settings = IsMadeOf settings serving.numbers (own_served serving)
 
--- a run with so many workers is remembered, over links to the peers of the words, which are called, and to so many that call; and
--- known bytes grew by the text of its history
+-- a run with so many workers is remembered, over links to the peers of the words, which are called, and to so many that call, which
+-- writes at most so many packets to one at once; and known bytes grew by the text of its history
 abbrev pub AppendsAsked : AskedServe → Config → Option (Remembered Global) → Option (List ℕ) → Option (List ℕ) → Type 0
 AppendsAsked serving settings remembered old new =
     (called : List SocketAddr) × AreAt serving.peers called × (ran : Remembered Global) × (remembered ≡ Some ran)
-    × AppendsServed Global settings called serving.accept serving.workers ran old new
+    × AppendsServed Global serving.batch settings called serving.accept serving.workers ran old new
 
 -- such a run is remembered, and known bytes grew by a prefix of that text
 abbrev pub AppendsAskedPart : AskedServe → Config → Option (Remembered Global) → Option (List ℕ) → Option (List ℕ) → Type 0
 AppendsAskedPart serving settings remembered old new =
     (called : List SocketAddr) × AreAt serving.peers called
-    × AppendsServedPart Global settings called serving.accept serving.workers remembered old new
+    × AppendsServedPart Global serving.batch settings called serving.accept serving.workers remembered old new
 
 -- what serve answers: no write failed, and the history of the run that is remembered was written, one with so many workers, over
 -- links to the peers of the words, which are called, and to so many that call; or it stopped, and what was written then is a prefix

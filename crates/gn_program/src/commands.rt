@@ -17,7 +17,7 @@ use crate::detail::{Reading, write_detail};
 use crate::ended::Ended;
 use crate::fault::Fault;
 use crate::head::Head;
-use crate::serves::serve;
+use crate::serves::{batch_of, serve};
 use crate::text::write_text;
 use crate::told::Told;
 use crate::unwatched::Unwatched;
@@ -51,6 +51,9 @@ const FAULT: u8 = 1;
 
 /// The words can't be read.
 const USAGE: u8 = 2;
+
+/// How many packets a load writes to a link at once at most.
+const LOAD_BATCH: u32 = 64;
 
 /// Writes a fault, on a line of its own. That it can't be written changes no status.
 fn write_fault<F: Sink>(faults: &mut F, fault: Fault) -> u8
@@ -128,7 +131,8 @@ fn load<R: Threads + Wait + Sync, G: Watch + Sync, S: Source, W: Sink + Send, F:
     ensures { Loads workers
         (streams (S.state reader.old) (S.state reader.new) (W.state writer.old) (W.state writer.new)) result }
 {
-    let answer = load_journalled(rt, alloc, workers, watch, reader, writer);
+    let batch = batch_of(LOAD_BATCH);
+    let answer = load_journalled(rt, alloc, workers, watch, batch, reader, writer);
     end_load(faults, answer)
 }
 
@@ -156,6 +160,28 @@ fn serve_watched<
     let told = calls.told(&answer, told);
     let status = end_serve(faults, answer, told);
     Ended { status, ran }
+}
+
+/// Serves, says how that ended, and how far it is where that is asked for.
+fn serve_asked<
+    R: Threads
+        + Wait
+        + Net<Listener = TcpListener, Stream = TcpStream>
+        + Clock
+        + Input<Reader = StdinLock<'static>>
+        + AllocGlobal
+        + Sync,
+    G: Watch + Sync,
+    W: Sink + Send,
+    F: Sink,
+>(rt: &R, alloc: Global, serving: &ServeOptions, watch: &G, writer: &mut W, faults: &mut F) -> Ended
+    ensures { ServesTo serving.now result.ran (W.state writer.old) (W.state writer.new) result.status }
+{
+    if serving.progress {
+        return serve_watched(rt, alloc, serving, watch, writer, faults);
+    }
+    let unwatched = Unwatched(watch);
+    serve_watched(rt, alloc, serving, &unwatched, writer, faults)
 }
 
 /// Does what is asked for.
@@ -217,13 +243,7 @@ fn obey<
         Request::Watched(workers) => {
             Ended::with(load(rt, alloc, workers, watch, reader, writer, faults))
         }
-        Request::Serve(serving) if serving.progress => {
-            serve_watched(rt, alloc, &serving, watch, writer, faults)
-        }
-        Request::Serve(serving) => {
-            let unwatched = Unwatched(watch);
-            serve_watched(rt, alloc, &serving, &unwatched, writer, faults)
-        }
+        Request::Serve(serving) => serve_asked(rt, alloc, &serving, watch, writer, faults),
     }
 }
 

@@ -1,6 +1,6 @@
 //! A router that serves, as a command line asks for it.
 
-ghost use Rattle.std.specs.Prelude.{◌≡◌, ◌*◌, ◌+◌, ◌≤◌, ℕ, List, None, length, IfOk};
+ghost use Rattle.std.specs.Prelude.{◌≡◌, ◌*◌, ◌+◌, ◌<◌, ◌≤◌, ℕ, List, None, length, IfOk};
 ghost use Rattle.std.specs.Option.{IsSomeAnd};
 ghost use Rattle.std.specs.Bool.{then_some};
 ghost use Rattle.std.specs.Duration.{as_nanos};
@@ -23,7 +23,7 @@ use gn_io::Sink;
 use gn_links::{LinkFault, Watch};
 use gn_load::{ServeFault, ServeStopped, serve_journalled};
 use gn_rules::{Config, Own, Step};
-use gn_service::{Ran, Report, Serving, Stop, TcpReader, TcpWriter};
+use gn_service::{Batch, Ran, Report, Serving, Stop, TcpReader, TcpWriter};
 use gn_tcp::Unmet;
 use gn_threads::RunFault;
 use gn_words::{Peer, ServeOptions};
@@ -109,6 +109,17 @@ fn limits<'s>(serving: &ServeOptions, stop: &'s Stop) -> Serving<'s>
         grace: Some(Duration::from_secs(serving.grace as u64)),
         stop: may_stop(serving).then_some(stop),
         is_kept: serving.keeps,
+    }
+}
+
+/// The batch of so many packets.
+pub(crate) fn batch_of(many: u32) -> Batch
+    requires { 0 < many }
+    ensures { result ≡ many }
+{
+    match Batch::of(many) {
+        Some(batch) => batch,
+        None => unreachable!(),
     }
 }
 
@@ -230,7 +241,8 @@ fn run_commented<
     requires few { serving.now.accept + length peers.now ≤ most_links }
     ensures here { result.1.sink.ghost_name ≡ lent.entry.sink.ghost_name }
     ensures ran { (text : List ℕ) × HasWrittenBoth (W.state lent.entry.sink.now) (W.state result.1.sink.now) text
-        × IsJournalled config.now peers.now serving.now.accept serving.now.workers (W.state lent.entry.sink.now)
+        × IsJournalled serving.now.batch config.now peers.now serving.now.accept serving.now.workers
+        (W.state lent.entry.sink.now)
         (without_comments (W.state lent.entry.sink.now) (W.state result.1.sink.now) text) result.0 }
 {
     let remarks = Remarks::new(rt, alloc, calls, serving);
@@ -245,6 +257,7 @@ fn run_commented<
         limits,
         serving.workers,
         calls,
+        batch_of(serving.batch),
         &mut commented,
     );
     (answer, commented.into_inner())
@@ -274,7 +287,8 @@ fn run<
 ) -> Result<(Report<TcpReader<'s>, TcpWriter>, Ran), ServeStopped>
     requires few { serving.now.accept + length peers.now ≤ most_links }
     ensures { (bare : SinkState) × IsBeside (has_comments serving.now) (W.state writer.old) bare (W.state writer.new)
-        × IsJournalled config.now peers.now serving.now.accept serving.now.workers (W.state writer.old) bare result }
+        × IsJournalled serving.now.batch config.now peers.now serving.now.accept serving.now.workers
+        (W.state writer.old) bare result }
 {
     if has_comments(serving) {
         let lent = Lent { sink: writer };
@@ -293,6 +307,7 @@ fn run<
         limits,
         serving.workers,
         calls,
+        batch_of(serving.batch),
         writer,
     )
 }

@@ -66,6 +66,12 @@ impl Room {
         self.sleep_until_room(rt)
     }
 
+    /// Whether there is room for one more step, where so many were made. Who has waited for room and makes several steps under the
+    /// lock looks here before each further one, as it has waited for the first alone.
+    pub fn has_more(&self, made: u64) -> bool {
+        made.saturating_sub(self.taken.load(Ordering::SeqCst)) < self.most
+    }
+
     /// As `wait`, for a thread that has tried.
     fn sleep_until_room<R: Wait>(&self, rt: &R) -> bool {
         let mut door = self.door.lock(rt);

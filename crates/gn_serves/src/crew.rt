@@ -1,5 +1,6 @@
 //! Two workers of a serve that begin each route together, while its history is written.
 
+use crate::batch::usual_batch;
 use crate::loads::is_legal;
 use crate::loopback::peers::sent;
 use crate::wanted::a_listener;
@@ -72,6 +73,7 @@ fn serve_six<
         &serving,
         2,
         meeting,
+        usual_batch(),
         sink,
     );
     match served {

@@ -1,5 +1,6 @@
 //! Loads whose history is written while they run, and can't be written whole.
 
+use crate::batch::usual_batch;
 use crate::journal::{Full, Narrow, ONE_PING};
 use gn_io::{ReaderSource, WriterSink};
 use gn_links::NoGate;
@@ -32,7 +33,8 @@ fn loaded_at_most<R: Threads + Wait + Sync>(
         left: most,
         full,
     });
-    let loaded = load_journalled(rt, alloc, 1, &NoGate, &mut source, &mut sink);
+    let batch = usual_batch();
+    let loaded = load_journalled(rt, alloc, 1, &NoGate, batch, &mut source, &mut sink);
     drop(source);
     let Narrow { taken, .. } = sink.into_inner();
     let is_begun = taken.len() == most && ONE_PING.as_bytes().starts_with(&taken);

@@ -1,5 +1,6 @@
 //! Serves whose history is written while they go on.
 
+use crate::batch::usual_batch;
 use crate::loopback::peers::{hears, sent};
 use crate::wanted::a_listener;
 use gn_fixtures::{OWN_PONG, PING, usual};
@@ -95,6 +96,7 @@ fn serve_one<
         serving,
         1,
         &NoGate,
+        usual_batch(),
         sink,
     )
 }

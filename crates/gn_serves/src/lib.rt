@@ -2,6 +2,8 @@
 #![tactic(auto)]
 
 #[cfg(test)]
+mod batch;
+#[cfg(test)]
 mod crew;
 #[cfg(test)]
 mod cut_loads;

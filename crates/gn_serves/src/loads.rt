@@ -2,6 +2,7 @@
 
 ghost use Rattle.std.specs.Prelude.{◌<◌};
 
+use crate::batch::usual_batch;
 use gn_capture::read_history;
 use gn_io::{ReaderSource, Sink, Source, WriterSink};
 use gn_links::NoGate;
@@ -113,7 +114,7 @@ fn load_so<R: Threads + Wait + Sync, S: Source, W: Sink + Send>(
     sink: &mut W,
 ) -> Result<(), LoadFault> {
     if is_journalled {
-        load_journalled(rt, alloc, workers, &NoGate, source, sink)
+        load_journalled(rt, alloc, workers, &NoGate, usual_batch(), source, sink)
     } else {
         load_with_tables(rt, alloc, workers, source, sink)
     }

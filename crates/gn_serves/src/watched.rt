@@ -1,5 +1,6 @@
 //! What who watches a run learns of it as a whole.
 
+use crate::batch::usual_batch;
 use crate::loopback::peers::sent;
 use crate::loopback::serve_written;
 use crate::wanted::a_listener;
@@ -136,8 +137,9 @@ fn learned_of_a_load<R: Threads + Wait + Sync>(
     let recorder = Recorder::new();
     let mut source = ReaderSource::new(TWO_LINKS.as_bytes());
     let mut sink = WriterSink::new(Vec::new(alloc));
+    let batch = usual_batch();
     let loaded = if is_journalled {
-        load_journalled(rt, alloc, 1, &recorder, &mut source, &mut sink)
+        load_journalled(rt, alloc, 1, &recorder, batch, &mut source, &mut sink)
     } else {
         load_for(rt, alloc, &recorder, &mut source, &mut sink)
     };

@@ -13,10 +13,10 @@ use Rattle.gn_threads.specs.declared.stopped.Stopped.{Stopped}
 use Rattle.gn_service.specs.Serves.{IsServed}
 
 -- a run with a report that has failed
-pub failed_at : {A : Type 0} (s : Config) (peers : List SocketAddr) (accept workers : ℕ) (report : Report TcpReading TcpWriting A) (after : Stopped A) (fault : RunFault)
-    → IsServed s peers accept workers (Ok report) → (after.fault ≡ fault) × (after.history ≡ Some report.history) → ¬ (fault ≡ BadWorkers) → ¬ (fault ≡ HistoryFull)
-    → ((links workers : ℕ) → length peers ≤ links → IsArrivingFault true links workers fault) → IsServed s peers accept workers (Err after)
-failed_at s peers accept workers report after fault served at crew space may =
+pub failed_at : {A : Type 0} (batch : ℕ) (s : Config) (peers : List SocketAddr) (accept workers : ℕ) (report : Report TcpReading TcpWriting A) (after : Stopped A) (fault : RunFault)
+    → IsServed batch s peers accept workers (Ok report) → (after.fault ≡ fault) × (after.history ≡ Some report.history) → ¬ (fault ≡ BadWorkers) → ¬ (fault ≡ HistoryFull)
+    → ((links workers : ℕ) → length peers ≤ links → IsArrivingFault true links workers fault) → IsServed batch s peers accept workers (Err after)
+failed_at batch s peers accept workers report after fault served at crew space may =
     record {
       crew = tt;
       bad_workers = (λ is. absurd (crew (sym at.0 ∙ is)), λ none. absurd (none served.crew));
@@ -29,13 +29,13 @@ failed_at s peers accept workers report after fault served at crew space may =
     }
 
 -- a run that stopped and has failed for a call, too
-pub failed_too : {A : Type 0} (s : Config) (peers : List SocketAddr) (accept workers : ℕ) (stopped after : Stopped A) (fault : RunFault)
-    → IsServed s peers accept workers (Err stopped) → (after.fault ≡ stopped.fault) ⊎ ((after.fault ≡ fault) × (¬ (stopped.fault ≡ BadWorkers))) → after.history ≡ stopped.history
+pub failed_too : {A : Type 0} (batch : ℕ) (s : Config) (peers : List SocketAddr) (accept workers : ℕ) (stopped after : Stopped A) (fault : RunFault)
+    → IsServed batch s peers accept workers (Err stopped) → (after.fault ≡ stopped.fault) ⊎ ((after.fault ≡ fault) × (¬ (stopped.fault ≡ BadWorkers))) → after.history ≡ stopped.history
     → ¬ (fault ≡ BadWorkers) → ¬ (fault ≡ HistoryFull)
-    → ((links workers : ℕ) → length peers ≤ links → IsArrivingFault true links workers fault) → IsServed s peers accept workers (Err after)
-failed_too s peers accept workers stopped after fault served either same crew space may =
+    → ((links workers : ℕ) → length peers ≤ links → IsArrivingFault true links workers fault) → IsServed batch s peers accept workers (Err after)
+failed_too batch s peers accept workers stopped after fault served either same crew space may =
     let kept = subst (λ h. IfSome h (λ history. IsLegal s (reverse history.items))) (sym same) served.kept in
-    elim either as (λ _. IsServed s peers accept workers (Err after)) [
+    elim either as (λ _. IsServed batch s peers accept workers (Err after)) [
       | inl is ↦ record {
         crew = tt;
         bad_workers = (λ bad. served.bad_workers.0 (sym is ∙ bad), λ none. is ∙ served.bad_workers.1 none);

@@ -12,14 +12,15 @@ use Rattle.gn_threads.specs.declared.fault.RunFault.TheVariants.{BadWorkers, His
 use Rattle.gn_threads.specs.declared.stopped.Stopped.{Stopped}
 use Rattle.gn_service.specs.Links.{origins_of, roles_of}
 
--- a run over links to these peers and to so many that call: its report has all of the headline; or it stopped, at a fault that
--- it may have, and what stands of its history is legal
-pub record IsServed {A : Type 0} (s : Config) (peers : List SocketAddr) (accept workers : ℕ) (answer : Result (Report TcpReading TcpWriting A) (Stopped A)) : Type 0 where
+-- a run over links to these peers and to so many that call, whose writers write at most so many packets at once: its report has all of
+-- the headline; or it stopped, at a fault that it may have, and what stands of its history is legal
+pub record IsServed {A : Type 0} (batch : ℕ) (s : Config) (peers : List SocketAddr) (accept workers : ℕ)
+    (answer : Result (Report TcpReading TcpWriting A) (Stopped A)) : Type 0 where
   pub crew : IfOk answer (λ _. IsCrew workers)
   pub bad_workers : IfErr answer (λ stopped. (stopped.fault ≡ BadWorkers) ↔ (¬ IsCrew workers))
   pub fault : IfErr answer (λ stopped. IsCrew workers → IsArrivingFault true (length peers + accept) workers stopped.fault)
   pub kept : IfErr answer (λ stopped. IfSome stopped.history (λ history. IsLegal s (reverse history.items)))
   pub full : IfErr answer (λ stopped. stopped.fault ≡ HistoryFull → IfSome stopped.history (λ history. length history.items ≡ s.numbers.steps))
-  pub holds : IfOk answer (λ report. Holds half_read half_written s (roles_of (length peers) (length peers + accept)) workers report)
+  pub holds : IfOk answer (λ report. Holds batch half_read half_written s (roles_of (length peers) (length peers + accept)) workers report)
   pub made : IfOk answer (λ report. AreMadeOf (λ half. half.origin) (λ half. half.origin) (origins_of peers (length peers + accept)) report)
   pub one_socket : IfOk answer (λ report. AreOfOne (λ half. half.socket) (λ half. half.socket) report)

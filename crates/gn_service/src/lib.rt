@@ -21,7 +21,7 @@ pub use gn_bodies::{
     BodyFault, ReaderDone, ReaderEnd, WorkerDone, WriterDone, WriterEnd, reader_body, worker_body,
     writer_body,
 };
-pub use gn_hub::{Actor, Door, Hub, Mark, Next, Outgoing, Service, ServiceFault};
+pub use gn_hub::{Actor, Batch, Door, Hub, Mark, Next, Outgoing, Service, ServiceFault};
 pub use gn_links::{
     Gate, Half, Link, LinkFault, LinkReader, LinkWriter, Made, MemoryLink, MemoryReader,
     MemoryWriter, NoGate, Watch,

@@ -18,6 +18,7 @@ use crate::peers::{Peers, roles_of};
 use crate::serving::Serving;
 use crate::stop::Stop;
 use crate::stops::Stops;
+use gn_hub::Batch;
 use gn_links::Watch;
 use gn_report::Report;
 use gn_rules::{Config, RouterCore};
@@ -42,6 +43,7 @@ pub(crate) struct Running<'a, 's, C: RouterCore<A>, W, G, R, A: Allocator + Copy
     pub serving: &'a Serving<'s>,
     pub workers: u32,
     pub watch: &'a G,
+    pub batch: Batch,
     pub core: C,
     pub course: W,
     pub ghost few: { accept + length peers.now ≤ most_links },
@@ -72,8 +74,8 @@ where
         Result<Report<TcpReader<'s>, TcpWriter, A>, Stopped<A>>,
         W::Rest,
     )
-        ensures served { IsServed self.entry.config.now self.entry.peers.now self.entry.accept self.entry.workers
-            result.0 }
+        ensures served { IsServed self.entry.batch self.entry.config.now self.entry.peers.now self.entry.accept
+            self.entry.workers result.0 }
         ensures rest { IsLeft (W.follows self.entry.course) W.leaves result.1 (BeginsRun result.0) }
     {
         let rt = self.rt;
@@ -90,7 +92,7 @@ where
             rt,
             || watch_and_call(rt, serving, stops, watch),
             move ||
-                ensures served { IsServed self.entry.config.now self.entry.peers.now self.entry.accept
+                ensures served { IsServed self.entry.batch self.entry.config.now self.entry.peers.now self.entry.accept
                     self.entry.workers result.0 }
                 ensures rest { IsLeft (W.follows self.entry.course) W.leaves result.1 (BeginsRun result.0) }
             { self.run(stops) },
@@ -106,8 +108,8 @@ where
         Result<Report<TcpReader<'s>, TcpWriter, A>, Stopped<A>>,
         W::Rest,
     )
-        ensures served { IsServed self.entry.config.now self.entry.peers.now self.entry.accept self.entry.workers
-            result.0 }
+        ensures served { IsServed self.entry.batch self.entry.config.now self.entry.peers.now self.entry.accept
+            self.entry.workers result.0 }
         ensures rest { IsLeft (W.follows self.entry.course) W.leaves result.1 (BeginsRun result.0) }
     {
         let calls = self.peers.len();
@@ -135,7 +137,7 @@ where
             IsLegal self.entry.config.now (reverse history.items))) }
         ensures full { IfErr result.0 (λ stopped. stopped.fault ≡ HistoryFull → IfSome stopped.history (λ history.
             length history.items ≡ self.entry.config.now.numbers.steps)) }
-        ensures holds { IfOk result.0 (λ report. Holds half_read half_written self.entry.config.now
+        ensures holds { IfOk result.0 (λ report. Holds self.entry.batch half_read half_written self.entry.config.now
             (roles_of (length self.entry.peers.now) (length self.entry.peers.now + self.entry.accept))
             self.entry.workers report) }
         ensures made { IfOk result.0 (λ report. AreMadeOf (λ half. half.origin) (λ half. half.origin)
@@ -153,6 +155,7 @@ where
             serving,
             workers,
             watch,
+            batch,
             core,
             course,
         } = self;
@@ -177,7 +180,7 @@ where
             watch,
         };
         run_arriving_by::<C, W, _, _, _, _>(
-            rt, alloc, config, roles, arrivals, workers, &gate, core, course,
+            rt, alloc, config, roles, arrivals, workers, &gate, batch, core, course,
         )
     }
 }

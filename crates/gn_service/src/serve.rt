@@ -14,6 +14,7 @@ ghost use Rattle.gn_service.specs.Ran.{ran_of};
 use crate::ran::Ran;
 use crate::running::Running;
 use crate::serving::Serving;
+use gn_hub::Batch;
 use gn_links::Watch;
 use gn_report::Report;
 use gn_rules::{Config, Historian, MOST_WORKERS, RouterCore};
@@ -30,7 +31,8 @@ use std::time::Clock;
 /// of a peer at once; it waits for a caller without a time limit, for peers and what they send and take as `serving` says, and
 /// where it has failed for nobody. The listener is closed once the last has come,
 /// so it is for one run. Where the system has no handle for a caller, it waits until it has. `watch` learns of each link as it
-/// comes, of a peer that can't be called, and each worker passes it before it routes. At most 256 links.
+/// comes, of a peer that can't be called, and each worker passes it before it routes. At most 256 links. A writer writes one packet
+/// at a time.
 ///
 /// Where it is stopped before all have come, the links of the others have no bytes, and nobody is told of them.
 ///
@@ -63,7 +65,7 @@ pub fn serve_on<
     ensures bad_workers { IfErr result (λ fault. (fault ≡ BadWorkers) ↔ (¬ IsCrew workers)) }
     ensures fault { IfErr result (λ fault. IsCrew workers
         → IsArrivingFault true (length peers.now + accept) workers fault) }
-    ensures holds { IfOk result (λ report. Holds half_read half_written config.now
+    ensures holds { IfOk result (λ report. Holds 1 half_read half_written config.now
         (roles_of (length peers.now) (length peers.now + accept)) workers report) }
     ensures made { IfOk result (λ report. AreMadeOf (λ half. half.origin) (λ half. half.origin)
         (origins_of peers.now (length peers.now + accept)) report) }
@@ -110,7 +112,7 @@ pub fn serve_kept<
         IsLegal config.now (reverse history.items))) }
     ensures full { IfErr result (λ stopped. stopped.fault ≡ HistoryFull → IfSome stopped.history (λ history.
         length history.items ≡ config.now.numbers.steps)) }
-    ensures holds { IfOk result (λ done. Holds half_read half_written config.now
+    ensures holds { IfOk result (λ done. Holds 1 half_read half_written config.now
         (roles_of (length peers.now) (length peers.now + accept)) workers done.0) }
     ensures made { IfOk result (λ done. AreMadeOf (λ half. half.origin) (λ half. half.origin)
         (origins_of peers.now (length peers.now + accept)) done.0) }
@@ -124,13 +126,24 @@ pub fn serve_kept<
         return Err(Stopped::before(RunFault::NoMemory));
     };
     let (answer, ()) = serve_by::<C, InMemory, G, A, R>(
-        rt, alloc, listener, config, accept, peers, serving, workers, watch, core, InMemory,
+        rt,
+        alloc,
+        listener,
+        config,
+        accept,
+        peers,
+        serving,
+        workers,
+        watch,
+        Batch::one(),
+        core,
+        InMemory,
     );
     answer
 }
 
 /// Does the same with a router of no steps, which may give its steps to somebody who runs beside it. What is left of that comes back;
-/// the history begins with the steps that it had.
+/// the history begins with the steps that it had. A writer writes up to `batch` packets at once.
 pub fn serve_by<
     's,
     C: RouterCore<A> + Drop + Send,
@@ -153,6 +166,7 @@ pub fn serve_by<
     serving: &Serving<'s>,
     workers: u32,
     watch: &G,
+    batch: Batch,
     core: C,
     course: W,
 ) -> (
@@ -171,7 +185,7 @@ where
         IsLegal config.now (reverse history.items))) }
     ensures full { IfErr result.0 (λ stopped. stopped.fault ≡ HistoryFull → IfSome stopped.history (λ history.
         length history.items ≡ config.now.numbers.steps)) }
-    ensures holds { IfOk result.0 (λ done. Holds half_read half_written config.now
+    ensures holds { IfOk result.0 (λ done. Holds batch half_read half_written config.now
         (roles_of (length peers.now) (length peers.now + accept)) workers done.0) }
     ensures made { IfOk result.0 (λ done. AreMadeOf (λ half. half.origin) (λ half. half.origin)
         (origins_of peers.now (length peers.now + accept)) done.0) }
@@ -191,6 +205,7 @@ where
         serving,
         workers,
         watch,
+        batch,
         core,
         course,
     };

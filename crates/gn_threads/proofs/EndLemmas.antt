@@ -1,8 +1,7 @@
 -- The rows of the tables of ends: from what bodies promise and what is compared of a report, and back.
-use Rattle.std.proofs.Common.{◌≡◌, ◌<◌, ◌⊎◌, ◌==◌, ◌&&◌, ◌||◌, ℕ, Bool, true, not, List, [], ◌∷◌, ◌++◌, length, map, Option, Some, None, is_some, if◌then◌else◌, refl, sym, ap, ◌∙◌, subst, arith}
-use Rattle.std.specs.List.{cons_option, filter_map, list_all, slice_get}
+use Rattle.std.proofs.Common.{◌≡◌, ◌==◌, ◌&&◌, ℕ, Bool, true, not, List, [], ◌∷◌, length, Option, Some, None, is_some, if◌then◌else◌, refl, ap, ◌∙◌, arith}
+use Rattle.std.specs.List.{cons_option, list_all, slice_get}
 use Rattle.std.proofs.lemmas.Bool.{and_parts, eqb-true}
-use Rattle.gn_wire.specs.Encoding.{bytes_of}
 use Rattle.gn_rules.specs.declared.event.Event.{Event}
 use Rattle.gn_rules.specs.declared.event.Event.TheVariants.{Admit, Close, Connect, Originate, Route, Take}
 use Rattle.gn_rules.specs.declared.receipt.Receipt.{Receipt}
@@ -20,8 +19,8 @@ use Rattle.gn_bodies.specs.declared.ends.WriterEnd.{WriterEnd}
 use Rattle.gn_bodies.specs.declared.ends.WriterEnd.TheVariants.{Drained, WriteFailed, Closed, NeverOpened}
 use Rattle.gn_bodies.specs.Done.{ReadsAs, WritesAs}
 use Rattle.gn_bodies.specs.Events.{link_events_in}
-use Rattle.gn_bodies.specs.ReaderRows.{ReaderRow, SourceRow}
-use Rattle.gn_bodies.specs.Written.{opening_texts, WriterRow}
+use Rattle.gn_bodies.specs.ReaderRows.{ReaderRow}
+use Rattle.gn_bodies.specs.Written.{WriterRow}
 use Rattle.gn_report.specs.declared.report.LinkReport.{LinkReport}
 use Rattle.gn_report.specs.declared.report.Report.{Report}
 use Rattle.gn_report.specs.Actors.{writer_of}
@@ -115,42 +114,42 @@ reader_back turns steps writer first role own half (Fault f) None row = absurd r
 reader_back turns steps writer first role own half NotLive None row = absurd row
 
 -- the same of a writer
-pub writer_row : {A : Type 0} (steps : List (Step A)) (roles : List Role) (writer : ℕ) (role : Role) (own : List (Receipt A)) (half : WrittenHalf) (end : WriterEnd) (conn : Option ℕ)
-    → WritesAs role end (packets_of own) half → is_writer_end (is_settled steps) roles steps writer role own end conn ≡ true
-    → WriterEnds steps roles writer role own half end conn
-writer_row steps roles writer role own half Drained (Some c) writes confirms = (writes.row, confirms)
-writer_row steps roles writer role own half Closed (Some c) writes confirms = (writes.row, confirms)
-writer_row steps roles writer role own half WriteFailed (Some c) writes confirms = (record { part = writes.row; hurt = writes.hurt refl }, confirms)
-writer_row steps roles writer role own half WriteFailed None writes confirms = (record { part = writes.row; hurt = writes.hurt refl }, confirms)
-writer_row steps roles writer role own half NeverOpened None writes confirms = writes.row
-writer_row steps roles writer role own half Drained None writes confirms = absurd (cc)
-writer_row steps roles writer role own half Closed None writes confirms = absurd (cc)
-writer_row steps roles writer role own half NeverOpened (Some c) writes confirms = absurd (cc)
+pub writer_row : {A : Type 0} (batch : ℕ) (steps : List (Step A)) (roles : List Role) (writer : ℕ) (role : Role) (own : List (Receipt A)) (half : WrittenHalf) (end : WriterEnd) (conn : Option ℕ)
+    → WritesAs batch role end (packets_of own) half → is_writer_end (is_settled steps) roles steps writer role own end conn ≡ true
+    → WriterEnds batch steps roles writer role own half end conn
+writer_row batch steps roles writer role own half Drained (Some c) writes confirms = (writes.row, confirms)
+writer_row batch steps roles writer role own half Closed (Some c) writes confirms = (writes.row, confirms)
+writer_row batch steps roles writer role own half WriteFailed (Some c) writes confirms = (record { part = writes.row; hurt = writes.hurt refl }, confirms)
+writer_row batch steps roles writer role own half WriteFailed None writes confirms = (record { part = writes.row; hurt = writes.hurt refl }, confirms)
+writer_row batch steps roles writer role own half NeverOpened None writes confirms = writes.row
+writer_row batch steps roles writer role own half Drained None writes confirms = absurd (cc)
+writer_row batch steps roles writer role own half Closed None writes confirms = absurd (cc)
+writer_row batch steps roles writer role own half NeverOpened (Some c) writes confirms = absurd (cc)
 
-pub writer_back : {A : Type 0} (steps : List (Step A)) (roles : List Role) (writer : ℕ) (role : Role) (own : List (Receipt A)) (half : WrittenHalf) (end : WriterEnd) (conn : Option ℕ)
-    → WriterEnds steps roles writer role own half end conn
-    → (half.is_known ≡ true → WriterRow end role (texts_of role own) half.bytes) × (is_writer_end (is_settled steps) roles steps writer role own end conn ≡ true)
-writer_back steps roles writer role own half Drained (Some c) row = row
-writer_back steps roles writer role own half Closed (Some c) row = row
-writer_back steps roles writer role own half WriteFailed (Some c) row = (row.0.part, row.1)
-writer_back steps roles writer role own half WriteFailed None row = (row.0.part, row.1)
-writer_back steps roles writer role own half NeverOpened None row = (row, refl)
-writer_back steps roles writer role own half Drained None row = absurd row
-writer_back steps roles writer role own half Closed None row = absurd row
-writer_back steps roles writer role own half NeverOpened (Some c) row = absurd row
+pub writer_back : {A : Type 0} (batch : ℕ) (steps : List (Step A)) (roles : List Role) (writer : ℕ) (role : Role) (own : List (Receipt A)) (half : WrittenHalf) (end : WriterEnd) (conn : Option ℕ)
+    → WriterEnds batch steps roles writer role own half end conn
+    → (half.is_known ≡ true → WriterRow batch end role (texts_of role own) half.bytes) × (is_writer_end (is_settled steps) roles steps writer role own end conn ≡ true)
+writer_back batch steps roles writer role own half Drained (Some c) row = row
+writer_back batch steps roles writer role own half Closed (Some c) row = row
+writer_back batch steps roles writer role own half WriteFailed (Some c) row = (row.0.part, row.1)
+writer_back batch steps roles writer role own half WriteFailed None row = (row.0.part, row.1)
+writer_back batch steps roles writer role own half NeverOpened None row = (row, refl)
+writer_back batch steps roles writer role own half Drained None row = absurd row
+writer_back batch steps roles writer role own half Closed None row = absurd row
+writer_back batch steps roles writer role own half NeverOpened (Some c) row = absurd row
 
 -- what the headline says of a link's reader, as the body promised it and as the history confirms it
-pub link_read : {Rd W A : Type 0} (reads : Rd → ReadHalf) (writes : W → WrittenHalf) (turns : ℕ) (roles : List Role) (report : Report Rd W A) (k : ℕ) (role : Role) (link : LinkReport Rd W A)
-    → LinkHolds reads writes turns roles report k role link
+pub link_read : {Rd W A : Type 0} (reads : Rd → ReadHalf) (writes : W → WrittenHalf) (turns batch : ℕ) (roles : List Role) (report : Report Rd W A) (k : ℕ) (role : Role) (link : LinkReport Rd W A)
+    → LinkHolds reads writes turns batch roles report k role link
     → ((reads link.reader).is_known ≡ true → ReaderRow role link.reader_end link.conn (link_events_in link.reader_receipts.items) (reads link.reader).bytes)
     × (is_reader_end report.history.items (writer_of report k) (may_close_first (list_all is_calling roles) role link.writer_end) link.reader_receipts.items link.reader_end link.conn ≡ true)
-link_read reads writes turns roles report k role link holds =
+link_read reads writes turns batch roles report k role link holds =
     reader_back turns report.history.items (writer_of report k) (may_close_first (list_all is_calling roles) role link.writer_end) role link.reader_receipts.items (reads link.reader) link.reader_end link.conn holds.read
 
 -- the same of its writer
-pub link_written : {Rd W A : Type 0} (reads : Rd → ReadHalf) (writes : W → WrittenHalf) (turns : ℕ) (roles : List Role) (report : Report Rd W A) (k : ℕ) (role : Role) (link : LinkReport Rd W A)
-    → LinkHolds reads writes turns roles report k role link
-    → ((writes link.writer).is_known ≡ true → WriterRow link.writer_end role (texts_of role link.writer_receipts.items) (writes link.writer).bytes)
+pub link_written : {Rd W A : Type 0} (reads : Rd → ReadHalf) (writes : W → WrittenHalf) (turns batch : ℕ) (roles : List Role) (report : Report Rd W A) (k : ℕ) (role : Role) (link : LinkReport Rd W A)
+    → LinkHolds reads writes turns batch roles report k role link
+    → ((writes link.writer).is_known ≡ true → WriterRow batch link.writer_end role (texts_of role link.writer_receipts.items) (writes link.writer).bytes)
     × (is_writer_end (is_settled report.history.items) roles report.history.items (writer_of report k) role link.writer_receipts.items link.writer_end link.conn ≡ true)
-link_written reads writes turns roles report k role link holds =
-    writer_back report.history.items roles (writer_of report k) role link.writer_receipts.items (writes link.writer) link.writer_end link.conn holds.written
+link_written reads writes turns batch roles report k role link holds =
+    writer_back batch report.history.items roles (writer_of report k) role link.writer_receipts.items (writes link.writer) link.writer_end link.conn holds.written

@@ -10,7 +10,6 @@ use Rattle.gn_rules.specs.declared.receipt.Receipt.{Receipt}
 use Rattle.gn_rules.specs.declared.receipt.Step.{Step}
 use Rattle.gn_rules.specs.Answer.{IsLegal}
 use Rattle.gn_rules.specs.Flight.{flying}
-use Rattle.gn_rules.specs.History.{mine}
 use Rattle.gn_rules.specs.Limits.{most_reads}
 use Rattle.gn_shake.specs.declared.role.Role.{Role}
 use Rattle.gn_links.specs.Halves.{ReadHalf, WrittenHalf}
@@ -24,21 +23,21 @@ use Rattle.gn_report.specs.Actors.{AreOwn, actors, receipts_of, writer_of}
 use Rattle.gn_report.specs.BodyEnds.{is_settled}
 use Rattle.gn_report.proofs.ConfirmedLemmas.{Confirmed, compared, took_all}
 use Rattle.gn_report.proofs.ReceiptLemmas.{as_many_as_actors}
-use Rattle.gn_threads.specs.Headline.{Follows, Holds, RunsAddUp}
+use Rattle.gn_threads.specs.Headline.{Holds, RunsAddUp}
 use Rattle.gn_threads.proofs.EndLemmas.{link_read, link_written}
 
 -- what the headline says of the actors
-pub confirmed_of : {Rd W A : Type 0} (reads : Rd → ReadHalf) (writes : W → WrittenHalf) (s : Config) (roles : List Role) (workers : ℕ) (report : Report Rd W A)
-    → Holds reads writes s roles workers report → Confirmed (is_settled report.history.items) roles report
-confirmed_of reads writes s roles workers report holds = record {
+pub confirmed_of : {Rd W A : Type 0} (batch : ℕ) (reads : Rd → ReadHalf) (writes : W → WrittenHalf) (s : Config) (roles : List Role) (workers : ℕ) (report : Report Rd W A)
+    → Holds batch reads writes s roles workers report → Confirmed (is_settled report.history.items) roles report
+confirmed_of batch reads writes s roles workers report holds = record {
   own = holds.own.0;
   only = holds.own.1;
   reader = λ k role link below.
       let at = holds.links k role link below in
-      record { conn = at.conn; events = at.reader.0; once = at.reader.1; end = (link_read reads writes (most_reads s.numbers.steps) roles report k (get_or roles k role) (get_or report.links.items k link) at).1 };
+      record { conn = at.conn; events = at.reader.0; once = at.reader.1; end = (link_read reads writes (most_reads s.numbers.steps) batch roles report k (get_or roles k role) (get_or report.links.items k link) at).1 };
   writer = λ k role link below.
       let at = holds.links k role link below in
-      record { events = at.writer; end = (link_written reads writes (most_reads s.numbers.steps) roles report k (get_or roles k role) (get_or report.links.items k link) at).1 };
+      record { events = at.writer; end = (link_written reads writes (most_reads s.numbers.steps) batch roles report k (get_or roles k role) (get_or report.links.items k link) at).1 };
   routes = holds.routes.0;
 }
 
@@ -83,9 +82,9 @@ link_agrees {Rd} {W} {A} s settled roles report legal all k c link below is =
     subst (λ w. LinkAgrees report.history.items k w c) at agrees
 
 pub runs_add_up : (Rd W A : Type 0) → RunsAddUp Rd W A
-runs_add_up Rd W A reads writes s roles workers report holds =
+runs_add_up Rd W A batch reads writes s roles workers report holds =
     let settled = is_settled report.history.items in
-    let all = confirmed_of reads writes s roles workers report holds in
+    let all = confirmed_of batch reads writes s roles workers report holds in
     record {
       counted = adds_up settled roles report all;
       routed = routes_each_once s report.history.items holds.legal holds.routes.1;

@@ -1,5 +1,5 @@
 -- From what each body keeps and what is compared of a report to the headline.
-use Rattle.std.proofs.Common.{◌≡◌, ◌<◌, ◌+◌, ◌++◌, ℕ, Bool, true, List, length, map, get_or, reverse, take, Option, Some, None, refl, sym, ap, ◌∙◌, subst, arith}
+use Rattle.std.proofs.Common.{◌≡◌, ◌<◌, ◌++◌, ℕ, Bool, true, List, length, map, get_or, reverse, Option, Some, None, refl, sym, ap, ◌∙◌, subst, arith}
 use Rattle.std.specs.List.{list_all}
 use Rattle.std.specs.Prelude.{Err, IfOk, IfSome, Ok, Result}
 use Rattle.std.proofs.lemmas.List.{append-nil, get_or-map, length-map}
@@ -47,30 +47,30 @@ read_holds {Rd} {W} {A} reads turns roles links kept k role link below conn =
     subst (λ o. ReadsAs turns (get_or roles k role) it.reader_end o it.reader_receipts.items (reads it.reader)) (sym conn) keeps
 
 -- the same of its writer
-written_holds : {Rd W A : Type 0} (writes : W → WrittenHalf) (roles : List Role) (links : List (LinkReport Rd W A)) → EachKeeps WriterKeeps roles (map (λ l. halved writes (writer_reported l)) links)
+written_holds : {Rd W A : Type 0} (writes : W → WrittenHalf) (batch : ℕ) (roles : List Role) (links : List (LinkReport Rd W A)) → EachKeeps (WriterKeeps batch) roles (map (λ l. halved writes (writer_reported l)) links)
     → (k : ℕ) (role : Role) (link : LinkReport Rd W A) → k < length links
-    → WritesAs (get_or roles k role) (get_or links k link).writer_end (packets_of (get_or links k link).writer_receipts.items) (writes (get_or links k link).writer)
+    → WritesAs batch (get_or roles k role) (get_or links k link).writer_end (packets_of (get_or links k link).writer_receipts.items) (writes (get_or links k link).writer)
     × ((writes (get_or links k link).writer).is_finished ≡ true)
-written_holds {Rd} {W} {A} writes roles links kept k role link below =
+written_holds {Rd} {W} {A} writes batch roles links kept k role link below =
     let it = get_or links k link in
     let agrees : LinkReport Rd W A → Ended A WriterEnd WrittenHalf = λ l. halved writes (writer_reported l) in
     let there = get_or-map agrees links k link (agrees link) below in
-    let keeps : WriterKeeps (get_or roles k role) (agrees it) = subst (λ body. WriterKeeps (get_or roles k role) body) there (kept k role (agrees link) (omega (arith, below, length-map links agrees))) in
+    let keeps : WriterKeeps batch (get_or roles k role) (agrees it) = subst (λ body. WriterKeeps batch (get_or roles k role) body) there (kept k role (agrees link) (omega (arith, below, length-map links agrees))) in
     (keeps.0, keeps.1)
 
-pub links_hold : {Rd W A : Type 0} (s : Config) (reads : Rd → ReadHalf) (writes : W → WrittenHalf) (turns : ℕ) (roles : List Role) (report : Report Rd W A) → IsLegal s (reverse report.history.items)
+pub links_hold : {Rd W A : Type 0} (s : Config) (reads : Rd → ReadHalf) (writes : W → WrittenHalf) (turns batch : ℕ) (roles : List Role) (report : Report Rd W A) → IsLegal s (reverse report.history.items)
     → Confirmed (is_settled report.history.items) roles report
     → EachKeeps (ReaderKeeps turns) roles (map (λ l. halved reads (reader_reported l)) report.links.items)
-    → EachKeeps WriterKeeps roles (map (λ l. halved writes (writer_reported l)) report.links.items)
+    → EachKeeps (WriterKeeps batch) roles (map (λ l. halved writes (writer_reported l)) report.links.items)
     → (k : ℕ) (role : Role) (link : LinkReport Rd W A) → k < length report.links.items
-    → LinkHolds reads writes turns roles report k (get_or roles k role) (get_or report.links.items k link)
-links_hold {Rd} {W} {A} s reads writes turns roles report legal all readers writers k role link below =
+    → LinkHolds reads writes turns batch roles report k (get_or roles k role) (get_or report.links.items k link)
+links_hold {Rd} {W} {A} s reads writes turns batch roles report legal all readers writers k role link below =
     let steps = report.history.items in
     let it = get_or report.links.items k link in
     let at = get_or roles k role in
     let reader = all.reader k role link below in
     let writer = all.writer k role link below in
-    let written = written_holds writes roles report.links.items writers k role link below in
+    let written = written_holds writes batch roles report.links.items writers k role link below in
     let conn : it.conn ≡ known_conn it.reader_receipts.items =
     reader.conn ∙ conn_is_known s steps k it.reader_receipts.items legal (reader_own report all.own k link below) in
     record {
@@ -79,7 +79,7 @@ links_hold {Rd} {W} {A} s reads writes turns roles report legal all readers writ
       read = reader_row turns steps (writer_of report k) (may_close_first (list_all is_calling roles) at it.writer_end) at it.reader_receipts.items (reads it.reader) it.reader_end it.conn
           reader.conn (read_holds reads turns roles report.links.items readers k role link below conn) reader.end;
       writer = writer.events;
-      written = writer_row steps roles (writer_of report k) at it.writer_receipts.items (writes it.writer) it.writer_end it.conn written.0 writer.end;
+      written = writer_row batch steps roles (writer_of report k) at it.writer_receipts.items (writes it.writer) it.writer_end it.conn written.0 writer.end;
       finished = written.1;
     }
 
@@ -95,15 +95,15 @@ readers_keep {Rd} {B} {A} reads made_of gives turns links roles done are many ke
     (subst (λ (bs : List (Ended A ReaderEnd ReadHalf)). EachKeeps (ReaderKeeps turns) (map (λ (h : Half Rd). h.role) links) bs) (map-map view ended done) less)
 
 -- the same of writers
-pub writers_keep : {W L A O : Type 0} (writes : W → WrittenHalf) (made_of : W → O) (links : List (Half W)) (roles : List Role) (done : List (WriterDone W L A))
-    → map (λ (h : Half W). h.role) links ≡ roles → length done ≡ length links → EachKeeps (IsWriterDone writes made_of) links (map writer_ended done)
-    → EachKeeps WriterKeeps roles (map (λ d. halved writes (writer_ended d)) done)
-writers_keep {W} {L} {A} writes made_of links roles done are many kept =
+pub writers_keep : {W L A O : Type 0} (writes : W → WrittenHalf) (made_of : W → O) (batch : ℕ) (links : List (Half W)) (roles : List Role) (done : List (WriterDone W L A))
+    → map (λ (h : Half W). h.role) links ≡ roles → length done ≡ length links → EachKeeps (IsWriterDone writes made_of batch) links (map writer_ended done)
+    → EachKeeps (WriterKeeps batch) roles (map (λ d. halved writes (writer_ended d)) done)
+writers_keep {W} {L} {A} writes made_of batch links roles done are many kept =
     let ended : WriterDone W L A → Ended A WriterEnd W = λ d. writer_ended d in
     let view : Ended A WriterEnd W → Ended A WriterEnd WrittenHalf = λ body. halved writes body in
-    let less = keeps_less (λ (h : Half W). h.role) view (IsWriterDone writes made_of) WriterKeeps links (map ended done) (length-map done ended ∙ many) (λ link body promised. promised.kept) kept in
-    subst (λ (rs : List Role). EachKeeps WriterKeeps rs (map (λ d. view (ended d)) done)) are
-    (subst (λ (bs : List (Ended A WriterEnd WrittenHalf)). EachKeeps WriterKeeps (map (λ (h : Half W). h.role) links) bs) (map-map view ended done) less)
+    let less = keeps_less (λ (h : Half W). h.role) view (IsWriterDone writes made_of batch) (WriterKeeps batch) links (map ended done) (length-map done ended ∙ many) (λ link body promised. promised.kept) kept in
+    subst (λ (rs : List Role). EachKeeps (WriterKeeps batch) rs (map (λ d. view (ended d)) done)) are
+    (subst (λ (bs : List (Ended A WriterEnd WrittenHalf)). EachKeeps (WriterKeeps batch) (map (λ (h : Half W). h.role) links) bs) (map-map view ended done) less)
 
 -- what one reader promised is what the headline says of its link
 read_own : {A Rd O : Type 0} (reads : Rd → ReadHalf) (made_of : Rd → O) (gives : O → Source) (turns : ℕ) (link : Half Rd) (end : ReaderEnd) (body : Ended A ReaderEnd Rd) → body.end ≡ Ok end
@@ -137,16 +137,16 @@ links_read_own {Rd} {W} {A} reads made_of gives turns links sources bodies repor
     subst (λ s. ReadOwn s it.reader_end (reads it.reader)) here (read_own reads made_of gives turns (get_or links k start) it.reader_end (reported it) refl promised)
 
 -- the halves of a report were split from the links that those were split from with which the threads began
-pub are_made_of : {Rd W A O F : Type 0} (reads : Rd → ReadHalf) (reader_of : Rd → O) (gives : O → Source) (turns : ℕ) (writes : W → WrittenHalf) (writer_of : W → O) (foreknown : O → F) (reading : List (Half Rd)) (writing : List (Half W))
+pub are_made_of : {Rd W A O F : Type 0} (reads : Rd → ReadHalf) (reader_of : Rd → O) (gives : O → Source) (turns : ℕ) (writes : W → WrittenHalf) (writer_of : W → O) (batch : ℕ) (foreknown : O → F) (reading : List (Half Rd)) (writing : List (Half W))
     (read : List (Ended A ReaderEnd Rd)) (written : List (Ended A WriterEnd W)) (coming : List F) (report : Report Rd W A)
     → map (λ (h : Half Rd). foreknown (reader_of h.half)) reading ≡ coming → map (λ (h : Half W). writer_of h.half) writing ≡ map (λ (h : Half Rd). reader_of h.half) reading → length read ≡ length reading → length written ≡ length writing
-    → EachKeeps (IsReaderDone reads reader_of gives turns) reading read → EachKeeps (IsWriterDone writes writer_of) writing written
+    → EachKeeps (IsReaderDone reads reader_of gives turns) reading read → EachKeeps (IsWriterDone writes writer_of batch) writing written
     → map reader_reported report.links.items ≡ read → map writer_reported report.links.items ≡ written → AreMadeOf (λ r. foreknown (reader_of r)) (λ w. foreknown (writer_of w)) coming report
-are_made_of {Rd} {W} {A} reads reader_of gives turns writes writer_of foreknown reading writing read written coming report own theirs many more kept held is are =
+are_made_of {Rd} {W} {A} reads reader_of gives turns writes writer_of batch foreknown reading writing read written coming report own theirs many more kept held is are =
     record {
       readers = known_of (IsReaderDone reads reader_of gives turns) (λ (l : LinkReport Rd W A). reader_reported l) (λ (b : Ended A ReaderEnd Rd). foreknown (reader_of b.half)) (λ (h : Half Rd). foreknown (reader_of h.half))
           report.links.items reading read coming (λ link body promised. ap foreknown promised.made) many is kept own;
-      writers = known_of (IsWriterDone writes writer_of) (λ (l : LinkReport Rd W A). writer_reported l) (λ (b : Ended A WriterEnd W). foreknown (writer_of b.half)) (λ (h : Half W). foreknown (writer_of h.half))
+      writers = known_of (IsWriterDone writes writer_of batch) (λ (l : LinkReport Rd W A). writer_reported l) (λ (b : Ended A WriterEnd W). foreknown (writer_of b.half)) (λ (h : Half W). foreknown (writer_of h.half))
           report.links.items writing written coming (λ link body promised. ap foreknown promised.made) more are held
           (sym (map-map foreknown (λ (h : Half W). writer_of h.half) writing) ∙ ap (map foreknown) theirs ∙ map-map foreknown (λ (h : Half Rd). reader_of h.half) reading ∙ own);
     }
@@ -160,11 +160,11 @@ readers_made_of {Rd} {W} {A} reads reader_of gives turns reading read report man
     report.links.items reading read _ (λ link body promised. promised.made) many is kept refl
 
 -- the same of the writers
-pub writers_made_of : {Rd W A O : Type 0} (writes : W → WrittenHalf) (writer_of : W → O) (writing : List (Half W)) (written : List (Ended A WriterEnd W)) (report : Report Rd W A)
-    → length written ≡ length writing → EachKeeps (IsWriterDone writes writer_of) writing written → map writer_reported report.links.items ≡ written
+pub writers_made_of : {Rd W A O : Type 0} (writes : W → WrittenHalf) (writer_of : W → O) (batch : ℕ) (writing : List (Half W)) (written : List (Ended A WriterEnd W)) (report : Report Rd W A)
+    → length written ≡ length writing → EachKeeps (IsWriterDone writes writer_of batch) writing written → map writer_reported report.links.items ≡ written
     → map (λ link. writer_of link.writer) report.links.items ≡ map (λ (h : Half W). writer_of h.half) writing
-writers_made_of {Rd} {W} {A} writes writer_of writing written report many kept is =
-    known_of (IsWriterDone writes writer_of) (λ (l : LinkReport Rd W A). writer_reported l) (λ (b : Ended A WriterEnd W). writer_of b.half) (λ (h : Half W). writer_of h.half)
+writers_made_of {Rd} {W} {A} writes writer_of batch writing written report many kept is =
+    known_of (IsWriterDone writes writer_of batch) (λ (l : LinkReport Rd W A). writer_reported l) (λ (b : Ended A WriterEnd W). writer_of b.half) (λ (h : Half W). writer_of h.half)
     report.links.items writing written _ (λ link body promised. promised.made) many is kept refl
 
 -- where it is known from which links the halves were split, it is known what their readers are to give

@@ -8,7 +8,7 @@ use Rattle.gn_bodies.specs.declared.ends.BodyFault.TheVariants as body
 use Rattle.gn_threads.specs.declared.fault.RunFault.{RunFault}
 use Rattle.gn_threads.specs.declared.fault.RunFault.TheVariants.{BadWorkers, Listen, Call, Link, HistoryFull, NoMemory, Stage, Audit}
 
--- the faults of a run over this many links, already split, and with this many workers: all but BadWorkers, Listen, Call and Link;
+-- the faults of a run over this many split links, and with this many workers: all but BadWorkers, Listen, Call and Link;
 -- an Audit names an actor of the run
 abbrev pub IsFaultOf : ℕ → ℕ → RunFault → Type 0
 IsFaultOf links workers BadWorkers = ⊥

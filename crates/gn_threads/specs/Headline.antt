@@ -1,7 +1,7 @@
 -- The headline: what an answered run says of its history, of its actors, of each link and of each admitted ticket.
 --
 -- Of n links and V workers actor k below n reads link k, actor n + k writes it, actor 2n + j is worker j, and actor 2n + V
--- is the house.
+-- is the house. `turns` reads of a link may give bytes, and a writer takes at most `batch` packets at once.
 use Rattle.std.specs.Prelude.{◌≡◌, ◌<◌, ◌≤◌, ℕ, true, nat_lt, if◌then◌else◌, List, [], length, map, reverse, slice_index_or, Some, None}
 use Rattle.std.specs.List.{count_by, filter_map, list_all, slice_get, sum_by}
 use Rattle.gn_rules.specs.declared.config.Config.{Config}
@@ -24,8 +24,8 @@ use Rattle.gn_report.specs.Flaw.{AreRoutes, TookAll}
 use Rattle.gn_threads.specs.Ends.{ReaderEnds, WriterEnds}
 
 -- what holds of link k, of this role, in a run whose links have these roles
-pub record LinkHolds {Rd W A : Type 0} (reads : Rd → ReadHalf) (writes : W → WrittenHalf) (turns : ℕ) (roles : List Role)
-    (report : Report Rd W A) (k : ℕ) (role : Role) (link : LinkReport Rd W A) : Type 0 where
+pub record LinkHolds {Rd W A : Type 0} (reads : Rd → ReadHalf) (writes : W → WrittenHalf) (turns batch : ℕ)
+    (roles : List Role) (report : Report Rd W A) (k : ℕ) (role : Role) (link : LinkReport Rd W A) : Type 0 where
   -- the link's connection is the one that its reader's Connect got, if any
   pub conn : link.conn
       ≡ slice_get (filter_map (λ r. if is_connect r.event then connected_of r.reply else None) link.reader_receipts.items) 0
@@ -38,7 +38,7 @@ pub record LinkHolds {Rd W A : Type 0} (reads : Rd → ReadHalf) (writes : W →
   -- the writer's events are Take and Close of the connection
   pub writer : list_all (λ r. is_writers link.conn r.event) link.writer_receipts.items ≡ true
   -- the writer is as the table of ends says
-  pub written : WriterEnds report.history.items roles (writer_of report k) role link.writer_receipts.items (writes link.writer)
+  pub written : WriterEnds batch report.history.items roles (writer_of report k) role link.writer_receipts.items (writes link.writer)
       link.writer_end link.conn
   -- nobody can write to the link any more
   pub finished : (writes link.writer).is_finished ≡ true
@@ -72,7 +72,7 @@ AreOfOne reader_of writer_of report =
     map (λ link. writer_of link.writer) report.links.items ≡ map (λ link. reader_of link.reader) report.links.items
 
 -- what holds of the report of a run with this configuration, over links of these roles, with this many workers
-pub record Holds {Rd W A : Type 0} (reads : Rd → ReadHalf) (writes : W → WrittenHalf) (s : Config) (roles : List Role)
+pub record Holds {Rd W A : Type 0} (batch : ℕ) (reads : Rd → ReadHalf) (writes : W → WrittenHalf) (s : Config) (roles : List Role)
     (workers : ℕ) (report : Report Rd W A) : Type 0 where
   -- the history is legal: each reply is the one that the rules give after the steps before it
   pub legal : IsLegal s (reverse report.history.items)
@@ -82,7 +82,7 @@ pub record Holds {Rd W A : Type 0} (reads : Rd → ReadHalf) (writes : W → Wri
   pub own : AreOwn report × (list_all (λ step. nat_lt step.actor (actors report)) report.history.items ≡ true)
   -- each link's reader and writer did what their ends say
   pub links : (k : ℕ) (role : Role) (link : LinkReport Rd W A) → k < length report.links.items
-      → LinkHolds reads writes (most_reads s.numbers.steps) roles report k (slice_index_or roles k role) (slice_index_or report.links.items k link)
+      → LinkHolds reads writes (most_reads s.numbers.steps) batch roles report k (slice_index_or roles k role) (slice_index_or report.links.items k link)
   -- the workers and the house made no event but Route; at the end nothing is in flight
   pub routes : ((a : ℕ) → first_worker report ≤ a → a < actors report → AreRoutes (slice_index_or (receipts_of report) a []))
       × (is_settled report.history.items (length report.history.items) ≡ true)
@@ -105,5 +105,5 @@ pub record Follows {Rd W A : Type 0} (report : Report Rd W A) : Type 0 where
 -- where the headline holds, so does what follows of it
 abbrev pub RunsAddUp : Type 0 → Type 0 → Type 0 → Type 0
 RunsAddUp Rd W A =
-    (reads : Rd → ReadHalf) (writes : W → WrittenHalf) (s : Config) (roles : List Role) (workers : ℕ) (report : Report Rd W A)
-    → Holds reads writes s roles workers report → Follows report
+    (batch : ℕ) (reads : Rd → ReadHalf) (writes : W → WrittenHalf) (s : Config) (roles : List Role) (workers : ℕ) (report : Report Rd W A)
+    → Holds batch reads writes s roles workers report → Follows report

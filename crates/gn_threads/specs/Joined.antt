@@ -23,12 +23,12 @@ EachKeeps {K} {B} keeps links bodies =
     (k : ℕ) (link : K) (body : B) → k < length bodies
     → keeps (slice_index_or links k link) (slice_index_or bodies k body)
 
--- the bodies of each link's reader and of each link's writer are as their ends say, where the links have these roles and `turns`
--- reads of each may give bytes
-pub record KeepEnds {A : Type 0} (turns : ℕ) (roles : List Role) (reading : List (Ended A ReaderEnd ReadHalf))
+-- the bodies of each link's reader and of each link's writer are as their ends say, where the links have these roles, `turns`
+-- reads of each may give bytes, and a writer takes at most `batch` packets at once
+pub record KeepEnds {A : Type 0} (turns batch : ℕ) (roles : List Role) (reading : List (Ended A ReaderEnd ReadHalf))
     (writing : List (Ended A WriterEnd WrittenHalf)) : Type 0 where
   pub readers : EachKeeps (ReaderKeeps turns) roles reading
-  pub writers : EachKeeps WriterKeeps roles writing
+  pub writers : EachKeeps (WriterKeeps batch) roles writing
 
 -- the threads of the readers and of the writers that began with these halves, and of so many workers, are joined, and each
 -- kept its promise

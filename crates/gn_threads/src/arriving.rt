@@ -16,12 +16,12 @@ use crate::course::{Course, InMemory};
 use crate::done::Done;
 use crate::fault::RunFault;
 use crate::finishing::finish;
+use crate::limits::{Limited, Limits};
 use crate::opening::{Opening, open_run};
 use crate::starting::start_and_join;
 use crate::stopped::Stopped;
-use crate::turns::{Limited, Turns};
 use crate::unstarted::Unstarted;
-use gn_hub::{Hub, Service};
+use gn_hub::{Batch, Hub, Service};
 use gn_links::Gate;
 use gn_report::Report;
 use gn_room::run_beside;
@@ -59,7 +59,7 @@ where
     ensures bad_workers { IfErr result (λ fault. (fault ≡ BadWorkers) ↔ (¬ IsCrew workers)) }
     ensures fault { IfErr result (λ fault. IsCrew workers
         → IsArrivingFault V.has_peers (length roles.now) workers fault) }
-    ensures holds { IfOk result (λ report. Holds V.Reader.state V.Writer.state config.now roles.now workers report) }
+    ensures holds { IfOk result (λ report. Holds 1 V.Reader.state V.Writer.state config.now roles.now workers report) }
     ensures bytes { IfOk result (λ report. LinksReadOwn V.Reader.state
         (map (λ link. V.Reader.gives (V.Reader.made_of link.reader)) report.links.items) report) }
     ensures made { IfOk result (λ report. AreMadeOf
@@ -102,7 +102,7 @@ where
         IsLegal config.now (reverse history.items))) }
     ensures full { IfErr result (λ stopped. stopped.fault ≡ HistoryFull → IfSome stopped.history (λ history.
         length history.items ≡ config.now.numbers.steps)) }
-    ensures holds { IfOk result (λ report. Holds V.Reader.state V.Writer.state config.now roles.now workers report) }
+    ensures holds { IfOk result (λ report. Holds 1 V.Reader.state V.Writer.state config.now roles.now workers report) }
     ensures bytes { IfOk result (λ report. LinksReadOwn V.Reader.state
         (map (λ link. V.Reader.gives (V.Reader.made_of link.reader)) report.links.items) report) }
     ensures made { IfOk result (λ report. AreMadeOf
@@ -117,13 +117,22 @@ where
         return Err(Stopped::before(RunFault::NoMemory));
     };
     let (answer, ()) = run_arriving_by::<C, InMemory, V, G, A, R>(
-        rt, alloc, config, roles, arrivals, workers, gate, core, InMemory,
+        rt,
+        alloc,
+        config,
+        roles,
+        arrivals,
+        workers,
+        gate,
+        Batch::one(),
+        core,
+        InMemory,
     );
     answer
 }
 
-/// Does the same with a router of no steps, which may give its steps to somebody who runs beside it. What is left of that comes back;
-/// the history begins with the steps that it had.
+/// Does the same with a router of no steps, which may give its steps to somebody who runs beside it, and with writers that take at
+/// most `batch` packets at once. What is left of who ran beside it comes back; the history begins with the steps that it had.
 pub fn run_arriving_by<
     C: RouterCore<A> + Drop + Send,
     W: Course<C, A> + Send + Drop,
@@ -139,6 +148,7 @@ pub fn run_arriving_by<
     arrivals: V,
     workers: u32,
     gate: &G,
+    batch: Batch,
     core: C,
     course: W,
 ) -> (Result<Report<V::Reader, V::Writer, A>, Stopped<A>>, W::Rest)
@@ -156,7 +166,8 @@ where
         IsLegal config.now (reverse history.items))) }
     ensures full { IfErr result.0 (λ stopped. stopped.fault ≡ HistoryFull → IfSome stopped.history (λ history.
         length history.items ≡ config.now.numbers.steps)) }
-    ensures holds { IfOk result.0 (λ report. Holds V.Reader.state V.Writer.state config.now roles.now workers report) }
+    ensures holds { IfOk result.0 (λ report.
+        Holds batch V.Reader.state V.Writer.state config.now roles.now workers report) }
     ensures bytes { IfOk result.0 (λ report. LinksReadOwn V.Reader.state
         (map (λ link. V.Reader.gives (V.Reader.made_of link.reader)) report.links.items) report) }
     ensures made { IfOk result.0 (λ report. AreMadeOf
@@ -184,6 +195,7 @@ where
         arrivals,
         workers,
         gate,
+        batch,
         core,
         course,
         &mut history,
@@ -194,7 +206,7 @@ where
     }
 }
 
-/// A run with its ledger, its stage and its limit of reads, which `B` names. Where it stops, what stands of the history is put
+/// A run with its ledger, its stage and its limits, which `B` names. Where it stops, what stands of the history is put
 /// into `history`.
 fn run_arriving_in<
     B: Site + Ledger + Limited + Send + Sync,
@@ -214,6 +226,7 @@ fn run_arriving_in<
     arrivals: V,
     workers: u32,
     gate: &G,
+    batch: Batch,
     core: C,
     course: W,
     history: &mut Option<Vec<Step<A>, A>>,
@@ -226,10 +239,12 @@ where
     requires blank { (blank.name ≡ B.name) × (blank.parts ≡ B.parts)
         × (blank.parts ≡ 2 * length roles.now + workers + 1) × (stage ≡ B.stage) }
     requires turns { B.turns ≡ most_reads config.now.numbers.steps }
+    requires batch { B.batch ≡ batch }
     requires few { (length roles.now ≤ most_links) × IsCrew workers }
     requires empty { C.steps core ≡ [] }
     ensures fault { IfErr result.0 (λ fault. IsArrivingFault V.has_peers (length roles.now) workers fault) }
-    ensures holds { IfOk result.0 (λ report. Holds V.Reader.state V.Writer.state config.now roles.now workers report) }
+    ensures holds { IfOk result.0 (λ report.
+        Holds B.batch V.Reader.state V.Writer.state config.now roles.now workers report) }
     ensures bytes { IfOk result.0 (λ report. LinksReadOwn V.Reader.state
         (map (λ link. V.Reader.gives (V.Reader.made_of link.reader)) report.links.items) report) }
     ensures made { IfOk result.0 (λ report. AreMadeOf
@@ -251,9 +266,9 @@ where
         house,
         desk,
     } = opening;
-    let turns = Turns::of(config);
+    let limits = Limits::of(config, batch);
     let (joined, ran) = run_bodies(
-        rt, alloc, &service, gate, &turns, arrivals, unstarted, course,
+        rt, alloc, &service, gate, &limits, arrivals, unstarted, course,
     );
     let (core, frame) = service.into_hub().into_parts();
     let (router, rest) = W::end(ran, core);
@@ -288,7 +303,7 @@ fn run_bodies<
     alloc: A,
     service: &Service<C, B, A>,
     gate: &G,
-    turns: &Turns<B>,
+    limits: &Limits<B>,
     arrivals: V,
     unstarted: Unstarted<'r, B, A>,
     course: W,
@@ -302,14 +317,14 @@ where
     W::Followed: Send + Drop,
     ensures joined { IfOk result.0 (λ done. AreJoinedOf
         (IsReaderDone V.Reader.state V.Reader.made_of V.Reader.gives B.turns)
-        (IsWriterDone V.Writer.state V.Writer.made_of)
+        (IsWriterDone V.Writer.state V.Writer.made_of B.batch)
         V.Reader.made_of V.Writer.made_of V.foreknown unstarted.entry.roles.now (V.coming arrivals)
         (vec_len unstarted.entry.outlets) done) }
     ensures fault { IfErr result.0 (λ fault. (workers : ℕ)
         → IsArrivingFault V.has_peers (length unstarted.entry.roles.now) workers fault) }
     ensures follows { W.follows course result.1 }
 {
-    let bodies = move || start_and_join(rt, alloc, service, gate, turns, arrivals, unstarted);
+    let bodies = move || start_and_join(rt, alloc, service, gate, limits, arrivals, unstarted);
     if W::IS_BESIDE {
         return run_beside(rt, service.room(), course, bodies);
     }

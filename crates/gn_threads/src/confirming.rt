@@ -31,6 +31,7 @@ ghost use Rattle.gn_threads.specs.Joined.{KeepEnds};
 ghost use Rattle.gn_threads.specs.Shares.{AreCounted, amount_of, parts_of};
 
 use crate::fault::RunFault;
+use crate::limits::Limited;
 use crate::reported::{Linked, Worked};
 use crate::shares::Shares;
 use gn_hub::{Actor, Hub};
@@ -106,7 +107,7 @@ pub(crate) fn keep_history<L: Ledger, C: Historian<A>, A: Allocator + Copy>(
 pub(crate) fn report<
     Rd: LinkReader,
     W: LinkWriter,
-    L: Ledger,
+    L: Ledger + Limited,
     C: Historian<A>,
     A: Allocator + Copy,
 >(
@@ -120,14 +121,14 @@ pub(crate) fn report<
 ) -> Result<Report<Rd, W, A>, RunFault>
     requires counted { AreCounted L.parts (length roles.now) (vec_len linked.links) (vec_len linked.links)
         (vec_len worked.receipts) }
-    requires ends { KeepEnds (most_reads config.now.numbers.steps) roles.now
+    requires ends { KeepEnds (most_reads config.now.numbers.steps) L.batch roles.now
         (map (λ l. halved Rd.state (reader_reported l)) linked.links.items)
         (map (λ l. halved W.state (writer_reported l)) linked.links.items) }
     requires unconfirmed { IfSome unconfirmed
         (λ a. a < length roles.now + length roles.now + vec_len worked.receipts + 1) }
     ensures fault { IfErr result (λ fault. IsFaultOf (length roles.now) (vec_len worked.receipts) fault) }
     ensures holds { IfOk result (λ report.
-        Holds Rd.state W.state config.now roles.now (vec_len worked.receipts) report) }
+        Holds L.batch Rd.state W.state config.now roles.now (vec_len worked.receipts) report) }
     ensures links { IfOk result (λ report. report.links.items ≡ linked.links.items) }
     ensures steps { IfOk result (λ report. report.history.items ≡ hub.steps) }
     ensures clean { IfOk result (λ _. unconfirmed ≡ None) }
@@ -154,12 +155,12 @@ pub(crate) fn report<
         stats,
     };
     let misconfigured = misconfigured(is_configured, number);
-    confirmed(config, roles, report, least(unconfirmed, misconfigured))
+    confirmed::<Rd, W, L, A>(config, roles, report, least(unconfirmed, misconfigured))
 }
 
 /// The report, where it has no flaw and no other actor is unconfirmed; the least of the two is named where there is one. The
 /// house is unconfirmed where the router hasn't the configuration of the call.
-fn confirmed<Rd: LinkReader, W: LinkWriter, A: Allocator>(
+fn confirmed<Rd: LinkReader, W: LinkWriter, L: Limited, A: Allocator>(
     config: &Config,
     roles: &[Role],
     report: Report<Rd, W, A>,
@@ -169,13 +170,14 @@ fn confirmed<Rd: LinkReader, W: LinkWriter, A: Allocator>(
     requires legal { unconfirmed ≡ None → IsLegal config.now (reverse report.history.items) }
     requires counted { (sum_by (λ receipts. length receipts) (receipts_of report) ≡ length report.history.items)
         × (report.stats ≡ stats_of (reverse report.history.items)) }
-    requires ends { KeepEnds (most_reads config.now.numbers.steps) roles.now
+    requires ends { KeepEnds (most_reads config.now.numbers.steps) L.batch roles.now
         (map (λ l. halved Rd.state (reader_reported l)) report.links.items)
         (map (λ l. halved W.state (writer_reported l)) report.links.items) }
     requires unconfirmed { IfSome unconfirmed
         (λ a. a < length roles.now + length roles.now + vec_len report.workers + 1) }
     ensures fault { IfErr result (λ fault. IsFaultOf (length roles.now) (vec_len report.workers) fault) }
-    ensures holds { IfOk result (λ found. Holds Rd.state W.state config.now roles.now (vec_len report.workers) found) }
+    ensures holds { IfOk result (λ found.
+        Holds L.batch Rd.state W.state config.now roles.now (vec_len report.workers) found) }
     ensures same { IfOk result (λ found. (found ≡ report) × (unconfirmed ≡ None)) }
 {
     let flaw = report.flaw(roles);

@@ -17,6 +17,7 @@ use crate::confirming::{keep_history, least, report};
 use crate::done::{Done, first_refused};
 use crate::fault::RunFault;
 use crate::house::route_left;
+use crate::limits::Limited;
 use crate::reported::{ReaderResult, Worked, report_links, report_workers, send_home};
 use gn_bodies::{BodyFault, WriterDone};
 use gn_hub::{Actor, Hub};
@@ -33,7 +34,7 @@ use std::sync::ledger::Ledger;
 /// memory ran out, what stands of the history is kept.
 #[tactic(auto, using(crate::proofs::CourseLemmas::begun_self, crate::proofs::CourseLemmas::begun_some))]
 pub(crate) fn finish<
-    B: Site + Ledger,
+    B: Site + Ledger + Limited,
     C: Historian<A> + Drop,
     Rd: LinkReader,
     W: LinkWriter,
@@ -53,11 +54,12 @@ pub(crate) fn finish<
     requires none { history.old ≡ None }
     requires counted { AreCounted B.parts (length roles.now) (vec_len done.readers) (vec_len done.writers)
         (vec_len done.workers) }
-    requires ends { KeepEnds (most_reads config.now.numbers.steps) roles.now
+    requires ends { KeepEnds (most_reads config.now.numbers.steps) B.batch roles.now
         (map (λ d. halved Rd.state (reader_ended d)) done.readers.items)
         (map (λ d. halved W.state (writer_ended d)) done.writers.items) }
     ensures fault { IfErr result (λ fault. IsFaultOf (length roles.now) (vec_len done.workers) fault) }
-    ensures holds { IfOk result (λ report. Holds Rd.state W.state config.now roles.now (vec_len done.workers) report) }
+    ensures holds { IfOk result (λ report.
+        Holds B.batch Rd.state W.state config.now roles.now (vec_len done.workers) report) }
     ensures bodies { IfOk result (λ report.
         HasBodies (map reader_ended done.readers.items) (map writer_ended done.writers.items) report) }
     ensures clean { IfOk result (λ _. (k : ℕ) (d : WorkerDone B A) → k < vec_len done.workers
@@ -95,7 +97,6 @@ pub(crate) fn finish<
             return Err(fault);
         }
     };
-    let unconfirmed = least(worker, idle);
     assemble(
         alloc,
         config,
@@ -105,7 +106,7 @@ pub(crate) fn finish<
         readers,
         writers,
         worked,
-        unconfirmed,
+        least(worker, idle),
         history,
     )
 }
@@ -141,29 +142,35 @@ fn settle<B: Site + Ledger, C: RouterCore<A>, A: Allocator + Copy, R: Wait>(
 /// The report of a run whose house is done. `unconfirmed` is a worker or the house, where one was refused a route.
 ///
 /// A reader that was refused one has no end that could be reported, so it is named here, whatever else isn't confirmed.
-fn assemble<L: Ledger, C: Historian<A> + Drop, Rd: LinkReader, W: LinkWriter, A: Allocator + Copy>(
+fn assemble<
+    B: Ledger + Limited,
+    C: Historian<A> + Drop,
+    Rd: LinkReader,
+    W: LinkWriter,
+    A: Allocator + Copy,
+>(
     alloc: A,
     config: &Config,
     roles: &[Role],
-    hub: Hub<C, L, A>,
-    house: Actor<L, A>,
-    readers: Vec<ReaderResult<Rd, L, A>, A>,
-    writers: Vec<WriterDone<W, L, A>, A>,
-    worked: Worked<L, A>,
+    hub: Hub<C, B, A>,
+    house: Actor<B, A>,
+    readers: Vec<ReaderResult<Rd, B, A>, A>,
+    writers: Vec<WriterDone<W, B, A>, A>,
+    worked: Worked<B, A>,
     unconfirmed: Option<u32>,
     history: &mut Option<Vec<Step<A>, A>>,
 ) -> Result<Report<Rd, W, A>, RunFault>
     requires none { history.old ≡ None }
-    requires counted { AreCounted L.parts (length roles.now) (vec_len readers) (vec_len writers)
+    requires counted { AreCounted B.parts (length roles.now) (vec_len readers) (vec_len writers)
         (vec_len worked.receipts) }
-    requires ends { KeepEnds (most_reads config.now.numbers.steps) roles.now
+    requires ends { KeepEnds (most_reads config.now.numbers.steps) B.batch roles.now
         (map (λ d. halved Rd.state (reader_result d)) readers.items)
         (map (λ d. halved W.state (writer_ended d)) writers.items) }
     requires unconfirmed { IfSome unconfirmed
         (λ a. a < length roles.now + length roles.now + vec_len worked.receipts + 1) }
     ensures fault { IfErr result (λ fault. IsFaultOf (length roles.now) (vec_len worked.receipts) fault) }
     ensures holds { IfOk result (λ report.
-        Holds Rd.state W.state config.now roles.now (vec_len worked.receipts) report) }
+        Holds B.batch Rd.state W.state config.now roles.now (vec_len worked.receipts) report) }
     ensures bodies { IfOk result (λ report.
         HasBodies (map reader_result readers.items) (map writer_ended writers.items) report) }
     ensures clean { IfOk result (λ _. unconfirmed ≡ None) }

@@ -10,8 +10,8 @@ ghost use Rattle.gn_threads.specs.Joined.{AreJoined};
 use crate::done::Done;
 use crate::ended::{Body, any_ended_with};
 use crate::fault::RunFault;
+use crate::limits::Limited;
 use crate::start::{ReaderHandle, WorkerHandle, WriterHandle};
-use crate::turns::Limited;
 use gn_bodies::BodyFault;
 use gn_hub::Service;
 use gn_links::{LinkReader, LinkWriter};
@@ -130,7 +130,7 @@ impl<Rd: LinkReader, W: LinkWriter, B: Site + Ledger + Limited, A: Allocator + C
     /// that one of them found, or else memory.
     pub(crate) fn join<R: Threads>(self, rt: &R) -> Result<Done<Rd, W, B, A>, RunFault>
         ensures joined { IfOk result (λ done. AreJoined
-            (IsReaderDone Rd.state Rd.made_of Rd.gives B.turns) (IsWriterDone W.state W.made_of)
+            (IsReaderDone Rd.state Rd.made_of Rd.gives B.turns) (IsWriterDone W.state W.made_of B.batch)
             (map (λ h. half_of h.promise.start.value.role h.promise.start.value.reader) self.readers.items)
             (map (λ h. half_of h.promise.start.value.role h.promise.start.value.writer) self.writers.items)
             (vec_len self.workers) done) }

@@ -12,6 +12,7 @@ mod fault;
 mod finishing;
 mod house;
 mod joins;
+mod limits;
 mod opening;
 mod reported;
 mod runs;
@@ -19,7 +20,6 @@ mod shares;
 mod start;
 mod starting;
 mod stopped;
-mod turns;
 mod unstarted;
 
 pub use arrivals::Arrivals;

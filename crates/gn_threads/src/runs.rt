@@ -13,6 +13,7 @@ use crate::arriving::run_arriving_by;
 use crate::course::{Course, InMemory};
 use crate::fault::RunFault;
 use crate::stopped::Stopped;
+use gn_hub::Batch;
 use gn_links::{Gate, Link, SplitLinks, split_all};
 use gn_report::Report;
 use gn_rules::{Config, Historian, MOST_WORKERS, RouterCore};
@@ -47,7 +48,7 @@ where
     ensures bad_workers { IfErr result (λ fault. (fault ≡ BadWorkers) ↔ (¬ IsCrew workers)) }
     ensures fault { IfErr result (λ fault. IsCrew workers
         → IsWholeFault (map K.may_not_split links.items) workers fault) }
-    ensures holds { IfOk result (λ report. Holds K.Reader.state K.Writer.state config.now
+    ensures holds { IfOk result (λ report. Holds 1 K.Reader.state K.Writer.state config.now
         (map K.role_of links.items) workers report) }
     ensures bytes { IfOk result (λ report. LinksReadOwn K.Reader.state
         (map (λ link. K.Reader.gives (K.origin_of link)) links.items) report) }
@@ -61,7 +62,15 @@ where
         return Err(RunFault::NoMemory);
     };
     let (answer, ()) = run_by::<C, InMemory, K, G, A, R>(
-        rt, alloc, config, links, workers, gate, core, InMemory,
+        rt,
+        alloc,
+        config,
+        links,
+        workers,
+        gate,
+        Batch::one(),
+        core,
+        InMemory,
     );
     match answer {
         Ok(report) => Ok(report),
@@ -69,9 +78,10 @@ where
     }
 }
 
-/// Does the same with a router of no steps, which may give its steps to somebody who runs beside it. What is left of that comes back;
-/// the history begins with the steps that it had. A fault comes with what stands of the history, which is legal by the configuration
-/// of the call, and has as many steps as it may have where the fault is a full history.
+/// Does the same with a router of no steps, which may give its steps to somebody who runs beside it, and with writers that take at
+/// most `batch` packets at once. What is left of who ran beside it comes back; the history begins with the steps that it had. A fault
+/// comes with what stands of the history, which is legal by the configuration of the call, and has as many steps as it may have where
+/// the fault is a full history.
 pub fn run_by<
     C: RouterCore<A> + Drop + Send,
     W: Course<C, A> + Send + Drop,
@@ -86,6 +96,7 @@ pub fn run_by<
     links: Vec<K, A>,
     workers: u32,
     gate: &G,
+    batch: Batch,
     core: C,
     course: W,
 ) -> (Result<Report<K::Reader, K::Writer, A>, Stopped<A>>, W::Rest)
@@ -103,7 +114,7 @@ where
         IsLegal config.now (reverse history.items))) }
     ensures full { IfErr result.0 (λ stopped. stopped.fault ≡ HistoryFull → IfSome stopped.history (λ history.
         length history.items ≡ config.now.numbers.steps)) }
-    ensures holds { IfOk result.0 (λ report. Holds K.Reader.state K.Writer.state config.now
+    ensures holds { IfOk result.0 (λ report. Holds batch K.Reader.state K.Writer.state config.now
         (map K.role_of links.items) workers report) }
     ensures bytes { IfOk result.0 (λ report. LinksReadOwn K.Reader.state
         (map (λ link. K.Reader.gives (K.origin_of link)) links.items) report) }
@@ -135,13 +146,14 @@ where
         arrivals,
         workers,
         gate,
+        batch,
         core,
         course,
     )
 }
 
-/// The law of what follows where `Holds` does: as many receipts as steps, each ticket routed once, and both actors of a link have
-/// all that the history says of it.
+/// The law of what follows where `Holds` does, whatever the batch: as many receipts as steps, each ticket routed once, and both actors
+/// of a link have all that the history says of it.
 pub fn runs_add_up<Rd, W, A: Allocator>()
     ensures { RunsAddUp Rd W A }
 {}

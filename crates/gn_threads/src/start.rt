@@ -7,7 +7,7 @@ ghost use Rattle.gn_bodies.specs.Done.{half_of, IsReaderDone, IsWriterDone, read
 ghost use Rattle.gn_bodies.specs.Events.{link_events};
 
 use crate::actors::UnstartedActors;
-use crate::turns::{Limited, Turns};
+use crate::limits::{Limited, Limits};
 use gn_bodies::{ReaderDone, WorkerDone, WriterDone, reader_body, worker_body, writer_body};
 use gn_hub::{Actor, Service};
 use gn_links::{Gate, LinkReader, LinkWriter};
@@ -69,14 +69,15 @@ impl<Rd: LinkReader, B: Site + Ledger + Limited, A: Allocator> Promise<ReaderDon
 
 /// The promise of a writer's thread: what its body keeps, from this start.
 #[derive(Drop)]
-pub(crate) struct Writes<W: LinkWriter, L: Ledger, A: Allocator = Global> {
-    pub start: Snapshot<WriterStart<W, L, A>>,
+pub(crate) struct Writes<W: LinkWriter, B: Ledger, A: Allocator = Global> {
+    pub start: Snapshot<WriterStart<W, B, A>>,
 }
 
-impl<W: LinkWriter, L: Ledger, A: Allocator> Promise<WriterDone<W, L, A>> for Writes<W, L, A> {
+impl<W: LinkWriter, B: Ledger + Limited, A: Allocator> Promise<WriterDone<W, B, A>>
+    for Writes<W, B, A> {
     ghost use Rattle.gn_bodies.specs.Done.{IsWriterDone, half_of, writer_ended};
 
-    ghost kept_by = { λ p r. IsWriterDone W.state W.made_of
+    ghost kept_by = { λ p r. IsWriterDone W.state W.made_of B.batch
         (half_of p.start.value.role p.start.value.writer) (writer_ended r) };
 }
 
@@ -113,7 +114,7 @@ fn run_reader<
     alloc: A,
     service: &Service<C, B, A>,
     gate: &G,
-    turns: &Turns<B>,
+    limits: &Limits<B>,
     start: ReaderStart<Rd, B, A>,
 ) -> ReaderDone<Rd, B, A>
     ensures { IsReaderDone Rd.state Rd.made_of Rd.gives B.turns (half_of start.role start.reader)
@@ -127,26 +128,36 @@ fn run_reader<
         intake,
     } = start;
     reader_body(
-        rt, alloc, service, gate, actor, link, role, turns.many, reader, intake,
+        rt,
+        alloc,
+        service,
+        gate,
+        actor,
+        link,
+        role,
+        limits.turns,
+        reader,
+        intake,
     )
 }
 
 /// The body of a writer, from its start.
 fn run_writer<
     W: LinkWriter,
+    B: Ledger + Limited,
     C: RouterCore<A> + Drop,
-    L: Ledger,
     G: Gate,
     A: Allocator + Copy,
     R: Wait,
 >(
     rt: &R,
     alloc: A,
-    service: &Service<C, L, A>,
+    service: &Service<C, B, A>,
     gate: &G,
-    start: WriterStart<W, L, A>,
-) -> WriterDone<W, L, A>
-    ensures { IsWriterDone W.state W.made_of (half_of start.role start.writer) (writer_ended result) }
+    limits: &Limits<B>,
+    start: WriterStart<W, B, A>,
+) -> WriterDone<W, B, A>
+    ensures { IsWriterDone W.state W.made_of B.batch (half_of start.role start.writer) (writer_ended result) }
 {
     let WriterStart {
         actor,
@@ -154,7 +165,17 @@ fn run_writer<
         role,
         writer,
     } = start;
-    writer_body(rt, alloc, service, gate, actor, link, role, writer)
+    writer_body(
+        rt,
+        alloc,
+        service,
+        gate,
+        actor,
+        link,
+        role,
+        limits.batch,
+        writer,
+    )
 }
 
 /// The body of a worker, from its start.
@@ -217,7 +238,7 @@ pub(crate) struct Starter<
     pub scope: &'s Scope<'s, E>,
     pub service: &'s Service<C, B, A>,
     pub gate: &'s G,
-    pub turns: &'s Turns<B>,
+    pub limits: &'s Limits<B>,
 }
 
 impl<
@@ -242,11 +263,11 @@ impl<
             start: Snapshot::of(&start),
         };
         let (rt, alloc, service, gate) = (self.rt, self.alloc, self.service, self.gate);
-        let turns = self.turns;
+        let limits = self.limits;
         start_thread(
             self.scope,
             promise,
-            move || run_reader(rt, alloc, service, gate, turns, start),
+            move || run_reader(rt, alloc, service, gate, limits, start),
             handles,
         )
     }
@@ -264,10 +285,11 @@ impl<
             start: Snapshot::of(&start),
         };
         let (rt, alloc, service, gate) = (self.rt, self.alloc, self.service, self.gate);
+        let limits = self.limits;
         start_thread(
             self.scope,
             promise,
-            move || run_writer(rt, alloc, service, gate, start),
+            move || run_writer(rt, alloc, service, gate, limits, start),
             handles,
         )
     }

@@ -10,8 +10,8 @@ use crate::arrivals::Arrivals;
 use crate::done::Done;
 use crate::fault::RunFault;
 use crate::joins::Handles;
+use crate::limits::{Limited, Limits};
 use crate::start::{ReaderStart, Starter, WriterStart};
-use crate::turns::{Limited, Turns};
 use crate::unstarted::{Unstarted, UnstartedLink, UnstartedLinks};
 use gn_hub::Service;
 use gn_links::{Gate, LinkReader, LinkWriter};
@@ -211,7 +211,7 @@ impl<
         V::Writer: Send + 's,
         ensures joined { IfOk result (λ done. AreJoinedOf
             (IsReaderDone V.Reader.state V.Reader.made_of V.Reader.gives B.turns)
-            (IsWriterDone V.Writer.state V.Writer.made_of)
+            (IsWriterDone V.Writer.state V.Writer.made_of B.batch)
             V.Reader.made_of V.Writer.made_of V.foreknown unstarted.entry.roles.now (V.coming arrivals)
             (vec_len unstarted.entry.outlets) done) }
         ensures fault { IfErr result (λ fault. (workers : ℕ)
@@ -254,7 +254,7 @@ pub(crate) fn start_and_join<
     alloc: A,
     service: &Service<C, B, A>,
     gate: &G,
-    turns: &Turns<B>,
+    limits: &Limits<B>,
     arrivals: V,
     unstarted: Unstarted<'r, B, A>,
 ) -> Result<Done<V::Reader, V::Writer, B, A>, RunFault>
@@ -263,7 +263,7 @@ where
     V::Writer: Send,
     ensures joined { IfOk result (λ done. AreJoinedOf
         (IsReaderDone V.Reader.state V.Reader.made_of V.Reader.gives B.turns)
-        (IsWriterDone V.Writer.state V.Writer.made_of)
+        (IsWriterDone V.Writer.state V.Writer.made_of B.batch)
         V.Reader.made_of V.Writer.made_of V.foreknown unstarted.entry.roles.now (V.coming arrivals)
         (vec_len unstarted.entry.outlets) done) }
     ensures fault { IfErr result (λ fault. (workers : ℕ)
@@ -276,7 +276,7 @@ where
             scope,
             service,
             gate,
-            turns,
+            limits,
         };
         starter.run_all(arrivals, unstarted)
     })

@@ -96,6 +96,10 @@ numbers_of rows = do
     crowd = crowd;
   })
 
+-- how many packets are written to a neighbour at once at most, where it is 1 to 1,024
+abbrev pub batch_of : List Row → Option ℕ
+batch_of rows = number_asked (codes "batch") 1 1024 rows
+
 -- the seconds of a serve's limits, where each is within its own: for a silent peer, a peer that doesn't listen, the run, its end
 abbrev pub times_of : List Row → Option Times
 times_of rows = do
@@ -113,6 +117,7 @@ serving_of rows = do
   workers ← workers_of rows
   servent ← servent_of rows
   peers ← peers_of rows
+  batch ← batch_of rows
   numbers ← numbers_of rows
   times ← times_of rows
   Some (record {
@@ -123,6 +128,7 @@ serving_of rows = do
     peers = peers;
     idle = times.idle;
     retry = times.retry;
+    batch = batch;
     numbers = numbers;
     seconds = times.seconds;
     grace = times.grace;

@@ -54,8 +54,8 @@ show_app = with_rules (new_app (codes "show")) (flag_rule (codes "csv") ∷ flag
 abbrev pub load_app : App
 load_app = with_rules (new_app (codes "load")) (workers_rule ∷ flag_rule (codes "progress") ∷ [])
 
--- the subcommand `serve` before it is said what is printed: what has to be given and who the router is; whom it calls, and when it
--- gives a peer up; the numbers of its rules; what stops it, and how long it then has
+-- the subcommand `serve` before it is said what is printed: what has to be given and who the router is; whom it calls, when it
+-- gives a peer up, and how many packets it writes to one at once; the numbers of its rules; what stops it, and how long it then has
 abbrev pub quiet_app : App
 quiet_app = with_rules (new_app (codes "serve"))
     (value_rule (codes "port")
@@ -65,6 +65,7 @@ quiet_app = with_rules (new_app (codes "serve"))
     ∷ repeated_rule (codes "peer")
     ∷ default_rule (codes "idle") (codes "0")
     ∷ default_rule (codes "retry") (codes "0")
+    ∷ default_rule (codes "batch") (codes "64")
     ∷ default_rule (codes "neighbours") (codes "64")
     ∷ default_rule (codes "remembered") (codes "4096")
     ∷ default_rule (codes "servents") (codes "1024")
@@ -218,6 +219,7 @@ pub record PlainWordsAreRead : Type 0 where
         peers = [];
         idle = 0;
         retry = 0;
+        batch = 64;
         numbers = record {
           neighbours = 64;
           seen = 4096;

@@ -53,6 +53,8 @@ pub struct ServeOptions {
     pub idle: u32,
     /// The seconds for which a peer that doesn't listen is called again; 0: it is called once.
     pub retry: u32,
+    /// How many packets are written to a neighbour at once at most.
+    pub batch: u32,
     /// The numbers of the router's rules.
     pub numbers: Numbers,
     /// The seconds after which the run is stopped; 0: no time stops it.
@@ -76,7 +78,7 @@ pub struct ServeOptions {
 }
 
 impl Model for ServeOptions {
-    ghost use Rattle.std.specs.Prelude.{◌+◌, ◌≤◌, length};
+    ghost use Rattle.std.specs.Prelude.{◌+◌, ◌<◌, ◌≤◌, length};
     ghost use Rattle.gn_rules.specs.Limits.{AreWithin, IsCrew, most_links};
     ghost use Rattle.gn_words.specs.ServeOptions.{AskedServe};
 
@@ -90,6 +92,7 @@ impl Model for ServeOptions {
       peers = s.peers.items;
       idle = s.idle;
       retry = s.retry;
+      batch = s.batch;
       numbers = s.numbers;
       seconds = s.seconds;
       grace = s.grace;
@@ -103,5 +106,5 @@ impl Model for ServeOptions {
     } };
 
     ghost invariant = { λ s. (IsCrew s.workers) × (s.accept + length s.peers.items ≤ most_links)
-        × AreWithin s.numbers };
+        × (0 < s.batch) × AreWithin s.numbers };
 }

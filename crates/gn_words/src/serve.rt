@@ -25,9 +25,9 @@ const ABOUT: &str = "Routes for peers on this machine over TCP, and prints the h
 
 /// How it is called.
 const USAGE: &str = "gn serve --port P --accept A --workers V [--servent HEX32] [--peer IP:PORT]..
-                [--idle SECONDS] [--retry SECONDS] [--neighbours N] [--remembered N]
-                [--servents N] [--stage N] [--queue N] [--life L] [--crowd Q] [--steps N]
-                [--for SECONDS] [--grace SECONDS] [--stop-early] [--until-eof]
+                [--idle SECONDS] [--retry SECONDS] [--batch N] [--neighbours N]
+                [--remembered N] [--servents N] [--stage N] [--queue N] [--life L] [--crowd Q]
+                [--steps N] [--for SECONDS] [--grace SECONDS] [--stop-early] [--until-eof]
                 [--keep-history] [--times] [--links] [--report] [--progress]";
 
 /// What it does, how it ends, and what it prints, with an example.
@@ -91,8 +91,8 @@ const OPTIONS: [OptionRow; 4] = [
     },
 ];
 
-/// Whom it calls, and when it gives a peer up.
-const NEIGHBOURS: [OptionRow; 3] = [
+/// Whom it calls, when it gives a peer up, and how it writes to one.
+const NEIGHBOURS: [OptionRow; 4] = [
     OptionRow {
         name: "peer",
         letter: None,
@@ -114,6 +114,15 @@ A peer that is silent, or takes nothing, for so many seconds is given up,
         help: "\
 A peer that doesn't listen yet is called again for so many seconds, while
 the others are served, 0 to 86400; 0: it is called once",
+    },
+    OptionRow {
+        name: "batch",
+        letter: None,
+        takes: Takes::Usual("N", "64"),
+        help: "\
+How many packets are written to a neighbour at once at most, 1 to 1024.
+A larger batch is faster. Where a write fails, up to so many packets that
+were taken for that neighbour are lost",
     },
 ];
 
@@ -309,6 +318,14 @@ const RETRY: NumberOption = NumberOption {
     mistake: "--retry takes a number of seconds, 0 to 86400",
 };
 
+/// What `--batch` takes.
+const BATCH: NumberOption = NumberOption {
+    name: "batch",
+    least: 1,
+    most: 1024,
+    mistake: "--batch takes a number of 1 to 1024",
+};
+
 /// What `--neighbours` takes.
 const NEIGHBOURS_AT_ONCE: NumberOption = NumberOption {
     name: "neighbours",
@@ -485,6 +502,7 @@ pub(crate) fn serving_of(alloc: Global, options: &ArgMatches<'_>) -> Result<Serv
     let workers = asked(options, &WORKERS)?;
     let servent = servent_of(options)?;
     let peers = peers_of(alloc, options)?;
+    let batch = asked(options, &BATCH)?;
     let numbers = numbers_of(options)?;
     let times = times_of(options)?;
     Ok(ServeOptions {
@@ -495,6 +513,7 @@ pub(crate) fn serving_of(alloc: Global, options: &ArgMatches<'_>) -> Result<Serv
         peers,
         idle: times.idle,
         retry: times.retry,
+        batch,
         numbers,
         seconds: times.seconds,
         grace: times.grace,

@@ -87,7 +87,7 @@ pub mod stage {
 /// The router under its lock, and the actors that call it.
 pub mod hub {
     pub use gn_hub::{
-        Actor, Door, FoundClosed, Frame, Hub, Mark, Next, Outgoing, Service, ServiceFault,
+        Actor, Batch, Door, FoundClosed, Frame, Hub, Mark, Next, Outgoing, Service, ServiceFault,
     };
     pub use gn_room::{Following, Room, run_beside};
 }

@@ -5,7 +5,7 @@ ghost use Rattle.std.specs.Prelude.{◌≡◌};
 use crate::threads::hub::service_of;
 use gn_capture::read_history;
 use gn_fixtures::{Heap, Refused, Turn, Turns, are_same, growths, ping};
-use gn_hub::{Actor, Hub, Next, Outgoing, Role, Service, ServiceFault};
+use gn_hub::{Actor, Batch, Hub, Next, Outgoing, Role, Service, ServiceFault};
 use gn_payload::Checked;
 use gn_rules::{Event, Historian, Refusal};
 use gn_search::PlainRouter;
@@ -109,7 +109,7 @@ impl<'r, 's, A: Allocator + Copy, C: Historian<A> + Drop, L: Ledger, R: Wait> Pl
     }
 
     fn take(&mut self, me: &mut Actor<L, A>) -> Result<(), Refusal> {
-        match self.service.next_out(self.rt, me, 2)? {
+        match self.service.next_batch(self.rt, me, 2, Batch::one())? {
             Outgoing::Packet => Ok(()),
             Outgoing::Drained | Outgoing::Closed => Err(Refusal::NothingWaiting),
         }

@@ -3,6 +3,7 @@
 ghost use Rattle.std.specs.Prelude.{◌≡◌, [], IfSome};
 ghost use Rattle.gn_links.specs.Halves.{IsNewReader, IsNewWriter};
 
+mod batches;
 mod fakes;
 mod jobs;
 mod ways_out;
@@ -13,7 +14,7 @@ use gn_bodies::{
     BodyFault, ReaderEnd, WriterDone, WriterEnd, reader_body, worker_body, writer_body,
 };
 use gn_fixtures::{Heap, Refused, ping};
-use gn_hub::{Actor, Door, Hub, Service};
+use gn_hub::{Actor, Batch, Door, Hub, Service};
 use gn_links::{Link, LinkReader, LinkWriter, MemoryLink, MemoryWriter};
 use gn_rules::{Event, Historian, RouterCore, Step};
 use gn_shake::Role;
@@ -120,16 +121,19 @@ pub(crate) struct Setting<'a> {
     connected: u32,
     /// Whether it has no worker.
     is_alone: bool,
+    /// How many packets its writer takes at once at most.
+    batch: u32,
     /// The memory of the bodies, and which of their growths it refuses; nothing else that the run does is refused any.
     refused: Option<(&'a Heap, Refused)>,
 }
 
-/// A history of a hundred steps, and nothing out of the way.
+/// A history of a hundred steps, one packet at a time, and nothing out of the way.
 const USUAL: Setting<'static> = Setting {
     steps: 100,
     forged: None,
     connected: 0,
     is_alone: false,
+    batch: 1,
     refused: None,
 };
 
@@ -231,6 +235,7 @@ fn in_turn<A, C, B: Site + Ledger, Rd: LinkReader, W: LinkWriter, R: Wait>(
     intake: Intake<B, A>,
     outlet: Option<Outlet<B, A>>,
     role: Role,
+    batch: Batch,
     reader: Rd,
     writer: W,
     refused: Option<(&Heap, Refused)>,
@@ -257,7 +262,7 @@ where
     let read = (done.end, done.actor.receipts().len());
     drop(done);
     let worked = worker_end(rt, &service, k, &gate, outlet);
-    let wrote = writer_body(rt, alloc, &service, &gate, w, 0, role, writer);
+    let wrote = writer_body(rt, alloc, &service, &gate, w, 0, role, batch, writer);
     let has_refused = end_refusals(refused);
     what_ran(&gate, service.into_hub(), read, worked, wrote, has_refused)
 }
@@ -398,6 +403,7 @@ where
         intake,
         outlet,
         role,
+        Batch::of(setting.batch).unwrap_or(Batch::one()),
         reader,
         writer,
         setting.refused,

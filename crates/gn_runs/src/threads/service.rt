@@ -4,7 +4,7 @@ ghost use Rattle.std.specs.Prelude.{◌≡◌, ◌+◌};
 
 use crate::threads::hub::{service_of, stands_in};
 use gn_fixtures::{ping, usual};
-use gn_hub::{Actor, Outgoing, Role, Service};
+use gn_hub::{Actor, Batch, Outgoing, Role, Service};
 use gn_payload::Checked;
 use gn_rules::{Event, Historian, Legality, Step};
 use gn_search::PlainRouter;
@@ -150,7 +150,7 @@ fn takes<A: Allocator + Copy, C: Historian<A> + Drop, L: Ledger, R: Wait>(
     let c = service.meet(rt, 0)?;
     let mut taken = 0u32;
     for _ in rt.forever() {
-        match service.next_out(rt, me, c).ok()? {
+        match service.next_batch(rt, me, c, Batch::one()).ok()? {
             Outgoing::Packet => taken = taken.saturating_add(1),
             Outgoing::Drained | Outgoing::Closed => break,
         }

@@ -11,7 +11,7 @@ use Rattle.gn_load.proofs.journalled.serve_named.Goals as goal
 
 pub returns-in_default : goal.returns-in_default
 returns-in_default g c =
-    unbegun c.args.config.now c.args.peers.now c.args.accept c.args.workers (g.W.Sink.state c.args.sink.now) c.unbegun.result NoMemory c.unbegun.ensures (search rules) (search rules)
+    unbegun c.args.batch c.args.config.now c.args.peers.now c.args.accept c.args.workers (g.W.Sink.state c.args.sink.now) c.unbegun.result NoMemory c.unbegun.ensures (search rules) (search rules)
 
 pub finish_stopped-requires : goal.finish_stopped-requires
 finish_stopped-requires g c =
@@ -29,8 +29,8 @@ returns g c =
     let answer = c.serve_by-answer.result.0 in
     let stopped = c.in-Err.stopped in
     let named = sym (rest.left.0.0 ∙ rest.became.0) in
-    subst (λ (k : g.row.W.Denot). IsJournalled c.args.config.now c.args.peers.now c.args.accept c.args.workers (g.W.Sink.state c.args.sink.now) (g.W.Sink.state k) (Err c.finish_stopped.result)) (sym (c.sink-in-Err-1.given.1 named))
-    (stopped_as c.args.config.now c.args.peers.now c.args.accept c.args.workers rest.steps (g.W.Sink.state c.args.sink.now) (g.W.Sink.state c.serve_by-answer.result.1.sink.now) (g.W.Sink.state c.finish_stopped.new.sink) stopped c.finish_stopped.result
+    subst (λ (k : g.row.W.Denot). IsJournalled c.args.batch c.args.config.now c.args.peers.now c.args.accept c.args.workers (g.W.Sink.state c.args.sink.now) (g.W.Sink.state k) (Err c.finish_stopped.result)) (sym (c.sink-in-Err-1.given.1 named))
+    (stopped_as c.args.batch c.args.config.now c.args.peers.now c.args.accept c.args.workers rest.steps (g.W.Sink.state c.args.sink.now) (g.W.Sink.state c.serve_by-answer.result.1.sink.now) (g.W.Sink.state c.finish_stopped.new.sink) stopped c.finish_stopped.result
     (record {
       crew = c.requires.few.1;
       bad_workers = err_of answer stopped _ c.in-Err.is c.serve_by-answer.ensures.bad_workers;
@@ -54,8 +54,8 @@ returns-in-Ok-finish_history g c =
     let new = g.W.Sink.state c.finish_history.new.sink in
     let finished = subst (λ steps. HasFinished steps mid new c.serve_by-answer.result.1.waiting c.finish_history.result) c.deref.ensures.value c.finish_history.ensures in
     let named = sym (rest.left.0.0 ∙ rest.became.0) in
-    subst (λ (k : g.row.W.Denot). IsJournalled c.args.config.now c.args.peers.now c.args.accept c.args.workers (g.W.Sink.state c.args.sink.now) (g.W.Sink.state k) (Ok (c.in-Ok-answer.report, c.in-Ok-answer.ran))) (sym (c.sink-1.given.1 named))
-    (all_written_of c.args.config.now c.args.peers.now c.args.accept c.args.workers rest.steps (g.W.Sink.state c.args.sink.now) mid new report ran c.serve_by-answer.result.1.waiting c.in-Ok-finish_history.field-0 c.requires.few.1
+    subst (λ (k : g.row.W.Denot). IsJournalled c.args.batch c.args.config.now c.args.peers.now c.args.accept c.args.workers (g.W.Sink.state c.args.sink.now) (g.W.Sink.state k) (Ok (c.in-Ok-answer.report, c.in-Ok-answer.ran))) (sym (c.sink-1.given.1 named))
+    (all_written_of c.args.batch c.args.config.now c.args.peers.now c.args.accept c.args.workers rest.steps (g.W.Sink.state c.args.sink.now) mid new report ran c.serve_by-answer.result.1.waiting c.in-Ok-finish_history.field-0 c.requires.few.1
     (ok_of answer (report, ran) _ c.in-Ok-answer.is c.serve_by-answer.ensures.ran)
     (ok_of answer (report, ran) _ c.in-Ok-answer.is c.serve_by-answer.ensures.holds)
     (ok_of answer (report, ran) _ c.in-Ok-answer.is c.serve_by-answer.ensures.made)
@@ -75,8 +75,8 @@ returns-in-Ok-answer g c =
     let new = g.W.Sink.state c.finish_history.new.sink in
     let finished = subst (λ steps. HasFinished steps mid new c.serve_by-answer.result.1.waiting c.finish_history.result) c.deref.ensures.value c.finish_history.ensures in
     let named = sym (rest.left.0.0 ∙ rest.became.0) in
-    subst (λ (k : g.row.W.Denot). IsJournalled c.args.config.now c.args.peers.now c.args.accept c.args.workers (g.W.Sink.state c.args.sink.now) (g.W.Sink.state k) (Err (record { fault = c.of_print.result; history = Some c.in-Ok-answer.report.history; ran = Some c.in-Ok-answer.ran }))) (sym (c.sink-1.given.1 named))
-    (unwritten c.args.config.now c.args.peers.now c.args.accept c.args.workers rest.steps (g.W.Sink.state c.args.sink.now) mid new report ran _ c.serve_by-answer.result.1.waiting c.in-Err-finish_history.why c.requires.few.1
+    subst (λ (k : g.row.W.Denot). IsJournalled c.args.batch c.args.config.now c.args.peers.now c.args.accept c.args.workers (g.W.Sink.state c.args.sink.now) (g.W.Sink.state k) (Err (record { fault = c.of_print.result; history = Some c.in-Ok-answer.report.history; ran = Some c.in-Ok-answer.ran }))) (sym (c.sink-1.given.1 named))
+    (unwritten c.args.batch c.args.config.now c.args.peers.now c.args.accept c.args.workers rest.steps (g.W.Sink.state c.args.sink.now) mid new report ran _ c.serve_by-answer.result.1.waiting c.in-Err-finish_history.why c.requires.few.1
     (ok_of answer (report, ran) _ c.in-Ok-answer.is c.serve_by-answer.ensures.ran)
     (ok_of answer (report, ran) _ c.in-Ok-answer.is c.serve_by-answer.ensures.holds)
     (ok_of answer (report, ran) _ c.in-Ok-answer.is c.serve_by-answer.ensures.made)

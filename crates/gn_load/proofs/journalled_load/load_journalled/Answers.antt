@@ -31,35 +31,35 @@ returns-in_err-config-clause-fault g c =
 pub returns-clause-short : goal.returns-clause-short
 returns-clause-short g c =
     let k = streams (g.S.Source.state c.args.source.now) (g.S.Source.state c.read_input.new.source) (g.W.Sink.state c.args.sink.now) (g.W.Sink.state c.write_load.new.sink) in
-    known_short c.in_ok-config.config c.in_ok-config.links.items c.args.workers k c.in_ok-text.text.items c.in_ok-config.ensures.read c.in_ok-text.ensures.all c.in_ok-text.ensures.short
+    known_short c.args.batch c.in_ok-config.config c.in_ok-config.links.items c.args.workers k c.in_ok-text.text.items c.in_ok-config.ensures.read c.in_ok-text.ensures.all c.in_ok-text.ensures.short
     c.write_load.result c.write_load.ensures
 
 pub returns-clause-valid : goal.returns-clause-valid
 returns-clause-valid g c =
     let k = streams (g.S.Source.state c.args.source.now) (g.S.Source.state c.read_input.new.source) (g.W.Sink.state c.args.sink.now) (g.W.Sink.state c.write_load.new.sink) in
-    known_valid c.in_ok-config.config c.in_ok-config.links.items c.args.workers k c.in_ok-text.text.items c.in_ok-config.ensures.read c.in_ok-text.ensures.all c.in_ok-text.ensures.short
+    known_valid c.args.batch c.in_ok-config.config c.in_ok-config.links.items c.args.workers k c.in_ok-text.text.items c.in_ok-config.ensures.read c.in_ok-text.ensures.all c.in_ok-text.ensures.short
     c.write_load.result c.write_load.ensures
 
 pub returns-clause-written : goal.returns-clause-written
 returns-clause-written g c =
     let k = streams (g.S.Source.state c.args.source.now) (g.S.Source.state c.read_input.new.source) (g.W.Sink.state c.args.sink.now) (g.W.Sink.state c.write_load.new.sink) in
-    known_written c.in_ok-config.config c.in_ok-config.links.items c.args.workers k c.in_ok-text.text.items c.in_ok-config.ensures.read c.in_ok-text.ensures.all c.in_ok-text.ensures.short
+    known_written c.args.batch c.in_ok-config.config c.in_ok-config.links.items c.args.workers k c.in_ok-text.text.items c.in_ok-config.ensures.read c.in_ok-text.ensures.all c.in_ok-text.ensures.short
     c.write_load.result c.write_load.ensures
 
 pub returns-clause-unfailed : goal.returns-clause-unfailed
 returns-clause-unfailed g c =
     let k = streams (g.S.Source.state c.args.source.now) (g.S.Source.state c.read_input.new.source) (g.W.Sink.state c.args.sink.now) (g.W.Sink.state c.write_load.new.sink) in
-    known_unfailed c.in_ok-config.config c.in_ok-config.links.items c.args.workers k c.in_ok-text.text.items c.in_ok-config.ensures.read c.in_ok-text.ensures.all c.in_ok-text.ensures.short
+    known_unfailed c.args.batch c.in_ok-config.config c.in_ok-config.links.items c.args.workers k c.in_ok-text.text.items c.in_ok-config.ensures.read c.in_ok-text.ensures.all c.in_ok-text.ensures.short
     c.write_load.result c.write_load.ensures c.in_ok-text.ensures.unfailed
 
 pub returns-clause-stopped : goal.returns-clause-stopped
 returns-clause-stopped g c =
     let k = streams (g.S.Source.state c.args.source.now) (g.S.Source.state c.read_input.new.source) (g.W.Sink.state c.args.sink.now) (g.W.Sink.state c.write_load.new.sink) in
-    known_stopped c.in_ok-config.config c.in_ok-config.links.items c.args.workers k c.in_ok-text.text.items c.in_ok-config.ensures.read c.in_ok-text.ensures.all c.in_ok-text.ensures.short
+    known_stopped c.args.batch c.in_ok-config.config c.in_ok-config.links.items c.args.workers k c.in_ok-text.text.items c.in_ok-config.ensures.read c.in_ok-text.ensures.all c.in_ok-text.ensures.short
     c.write_load.result c.write_load.ensures
 
 pub returns-clause-fault : goal.returns-clause-fault
 returns-clause-fault g c =
     let k = streams (g.S.Source.state c.args.source.now) (g.S.Source.state c.read_input.new.source) (g.W.Sink.state c.args.sink.now) (g.W.Sink.state c.write_load.new.sink) in
-    known_fault c.in_ok-config.config c.in_ok-config.links.items c.args.workers k c.in_ok-text.text.items c.in_ok-config.ensures.read c.in_ok-text.ensures.all c.in_ok-text.ensures.short
+    known_fault c.args.batch c.in_ok-config.config c.in_ok-config.links.items c.args.workers k c.in_ok-text.text.items c.in_ok-config.ensures.read c.in_ok-text.ensures.all c.in_ok-text.ensures.short
     c.write_load.result c.write_load.ensures

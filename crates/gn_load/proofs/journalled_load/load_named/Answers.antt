@@ -12,7 +12,7 @@ use Rattle.gn_load.proofs.journalled_load.load_named.Goals as goal
 
 pub returns-in_err-router : goal.returns-in_err-router
 returns-in_err-router g c =
-    unbegun_load c.args.config.now c.args.links.items c.args.workers (g.W.Sink.state c.args.sink.now) c.from_residual.result c.from_residual.ensures.1
+    unbegun_load c.args.batch c.args.config.now c.args.links.items c.args.workers (g.W.Sink.state c.args.sink.now) c.from_residual.result c.from_residual.ensures.1
 
 pub write_stopped-requires : goal.write_stopped-requires
 write_stopped-requires g c =
@@ -45,8 +45,8 @@ returns-in-Err g c =
       legal = rest.left.1 c.args.config.now c.requires.named.1;
     } in
     let named = sym (rest.left.0.0 ∙ rest.became.0) in
-    subst (λ (k : g.row.W.Denot). IsJournalledLoad c.args.config.now c.args.links.items c.args.workers old (g.W.Sink.state k) (Err c.fault_of-fault.result)) (sym (c.sink-in-Err-1.given.1 named))
-    (stopped_as c.args.config.now c.args.links.items c.args.workers rest.steps old mid new stopped run c.run_by-answer.result.1.waiting c.fault_of-fault.result has
+    subst (λ (k : g.row.W.Denot). IsJournalledLoad c.args.batch c.args.config.now c.args.links.items c.args.workers old (g.W.Sink.state k) (Err c.fault_of-fault.result)) (sym (c.sink-in-Err-1.given.1 named))
+    (stopped_as c.args.batch c.args.config.now c.args.links.items c.args.workers rest.steps old mid new stopped run c.run_by-answer.result.1.waiting c.fault_of-fault.result has
     c.fault_of-fault.ensures c.write_stopped.ensures)
 
 pub returns-in_ok-finished-in-Ok : goal.returns-in_ok-finished-in-Ok
@@ -61,8 +61,8 @@ returns-in_ok-finished-in-Ok g c =
     let new = g.W.Sink.state c.finish_history-finished.new.sink in
     let finished = subst (λ steps. HasFinished steps mid new c.run_by-answer.result.1.waiting (Ok c.in_ok-finished-in-Ok.field-0)) c.deref.ensures.value c.in_ok-finished-in-Ok.ensures in
     let named = sym (rest.left.0.0 ∙ rest.became.0) in
-    subst (λ (k : g.row.W.Denot). IsJournalledLoad c.args.config.now c.args.links.items c.args.workers old (g.W.Sink.state k) (Ok tt)) (sym (c.sink-1.given.1 named))
-    (all_loaded c.args.config.now c.args.links.items c.args.workers rest.steps old mid new c.run_by-answer.result.1.waiting has report c.in_ok-finished-in-Ok.field-0
+    subst (λ (k : g.row.W.Denot). IsJournalledLoad c.args.batch c.args.config.now c.args.links.items c.args.workers old (g.W.Sink.state k) (Ok tt)) (sym (c.sink-1.given.1 named))
+    (all_loaded c.args.batch c.args.config.now c.args.links.items c.args.workers rest.steps old mid new c.run_by-answer.result.1.waiting has report c.in_ok-finished-in-Ok.field-0
     (ok_of answer report _ c.in-Ok.is c.run_by-answer.ensures.holds)
     (ok_of answer report _ c.in-Ok.is c.run_by-answer.ensures.bytes)
     (halves_made c.args.links.items report (ok_of answer report _ c.in-Ok.is c.run_by-answer.ensures.made))
@@ -81,8 +81,8 @@ returns-in_err-finished-in-Ok g c =
     let new = g.W.Sink.state c.finish_history-finished.new.sink in
     let finished = subst (λ steps. HasFinished steps mid new c.run_by-answer.result.1.waiting (Err c.in_err-finished-in-Ok.field-0.0)) c.deref.ensures.value c.in_err-finished-in-Ok.ensures in
     let named = sym (rest.left.0.0 ∙ rest.became.0) in
-    subst (λ (k : g.row.W.Denot). IsJournalledLoad c.args.config.now c.args.links.items c.args.workers old (g.W.Sink.state k) c.from_residual-in_err-finished-in-Ok.result) (sym (c.sink-1.given.1 named))
-    (handed_load c.args.config.now c.args.links.items c.args.workers old new c.from_residual-in_err-finished-in-Ok.result (of_print c.in_err-finished-in-Ok.field-0.0) c.from_residual-in_err-finished-in-Ok.ensures.1
-    (cut_load c.args.config.now c.args.links.items c.args.workers rest.steps old mid new c.run_by-answer.result.1.waiting has report c.in_err-finished-in-Ok.field-0.0
+    subst (λ (k : g.row.W.Denot). IsJournalledLoad c.args.batch c.args.config.now c.args.links.items c.args.workers old (g.W.Sink.state k) c.from_residual-in_err-finished-in-Ok.result) (sym (c.sink-1.given.1 named))
+    (handed_load c.args.batch c.args.config.now c.args.links.items c.args.workers old new c.from_residual-in_err-finished-in-Ok.result (of_print c.in_err-finished-in-Ok.field-0.0) c.from_residual-in_err-finished-in-Ok.ensures.1
+    (cut_load c.args.batch c.args.config.now c.args.links.items c.args.workers rest.steps old mid new c.run_by-answer.result.1.waiting has report c.in_err-finished-in-Ok.field-0.0
     (ok_of answer report _ c.in-Ok.is c.run_by-answer.ensures.holds).legal
     (begun_ok answer report rest.steps c.in-Ok.is rest.held) finished))

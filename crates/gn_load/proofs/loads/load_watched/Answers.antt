@@ -22,7 +22,7 @@ write_failed r fault old new is write cause =
 pub returns-in_err-text-clause-stopped : goal.returns-in_err-text-clause-stopped
 returns-in_err-text-clause-stopped g c =
     on_err c.from_residual.result (Text (of_input c.in_err-text.field-0.0)) _ c.from_residual.ensures.1
-    (stopped_unread g.row.A.Denot c.args.workers c.in_err-text.field-0.0 _ (g.W.Sink.state c.args.sink.now).written)
+    (stopped_unread g.row.A.Denot 1 c.args.workers c.in_err-text.field-0.0 _ (g.W.Sink.state c.args.sink.now).written)
 
 pub returns-in_err-text-clause-fault : goal.returns-in_err-text-clause-fault
 returns-in_err-text-clause-fault g c =
@@ -32,7 +32,7 @@ returns-in_err-text-clause-fault g c =
 pub returns-in_err-config-clause-stopped : goal.returns-in_err-config-clause-stopped
 returns-in_err-config-clause-stopped g c =
     on_err c.from_residual-in_err-config.result c.in_err-config.field-0.0 _ c.from_residual-in_err-config.ensures.1
-    (stopped_unloaded g.row.A.Denot c.args.workers c.in_err-config.field-0.0 (load_of g.row.A.Denot c.in_ok-text.text.items) _
+    (stopped_unloaded g.row.A.Denot 1 c.args.workers c.in_err-config.field-0.0 (load_of g.row.A.Denot c.in_ok-text.text.items) _
     (g.W.Sink.state c.args.sink.now).written c.in_err-config.ensures.fault)
 
 pub returns-in_err-config-clause-fault : goal.returns-in_err-config-clause-fault
@@ -53,7 +53,7 @@ returns-in-Ok-clause-written g c =
     let old = (g.W.Sink.state c.args.sink.now).written in
     let new = (g.W.Sink.state c.print_history-printed.new.sink).written in
     let config = c.in_ok-config.config in
-    of_known _ c.in_ok-text.text.items (λ input. AppendsLoad g.row.A.Denot c.args.workers input old new) c.in_ok-text.ensures.all
+    of_known _ c.in_ok-text.text.items (λ input. AppendsLoad g.row.A.Denot 1 c.args.workers input old new) c.in_ok-text.ensures.all
     (history_text config c.in_ok-config.report.history.items, c.in_ok-config.ensures.history, subst (λ steps. Appends old new (history_text config steps)) c.deref.ensures.value c.in-Ok.ensures.ok)
 
 pub returns-in-Err-Write-clause-stopped : goal.returns-in-Err-Write-clause-stopped
@@ -62,7 +62,7 @@ returns-in-Err-Write-clause-stopped g c =
     let new = (g.W.Sink.state c.print_history-printed.new.sink).written in
     let config = c.in_ok-config.config in
     let printed = subst (λ printed. OnErr printed (AppendsPart old new (history_text config c.deref.result.now))) c.in-Err-Write.is c.print_history-printed.ensures.err in
-    of_known _ c.in_ok-text.text.items (λ input. AppendsLoadPart g.row.A.Denot c.args.workers input old new) c.in_ok-text.ensures.all
+    of_known _ c.in_ok-text.text.items (λ input. AppendsLoadPart g.row.A.Denot 1 c.args.workers input old new) c.in_ok-text.ensures.all
     (history_text config c.in_ok-config.report.history.items, c.in_ok-config.ensures.history, subst (λ steps. AppendsPart old new (history_text config steps)) c.deref.ensures.value printed)
 
 pub returns-in-Err-Write-clause-fault : goal.returns-in-Err-Write-clause-fault
@@ -79,7 +79,7 @@ returns-in-Err-NoMemory-clause-stopped g c =
     let new = (g.W.Sink.state c.print_history-printed.new.sink).written in
     let config = c.in_ok-config.config in
     let printed = subst (λ printed. OnErr printed (AppendsPart old new (history_text config c.deref.result.now))) c.in-Err-NoMemory.is c.print_history-printed.ensures.err in
-    inr (of_known _ c.in_ok-text.text.items (λ input. AppendsLoadPart g.row.A.Denot c.args.workers input old new) c.in_ok-text.ensures.all
+    inr (of_known _ c.in_ok-text.text.items (λ input. AppendsLoadPart g.row.A.Denot 1 c.args.workers input old new) c.in_ok-text.ensures.all
     (history_text config c.in_ok-config.report.history.items, c.in_ok-config.ensures.history, subst (λ steps. AppendsPart old new (history_text config steps)) c.deref.ensures.value printed))
 
 pub returns-in-Ok-clause-valid : goal.returns-in-Ok-clause-valid

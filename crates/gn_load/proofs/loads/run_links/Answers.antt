@@ -22,7 +22,7 @@ returns-in_err-report-clause-fault g c =
 pub returns-clause-history : goal.returns-clause-history
 returns-clause-history g c =
     let ran = c.in_ok-report.ensures in
-    history_printed g.row.A.Denot c.args.text.items c.in_ok-config.config c.in_ok-config.links.items c.in_ok-config.ensures.read c.args.workers c.in_ok-report.report ran.holds ran.bytes
+    history_printed g.row.A.Denot c.args.text.items c.in_ok-config.config c.in_ok-config.links.items c.in_ok-config.ensures.read c.args.workers 1 c.in_ok-report.report ran.holds ran.bytes
     (halves_made c.in_ok-config.links.items c.in_ok-report.report ran.made) ran.workers
 
 pub run-requires-send-K-Reader : goal.run-requires-send-K-Reader

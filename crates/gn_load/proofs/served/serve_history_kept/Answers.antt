@@ -9,12 +9,12 @@ use Rattle.gn_load.proofs.served.serve_history_kept.Goals as goal
 pub returns-in-Ok-print_history-clause-written : goal.returns-in-Ok-print_history-clause-written
 returns-in-Ok-print_history-clause-written g c =
     let ran = c.in-Ok.ensures in
-    written c.args.config.now c.args.peers.now c.args.accept c.args.workers c.in-Ok.done.0 c.in-Ok.done.1 ran.ran ran.holds ran.made ran.one_socket c.deref.result.now
+    written 1 c.args.config.now c.args.peers.now c.args.accept c.args.workers c.in-Ok.done.0 c.in-Ok.done.1 ran.ran ran.holds ran.made ran.one_socket c.deref.result.now
     (g.W.Sink.state c.args.sink.now).written (g.W.Sink.state c.print_history.new.sink).written c.deref.ensures.value c.in-Ok-print_history.ensures.ok
 
 pub returns-in-Err-clause-stopped : goal.returns-in-Err-clause-stopped
 returns-in-Err-clause-stopped g c =
-    kept_written g.row.A.Denot (AppendsServedPart g.row.A.Denot c.args.config.now c.args.peers.now c.args.accept c.args.workers None) c.args.serving.now.is_kept c.args.config.now c.in-Err.field-0.fault
+    kept_written g.row.A.Denot (AppendsServedPart g.row.A.Denot 1 c.args.config.now c.args.peers.now c.args.accept c.args.workers None) c.args.serving.now.is_kept c.args.config.now c.in-Err.field-0.fault
     (g.W.Sink.state c.args.sink.now).written (g.W.Sink.state c.print_kept.new.sink).written c.print_kept.ensures.kept
 
 pub returns-in-Err-Write-clause-fault : goal.returns-in-Err-Write-clause-fault
@@ -24,13 +24,13 @@ returns-in-Err-Write-clause-fault g c = λ crew.
 pub returns-in-Err-Write-clause-stopped : goal.returns-in-Err-Write-clause-stopped
 returns-in-Err-Write-clause-stopped g c =
     let ran = c.in-Ok.ensures in
-    written_part c.args.config.now c.args.peers.now c.args.accept c.args.workers c.in-Ok.done.0 c.in-Ok.done.1 ran.ran ran.holds ran.made ran.one_socket c.deref.result.now
+    written_part 1 c.args.config.now c.args.peers.now c.args.accept c.args.workers c.in-Ok.done.0 c.in-Ok.done.1 ran.ran ran.holds ran.made ran.one_socket c.deref.result.now
     (g.W.Sink.state c.args.sink.now).written (g.W.Sink.state c.print_history.new.sink).written c.deref.ensures.value c.in-Err-Write.ensures.err
 
 pub returns-clause-stopped : goal.returns-clause-stopped
 returns-clause-stopped g c =
     let ran = c.in-Ok.ensures in
-    inr (written_part c.args.config.now c.args.peers.now c.args.accept c.args.workers c.in-Ok.done.0 c.in-Ok.done.1 ran.ran ran.holds ran.made ran.one_socket c.deref.result.now
+    inr (written_part 1 c.args.config.now c.args.peers.now c.args.accept c.args.workers c.in-Ok.done.0 c.in-Ok.done.1 ran.ran ran.holds ran.made ran.one_socket c.deref.result.now
     (g.W.Sink.state c.args.sink.now).written (g.W.Sink.state c.print_history.new.sink).written c.deref.ensures.value c.in-Err-NoMemory.ensures.err)
 
 pub returns-in-Err-clause-bad_workers : goal.returns-in-Err-clause-bad_workers

@@ -11,6 +11,6 @@ returns-then-has_comments g c =
     let answer = c.run_commented-answer.result.0 in
     let value = ap (λ (k : g.row.W.Denot). g.W.Sink.state k) (sym (c.writer-1.given.1 (sym c.run_commented-answer.ensures.here))) in
     subst (λ (new : SinkState). (bare : SinkState) × IsBeside (has_comments c.args.serving.now) old bare new
-    × IsJournalled {A = Global} c.args.config.now c.args.peers.now c.args.serving.now.accept c.args.serving.now.workers old bare answer) value
-    (is_beside (λ old new. IsJournalled {A = Global} c.args.config.now c.args.peers.now c.args.serving.now.accept c.args.serving.now.workers old new answer)
+    × IsJournalled {A = Global} c.args.serving.now.batch c.args.config.now c.args.peers.now c.args.serving.now.accept c.args.serving.now.workers old bare answer) value
+    (is_beside (λ old new. IsJournalled {A = Global} c.args.serving.now.batch c.args.config.now c.args.peers.now c.args.serving.now.accept c.args.serving.now.workers old new answer)
     (has_comments c.args.serving.now) old (g.W.Sink.state c.run_commented-answer.result.1.sink.now) (sym c.has_comments.ensures ∙ c.if-has_comments.true) c.run_commented-answer.ensures.ran)

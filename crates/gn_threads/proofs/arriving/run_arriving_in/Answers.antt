@@ -20,7 +20,7 @@ finish-answer-requires-clause-ends g c =
       readers = subst (λ turns. EachKeeps (ReaderKeeps turns) c.args.roles.now (map (λ d. halved g.V.Reader.LinkReader.state (reader_ended d)) c.in-Ok-joined.done.readers.items)) c.requires.turns
           (readers_keep g.V.Reader.LinkReader.state g.V.Reader.LinkReader.made_of g.V.Reader.LinkReader.gives g.B.Limited.turns all.reading _ c.in-Ok-joined.done.readers.items
           (all.reading_roles ∙ c.in-Ok.ensures.roles) (omega (arith, c.in-Ok-joined.done.readers.ok, all.joined.read)) all.joined.readers);
-      writers = writers_keep g.V.Writer.LinkWriter.state g.V.Writer.LinkWriter.made_of all.writing _ c.in-Ok-joined.done.writers.items
+      writers = writers_keep g.V.Writer.LinkWriter.state g.V.Writer.LinkWriter.made_of g.B.Limited.batch all.writing _ c.in-Ok-joined.done.writers.items
           (all.writing_roles ∙ c.in-Ok.ensures.roles) (omega (arith, c.in-Ok-joined.done.writers.ok, all.joined.written)) all.joined.writers;
     }
 
@@ -48,7 +48,7 @@ returns-in-Ok-joined-clause-fault g c =
 
 pub returns-in-Ok-joined-clause-holds : goal.returns-in-Ok-joined-clause-holds
 returns-in-Ok-joined-clause-holds g c =
-    subst (λ n. IfOk c.finish-answer.result (λ report. Holds g.V.Reader.LinkReader.state g.V.Writer.LinkWriter.state c.args.config.now c.args.roles.now n report)) ((ok_of c.run_bodies-joined.result.0 c.in-Ok-joined.done _ c.in-Ok-joined.is c.run_bodies-joined.ensures.joined).joined.worked ∙ c.in-Ok.ensures.workers) c.finish-answer.ensures.holds
+    subst (λ n. IfOk c.finish-answer.result (λ report. Holds g.B.Limited.batch g.V.Reader.LinkReader.state g.V.Writer.LinkWriter.state c.args.config.now c.args.roles.now n report)) ((ok_of c.run_bodies-joined.result.0 c.in-Ok-joined.done _ c.in-Ok-joined.is c.run_bodies-joined.ensures.joined).joined.worked ∙ c.in-Ok.ensures.workers) c.finish-answer.ensures.holds
 
 pub returns-in-Ok-joined-clause-bytes : goal.returns-in-Ok-joined-clause-bytes
 returns-in-Ok-joined-clause-bytes g c =
@@ -73,7 +73,7 @@ returns-in-Ok-joined-clause-made g c =
     let more : length written ≡ length all.writing = omega (arith, length-map c.in-Ok-joined.done.writers.items writer_ended, c.in-Ok-joined.done.writers.ok, all.joined.written) in
     let first = ap (λ roles. take (length roles) (g.V.Arrivals.coming c.args.arrivals)) c.in-Ok.ensures.roles in
     IfOk-weaker _ _ _
-    (λ report has. are_made_of g.V.Reader.LinkReader.state g.V.Reader.LinkReader.made_of g.V.Reader.LinkReader.gives g.B.Limited.turns g.V.Writer.LinkWriter.state g.V.Writer.LinkWriter.made_of g.V.Arrivals.foreknown all.reading all.writing read written _ report (all.reading_made ∙ first) all.writing_made many more all.joined.readers all.joined.writers has.readers has.writers)
+    (λ report has. are_made_of g.V.Reader.LinkReader.state g.V.Reader.LinkReader.made_of g.V.Reader.LinkReader.gives g.B.Limited.turns g.V.Writer.LinkWriter.state g.V.Writer.LinkWriter.made_of g.B.Limited.batch g.V.Arrivals.foreknown all.reading all.writing read written _ report (all.reading_made ∙ first) all.writing_made many more all.joined.readers all.joined.writers has.readers has.writers)
     c.finish-answer.ensures.bodies
 
 pub returns-in-Ok-joined-clause-one : goal.returns-in-Ok-joined-clause-one
@@ -84,7 +84,7 @@ returns-in-Ok-joined-clause-one g c =
     let many : length read ≡ length all.reading = omega (arith, length-map c.in-Ok-joined.done.readers.items reader_ended, c.in-Ok-joined.done.readers.ok, all.joined.read) in
     let more : length written ≡ length all.writing = omega (arith, length-map c.in-Ok-joined.done.writers.items writer_ended, c.in-Ok-joined.done.writers.ok, all.joined.written) in
     IfOk-weaker _ _ _
-    (λ report has. writers_made_of g.V.Writer.LinkWriter.state g.V.Writer.LinkWriter.made_of all.writing written report more all.joined.writers has.writers ∙ all.writing_made
+    (λ report has. writers_made_of g.V.Writer.LinkWriter.state g.V.Writer.LinkWriter.made_of g.B.Limited.batch all.writing written report more all.joined.writers has.writers ∙ all.writing_made
     ∙ sym (readers_made_of g.V.Reader.LinkReader.state g.V.Reader.LinkReader.made_of g.V.Reader.LinkReader.gives g.B.Limited.turns all.reading read report many all.joined.readers has.readers))
     c.finish-answer.ensures.bodies
 

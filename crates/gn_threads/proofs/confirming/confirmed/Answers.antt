@@ -22,7 +22,7 @@ returns-in-None-clause-holds g c =
       legal = legal;
       each = (sym c.requires.roles, omega (arith, it.workers.ok));
       own = (all.own, all.only);
-      links = links_hold s g.Rd.LinkReader.state g.W.LinkWriter.state (most_reads s.numbers.steps) roles it legal all c.requires.ends.readers c.requires.ends.writers;
+      links = links_hold s g.Rd.LinkReader.state g.W.LinkWriter.state (most_reads s.numbers.steps) g.L.Limited.batch roles it legal all c.requires.ends.readers c.requires.ends.writers;
       routes = (all.routes, (house_at (is_settled it.history.items) roles it settled).tickets);
       stats = c.requires.counted.1;
     }

@@ -20,8 +20,8 @@ report-requires-clause-ends g c =
     let links = c.in-Ok.linked.links.items in
     let read = sym (known_alike reader_reported reader_result (halved g.Rd.LinkReader.state) links c.args.readers.items c.in-Ok.ensures.readers) in
     let written = sym (known_alike writer_reported writer_ended (halved g.W.LinkWriter.state) links c.args.writers.items c.in-Ok.ensures.writers) in
-    subst (λ bodies. KeepEnds (most_reads c.args.config.now.numbers.steps) c.args.roles.now (map (λ l. halved g.Rd.LinkReader.state (reader_reported l)) links) bodies) written
-    (subst (λ bodies. KeepEnds (most_reads c.args.config.now.numbers.steps) c.args.roles.now bodies (map (λ d. halved g.W.LinkWriter.state (writer_ended d)) c.args.writers.items)) read c.requires.ends)
+    subst (λ bodies. KeepEnds (most_reads c.args.config.now.numbers.steps) g.B.Limited.batch c.args.roles.now (map (λ l. halved g.Rd.LinkReader.state (reader_reported l)) links) bodies) written
+    (subst (λ bodies. KeepEnds (most_reads c.args.config.now.numbers.steps) g.B.Limited.batch c.args.roles.now bodies (map (λ d. halved g.W.LinkWriter.state (writer_ended d)) c.args.writers.items)) read c.requires.ends)
 
 pub returns-in-Err-NoMemory-clause-fault : goal.returns-in-Err-NoMemory-clause-fault
 returns-in-Err-NoMemory-clause-fault g c = tt

@@ -27,15 +27,15 @@ assemble-requires-clause-counted g c =
 
 pub assemble-requires-clause-ends : goal.assemble-requires-clause-ends
 assemble-requires-clause-ends g c =
-    subst (λ bodies. KeepEnds (most_reads c.args.config.now.numbers.steps) c.args.roles.now bodies (map (λ d. halved g.W.LinkWriter.state (writer_ended d)) c.args.done.writers.items))
+    subst (λ bodies. KeepEnds (most_reads c.args.config.now.numbers.steps) g.B.Limited.batch c.args.roles.now bodies (map (λ d. halved g.W.LinkWriter.state (writer_ended d)) c.args.done.writers.items))
     (sym (known_alike reader_result reader_ended (halved g.Rd.LinkReader.state) _ c.args.done.readers.items c.in-Ok.ensures.readers)) c.requires.ends
 
 pub assemble-requires-clause-unconfirmed : goal.assemble-requires-clause-unconfirmed
 assemble-requires-clause-unconfirmed g c =
     let n = length c.args.roles.now + length c.args.roles.now + vec_len c.in-Ok-report_workers.made.0.receipts + 1 in
     let long = ap length c.as_slice.ensures.value in
-    answer_below c.first_refused-worker.result c.in-Ok-settle.idle c.least-unconfirmed.result n (below_more c.first_refused-worker.result _ n (omega (arith, long, c.args.done.workers.ok, c.in-Ok-report_workers.ensures.many)) c.first_refused-worker.ensures.some)
-    (number_below c.in-Ok-settle.idle _ n (omega (arith, c.len.ensures, c.in-Ok-report_workers.ensures.many)) c.in-Ok-settle.ensures.house) c.least-unconfirmed.ensures.some
+    answer_below c.first_refused-worker.result c.in-Ok-settle.idle c.least.result n (below_more c.first_refused-worker.result _ n (omega (arith, long, c.args.done.workers.ok, c.in-Ok-report_workers.ensures.many)) c.first_refused-worker.ensures.some)
+    (number_below c.in-Ok-settle.idle _ n (omega (arith, c.len.ensures, c.in-Ok-report_workers.ensures.many)) c.in-Ok-settle.ensures.house) c.least.ensures.some
 
 pub returns-clause-fault : goal.returns-clause-fault
 returns-clause-fault g c = subst (λ n. IfErr c.assemble.result (λ fault. IsFaultOf (length c.args.roles.now) n fault)) c.in-Ok-report_workers.ensures.many c.assemble.ensures.fault
@@ -43,12 +43,12 @@ returns-clause-fault g c = subst (λ n. IfErr c.assemble.result (λ fault. IsFau
 pub returns-clause-clean : goal.returns-clause-clean
 returns-clause-clean g c =
     on_ok_weaker c.assemble.result
-    (λ clean k d below. subst (λ (xs : List (WorkerDone g.row.B.Denot g.row.A.Denot)). (i : ℕ) (e : WorkerDone g.row.B.Denot g.row.A.Denot) → i < length xs → IsOk (get_or xs i e).end) c.as_slice.ensures.value (c.first_refused-worker.ensures.none (c.least-unconfirmed.ensures.none clean).0) k d (omega (arith, below, c.args.done.workers.ok)))
+    (λ clean k d below. subst (λ (xs : List (WorkerDone g.row.B.Denot g.row.A.Denot)). (i : ℕ) (e : WorkerDone g.row.B.Denot g.row.A.Denot) → i < length xs → IsOk (get_or xs i e).end) c.as_slice.ensures.value (c.first_refused-worker.ensures.none (c.least.ensures.none clean).0) k d (omega (arith, below, c.args.done.workers.ok)))
     c.assemble.ensures.clean
 
 pub returns-clause-holds : goal.returns-clause-holds
 returns-clause-holds g c =
-    subst (λ n. IfOk c.assemble.result (λ report. Holds g.Rd.LinkReader.state g.W.LinkWriter.state c.args.config.now c.args.roles.now n report)) c.in-Ok-report_workers.ensures.many c.assemble.ensures.holds
+    subst (λ n. IfOk c.assemble.result (λ report. Holds g.B.Limited.batch g.Rd.LinkReader.state g.W.LinkWriter.state c.args.config.now c.args.roles.now n report)) c.in-Ok-report_workers.ensures.many c.assemble.ensures.holds
 
 pub returns-clause-bodies : goal.returns-clause-bodies
 returns-clause-bodies g c =

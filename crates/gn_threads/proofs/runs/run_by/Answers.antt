@@ -18,7 +18,7 @@ returns-clause-fault g c =
 
 pub returns-clause-holds : goal.returns-clause-holds
 returns-clause-holds g c =
-    subst (λ roles. IfOk c.run_arriving_by.result.0 (λ report. Holds g.K.Reader.LinkReader.state g.K.Writer.LinkWriter.state c.args.config.now roles c.args.workers report)) (c.as_slice.ensures.value ∙ c.in-Ok.ensures.roles) c.run_arriving_by.ensures.holds
+    subst (λ roles. IfOk c.run_arriving_by.result.0 (λ report. Holds c.args.batch g.K.Reader.LinkReader.state g.K.Writer.LinkWriter.state c.args.config.now roles c.args.workers report)) (c.as_slice.ensures.value ∙ c.in-Ok.ensures.roles) c.run_arriving_by.ensures.holds
 
 pub returns-clause-bytes : goal.returns-clause-bytes
 returns-clause-bytes g c =

@@ -8,8 +8,10 @@ pub invariant_of-result : goal.invariant_of-result
 invariant_of-result c =
     let rows = rows_of (found_of c.args.options.now) in
     let crew = asked_within (codes "workers") 1 most_workers c.in_ok-workers.workers rows c.in_ok-workers.ensures in
+    let many = asked_within (codes "batch") 1 1024 c.in_ok-batch.batch rows c.in_ok-batch.ensures in
     let may = asked_within (codes "accept") 0 128 c.in_ok-accept.accept rows c.in_ok-accept.ensures in (
       record { least = crew.0; greatest = crew.1 },
       few_links _ _ may.1 c.in_ok-peers.ensures.few,
+      many.0,
       c.in_ok-numbers.ensures.within,
     )

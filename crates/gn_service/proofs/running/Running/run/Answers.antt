@@ -22,8 +22,8 @@ returns-in_default-None-clause-served g c = record {
 
 pub returns-in-Ok-Some-clause-served : goal.returns-in-Ok-Some-clause-served
 returns-in-Ok-Some-clause-served g c =
-    failed_at c.args.self.config.now c.args.self.peers.now c.args.self.accept c.args.self.workers c.in-Ok-Some.report c.failed_at.result c.in-Ok-Some.fault
-    (subst (λ answer. IsServed c.args.self.config.now c.args.self.peers.now c.args.self.accept c.args.self.workers answer) c.in-Ok-Some.is-0 (record {
+    failed_at c.args.self.batch c.args.self.config.now c.args.self.peers.now c.args.self.accept c.args.self.workers c.in-Ok-Some.report c.failed_at.result c.in-Ok-Some.fault
+    (subst (λ answer. IsServed c.args.self.batch c.args.self.config.now c.args.self.peers.now c.args.self.accept c.args.self.workers answer) c.in-Ok-Some.is-0 (record {
       crew = c.over_links-answer.ensures.workers;
       bad_workers = c.over_links-answer.ensures.bad_workers;
       fault = c.over_links-answer.ensures.fault;
@@ -40,8 +40,8 @@ returns-in-Ok-Some-clause-served g c =
 
 pub returns-in-Err-Some-clause-served : goal.returns-in-Err-Some-clause-served
 returns-in-Err-Some-clause-served g c =
-    failed_too c.args.self.config.now c.args.self.peers.now c.args.self.accept c.args.self.workers c.in-Err-Some.stopped c.failed_too.result c.in-Err-Some.fault
-    (subst (λ answer. IsServed c.args.self.config.now c.args.self.peers.now c.args.self.accept c.args.self.workers answer) c.in-Err-Some.is-0 (record {
+    failed_too c.args.self.batch c.args.self.config.now c.args.self.peers.now c.args.self.accept c.args.self.workers c.in-Err-Some.stopped c.failed_too.result c.in-Err-Some.fault
+    (subst (λ answer. IsServed c.args.self.batch c.args.self.config.now c.args.self.peers.now c.args.self.accept c.args.self.workers answer) c.in-Err-Some.is-0 (record {
       crew = c.over_links-answer.ensures.workers;
       bad_workers = c.over_links-answer.ensures.bad_workers;
       fault = c.over_links-answer.ensures.fault;

@@ -21,7 +21,7 @@ returns-in-None-clause-joined g c =
     let written : vec_len done.writers ≡ vec_len writing = subst (λ r. IfOk r (λ all. vec_len all ≡ vec_len writing)) done.is-1 c.join_each-writers.ensures.many in
     record {
       readers = keeps_promised (λ p. half_of p.start.value.role p.start.value.reader) reader_ended (IsReaderDone g.Rd.LinkReader.state g.Rd.LinkReader.made_of g.Rd.LinkReader.gives g.B.Limited.turns) reading _ done.readers done.is-0 c.join_each-readers.ensures.many c.join_each-readers.ensures.each;
-      writers = keeps_promised (λ p. half_of p.start.value.role p.start.value.writer) writer_ended (IsWriterDone g.W.LinkWriter.state g.W.LinkWriter.made_of) writing _ done.writers done.is-1 c.join_each-writers.ensures.many c.join_each-writers.ensures.each;
+      writers = keeps_promised (λ p. half_of p.start.value.role p.start.value.writer) writer_ended (IsWriterDone g.W.LinkWriter.state g.W.LinkWriter.made_of g.B.Limited.batch) writing _ done.writers done.is-1 c.join_each-writers.ensures.many c.join_each-writers.ensures.each;
       read = omega (arith, read, reading.ok, length-map (vec_items reading) (λ h. half_of h.promise.start.value.role h.promise.start.value.reader));
       written = omega (arith, written, writing.ok, length-map (vec_items writing) (λ h. half_of h.promise.start.value.role h.promise.start.value.writer));
       worked = subst (λ r. IfOk r (λ all. vec_len all ≡ vec_len c.args.self.workers)) done.is-2 c.join_each-workers.ensures.many;

@@ -17,7 +17,7 @@ returns-in-Ok-clause-fault g c = each_in_arriving g.V.Arrivals.has_peers (length
 pub returns-in-Ok-clause-joined : goal.returns-in-Ok-clause-joined
 returns-in-Ok-clause-joined g c =
     let reads = IsReaderDone {A = g.row.A.Denot} g.V.Reader.LinkReader.state g.V.Reader.LinkReader.made_of g.V.Reader.LinkReader.gives g.B.Limited.turns in
-    let writes = IsWriterDone {A = g.row.A.Denot} g.V.Writer.LinkWriter.state g.V.Writer.LinkWriter.made_of in
+    let writes = IsWriterDone {A = g.row.A.Denot} g.V.Writer.LinkWriter.state g.V.Writer.LinkWriter.made_of g.B.Limited.batch in
     let handles = c.start_all.new.handles in
     let reading = map (λ h. half_of h.promise.start.value.role h.promise.start.value.reader) handles.readers.items in
     let writing = map (λ h. half_of h.promise.start.value.role h.promise.start.value.writer) handles.writers.items in

@@ -1,5 +1,5 @@
 use Rattle.std.proofs.Common.{◌≡◌}
-use Rattle.gn_hub.proofs.service.Service.next_out.Given as goal
+use Rattle.gn_hub.proofs.service.Service.next_batch.Given as goal
 
 abbrev pub invariant-loop : goal.invariant-loop
 invariant-loop g l = l.me ≡ l.initial.me

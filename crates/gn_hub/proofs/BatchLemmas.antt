@@ -1,0 +1,91 @@
+-- Receipts of a batch of packets.
+use Rattle.std.proofs.Common.{◌≡◌, ℕ, ◌+◌, ◌-◌, ◌<◌, ◌≤◌, Bool, true, false, ◌||◌, List, [], ◌∷◌, ◌++◌, length, map, Option, Some, None, Result, Ok, Err, IfOk, MatchResult, refl, sym, subst, ap, ◌∙◌, arith, append_assoc, append-nil}
+use Rattle.std.specs.Result.{is_err}
+use Rattle.std.proofs.lemmas.List.{length_push, map-append}
+use Rattle.gn_rules.specs.declared.event.Event.TheVariants.{Take}
+use Rattle.gn_rules.specs.declared.refusal.Refusal.{Refusal}
+use Rattle.gn_rules.specs.declared.reply.Reply.{Reply}
+use Rattle.gn_rules.specs.Fits.{replies}
+use Rattle.gn_hub.specs.declared.next.Outgoing.{Outgoing}
+use Rattle.gn_hub.specs.declared.next.Outgoing.TheVariants.{Packet, Drained}
+use Rattle.gn_hub.specs.ActorState.{ActorState, with_receipt}
+use Rattle.gn_hub.specs.HubState.{HubState}
+use Rattle.gn_hub.specs.Receipts.{HasDrained, HasReceipt, HasTaken, HasTakenMore, HasTakenSome, TakenAt, taken_receipt}
+use Rattle.gn_hub.specs.Waking.{LeavesWaiting}
+use Rattle.gn_hub.proofs.StepLemmas.{taken_reply}
+
+-- an actor with receipts of these packets more
+with_taken : {A : Type 0} → ActorState A → ℕ → List TakenAt → ActorState A
+with_taken me c taken = record me { receipts = me.receipts ++ map (taken_receipt c) taken }
+
+pub none_more : {A : Type 0} (most c : ℕ) (me us : ActorState A) → us ≡ me → HasTakenMore most c me us
+none_more {A} most c me us same =
+    let none : List TakenAt = [] in
+    (none, omega arith, same ∙ ap (λ w. record me { receipts = w }) (sym (append-nil me.receipts)))
+
+pub grown : {A : Type 0} (n m c : ℕ) (me us : ActorState A) → n ≤ m → HasTakenMore n c me us → HasTakenMore m c me us
+grown n m c me us more (taken, low, is) = (taken, omega arith, is)
+
+pub one_more : {A : Type 0} (n m c : ℕ) (me mid us : ActorState A) → m ≡ n + 1 → HasTakenMore n c me mid → HasTaken c mid us → HasTakenMore m c me us
+one_more {A} n m c me mid us next (taken, low, is) (index, packet, got) =
+    let at : TakenAt = record { index = index; packet = packet } in
+    let f = taken_receipt {A = A} c in
+    let joined : (me.receipts ++ map f taken) ++ f at ∷ [] ≡ me.receipts ++ map f (taken ++ at ∷ []) =
+    append_assoc me.receipts (map f taken) (f at ∷ []) ∙ ap (λ w. me.receipts ++ w) (sym (map-append f taken (at ∷ []))) in
+    let long = length_push taken at in
+    (taken ++ at ∷ [], omega arith, got ∙ ap (λ w. with_receipt w (f at)) is ∙ ap (λ w. record me { receipts = w }) joined)
+
+pub some_taken : {A : Type 0} (most c : ℕ) (me mid us : ActorState A) → 0 < most → HasTaken c me mid → HasTakenMore (most - 1) c mid us → HasTakenSome most c me us
+some_taken {A} most c me mid us few (index, packet, got) (taken, low, is) =
+    let at : TakenAt = record { index = index; packet = packet } in
+    let f = taken_receipt {A = A} c in
+    (at ∷ taken, omega arith, omega arith, is ∙ ap {A = ActorState A} (λ w. record w { receipts = w.receipts ++ map f taken }) got ∙ ap (λ w. record me { receipts = w }) (append_assoc me.receipts (f at ∷ []) (map f taken)))
+
+-- the same, where what was answered first was a packet
+pub then_more : {A : Type 0} (answer : Result (Option Outgoing) Refusal) (n most c : ℕ) (me mid us : ActorState A) → n ≡ most → 0 < n
+    → IfOk answer (λ next. next ≡ Some Packet → HasTaken c me mid) → HasTakenMore (n - 1) c mid us → IfOk answer (λ next. next ≡ Some Packet → HasTakenSome most c me us)
+then_more {A} (Ok next) n most c me mid us same few first more =
+    λ is. subst (λ w. HasTakenSome w c me us) same (some_taken n c me mid us few (first is) more)
+then_more (Err refusal) n most c me mid us same few first more = tt
+
+-- what a call did that was answered, where a thread has waited
+at_ok : {X E : Type 0} (answer : Result X E) (x : X) (P : X → Type 0) → answer ≡ Ok x → IfOk answer P → P x
+at_ok answer x P is did = subst (λ w. IfOk w P) is did
+
+pub drained_since : {A : Type 0} (answer : Result (Option Outgoing) Refusal) (at : Option Outgoing) (next : Outgoing) (c : ℕ) (me mid us : ActorState A) → answer ≡ Ok at → at ≡ Some next
+    → mid ≡ me → IfOk answer (λ next. next ≡ Some Drained → HasDrained c mid us) → next ≡ Drained → HasDrained c me us
+drained_since answer at next c me mid us is some same did end =
+    subst (λ w. HasDrained c w us) same (at_ok answer at (λ next. next ≡ Some Drained → HasDrained c mid us) is did (some ∙ ap Some end))
+
+pub same_since : {A : Type 0} (answer : Result (Option Outgoing) Refusal) (at found : Option Outgoing) (me mid us : ActorState A) → answer ≡ Ok at → at ≡ found
+    → mid ≡ me → IfOk answer (λ next. next ≡ found → us ≡ mid) → us ≡ me
+same_since answer at found me mid us is there same did = at_ok answer at (λ next. next ≡ found → us ≡ mid) is did there ∙ same
+
+pub was_ok : {X E : Type 0} (answer : Result X E) (P Q : Type 0) → is_err answer ≡ false → MatchResult answer (λ _. P) (λ _. Q) → P
+was_ok (Ok x) P Q e did = did
+was_ok (Err x) P Q e did = absurd (cc)
+
+pub was_err : {X E : Type 0} (answer : Result X E) (P Q : Type 0) → is_err answer ≡ true → MatchResult answer (λ _. P) (λ _. Q) → Q
+was_err (Ok x) P Q e did = absurd (cc)
+was_err (Err x) P Q e did = did
+
+-- a receipt of a Take is of a packet
+pub was_taken : {A : Type 0} (c : ℕ) (me us : ActorState A) → HasReceipt (Take c) me us → HasTaken c me us
+was_taken c me us (index, reply, fits, got) =
+    let (packet, same) = taken_reply c reply fits in
+    (index, packet, got ∙ ap (λ r. with_receipt me (record { index = index; event = Take c; reply = r })) same)
+
+-- two calls one after the other
+pub waiting_still : {A : Type 0} (before mid after : HubState A) → LeavesWaiting before mid → LeavesWaiting mid after → LeavesWaiting before after
+waiting_still before mid after first second =
+    record { at_door = λ link h. second.at_door link (first.at_door link h); for_next = λ c h. second.for_next c (first.for_next c h) }
+
+neither : (a b : Bool) → (a || b) ≡ false → (a ≡ false) × (b ≡ false)
+neither true b e = absurd (cc)
+neither false b e = (refl, e)
+
+pub both_quiet : {A : Type 0} (before mid after : HubState A) (a b : Bool) → (a ≡ false → LeavesWaiting before mid) → (b ≡ false → LeavesWaiting mid after)
+    → (a || b) ≡ false → LeavesWaiting before after
+both_quiet before mid after a b first second none =
+    let (p, q) = neither a b none in
+    waiting_still before mid after (first p) (second q)

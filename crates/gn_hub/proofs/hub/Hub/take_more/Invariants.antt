@@ -1,0 +1,7 @@
+use Rattle.std.proofs.Common.{◌≡◌, false}
+use Rattle.gn_hub.specs.Receipts.{HasTakenMore}
+use Rattle.gn_hub.specs.Waking.{LeavesWaiting}
+use Rattle.gn_hub.proofs.hub.Hub.take_more.Given as goal
+
+abbrev pub invariant-loop : goal.invariant-loop
+invariant-loop g l = HasTakenMore l.counter l.c l.initial.me l.me × (l.wakes ≡ false → LeavesWaiting l.initial.self l.self)
