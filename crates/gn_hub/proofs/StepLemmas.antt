@@ -119,7 +119,7 @@ refusal_fits answer event Remembered fit is = subst (λ a. is_fit event a ≡ tr
 refusal_fits answer event NoMemory fit is = refl
 
 -- a connection that was closed, or found closed
-closed_reply : {A : Type 0} (c : ℕ) (reply : Reply A) → replies (Close c) reply ≡ true → (count : ℕ) × (reply ≡ kind.Closed count)
+pub closed_reply : {A : Type 0} (c : ℕ) (reply : Reply A) → replies (Close c) reply ≡ true → (count : ℕ) × (reply ≡ kind.Closed count)
 closed_reply c (kind.Connected d) fits = absurd (cc)
 closed_reply c kind.TooMany fits = absurd (cc)
 closed_reply c (kind.Closed count) fits = (count, refl)

@@ -1,49 +1,34 @@
 -- A step that wakes nobody leaves everybody waiting who had to wait.
-use Rattle.std.proofs.Common.{◌≡◌, ◌+◌, ◌==◌, ℕ, Bool, true, false, ◌&&◌, ◌||◌, cond, if◌then◌else◌, not, List, [], ◌∷◌, ◌++◌, length, drop, filter, map, Result, refl, sym, ap, ◌∙◌, arith}
-use Rattle.std.specs.List.{list_any}
+use Rattle.std.proofs.Common.{◌≡◌, ◌+◌, ◌==◌, ℕ, Bool, true, false, ◌&&◌, ◌||◌, cond, if◌then◌else◌, not, List, [], ◌∷◌, ◌++◌, length, drop, filter, map, reverse, Result, Ok, refl, sym, subst, ap, ◌∙◌, arith}
+use Rattle.std.specs.List.{slice_get}
 use Rattle.std.proofs.lemmas.Bool.Decides.{nat_tests}
 use Rattle.std.proofs.lemmas.List.{reverse-append}
 use Rattle.gn_wire.specs.Packet.{Packet}
 use Rattle.gn_rules.specs.declared.event.Event.{Event}
 use Rattle.gn_rules.specs.declared.event.Event.TheVariants.{Connect, Close, Admit, Route, Take, Originate}
-use Rattle.gn_rules.specs.declared.receipt.Receipt.{Receipt}
 use Rattle.gn_rules.specs.declared.receipt.Step.{Step}
 use Rattle.gn_rules.specs.declared.refusal.Refusal.{Refusal}
 use Rattle.gn_rules.specs.declared.reply.Reply.{Reply}
+use Rattle.gn_rules.specs.declared.reply.Reply.TheVariants as kind
+use Rattle.gn_rules.specs.Fits.{AnswersFit, is_fit, replies}
 use Rattle.gn_rules.specs.declared.sends.Sending.{Sending}
 use Rattle.gn_rules.specs.History.{connected_of, is_at, is_close, is_take, sends_of, live}
 use Rattle.gn_rules.specs.Output.{out, queued_to, waiting}
 use Rattle.gn_hub.specs.ActorState.{ActorState, receipt}
-use Rattle.gn_hub.specs.Calls.{HasStepped, over, take, close, later}
-use Rattle.gn_hub.specs.HubState.{HubState, past_of, with_step, is_closing}
-use Rattle.gn_hub.specs.Waking.{LeavesWaiting, closes, may_wake}
+use Rattle.gn_hub.specs.Calls.{HasConnected, HasStepped, answer_now, over, take, close, later}
+use Rattle.gn_hub.specs.HubState.{HubState, door_of, past_of, is_closing}
+use Rattle.gn_hub.specs.Waking.{LeavesOthers, LeavesWaiting, are_doors_woken, concerned, is_queued_to, is_woken, wakes_of}
+use Rattle.gn_hub.specs.declared.wakes.Wakes.{Wakes}
+use Rattle.gn_hub.specs.declared.wakes.Wakes.TheVariants.{Nobody, Writer, Doors, Everybody}
+use Rattle.gn_hub.proofs.StepLemmas.{closed_reply, taken_reply}
 
--- none of the three
-none_of : (a b c : Bool) → (a || b || c) ≡ false → (a ≡ false) × (b ≡ false) × (c ≡ false)
-none_of true b c e = absurd (cc)
-none_of false true c e = absurd (cc)
-none_of false false true e = absurd (cc)
-none_of false false false e = (refl, refl, refl)
-
--- an event that closes nothing doesn't close c
-closes_none : {A : Type 0} (event : Event A) (c : ℕ) → closes event ≡ false → is_close c event ≡ false
-closes_none Connect c e = refl
-closes_none (Close d) c e = absurd (cc)
-closes_none (Admit d packet) c e = refl
-closes_none (Route t) c e = refl
-closes_none (Take d) c e = refl
-closes_none (Originate packet) c e = refl
-
--- where no send is queued, nothing is queued to c
-queued_none : {A : Type 0} (c : ℕ) (sends : List (Sending A)) → list_any (λ s. s.queued) sends ≡ false → queued_to c sends ≡ []
+-- where no packet was queued to c, nothing is queued to it
+queued_none : {A : Type 0} (c : ℕ) (sends : List (Sending A)) → is_queued_to c sends ≡ false → queued_to c sends ≡ []
 queued_none c [] e = refl
 queued_none {A} c (s ∷ sends) e =
-    elim s.queued as (λ b. (b || list_any (λ x. x.queued) sends) ≡ false → map (λ x. x.packet) (cond ((s.to == c) && b) (s ∷ filter (λ x. (x.to == c) && x.queued) sends) (filter (λ x. (x.to == c) && x.queued) sends)) ≡ []) [
+    elim ((s.to == c) && s.queued) as (λ b. (b || is_queued_to c sends) ≡ false → map (λ x. x.packet) (cond b (s ∷ filter (λ x. (x.to == c) && x.queued) sends) (filter (λ x. (x.to == c) && x.queued) sends)) ≡ []) [
       | true ↦ λ h. absurd (cc)
-      | false ↦ λ h. elim (s.to == c) as (λ b. map (λ x. x.packet) (cond (b && false) (s ∷ filter (λ x. (x.to == c) && x.queued) sends) (filter (λ x. (x.to == c) && x.queued) sends)) ≡ []) [
-        | true ↦ queued_none c sends h
-        | false ↦ queued_none c sends h
-      ]
+      | false ↦ λ h. queued_none c sends h
     ] e
 
 -- nothing is due yet: the connection isn't over, nothing waits, and the run doesn't close
@@ -68,11 +53,10 @@ no_items : {X : Type 0} (xs : List X) → length xs ≡ 0 → xs ≡ []
 no_items [] e = refl
 no_items (x ∷ xs) e = absurd (omega arith)
 
--- a connection that lives and has nothing waiting does so after a step that neither closes nor queues
-step_later : {A : Type 0} (past : List (Step A)) (step : Step A) (c : ℕ) → closes step.event ≡ false → list_any (λ s. s.queued) (sends_of step.reply) ≡ false
+-- a connection that lives and has nothing waiting does so after a step that neither closes it nor queues a packet to it
+step_later : {A : Type 0} (past : List (Step A)) (step : Step A) (c : ℕ) → is_close c step.event ≡ false → is_queued_to c (sends_of step.reply) ≡ false
     → live past c ≡ true → (waiting past c == 0) ≡ true → (live (step ∷ past) c ≡ true) × ((waiting (step ∷ past) c == 0) ≡ true)
-step_later past step c no_close no_queue lives none =
-    let other : is_close c step.event ≡ false = closes_none step.event c no_close in
+step_later past step c other no_queue lives none =
     let still : live (step ∷ past) c ≡ true = rw (other, lives) (or_true (is_at c (connected_of step.reply))) in
     let empty : out past c ≡ [] = no_items (out past c) (is_zero (length (out past c)) (sym (ap (λ b. cond b (length (out past c)) 0 == 0) lives) ∙ none)) in
     let after : out (step ∷ past) c ≡ [] = rw (empty, queued_none c (sends_of step.reply) no_queue) (taken_none (is_take c step.event)) in
@@ -86,32 +70,107 @@ step_later past step c no_close no_queue lives none =
     taken_none true = refl
     taken_none false = refl
 
--- a step that may wake nobody
-pub quiet : {A : Type 0} (h : HubState A) (actor : ℕ) (event : Event A) (reply : Reply A) → may_wake event reply (with_step h actor event reply) ≡ false
-    → LeavesWaiting h (with_step h actor event reply)
-quiet {A} h actor event reply wakes =
-    let step : Step A = record { actor = actor; event = event; reply = reply } in
-    let after = with_step h actor event reply in
-    let (no_close, no_queue, goes_on) = none_of (closes event) (list_any (λ s. s.queued) (sends_of reply)) (is_closing after) wakes in
-    let past_is : past_of after ≡ step ∷ past_of h = reverse-append h.steps (step ∷ []) in
+-- where everybody is woken nobody is left
+pub all_woken : {A : Type 0} (sends : List (Sending A)) (before after : HubState A) → LeavesWaiting Everybody sends before after
+all_woken sends before after = record { at_door = λ woken. absurd (cc); for_next = λ c woken. absurd (cc) }
+
+-- a step after which the run goes on, and which wakes these
+pub goes_on : {A : Type 0} (h after : HubState A) (step : Step A) (wakes : Wakes) (sends : List (Sending A)) → after.steps ≡ h.steps ++ step ∷ [] → after.failed ≡ h.failed
+    → (are_doors_woken wakes ≡ false → after.links ≡ h.links)
+    → ((c : ℕ) → is_woken wakes sends c ≡ false → (is_close c step.event ≡ false) × (is_queued_to c (sends_of step.reply) ≡ false))
+    → is_closing after ≡ false → LeavesWaiting wakes sends h after
+goes_on {A} h after step wakes sends made same_run same_links others open_run =
+    let past_is : past_of after ≡ step ∷ past_of h = ap (λ w. reverse w) made ∙ reverse-append h.steps (step ∷ []) in
     record {
-      at_door = λ link unmet. unmet;
-      for_next = λ c is.
+      at_door = λ none link unmet. (ap (λ w. door_of (slice_get w link)) (same_links none) ∙ unmet.0, same_run ∙ unmet.1);
+      for_next = λ c none is.
           let was = later_is (not (live (past_of h) c) || h.failed) (waiting (past_of h) c == 0) (is_closing h) is in
           let lives = alive (live (past_of h) c) h.failed was.0 in
-          let now = step_later (past_of h) step c no_close no_queue lives.0 was.1 in
-          is_later (not (live (past_of after) c) || h.failed) (waiting (past_of after) c == 0) (is_closing after)
-          (rw (past_is, now.0, lives.1) refl) (rw past_is now.1) goes_on;
+          let (other, no_queue) = others c none in
+          let now = step_later (past_of h) step c other no_queue lives.0 was.1 in
+          is_later (not (live (past_of after) c) || after.failed) (waiting (past_of after) c == 0) (is_closing after)
+          (rw (past_is, now.0, same_run, lives.1) refl) (rw past_is now.1) open_run;
     }
 
--- a call that stepped, where the actor's last receipt wakes nobody
-pub stepped_quietly : {A : Type 0} (answer : Result (Reply A) Refusal) (event : Event A) (before after : HubState A) (me us : ActorState A) (wakes : Bool)
-    → HasStepped answer event before me after us → ((rs : List (Receipt A)) (r : Receipt A) → us.receipts ≡ rs ++ r ∷ [] → wakes ≡ may_wake event r.reply after)
-    → wakes ≡ false → LeavesWaiting before after
-stepped_quietly answer event before after me us wakes (reply, is, made, got) last none =
-    let e : wakes ≡ may_wake event reply after = last me.receipts (receipt (length before.steps) event reply) (ap (λ w. w.receipts) got) in
-    rw made (quiet before me.number event reply (sym (ap (λ w. may_wake event reply w) made) ∙ sym e ∙ none))
+-- the same, whether the run goes on or closes
+pub step_leaves : {A : Type 0} (h after : HubState A) (step : Step A) (wakes all : Wakes) (sends : List (Sending A)) → after.steps ≡ h.steps ++ step ∷ [] → after.failed ≡ h.failed
+    → (are_doors_woken wakes ≡ false → after.links ≡ h.links)
+    → ((c : ℕ) → is_woken wakes sends c ≡ false → (is_close c step.event ≡ false) × (is_queued_to c (sends_of step.reply) ≡ false))
+    → all ≡ (if is_closing after then Everybody else wakes) → LeavesWaiting all sends h after
+step_leaves {A} h after step wakes all sends made same_run same_links others is =
+    let both : (b : Bool) → is_closing after ≡ b → LeavesWaiting (cond b Everybody wakes) sends h after = λ b e. elim b as (λ b. is_closing after ≡ b → LeavesWaiting (cond b Everybody wakes) sends h after) [
+      | true ↦ λ e. all_woken sends h after
+      | false ↦ λ e. goes_on h after step wakes sends made same_run same_links others e
+    ] e in
+    rw is (both (is_closing after) refl)
+
+connect_sends : {A : Type 0} (reply : Reply A) → replies Connect reply ≡ true → sends_of reply ≡ []
+connect_sends (kind.Connected d) fits = refl
+connect_sends kind.TooMany fits = refl
+connect_sends (kind.Closed n) fits = absurd (cc)
+connect_sends (kind.Admitted t) fits = absurd (cc)
+connect_sends kind.Busy fits = absurd (cc)
+connect_sends kind.Crowded fits = absurd (cc)
+connect_sends (kind.Routed sends local) fits = absurd (cc)
+connect_sends (kind.Dropped reason) fits = absurd (cc)
+connect_sends (kind.Taken packet) fits = absurd (cc)
+connect_sends (kind.Sent sends) fits = absurd (cc)
+
+close_sends : {A : Type 0} (c : ℕ) (reply : Reply A) → replies (Close c) reply ≡ true → sends_of reply ≡ []
+close_sends c reply fits = ap sends_of (closed_reply c reply fits).1
+
+take_sends : {A : Type 0} (c : ℕ) (reply : Reply A) → replies (Take c) reply ≡ true → sends_of reply ≡ []
+take_sends c reply fits = ap sends_of (taken_reply c reply fits).1
+
+none_queued : {A : Type 0} (c : ℕ) (sends : List (Sending A)) → sends ≡ [] → is_queued_to c sends ≡ false
+none_queued c sends none = ap (λ w. is_queued_to c w) none
+
+-- whom a step doesn't wake it doesn't concern
+others_of : {A : Type 0} (event : Event A) (reply : Reply A) → replies event reply ≡ true
+    → (c : ℕ) → is_woken (concerned event) (sends_of reply) c ≡ false → (is_close c event ≡ false) × (is_queued_to c (sends_of reply) ≡ false)
+others_of Connect reply fits c none = (refl, none)
+others_of (Close d) reply fits c none = (none, none_queued c (sends_of reply) (close_sends d reply fits))
+others_of (Admit d packet) reply fits c none = (refl, none)
+others_of (Route t) reply fits c none = (refl, none)
+others_of (Take d) reply fits c none = (refl, none)
+others_of (Originate packet) reply fits c none = (refl, none)
+
+fitting : {A : Type 0} (event : Event A) (answer : Result (Reply A) Refusal) (reply : Reply A) → is_fit event answer ≡ true → answer ≡ Ok reply → replies event reply ≡ true
+fitting event answer reply fit is = subst (λ a. is_fit event a ≡ true) is fit
+
+-- a call that stepped
+pub call_leaves : {A : Type 0} (answer : Result (Reply A) Refusal) (event : Event A) (before after : HubState A) (me us : ActorState A) (wakes : Wakes) → is_fit event answer ≡ true
+    → HasStepped answer event before me after us → wakes ≡ wakes_of event after → LeavesOthers wakes us before after
+call_leaves answer event before after me us wakes fit (reply, is, made, got) e = (
+  me.receipts,
+  receipt (length before.steps) event reply,
+  ap (λ w. w.receipts) got,
+  step_leaves before after (record { actor = me.number; event = event; reply = reply }) (concerned event) wakes (sends_of reply) (ap (λ w. w.steps) made) (ap (λ w. w.failed) made)
+      (λ none. ap (λ w. w.links) made) (others_of event reply (fitting event answer reply fit is)) e,
+)
+
+-- a Take, a Close and a Connect
+pub take_leaves : {A : Type 0} (c : ℕ) (before after : HubState A) (me us : ActorState A) (wakes : Wakes) → AnswersFit A
+    → HasStepped (answer_now before (Take c)) (Take c) before me after us → wakes ≡ (if is_closing after then Everybody else Nobody) → LeavesWaiting wakes [] before after
+take_leaves {A} c before after me us wakes fit (reply, is, made, got) e =
+    let sends = take_sends c reply (fitting (Take c) (answer_now before (Take c)) reply (fit before.settings (past_of before) (Take c)) is) in
+    step_leaves before after (record { actor = me.number; event = Take c; reply = reply }) Nobody wakes [] (ap (λ w. w.steps) made) (ap (λ w. w.failed) made)
+    (λ none. ap (λ w. w.links) made) (λ d other. (refl, none_queued d (sends_of reply) sends)) e
+
+pub close_leaves : {A : Type 0} (c : ℕ) (before after : HubState A) (me us : ActorState A) (wakes : Wakes) → AnswersFit A
+    → HasStepped (answer_now before (Close c)) (Close c) before me after us → wakes ≡ (if is_closing after then Everybody else Writer c) → LeavesWaiting wakes [] before after
+close_leaves {A} c before after me us wakes fit (reply, is, made, got) e =
+    let sends = close_sends c reply (fitting (Close c) (answer_now before (Close c)) reply (fit before.settings (past_of before) (Close c)) is) in
+    step_leaves before after (record { actor = me.number; event = Close c; reply = reply }) (Writer c) wakes [] (ap (λ w. w.steps) made) (ap (λ w. w.failed) made)
+    (λ none. ap (λ w. w.links) made) (λ d other. (other, none_queued d (sends_of reply) sends)) e
+
+pub connect_leaves : {A : Type 0} (link : ℕ) (before after : HubState A) (me us : ActorState A) (wakes : Wakes) → AnswersFit A
+    → HasConnected link before me after us → wakes ≡ (if is_closing after then Everybody else Doors) → LeavesWaiting wakes [] before after
+connect_leaves {A} link before after me us wakes fit (reply, is, made, got) e =
+    let sends = connect_sends reply (fitting Connect (answer_now before Connect) reply (fit before.settings (past_of before) Connect) is) in
+    step_leaves before after (record { actor = me.number; event = Connect; reply = reply }) Doors wakes [] (ap (λ w. w.steps) made) (ap (λ w. w.failed) made)
+    (λ woken. absurd (cc)) (λ d other. (refl, none_queued d (sends_of reply) sends)) e
 
 -- nothing changed
-pub unchanged : {A : Type 0} (before after : HubState A) → after ≡ before → LeavesWaiting before after
-unchanged before after same = rw same (record { at_door = λ link h. h; for_next = λ c h. h })
+pub unchanged : {A : Type 0} (wakes : Wakes) (sends : List (Sending A)) (before after : HubState A) → after ≡ before → LeavesWaiting wakes sends before after
+unchanged wakes sends before after same = rw same (record { at_door = λ none link h. h; for_next = λ c none h. h })

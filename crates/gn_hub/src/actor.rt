@@ -6,7 +6,7 @@ ghost use Rattle.gn_wire.specs.Packet.{Packet};
 ghost use Rattle.gn_hub.specs.ActorState.{new_actor};
 ghost use Rattle.gn_hub.specs.Receipts.{HasTakenLast};
 
-use gn_rules::{Receipt, Reply};
+use gn_rules::{Receipt, Reply, Sending};
 use gn_wire::Descriptor;
 use std::alloc::{AllocError, Allocator, Global};
 use std::marker::Model;
@@ -83,6 +83,14 @@ impl<L: Ledger, A: Allocator> Actor<L, A> {
         match self.last_reply() {
             Reply::Taken(packet) => packet,
             _ => unreachable!(),
+        }
+    }
+
+    /// What the reply of its last receipt sends. Nothing where it has none.
+    pub(crate) fn last_sends(&self) -> &[Sending<A>] {
+        match self.receipts.last() {
+            Some(last) => last.reply.sends(),
+            None => &[],
         }
     }
 

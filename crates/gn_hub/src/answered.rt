@@ -1,14 +1,13 @@
-//! The calls on the hub by what they do to the actor, and whether they may have brought what a thread waits for.
+//! The calls on the hub by what they do to the actor, and whom they may have brought what they wait for.
 
-ghost use Rattle.std.specs.Prelude.{◌≡◌, ◌<◌, ◌∷◌, ◌++◌, [], List, length, true, false, Some, None, Ok, Err, IfErr, IfOk, MatchResult};
-ghost use Rattle.gn_rules.specs.declared.receipt.Receipt.{Receipt};
+ghost use Rattle.std.specs.Prelude.{◌≡◌, [], true, false, if◌then◌else◌, Some, None, Ok, Err, IfErr, IfOk, MatchResult};
 ghost use Rattle.gn_rules.specs.declared.event.Event.TheVariants.{Connect, Route};
-ghost use Rattle.std.specs.List.{list_any};
 ghost use Rattle.gn_rules.specs.Fits.{refuses};
-ghost use Rattle.gn_rules.specs.History.{live, sends_of};
-ghost use Rattle.gn_hub.specs.HubState.{past_of};
+ghost use Rattle.gn_rules.specs.History.{live};
+ghost use Rattle.gn_hub.specs.HubState.{is_closing, past_of};
 ghost use Rattle.gn_hub.specs.Receipts.{HasClosed, HasDrained, HasReceipt, HasTaken, HasTakenMore, HasTakenSome, is_stop};
-ghost use Rattle.gn_hub.specs.Waking.{LeavesWaiting, closes, may_wake};
+ghost use Rattle.gn_hub.specs.Waking.{LeavesOthers, LeavesWaiting, wakes_of};
+ghost use Rattle.gn_hub.specs.declared.wakes.Wakes.TheVariants.{Nobody, Everybody};
 ghost use Rattle.gn_hub.specs.declared.next.Outgoing.TheVariants.{Packet, Drained, Closed};
 
 use crate::actor::Actor;
@@ -16,29 +15,28 @@ use crate::batch::Batch;
 use crate::found::FoundClosed;
 use crate::hub::Hub;
 use crate::next::Outgoing;
+use crate::wakes::Wakes;
 use gn_payload::Checked;
 use gn_room::Room;
-use gn_rules::{
-    ConnId, Event, Refusal, Reply, RouterCore, Ticket, answers_fit, checked_answers_fit,
-};
+use gn_rules::{ConnId, Event, Refusal, RouterCore, Ticket, answers_fit, checked_answers_fit};
 use std::alloc::Allocator;
 use std::sync::ledger::Ledger;
 
-/// What a call answered, and whether the threads that wait have to look again.
+/// What a call answered, and who has to look again.
 pub(crate) struct Answered<T> {
     pub answer: Result<T, Refusal>,
-    pub wakes: bool,
+    pub wakes: Wakes,
 }
 
 impl<T> Answered<T> {
     /// A refusal changes nothing.
     fn refused(refusal: Refusal) -> Answered<T>
         ensures answer { result.answer ≡ Err refusal }
-        ensures wakes { result.wakes ≡ false }
+        ensures wakes { result.wakes ≡ Nobody }
     {
         Answered {
             answer: Err(refusal),
-            wakes: false,
+            wakes: Wakes::Nobody,
         }
     }
 }
@@ -49,11 +47,13 @@ impl<C: RouterCore<A>, L: Ledger, A: Allocator + Copy> Hub<C, L, A> {
         ensures answer { MatchResult result.answer
             (λ _. HasReceipt event.now me.old me.new)
             (λ refusal. (refuses event.now refusal ≡ true) × (me.new ≡ me.old)) }
-        ensures quiet { result.wakes ≡ false → LeavesWaiting self.old self.new }
+        ensures quiet { MatchResult result.answer
+            (λ _. LeavesOthers result.wakes me.new self.old self.new)
+            (λ _. self.new ≡ self.old) }
     {
         answers_fit::<A>();
         match self.call(me, event) {
-            Ok(()) => self.stepped((), event, me),
+            Ok(()) => self.stepped(event),
             Err(refusal) => Answered::refused(refusal),
         }
     }
@@ -68,13 +68,15 @@ impl<C: RouterCore<A>, L: Ledger, A: Allocator + Copy> Hub<C, L, A> {
         ensures answer { MatchResult result.answer
             (λ _. HasReceipt (Route ticket) me.old me.new)
             (λ refusal. (refuses {A = A} (Route ticket) refusal ≡ true) × (me.new ≡ me.old)) }
-        ensures quiet { result.wakes ≡ false → LeavesWaiting self.old self.new }
+        ensures quiet { MatchResult result.answer
+            (λ _. LeavesOthers result.wakes me.new self.old self.new)
+            (λ _. self.new ≡ self.old) }
     {
         checked_answers_fit::<A>();
         match self.route(me, ticket, checked) {
             Ok(()) => {
                 let event = Event::Route(ticket);
-                let answered = self.stepped((), &event, me);
+                let answered = self.stepped(&event);
                 drop(event);
                 answered
             }
@@ -82,18 +84,22 @@ impl<C: RouterCore<A>, L: Ledger, A: Allocator + Copy> Hub<C, L, A> {
         }
     }
 
-    /// `connect`, for the lock. An open or shut door is what somebody waits for.
+    /// `connect`, for the lock. An open or shut door is what those wait for who meet a link.
     pub(crate) fn connect_answered(&mut self, me: &mut Actor<L, A>, link: u32) -> Answered<()>
         requires { me.old.number ≡ link }
         ensures answer { MatchResult result.answer
             (λ _. HasReceipt Connect me.old me.new)
             (λ refusal. (refuses {A = A} Connect refusal ≡ true) × (me.new ≡ me.old)) }
-        ensures quiet { result.wakes ≡ false → LeavesWaiting self.old self.new }
+        ensures quiet { LeavesWaiting result.wakes [] self.old self.new }
     {
         answers_fit::<A>();
-        let answer = self.connect(me, link);
-        let wakes = answer.is_ok();
-        Answered { answer, wakes }
+        match self.connect(me, link) {
+            Ok(()) => Answered {
+                answer: Ok(()),
+                wakes: self.wakes_at_least(Wakes::Doors),
+            },
+            Err(refusal) => Answered::refused(refusal),
+        }
     }
 
     /// `outgoing`, for the lock. Where the connection is over, this call may have closed it.
@@ -107,23 +113,21 @@ impl<C: RouterCore<A>, L: Ledger, A: Allocator + Copy> Hub<C, L, A> {
         ensures closed { IfOk result.answer (λ next. next ≡ Some Closed → me.new ≡ me.old) }
         ensures later { IfOk result.answer (λ next. next ≡ None → me.new ≡ me.old) }
         ensures refused { IfErr result.answer (λ refusal. (is_stop refusal ≡ true) × (me.new ≡ me.old)) }
-        ensures quiet { result.wakes ≡ false → LeavesWaiting self.old self.new }
+        ensures quiet { LeavesWaiting result.wakes [] self.old self.new }
     {
         answers_fit::<A>();
         match self.outgoing(me, c) {
-            Ok(Some(Outgoing::Packet)) => {
-                let event = Event::Take(c);
-                let answered = self.stepped(Some(Outgoing::Packet), &event, me);
-                drop(event);
-                answered
-            }
+            Ok(Some(Outgoing::Packet)) => Answered {
+                answer: Ok(Some(Outgoing::Packet)),
+                wakes: self.wakes_at_least(Wakes::Nobody),
+            },
             Ok(Some(over)) => Answered {
                 answer: Ok(Some(over)),
-                wakes: true,
+                wakes: Wakes::Everybody,
             },
             Ok(None) => Answered {
                 answer: Ok(None),
-                wakes: false,
+                wakes: Wakes::Nobody,
             },
             Err(refusal) => Answered::refused(refusal),
         }
@@ -142,51 +146,50 @@ impl<C: RouterCore<A>, L: Ledger, A: Allocator + Copy> Hub<C, L, A> {
         ensures closed { IfOk result.answer (λ next. next ≡ Some Closed → me.new ≡ me.old) }
         ensures later { IfOk result.answer (λ next. next ≡ None → me.new ≡ me.old) }
         ensures refused { IfErr result.answer (λ refusal. (is_stop refusal ≡ true) × (me.new ≡ me.old)) }
-        ensures quiet { result.wakes ≡ false → LeavesWaiting self.old self.new }
+        ensures quiet { LeavesWaiting result.wakes [] self.old self.new }
     {
         let Answered { answer, wakes } = self.outgoing_answered(me, c);
         if !matches!(answer, Ok(Some(Outgoing::Packet))) {
             return Answered { answer, wakes };
         }
-        let more = self.take_more(me, c, batch.most() - 1, room);
-        Answered {
-            answer,
-            wakes: wakes || more,
-        }
+        let closes = self.take_more(me, c, batch.most() - 1, room);
+        let wakes = if closes { Wakes::Everybody } else { wakes };
+        Answered { answer, wakes }
     }
 
     /// Takes further packets of a connection, at most so many, until none waits, a step is refused, or one would have to wait for room.
-    /// Whether the threads that wait have to look again.
+    /// Whether the run closes.
     fn take_more(&mut self, me: &mut Actor<L, A>, c: ConnId, most: u32, room: &Room) -> bool
         ensures taken { HasTakenMore most c me.old me.new }
-        ensures quiet { result ≡ false → LeavesWaiting self.old self.new }
+        ensures quiet { result ≡ false → LeavesWaiting Nobody [] self.old self.new }
     {
-        let mut wakes = false;
+        let mut closes = false;
         for _ in 0..most {
-            let Answered {
-                answer,
-                wakes: woken,
-            } = self.take_another(me, c, room);
-            wakes = wakes || woken;
-            if answer.is_err() {
-                break;
+            match self.take_another(me, c, room) {
+                Ok(closing) => closes = closes || closing,
+                Err(_) => break,
             }
         }
-        wakes
+        closes
     }
 
-    /// Takes one more packet of a connection. `NothingWaiting` also where its step would have to wait for room.
-    fn take_another(&mut self, me: &mut Actor<L, A>, c: ConnId, room: &Room) -> Answered<()>
-        ensures answer { MatchResult result.answer (λ _. HasTaken c me.old me.new) (λ _. me.new ≡ me.old) }
-        ensures quiet { result.wakes ≡ false → LeavesWaiting self.old self.new }
+    /// Takes one more packet of a connection. Whether the run closes. `NothingWaiting` also where its step would have to wait for room.
+    fn take_another(
+        &mut self,
+        me: &mut Actor<L, A>,
+        c: ConnId,
+        room: &Room,
+    ) -> Result<bool, Refusal>
+        ensures taken { IfOk result (λ _. HasTaken c me.old me.new) }
+        ensures quiet { IfOk result (λ closes. closes ≡ false → LeavesWaiting Nobody [] self.old self.new) }
+        ensures refused { IfErr result (λ _. (self.new ≡ self.old) × (me.new ≡ me.old)) }
     {
+        answers_fit::<A>();
         if self.router().waiting(c) == 0 || !room.has_more(self.book()) {
-            return Answered::refused(Refusal::NothingWaiting);
+            return Err(Refusal::NothingWaiting);
         }
-        let event = Event::Take(c);
-        let answered = self.call_answered(me, &event);
-        drop(event);
-        answered
+        self.call_with(me, Event::Take(c))?;
+        Ok(self.closing())
     }
 
     /// `close`, for the lock. The end of a connection is what somebody waits for.
@@ -199,54 +202,44 @@ impl<C: RouterCore<A>, L: Ledger, A: Allocator + Copy> Hub<C, L, A> {
             (λ found. HasClosed c found me.old me.new)
             (λ refusal. (is_stop refusal ≡ true) × (me.new ≡ me.old)) }
         ensures found { IfOk result.answer (λ found. found ≡ Some c → live (past_of self.old) c ≡ false) }
-        ensures quiet { result.wakes ≡ false → LeavesWaiting self.old self.new }
+        ensures quiet { LeavesWaiting result.wakes [] self.old self.new }
     {
         answers_fit::<A>();
         match self.call_with(me, Event::Close(c)) {
             Ok(()) => Answered {
                 answer: Ok(None),
-                wakes: true,
+                wakes: self.wakes_at_least(Wakes::Writer(c)),
             },
             Err(Refusal::NotLive) => Answered {
                 answer: Ok(Some(FoundClosed::of(c))),
-                wakes: false,
+                wakes: Wakes::Nobody,
             },
             Err(refusal) => Answered::refused(refusal),
         }
     }
 
     /// The answer of a call that made an actor's last step.
-    fn stepped<T>(&self, value: T, event: &Event<A>, me: &Actor<L, A>) -> Answered<T>
-        requires { 0 < length me.now.receipts }
-        ensures answer { result.answer ≡ Ok value }
-        ensures wakes { (rs : List (Receipt A)) (r : Receipt A) → me.now.receipts ≡ rs ++ r ∷ []
-            → result.wakes ≡ may_wake event.now r.reply self.now }
+    fn stepped(&self, event: &Event<A>) -> Answered<()>
+        ensures answer { result.answer ≡ Ok tt }
+        ensures wakes { result.wakes ≡ wakes_of event.now self.now }
     {
-        let wakes = self.may_wake(event, me.last_reply());
         Answered {
-            answer: Ok(value),
-            wakes,
+            answer: Ok(()),
+            wakes: match event {
+                Event::Close(c) => self.wakes_at_least(Wakes::Writer(*c)),
+                _ => self.wakes_at_least(Wakes::Queued),
+            },
         }
     }
 
-    /// Whether a step that was just made may have brought what a thread waits for.
-    fn may_wake(&self, event: &Event<A>, reply: &Reply<A>) -> bool
-        ensures { result ≡ may_wake event.now reply.now self.now }
+    /// Everybody where the run closes, else these.
+    fn wakes_at_least(&self, wakes: Wakes) -> Wakes
+        ensures { result ≡ (if is_closing self.now then Everybody else wakes) }
     {
-        closes(event) || queues(reply) || self.closing()
+        if self.closing() {
+            Wakes::Everybody
+        } else {
+            wakes
+        }
     }
-}
-
-/// Whether an event closes a connection.
-fn closes<A: Allocator>(event: &Event<A>) -> bool
-    ensures { result ≡ closes event.now }
-{
-    matches!(event, Event::Close(_))
-}
-
-/// Whether a reply queued a packet.
-fn queues<A: Allocator>(reply: &Reply<A>) -> bool
-    ensures { result ≡ list_any (λ sent. sent.queued) (sends_of reply.now) }
-{
-    reply.sends().iter().any(|sent| sent.queued)
 }

@@ -3,6 +3,7 @@
 
 mod actor;
 mod answered;
+mod asleep;
 mod batch;
 mod found;
 mod hub;
@@ -10,6 +11,8 @@ mod mark;
 mod next;
 mod opening;
 mod service;
+mod waiters;
+mod wakes;
 
 pub use actor::Actor;
 pub use batch::Batch;

@@ -8,11 +8,14 @@ ghost use Rattle.gn_hub.specs.Receipts.{HasClosed, HasDrained, HasReceipt, HasTa
 
 use crate::actor::Actor;
 use crate::answered::Answered;
+use crate::asleep::Asleep;
 use crate::batch::Batch;
 use crate::found::FoundClosed;
 use crate::hub::Hub;
 use crate::mark::Door;
 use crate::next::Outgoing;
+use crate::waiters::Waiters;
+use crate::wakes::Wakes;
 use crossbeam_utils::CachePadded;
 use gn_payload::Checked;
 use gn_room::Room;
@@ -20,7 +23,7 @@ use gn_rules::{ConnId, Event, Refusal, RouterCore, Ticket};
 use std::alloc::{AllocError, Allocator, Global};
 use std::hint::spin_loop;
 use std::sync::ledger::Ledger;
-use std::sync::{Condvar, Mutex, MutexGuard, Wait};
+use std::sync::{Mutex, MutexGuard, Wait};
 use std::thread::yield_now;
 
 /// How often a thread tries to take the lock before it sleeps.
@@ -29,16 +32,22 @@ const TRIES: u32 = 32;
 /// How many looks are a try.
 const LOOKS: u32 = 8;
 
-/// The hub under one lock, and the condition variable that is notified where a change may have brought what a thread waits
-/// for: a door, a packet, the end of a connection, the closing of the run, or its failure. Before it takes the lock for a step, a
-/// thread waits for room for that.
+/// What lies under the lock: the hub, and who sleeps.
+#[derive(Drop)]
+struct Held<C: RouterCore<A> + Drop, L: Ledger, A: Allocator + Copy = Global> {
+    hub: Hub<C, L, A>,
+    asleep: Asleep,
+}
+
+/// The hub under one lock, and where threads sleep until a change may have brought what they wait for: a door, a packet, the end of a
+/// connection, the closing of the run, or its failure. Before it takes the lock for a step, a thread waits for room for that.
 ///
 /// Threads that try the lock write its word. The hub stands on cache lines of its own, so that they don't take one away from
 /// who has the lock.
 #[derive(Drop)]
 pub struct Service<C: RouterCore<A> + Drop, L: Ledger, A: Allocator + Copy = Global> {
-    hub: Mutex<CachePadded<Hub<C, L, A>>>,
-    changed: Condvar,
+    held: Mutex<CachePadded<Held<C, L, A>>>,
+    waiters: Waiters,
     room: Room,
 }
 
@@ -46,8 +55,11 @@ impl<C: RouterCore<A> + Drop, L: Ledger, A: Allocator + Copy> Service<C, L, A> {
     /// A hub under a lock of its own, and the room for its steps.
     pub(crate) fn over(hub: Hub<C, L, A>, room: Room) -> Self {
         Service {
-            hub: Mutex::new(CachePadded::new(hub)),
-            changed: Condvar::new(),
+            held: Mutex::new(CachePadded::new(Held {
+                hub,
+                asleep: Asleep::nobody(),
+            })),
+            waiters: Waiters::new(),
             room,
         }
     }
@@ -58,10 +70,10 @@ impl<C: RouterCore<A> + Drop, L: Ledger, A: Allocator + Copy> Service<C, L, A> {
     }
 
     /// The hub, where it is found free within so many looks.
-    fn spin(&self) -> Option<MutexGuard<'_, CachePadded<Hub<C, L, A>>>> {
+    fn spin(&self) -> Option<MutexGuard<'_, CachePadded<Held<C, L, A>>>> {
         for _ in 0..LOOKS {
-            if let Some(hub) = self.hub.try_lock() {
-                return Some(hub);
+            if let Some(held) = self.held.try_lock() {
+                return Some(held);
             }
             spin_loop();
         }
@@ -70,14 +82,14 @@ impl<C: RouterCore<A> + Drop, L: Ledger, A: Allocator + Copy> Service<C, L, A> {
 
     /// The hub. A thread that finds it taken looks some times more, then lets others run and tries again, so many times, before
     /// it sleeps.
-    fn lock<R: Wait>(&self, rt: &R) -> MutexGuard<'_, CachePadded<Hub<C, L, A>>> {
+    fn lock<R: Wait>(&self, rt: &R) -> MutexGuard<'_, CachePadded<Held<C, L, A>>> {
         for _ in 0..TRIES {
-            if let Some(hub) = self.spin() {
-                return hub;
+            if let Some(held) = self.spin() {
+                return held;
             }
             yield_now();
         }
-        self.hub.lock(rt)
+        self.held.lock(rt)
     }
 
     /// Waits for room for one more step, and makes some for its receipt and those of further ones, at most so many in all. An `Err`
@@ -91,16 +103,28 @@ impl<C: RouterCore<A> + Drop, L: Ledger, A: Allocator + Copy> Service<C, L, A> {
         me.make_room(most)
     }
 
-    /// Lets the hub go after a call on it, and wakes the threads that wait, where they have to look again.
+    /// Lets the hub go after a call on it by this actor, and wakes those who have to look again.
     fn release<R: Wait>(
         &self,
         rt: &R,
-        hub: MutexGuard<'_, CachePadded<Hub<C, L, A>>>,
-        wakes: bool,
+        held: MutexGuard<'_, CachePadded<Held<C, L, A>>>,
+        me: &Actor<L, A>,
+        wakes: Wakes,
     ) {
-        self.room.made(hub.book());
-        drop(hub);
-        self.wake(rt, wakes);
+        let mut held = held;
+        self.room.made(held.hub.book());
+        let woken = held.asleep.take(wakes, me.last_sends());
+        drop(held);
+        self.waiters.wake(&woken);
+        self.room.wake(rt);
+    }
+
+    /// Lets the hub go after a change on it, and wakes everybody.
+    fn release_all(&self, held: MutexGuard<'_, CachePadded<Held<C, L, A>>>) {
+        let mut held = held;
+        let woken = held.asleep.take_all();
+        drop(held);
+        self.waiters.wake(&woken);
     }
 
     /// An actor's event.
@@ -115,9 +139,9 @@ impl<C: RouterCore<A> + Drop, L: Ledger, A: Allocator + Copy> Service<C, L, A> {
             (λ refusal. (refuses event.now refusal ≡ true) × (me.new ≡ me.old)) }
     {
         self.make_room(rt, me, 1)?;
-        let mut hub = self.lock(rt);
-        let Answered { answer, wakes } = hub.call_answered(me, event);
-        self.release(rt, hub, wakes);
+        let mut held = self.lock(rt);
+        let Answered { answer, wakes } = held.hub.call_answered(me, event);
+        self.release(rt, held, me, wakes);
         answer
     }
 
@@ -134,9 +158,9 @@ impl<C: RouterCore<A> + Drop, L: Ledger, A: Allocator + Copy> Service<C, L, A> {
             (λ refusal. (refuses {A = A} (Route ticket) refusal ≡ true) × (me.new ≡ me.old)) }
     {
         self.make_room(rt, me, 1)?;
-        let mut hub = self.lock(rt);
-        let Answered { answer, wakes } = hub.route_answered(me, ticket, checked);
-        self.release(rt, hub, wakes);
+        let mut held = self.lock(rt);
+        let Answered { answer, wakes } = held.hub.route_answered(me, ticket, checked);
+        self.release(rt, held, me, wakes);
         answer
     }
 
@@ -148,9 +172,9 @@ impl<C: RouterCore<A> + Drop, L: Ledger, A: Allocator + Copy> Service<C, L, A> {
             (λ refusal. (refuses {A = A} Connect refusal ≡ true) × (me.new ≡ me.old)) }
     {
         self.make_room(rt, me, 1)?;
-        let mut hub = self.lock(rt);
-        let Answered { answer, wakes } = hub.connect_answered(me, link);
-        self.release(rt, hub, wakes);
+        let mut held = self.lock(rt);
+        let Answered { answer, wakes } = held.hub.connect_answered(me, link);
+        self.release(rt, held, me, wakes);
         answer
     }
 
@@ -166,9 +190,9 @@ impl<C: RouterCore<A> + Drop, L: Ledger, A: Allocator + Copy> Service<C, L, A> {
             (λ refusal. (is_stop refusal ≡ true) × (me.new ≡ me.old)) }
     {
         self.make_room(rt, me, 1)?;
-        let mut hub = self.lock(rt);
-        let Answered { answer, wakes } = hub.close_answered(me, c);
-        self.release(rt, hub, wakes);
+        let mut held = self.lock(rt);
+        let Answered { answer, wakes } = held.hub.close_answered(me, c);
+        self.release(rt, held, me, wakes);
         answer
     }
 
@@ -187,18 +211,19 @@ impl<C: RouterCore<A> + Drop, L: Ledger, A: Allocator + Copy> Service<C, L, A> {
         ensures refused { IfErr result (λ refusal. (is_stop refusal ≡ true) × (me.new ≡ me.old)) }
     {
         self.make_room(rt, me, batch.most())?;
-        let mut hub = self.lock(rt);
+        let mut held = self.lock(rt);
         let mut has_yielded = false;
         for _ in rt.forever() {
-            let Answered { answer, wakes } = hub.batch_answered(me, c, batch, &self.room);
+            let Answered { answer, wakes } = held.hub.batch_answered(me, c, batch, &self.room);
             if let Some(next) = answer? {
-                self.release(rt, hub, wakes);
+                self.release(rt, held, me, wakes);
                 return Ok(next);
             }
-            hub = if has_yielded {
-                self.changed.wait(rt, hub)
+            held = if has_yielded {
+                held.asleep.add_writer(c);
+                self.waiters.sleep_for(rt, held, c)
             } else {
-                self.pass(rt, hub)
+                self.pass(rt, held)
             };
             has_yielded = !has_yielded;
         }
@@ -209,64 +234,61 @@ impl<C: RouterCore<A> + Drop, L: Ledger, A: Allocator + Copy> Service<C, L, A> {
     fn pass<'s, R: Wait>(
         &'s self,
         rt: &R,
-        hub: MutexGuard<'s, CachePadded<Hub<C, L, A>>>,
-    ) -> MutexGuard<'s, CachePadded<Hub<C, L, A>>> {
-        drop(hub);
+        held: MutexGuard<'s, CachePadded<Held<C, L, A>>>,
+    ) -> MutexGuard<'s, CachePadded<Held<C, L, A>>> {
+        drop(held);
         yield_now();
         self.lock(rt)
     }
 
     /// Waits until the door of the link is open or shut, or the run has failed. The connection, where it is open.
     pub fn meet<R: Wait>(&self, rt: &R, link: u32) -> Option<ConnId> {
-        let mut hub = self.lock(rt);
+        let mut held = self.lock(rt);
         for _ in rt.forever() {
-            match hub.door(link) {
+            match held.hub.door(link) {
                 Door::Met(c) => return Some(c),
                 Door::Shut => return None,
                 Door::Unmet => {}
             }
-            if hub.failed() {
+            if held.hub.failed() {
                 return None;
             }
-            hub = self.changed.wait(rt, hub);
+            held.asleep.add_door();
+            held = self.waiters.sleep_at_door(rt, held);
         }
         unreachable!()
     }
 
     /// The link won't connect.
     pub fn shut<R: Wait>(&self, rt: &R, link: u32) {
-        self.lock(rt).shut(link);
-        self.changed.notify_all();
+        let mut held = self.lock(rt);
+        held.hub.shut(link);
+        self.release_all(held);
     }
 
     /// The reader of the link is done.
     pub fn reader_done<R: Wait>(&self, rt: &R, link: u32) {
-        self.lock(rt).reader_done(link);
-        self.changed.notify_all();
+        let mut held = self.lock(rt);
+        held.hub.reader_done(link);
+        self.release_all(held);
     }
 
     /// Whether the run has failed by now.
     pub fn failed<R: Wait>(&self, rt: &R) -> bool {
-        self.lock(rt).failed()
+        self.lock(rt).hub.failed()
     }
 
     /// The run has failed.
     pub fn fail<R: Wait>(&self, rt: &R) {
-        self.lock(rt).fail();
-        self.changed.notify_all();
-    }
-
-    /// Wakes the threads that wait, where they have to look again, and who takes the steps.
-    fn wake<R: Wait>(&self, rt: &R, wakes: bool) {
-        if wakes {
-            self.changed.notify_all();
-        }
-        self.room.wake(rt);
+        let mut held = self.lock(rt);
+        held.hub.fail();
+        self.release_all(held);
     }
 
     /// The hub, without its lock.
     pub fn into_hub(self) -> Hub<C, L, A> {
-        let Service { hub, .. } = self;
-        hub.into_inner().into_inner()
+        let Service { held, .. } = self;
+        let Held { hub, .. } = held.into_inner().into_inner();
+        hub
     }
 }

@@ -1,27 +1,29 @@
-use Rattle.std.proofs.Common.{◌∙◌, ap, Some}
-use Rattle.gn_rules.specs.declared.event.Event.TheVariants.{Take}
-use Rattle.gn_hub.specs.Calls.{answer_now, due}
+use Rattle.std.proofs.Common.{◌∙◌, ap, Some, []}
+use Rattle.gn_hub.specs.Calls.{due}
 use Rattle.gn_hub.proofs.StepLemmas.{closed_same, drained, none_same, outgoing_packet, packet_taken, stops}
-use Rattle.gn_hub.proofs.WakingLemmas.{stepped_quietly, unchanged}
+use Rattle.gn_hub.specs.declared.wakes.Wakes.TheVariants.{Nobody}
+use Rattle.gn_hub.proofs.WakingLemmas.{all_woken, take_leaves, unchanged}
 use Rattle.gn_hub.proofs.hub.Hub.outgoing_answered.Goals as goal
 
 pub returns-in-Ok-Some-Packet-clause-packet : goal.returns-in-Ok-Some-Packet-clause-packet
-returns-in-Ok-Some-Packet-clause-packet g c = rw c.stepped-answered.ensures.answer (λ is. packet_taken (due c.args.self.now c.args.c) c.in-Ok-Some-Packet.field-0 c.args.c c.args.self.now c.outgoing.new.self c.args.me.now c.outgoing.new.me c.answers_fit.ensures (c.in-Ok-Some-Packet.field-0-is ∙ ap Some c.in-Ok-Some-Packet.field-0-0-is) c.in-Ok-Some-Packet.ensures)
+returns-in-Ok-Some-Packet-clause-packet g c = λ is. packet_taken (due c.args.self.now c.args.c) c.in-Ok-Some-Packet.field-0 c.args.c c.args.self.now c.outgoing.new.self c.args.me.now c.outgoing.new.me c.answers_fit.ensures (c.in-Ok-Some-Packet.field-0-is ∙ ap Some c.in-Ok-Some-Packet.field-0-0-is) c.in-Ok-Some-Packet.ensures
 
 pub returns-in-Ok-Some-Packet-clause-drained : goal.returns-in-Ok-Some-Packet-clause-drained
-returns-in-Ok-Some-Packet-clause-drained g c = rw c.stepped-answered.ensures.answer (λ no. absurd (cc))
+returns-in-Ok-Some-Packet-clause-drained g c = λ no. absurd (cc)
 
 pub returns-in-Ok-Some-Packet-clause-closed : goal.returns-in-Ok-Some-Packet-clause-closed
-returns-in-Ok-Some-Packet-clause-closed g c = rw c.stepped-answered.ensures.answer (λ no. absurd (cc))
+returns-in-Ok-Some-Packet-clause-closed g c = λ no. absurd (cc)
 
 pub returns-in-Ok-Some-Packet-clause-later : goal.returns-in-Ok-Some-Packet-clause-later
-returns-in-Ok-Some-Packet-clause-later g c = rw c.stepped-answered.ensures.answer (λ no. absurd (cc))
+returns-in-Ok-Some-Packet-clause-later g c = λ no. absurd (cc)
 
 pub returns-in-Ok-Some-Packet-clause-refused : goal.returns-in-Ok-Some-Packet-clause-refused
-returns-in-Ok-Some-Packet-clause-refused g c = rw c.stepped-answered.ensures.answer tt
+returns-in-Ok-Some-Packet-clause-refused g c = tt
 
 pub returns-in-Ok-Some-Packet-clause-quiet : goal.returns-in-Ok-Some-Packet-clause-quiet
-returns-in-Ok-Some-Packet-clause-quiet g c = stepped_quietly (answer_now c.args.self.now (Take c.args.c)) (Take c.args.c) c.args.self.now c.outgoing.new.self c.args.me.now c.outgoing.new.me c.stepped-answered.result.wakes (outgoing_packet (due c.args.self.now c.args.c) c.in-Ok-Some-Packet.field-0 c.args.c c.args.self.now c.outgoing.new.self c.args.me.now c.outgoing.new.me (c.in-Ok-Some-Packet.field-0-is ∙ ap Some c.in-Ok-Some-Packet.field-0-0-is) c.in-Ok-Some-Packet.ensures) c.stepped-answered.ensures.wakes
+returns-in-Ok-Some-Packet-clause-quiet g c =
+    let made = outgoing_packet (due c.args.self.now c.args.c) c.in-Ok-Some-Packet.field-0 c.args.c c.args.self.now c.outgoing.new.self c.args.me.now c.outgoing.new.me (c.in-Ok-Some-Packet.field-0-is ∙ ap Some c.in-Ok-Some-Packet.field-0-0-is) c.in-Ok-Some-Packet.ensures in
+    take_leaves c.args.c c.args.self.now c.outgoing.new.self c.args.me.now c.outgoing.new.me c.wakes_at_least.result c.answers_fit.ensures made c.wakes_at_least.ensures
 
 pub returns-in-Ok-Some-clause-packet : goal.returns-in-Ok-Some-clause-packet
 returns-in-Ok-Some-clause-packet g c = λ is. packet_taken (due c.args.self.now c.args.c) c.in-Ok-Some.field-0 c.args.c c.args.self.now c.outgoing.new.self c.args.me.now c.outgoing.new.me c.answers_fit.ensures (c.in-Ok-Some.field-0-is ∙ is) c.in-Ok-Some.ensures
@@ -39,7 +41,7 @@ pub returns-in-Ok-Some-clause-refused : goal.returns-in-Ok-Some-clause-refused
 returns-in-Ok-Some-clause-refused g c = tt
 
 pub returns-in-Ok-Some-clause-quiet : goal.returns-in-Ok-Some-clause-quiet
-returns-in-Ok-Some-clause-quiet g c = λ no. absurd (cc)
+returns-in-Ok-Some-clause-quiet g c = all_woken [] c.args.self.now c.outgoing.new.self
 
 pub returns-in-Ok-None-clause-packet : goal.returns-in-Ok-None-clause-packet
 returns-in-Ok-None-clause-packet g c = λ no. absurd (cc)
@@ -57,7 +59,7 @@ pub returns-in-Ok-None-clause-refused : goal.returns-in-Ok-None-clause-refused
 returns-in-Ok-None-clause-refused g c = tt
 
 pub returns-in-Ok-None-clause-quiet : goal.returns-in-Ok-None-clause-quiet
-returns-in-Ok-None-clause-quiet g c = λ quiet. unchanged c.args.self.now c.outgoing.new.self (none_same (due c.args.self.now c.args.c) c.in-Ok-None.field-0 c.args.c c.args.self.now c.outgoing.new.self c.args.me.now c.outgoing.new.me c.in-Ok-None.field-0-is c.in-Ok-None.ensures).0
+returns-in-Ok-None-clause-quiet g c = unchanged Nobody [] c.args.self.now c.outgoing.new.self (none_same (due c.args.self.now c.args.c) c.in-Ok-None.field-0 c.args.c c.args.self.now c.outgoing.new.self c.args.me.now c.outgoing.new.me c.in-Ok-None.field-0-is c.in-Ok-None.ensures).0
 
 pub returns-in-Err-clause-packet : goal.returns-in-Err-clause-packet
 returns-in-Err-clause-packet g c = rw c.refused.ensures.answer tt
@@ -75,4 +77,4 @@ pub returns-in-Err-clause-refused : goal.returns-in-Err-clause-refused
 returns-in-Err-clause-refused g c = rw c.refused.ensures.answer (stops c.in-Err.refusal c.args.self.now c.in-Err.ensures.1, c.in-Err.ensures.3)
 
 pub returns-in-Err-clause-quiet : goal.returns-in-Err-clause-quiet
-returns-in-Err-clause-quiet g c = λ quiet. unchanged c.args.self.now c.outgoing.new.self c.in-Err.ensures.2
+returns-in-Err-clause-quiet g c = unchanged c.refused.result.wakes [] c.args.self.now c.outgoing.new.self c.in-Err.ensures.2

@@ -2,13 +2,14 @@ use Rattle.gn_rules.specs.declared.event.Event.TheVariants.{Route}
 use Rattle.gn_rules.specs.Answer.{checked_answer}
 use Rattle.gn_hub.specs.HubState.{past_of}
 use Rattle.gn_hub.proofs.StepLemmas.{receipt_fits, refusal_fits}
-use Rattle.gn_hub.proofs.WakingLemmas.{stepped_quietly, unchanged}
+use Rattle.gn_hub.proofs.WakingLemmas.{call_leaves}
 use Rattle.gn_hub.proofs.hub.Hub.route_answered.Goals as goal
 
 pub returns-in-Ok-clause-quiet : goal.returns-in-Ok-clause-quiet
 returns-in-Ok-clause-quiet g c =
     let h = c.args.self.now in
-    stepped_quietly (checked_answer h.settings (past_of h) c.args.ticket c.args.checked.now) (Route c.args.ticket) h c.route.new.self c.args.me.now c.route.new.me c.stepped-answered.result.wakes c.in-Ok.ensures c.stepped-answered.ensures.wakes
+    let fits = c.checked_answers_fit.ensures h.settings (past_of h) c.args.ticket c.args.checked.now in
+    rw c.stepped-answered.ensures.answer (call_leaves (checked_answer h.settings (past_of h) c.args.ticket c.args.checked.now) (Route c.args.ticket) h c.route.new.self c.args.me.now c.route.new.me c.stepped-answered.result.wakes fits c.in-Ok.ensures c.stepped-answered.ensures.wakes)
 
 pub returns-in-Ok-clause-answer : goal.returns-in-Ok-clause-answer
 returns-in-Ok-clause-answer g c =
@@ -23,4 +24,4 @@ returns-in-Err-clause-answer g c =
     rw c.refused.ensures.answer (refusal_fits (checked_answer h.settings (past_of h) c.args.ticket c.args.checked.now) (Route c.args.ticket) c.in-Err.refusal fits c.in-Err.ensures.0, c.in-Err.ensures.2)
 
 pub returns-in-Err-clause-quiet : goal.returns-in-Err-clause-quiet
-returns-in-Err-clause-quiet g c = λ quiet. unchanged c.args.self.now c.route.new.self c.in-Err.ensures.1
+returns-in-Err-clause-quiet g c = rw c.refused.ensures.answer c.in-Err.ensures.1

@@ -1,0 +1,104 @@
+//! Who sleeps.
+
+ghost use Rattle.std.specs.Prelude.{◌<◌};
+
+use crate::wakes::Wakes;
+use gn_rules::{ConnId, Sending};
+use std::alloc::Allocator;
+
+/// How many words of 64 places there are for the writers of connections.
+pub(crate) const WORDS: usize = 4;
+
+/// Some of those who sleep: the writers of connections, each at the place of its number, which it may share with others, and who waits
+/// at a door. What the hub's lock has of it says who is to be woken by a change. Whoever is told to wake them takes them out.
+#[derive(Clone, Copy)]
+pub(crate) struct Asleep {
+    pub words: [u64; WORDS],
+    pub at_door: bool,
+}
+
+/// The word of a connection's place.
+pub(crate) fn word_of(c: ConnId) -> usize
+    ensures { result < 4 }
+{
+    (c / 64) as usize % WORDS
+}
+
+/// The bit of a connection's place in its word.
+fn bit_of(c: ConnId) -> u64 {
+    1 << (c % 64)
+}
+
+impl Asleep {
+    /// Nobody.
+    pub fn nobody() -> Self {
+        Asleep {
+            words: [0; WORDS],
+            at_door: false,
+        }
+    }
+
+    /// With the writer of this connection.
+    pub fn add_writer(&mut self, c: ConnId) {
+        self.words[word_of(c)] |= bit_of(c);
+    }
+
+    /// With who waits at a door.
+    pub fn add_door(&mut self) {
+        self.at_door = true;
+    }
+
+    /// Takes out all.
+    pub fn take_all(&mut self) -> Self {
+        let all = *self;
+        *self = Asleep::nobody();
+        all
+    }
+
+    /// Takes out those who wait at a door.
+    fn take_doors(&mut self) -> Self {
+        let at_door = self.at_door;
+        self.at_door = false;
+        Asleep {
+            words: [0; WORDS],
+            at_door,
+        }
+    }
+
+    /// Moves the writer of this connection to others, if it is one of these.
+    fn move_writer(&mut self, c: ConnId, others: &mut Asleep) {
+        let at = word_of(c);
+        let bit = self.words[at] & bit_of(c);
+        self.words[at] ^= bit;
+        others.words[at] |= bit;
+    }
+
+    /// Takes out the writers of the connections that a packet was queued to.
+    fn take_queued<A: Allocator>(&mut self, sends: &[Sending<A>]) -> Self {
+        let mut queued = Asleep::nobody();
+        for sent in sends {
+            if sent.queued {
+                self.move_writer(sent.to, &mut queued);
+            }
+        }
+        queued
+    }
+
+    /// Takes out the writer of this connection.
+    fn take_writer(&mut self, c: ConnId) -> Self {
+        let mut writer = Asleep::nobody();
+        self.move_writer(c, &mut writer);
+        writer
+    }
+
+    /// Takes out those whom a change concerns, by whom it wakes, and what the reply of its step sends.
+    pub fn take<A: Allocator>(&mut self, wakes: Wakes, sends: &[Sending<A>]) -> Self {
+        match wakes {
+            Wakes::Nobody => Asleep::nobody(),
+            Wakes::Queued => self.take_queued(sends),
+            Wakes::Writer(c) => self.take_writer(c),
+            Wakes::Doors => self.take_doors(),
+            Wakes::Everybody => self.take_all(),
+        }
+    }
+}
