@@ -1,5 +1,6 @@
 -- A scribe beside a run, and the two ends of its ring.
 use Rattle.std.proofs.Common.{◌≡◌, ◌∙◌, ◌<◌, ℕ, List, [], length, Option, Some, Result, Ok, Err, OnErr, OnOk, Vec, ap, append-nil, inl, refl, reverse, subst, sym}
+use Rattle.std.specs.Option.{ForSome}
 use Rattle.std.specs.Prelude.{⊤, IfErr}
 use Rattle.rtrb.specs.Ends.{SameRing}
 use Rattle.rtrb.specs.Ring.{received}
@@ -54,9 +55,9 @@ module _ {A : Type 0} where
   followed_of before after old new (Err fault) all broken cause = (broken, cause)
 
   -- steps that are legal by the configuration that has a name are so by whatever has it
-  pub legal_by_name : (name : Option Config) (a : Config) (steps : List (Step A)) → name ≡ Some a → IsLegal a (reverse steps)
-      → (s : Config) → name ≡ Some s → IsLegal s (reverse steps)
-  legal_by_name name a steps h legal s k = subst (λ c. IsLegal c (reverse steps)) (some_is (sym h ∙ k)) legal
+  pub legal_by_name : (name : Option Config) (a : Config) (steps : List (Step A)) → ForSome name (λ s. s ≡ a) → IsLegal a (reverse steps)
+      → ForSome name (λ s. IsLegal s (reverse steps))
+  legal_by_name name a steps is legal s named = subst (λ c. IsLegal c (reverse steps)) (sym (is s named)) legal
 
   -- one that took no step and is given up has done all
   pub given_up : (scribe : Scribe A) (sink : SinkState) (waiting : Waiting A) (done : ⊤) → received scribe.steps ≡ [] → (waiting.block ≡ scribe.block) × (waiting.count ≡ 0)

@@ -13,14 +13,14 @@ use crate::serve_fault::ServeFault;
 use crate::serve_stopped::ServeStopped;
 use crate::writing::{Begun, PLACES, Writing, write_stopped};
 use gn_io::{Block, Sink};
-use gn_journal::{Journal, JournalRouter, Naming};
+use gn_journal::{Journal, Naming};
 use gn_replay::history_heading;
 use gn_rules::{Config, MOST_WORKERS, Step};
 use gn_scribe::{PrintFault, Scribe, Waiting, finish_history};
 use gn_service::{
     Batch, Ran, Report, RunFault, Serving, Stopped, TcpReader, TcpWriter, Watch, serve_by,
 };
-use gn_table_router::TableRouter;
+use gn_table_router::{Configuring, TableRouter};
 use rtrb::{Consumer, Producer, RingBuffer};
 use std::alloc::{Allocator, Global};
 use std::marker::{Brand, PhantomData};
@@ -131,7 +131,7 @@ pub fn serve_journalled<
 /// The same over the ring that `N` names.
 fn serve_named<
     's,
-    N: Naming<Global> + Send,
+    N: Naming<Global> + Configuring + Send,
     R: Threads
         + Wait
         + Net<Listener = TcpListener, Stream = TcpStream>
@@ -166,13 +166,19 @@ fn serve_named<
     let Ok(router) = TableRouter::over(alloc, config, journal) else {
         return Err(unbegun(RunFault::NoMemory));
     };
-    let core = JournalRouter::<N> { router };
+    let core = router.named::<N>();
     let writing = Writing::<W, N> {
         scribe: Scribe::new(alloc, consumer, heading),
         sink,
         of: PhantomData,
     };
-    let (answer, begun) = serve_by::<JournalRouter<N>, Writing<W, N>, G, Global, R>(
+    let (answer, begun) = serve_by::<
+        TableRouter<Global, Journal<N>, N>,
+        Writing<W, N>,
+        G,
+        Global,
+        R,
+    >(
         rt, alloc, listener, config, accept, peers, serving, workers, watch, batch, core, writing,
     );
     watch.end();

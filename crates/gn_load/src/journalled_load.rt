@@ -18,12 +18,12 @@ use crate::fault::LoadFault;
 use crate::loads::read_load;
 use crate::writing::{Begun, PLACES, Writing, write_stopped};
 use gn_io::{Block, Sink, Source, read_input};
-use gn_journal::{Journal, JournalRouter, Naming};
+use gn_journal::{Journal, Naming};
 use gn_replay::history_heading;
 use gn_rules::{Config, MOST_WORKERS, Step};
 use gn_scribe::{PrintFault, Scribe, Waiting, finish_history};
 use gn_service::{Batch, MemoryLink, RunFault, Watch, run_by};
-use gn_table_router::TableRouter;
+use gn_table_router::{Configuring, TableRouter};
 use rtrb::{Consumer, Producer, RingBuffer};
 use std::alloc::Global;
 use std::marker::{Brand, PhantomData};
@@ -96,7 +96,12 @@ fn write_load<R: Threads + Wait + Sync, G: Watch + Sync, W: Sink + Send>(
 }
 
 /// The same over the ring that `N` names.
-fn load_named<N: Naming<Global> + Send, R: Threads + Wait + Sync, G: Watch + Sync, W: Sink + Send>(
+fn load_named<
+    N: Naming<Global> + Configuring + Send,
+    R: Threads + Wait + Sync,
+    G: Watch + Sync,
+    W: Sink + Send,
+>(
     rt: &R,
     alloc: Global,
     workers: u32,
@@ -117,14 +122,21 @@ fn load_named<N: Naming<Global> + Send, R: Threads + Wait + Sync, G: Watch + Syn
 {
     let journal = Journal::<N>::new(producer);
     let router = TableRouter::over(alloc, config, journal)?;
-    let core = JournalRouter::<N> { router };
+    let core = router.named::<N>();
     let writing = Writing::<W, N> {
         scribe: Scribe::new(alloc, consumer, heading),
         sink,
         of: PhantomData,
     };
     watch.begin(links.len());
-    let (answer, begun) = run_by::<JournalRouter<N>, Writing<W, N>, _, _, Global, R>(
+    let (answer, begun) = run_by::<
+        TableRouter<Global, Journal<N>, N>,
+        Writing<W, N>,
+        _,
+        _,
+        Global,
+        R,
+    >(
         rt, alloc, config, links, workers, watch, batch, core, writing,
     );
     watch.end();

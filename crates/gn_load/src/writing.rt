@@ -10,11 +10,11 @@ ghost use Rattle.gn_scribe.specs.Written.{HasEnded, HasFollowed};
 ghost use Rattle.gn_load.specs.Journalled.{HasStoppedWriting};
 
 use gn_io::Sink;
-use gn_journal::{Journal, JournalRouter, Naming, WholeRouter};
+use gn_journal::{Journal, Naming};
 use gn_room::{Following, Room};
 use gn_rules::{RouterCore, Step};
 use gn_scribe::{PrintFault, Scribe, Waiting, finish_history};
-use gn_table_router::Exchange;
+use gn_table_router::{Configuring, Exchange, TableRouter};
 use gn_tables::Whole;
 use gn_threads::Course;
 use std::alloc::{Allocator, Global};
@@ -129,11 +129,13 @@ impl<'a, W: Sink, N: Naming<Global>> Exchange<Global, Journal<N>, Whole> for Wri
     }
 }
 
-impl<'a, W: Sink + Send, N: Naming<Global> + Send> Course<JournalRouter<N>, Global>
-    for Writing<'a, W, N> {
+impl<'a, W: Sink + Send, N: Naming<Global> + Configuring + Send> Course<
+    TableRouter<Global, Journal<N>, N>,
+    Global,
+> for Writing<'a, W, N> {
     const IS_BESIDE: bool = true;
 
-    type Router = WholeRouter;
+    type Router = TableRouter;
 
     type Rest = Begun<'a, W>;
 
@@ -146,14 +148,12 @@ impl<'a, W: Sink + Send, N: Naming<Global> + Send> Course<JournalRouter<N>, Glob
     }
 
     #[tactic(auto, using(crate::proofs::WritingLemmas::legal_by_name))]
-    fn end(ran: Written<'a, W, N>, core: JournalRouter<N>) -> (Option<WholeRouter>, Begun<'a, W>) {
-        let JournalRouter { router } = core;
-        router.is_legal();
-        let (router, rest) = router.exchange(ran);
-        match router {
-            Some(router) => (Some(WholeRouter { router }), rest),
-            None => (None, rest),
-        }
+    fn end(
+        ran: Written<'a, W, N>,
+        core: TableRouter<Global, Journal<N>, N>,
+    ) -> (Option<TableRouter>, Begun<'a, W>) {
+        core.is_legal();
+        core.exchange(ran)
     }
 
     fn give_up(self) -> Begun<'a, W> {

@@ -3,11 +3,13 @@
 ghost use Rattle.std.specs.Prelude.{◌≡◌, List, IfSome};
 ghost use Rattle.gn_rules.specs.declared.receipt.Step.{Step};
 
+use crate::configuring::Configuring;
 use crate::store::TableStore;
 use crate::table_router::TableRouter;
 use gn_router::Router;
 use gn_tables::Keeper;
 use std::alloc::Allocator;
+use std::marker::PhantomData;
 
 /// What makes a keeper with the same steps out of another, where it can, and what is left of it.
 pub trait Exchange<A: Allocator, K: Keeper<A>, N: Keeper<A>> {
@@ -54,7 +56,7 @@ impl<A: Allocator + Copy, K: Keeper<A> + Drop> TableStore<A, K> {
     }
 }
 
-impl<A: Allocator + Copy, K: Keeper<A> + Drop> TableRouter<A, K> {
+impl<A: Allocator + Copy, K: Keeper<A> + Drop, C: Configuring> TableRouter<A, K, C> {
     /// The same router with another keeper, and what is left of what made it; `None`, where that had no memory.
     pub fn exchange<N: Keeper<A> + Drop, X: Exchange<A, K, N>>(
         self,
@@ -69,6 +71,7 @@ impl<A: Allocator + Copy, K: Keeper<A> + Drop> TableRouter<A, K> {
         let router = match store {
             Some(store) => Some(TableRouter {
                 router: Router { alloc, store },
+                of: PhantomData,
             }),
             None => None,
         };

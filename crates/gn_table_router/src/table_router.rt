@@ -1,5 +1,9 @@
 //! The router that answers out of tables.
 
+ghost use Rattle.std.specs.Option.{ForSome};
+ghost use Rattle.std.specs.Prelude.{◌≡◌};
+
+use crate::configuring::Configuring;
 use crate::store::TableStore;
 use gn_payload::Checked;
 use gn_router::Router;
@@ -9,17 +13,21 @@ use gn_rules::{
 };
 use gn_tables::{Forgetful, Keeper, Whole};
 use std::alloc::{AllocError, Allocator, Global};
+use std::marker::PhantomData;
 
-/// A router that answers out of its tables. It gives its steps to `K`, and never asks for them for an answer.
+/// A router that answers out of its tables. It gives its steps to `K`, and never asks for them for an answer. Where `N` names a
+/// configuration, it is this router's: of what stands under a lock only its type is known.
 ///
 /// A struct, and no other name of the router over that store: what it promises is then known by its name wherever a router is asked
 /// for, and isn't written out there.
 #[derive(Drop)]
-pub struct TableRouter<A: Allocator + Copy = Global, K: Keeper<A> = Whole<A>> {
+pub struct TableRouter<A: Allocator + Copy = Global, K: Keeper<A> = Whole<A>, N: Configuring = ()> {
     pub(crate) router: Router<TableStore<A, K>, A>,
+    pub(crate) of: PhantomData<N>,
+    pub ghost configured: { ForSome N.config (λ s. s ≡ router.store.settings) },
 }
 
-impl<A: Allocator + Copy, K: Keeper<A>> RouterCore<A> for TableRouter<A, K> {
+impl<A: Allocator + Copy, K: Keeper<A>, N: Configuring> RouterCore<A> for TableRouter<A, K, N> {
     ghost settings = { λ r. r.router.store.settings };
 
     ghost steps = { λ r. r.router.store.steps };
@@ -90,6 +98,7 @@ impl<A: Allocator + Copy> FreshRouter<A> for TableRouter<A, Whole<A>> {
     fn make(alloc: A, config: &Config) -> Result<Self, AllocError> {
         Ok(TableRouter {
             router: Router::make(alloc, config)?,
+            of: PhantomData,
         })
     }
 }
@@ -98,6 +107,7 @@ impl<A: Allocator + Copy> FreshRouter<A> for TableRouter<A, Forgetful<A>> {
     fn make(alloc: A, config: &Config) -> Result<Self, AllocError> {
         Ok(TableRouter {
             router: Router::make(alloc, config)?,
+            of: PhantomData,
         })
     }
 }

@@ -1,7 +1,7 @@
 use Rattle.std.proofs.Common.{Ok, refl}
 use Rattle.gn_scribe.proofs.WrittenLemmas.{written_none}
 use Rattle.gn_load.proofs.WritingLemmas.{given_up}
-use Rattle.gn_load.proofs.writing.WritingCourseJournalRouterGlobal.give_up.Goals as goal
+use Rattle.gn_load.proofs.writing.WritingCourseTableRouterGlobalJournalGlobal.give_up.Goals as goal
 
 pub returns : goal.returns
 returns g c =
