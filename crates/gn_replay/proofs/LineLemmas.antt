@@ -6,8 +6,9 @@ use Rattle.gn_replay.specs.declared.link.Link.{Link}
 use Rattle.gn_replay.specs.declared.link.Link.TheVariants as keep
 use Rattle.gn_replay.specs.Events.{Played, prints}
 use Rattle.gn_replay.specs.Links.{LinkState, ended, IsLink, AreLinks}
-use Rattle.gn_shake.specs.Shaking.{Shaking, shake_of}
-use Rattle.gn_shake.specs.Greeting.{request_text}
+use Rattle.gn_shake.specs.declared.role.Role.TheVariants.{Accepting}
+use Rattle.gn_inbound.specs.declared.inbound.Inbound.{Inbound}
+use Rattle.gn_inbound.specs.Inbound.{IsAt}
 use Rattle.gn_replay.specs.Pieces.{Linked, awaits, feeds_link}
 use Rattle.gn_replay.proofs.AdmitLemmas.{after_playing_nothing}
 use Rattle.gn_replay.specs.Playing.{Playing, HasLinked, HasPlayed, after_playing, with_links}
@@ -127,5 +128,5 @@ played_none {A} v after i piece states outside printed are =
 pub ruleset lines = (played_event, played_link)
 
 -- a link that awaits its greeting has no bytes yet
-pub awaiting : {A : Type 0} (v : Playing A) (shake : Shaking) → shake ≡ shake_of request_text [] → HasLinked (keep.Greeting shake) v v (awaits v.past)
-awaiting v shake new = record { played = sym (after_playing_nothing v); state = (new, refl) }
+pub awaiting : {A : Type 0} (v : Playing A) (inbound : Inbound A) → IsAt Accepting [] inbound → HasLinked (keep.Greeting inbound) v v (awaits v.past)
+awaiting v inbound new = record { played = sym (after_playing_nothing v); state = (new, refl) }

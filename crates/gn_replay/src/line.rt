@@ -11,8 +11,9 @@ ghost use Rattle.gn_replay.specs.ReplayText.{link_added, piece_plays, plays};
 use crate::link::Link;
 use crate::playing::Play;
 use gn_capture::Line;
+use gn_inbound::Inbound;
 use gn_rules::{Event, RouterCore};
-use gn_shake::Shake;
+use gn_shake::Role;
 use std::alloc::{AllocError, Allocator};
 use std::mem;
 
@@ -88,7 +89,8 @@ impl<A: Allocator + Copy, C: RouterCore<A>> Play<A, C> {
         ensures { OnOk result ((states : List LinkState) → AreLinks self.old.links states
             → HasPlayed self.old self.new (link_added states (awaits self.old.past))) }
     {
-        self.add_link(Link::Greeting(Shake::accepting()))?;
+        let inbound = Inbound::new(self.alloc, Role::Accepting)?;
+        self.add_link(Link::Greeting(inbound))?;
         Ok(())
     }
 

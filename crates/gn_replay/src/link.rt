@@ -1,17 +1,16 @@
 //! What a replay keeps of a link.
 
-use gn_frames::Reassembler;
+use gn_inbound::Inbound;
 use gn_rules::ConnId;
-use gn_shake::Shake;
 use std::alloc::{Allocator, Global};
 
-/// What is kept of a link: what its bytes so far leave of its greeting, or of its last descriptor.
+/// What is kept of a link: where its bytes stand, and its connection once it has one.
 #[derive(Debug, Drop)]
 pub enum Link<A: Allocator = Global> {
     Ended,
-    Greeting(Shake),
+    Greeting(Inbound<A>),
     Joined {
         connection: ConnId,
-        frames: Reassembler<A>,
+        inbound: Inbound<A>,
     },
 }

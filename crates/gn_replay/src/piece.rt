@@ -1,7 +1,10 @@
 //! What pieces of a link's bytes do to a replay.
 
 ghost use Rattle.std.specs.Prelude.{◌≡◌, ◌++◌, List, ℕ, None, IfOk, OnOk};
+ghost use Rattle.gn_frames.specs.Frames.{frames_of};
+ghost use Rattle.gn_shake.specs.declared.role.Role.TheVariants.{Plain};
 ghost use Rattle.gn_shake.specs.Greeting.{greeting_state, request_text};
+ghost use Rattle.gn_inbound.specs.Inbound.{IsAt};
 ghost use Rattle.gn_replay.specs.declared.link.Link.TheVariants.{Greeting, Joined};
 ghost use Rattle.gn_replay.specs.Links.{IsLink, LinkState, greeting, joined};
 ghost use Rattle.gn_replay.specs.Pieces.{admits, connects, delivers, delivers_these, fault_plays, feeds_link, greets, joins};
@@ -9,9 +12,9 @@ ghost use Rattle.gn_replay.specs.Playing.{HasAdmitted, HasLinked, after_playing}
 
 use crate::link::Link;
 use crate::playing::Play;
-use gn_frames::{Fed, FeedRefusal, Reassembler, frames_are_cut};
+use gn_inbound::{Given, Inbound};
 use gn_rules::{ConnId, Event, RouterCore};
-use gn_shake::{Shake, ShakeState, pieces_are_one_stream};
+use gn_shake::Role;
 use gn_wire::{Descriptor, FrameFault};
 use std::alloc::{AllocError, Allocator};
 
@@ -45,23 +48,26 @@ impl<A: Allocator + Copy, C: RouterCore<A>> Play<A, C> {
     }
 
     /// Admits what a piece of a joined link gave, and ends the link at a fault.
-    fn finish_piece(
+    fn take_given(
         &mut self,
         i: u32,
         connection: ConnId,
-        frames: Reassembler<A>,
-        fed: Fed<A>,
+        inbound: Inbound<A>,
+        given: Given<A>,
     ) -> Result<Link<A>, AllocError>
         ensures { IfOk result (λ link. (bytes : List ℕ)
-            → (fed.fault ≡ None → IsLink {A = A} (Joined connection frames) (joined connection bytes))
+            → (given.fault ≡ None → IsLink {A = A} (Joined connection inbound) (joined connection bytes))
             → HasLinked link self.old self.new (delivers_these self.old.settings self.old.past i connection bytes
-            fed.descriptors.items fed.fault)) }
+            given.descriptors.items given.fault)) }
     {
-        if self.admit_all(connection, fed.descriptors)? {
+        if self.admit_all(connection, given.descriptors)? {
             return Ok(Link::Ended);
         }
-        match fed.fault {
-            None => Ok(Link::Joined { connection, frames }),
+        match given.fault {
+            None => Ok(Link::Joined {
+                connection,
+                inbound,
+            }),
             Some(fault) => {
                 self.end_by(i, connection, fault)?;
                 Ok(Link::Ended)
@@ -74,33 +80,32 @@ impl<A: Allocator + Copy, C: RouterCore<A>> Play<A, C> {
         &mut self,
         i: u32,
         connection: ConnId,
-        mut frames: Reassembler<A>,
+        inbound: Inbound<A>,
         piece: &[u8],
     ) -> Result<Link<A>, AllocError>
         ensures { IfOk result (λ link. (bytes : List ℕ)
-            → IsLink {A = A} (Joined connection frames) (joined connection bytes)
+            → IsLink {A = A} (Joined connection inbound) (joined connection bytes)
             → HasLinked link self.old self.new
             (delivers self.old.settings self.old.past i connection bytes piece.now)) }
     {
-        frames_are_cut();
-        match frames.feed(piece) {
-            Ok(fed) => self.finish_piece(i, connection, frames, fed),
-            Err(FeedRefusal::Ended) => Ok(Link::Ended),
-            Err(FeedRefusal::NoMemory) => Err(AllocError),
-        }
+        let (inbound, given) = inbound.feed(self.alloc, piece)?;
+        self.take_given(i, connection, inbound, given)
     }
 
-    /// Connects a link whose greeting is done, and takes the bytes after it.
-    fn connect(&mut self, i: u32, piece: &[u8]) -> Result<Link<A>, AllocError>
-        ensures { IfOk result (λ link. HasLinked link self.old self.new
-            (connects self.old.settings self.old.past i piece.now)) }
+    /// Connects a link whose greeting is whole, and takes what came after it.
+    fn connect(
+        &mut self,
+        i: u32,
+        inbound: Inbound<A>,
+        given: Given<A>,
+    ) -> Result<Link<A>, AllocError>
+        ensures { IfOk result (λ link. (bytes : List ℕ) → IsAt Plain bytes inbound
+            → given.descriptors.items ≡ (frames_of bytes).descriptors → given.fault ≡ (frames_of bytes).fault
+            → HasLinked link self.old self.new (connects self.old.settings self.old.past i bytes)) }
     {
         match self.happen(Event::Connect)?.connection {
             None => Ok(Link::Ended),
-            Some(connection) => {
-                let frames = Reassembler::new(self.alloc)?;
-                self.deliver(i, connection, frames, piece)
-            }
+            Some(connection) => self.take_given(i, connection, inbound, given),
         }
     }
 
@@ -111,25 +116,27 @@ impl<A: Allocator + Copy, C: RouterCore<A>> Play<A, C> {
         let Some(connection) = self.happen(Event::Connect)?.connection else {
             return Ok(Link::Ended);
         };
-        let frames = Reassembler::new(self.alloc)?;
-        Ok(Link::Joined { connection, frames })
+        let inbound = Inbound::new(self.alloc, Role::Plain)?;
+        Ok(Link::Joined {
+            connection,
+            inbound,
+        })
     }
 
     /// Takes a piece of a link that awaits its greeting.
-    fn greet(&mut self, i: u32, mut shake: Shake, piece: &[u8]) -> Result<Link<A>, AllocError>
-        ensures { IfOk result (λ link. (bytes : List ℕ) → IsLink {A = A} (Greeting shake) (greeting bytes)
+    fn greet(&mut self, i: u32, inbound: Inbound<A>, piece: &[u8]) -> Result<Link<A>, AllocError>
+        ensures { IfOk result (λ link. (bytes : List ℕ) → IsLink {A = A} (Greeting inbound) (greeting bytes)
             → HasLinked link self.old self.new (greets self.old.settings self.old.past i (bytes ++ piece.now)
             (greeting_state request_text (bytes ++ piece.now)))) }
     {
-        pieces_are_one_stream();
-        let shaken = shake.feed(piece);
-        match shaken.state {
-            ShakeState::More => Ok(Link::Greeting(shake)),
-            ShakeState::Refused => {
+        let (inbound, given) = inbound.feed(self.alloc, piece)?;
+        match inbound {
+            Inbound::Greeting(_) => Ok(Link::Greeting(inbound)),
+            Inbound::Refused => {
                 self.say_greeting_refused(i)?;
                 Ok(Link::Ended)
             }
-            ShakeState::Done => self.connect(i, shaken.rest_of(piece)),
+            Inbound::Open(_) => self.connect(i, inbound, given),
         }
     }
 
@@ -148,8 +155,11 @@ impl<A: Allocator + Copy, C: RouterCore<A>> Play<A, C> {
                 self.say_ended(i)?;
                 Ok(Link::Ended)
             }
-            Link::Greeting(shake) => self.greet(i, shake, piece),
-            Link::Joined { connection, frames } => self.deliver(i, connection, frames, piece),
+            Link::Greeting(inbound) => self.greet(i, inbound, piece),
+            Link::Joined {
+                connection,
+                inbound,
+            } => self.deliver(i, connection, inbound, piece),
         }
     }
 }

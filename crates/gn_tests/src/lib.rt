@@ -21,6 +21,8 @@ mod frames;
 #[cfg(test)]
 mod histories;
 #[cfg(test)]
+mod inbound;
+#[cfg(test)]
 mod legality;
 #[cfg(test)]
 mod link_runs;

@@ -2,6 +2,7 @@ pub mod Wire
 pub mod Payload
 pub mod Greeting
 pub mod Frames
+pub mod Inbound
 pub mod Rules
 pub mod Laws
 pub mod Tables

@@ -34,6 +34,11 @@ pub mod frames {
     };
 }
 
+/// The bytes that come on a link: its greeting, then its descriptors.
+pub mod inbound {
+    pub use gn_inbound::{Given, Inbound};
+}
+
 /// Configurations, events, replies and steps, and what every router promises.
 pub mod rules {
     pub use gn_rules::{

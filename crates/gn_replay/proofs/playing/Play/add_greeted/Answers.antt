@@ -5,5 +5,5 @@ use Rattle.gn_replay.proofs.playing.Play.add_greeted.Goals as goal
 
 pub returns : goal.returns
 returns g c = λ states are.
-    played_link c.args.self.now c.args.self.now c.add_link.new.self (Greeting c.accepting.result) (awaits c.args.self.now.past) states
-    (awaiting c.args.self.now c.accepting.result c.accepting.ensures) c.in_ok-add_link.ensures are
+    played_link c.args.self.now c.args.self.now c.add_link.new.self (Greeting c.in_ok-inbound.inbound) (awaits c.args.self.now.past) states
+    (awaiting c.args.self.now c.in_ok-inbound.inbound c.in_ok-inbound.ensures) c.in_ok-add_link.ensures are
