@@ -1,5 +1,5 @@
 -- The text of the packets that receipts say were taken.
-use Rattle.std.proofs.Common.{◌≡◌, ◌<◌, ◌+◌, ℕ, suc, List, [], ◌∷◌, ◌++◌, length, get_or, drop, map, Option, Some, None, Ok, Err, ap, ◌∙◌, sym, refl, append_assoc, append-nil, arith, drop-cons, subst}
+use Rattle.std.proofs.Common.{◌≡◌, ◌<◌, ◌+◌, ℕ, suc, List, [], ◌∷◌, ◌++◌, length, get_or, drop, map, Some, None, Ok, Err, ap, ◌∙◌, sym, append_assoc, append-nil, arith, drop-cons}
 use Rattle.std.specs.Prelude.{OnOk, Result}
 use Rattle.std.specs.List.{cons_option}
 use Rattle.std.proofs.lemmas.List.{map-append}

@@ -1,5 +1,5 @@
 -- What was written piece by piece.
-use Rattle.std.proofs.Common.{◌≡◌, ◌<◌, ◌≤◌, ℕ, ◌+◌, ◌-◌, List, [], ◌∷◌, ◌++◌, length, take, drop, map, ap, ◌∙◌, sym, refl, append_assoc, append-nil, arith, length-drop}
+use Rattle.std.proofs.Common.{◌≡◌, ◌<◌, ◌≤◌, ℕ, ◌+◌, List, [], ◌∷◌, ◌++◌, length, take, drop, map, ap, ◌∙◌, sym, refl, append_assoc, append-nil, arith}
 use Rattle.std.proofs.Common.{◌⊎◌, inl, inr, Bool, true, false, if◌then◌else◌, Option, Some, None, Ok, Err, subst}
 use Rattle.std.specs.Prelude.{IfOk, Result}
 use Rattle.std.proofs.Math.Seq.{take-add}
@@ -10,7 +10,7 @@ use Rattle.gn_bodies.specs.declared.ends.BodyFault.{BodyFault}
 use Rattle.gn_bodies.specs.declared.ends.WriterEnd.{WriterEnd}
 use Rattle.gn_bodies.specs.declared.ends.WriterEnd.TheVariants.{Drained, WriteFailed, Closed, NeverOpened}
 use Rattle.gn_bodies.specs.Done.{Half, IsWriterDone, WritesAs}
-use Rattle.std.proofs.lemmas.List.{drop_at, length-map, map-append, take_all}
+use Rattle.std.proofs.lemmas.List.{drop_at, length-map, map-append}
 use Rattle.std.proofs.lemmas.Simd.{map-map}
 use Rattle.std.proofs.lemmas.List.Elements.{filter_map-append}
 use Rattle.std.proofs.lemmas.List.Folds.{concat-append}
@@ -23,7 +23,7 @@ use Rattle.gn_shake.specs.Greeting.{is_calling, request_text}
 use Rattle.gn_rules.specs.declared.event.Event.TheVariants.{Take}
 use Rattle.gn_rules.specs.History.{taken_of}
 use Rattle.gn_hub.specs.ActorState.{ActorState}
-use Rattle.gn_hub.specs.Receipts.{HasClosed, HasDrained, HasTakenSome, TakenAt, taken_receipt}
+use Rattle.gn_hub.specs.Receipts.{HasClosed, HasDrained, HasTakenSome, TakenAt, taken_receipt, with_receipts}
 use Rattle.gn_bodies.specs.Events.{events_of, packets_of}
 use Rattle.gn_laws.specs.Owners as laws
 use Rattle.gn_bodies.specs.Writing.{HasWrittenPackets, WritesOn, WritesPackets, text_of}
@@ -197,17 +197,17 @@ packets_done batch role c packets me us (Some (Ok Closed)) before after took did
 packets_done batch role c packets me us (Some (Ok NeverOpened)) before after took did was = absurd did
 packets_done batch role c packets me us (Some (Err fault)) before after took did was = tt
 
--- so they were where the receipts after the old ones say so
-pub packets_taken : {A : Type 0} (batch : ℕ) (role : Role) (c : ℕ) (me us : ActorState A) (old new : List (Receipt A)) (end : Option (Result WriterEnd BodyFault)) (before after : WrittenHalf)
-    → old ≡ me.receipts → new ≡ us.receipts → HasTakenSome batch c me us → HasWrittenPackets end (laws.packets_of (take (length new - length old) (drop (length old) new))) before after
+-- so they were where the receipts that were got say so
+pub packets_taken : {A : Type 0} (batch : ℕ) (role : Role) (c : ℕ) (me us : ActorState A) (kept seen : List (Receipt A)) (end : Option (Result WriterEnd BodyFault)) (before after : WrittenHalf)
+    → seen ≡ kept → us ≡ with_receipts me kept → HasTakenSome batch c me us → HasWrittenPackets end (laws.packets_of seen) before after
     → WritesPackets batch role Closed c me before → WritesOn batch role end c us after
-packets_taken {A} batch role c me us old new end before after old_is new_is (taken, some, few, got) did was =
+packets_taken {A} batch role c me us kept seen end before after same is (taken, some, few, got) did was =
     let fresh : List (Receipt A) = map (taken_receipt c) taken in
-    let whole : take (length new - length old) (drop (length old) new) ≡ drop (length old) new = take_all (length new - length old) (drop (length old) new) (omega (arith, length-drop (length old) new)) in
-    let cut : drop (length old) new ≡ fresh =
-    ap (λ w. drop (length w) new) old_is ∙ ap (λ w. drop (length me.receipts) w) (new_is ∙ ap (λ w. w.receipts) got) ∙ drop_at me.receipts fresh (length me.receipts) refl in
+    let n : ℕ = length me.receipts in
+    let both : me.receipts ++ kept ≡ me.receipts ++ fresh = ap (λ (w : ActorState A). w.receipts) (sym is ∙ got) in
+    let cut : kept ≡ fresh = sym (drop_at me.receipts kept n refl) ∙ ap (λ w. drop n w) both ∙ drop_at me.receipts fresh n refl in
     packets_done batch role c (map (λ at. at.packet) taken) me us end before after (takes_some batch c taken me us some few got)
-    (subst (λ (ps : List Packet). HasWrittenPackets end ps before after) (ap laws.packets_of (whole ∙ cut) ∙ taken_packets A c taken) did) was
+    (subst (λ (ps : List Packet). HasWrittenPackets end ps before after) (ap laws.packets_of (same ∙ cut) ∙ taken_packets A c taken) did) was
 
 -- one that took one at once took a batch at once
 wider_row : (batch : ℕ) (end : WriterEnd) (role : Role) (all : List (List ℕ)) (written : List ℕ) → 0 < batch → WriterRow 1 end role all written → WriterRow batch end role all written

@@ -1,14 +1,12 @@
 -- What the receipts of an actor say of its events.
-use Rattle.std.specs.Prelude.{◌≡◌, ◌⊎◌, ℕ, not, List, filter, is_some, map, Option}
+use Rattle.std.specs.Prelude.{ℕ, not, List, filter, is_some, map, Option}
 use Rattle.gn_wire.specs.Packet.{Packet}
 use Rattle.gn_rules.specs.declared.event.Event.{Event}
-use Rattle.gn_rules.specs.declared.event.Event.TheVariants.{Close}
 use Rattle.gn_rules.specs.declared.receipt.Receipt.{Receipt}
-use Rattle.gn_rules.specs.declared.reply.Reply.TheVariants.{Closed}
 use Rattle.gn_rules.specs.History.{ticket_of}
 use Rattle.gn_laws.specs.Owners.{known_conn}
 use Rattle.gn_laws.specs.Owners as laws
-use Rattle.gn_hub.specs.ActorState.{ActorState, receipt, with_receipt}
+use Rattle.gn_hub.specs.ActorState.{ActorState}
 
 -- an actor's events, in order
 abbrev pub events_of : {A : Type 0} → ActorState A → List (Event A)

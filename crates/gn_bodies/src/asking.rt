@@ -8,6 +8,7 @@ ghost use Rattle.gn_bodies.specs.Admitting.{HasAdmitted, HasHalted, HasOnlyConne
 
 use crate::ends::BodyFault;
 use crate::piece::Halt;
+use gn_actors::Named;
 use gn_hub::{Actor, FoundClosed, Service};
 use gn_links::{Gate, Made};
 use gn_payload::Checked;
@@ -20,7 +21,13 @@ use std::sync::ledger::Ledger;
 
 /// Admits a descriptor, which comes back as a job with its ticket. None at a threshold, that of all connections or its
 /// own: the descriptor is gone.
-pub(crate) fn admit<G: Gate, C: RouterCore<A> + Drop, L: Ledger, A: Allocator + Copy, R: Wait>(
+pub(crate) fn admit<
+    G: Gate,
+    C: RouterCore<A> + Drop,
+    L: Ledger + Named,
+    A: Allocator + Copy,
+    R: Wait,
+>(
     rt: &R,
     service: &Service<C, L, A>,
     gate: &G,
@@ -33,11 +40,14 @@ pub(crate) fn admit<G: Gate, C: RouterCore<A> + Drop, L: Ledger, A: Allocator + 
 {
     let link = me.number();
     let event = Event::Admit(c, descriptor);
-    if let Err(refusal) = service.call(rt, me, &event) {
-        drop(event);
-        return Err(halt_of(refusal));
-    }
-    let Some(ticket) = me.last_reply().admitted() else {
+    let receipt = match service.call(rt, me, &event) {
+        Ok(receipt) => receipt,
+        Err(refusal) => {
+            drop(event);
+            return Err(halt_of(refusal));
+        }
+    };
+    let Some(ticket) = receipt.reply.admitted() else {
         drop(event);
         gate.made(link, Made::Busy);
         return Ok(None);
@@ -67,7 +77,7 @@ fn job_of<A: Allocator>(ticket: Ticket, event: Event<A>) -> Option<Job<A>>
 }
 
 /// Routes a job that was checked. Refused where its ticket isn't in flight, or was another descriptor's.
-pub(crate) fn route<C: RouterCore<A> + Drop, L: Ledger, A: Allocator + Copy, R: Wait>(
+pub(crate) fn route<C: RouterCore<A> + Drop, L: Ledger + Named, A: Allocator + Copy, R: Wait>(
     rt: &R,
     service: &Service<C, L, A>,
     me: &mut Actor<L, A>,
@@ -79,7 +89,7 @@ pub(crate) fn route<C: RouterCore<A> + Drop, L: Ledger, A: Allocator + Copy, R: 
     let answer = service.route(rt, me, ticket, &checked);
     drop(checked);
     match answer {
-        Ok(()) => Ok(()),
+        Ok(_) => Ok(()),
         Err(refusal) => Err(BodyFault::from(refusal)),
     }
 }
@@ -93,7 +103,13 @@ fn made_by(connection: Option<ConnId>) -> Made {
 }
 
 /// Connects the link of a reader that has no receipts yet. The connection, or none where too many are live.
-pub(crate) fn connect<G: Gate, C: RouterCore<A> + Drop, L: Ledger, A: Allocator + Copy, R: Wait>(
+pub(crate) fn connect<
+    G: Gate,
+    C: RouterCore<A> + Drop,
+    L: Ledger + Named,
+    A: Allocator + Copy,
+    R: Wait,
+>(
     rt: &R,
     service: &Service<C, L, A>,
     gate: &G,
@@ -106,8 +122,8 @@ pub(crate) fn connect<G: Gate, C: RouterCore<A> + Drop, L: Ledger, A: Allocator 
 {
     let link = me.number();
     match service.connect(rt, me, link) {
-        Ok(()) => {
-            let connection = me.last_reply().connected();
+        Ok(receipt) => {
+            let connection = receipt.reply.connected();
             gate.made(link, made_by(connection));
             Ok(connection)
         }
@@ -116,7 +132,13 @@ pub(crate) fn connect<G: Gate, C: RouterCore<A> + Drop, L: Ledger, A: Allocator 
 }
 
 /// Closes the connection of a link. Where it isn't live any more, what says so comes back.
-pub(crate) fn close<G: Gate, C: RouterCore<A> + Drop, L: Ledger, A: Allocator + Copy, R: Wait>(
+pub(crate) fn close<
+    G: Gate,
+    C: RouterCore<A> + Drop,
+    L: Ledger + Named,
+    A: Allocator + Copy,
+    R: Wait,
+>(
     rt: &R,
     service: &Service<C, L, A>,
     gate: &G,

@@ -1,5 +1,6 @@
 //! How the bodies end.
 
+use gn_actors::Named;
 use gn_hub::Service;
 use gn_links::Gate;
 use gn_rules::{Refusal, RouterCore};
@@ -85,7 +86,7 @@ pub(crate) fn fail_at_stop<
     T,
     G: Gate,
     C: RouterCore<A> + Drop,
-    L: Ledger,
+    L: Ledger + Named,
     A: Allocator + Copy,
     R: Wait,
 >(rt: &R, service: &Service<C, L, A>, gate: &G, end: &Result<T, BodyFault>) {

@@ -9,6 +9,7 @@ ghost use Rattle.gn_bodies.specs.Events.{link_events};
 
 use crate::asking::{admit, route};
 use crate::piece::Halt;
+use gn_actors::Named;
 use gn_hub::{Actor, Service};
 use gn_links::{Gate, Made};
 use gn_payload::Checked;
@@ -25,7 +26,7 @@ use std::sync::ledger::Ledger;
 pub(crate) struct ReaderHandler<
     's,
     G,
-    B: Site + Ledger,
+    B: Site + Ledger + Named,
     C: RouterCore<A> + Drop,
     A: Allocator + Copy = Global,
 > {
@@ -37,7 +38,7 @@ pub(crate) struct ReaderHandler<
     pub(crate) is_refused: bool,
 }
 
-impl<'s, G, B: Site + Ledger, C: RouterCore<A> + Drop, A: Allocator + Copy> Model
+impl<'s, G, B: Site + Ledger + Named, C: RouterCore<A> + Drop, A: Allocator + Copy> Model
     for ReaderHandler<'s, G, B, C, A> {
     ghost use Rattle.gn_bodies.specs.Admitting.{Admitting};
 
@@ -46,13 +47,13 @@ impl<'s, G, B: Site + Ledger, C: RouterCore<A> + Drop, A: Allocator + Copy> Mode
     ghost view = { λ h. record { actor = h.actor; intake = h.intake; is_refused = h.is_refused } };
 }
 
-impl<'s, G: Gate, B: Site + Ledger, C: RouterCore<A> + Drop, A: Allocator + Copy> ReaderHandler<
+impl<
     's,
-    G,
-    B,
-    C,
-    A,
-> {
+    G: Gate,
+    B: Site + Ledger + Named,
+    C: RouterCore<A> + Drop,
+    A: Allocator + Copy,
+> ReaderHandler<'s, G, B, C, A> {
     /// Admits a descriptor, and puts its job, or routes it where it is handed back.
     fn admit<R: Wait>(&mut self, rt: &R, c: ConnId, descriptor: Descriptor<A>) -> Result<(), Halt>
         ensures goes_on { GoesOn self.old self.new }

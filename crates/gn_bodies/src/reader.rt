@@ -14,6 +14,7 @@ use crate::asking::close;
 use crate::ends::{BodyFault, ReaderEnd, fail_at_stop};
 use crate::handler::ReaderHandler;
 use crate::piece::{Piece, Reading};
+use gn_actors::Named;
 use gn_hub::{Actor, FoundClosed, Service};
 use gn_links::{Gate, Half, LinkReader};
 use gn_rules::{ConnId, RouterCore};
@@ -25,7 +26,7 @@ use std::sync::ledger::Ledger;
 
 /// What the body of a reader gives back. `B` stands for the run, and names its ledger and its stage.
 #[derive(Drop)]
-pub struct ReaderDone<Rd, B: Site + Ledger, A: Allocator = Global> {
+pub struct ReaderDone<Rd, B: Site + Ledger + Named, A: Allocator = Global> {
     pub actor: Actor<B, A>,
     pub role: Role,
     pub reader: Rd,
@@ -35,13 +36,13 @@ pub struct ReaderDone<Rd, B: Site + Ledger, A: Allocator = Global> {
     pub found_closed: Option<FoundClosed>,
 }
 
-impl<'s, G: Gate, B: Site + Ledger, C: RouterCore<A> + Drop, A: Allocator + Copy> ReaderHandler<
+impl<
     's,
-    G,
-    B,
-    C,
-    A,
-> {
+    G: Gate,
+    B: Site + Ledger + Named,
+    C: RouterCore<A> + Drop,
+    A: Allocator + Copy,
+> ReaderHandler<'s, G, B, C, A> {
     /// A link that has no bytes yet: a plain one is connected at once.
     fn begin<R: Wait>(&mut self, rt: &R, role: Role) -> Piece<A>
         requires none { self.old.actor.receipts ≡ [] }
@@ -161,7 +162,7 @@ fn closes(end: ReaderEnd) -> bool
 pub fn reader_body<
     Rd: LinkReader,
     G: Gate,
-    B: Site + Ledger,
+    B: Site + Ledger + Named,
     C: RouterCore<A> + Drop,
     A: Allocator + Copy,
     R: Wait,

@@ -13,6 +13,7 @@ use crate::asking::connect;
 use crate::ends::{BodyFault, ReaderEnd};
 use crate::handler::ReaderHandler;
 use crate::piece::{Piece, Reading};
+use gn_actors::Named;
 use gn_frames::{Fed, Reassembler};
 use gn_links::{Gate, LinkReader};
 use gn_rules::{ConnId, RouterCore};
@@ -22,13 +23,13 @@ use std::alloc::Allocator;
 use std::sync::Wait;
 use std::sync::ledger::Ledger;
 
-impl<'s, G: Gate, B: Site + Ledger, C: RouterCore<A> + Drop, A: Allocator + Copy> ReaderHandler<
+impl<
     's,
-    G,
-    B,
-    C,
-    A,
-> {
+    G: Gate,
+    B: Site + Ledger + Named,
+    C: RouterCore<A> + Drop,
+    A: Allocator + Copy,
+> ReaderHandler<'s, G, B, C, A> {
     /// Reads once, and takes the piece that was read.
     pub(crate) fn read_piece<Rd: LinkReader, R: Wait>(
         &mut self,

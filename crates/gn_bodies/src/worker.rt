@@ -8,6 +8,7 @@ ghost use Rattle.gn_bodies.specs.Jobs.{routes_of};
 
 use crate::asking::route;
 use crate::ends::{BodyFault, fail_at_stop};
+use gn_actors::Named;
 use gn_hub::{Actor, Service};
 use gn_links::Gate;
 use gn_payload::Checked;
@@ -19,14 +20,14 @@ use std::sync::ledger::Ledger;
 
 /// What the body of a worker gives back. `B` stands for the run, and names its ledger and its stage.
 #[derive(Drop)]
-pub struct WorkerDone<B: Site + Ledger, A: Allocator = Global> {
+pub struct WorkerDone<B: Site + Ledger + Named, A: Allocator = Global> {
     pub actor: Actor<B, A>,
     pub home: OutletHome<B, A>,
     pub end: Result<(), BodyFault>,
 }
 
 /// Checks a job, passes the gate, and routes it. No lock is held before the route.
-fn route_job<G: Gate, C: RouterCore<A> + Drop, L: Ledger, A: Allocator + Copy, R: Wait>(
+fn route_job<G: Gate, C: RouterCore<A> + Drop, L: Ledger + Named, A: Allocator + Copy, R: Wait>(
     rt: &R,
     service: &Service<C, L, A>,
     me: &mut Actor<L, A>,
@@ -43,7 +44,13 @@ fn route_job<G: Gate, C: RouterCore<A> + Drop, L: Ledger, A: Allocator + Copy, R
 }
 
 /// Routes the jobs to their end.
-fn route_all<G: Gate, B: Site + Ledger, C: RouterCore<A> + Drop, A: Allocator + Copy, R: Wait>(
+fn route_all<
+    G: Gate,
+    B: Site + Ledger + Named,
+    C: RouterCore<A> + Drop,
+    A: Allocator + Copy,
+    R: Wait,
+>(
     rt: &R,
     service: &Service<C, B, A>,
     me: &mut Actor<B, A>,
@@ -79,7 +86,7 @@ fn route_all<G: Gate, B: Site + Ledger, C: RouterCore<A> + Drop, A: Allocator + 
 /// A stop fails the run. In any case its outlet is finished. That it went on until there was no job, no clause says.
 pub fn worker_body<
     G: Gate,
-    B: Site + Ledger,
+    B: Site + Ledger + Named,
     C: RouterCore<A> + Drop,
     A: Allocator + Copy,
     R: Wait,

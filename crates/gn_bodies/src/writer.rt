@@ -16,6 +16,7 @@ ghost use Rattle.gn_bodies.specs.Written.{HasWrittenText, WriterSteps};
 
 use crate::asking::close;
 use crate::ends::{BodyFault, WriterEnd, fail_at_stop};
+use gn_actors::Named;
 use gn_hub::{Actor, Batch, FoundClosed, Outgoing, Service};
 use gn_links::{Gate, Half, LinkWriter, Made};
 use gn_rules::{ConnId, Receipt, Reply, RouterCore};
@@ -27,13 +28,22 @@ use std::sync::ledger::Ledger;
 
 /// What the body of a writer gives back.
 #[derive(Drop)]
-pub struct WriterDone<W, L: Ledger, A: Allocator = Global> {
+pub struct WriterDone<W, L: Ledger + Named, A: Allocator = Global> {
     pub actor: Actor<L, A>,
     pub role: Role,
     pub writer: W,
     pub end: Result<WriterEnd, BodyFault>,
     /// What says that the connection was found closed, where a write had failed.
     pub found_closed: Option<FoundClosed>,
+}
+
+/// What a writer lends to its calls, for one batch after another.
+#[derive(Drop)]
+struct Lent<A: Allocator = Global> {
+    /// The receipts of the packets that were taken.
+    taken: Vec<Receipt<A>, A>,
+    /// Their encodings.
+    text: Vec<u8, A>,
 }
 
 /// Writes all of a text. False where a write failed, or took nothing.
@@ -127,7 +137,7 @@ fn write_next<
     W: LinkWriter,
     G: Gate,
     C: RouterCore<A> + Drop,
-    L: Ledger,
+    L: Ledger + Named,
     A: Allocator + Copy,
     R: Wait,
 >(
@@ -139,18 +149,16 @@ fn write_next<
     writer: &mut W,
     c: ConnId,
     batch: Batch,
-    text: &mut Vec<u8, A>,
+    lent: &mut Lent<A>,
 ) -> Option<Result<WriterEnd, BodyFault>>
     ensures number { me.new.number ≡ me.old.number }
     ensures made { W.made_of writer.new ≡ W.made_of writer.old }
     ensures written { (role : Role) → WritesPackets batch role Closed c me.old (W.state writer.old)
         → WritesOn batch role result c me.new (W.state writer.new) }
 {
-    let before = me.receipts().len();
-    match service.next_batch(rt, me, c, batch) {
-        Ok(Outgoing::Packet) => {
-            write_taken(rt, gate, link, writer, &me.receipts()[before..], text)
-        }
+    let Lent { taken, text } = lent;
+    match service.next_batch(rt, me, c, batch, taken) {
+        Ok(Outgoing::Packet) => write_taken(rt, gate, link, writer, taken.as_slice(), text),
         Ok(Outgoing::Drained) => {
             gate.made(link, Made::Closed);
             Some(Ok(WriterEnd::Drained))
@@ -187,12 +195,12 @@ fn write_consent<W: LinkWriter, R: Wait>(rt: &R, writer: &mut W, role: Role) -> 
     }
 }
 
-/// Writes the consent of an accepting link, and then the packets that it takes. `text` holds the encodings of one batch at a time.
+/// Writes the consent of an accepting link, and then the packets that it takes. `lent` holds one batch at a time.
 fn write_packets<
     W: LinkWriter,
     G: Gate,
     C: RouterCore<A> + Drop,
-    L: Ledger,
+    L: Ledger + Named,
     A: Allocator + Copy,
     R: Wait,
 >(
@@ -205,7 +213,7 @@ fn write_packets<
     role: Role,
     c: ConnId,
     batch: Batch,
-    text: &mut Vec<u8, A>,
+    lent: &mut Lent<A>,
 ) -> Result<WriterEnd, BodyFault>
     requires some { 0 < batch }
     requires none { me.old.receipts ≡ [] }
@@ -218,7 +226,7 @@ fn write_packets<
         return Ok(WriterEnd::WriteFailed);
     }
     for _ in rt.forever() {
-        if let Some(end) = write_next(rt, service, gate, me, link, writer, c, batch, text) {
+        if let Some(end) = write_next(rt, service, gate, me, link, writer, c, batch, lent) {
             return end;
         }
     }
@@ -230,7 +238,7 @@ fn write_link<
     W: LinkWriter,
     G: Gate,
     C: RouterCore<A> + Drop,
-    L: Ledger,
+    L: Ledger + Named,
     A: Allocator + Copy,
     R: Wait,
 >(
@@ -242,7 +250,7 @@ fn write_link<
     role: Role,
     batch: Batch,
     writer: &mut W,
-    text: &mut Vec<u8, A>,
+    lent: &mut Lent<A>,
     found: &mut Option<FoundClosed>,
 ) -> Result<WriterEnd, BodyFault>
     requires some { 0 < batch }
@@ -259,7 +267,7 @@ fn write_link<
     let Some(c) = service.meet(rt, link) else {
         return Ok(WriterEnd::NeverOpened);
     };
-    let end = write_packets(rt, service, gate, me, link, writer, role, c, batch, text)?;
+    let end = write_packets(rt, service, gate, me, link, writer, role, c, batch, lent)?;
     if let WriterEnd::WriteFailed = end {
         *found = close(rt, service, gate, me, link, c)?;
     }
@@ -275,7 +283,7 @@ pub fn writer_body<
     W: LinkWriter,
     G: Gate,
     C: RouterCore<A> + Drop,
-    L: Ledger,
+    L: Ledger + Named,
     A: Allocator + Copy,
     R: Wait,
 >(
@@ -298,7 +306,10 @@ pub fn writer_body<
     let (mut actor, mut writer) = (actor, writer);
     // It shows that a batch is one packet at least.
     let _most = batch.most();
-    let mut text = Vec::new(alloc);
+    let mut lent = Lent {
+        taken: Vec::new(alloc),
+        text: Vec::new(alloc),
+    };
     let mut found_closed = None;
     let end = write_link(
         rt,
@@ -309,10 +320,10 @@ pub fn writer_body<
         role,
         batch,
         &mut writer,
-        &mut text,
+        &mut lent,
         &mut found_closed,
     );
-    drop(text);
+    drop(lent);
     fail_at_stop(rt, service, gate, &end);
     writer.finish(rt);
     gate.ended(link, Half::Writer);

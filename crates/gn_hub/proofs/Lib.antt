@@ -1,4 +1,5 @@
 pub mod ActorLemmas
 pub mod BatchLemmas
+pub mod KeptLemmas
 pub mod StepLemmas
 pub mod WakingLemmas

@@ -1,5 +1,5 @@
 -- Steps that calls make.
-use Rattle.std.proofs.Common.{◌≡◌, ℕ, true, List, [], ◌∷◌, ◌++◌, length, Bool, false, ◌==◌, cond, not, Option, Some, None, Result, Ok, Err, refl, sym, subst, ap, ◌∙◌}
+use Rattle.std.proofs.Common.{◌≡◌, ℕ, true, length, Bool, false, ◌==◌, cond, not, Option, Some, None, Result, Ok, Err, refl, sym, subst, ap, ◌∙◌}
 use Rattle.gn_wire.specs.Packet.{Packet}
 use Rattle.gn_rules.specs.declared.event.Event.{Event}
 use Rattle.gn_rules.specs.declared.event.Event.TheVariants.{Close, Take}
@@ -16,20 +16,13 @@ use Rattle.gn_hub.specs.declared.next.Next.{Next}
 use Rattle.gn_hub.specs.declared.next.Outgoing.{Outgoing}
 use Rattle.gn_hub.specs.declared.next.Outgoing.TheVariants as outgoing
 use Rattle.gn_hub.specs.ActorState.{ActorState, receipt, with_receipt}
-use Rattle.gn_hub.specs.Calls.{Due, HasStepped, IsNext, IsOutgoing, IsRefusal, IsStop, answer_now, next_of, over, take, close, later}
-use Rattle.gn_hub.specs.Receipts.{HasClosed, HasDrained, HasReceipt, HasTaken, is_stop}
+use Rattle.gn_hub.specs.Calls.{Due, HasGot, HasStepped, IsNext, IsOutgoing, IsRefusal, IsStop, answer_now, next_of, over, take, close, later}
+use Rattle.gn_hub.specs.Receipts.{HasClosed, HasDrained, HasReceipt, HasTaken, HasThis, is_stop}
 use Rattle.gn_hub.specs.HubState.{HubState, past_of}
 
 -- a receipt by its parts
 pub receipt_is : {A : Type 0} (r : Receipt A) (index : ℕ) (event : Event A) → r.index ≡ index → r.event ≡ event → r ≡ receipt index event r.reply
 receipt_is r index event e1 e2 = ap (λ i. receipt i r.event r.reply) e1 ∙ ap (λ v. receipt index v r.reply) e2
-
--- the receipt that an actor got
-pub got : {A : Type 0} (me : ActorState A) (number : ℕ) (us : List (Receipt A)) (r : Receipt A) (index : ℕ) (event : Event A)
-    → number ≡ me.number → us ≡ me.receipts ++ r ∷ [] → r.index ≡ index → r.event ≡ event
-    → record { number = number; receipts = us } ≡ with_receipt me (receipt index event r.reply)
-got me number us r index event same e e1 e2 =
-    ap (λ n. record { number = n; receipts = us }) same ∙ ap (λ w. record { number = me.number; receipts = w }) (e ∙ ap (λ w. me.receipts ++ w ∷ []) (receipt_is r index event e1 e2))
 
 -- what is next for a writer, by what it is answered that waits while it is none
 pub next_is : {A : Type 0} (due : Due) (answer : Option Outgoing) (next : Next) (c : ℕ) (before after : HubState A) (me us : ActorState A) → next ≡ next_of answer
@@ -107,6 +100,9 @@ stops NoMemory h is = refl
 pub receipt_fits : {A : Type 0} (answer : Result (Reply A) Refusal) (event : Event A) (before after : HubState A) (me us : ActorState A) → is_fit event answer ≡ true
     → HasStepped answer event before me after us → HasReceipt event me us
 receipt_fits answer event before after me us fit (reply, replied, made, got) = (length before.steps, reply, subst (λ a. is_fit event a ≡ true) replied fit, got)
+
+pub this_fits : {A : Type 0} (answer : Result (Reply A) Refusal) (event : Event A) (r : Receipt A) (me us : ActorState A) → is_fit event answer ≡ true → HasGot answer event r me us → HasThis event r me us
+this_fits answer event r me us fit (replied, of, got) = (subst (λ a. is_fit event a ≡ true) replied fit, got ∙ ap (λ w. with_receipt me w) (receipt_is r r.index event refl of))
 
 pub refusal_fits : {A : Type 0} (answer : Result (Reply A) Refusal) (event : Event A) (refusal : Refusal) → is_fit event answer ≡ true → IsRefusal refusal answer → refuses event refusal ≡ true
 refusal_fits answer event HistoryFull fit is = refl

@@ -4,6 +4,7 @@ use Rattle.gn_rules.specs.declared.event.Event.{Event}
 use Rattle.gn_rules.specs.declared.event.Event.TheVariants.{Connect, Close, Take}
 use Rattle.gn_rules.specs.declared.refusal.Refusal.{Refusal}
 use Rattle.gn_rules.specs.declared.refusal.Refusal.TheVariants.{HistoryFull, NoMemory}
+use Rattle.gn_rules.specs.declared.receipt.Receipt.{Receipt}
 use Rattle.gn_rules.specs.declared.reply.Reply.{Reply}
 use Rattle.gn_rules.specs.declared.reply.Reply.TheVariants.{Closed}
 use Rattle.gn_rules.specs.Answer as rules
@@ -26,6 +27,10 @@ abbrev pub HasStepped : {A : Type 0} → Result (Reply A) Refusal → Event A
 HasStepped {A} answer event before me after us =
     (reply : Reply A) × (answer ≡ Ok reply) × (after ≡ with_step before me.number event reply)
     × (us ≡ with_receipt me (receipt (length before.steps) event reply))
+
+-- an actor got this receipt of its event, which was answered so
+abbrev pub HasGot : {A : Type 0} → Result (Reply A) Refusal → Event A → Receipt A → ActorState A → ActorState A → Type 0
+HasGot answer event r me us = (answer ≡ Ok r.reply) × (r.event ≡ event) × (us ≡ with_receipt me r)
 
 -- an actor's Connect makes a step, and its reply sets the door of a link
 abbrev pub HasConnected : {A : Type 0} → ℕ → HubState A → ActorState A → HubState A → ActorState A → Type 0

@@ -1,5 +1,5 @@
 -- What the calls that take the lock do to their actor.
-use Rattle.std.specs.Prelude.{◌≡◌, ◌<◌, ◌≤◌, ℕ, Bool, true, false, List, [], ◌∷◌, ◌++◌, length, map, Option, Some, None}
+use Rattle.std.specs.Prelude.{◌≡◌, ◌<◌, ◌≤◌, ℕ, Bool, true, false, List, ◌++◌, length, map, Option, Some, None}
 use Rattle.gn_wire.specs.Packet.{Packet}
 use Rattle.gn_rules.specs.declared.event.Event.{Event}
 use Rattle.gn_rules.specs.declared.event.Event.TheVariants.{Close, Take}
@@ -15,6 +15,20 @@ use Rattle.gn_rules.specs.Fits.{replies}
 abbrev pub HasReceipt : {A : Type 0} → Event A → ActorState A → ActorState A → Type 0
 HasReceipt {A} event me us =
     (index : ℕ) × (reply : Reply A) × (replies event reply ≡ true) × (us ≡ with_receipt me (receipt index event reply))
+
+-- an actor got this receipt of the event, with a reply that it may have
+abbrev pub HasThis : {A : Type 0} → Event A → Receipt A → ActorState A → ActorState A → Type 0
+HasThis event r me us = (replies event r.reply ≡ true) × (us ≡ with_receipt me (receipt r.index event r.reply))
+
+-- an actor with these receipts more
+abbrev pub with_receipts : {A : Type 0} → ActorState A → List (Receipt A) → ActorState A
+with_receipts me rs = record me { receipts = me.receipts ++ rs }
+
+-- the receipts that an actor got are put to those that are kept
+pub record AreKept {A : Type 0} (before after : List (Receipt A)) (me us : ActorState A) : Type 0 where
+  pub got : List (Receipt A)
+  pub kept : after ≡ before ++ got
+  pub actor : us ≡ with_receipts me got
 
 -- an actor got a receipt of a packet that was taken
 abbrev pub HasTaken : {A : Type 0} → ℕ → ActorState A → ActorState A → Type 0
@@ -49,11 +63,6 @@ HasDrained {A} c me us = (index : ℕ) × (us ≡ with_receipt me (receipt index
 abbrev pub HasClosed : {A : Type 0} → ℕ → Option ℕ → ActorState A → ActorState A → Type 0
 HasClosed {A} c None me us = (index count : ℕ) × (us ≡ with_receipt me (receipt index (Close c) (Closed count)))
 HasClosed c (Some found) me us = (found ≡ c) × (us ≡ me)
-
--- an actor's last receipt is of this packet, which was taken
-abbrev pub HasTakenLast : {A : Type 0} → Packet → ActorState A → Type 0
-HasTakenLast {A} packet me =
-    (before : List (Receipt A)) × (index c : ℕ) × (me.receipts ≡ before ++ receipt index (Take c) (Taken packet) ∷ [])
 
 -- a refusal that stops every step: the history is full, or out of memory
 abbrev pub is_stop : Refusal → Bool

@@ -5,20 +5,22 @@ ghost use Rattle.gn_rules.specs.declared.event.Event.TheVariants.{Connect, Route
 ghost use Rattle.gn_rules.specs.Fits.{refuses};
 ghost use Rattle.gn_rules.specs.History.{live};
 ghost use Rattle.gn_hub.specs.HubState.{is_closing, past_of};
-ghost use Rattle.gn_hub.specs.Receipts.{HasClosed, HasDrained, HasReceipt, HasTaken, HasTakenMore, HasTakenSome, is_stop};
+ghost use Rattle.gn_hub.specs.Receipts.{AreKept, HasClosed, HasDrained, HasReceipt, HasTaken, HasTakenMore, HasTakenSome, HasThis, is_stop};
 ghost use Rattle.gn_hub.specs.Waking.{LeavesOthers, LeavesWaiting, wakes_of};
 ghost use Rattle.gn_hub.specs.declared.wakes.Wakes.TheVariants.{Nobody, Everybody};
 ghost use Rattle.gn_hub.specs.declared.next.Outgoing.TheVariants.{Packet, Drained, Closed};
 
-use crate::actor::Actor;
 use crate::batch::Batch;
 use crate::found::FoundClosed;
 use crate::hub::Hub;
 use crate::next::Outgoing;
 use crate::wakes::Wakes;
+use gn_actors::{Actor, Named};
 use gn_payload::Checked;
 use gn_room::Room;
-use gn_rules::{ConnId, Event, Refusal, RouterCore, Ticket, answers_fit, checked_answers_fit};
+use gn_rules::{
+    ConnId, Event, Receipt, Refusal, RouterCore, Ticket, answers_fit, checked_answers_fit,
+};
 use std::alloc::Allocator;
 use std::sync::ledger::Ledger;
 
@@ -41,19 +43,27 @@ impl<T> Answered<T> {
     }
 }
 
-impl<C: RouterCore<A>, L: Ledger, A: Allocator + Copy> Hub<C, L, A> {
+impl<C: RouterCore<A>, L: Ledger + Named, A: Allocator + Copy> Hub<C, L, A> {
     /// `call`, for the lock.
-    pub(crate) fn call_answered(&mut self, me: &mut Actor<L, A>, event: &Event<A>) -> Answered<()>
+    pub(crate) fn call_answered(
+        &mut self,
+        me: &mut Actor<L, A>,
+        event: &Event<A>,
+    ) -> Answered<Receipt<A>>
         ensures answer { MatchResult result.answer
             (λ _. HasReceipt event.now me.old me.new)
             (λ refusal. (refuses event.now refusal ≡ true) × (me.new ≡ me.old)) }
+        ensures receipt { IfOk result.answer (λ r. HasThis event.now r me.old me.new) }
         ensures quiet { MatchResult result.answer
             (λ _. LeavesOthers result.wakes me.new self.old self.new)
             (λ _. self.new ≡ self.old) }
     {
         answers_fit::<A>();
         match self.call(me, event) {
-            Ok(()) => self.stepped(event),
+            Ok(receipt) => Answered {
+                answer: Ok(receipt),
+                wakes: self.wakes_of(event),
+            },
             Err(refusal) => Answered::refused(refusal),
         }
     }
@@ -64,38 +74,42 @@ impl<C: RouterCore<A>, L: Ledger, A: Allocator + Copy> Hub<C, L, A> {
         me: &mut Actor<L, A>,
         ticket: Ticket,
         checked: &Checked<A>,
-    ) -> Answered<()>
+    ) -> Answered<Receipt<A>>
         ensures answer { MatchResult result.answer
             (λ _. HasReceipt (Route ticket) me.old me.new)
             (λ refusal. (refuses {A = A} (Route ticket) refusal ≡ true) × (me.new ≡ me.old)) }
+        ensures receipt { IfOk result.answer (λ r. HasThis (Route ticket) r me.old me.new) }
         ensures quiet { MatchResult result.answer
             (λ _. LeavesOthers result.wakes me.new self.old self.new)
             (λ _. self.new ≡ self.old) }
     {
         checked_answers_fit::<A>();
         match self.route(me, ticket, checked) {
-            Ok(()) => {
-                let event = Event::Route(ticket);
-                let answered = self.stepped(&event);
-                drop(event);
-                answered
-            }
+            Ok(receipt) => Answered {
+                answer: Ok(receipt),
+                wakes: self.wakes_at_least(Wakes::Queued),
+            },
             Err(refusal) => Answered::refused(refusal),
         }
     }
 
     /// `connect`, for the lock. An open or shut door is what those wait for who meet a link.
-    pub(crate) fn connect_answered(&mut self, me: &mut Actor<L, A>, link: u32) -> Answered<()>
+    pub(crate) fn connect_answered(
+        &mut self,
+        me: &mut Actor<L, A>,
+        link: u32,
+    ) -> Answered<Receipt<A>>
         requires { me.old.number ≡ link }
         ensures answer { MatchResult result.answer
             (λ _. HasReceipt Connect me.old me.new)
             (λ refusal. (refuses {A = A} Connect refusal ≡ true) × (me.new ≡ me.old)) }
+        ensures receipt { IfOk result.answer (λ r. HasThis Connect r me.old me.new) }
         ensures quiet { LeavesWaiting result.wakes [] self.old self.new }
     {
         answers_fit::<A>();
         match self.connect(me, link) {
-            Ok(()) => Answered {
-                answer: Ok(()),
+            Ok(receipt) => Answered {
+                answer: Ok(receipt),
                 wakes: self.wakes_at_least(Wakes::Doors),
             },
             Err(refusal) => Answered::refused(refusal),
@@ -107,16 +121,18 @@ impl<C: RouterCore<A>, L: Ledger, A: Allocator + Copy> Hub<C, L, A> {
         &mut self,
         me: &mut Actor<L, A>,
         c: ConnId,
+        kept: &mut Vec<Receipt<A>, A>,
     ) -> Answered<Option<Outgoing>>
         ensures packet { IfOk result.answer (λ next. next ≡ Some Packet → HasTaken c me.old me.new) }
         ensures drained { IfOk result.answer (λ next. next ≡ Some Drained → HasDrained c me.old me.new) }
         ensures closed { IfOk result.answer (λ next. next ≡ Some Closed → me.new ≡ me.old) }
         ensures later { IfOk result.answer (λ next. next ≡ None → me.new ≡ me.old) }
         ensures refused { IfErr result.answer (λ refusal. (is_stop refusal ≡ true) × (me.new ≡ me.old)) }
+        ensures kept { AreKept kept.old.items kept.new.items me.old me.new }
         ensures quiet { LeavesWaiting result.wakes [] self.old self.new }
     {
         answers_fit::<A>();
-        match self.outgoing(me, c) {
+        match self.outgoing(me, c, kept) {
             Ok(Some(Outgoing::Packet)) => Answered {
                 answer: Ok(Some(Outgoing::Packet)),
                 wakes: self.wakes_at_least(Wakes::Nobody),
@@ -140,32 +156,42 @@ impl<C: RouterCore<A>, L: Ledger, A: Allocator + Copy> Hub<C, L, A> {
         c: ConnId,
         batch: Batch,
         room: &Room,
+        kept: &mut Vec<Receipt<A>, A>,
     ) -> Answered<Option<Outgoing>>
         ensures packet { IfOk result.answer (λ next. next ≡ Some Packet → HasTakenSome batch c me.old me.new) }
         ensures drained { IfOk result.answer (λ next. next ≡ Some Drained → HasDrained c me.old me.new) }
         ensures closed { IfOk result.answer (λ next. next ≡ Some Closed → me.new ≡ me.old) }
         ensures later { IfOk result.answer (λ next. next ≡ None → me.new ≡ me.old) }
         ensures refused { IfErr result.answer (λ refusal. (is_stop refusal ≡ true) × (me.new ≡ me.old)) }
+        ensures kept { AreKept kept.old.items kept.new.items me.old me.new }
         ensures quiet { LeavesWaiting result.wakes [] self.old self.new }
     {
-        let Answered { answer, wakes } = self.outgoing_answered(me, c);
+        let Answered { answer, wakes } = self.outgoing_answered(me, c, kept);
         if !matches!(answer, Ok(Some(Outgoing::Packet))) {
             return Answered { answer, wakes };
         }
-        let closes = self.take_more(me, c, batch.most() - 1, room);
+        let closes = self.take_more(me, c, batch.most() - 1, room, kept);
         let wakes = if closes { Wakes::Everybody } else { wakes };
         Answered { answer, wakes }
     }
 
     /// Takes further packets of a connection, at most so many, until none waits, a step is refused, or one would have to wait for room.
     /// Whether the run closes.
-    fn take_more(&mut self, me: &mut Actor<L, A>, c: ConnId, most: u32, room: &Room) -> bool
+    fn take_more(
+        &mut self,
+        me: &mut Actor<L, A>,
+        c: ConnId,
+        most: u32,
+        room: &Room,
+        kept: &mut Vec<Receipt<A>, A>,
+    ) -> bool
         ensures taken { HasTakenMore most c me.old me.new }
+        ensures kept { AreKept kept.old.items kept.new.items me.old me.new }
         ensures quiet { result ≡ false → LeavesWaiting Nobody [] self.old self.new }
     {
         let mut closes = false;
         for _ in 0..most {
-            match self.take_another(me, c, room) {
+            match self.take_another(me, c, room, kept) {
                 Ok(closing) => closes = closes || closing,
                 Err(_) => break,
             }
@@ -179,8 +205,10 @@ impl<C: RouterCore<A>, L: Ledger, A: Allocator + Copy> Hub<C, L, A> {
         me: &mut Actor<L, A>,
         c: ConnId,
         room: &Room,
+        kept: &mut Vec<Receipt<A>, A>,
     ) -> Result<bool, Refusal>
         ensures taken { IfOk result (λ _. HasTaken c me.old me.new) }
+        ensures kept { AreKept kept.old.items kept.new.items me.old me.new }
         ensures quiet { IfOk result (λ closes. closes ≡ false → LeavesWaiting Nobody [] self.old self.new) }
         ensures refused { IfErr result (λ _. (self.new ≡ self.old) × (me.new ≡ me.old)) }
     {
@@ -188,7 +216,7 @@ impl<C: RouterCore<A>, L: Ledger, A: Allocator + Copy> Hub<C, L, A> {
         if self.router().waiting(c) == 0 || !room.has_more(self.book()) {
             return Err(Refusal::NothingWaiting);
         }
-        self.call_with(me, Event::Take(c))?;
+        self.call_kept(me, Event::Take(c), kept)?;
         Ok(self.closing())
     }
 
@@ -205,7 +233,7 @@ impl<C: RouterCore<A>, L: Ledger, A: Allocator + Copy> Hub<C, L, A> {
         ensures quiet { LeavesWaiting result.wakes [] self.old self.new }
     {
         answers_fit::<A>();
-        match self.call_with(me, Event::Close(c)) {
+        match self.step_with(me, Event::Close(c)) {
             Ok(()) => Answered {
                 answer: Ok(None),
                 wakes: self.wakes_at_least(Wakes::Writer(c)),
@@ -218,17 +246,13 @@ impl<C: RouterCore<A>, L: Ledger, A: Allocator + Copy> Hub<C, L, A> {
         }
     }
 
-    /// The answer of a call that made an actor's last step.
-    fn stepped(&self, event: &Event<A>) -> Answered<()>
-        ensures answer { result.answer ≡ Ok tt }
-        ensures wakes { result.wakes ≡ wakes_of event.now self.now }
+    /// Whom an event's step, the last one, may have brought what they wait for.
+    fn wakes_of(&self, event: &Event<A>) -> Wakes
+        ensures { result ≡ wakes_of event.now self.now }
     {
-        Answered {
-            answer: Ok(()),
-            wakes: match event {
-                Event::Close(c) => self.wakes_at_least(Wakes::Writer(*c)),
-                _ => self.wakes_at_least(Wakes::Queued),
-            },
+        match event {
+            Event::Close(c) => self.wakes_at_least(Wakes::Writer(*c)),
+            _ => self.wakes_at_least(Wakes::Queued),
         }
     }
 

@@ -94,8 +94,15 @@ impl Asleep {
     /// Takes out those whom a change concerns, by whom it wakes, and what the reply of its step sends.
     pub fn take<A: Allocator>(&mut self, wakes: Wakes, sends: &[Sending<A>]) -> Self {
         match wakes {
-            Wakes::Nobody => Asleep::nobody(),
             Wakes::Queued => self.take_queued(sends),
+            others => self.take_unqueued(others),
+        }
+    }
+
+    /// Takes out those whom a change concerns that queued no packet.
+    pub fn take_unqueued(&mut self, wakes: Wakes) -> Self {
+        match wakes {
+            Wakes::Nobody | Wakes::Queued => Asleep::nobody(),
             Wakes::Writer(c) => self.take_writer(c),
             Wakes::Doors => self.take_doors(),
             Wakes::Everybody => self.take_all(),

@@ -1,42 +1,45 @@
-//! What lies under the lock: the router, the book of its steps, and what is known of the links.
+//! What lies under the lock: the router, the annals of its steps, and what is known of the links.
 
-ghost use Rattle.std.specs.Prelude.{◌≡◌, ◌==◌, [], true, false, length, MatchResult};
+ghost use Rattle.std.specs.Prelude.{◌≡◌, ◌==◌, ◌∷◌, ◌++◌, [], true, false, length, IfOk, MatchResult};
 ghost use Rattle.std.specs.List.{list_all, slice_get};
 ghost use Rattle.gn_rules.specs.Answer.{checked_answer};
 ghost use Rattle.gn_rules.specs.Flight.{flying};
 ghost use Rattle.gn_rules.specs.declared.event.Event.TheVariants.{Connect, Route};
 ghost use Rattle.gn_hub.specs.declared.mark.Door.TheVariants.{Shut};
 ghost use Rattle.gn_hub.specs.HubState.{are_read, do_all_call, door_by, door_of, is_awaited_no_more, is_closing, past_of, with_door, with_reader_done};
-ghost use Rattle.gn_hub.specs.Calls.{HasConnected, HasStepped, IsNext, IsOutgoing, IsRefusal, IsStop, answer_now, due, is_step};
+ghost use Rattle.gn_actors.specs.Annals.{Fits};
+ghost use Rattle.gn_actors.specs.Home.{AreNumbered, AreWhole};
+ghost use Rattle.gn_hub.specs.Calls.{HasConnected, HasGot, HasStepped, IsNext, IsOutgoing, IsRefusal, IsStop, answer_now, due, is_step};
+ghost use Rattle.gn_hub.specs.Receipts.{AreKept};
 
-use crate::actor::Actor;
 use crate::mark::{Door, Mark};
 use crate::next::{Next, Outgoing, next_of};
+use gn_actors::{Actor, Annals, Home, Named};
 use gn_payload::Checked;
-use gn_rules::{ConnId, Event, Refusal, Reply, RouterCore, Ticket};
+use gn_rules::{ConnId, Event, Receipt, Refusal, Reply, RouterCore, Ticket};
 use std::alloc::{Allocator, Global};
 use std::marker::Model;
-use std::sync::ledger::{Book, Ledger, Share};
+use std::sync::ledger::{Ledger, Share};
 
-/// The router that the threads of a run share, the book of its steps, what is known of each link, and whether the run has
-/// failed. The book is the length of the router's history.
+/// The router that the threads of a run share, the annals of its steps, what is known of each link, and whether the run has
+/// failed. The annals are the router's history.
 #[derive(Drop)]
-pub struct Hub<C: RouterCore<A>, L: Ledger, A: Allocator + Copy = Global> {
+pub struct Hub<C: RouterCore<A>, L: Ledger + Named, A: Allocator + Copy = Global> {
     core: C,
-    book: Book<L>,
+    annals: Annals<L, A>,
     links: Vec<Mark, A>,
     failed: bool,
 }
 
 /// What is left of a hub where its router was taken out.
 #[derive(Drop)]
-pub struct Frame<L: Ledger, A: Allocator = Global> {
-    pub(crate) book: Book<L>,
+pub struct Frame<L: Ledger + Named, A: Allocator = Global> {
+    pub(crate) annals: Annals<L, A>,
     links: Vec<Mark, A>,
     failed: bool,
 }
 
-impl<C: RouterCore<A>, L: Ledger, A: Allocator + Copy> Model for Hub<C, L, A> {
+impl<C: RouterCore<A>, L: Ledger + Named, A: Allocator + Copy> Model for Hub<C, L, A> {
     ghost use Rattle.std.specs.Prelude.{◌≡◌, length};
     ghost use Rattle.gn_hub.specs.HubState.{HubState};
 
@@ -49,51 +52,80 @@ impl<C: RouterCore<A>, L: Ledger, A: Allocator + Copy> Model for Hub<C, L, A> {
       failed = h.failed;
     } };
 
-    ghost invariant = { λ h. h.book.total ≡ length (C.steps h.core) };
+    ghost invariant = { λ h. h.annals ≡ C.steps h.core };
 }
 
-impl<C: RouterCore<A>, L: Ledger, A: Allocator + Copy> Hub<C, L, A> {
+impl<C: RouterCore<A>, L: Ledger + Named, A: Allocator + Copy> Hub<C, L, A> {
     /// A hub with no steps, of a run that hasn't failed.
-    pub(crate) fn new(core: C, book: Book<L>, links: Vec<Mark, A>) -> Self
-        requires { (book.total ≡ 0) × (C.steps core ≡ []) }
+    pub(crate) fn new(core: C, annals: Annals<L, A>, links: Vec<Mark, A>) -> Self
+        requires { (annals ≡ []) × (C.steps core ≡ []) }
         ensures { result ≡ record { settings = C.settings core; steps = []; links = links.items; failed = false } }
     {
         Hub {
             core,
-            book,
+            annals,
             links,
             failed: false,
         }
     }
 
-    /// An actor's event. A refusal changes nothing.
-    pub fn call(&mut self, me: &mut Actor<L, A>, event: &Event<A>) -> Result<(), Refusal>
-        ensures { MatchResult result
+    /// An actor's event, and the receipt of its step. A refusal changes nothing.
+    pub fn call(&mut self, me: &mut Actor<L, A>, event: &Event<A>) -> Result<Receipt<A>, Refusal>
+        ensures made { MatchResult result
             (λ _. HasStepped (answer_now self.old event.now) event.now self.old me.old self.new me.new)
             (λ refusal. IsRefusal refusal (answer_now self.old event.now) × (self.new ≡ self.old) × (me.new ≡ me.old)) }
+        ensures receipt { IfOk result (λ r. HasGot (answer_now self.old event.now) event.now r me.old me.new) }
     {
-        let Hub { core, book, .. } = self;
-        let Actor {
-            number,
-            receipts,
-            share,
-        } = me;
-        receipts.reserve(1)?;
-        let receipt = core.apply(*number, event)?;
-        receipts.push_reserved(receipt);
-        book.add(share, 1);
-        Ok(())
+        let Hub { core, annals, .. } = self;
+        let receipt = core.apply(me.number(), event)?;
+        annals.record(me, core, &receipt);
+        Ok(receipt)
     }
 
     /// As `call`, of an event that nobody needs any more.
-    pub(crate) fn call_with(&mut self, me: &mut Actor<L, A>, event: Event<A>) -> Result<(), Refusal>
-        ensures { MatchResult result
+    pub(crate) fn call_with(
+        &mut self,
+        me: &mut Actor<L, A>,
+        event: Event<A>,
+    ) -> Result<Receipt<A>, Refusal>
+        ensures made { MatchResult result
             (λ _. HasStepped (answer_now self.old event) event self.old me.old self.new me.new)
             (λ refusal. IsRefusal refusal (answer_now self.old event) × (self.new ≡ self.old) × (me.new ≡ me.old)) }
+        ensures receipt { IfOk result (λ r. HasGot (answer_now self.old event) event r me.old me.new) }
     {
         let answer = self.call(me, &event);
         drop(event);
         answer
+    }
+
+    /// As `call_with`, where nobody needs the receipt.
+    pub(crate) fn step_with(&mut self, me: &mut Actor<L, A>, event: Event<A>) -> Result<(), Refusal>
+        ensures { MatchResult result
+            (λ _. HasStepped (answer_now self.old event) event self.old me.old self.new me.new)
+            (λ refusal. IsRefusal refusal (answer_now self.old event) × (self.new ≡ self.old) × (me.new ≡ me.old)) }
+    {
+        let receipt = self.call_with(me, event)?;
+        drop(receipt);
+        Ok(())
+    }
+
+    /// As `call_with`, and the receipt is put to those that are kept. `NoMemory` also where there is no room for it.
+    #[tactic(auto, using(crate::proofs::KeptLemmas::none_kept, crate::proofs::KeptLemmas::one_kept))]
+    pub(crate) fn call_kept(
+        &mut self,
+        me: &mut Actor<L, A>,
+        event: Event<A>,
+        kept: &mut Vec<Receipt<A>, A>,
+    ) -> Result<(), Refusal>
+        ensures made { MatchResult result
+            (λ _. HasStepped (answer_now self.old event) event self.old me.old self.new me.new)
+            (λ refusal. IsRefusal refusal (answer_now self.old event) × (self.new ≡ self.old) × (me.new ≡ me.old)) }
+        ensures kept { AreKept kept.old.items kept.new.items me.old me.new }
+    {
+        kept.reserve(1)?;
+        let receipt = self.call_with(me, event)?;
+        kept.push_reserved(receipt);
+        Ok(())
     }
 
     /// As `call` of a Route, with the descriptor's payload checked beforehand. A descriptor that isn't the admitted one is
@@ -103,75 +135,81 @@ impl<C: RouterCore<A>, L: Ledger, A: Allocator + Copy> Hub<C, L, A> {
         me: &mut Actor<L, A>,
         ticket: Ticket,
         checked: &Checked<A>,
-    ) -> Result<(), Refusal>
-        ensures { MatchResult result
+    ) -> Result<Receipt<A>, Refusal>
+        ensures made { MatchResult result
             (λ _. HasStepped (checked_answer self.old.settings (past_of self.old) ticket checked.now) (Route ticket)
             self.old me.old self.new me.new)
             (λ refusal. IsRefusal refusal (checked_answer self.old.settings (past_of self.old) ticket checked.now)
             × (self.new ≡ self.old) × (me.new ≡ me.old)) }
+        ensures receipt { IfOk result
+            (λ r. HasGot (checked_answer self.old.settings (past_of self.old) ticket checked.now) (Route ticket)
+            r me.old me.new) }
     {
-        let Hub { core, book, .. } = self;
-        let Actor {
-            number,
-            receipts,
-            share,
-        } = me;
-        receipts.reserve(1)?;
-        let receipt = core.route(*number, ticket, checked)?;
-        receipts.push_reserved(receipt);
-        book.add(share, 1);
-        Ok(())
+        let Hub { core, annals, .. } = self;
+        let receipt = core.route(me.number(), ticket, checked)?;
+        annals.record(me, core, &receipt);
+        Ok(receipt)
     }
 
     /// The Connect of the reader of a link. Its reply opens the link's door, or shuts it. A refusal changes nothing.
-    pub fn connect(&mut self, me: &mut Actor<L, A>, link: u32) -> Result<(), Refusal>
+    pub fn connect(&mut self, me: &mut Actor<L, A>, link: u32) -> Result<Receipt<A>, Refusal>
         requires { me.old.number ≡ link }
-        ensures { MatchResult result
+        ensures made { MatchResult result
             (λ _. HasConnected link self.old me.old self.new me.new)
             (λ refusal. IsRefusal refusal (answer_now self.old Connect) × (self.new ≡ self.old) × (me.new ≡ me.old)) }
+        ensures receipt { IfOk result (λ r. HasGot (answer_now self.old Connect) Connect r me.old me.new) }
     {
-        self.call_with(me, Event::Connect)?;
-        let door = door_after(me.last_reply());
+        let receipt = self.call_with(me, Event::Connect)?;
+        let door = door_after(&receipt.reply);
         self.set_door(link, door);
-        Ok(())
+        Ok(receipt)
     }
 
     /// What is next for the writer of a connection: a Take where a packet waits, a Close where the run closes. A refusal
-    /// comes only where a step was to be made, and changes nothing.
-    pub fn next_out(&mut self, me: &mut Actor<L, A>, c: ConnId) -> Result<Next, Refusal>
-        ensures { MatchResult result
+    /// comes only where a step was to be made, and changes nothing. The receipt is put to those that are kept.
+    pub fn next_out(
+        &mut self,
+        me: &mut Actor<L, A>,
+        c: ConnId,
+        kept: &mut Vec<Receipt<A>, A>,
+    ) -> Result<Next, Refusal>
+        ensures made { MatchResult result
             (λ next. IsNext (due self.old c) next c self.old me.old self.new me.new)
             (λ refusal. (is_step (due self.old c) ≡ true) × IsStop refusal self.old
             × (self.new ≡ self.old) × (me.new ≡ me.old)) }
+        ensures kept { AreKept kept.old.items kept.new.items me.old me.new }
     {
-        let answer = self.outgoing(me, c)?;
+        let answer = self.outgoing(me, c, kept)?;
         Ok(next_of(answer))
     }
 
     /// `next_out`, by what a writer is answered that waits while it is none.
+    #[tactic(auto, using(crate::proofs::KeptLemmas::none_kept))]
     pub(crate) fn outgoing(
         &mut self,
         me: &mut Actor<L, A>,
         c: ConnId,
+        kept: &mut Vec<Receipt<A>, A>,
     ) -> Result<Option<Outgoing>, Refusal>
-        ensures { MatchResult result
+        ensures made { MatchResult result
             (λ answer. IsOutgoing (due self.old c) answer c self.old me.old self.new me.new)
             (λ refusal. (is_step (due self.old c) ≡ true) × IsStop refusal self.old
             × (self.new ≡ self.old) × (me.new ≡ me.old)) }
+        ensures kept { AreKept kept.old.items kept.new.items me.old me.new }
     {
         if self.failed {
             return Ok(Some(Outgoing::Closed));
         }
         // Nothing waits for a connection that isn't live.
         if self.core.waiting(c) != 0 {
-            self.call_with(me, Event::Take(c))?;
+            self.call_kept(me, Event::Take(c), kept)?;
             return Ok(Some(Outgoing::Packet));
         }
         if !self.core.is_live(c) {
             return Ok(Some(Outgoing::Closed));
         }
         if self.closing() {
-            self.call_with(me, Event::Close(c))?;
+            self.call_kept(me, Event::Close(c), kept)?;
             return Ok(Some(Outgoing::Drained));
         }
         Ok(None)
@@ -277,16 +315,16 @@ impl<C: RouterCore<A>, L: Ledger, A: Allocator + Copy> Hub<C, L, A> {
     pub fn into_parts(self) -> (C, Frame<L, A>)
         ensures settings { C.settings result.0 ≡ self.settings }
         ensures steps { C.steps result.0 ≡ self.steps }
-        ensures frame { result.1.book.total ≡ length self.steps }
+        ensures frame { result.1.annals ≡ self.steps }
     {
         let Hub {
             core,
-            book,
+            annals,
             links,
             failed,
         } = self;
         let frame = Frame {
-            book,
+            annals,
             links,
             failed,
         };
@@ -295,21 +333,50 @@ impl<C: RouterCore<A>, L: Ledger, A: Allocator + Copy> Hub<C, L, A> {
 
     /// A hub of a router that has as many steps as the one that was taken out of this frame.
     pub fn of_parts(core: C, frame: Frame<L, A>) -> Self
-        requires { frame.book.total ≡ length (C.steps core) }
+        requires { frame.annals ≡ C.steps core }
         ensures settings { result.settings ≡ C.settings core }
         ensures steps { result.steps ≡ C.steps core }
     {
         let Frame {
-            book,
+            annals,
             links,
             failed,
         } = frame;
         Hub {
             core,
-            book,
+            annals,
             links,
             failed,
         }
+    }
+
+    /// An actor's receipts stand among the steps: each at its index, in order.
+    pub fn confirm(&mut self, me: &mut Actor<L, A>)
+        ensures same { (self.new ≡ self.old) × (me.new ≡ me.old) }
+        ensures fits { Fits self.new.steps me.new }
+    {
+        let Hub { core, annals, .. } = self;
+        annals.confirm(me, core);
+    }
+
+    /// An actor comes home.
+    pub fn welcome(&mut self, home: &mut Home<L, A>, me: Actor<L, A>)
+        ensures same { self.new ≡ self.old }
+        ensures home { home.new ≡ home.old ++ me ∷ [] }
+    {
+        let Hub { core, annals, .. } = self;
+        annals.welcome(home, me, core);
+    }
+
+    /// All actors of the run are home: the receipts of each are its own steps, and no step is of anybody else.
+    pub fn all_home(&mut self, home: Home<L, A>)
+        requires all { length home ≡ L.parts }
+        requires numbered { AreNumbered home }
+        ensures same { self.new ≡ self.old }
+        ensures whole { AreWhole self.new.steps home }
+    {
+        let Hub { core, annals, .. } = self;
+        annals.close(home, core);
     }
 
     /// All shares together are the book.
@@ -318,7 +385,7 @@ impl<C: RouterCore<A>, L: Ledger, A: Allocator + Copy> Hub<C, L, A> {
         ensures total { all.new.amount ≡ length self.new.steps }
         ensures same { (self.new ≡ self.old) × (all.new.amount ≡ all.old.amount) × (all.new.parts ≡ all.old.parts) }
     {
-        self.book.audit(all);
+        self.annals.audit(all);
     }
 }
 

@@ -1,7 +1,6 @@
-//! What the threads of a run share: the router under one lock, the book of its steps, and what is known of each link.
+//! What the threads of a run share: the router under one lock, the annals of its steps, and what is known of each link.
 #![tactic(auto)]
 
-mod actor;
 mod answered;
 mod asleep;
 mod batch;
@@ -14,9 +13,9 @@ mod service;
 mod waiters;
 mod wakes;
 
-pub use actor::Actor;
 pub use batch::Batch;
 pub use found::FoundClosed;
+pub use gn_actors::Actor;
 pub use gn_shake::Role;
 pub use hub::{Frame, Hub};
 pub use mark::{Door, Mark};

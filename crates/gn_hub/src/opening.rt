@@ -6,15 +6,15 @@ ghost use Rattle.gn_hub.specs.ActorState.{AreNew};
 ghost use Rattle.gn_hub.specs.HubState.{new_mark, opening};
 ghost use Rattle.gn_hub.specs.declared.opening.ServiceFault.TheVariants.{BadWorkers};
 
-use crate::actor::Actor;
 use crate::hub::Hub;
 use crate::mark::Mark;
 use crate::service::Service;
+use gn_actors::{Actor, Annals, Beginning, Named, Unopened};
 use gn_room::Room;
-use gn_rules::{Config, FreshRouter, MOST_WORKERS, RouterCore};
+use gn_rules::{Config, FreshRouter, MOST_WORKERS, RouterCore, Step};
 use gn_shake::Role;
 use std::alloc::{AllocError, AllocFailed, Allocator};
-use std::sync::ledger::{Blank, Ledger, Share};
+use std::sync::ledger::{Ledger, Share};
 
 /// Why no service was made.
 #[derive(Clone, Copy, Debug, PartialEq, Eq)]
@@ -35,19 +35,20 @@ impl From<AllocError> for ServiceFault {
     }
 }
 
-impl<C: FreshRouter<A> + Drop, L: Ledger, A: Allocator + Copy> Service<C, L, A> {
+impl<C: FreshRouter<A> + Drop, L: Ledger + Named, A: Allocator + Copy> Service<C, L, A> {
     /// The service of a run with links of these roles, at most 256, and so many workers, and its actors: the readers in the
     /// order of their links, then the writers, the workers and the house. The ledger has a part for each of them.
     /// `BadWorkers` comes exactly where there aren't 1 to 64 workers.
     pub fn new(
         alloc: A,
-        blank: Blank,
+        unopened: Unopened<A>,
         config: &Config,
         roles: &[Role],
         workers: u32,
     ) -> Result<(Self, Vec<Actor<L, A>, A>), ServiceFault>
-        requires name { blank.name ≡ L.name }
-        requires parts { (blank.parts ≡ L.parts) × (blank.parts ≡ 2 * length roles.now + workers + 1) }
+        requires name { (unopened.blank.name ≡ L.name) × (unopened.steps.name ≡ L.growing) }
+        requires parts { (unopened.blank.parts ≡ L.parts)
+            × (unopened.blank.parts ≡ 2 * length roles.now + workers + 1) }
         requires few { length roles.now ≤ most_links }
         ensures actors { IfOk result (λ made. AreNew (2 * length roles.now + workers + 1) made.1.items) }
         ensures workers { IfOk result (λ made. IsCrew workers) }
@@ -57,23 +58,24 @@ impl<C: FreshRouter<A> + Drop, L: Ledger, A: Allocator + Copy> Service<C, L, A> 
             return Err(ServiceFault::BadWorkers);
         }
         let core = C::make(alloc, config)?;
-        Service::over_router(alloc, blank, core, Room::endless(), roles, workers)
+        Service::over_router(alloc, unopened, core, Room::endless(), roles, workers)
     }
 }
 
-impl<C: RouterCore<A> + Drop, L: Ledger, A: Allocator + Copy> Service<C, L, A> {
+impl<C: RouterCore<A> + Drop, L: Ledger + Named, A: Allocator + Copy> Service<C, L, A> {
     /// The same over a router of no steps, whose steps somebody takes to make room for others.
     pub fn over_router(
         alloc: A,
-        blank: Blank,
+        unopened: Unopened<A>,
         core: C,
         room: Room,
         roles: &[Role],
         workers: u32,
     ) -> Result<(Self, Vec<Actor<L, A>, A>), ServiceFault>
         requires empty { C.steps core ≡ [] }
-        requires name { blank.name ≡ L.name }
-        requires parts { (blank.parts ≡ L.parts) × (blank.parts ≡ 2 * length roles.now + workers + 1) }
+        requires name { (unopened.blank.name ≡ L.name) × (unopened.steps.name ≡ L.growing) }
+        requires parts { (unopened.blank.parts ≡ L.parts)
+            × (unopened.blank.parts ≡ 2 * length roles.now + workers + 1) }
         requires few { length roles.now ≤ most_links }
         ensures actors { IfOk result (λ made. AreNew (2 * length roles.now + workers + 1) made.1.items) }
         ensures workers { IfOk result (λ made. IsCrew workers) }
@@ -82,30 +84,31 @@ impl<C: RouterCore<A> + Drop, L: Ledger, A: Allocator + Copy> Service<C, L, A> {
         if workers == 0 || workers > MOST_WORKERS {
             return Err(ServiceFault::BadWorkers);
         }
-        let (hub, actors) = open(alloc, blank, core, roles, workers)?;
+        let (hub, actors) = open(alloc, unopened, core, roles, workers)?;
         Ok((Service::over(hub, room), actors))
     }
 }
 
 /// The hub of a run that begins, over a router of no steps, and the actors.
-fn open<C: RouterCore<A> + Drop, L: Ledger, A: Allocator + Copy>(
+fn open<C: RouterCore<A> + Drop, L: Ledger + Named, A: Allocator + Copy>(
     alloc: A,
-    blank: Blank,
+    unopened: Unopened<A>,
     core: C,
     roles: &[Role],
     workers: u32,
 ) -> Result<(Hub<C, L, A>, Vec<Actor<L, A>, A>), AllocError>
     requires empty { C.steps core ≡ [] }
-    requires name { blank.name ≡ L.name }
-    requires parts { (blank.parts ≡ L.parts) × (blank.parts ≡ 2 * length roles.now + workers + 1) }
+    requires name { (unopened.blank.name ≡ L.name) × (unopened.steps.name ≡ L.growing) }
+    requires parts { (unopened.blank.parts ≡ L.parts)
+        × (unopened.blank.parts ≡ 2 * length roles.now + workers + 1) }
     requires few { (length roles.now ≤ most_links) × IsCrew workers }
     ensures hub { IfOk result (λ made. made.0 ≡ opening (C.settings core) roles.now) }
     ensures actors { IfOk result (λ made. AreNew (2 * length roles.now + workers + 1) made.1.items) }
 {
     let links = marks_of(alloc, roles)?;
-    let (book, all) = blank.open::<L>();
-    let actors = make_actors(alloc, all, 2 * roles.len() as u32 + workers + 1)?;
-    Ok((Hub::new(core, book, links), actors))
+    let (annals, all, seen) = Annals::open(unopened);
+    let actors = make_actors(alloc, all, seen, 2 * roles.len() as u32 + workers + 1)?;
+    Ok((Hub::new(core, annals, links), actors))
 }
 
 /// Links whose readers have neither connected nor ended.
@@ -120,19 +123,20 @@ fn marks_of<A: Allocator>(alloc: A, roles: &[Role]) -> Result<Vec<Mark, A>, Allo
 }
 
 /// Actors in order, with a part of the ledger each.
-fn make_actors<L: Ledger, A: Allocator + Copy>(
+fn make_actors<L: Ledger + Named, A: Allocator + Copy>(
     alloc: A,
     all: Share<L>,
+    seen: Beginning<Step<A>, L>,
     count: u32,
 ) -> Result<Vec<Actor<L, A>, A>, AllocError>
-    requires { (0 < count) × (all.parts ≡ count) × (all.amount ≡ 0) }
+    requires { (0 < count) × (all.parts ≡ count) × (all.amount ≡ 0) × (seen.items ≡ []) }
     ensures { IfOk result (λ actors. AreNew count actors.items) }
 {
-    let mut all = all;
+    let (mut all, mut seen) = (all, seen);
     let mut actors = Vec::new(alloc);
     for number in 0..count - 1 {
-        actors.push(Actor::new(alloc, number, all.split_off(1, 0)))?;
+        actors.push(Actor::new(number, seen.again(), all.split_off(1, 0)))?;
     }
-    actors.push(Actor::new(alloc, count - 1, all))?;
+    actors.push(Actor::new(count - 1, seen, all))?;
     Ok(actors)
 }

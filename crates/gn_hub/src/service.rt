@@ -4,9 +4,8 @@ ghost use Rattle.std.specs.Prelude.{◌≡◌, true, false, IfOk, IfErr, MatchRe
 ghost use Rattle.gn_rules.specs.declared.event.Event.TheVariants.{Connect, Route};
 ghost use Rattle.gn_rules.specs.Fits.{refuses};
 ghost use Rattle.gn_hub.specs.declared.next.Outgoing.TheVariants.{Packet, Drained, Closed};
-ghost use Rattle.gn_hub.specs.Receipts.{HasClosed, HasDrained, HasReceipt, HasTakenSome, is_stop};
+ghost use Rattle.gn_hub.specs.Receipts.{HasClosed, HasDrained, HasReceipt, HasTakenSome, HasThis, is_stop, with_receipts};
 
-use crate::actor::Actor;
 use crate::answered::Answered;
 use crate::asleep::Asleep;
 use crate::batch::Batch;
@@ -17,9 +16,10 @@ use crate::next::Outgoing;
 use crate::waiters::Waiters;
 use crate::wakes::Wakes;
 use crossbeam_utils::CachePadded;
+use gn_actors::{Actor, Named};
 use gn_payload::Checked;
 use gn_room::Room;
-use gn_rules::{ConnId, Event, Refusal, RouterCore, Ticket};
+use gn_rules::{ConnId, Event, Receipt, Refusal, RouterCore, Sending, Ticket};
 use std::alloc::{AllocError, Allocator, Global};
 use std::hint::spin_loop;
 use std::sync::ledger::Ledger;
@@ -34,7 +34,7 @@ const LOOKS: u32 = 8;
 
 /// What lies under the lock: the hub, and who sleeps.
 #[derive(Drop)]
-struct Held<C: RouterCore<A> + Drop, L: Ledger, A: Allocator + Copy = Global> {
+struct Held<C: RouterCore<A> + Drop, L: Ledger + Named, A: Allocator + Copy = Global> {
     hub: Hub<C, L, A>,
     asleep: Asleep,
 }
@@ -45,13 +45,13 @@ struct Held<C: RouterCore<A> + Drop, L: Ledger, A: Allocator + Copy = Global> {
 /// Threads that try the lock write its word. The hub stands on cache lines of its own, so that they don't take one away from
 /// who has the lock.
 #[derive(Drop)]
-pub struct Service<C: RouterCore<A> + Drop, L: Ledger, A: Allocator + Copy = Global> {
+pub struct Service<C: RouterCore<A> + Drop, L: Ledger + Named, A: Allocator + Copy = Global> {
     held: Mutex<CachePadded<Held<C, L, A>>>,
     waiters: Waiters,
     room: Room,
 }
 
-impl<C: RouterCore<A> + Drop, L: Ledger, A: Allocator + Copy> Service<C, L, A> {
+impl<C: RouterCore<A> + Drop, L: Ledger + Named, A: Allocator + Copy> Service<C, L, A> {
     /// A hub under a lock of its own, and the room for its steps.
     pub(crate) fn over(hub: Hub<C, L, A>, room: Room) -> Self {
         Service {
@@ -92,28 +92,23 @@ impl<C: RouterCore<A> + Drop, L: Ledger, A: Allocator + Copy> Service<C, L, A> {
         self.held.lock(rt)
     }
 
-    /// Waits for room for one more step, and makes some for its receipt and those of further ones, at most so many in all. An `Err`
-    /// is out of memory, or nobody takes steps any more.
-    fn make_room<R: Wait>(&self, rt: &R, me: &mut Actor<L, A>, most: u32) -> Result<(), AllocError>
-        ensures { me.new ≡ me.old }
-    {
-        if !self.room.wait(rt) {
-            return Err(AllocError);
+    /// Waits for room for one more step. An `Err`: nobody takes steps any more.
+    fn wait_for_room<R: Wait>(&self, rt: &R) -> Result<(), AllocError> {
+        if self.room.wait(rt) {
+            Ok(())
+        } else {
+            Err(AllocError)
         }
-        me.make_room(most)
     }
 
-    /// Lets the hub go after a call on it by this actor, and wakes those who have to look again.
+    /// Lets the hub go after a call on it, and wakes those who have to look again.
     fn release<R: Wait>(
         &self,
         rt: &R,
         held: MutexGuard<'_, CachePadded<Held<C, L, A>>>,
-        me: &Actor<L, A>,
-        wakes: Wakes,
+        woken: Asleep,
     ) {
-        let mut held = held;
         self.room.made(held.hub.book());
-        let woken = held.asleep.take(wakes, me.last_sends());
         drop(held);
         self.waiters.wake(&woken);
         self.room.wake(rt);
@@ -127,21 +122,23 @@ impl<C: RouterCore<A> + Drop, L: Ledger, A: Allocator + Copy> Service<C, L, A> {
         self.waiters.wake(&woken);
     }
 
-    /// An actor's event.
+    /// An actor's event, and the receipt of its step.
     pub fn call<R: Wait>(
         &self,
         rt: &R,
         me: &mut Actor<L, A>,
         event: &Event<A>,
-    ) -> Result<(), Refusal>
-        ensures { MatchResult result
+    ) -> Result<Receipt<A>, Refusal>
+        ensures answer { MatchResult result
             (λ _. HasReceipt event.now me.old me.new)
             (λ refusal. (refuses event.now refusal ≡ true) × (me.new ≡ me.old)) }
+        ensures receipt { IfOk result (λ r. HasThis event.now r me.old me.new) }
     {
-        self.make_room(rt, me, 1)?;
+        self.wait_for_room(rt)?;
         let mut held = self.lock(rt);
         let Answered { answer, wakes } = held.hub.call_answered(me, event);
-        self.release(rt, held, me, wakes);
+        let woken = held.asleep.take(wakes, sends_of(&answer));
+        self.release(rt, held, woken);
         answer
     }
 
@@ -152,29 +149,38 @@ impl<C: RouterCore<A> + Drop, L: Ledger, A: Allocator + Copy> Service<C, L, A> {
         me: &mut Actor<L, A>,
         ticket: Ticket,
         checked: &Checked<A>,
-    ) -> Result<(), Refusal>
-        ensures { MatchResult result
+    ) -> Result<Receipt<A>, Refusal>
+        ensures answer { MatchResult result
             (λ _. HasReceipt (Route ticket) me.old me.new)
             (λ refusal. (refuses {A = A} (Route ticket) refusal ≡ true) × (me.new ≡ me.old)) }
+        ensures receipt { IfOk result (λ r. HasThis (Route ticket) r me.old me.new) }
     {
-        self.make_room(rt, me, 1)?;
+        self.wait_for_room(rt)?;
         let mut held = self.lock(rt);
         let Answered { answer, wakes } = held.hub.route_answered(me, ticket, checked);
-        self.release(rt, held, me, wakes);
+        let woken = held.asleep.take(wakes, sends_of(&answer));
+        self.release(rt, held, woken);
         answer
     }
 
     /// The Connect of the reader of a link, which opens or shuts its door.
-    pub fn connect<R: Wait>(&self, rt: &R, me: &mut Actor<L, A>, link: u32) -> Result<(), Refusal>
+    pub fn connect<R: Wait>(
+        &self,
+        rt: &R,
+        me: &mut Actor<L, A>,
+        link: u32,
+    ) -> Result<Receipt<A>, Refusal>
         requires { me.old.number ≡ link }
-        ensures { MatchResult result
+        ensures answer { MatchResult result
             (λ _. HasReceipt Connect me.old me.new)
             (λ refusal. (refuses {A = A} Connect refusal ≡ true) × (me.new ≡ me.old)) }
+        ensures receipt { IfOk result (λ r. HasThis Connect r me.old me.new) }
     {
-        self.make_room(rt, me, 1)?;
+        self.wait_for_room(rt)?;
         let mut held = self.lock(rt);
         let Answered { answer, wakes } = held.hub.connect_answered(me, link);
-        self.release(rt, held, me, wakes);
+        let woken = held.asleep.take_unqueued(wakes);
+        self.release(rt, held, woken);
         answer
     }
 
@@ -189,34 +195,44 @@ impl<C: RouterCore<A> + Drop, L: Ledger, A: Allocator + Copy> Service<C, L, A> {
             (λ found. HasClosed c found me.old me.new)
             (λ refusal. (is_stop refusal ≡ true) × (me.new ≡ me.old)) }
     {
-        self.make_room(rt, me, 1)?;
+        self.wait_for_room(rt)?;
         let mut held = self.lock(rt);
         let Answered { answer, wakes } = held.hub.close_answered(me, c);
-        self.release(rt, held, me, wakes);
+        let woken = held.asleep.take_unqueued(wakes);
+        self.release(rt, held, woken);
         answer
     }
 
     /// Waits until the connection has packets for its writer, or is over, also where this call closed it. At most `batch` packets are
-    /// taken at once, and are in the last receipts. A further packet is left where its step is refused, or would have to wait for room.
+    /// taken at once; the receipts of this call are put in place of those that are lent. A further packet is left where its step is
+    /// refused, or would have to wait for room.
+    #[tactic(auto, using(crate::proofs::KeptLemmas::none_got))]
     pub fn next_batch<R: Wait>(
         &self,
         rt: &R,
         me: &mut Actor<L, A>,
         c: ConnId,
         batch: Batch,
+        kept: &mut Vec<Receipt<A>, A>,
     ) -> Result<Outgoing, Refusal>
         ensures packet { IfOk result (λ next. next ≡ Packet → HasTakenSome batch c me.old me.new) }
         ensures drained { IfOk result (λ next. next ≡ Drained → HasDrained c me.old me.new) }
         ensures closed { IfOk result (λ next. next ≡ Closed → me.new ≡ me.old) }
         ensures refused { IfErr result (λ refusal. (is_stop refusal ≡ true) × (me.new ≡ me.old)) }
+        ensures kept { me.new ≡ with_receipts me.old kept.new.items }
     {
-        self.make_room(rt, me, batch.most())?;
+        kept.clear();
+        kept.reserve(batch.most() as usize)?;
+        self.wait_for_room(rt)?;
         let mut held = self.lock(rt);
         let mut has_yielded = false;
         for _ in rt.forever() {
-            let Answered { answer, wakes } = held.hub.batch_answered(me, c, batch, &self.room);
+            let Answered { answer, wakes } = held
+                .hub
+                .batch_answered(me, c, batch, &self.room, kept);
             if let Some(next) = answer? {
-                self.release(rt, held, me, wakes);
+                let woken = held.asleep.take_unqueued(wakes);
+                self.release(rt, held, woken);
                 return Ok(next);
             }
             held = if has_yielded {
@@ -290,5 +306,13 @@ impl<C: RouterCore<A> + Drop, L: Ledger, A: Allocator + Copy> Service<C, L, A> {
         let Service { held, .. } = self;
         let Held { hub, .. } = held.into_inner().into_inner();
         hub
+    }
+}
+
+/// What the reply of a step sends. Nothing where none was made.
+fn sends_of<A: Allocator>(answer: &Result<Receipt<A>, Refusal>) -> &[Sending<A>] {
+    match answer {
+        Ok(receipt) => receipt.reply.sends(),
+        Err(_) => &[],
     }
 }

@@ -13,6 +13,8 @@ mod histories;
 #[cfg(test)]
 mod no_memory_taken;
 #[cfg(test)]
+mod receipts;
+#[cfg(test)]
 mod rows;
 #[cfg(test)]
 mod steps;

@@ -4,6 +4,7 @@ ghost use Rattle.gn_rules.specs.Answer.{IsLegal};
 ghost use Rattle.gn_rules.specs.Statistics.{stats_of};
 ghost use Rattle.std.specs.Prelude.{◌≡◌, IfSome, None, Some, if◌then◌else◌, length, reverse, true};
 
+use gn_actors::Named;
 use gn_hub::Hub;
 use gn_rules::{Config, Historian, Stats, Step, is_same_config};
 use std::alloc::Allocator;
@@ -18,7 +19,7 @@ pub struct Closed<A: Allocator> {
 }
 
 /// What the router of a hub leaves.
-pub fn close<L: Ledger, C: Historian<A>, A: Allocator + Copy>(
+pub fn close<L: Ledger + Named, C: Historian<A>, A: Allocator + Copy>(
     config: &Config,
     hub: Hub<C, L, A>,
 ) -> Closed<A>
@@ -49,7 +50,7 @@ fn is_as_long(config: &Config, is_full: bool, steps: usize) -> bool
 
 /// The history of a run that stopped: all of its steps. `None` where its router hasn't the configuration of the call, or
 /// where the run stopped because its history is full, and it isn't.
-pub fn kept<L: Ledger, C: Historian<A>, A: Allocator + Copy>(
+pub fn kept<L: Ledger + Named, C: Historian<A>, A: Allocator + Copy>(
     config: &Config,
     is_full: bool,
     hub: Hub<C, L, A>,

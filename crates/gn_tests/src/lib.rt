@@ -35,6 +35,8 @@ mod payload;
 #[cfg(test)]
 mod played;
 #[cfg(test)]
+mod receipts;
+#[cfg(test)]
 mod refusals;
 #[cfg(test)]
 mod replays;

@@ -106,3 +106,7 @@ number_below (Some k) number n below is = omega (arith, below, is)
 pub below_more : (o : Option ℕ) (m n : ℕ) → m ≤ n → IfSome o (λ a. a < m) → IfSome o (λ a. a < n)
 below_more None m n more low = tt
 below_more (Some a) m n more low = omega (arith, more, low)
+
+-- what holds of a fault holds of the same answer
+pub same_fault : {T : Type 0} (answer given : Result T RunFault) (P : RunFault → Type 0) → answer ≡ given → IfErr given P → IfErr answer P
+same_fault answer given P is holds = subst (λ r. IfErr r P) (sym is) holds

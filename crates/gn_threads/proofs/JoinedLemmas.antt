@@ -73,14 +73,21 @@ pub known_alike : {X Y B C : Type 0} (f : X → B) (k : Y → B) (t : B → C) (
 known_alike f k t xs ys is = sym (map-map t f xs) ∙ known_after k t (map f xs) ys is
 
 -- one more was taken from what is left, and its image stands after the others
-pub one_started : {H S X : Type 0} (f : H → X) (k : S → X) (hs more : List H) (rest left : List S) (x : S) (all : List X) → map f more ≡ map f hs ++ k x ∷ [] → rest ≡ x ∷ left
-    → map f hs ++ map k rest ≡ all → map f more ++ map k left ≡ all
-one_started f k hs more rest left x all one next before =
-    ap (λ v. v ++ map k left) one ∙ append_assoc (map f hs) (k x ∷ []) (map k left) ∙ ap (λ r. map f hs ++ map k r) (sym next) ∙ before
+pub one_moved : {S X : Type 0} (k : S → X) (xs more : List X) (rest left : List S) (x : S) (all : List X) → more ≡ xs ++ k x ∷ [] → rest ≡ x ∷ left → xs ++ map k rest ≡ all → more ++ map k left ≡ all
+one_moved k xs more rest left x all one next before =
+    ap (λ v. v ++ map k left) one ∙ append_assoc xs (k x ∷ []) (map k left) ∙ ap (λ r. xs ++ map k r) (sym next) ∙ before
 
 -- none is left
+pub all_moved : {S X : Type 0} (k : S → X) (xs : List X) (rest : List S) (all : List X) → length rest ≡ 0 → xs ++ map k rest ≡ all → xs ≡ all
+all_moved k xs rest all none before = sym (append-nil xs) ∙ ap (λ r. xs ++ map k r) (sym (nil_from_length rest none)) ∙ before
+
+-- the same where the others are images, too
+pub one_started : {H S X : Type 0} (f : H → X) (k : S → X) (hs more : List H) (rest left : List S) (x : S) (all : List X) → map f more ≡ map f hs ++ k x ∷ [] → rest ≡ x ∷ left
+    → map f hs ++ map k rest ≡ all → map f more ++ map k left ≡ all
+one_started f k hs more rest left x all one next before = one_moved k (map f hs) (map f more) rest left x all one next before
+
 pub all_started : {H S X : Type 0} (f : H → X) (k : S → X) (hs : List H) (rest : List S) (all : List X) → length rest ≡ 0 → map f hs ++ map k rest ≡ all → map f hs ≡ all
-all_started f k hs rest all none before = sym (append-nil (map f hs)) ∙ ap (λ r. map f hs ++ map k r) (sym (nil_from_length rest none)) ∙ before
+all_started f k hs rest all none before = all_moved k (map f hs) rest all none before
 
 -- as many as all of them are all of them
 pub all_come : {K O : Type 0} (origin : K → O) (links : List K) (coming : List O) (n : ℕ) → coming ≡ map origin links → n ≡ length links → take n coming ≡ map origin links

@@ -1,11 +1,11 @@
 pub mod FaultLemmas
 pub mod ActorLemmas
 pub mod JoinedLemmas
-pub mod ReceiptLemmas
 pub mod EndLemmas
 pub mod HoldsLemmas
 pub mod FollowLemmas
 pub mod CourseLemmas
+mod HomecomingLemmas
 mod LoopLemmas
 mod ReportedLemmas
 mod UnstartedLemmas

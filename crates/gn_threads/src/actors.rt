@@ -4,6 +4,7 @@ ghost use Rattle.std.specs.Prelude.{◌≡◌, ◌<◌, ◌+◌, ◌^◌, vec_le
 ghost use Rattle.gn_hub.specs.ActorState.{new_actor};
 ghost use Rattle.gn_threads.specs.Actors.{AreActorsFrom};
 
+use gn_actors::Named;
 use gn_hub::Actor;
 use std::alloc::{Allocator, Global};
 use std::marker::Model;
@@ -12,12 +13,12 @@ use std::vec::IntoIter;
 
 /// Actors of a run that have no body yet, in the order of their numbers.
 #[derive(Drop)]
-pub(crate) struct UnstartedActors<L: Ledger, A: Allocator = Global> {
+pub(crate) struct UnstartedActors<L: Ledger + Named, A: Allocator = Global> {
     next: u32,
     rest: IntoIter<Actor<L, A>, A>,
 }
 
-impl<L: Ledger, A: Allocator> Model for UnstartedActors<L, A> {
+impl<L: Ledger + Named, A: Allocator> Model for UnstartedActors<L, A> {
     ghost use Rattle.std.specs.Prelude.{◌+◌, ◌<◌, ◌^◌};
     ghost use Rattle.std.specs.Vec.Iter.{into_iter_items, into_iter_len};
     ghost use Rattle.gn_threads.specs.Actors.{AreActorsFrom, Turn};
@@ -29,7 +30,7 @@ impl<L: Ledger, A: Allocator> Model for UnstartedActors<L, A> {
     ghost invariant = { λ w. AreActorsFrom w.next (into_iter_items w.rest) × (w.next + into_iter_len w.rest < 2 ^ 32) };
 }
 
-impl<L: Ledger, A: Allocator> UnstartedActors<L, A> {
+impl<L: Ledger + Named, A: Allocator> UnstartedActors<L, A> {
     /// These actors, of which the first has this number.
     pub(crate) fn new(first: u32, actors: Vec<Actor<L, A>, A>) -> Self
         requires actors { AreActorsFrom first actors.items }

@@ -21,6 +21,7 @@ use crate::opening::{Opening, open_run};
 use crate::starting::start_and_join;
 use crate::stopped::Stopped;
 use crate::unstarted::Unstarted;
+use gn_actors::{Named, Unopened};
 use gn_hub::{Batch, Hub, Service};
 use gn_links::Gate;
 use gn_report::Report;
@@ -31,7 +32,7 @@ use gn_stage::{Site, Stage};
 use std::alloc::Allocator;
 use std::marker::Brand;
 use std::sync::Wait;
-use std::sync::ledger::{Blank, Ledger};
+use std::sync::ledger::Ledger;
 use std::thread::Threads;
 
 /// As `run`, over links of these roles that come one after another: the bodies of each start as soon as it has come. Where
@@ -183,12 +184,12 @@ where
         return (Err(Stopped::before(RunFault::NoMemory)), course.give_up());
     };
     let parts = 2 * roles.len() as u64 + workers as u64 + 1;
-    let blank = Blank::new(parts);
+    let unopened = Unopened::new(parts);
     let mut history = None;
     let (answer, rest) = run_arriving_in::<Brand, C, W, V, G, A, R>(
         rt,
         alloc,
-        blank,
+        unopened,
         stage,
         config,
         roles,
@@ -209,7 +210,7 @@ where
 /// A run with its ledger, its stage and its limits, which `B` names. Where it stops, what stands of the history is put
 /// into `history`.
 fn run_arriving_in<
-    B: Site + Ledger + Limited + Send + Sync,
+    B: Site + Ledger + Limited + Named + Send + Sync,
     C: RouterCore<A> + Drop + Send,
     W: Course<C, A> + Send + Drop,
     V: Arrivals,
@@ -219,7 +220,7 @@ fn run_arriving_in<
 >(
     rt: &R,
     alloc: A,
-    blank: Blank,
+    unopened: Unopened<A>,
     stage: Stage<A>,
     config: &Config,
     roles: &[Role],
@@ -236,8 +237,9 @@ where
     V::Writer: Send,
     W::Followed: Send + Drop,
     requires none { history.old ≡ None }
-    requires blank { (blank.name ≡ B.name) × (blank.parts ≡ B.parts)
-        × (blank.parts ≡ 2 * length roles.now + workers + 1) × (stage ≡ B.stage) }
+    requires names { (unopened.blank.name ≡ B.name) × (unopened.steps.name ≡ B.growing) × (stage ≡ B.stage) }
+    requires parts { (unopened.blank.parts ≡ B.parts)
+        × (unopened.blank.parts ≡ 2 * length roles.now + workers + 1) }
     requires turns { B.turns ≡ most_reads config.now.numbers.steps }
     requires batch { B.batch ≡ batch }
     requires few { (length roles.now ≤ most_links) × IsCrew workers }
@@ -257,7 +259,7 @@ where
     ensures rest { IsLeft (W.follows course) W.leaves result.1 (BeginsAnswer result.0 history.new) }
 {
     let room = course.room();
-    let Ok(opening) = open_run::<B, C, A>(alloc, blank, stage, core, room, roles, workers) else {
+    let Ok(opening) = open_run::<B, C, A>(alloc, unopened, stage, core, room, roles, workers) else {
         return (Err(RunFault::NoMemory), course.give_up());
     };
     let Opening {
@@ -291,7 +293,7 @@ where
 /// Runs all bodies to their ends, and who takes their steps beside them.
 fn run_bodies<
     'r,
-    B: Site + Ledger + Limited + Send + Sync,
+    B: Site + Ledger + Limited + Named + Send + Sync,
     C: RouterCore<A> + Drop + Send,
     W: Course<C, A> + Send + Drop,
     V: Arrivals,

@@ -1,4 +1,4 @@
-//! The report of a run, compared with its history, its ledger and the configuration of the call.
+//! The report of a run, compared with its history and the configuration of the call.
 
 ghost use Rattle.std.specs.Prelude.{
   ◌≡◌,
@@ -17,8 +17,6 @@ ghost use Rattle.std.specs.Prelude.{
   IfOk,
   IfSome,
 };
-ghost use Rattle.std.specs.List.{sum_by};
-ghost use Rattle.gn_report.specs.Actors.{receipts_of};
 ghost use Rattle.gn_rules.specs.Answer.{IsLegal};
 ghost use Rattle.gn_rules.specs.Limits.{most_reads};
 ghost use Rattle.gn_rules.specs.Statistics.{stats_of};
@@ -28,19 +26,19 @@ ghost use Rattle.gn_threads.specs.Reported.{reader_reported, writer_reported};
 ghost use Rattle.gn_threads.specs.Headline.{Holds};
 ghost use Rattle.gn_bodies.specs.Done.{halved};
 ghost use Rattle.gn_threads.specs.Joined.{KeepEnds};
-ghost use Rattle.gn_threads.specs.Shares.{AreCounted, amount_of, parts_of};
+ghost use Rattle.gn_threads.specs.Shares.{AreCounted};
 
 use crate::fault::RunFault;
 use crate::limits::Limited;
-use crate::reported::{Linked, Worked};
-use crate::shares::Shares;
-use gn_hub::{Actor, Hub};
+use crate::reported::Reported;
+use gn_actors::Named;
+use gn_hub::Hub;
 use gn_links::{LinkReader, LinkWriter};
 use gn_report::{Closed, Report, close, kept};
 use gn_rules::{Config, Historian, RouterCore, Step};
 use gn_shake::Role;
 use std::alloc::Allocator;
-use std::sync::ledger::{Ledger, Share};
+use std::sync::ledger::Ledger;
 
 /// The least of two actors, where there is one.
 pub(crate) fn least(a: Option<u32>, b: Option<u32>) -> Option<u32>
@@ -55,21 +53,6 @@ pub(crate) fn least(a: Option<u32>, b: Option<u32>) -> Option<u32>
             Some(m) => Some(if n < m { n } else { m }),
         },
     }
-}
-
-/// All shares of the ledger together are the book: the actors have as many receipts as there are steps.
-fn add_up<L: Ledger, C: RouterCore<A>, A: Allocator + Copy>(
-    hub: &mut Hub<C, L, A>,
-    links: Shares<L>,
-    workers: Shares<L>,
-    house: Share<L>,
-)
-    requires parts { L.parts ≡ parts_of links.all + parts_of workers.all + house.parts }
-    ensures total { amount_of links.all + amount_of workers.all + house.amount ≡ length hub.new.steps }
-    ensures same { hub.new ≡ hub.old }
-{
-    let mut all = links.close(workers.close(house));
-    hub.audit(&mut all);
 }
 
 /// The house, where the router hasn't the configuration of the call.
@@ -89,7 +72,7 @@ fn is_full(fault: RunFault) -> bool
 
 /// Keeps the history of a run that stopped at this fault: all of its steps. It keeps nothing where its router hasn't the
 /// configuration of the call, or where the fault is that the history is full and it isn't.
-pub(crate) fn keep_history<L: Ledger, C: Historian<A>, A: Allocator + Copy>(
+pub(crate) fn keep_history<L: Ledger + Named, C: Historian<A>, A: Allocator + Copy>(
     config: &Config,
     fault: RunFault,
     hub: Hub<C, L, A>,
@@ -102,45 +85,41 @@ pub(crate) fn keep_history<L: Ledger, C: Historian<A>, A: Allocator + Copy>(
     *history = kept(config, is_full(fault), hub);
 }
 
-/// The report of a run, compared with its ledger, its history and the configuration of the call. `unconfirmed` is a worker
-/// or the house, where one was refused a route.
+/// The report of a run, compared with its history and the configuration of the call. `unconfirmed` is a worker or the house,
+/// where one was refused a route.
 pub(crate) fn report<
     Rd: LinkReader,
     W: LinkWriter,
-    L: Ledger + Limited,
+    L: Ledger + Limited + Named,
     C: Historian<A>,
     A: Allocator + Copy,
 >(
     config: &Config,
     roles: &[Role],
-    mut hub: Hub<C, L, A>,
-    linked: Linked<Rd, W, L, A>,
-    worked: Worked<L, A>,
-    house: Actor<L, A>,
+    hub: Hub<C, L, A>,
+    reported: Reported<Rd, W, A>,
     unconfirmed: Option<u32>,
 ) -> Result<Report<Rd, W, A>, RunFault>
-    requires counted { AreCounted L.parts (length roles.now) (vec_len linked.links) (vec_len linked.links)
-        (vec_len worked.receipts) }
+    requires counted { AreCounted L.parts (length roles.now) (vec_len reported.links) (vec_len reported.links)
+        (vec_len reported.workers) }
     requires ends { KeepEnds (most_reads config.now.numbers.steps) L.batch roles.now
-        (map (λ l. halved Rd.state (reader_reported l)) linked.links.items)
-        (map (λ l. halved W.state (writer_reported l)) linked.links.items) }
+        (map (λ l. halved Rd.state (reader_reported l)) reported.links.items)
+        (map (λ l. halved W.state (writer_reported l)) reported.links.items) }
     requires unconfirmed { IfSome unconfirmed
-        (λ a. a < length roles.now + length roles.now + vec_len worked.receipts + 1) }
-    ensures fault { IfErr result (λ fault. IsFaultOf (length roles.now) (vec_len worked.receipts) fault) }
+        (λ a. a < length roles.now + length roles.now + vec_len reported.workers + 1) }
+    ensures fault { IfErr result (λ fault. IsFaultOf (length roles.now) (vec_len reported.workers) fault) }
     ensures holds { IfOk result (λ report.
-        Holds L.batch Rd.state W.state config.now roles.now (vec_len worked.receipts) report) }
-    ensures links { IfOk result (λ report. report.links.items ≡ linked.links.items) }
+        Holds L.batch Rd.state W.state config.now roles.now (vec_len reported.workers) report) }
+    ensures links { IfOk result (λ report. report.links.items ≡ reported.links.items) }
     ensures steps { IfOk result (λ report. report.history.items ≡ hub.steps) }
     ensures clean { IfOk result (λ _. unconfirmed ≡ None) }
 {
-    let Linked { links, shares } = linked;
-    let Worked {
-        receipts,
-        shares: others,
-    } = worked;
-    let number = 2 * links.len() as u32 + receipts.len() as u32;
-    let (house, share) = house.into_parts();
-    add_up(&mut hub, shares, others, share);
+    let Reported {
+        links,
+        workers,
+        house,
+    } = reported;
+    let number = 2 * links.len() as u32 + workers.len() as u32;
     let closed = close(config, hub);
     let Closed {
         history,
@@ -150,7 +129,7 @@ pub(crate) fn report<
     let report = Report {
         history,
         links,
-        workers: receipts,
+        workers,
         house,
         stats,
     };
@@ -168,8 +147,7 @@ fn confirmed<Rd: LinkReader, W: LinkWriter, L: Limited, A: Allocator>(
 ) -> Result<Report<Rd, W, A>, RunFault>
     requires roles { length roles.now ≡ length report.links.items }
     requires legal { unconfirmed ≡ None → IsLegal config.now (reverse report.history.items) }
-    requires counted { (sum_by (λ receipts. length receipts) (receipts_of report) ≡ length report.history.items)
-        × (report.stats ≡ stats_of (reverse report.history.items)) }
+    requires stats { report.stats ≡ stats_of (reverse report.history.items) }
     requires ends { KeepEnds (most_reads config.now.numbers.steps) L.batch roles.now
         (map (λ l. halved Rd.state (reader_reported l)) report.links.items)
         (map (λ l. halved W.state (writer_reported l)) report.links.items) }

@@ -9,6 +9,7 @@ ghost use Rattle.gn_threads.specs.Joined as joined;
 
 use crate::ended::any_ended_with;
 use crate::fault::RunFault;
+use gn_actors::Named;
 use gn_bodies::{BodyFault, ReaderDone, WorkerDone, WriterDone};
 use gn_links::{LinkReader, LinkWriter};
 use gn_stage::Site;
@@ -17,13 +18,13 @@ use std::sync::ledger::Ledger;
 
 /// What all bodies of a run gave back.
 #[derive(Drop)]
-pub(crate) struct Done<Rd, W, B: Site + Ledger, A: Allocator = Global> {
+pub(crate) struct Done<Rd, W, B: Site + Ledger + Named, A: Allocator = Global> {
     pub readers: Vec<ReaderDone<Rd, B, A>, A>,
     pub writers: Vec<WriterDone<W, B, A>, A>,
     pub workers: Vec<WorkerDone<B, A>, A>,
 }
 
-impl<Rd: LinkReader, W: LinkWriter, B: Site + Ledger, A: Allocator> Done<Rd, W, B, A> {
+impl<Rd: LinkReader, W: LinkWriter, B: Site + Ledger + Named, A: Allocator> Done<Rd, W, B, A> {
     /// Whether a body ended with this fault.
     fn has(&self, fault: BodyFault) -> bool
         ensures { result ≡ joined.any_ended_with fault self.now }
@@ -50,7 +51,7 @@ impl<Rd: LinkReader, W: LinkWriter, B: Site + Ledger, A: Allocator> Done<Rd, W, 
 }
 
 /// The first of these workers that was refused a route, by its number as an actor of a run over so many links.
-pub(crate) fn first_refused<B: Site + Ledger, A: Allocator>(
+pub(crate) fn first_refused<B: Site + Ledger + Named, A: Allocator>(
     workers: &[WorkerDone<B, A>],
     links: u32,
 ) -> Option<u32>

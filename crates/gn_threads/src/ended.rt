@@ -5,6 +5,7 @@ ghost use Rattle.std.specs.List.{list_any};
 ghost use Rattle.gn_bodies.specs.declared.ends.BodyFault.{BodyFault};
 ghost use Rattle.gn_threads.specs.Faults as faults;
 
+use gn_actors::Named;
 use gn_bodies::{BodyFault, ReaderDone, WorkerDone, WriterDone};
 use gn_links::{LinkReader, LinkWriter};
 use gn_stage::Site;
@@ -32,7 +33,7 @@ pub(crate) trait Body: Drop {
         ensures { result ≡ ended_with fault self.now };
 }
 
-impl<Rd: LinkReader, B: Site + Ledger, A: Allocator> Body for ReaderDone<Rd, B, A> {
+impl<Rd: LinkReader, B: Site + Ledger + Named, A: Allocator> Body for ReaderDone<Rd, B, A> {
     ghost use Rattle.gn_threads.specs.Faults.{is_ended_with};
 
     ghost ended_with = { λ fault done. is_ended_with fault done.end };
@@ -42,7 +43,7 @@ impl<Rd: LinkReader, B: Site + Ledger, A: Allocator> Body for ReaderDone<Rd, B, 
     }
 }
 
-impl<W: LinkWriter, L: Ledger, A: Allocator> Body for WriterDone<W, L, A> {
+impl<W: LinkWriter, L: Ledger + Named, A: Allocator> Body for WriterDone<W, L, A> {
     ghost use Rattle.gn_threads.specs.Faults.{is_ended_with};
 
     ghost ended_with = { λ fault done. is_ended_with fault done.end };
@@ -52,7 +53,7 @@ impl<W: LinkWriter, L: Ledger, A: Allocator> Body for WriterDone<W, L, A> {
     }
 }
 
-impl<B: Site + Ledger, A: Allocator> Body for WorkerDone<B, A> {
+impl<B: Site + Ledger + Named, A: Allocator> Body for WorkerDone<B, A> {
     ghost use Rattle.gn_threads.specs.Faults.{is_ended_with};
 
     ghost ended_with = { λ fault done. is_ended_with fault done.end };

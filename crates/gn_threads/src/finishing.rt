@@ -18,7 +18,8 @@ use crate::done::{Done, first_refused};
 use crate::fault::RunFault;
 use crate::house::route_left;
 use crate::limits::Limited;
-use crate::reported::{ReaderResult, Worked, report_links, report_workers, send_home};
+use crate::reported::{ReaderResult, report_bodies, send_home, send_workers_home};
+use gn_actors::Named;
 use gn_bodies::{BodyFault, WriterDone};
 use gn_hub::{Actor, Hub};
 use gn_links::{LinkReader, LinkWriter};
@@ -34,7 +35,7 @@ use std::sync::ledger::Ledger;
 /// memory ran out, what stands of the history is kept.
 #[tactic(auto, using(crate::proofs::CourseLemmas::begun_self, crate::proofs::CourseLemmas::begun_some))]
 pub(crate) fn finish<
-    B: Site + Ledger + Limited,
+    B: Site + Ledger + Limited + Named,
     C: Historian<A> + Drop,
     Rd: LinkReader,
     W: LinkWriter,
@@ -82,12 +83,12 @@ pub(crate) fn finish<
         keep_history(config, RunFault::NoMemory, hub, history);
         return Err(RunFault::NoMemory);
     };
-    let Ok(made) = report_workers(alloc, workers) else {
+    let Ok(made) = send_workers_home(alloc, workers) else {
         keep_history(config, RunFault::NoMemory, hub, history);
         return Err(RunFault::NoMemory);
     };
     let (readers, intakes) = sent;
-    let (worked, outlets) = made;
+    let (workers, outlets) = made;
     let idle = match settle(
         rt, alloc, &mut hub, &mut house, desk, intakes, outlets, number,
     ) {
@@ -105,7 +106,7 @@ pub(crate) fn finish<
         house,
         readers,
         writers,
-        worked,
+        workers,
         least(worker, idle),
         history,
     )
@@ -114,7 +115,7 @@ pub(crate) fn finish<
 /// Settles the stage, and routes as the house, which is this actor, what it had left. The house's number, where it was refused
 /// a route.
 #[tactic(auto, using(crate::proofs::CourseLemmas::begun_self))]
-fn settle<B: Site + Ledger, C: RouterCore<A>, A: Allocator + Copy, R: Wait>(
+fn settle<B: Site + Ledger + Named, C: RouterCore<A>, A: Allocator + Copy, R: Wait>(
     rt: &R,
     alloc: A,
     hub: &mut Hub<C, B, A>,
@@ -143,7 +144,7 @@ fn settle<B: Site + Ledger, C: RouterCore<A>, A: Allocator + Copy, R: Wait>(
 ///
 /// A reader that was refused one has no end that could be reported, so it is named here, whatever else isn't confirmed.
 fn assemble<
-    B: Ledger + Limited,
+    B: Ledger + Limited + Named,
     C: Historian<A> + Drop,
     Rd: LinkReader,
     W: LinkWriter,
@@ -152,25 +153,25 @@ fn assemble<
     alloc: A,
     config: &Config,
     roles: &[Role],
-    hub: Hub<C, B, A>,
+    mut hub: Hub<C, B, A>,
     house: Actor<B, A>,
     readers: Vec<ReaderResult<Rd, B, A>, A>,
     writers: Vec<WriterDone<W, B, A>, A>,
-    worked: Worked<B, A>,
+    workers: Vec<Actor<B, A>, A>,
     unconfirmed: Option<u32>,
     history: &mut Option<Vec<Step<A>, A>>,
 ) -> Result<Report<Rd, W, A>, RunFault>
     requires none { history.old ≡ None }
     requires counted { AreCounted B.parts (length roles.now) (vec_len readers) (vec_len writers)
-        (vec_len worked.receipts) }
+        (vec_len workers) }
     requires ends { KeepEnds (most_reads config.now.numbers.steps) B.batch roles.now
         (map (λ d. halved Rd.state (reader_result d)) readers.items)
         (map (λ d. halved W.state (writer_ended d)) writers.items) }
     requires unconfirmed { IfSome unconfirmed
-        (λ a. a < length roles.now + length roles.now + vec_len worked.receipts + 1) }
-    ensures fault { IfErr result (λ fault. IsFaultOf (length roles.now) (vec_len worked.receipts) fault) }
+        (λ a. a < length roles.now + length roles.now + vec_len workers + 1) }
+    ensures fault { IfErr result (λ fault. IsFaultOf (length roles.now) (vec_len workers) fault) }
     ensures holds { IfOk result (λ report.
-        Holds B.batch Rd.state W.state config.now roles.now (vec_len worked.receipts) report) }
+        Holds B.batch Rd.state W.state config.now roles.now (vec_len workers) report) }
     ensures bodies { IfOk result (λ report.
         HasBodies (map reader_result readers.items) (map writer_ended writers.items) report) }
     ensures clean { IfOk result (λ _. unconfirmed ≡ None) }
@@ -180,13 +181,13 @@ fn assemble<
     ensures full { IfErr result (λ fault. fault ≡ HistoryFull
         → IfSome history.new (λ steps. length steps.items ≡ config.now.numbers.steps)) }
 {
-    let linked = match report_links(alloc, readers, writers) {
-        Ok(linked) => linked,
+    let reported = match report_bodies(alloc, &mut hub, readers, writers, workers, house) {
+        Ok(reported) => reported,
         Err(RunFault::NoMemory) => {
             keep_history(config, RunFault::NoMemory, hub, history);
             return Err(RunFault::NoMemory);
         }
         Err(fault) => return Err(fault),
     };
-    report(config, roles, hub, linked, worked, house, unconfirmed)
+    report(config, roles, hub, reported, unconfirmed)
 }

@@ -4,6 +4,7 @@ ghost use Rattle.std.specs.Prelude.{◌∷◌, [], OnOk};
 ghost use Rattle.gn_threads.specs.Courses.{IsBegunBy};
 ghost use Rattle.gn_threads.specs.House.{HasRouted};
 
+use gn_actors::Named;
 use gn_bodies::BodyFault;
 use gn_hub::{Actor, Hub};
 use gn_payload::Checked;
@@ -13,7 +14,7 @@ use std::alloc::Allocator;
 use std::sync::ledger::Ledger;
 
 /// Routes a job, as the house.
-fn route_left_job<C: RouterCore<A>, L: Ledger, A: Allocator + Copy>(
+fn route_left_job<C: RouterCore<A>, L: Ledger + Named, A: Allocator + Copy>(
     hub: &mut Hub<C, L, A>,
     me: &mut Actor<L, A>,
     job: Job<A>,
@@ -26,7 +27,10 @@ fn route_left_job<C: RouterCore<A>, L: Ledger, A: Allocator + Copy>(
     let answer = hub.route(me, ticket, &checked);
     drop(checked);
     match answer {
-        Ok(()) => Ok(()),
+        Ok(receipt) => {
+            drop(receipt);
+            Ok(())
+        }
         Err(refusal) => Err(BodyFault::from(refusal)),
     }
 }
@@ -34,7 +38,7 @@ fn route_left_job<C: RouterCore<A>, L: Ledger, A: Allocator + Copy>(
 /// Routes each of these jobs, in order. A job that is refused its route makes no step; the house goes on with the next one,
 /// and ends as Refused.
 #[tactic(auto, using(crate::proofs::CourseLemmas::begun_self, crate::proofs::CourseLemmas::begun_then))]
-pub(crate) fn route_left<C: RouterCore<A>, L: Ledger, A: Allocator + Copy>(
+pub(crate) fn route_left<C: RouterCore<A>, L: Ledger + Named, A: Allocator + Copy>(
     hub: &mut Hub<C, L, A>,
     me: &mut Actor<L, A>,
     jobs: Vec<Job<A>, A>,

@@ -12,6 +12,7 @@ use crate::ended::{Body, any_ended_with};
 use crate::fault::RunFault;
 use crate::limits::Limited;
 use crate::start::{ReaderHandle, WorkerHandle, WriterHandle};
+use gn_actors::Named;
 use gn_bodies::BodyFault;
 use gn_hub::Service;
 use gn_links::{LinkReader, LinkWriter};
@@ -81,7 +82,7 @@ fn join_each<T: Body, P: Promise<T>, A: Allocator + Copy, R: Threads>(
 pub(crate) struct Handles<
     Rd: LinkReader,
     W: LinkWriter,
-    B: Site + Ledger + Limited,
+    B: Site + Ledger + Limited + Named,
     A: Allocator = Global,
 > {
     pub readers: Vec<ReaderHandle<Rd, B, A>, A>,
@@ -89,12 +90,12 @@ pub(crate) struct Handles<
     pub workers: Vec<WorkerHandle<B, A>, A>,
 }
 
-impl<Rd: LinkReader, W: LinkWriter, B: Site + Ledger + Limited, A: Allocator + Copy> Handles<
-    Rd,
-    W,
-    B,
-    A,
-> {
+impl<
+    Rd: LinkReader,
+    W: LinkWriter,
+    B: Site + Ledger + Limited + Named,
+    A: Allocator + Copy,
+> Handles<Rd, W, B, A> {
     /// No threads.
     pub(crate) fn new(alloc: A) -> Self
         ensures { (result.readers.items ≡ []) × (result.writers.items ≡ []) × (result.workers.items ≡ []) }

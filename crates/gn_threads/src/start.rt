@@ -8,6 +8,7 @@ ghost use Rattle.gn_bodies.specs.Events.{link_events};
 
 use crate::actors::UnstartedActors;
 use crate::limits::{Limited, Limits};
+use gn_actors::Named;
 use gn_bodies::{ReaderDone, WorkerDone, WriterDone, reader_body, worker_body, writer_body};
 use gn_hub::{Actor, Service};
 use gn_links::{Gate, LinkReader, LinkWriter};
@@ -22,7 +23,7 @@ use std::thread::{Promise, PromisedHandle, Scope, Threads};
 
 /// What the body of a reader starts from.
 #[derive(Drop)]
-pub(crate) struct ReaderStart<Rd: LinkReader, B: Site + Ledger, A: Allocator = Global> {
+pub(crate) struct ReaderStart<Rd: LinkReader, B: Site + Ledger + Named, A: Allocator = Global> {
     pub actor: Actor<B, A>,
     pub link: u32,
     pub role: Role,
@@ -35,7 +36,7 @@ pub(crate) struct ReaderStart<Rd: LinkReader, B: Site + Ledger, A: Allocator = G
 
 /// What the body of a writer starts from.
 #[derive(Drop)]
-pub(crate) struct WriterStart<W: LinkWriter, L: Ledger, A: Allocator = Global> {
+pub(crate) struct WriterStart<W: LinkWriter, L: Ledger + Named, A: Allocator = Global> {
     pub actor: Actor<L, A>,
     pub link: u32,
     pub role: Role,
@@ -46,7 +47,7 @@ pub(crate) struct WriterStart<W: LinkWriter, L: Ledger, A: Allocator = Global> {
 
 /// What the body of a worker starts from.
 #[derive(Drop)]
-pub(crate) struct WorkerStart<B: Site + Ledger, A: Allocator = Global> {
+pub(crate) struct WorkerStart<B: Site + Ledger + Named, A: Allocator = Global> {
     pub actor: Actor<B, A>,
     pub worker: u32,
     pub outlet: Outlet<B, A>,
@@ -55,11 +56,11 @@ pub(crate) struct WorkerStart<B: Site + Ledger, A: Allocator = Global> {
 
 /// The promise of a reader's thread: what its body keeps, from this start.
 #[derive(Drop)]
-pub(crate) struct Reads<Rd: LinkReader, B: Site + Ledger, A: Allocator = Global> {
+pub(crate) struct Reads<Rd: LinkReader, B: Site + Ledger + Named, A: Allocator = Global> {
     pub start: Snapshot<ReaderStart<Rd, B, A>>,
 }
 
-impl<Rd: LinkReader, B: Site + Ledger + Limited, A: Allocator> Promise<ReaderDone<Rd, B, A>>
+impl<Rd: LinkReader, B: Site + Ledger + Limited + Named, A: Allocator> Promise<ReaderDone<Rd, B, A>>
     for Reads<Rd, B, A> {
     ghost use Rattle.gn_bodies.specs.Done.{IsReaderDone, half_of, reader_ended};
 
@@ -69,11 +70,11 @@ impl<Rd: LinkReader, B: Site + Ledger + Limited, A: Allocator> Promise<ReaderDon
 
 /// The promise of a writer's thread: what its body keeps, from this start.
 #[derive(Drop)]
-pub(crate) struct Writes<W: LinkWriter, B: Ledger, A: Allocator = Global> {
+pub(crate) struct Writes<W: LinkWriter, B: Ledger + Named, A: Allocator = Global> {
     pub start: Snapshot<WriterStart<W, B, A>>,
 }
 
-impl<W: LinkWriter, B: Ledger + Limited, A: Allocator> Promise<WriterDone<W, B, A>>
+impl<W: LinkWriter, B: Ledger + Limited + Named, A: Allocator> Promise<WriterDone<W, B, A>>
     for Writes<W, B, A> {
     ghost use Rattle.gn_bodies.specs.Done.{IsWriterDone, half_of, writer_ended};
 
@@ -85,7 +86,7 @@ impl<W: LinkWriter, B: Ledger + Limited, A: Allocator> Promise<WriterDone<W, B, 
 #[derive(Clone, Copy)]
 pub(crate) struct Works;
 
-impl<B: Site + Ledger, A: Allocator> Promise<WorkerDone<B, A>> for Works {
+impl<B: Site + Ledger + Named, A: Allocator> Promise<WorkerDone<B, A>> for Works {
     ghost use Rattle.std.specs.Prelude.{◌≡◌, []};
     ghost use Rattle.gn_bodies.specs.Events.{link_events};
 
@@ -104,7 +105,7 @@ pub(crate) type WorkerHandle<B, A> = PromisedHandle<WorkerDone<B, A>, Works>;
 /// The body of a reader, from its start.
 fn run_reader<
     Rd: LinkReader,
-    B: Site + Ledger + Limited,
+    B: Site + Ledger + Limited + Named,
     C: RouterCore<A> + Drop,
     G: Gate,
     A: Allocator + Copy,
@@ -144,7 +145,7 @@ fn run_reader<
 /// The body of a writer, from its start.
 fn run_writer<
     W: LinkWriter,
-    B: Ledger + Limited,
+    B: Ledger + Limited + Named,
     C: RouterCore<A> + Drop,
     G: Gate,
     A: Allocator + Copy,
@@ -179,12 +180,13 @@ fn run_writer<
 }
 
 /// The body of a worker, from its start.
-fn run_worker<B: Site + Ledger, C: RouterCore<A> + Drop, G: Gate, A: Allocator + Copy, R: Wait>(
-    rt: &R,
-    service: &Service<C, B, A>,
-    gate: &G,
-    start: WorkerStart<B, A>,
-) -> WorkerDone<B, A>
+fn run_worker<
+    B: Site + Ledger + Named,
+    C: RouterCore<A> + Drop,
+    G: Gate,
+    A: Allocator + Copy,
+    R: Wait,
+>(rt: &R, service: &Service<C, B, A>, gate: &G, start: WorkerStart<B, A>) -> WorkerDone<B, A>
     ensures { link_events result.actor ≡ [] }
 {
     let WorkerStart {
@@ -228,7 +230,7 @@ pub(crate) struct Starter<
     's,
     E,
     C: RouterCore<A> + Drop,
-    B: Ledger + Limited,
+    B: Ledger + Limited + Named,
     G,
     A: Allocator + Copy,
     R,
@@ -245,7 +247,7 @@ impl<
     's,
     E: 's,
     C: RouterCore<A> + Drop + Send + 's,
-    B: Site + Ledger + Limited + Send + Sync + 's,
+    B: Site + Ledger + Limited + Named + Send + Sync + 's,
     G: Gate + Sync + 's,
     A: Allocator + Copy + Send + Sync + 's,
     R: Threads + Wait + Sync + 's,

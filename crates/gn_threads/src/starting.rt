@@ -13,6 +13,7 @@ use crate::joins::Handles;
 use crate::limits::{Limited, Limits};
 use crate::start::{ReaderStart, Starter, WriterStart};
 use crate::unstarted::{Unstarted, UnstartedLink, UnstartedLinks};
+use gn_actors::Named;
 use gn_hub::Service;
 use gn_links::{Gate, LinkReader, LinkWriter};
 use gn_rules::RouterCore;
@@ -28,7 +29,7 @@ impl<
     's,
     E: 's,
     C: RouterCore<A> + Drop + Send + 's,
-    B: Site + Ledger + Limited + Send + Sync + 's,
+    B: Site + Ledger + Limited + Named + Send + Sync + 's,
     G: Gate + Sync + 's,
     A: Allocator + Copy + Send + Sync + 's,
     R: Threads + Wait + Sync + 's,
@@ -244,7 +245,7 @@ fn first(fault: RunFault, found: RunFault) -> RunFault
 pub(crate) fn start_and_join<
     'r,
     V: Arrivals,
-    B: Site + Ledger + Limited + Send + Sync,
+    B: Site + Ledger + Limited + Named + Send + Sync,
     C: RouterCore<A> + Drop + Send,
     G: Gate + Sync,
     A: Allocator + Copy + Send + Sync,

@@ -7,6 +7,7 @@ ghost use Rattle.gn_hub.specs.ActorState.{AreNew};
 
 use crate::actors::UnstartedActors;
 use crate::start::{ReaderStart, WriterStart};
+use gn_actors::Named;
 use gn_hub::Actor;
 use gn_links::{LinkReader, LinkWriter};
 use gn_shake::Role;
@@ -18,7 +19,7 @@ use std::vec::IntoIter;
 
 /// What the two bodies of a link start from, but for its halves.
 #[derive(Drop)]
-pub(crate) struct UnstartedLink<B: Site + Ledger, A: Allocator = Global> {
+pub(crate) struct UnstartedLink<B: Site + Ledger + Named, A: Allocator = Global> {
     pub reading: Actor<B, A>,
     pub writing: Actor<B, A>,
     pub link: u32,
@@ -28,7 +29,7 @@ pub(crate) struct UnstartedLink<B: Site + Ledger, A: Allocator = Global> {
     pub ghost none: { (reading.receipts ≡ []) × (writing.receipts ≡ []) },
 }
 
-impl<B: Site + Ledger, A: Allocator> UnstartedLink<B, A> {
+impl<B: Site + Ledger + Named, A: Allocator> UnstartedLink<B, A> {
     /// What they start from, with the halves.
     pub(crate) fn with<Rd: LinkReader, W: LinkWriter>(
         self,
@@ -65,13 +66,13 @@ impl<B: Site + Ledger, A: Allocator> UnstartedLink<B, A> {
 
 /// What the bodies of the links start from that haven't come yet, in the order of the links.
 #[derive(Drop)]
-pub(crate) struct UnstartedLinks<B: Site + Ledger, A: Allocator = Global> {
+pub(crate) struct UnstartedLinks<B: Site + Ledger + Named, A: Allocator = Global> {
     readers: UnstartedActors<B, A>,
     writers: UnstartedActors<B, A>,
     intakes: IntoIter<Intake<B, A>, A>,
 }
 
-impl<B: Site + Ledger, A: Allocator> Model for UnstartedLinks<B, A> {
+impl<B: Site + Ledger + Named, A: Allocator> Model for UnstartedLinks<B, A> {
     ghost use Rattle.std.specs.Prelude.{◌≡◌};
     ghost use Rattle.std.specs.Vec.Iter.{into_iter_len};
     ghost use Rattle.gn_threads.specs.Actors.{Turn};
@@ -83,7 +84,7 @@ impl<B: Site + Ledger, A: Allocator> Model for UnstartedLinks<B, A> {
     ghost invariant = { λ w. (w.writers.left ≡ w.readers.left) × (into_iter_len w.intakes ≡ w.readers.left) };
 }
 
-impl<B: Site + Ledger, A: Allocator> UnstartedLinks<B, A> {
+impl<B: Site + Ledger + Named, A: Allocator> UnstartedLinks<B, A> {
     /// What those of the next link start from, which shall begin in this role.
     pub(crate) fn next(&mut self, role: Role) -> UnstartedLink<B, A>
         requires { 0 < self.old.left }
@@ -108,7 +109,7 @@ impl<B: Site + Ledger, A: Allocator> UnstartedLinks<B, A> {
 
 /// What the bodies of a run start from before its links have come.
 #[derive(Drop)]
-pub(crate) struct Unstarted<'r, B: Site + Ledger, A: Allocator = Global> {
+pub(crate) struct Unstarted<'r, B: Site + Ledger + Named, A: Allocator = Global> {
     /// The roles in which the links shall begin.
     pub roles: &'r [Role],
     pub links: UnstartedLinks<B, A>,
@@ -121,7 +122,7 @@ pub(crate) struct Unstarted<'r, B: Site + Ledger, A: Allocator = Global> {
 
 /// What the bodies of a run start from that has these roles, these actors and these ends of its stage; and the house, which
 /// is the last actor.
-pub(crate) fn unstarted_of<'r, B: Site + Ledger, A: Allocator + Copy>(
+pub(crate) fn unstarted_of<'r, B: Site + Ledger + Named, A: Allocator + Copy>(
     roles: &'r [Role],
     actors: Vec<Actor<B, A>, A>,
     intakes: Vec<Intake<B, A>, A>,

@@ -1,5 +1,7 @@
 -- The definitions of the router under its lock.
 
+pub use Rattle.gn_actors.specs.Annals
+pub use Rattle.gn_actors.specs.Home
 pub use Rattle.gn_hub.specs.ActorState
 pub use Rattle.gn_hub.specs.Calls
 pub use Rattle.gn_hub.specs.HubState

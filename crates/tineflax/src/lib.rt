@@ -70,7 +70,7 @@ pub mod router {
     pub use gn_decide::Places;
     pub use gn_router::{Router, Store, Unfreed};
     pub use gn_search::PlainRouter;
-    pub use gn_table_router::{Exchange, TableRouter};
+    pub use gn_table_router::{Configuring, Exchange, TableRouter};
     pub use gn_tables::{Forgetful, Keeper, Whole};
     pub use gn_witness::legal;
 }
@@ -91,6 +91,7 @@ pub mod stage {
 
 /// The router under its lock, and the actors that call it.
 pub mod hub {
+    pub use gn_actors::{Beginning, Growing, Home, Lists, Named, Unnamed, Unopened};
     pub use gn_hub::{
         Actor, Batch, Door, FoundClosed, Frame, Hub, Mark, Next, Outgoing, Service, ServiceFault,
     };
@@ -119,6 +120,7 @@ pub mod bodies {
 
 /// Runs of many threads, and their reports.
 pub mod run {
+    pub use gn_receipts::receipts_by_actor;
     pub use gn_report::{LinkReport, Report};
     pub use gn_service::{Ran, Serving, Stop, serve_by, serve_kept, serve_on};
     pub use gn_threads::{

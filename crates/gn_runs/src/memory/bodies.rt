@@ -42,12 +42,12 @@ fn are_done(ends: Ends, written: &[u8]) -> bool {
 }
 
 /// Where a growth was refused, it stopped a body, and with it the run; alone, it stopped no other. The history has as many steps
-/// as they have receipts; that it is legal is proved.
+/// as the gate knows of; that it is legal is proved.
 fn turn_of<A: Allocator, B: Allocator + Copy>(
     ran: &Ran<MemoryWriter<B>, A>,
     refused: Refused,
 ) -> Turn {
-    if ran.history.len() != ran.receipts {
+    if ran.history.len() != ran.steps {
         return Turn::Wrong;
     }
     if !ran.has_refused {
@@ -84,10 +84,10 @@ impl<'a, A: Allocator + Copy, B: Allocator + Copy, R: Wait> Turns<A> for Bodies<
     }
 }
 
-/// The reader connects, which takes three, cuts the Ping out of its piece, three, and admits it, eight. The worker's route
-/// takes ten, as at the router alone, and one for its first receipts. The writer has first receipts too, encodes the Pong,
-/// which takes one, and its Close is the fifth step of the history.
-const GROWTHS: u64 = 14 + 11 + 3;
+/// The reader connects, which takes two, cuts the Ping out of its piece, three, and admits it, eight. The worker's route
+/// takes ten, as at the router alone. The writer makes room for the receipts of a batch, encodes the Pong, which takes one,
+/// and its Close is the fifth step of the history.
+const GROWTHS: u64 = 13 + 10 + 3;
 
 #[test]
 fn bodies_of_one_link(rt: HostRuntime) -> Result<(), Fail> {

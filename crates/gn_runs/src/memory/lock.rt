@@ -3,17 +3,18 @@
 ghost use Rattle.std.specs.Prelude.{◌≡◌};
 
 use crate::threads::hub::service_of;
+use gn_actors::{Named, Unopened};
 use gn_capture::read_history;
 use gn_fixtures::{Heap, Refused, Turn, Turns, are_same, growths, ping};
 use gn_hub::{Actor, Batch, Hub, Next, Outgoing, Role, Service, ServiceFault};
 use gn_payload::Checked;
-use gn_rules::{Event, Historian, Refusal};
+use gn_rules::{Event, Historian, Receipt, Refusal};
 use gn_search::PlainRouter;
 use gn_table_router::TableRouter;
 use std::alloc::{Allocator, Global};
 use std::marker::{Brand, PhantomData};
 use std::sync::Wait;
-use std::sync::ledger::{Blank, Ledger};
+use std::sync::ledger::Ledger;
 use std::test::Fail;
 
 /// A call of the run.
@@ -49,79 +50,87 @@ own eeeeeeeeeeeeeeeeeeeeeeeeeeeeeeee 127.0.0.1 6346 5 40\n\
 3 take 2 = taken a1a1a1a1a1a1a1a1a1a1a1a1a1a1a1a100060100000000\n\
 end\n";
 
-/// Where the calls are made: on what lies under the lock, or on the lock.
-trait Place<L: Ledger, A: Allocator + Copy> {
+/// Where the calls are made: on what lies under the lock, or on the lock. Each answers the receipt of its step.
+trait Place<L: Ledger + Named, A: Allocator + Copy> {
     /// Makes the step of an event.
-    fn call(&mut self, me: &mut Actor<L, A>, event: &Event<A>) -> Result<(), Refusal>;
+    fn call(&mut self, me: &mut Actor<L, A>, event: &Event<A>) -> Result<Receipt<A>, Refusal>;
 
     /// Routes ticket 0, whose descriptor was checked.
-    fn route(&mut self, me: &mut Actor<L, A>, checked: &Checked<A>) -> Result<(), Refusal>;
+    fn route(&mut self, me: &mut Actor<L, A>, checked: &Checked<A>) -> Result<Receipt<A>, Refusal>;
 
     /// Connects the actor's own link.
-    fn connect(&mut self, me: &mut Actor<L, A>) -> Result<(), Refusal>;
+    fn connect(&mut self, me: &mut Actor<L, A>) -> Result<Receipt<A>, Refusal>;
 
-    /// Takes a packet of the second connection. `NothingWaiting` where there is none.
-    fn take(&mut self, me: &mut Actor<L, A>) -> Result<(), Refusal>;
+    /// Takes a packet of the second connection. Nothing is put to those that are kept where there is none.
+    fn take(&mut self, me: &mut Actor<L, A>, kept: &mut Vec<Receipt<A>, A>) -> Result<(), Refusal>;
 }
 
-impl<A: Allocator + Copy, C: Historian<A>, L: Ledger> Place<L, A> for Hub<C, L, A> {
-    fn call(&mut self, me: &mut Actor<L, A>, event: &Event<A>) -> Result<(), Refusal> {
+impl<A: Allocator + Copy, C: Historian<A>, L: Ledger + Named> Place<L, A> for Hub<C, L, A> {
+    fn call(&mut self, me: &mut Actor<L, A>, event: &Event<A>) -> Result<Receipt<A>, Refusal> {
         Hub::call(self, me, event)
     }
 
-    fn route(&mut self, me: &mut Actor<L, A>, checked: &Checked<A>) -> Result<(), Refusal> {
+    fn route(&mut self, me: &mut Actor<L, A>, checked: &Checked<A>) -> Result<Receipt<A>, Refusal> {
         Hub::route(self, me, 0, checked)
     }
 
-    fn connect(&mut self, me: &mut Actor<L, A>) -> Result<(), Refusal> {
+    fn connect(&mut self, me: &mut Actor<L, A>) -> Result<Receipt<A>, Refusal> {
         let link = me.number();
         Hub::connect(self, me, link)
     }
 
-    fn take(&mut self, me: &mut Actor<L, A>) -> Result<(), Refusal> {
-        match self.next_out(me, 2)? {
-            Next::Packet => Ok(()),
-            Next::Later | Next::Over => Err(Refusal::NothingWaiting),
-        }
+    fn take(&mut self, me: &mut Actor<L, A>, kept: &mut Vec<Receipt<A>, A>) -> Result<(), Refusal> {
+        let _ = self.next_out(me, 2, kept)?;
+        Ok(())
     }
 }
 
 /// The lock, and the runtime by which it is waited for.
 #[derive(Drop)]
-struct Locked<'r, 's, R, C: Historian<A> + Drop, L: Ledger, A: Allocator + Copy> {
+struct Locked<'r, 's, R, C: Historian<A> + Drop, L: Ledger + Named, A: Allocator + Copy> {
     rt: &'r R,
     service: &'s Service<C, L, A>,
 }
 
-impl<'r, 's, A: Allocator + Copy, C: Historian<A> + Drop, L: Ledger, R: Wait> Place<L, A>
+impl<'r, 's, A: Allocator + Copy, C: Historian<A> + Drop, L: Ledger + Named, R: Wait> Place<L, A>
     for Locked<'r, 's, R, C, L, A> {
-    fn call(&mut self, me: &mut Actor<L, A>, event: &Event<A>) -> Result<(), Refusal> {
+    fn call(&mut self, me: &mut Actor<L, A>, event: &Event<A>) -> Result<Receipt<A>, Refusal> {
         self.service.call(self.rt, me, event)
     }
 
-    fn route(&mut self, me: &mut Actor<L, A>, checked: &Checked<A>) -> Result<(), Refusal> {
+    fn route(&mut self, me: &mut Actor<L, A>, checked: &Checked<A>) -> Result<Receipt<A>, Refusal> {
         self.service.route(self.rt, me, 0, checked)
     }
 
-    fn connect(&mut self, me: &mut Actor<L, A>) -> Result<(), Refusal> {
+    fn connect(&mut self, me: &mut Actor<L, A>) -> Result<Receipt<A>, Refusal> {
         let link = me.number();
         self.service.connect(self.rt, me, link)
     }
 
-    fn take(&mut self, me: &mut Actor<L, A>) -> Result<(), Refusal> {
-        match self.service.next_batch(self.rt, me, 2, Batch::one())? {
-            Outgoing::Packet => Ok(()),
-            Outgoing::Drained | Outgoing::Closed => Err(Refusal::NothingWaiting),
-        }
+    fn take(&mut self, me: &mut Actor<L, A>, kept: &mut Vec<Receipt<A>, A>) -> Result<(), Refusal> {
+        let _ = self.service.next_batch(self.rt, me, 2, Batch::one(), kept)?;
+        Ok(())
     }
 }
 
-/// Makes the call of this number. `NotLive` where there is no such actor.
-fn make<A: Allocator + Copy, L: Ledger, P: Place<L, A>>(
+/// Takes a packet: its receipt. `NothingWaiting` where there is none.
+fn take<A: Allocator + Copy, L: Ledger + Named, P: Place<L, A>>(
     place: &mut P,
+    alloc: A,
+    me: &mut Actor<L, A>,
+) -> Result<Receipt<A>, Refusal> {
+    let mut kept = Vec::new(alloc);
+    place.take(me, &mut kept)?;
+    kept.pop().ok_or(Refusal::NothingWaiting)
+}
+
+/// Makes the call of this number: its receipt. `NotLive` where there is no such actor.
+fn receipt_of<A: Allocator + Copy, L: Ledger + Named, P: Place<L, A>>(
+    place: &mut P,
+    alloc: A,
     actors: &mut [Actor<L, A>],
     number: usize,
-) -> Result<(), Refusal> {
+) -> Result<Receipt<A>, Refusal> {
     let (who, made) = CALLS[number.min(4)];
     let (Some(me), Ok(first)) = (actors.get_mut(who), ping(0xa1, 7, 0)) else {
         return Err(Refusal::NotLive);
@@ -130,117 +139,138 @@ fn make<A: Allocator + Copy, L: Ledger, P: Place<L, A>>(
         Made::Connects => place.connect(me),
         Made::Admits => place.call(me, &Event::Admit(1, first)),
         Made::Routes => place.route(me, &Checked::new(first)),
-        Made::Takes => place.take(me),
+        Made::Takes => take(place, alloc, me),
+    }
+}
+
+/// Makes the call of this number, whose step has the same number. `Strange` where its receipt says another.
+fn make<A: Allocator + Copy, L: Ledger + Named, P: Place<L, A>>(
+    place: &mut P,
+    alloc: A,
+    actors: &mut [Actor<L, A>],
+    number: usize,
+) -> Result<(), Refusal> {
+    let receipt = receipt_of(place, alloc, actors, number)?;
+    if receipt.index as usize == number {
+        Ok(())
+    } else {
+        Err(Refusal::Strange)
     }
 }
 
 /// Makes the calls of these numbers: whether each is answered.
-fn are_made<A: Allocator + Copy, L: Ledger, P: Place<L, A>>(
+fn are_made<A: Allocator + Copy, L: Ledger + Named, P: Place<L, A>>(
     place: &mut P,
+    alloc: A,
     actors: &mut [Actor<L, A>],
     from: usize,
     to: usize,
 ) -> bool {
     for number in from..to {
-        if make(place, actors, number).is_err() {
+        if make(place, alloc, actors, number).is_err() {
             return false;
         }
     }
     true
 }
 
-/// How many receipts all actors have.
-fn receipts_of<A: Allocator, L: Ledger>(actors: &[Actor<L, A>]) -> usize {
-    let mut receipts = 0usize;
-    for me in actors {
-        receipts = receipts.wrapping_add(me.receipts().len());
-    }
-    receipts
-}
-
-/// Makes all calls, where the one of this number meets the refusal and is made again.
-fn turn_at<A: Allocator + Copy, L: Ledger, P: Place<L, A>>(
+/// Makes all calls, where the one of this number meets the refusal and is made again: no step was made where it was refused.
+fn turn_at<A: Allocator + Copy, L: Ledger + Named, P: Place<L, A>>(
     heap: &Heap,
     place: &mut P,
+    alloc: A,
     actors: &mut [Actor<L, A>],
     number: usize,
     refused: Refused,
 ) -> Turn {
-    if !are_made(place, actors, 0, number) {
+    if !are_made(place, alloc, actors, 0, number) {
         return Turn::Wrong;
     }
     refused.begin(heap);
-    let answer = make(place, actors, number);
+    let answer = make(place, alloc, actors, number);
     let has_refused = heap.has_refused();
     heap.refuse_none();
     let turn = match answer {
         Ok(()) if !has_refused => Turn::Answered,
-        Err(Refusal::NoMemory) if has_refused && receipts_of(actors) == number => {
-            match make(place, actors, number) {
-                Ok(()) => Turn::Refused,
-                Err(_) => return Turn::Wrong,
-            }
-        }
+        Err(Refusal::NoMemory) if has_refused => match make(place, alloc, actors, number) {
+            Ok(()) => Turn::Refused,
+            Err(_) => return Turn::Wrong,
+        },
         _ => return Turn::Wrong,
     };
-    if are_made(place, actors, number.saturating_add(1), CALL_COUNT) {
+    if are_made(place, alloc, actors, number.saturating_add(1), CALL_COUNT) {
         turn
     } else {
         Turn::Wrong
     }
 }
 
-/// Whether the calls left their history, and so many receipts. That each is of a step of its actor's own is proved.
-fn is_whole<A: Allocator + Copy, C: Historian<A>, L: Ledger>(
+/// Whether the calls left their history. That each receipt is of a step of its actor's own is proved.
+fn is_whole<A: Allocator + Copy, C: Historian<A>, L: Ledger + Named>(
     alloc: A,
     hub: &Hub<C, L, A>,
-    receipts: usize,
 ) -> Result<bool, Fail> {
     let (_, steps) = read_history(alloc, HISTORY.as_bytes())?;
     let is_left = are_same(hub.router().history(), steps.as_slice());
-    Ok(is_left && receipts == steps.len() && hub.book() == 5)
+    Ok(is_left && hub.book() == 5)
 }
 
 /// The roles of both links.
 const ROLES: [Role; 2] = [Role::Plain, Role::Plain];
 
 /// Makes all calls at the lock.
-fn turn_locked<'r, 's, A: Allocator + Copy, C: Historian<A> + Drop, L: Ledger, R: Wait>(
+fn turn_locked<'r, 's, A: Allocator + Copy, C: Historian<A> + Drop, L: Ledger + Named, R: Wait>(
     rt: &'r R,
     heap: &Heap,
     service: &'s Service<C, L, A>,
+    alloc: A,
     actors: &mut [Actor<L, A>],
     number: usize,
     refused: Refused,
 ) -> Turn {
     let mut place = Locked { rt, service };
-    turn_at(heap, &mut place, actors, number, refused)
+    turn_at(heap, &mut place, alloc, actors, number, refused)
 }
 
 /// Makes all calls at the lock, or on what lies under it.
-fn turn_of<A: Allocator + Copy, C: Historian<A> + Drop, L: Ledger, R: Wait>(
+fn turn_of<A: Allocator + Copy, C: Historian<A> + Drop, L: Ledger + Named, R: Wait>(
     rt: &R,
     heap: &Heap,
     alloc: A,
-    blank: Blank,
+    unopened: Unopened<A>,
     call: (usize, bool),
     refused: Refused,
 ) -> Result<Turn, Fail>
-    requires name { blank.name ≡ L.name }
-    requires parts { (blank.parts ≡ L.parts) × (blank.parts ≡ 6) }
+    requires name { (unopened.blank.name ≡ L.name) × (unopened.steps.name ≡ L.growing) }
+    requires parts { (unopened.blank.parts ≡ L.parts) × (unopened.blank.parts ≡ 6) }
 {
     heap.refuse_none();
-    let (service, mut actors) = service_of::<A, C, L>(alloc, blank, 100, &ROLES)?;
+    let (service, mut actors) = service_of::<A, C, L>(alloc, unopened, 100, &ROLES)?;
     let (number, is_locked) = call;
     let (turn, hub) = if is_locked {
-        let turn = turn_locked(rt, heap, &service, actors.as_mut_slice(), number, refused);
+        let turn = turn_locked(
+            rt,
+            heap,
+            &service,
+            alloc,
+            actors.as_mut_slice(),
+            number,
+            refused,
+        );
         (turn, service.into_hub())
     } else {
         let mut hub = service.into_hub();
-        let turn = turn_at(heap, &mut hub, actors.as_mut_slice(), number, refused);
+        let turn = turn_at(
+            heap,
+            &mut hub,
+            alloc,
+            actors.as_mut_slice(),
+            number,
+            refused,
+        );
         (turn, hub)
     };
-    let is_whole = is_whole(alloc, &hub, receipts_of(actors.as_slice()))?;
+    let is_whole = is_whole(alloc, &hub)?;
     Ok(if is_whole { turn } else { Turn::Wrong })
 }
 
@@ -256,25 +286,25 @@ struct Calls<'a, R, C> {
 impl<'a, A: Allocator + Copy, C: Historian<A> + Drop, R: Wait> Turns<A> for Calls<'a, R, C> {
     fn turn(&self, heap: &Heap, alloc: A, refused: Refused) -> Result<Turn, Fail> {
         let call = (self.number, self.is_locked);
-        turn_of::<A, C, Brand, R>(self.rt, heap, alloc, Blank::new(6), call, refused)
+        turn_of::<A, C, Brand, R>(self.rt, heap, alloc, Unopened::new(6), call, refused)
     }
 }
 
 /// Makes a service: how many actors it has.
-fn actors_of<A: Allocator + Copy, C: Historian<A> + Drop, L: Ledger>(
+fn actors_of<A: Allocator + Copy, C: Historian<A> + Drop, L: Ledger + Named>(
     alloc: A,
-    blank: Blank,
+    unopened: Unopened<A>,
 ) -> Result<usize, ServiceFault>
-    requires name { blank.name ≡ L.name }
-    requires parts { (blank.parts ≡ L.parts) × (blank.parts ≡ 6) }
+    requires name { (unopened.blank.name ≡ L.name) × (unopened.steps.name ≡ L.growing) }
+    requires parts { (unopened.blank.parts ≡ L.parts) × (unopened.blank.parts ≡ 6) }
 {
-    let (_, actors) = service_of::<A, C, L>(alloc, blank, 100, &ROLES)?;
+    let (_, actors) = service_of::<A, C, L>(alloc, unopened, 100, &ROLES)?;
     Ok(actors.len())
 }
 
 /// How many actors a service has that is made.
 fn opened<A: Allocator + Copy, C: Historian<A> + Drop>(alloc: A) -> Result<usize, ServiceFault> {
-    actors_of::<A, C, Brand>(alloc, Blank::new(6))
+    actors_of::<A, C, Brand>(alloc, Unopened::new(6))
 }
 
 /// Makes a service.
@@ -324,11 +354,11 @@ fn all_growths<A: Allocator + Copy, C: Historian<A> + Drop, R: Wait>(
     Ok(all)
 }
 
-/// At the router with tables.
-const TABLE: [u64; 11] = [7, 3, 2, 8, 11, 2, 3, 2, 8, 11, 2];
+/// At the router with tables. No call keeps its receipt, but for a Take, which puts it to its caller's.
+const TABLE: [u64; 11] = [7, 2, 1, 8, 10, 2, 2, 1, 8, 10, 2];
 
 /// At the router that searches its history.
-const PLAIN: [u64; 11] = [3, 3, 1, 0, 6, 2, 3, 1, 0, 6, 2];
+const PLAIN: [u64; 11] = [3, 2, 0, 0, 5, 2, 2, 0, 0, 5, 2];
 
 /// Whether the calls meet these growths.
 fn meets_all<A: Allocator + Copy, C: Historian<A> + Drop, R: Wait>(

@@ -1,6 +1,7 @@
 //! The bodies of one link, called in turn on one thread.
 
 ghost use Rattle.std.specs.Prelude.{◌≡◌, [], IfSome};
+ghost use Rattle.std.specs.List.{All};
 ghost use Rattle.gn_links.specs.Halves.{IsNewReader, IsNewWriter};
 
 mod batches;
@@ -10,6 +11,7 @@ mod ways_out;
 mod worked;
 
 use fakes::{Doorman, Told};
+use gn_actors::{Named, Unopened};
 use gn_bodies::{
     BodyFault, ReaderEnd, WriterDone, WriterEnd, reader_body, worker_body, writer_body,
 };
@@ -23,20 +25,23 @@ use gn_table_router::TableRouter;
 use std::alloc::{Allocator, Global};
 use std::marker::Brand;
 use std::sync::Wait;
-use std::sync::ledger::{Blank, Ledger};
+use std::sync::ledger::Ledger;
 
 /// The number by which the worker passes the gate.
 const WORKER: u32 = 5;
 
-/// The last of these actors, where it has this number and no receipts.
-fn last_actor<A: Allocator + Copy, L: Ledger>(
+/// The last of these actors, which have no receipts, where it has this number.
+#[tactic(auto, using(crate::proofs::NewLemmas::left_none, crate::proofs::NewLemmas::last_none))]
+fn last_actor<A: Allocator + Copy, L: Ledger + Named>(
     actors: &mut Vec<Actor<L, A>, A>,
     number: u32,
 ) -> Option<Actor<L, A>>
-    ensures { IfSome result (λ actor. (actor.number ≡ number) × (actor.receipts ≡ [])) }
+    requires { All (λ actor. actor.receipts ≡ []) actors.old.items }
+    ensures rest { All (λ actor. actor.receipts ≡ []) actors.new.items }
+    ensures last { IfSome result (λ actor. (actor.number ≡ number) × (actor.receipts ≡ [])) }
 {
     let actor = actors.pop()?;
-    if actor.number() == number && actor.receipts().is_empty() {
+    if actor.number() == number {
         Some(actor)
     } else {
         drop(actor);
@@ -46,14 +51,17 @@ fn last_actor<A: Allocator + Copy, L: Ledger>(
 
 /// The actors of a run of one link and one worker.
 #[derive(Drop)]
-struct Actors<L: Ledger, A: Allocator> {
+struct Actors<L: Ledger + Named, A: Allocator> {
     reader: Actor<L, A>,
     writer: Actor<L, A>,
     worker: Actor<L, A>,
 }
 
-/// The reader, the writer and the worker, where they have these numbers and no receipts.
-fn actors_of<A: Allocator + Copy, L: Ledger>(actors: Vec<Actor<L, A>, A>) -> Option<Actors<L, A>>
+/// The reader, the writer and the worker, which have no receipts, where they have these numbers.
+fn actors_of<A: Allocator + Copy, L: Ledger + Named>(
+    actors: Vec<Actor<L, A>, A>,
+) -> Option<Actors<L, A>>
+    requires { All (λ actor. actor.receipts ≡ []) actors.items }
     ensures reader { IfSome result (λ all. (all.reader.number ≡ 0) × (all.reader.receipts ≡ [])) }
     ensures writer { IfSome result (λ all. (all.writer.number ≡ 1) × (all.writer.receipts ≡ [])) }
     ensures worker { IfSome result (λ all. (all.worker.number ≡ 2) × (all.worker.receipts ≡ [])) }
@@ -92,12 +100,12 @@ pub(crate) type Ends = (
     Result<WriterEnd, BodyFault>,
 );
 
-/// How the bodies of one link ended, how many receipts they have, who passed the gate last with which ticket, of which steps and
-/// ends the gate was told, and what they left of the run.
+/// How the bodies of one link ended, how many steps the gate knows of, who passed it last with which ticket, of which steps and
+/// ends it was told, and what they left of the run.
 #[derive(Drop)]
 pub(crate) struct Ran<W: LinkWriter, A: Allocator = Global> {
     pub(crate) ends: Ends,
-    pub(crate) receipts: usize,
+    pub(crate) steps: usize,
     passed: Option<(u32, u32)>,
     told: Told,
     ended: (bool, bool),
@@ -166,13 +174,13 @@ fn end_refusals(refused: Option<(&Heap, Refused)>) -> bool {
     }
 }
 
-/// What a gate and a hub know once all bodies have returned, with what those gave back. The reader and the worker have so many
-/// receipts.
-fn what_ran<A, C, L: Ledger, W: LinkWriter>(
+/// What a gate and a hub know once all bodies have returned, with what those gave back. A job that passed the gate is a step,
+/// but for one whose worker was refused the route.
+fn what_ran<A, C, L: Ledger + Named, W: LinkWriter>(
     gate: &Doorman,
     hub: Hub<C, L, A>,
-    read: (Result<ReaderEnd, BodyFault>, usize),
-    worked: (Result<(), BodyFault>, usize),
+    read: Result<ReaderEnd, BodyFault>,
+    worked: Result<(), BodyFault>,
     wrote: WriterDone<W, L, A>,
     has_refused: bool,
 ) -> Ran<W, A>
@@ -180,17 +188,11 @@ where
     A: Allocator + Copy,
     C: Historian<A> + Drop,
 {
-    let WriterDone {
-        actor,
-        writer,
-        end,
-        ..
-    } = wrote;
-    let receipts = actor.receipts().len();
-    drop(actor);
+    let WriterDone { writer, end, .. } = wrote;
+    let refused = if worked.is_err() { 1 } else { 0 };
     Ran {
-        ends: (read.0, worked.0, end),
-        receipts: receipts.wrapping_add(read.1).wrapping_add(worked.1),
+        ends: (read, worked, end),
+        steps: gate.count.get().wrapping_sub(refused),
         passed: gate.last.get(),
         told: gate.told.get(),
         ended: gate.ended.get(),
@@ -203,14 +205,14 @@ where
     }
 }
 
-/// How a worker ends that has this outlet, and how many receipts it has; well and with none, where there is no outlet.
-fn worker_end<A, C, B: Site + Ledger, R: Wait>(
+/// How a worker ends that has this outlet; well, where there is none.
+fn worker_end<A, C, B: Site + Ledger + Named, R: Wait>(
     rt: &R,
     service: &Service<C, B, A>,
     worker: Actor<B, A>,
     gate: &Doorman,
     outlet: Option<Outlet<B, A>>,
-) -> (Result<(), BodyFault>, usize)
+) -> Result<(), BodyFault>
 where
     A: Allocator + Copy,
     C: RouterCore<A> + Drop,
@@ -218,16 +220,13 @@ where
 {
     let Some(outlet) = outlet else {
         drop(worker);
-        return (Ok(()), 0);
+        return Ok(());
     };
-    let done = worker_body(rt, service, worker, WORKER, gate, outlet);
-    let end = (done.end, done.actor.receipts().len());
-    drop(done);
-    end
+    worker_body(rt, service, worker, WORKER, gate, outlet).end
 }
 
 /// The reader, the worker, where there is one, and the writer of one link, one after the other.
-fn in_turn<A, C, B: Site + Ledger, Rd: LinkReader, W: LinkWriter, R: Wait>(
+fn in_turn<A, C, B: Site + Ledger + Named, Rd: LinkReader, W: LinkWriter, R: Wait>(
     rt: &R,
     alloc: A,
     service: Service<C, B, A>,
@@ -259,7 +258,7 @@ where
     let done = reader_body(
         rt, alloc, &service, &gate, a, 0, role, 1_000_000, reader, intake,
     );
-    let read = (done.end, done.actor.receipts().len());
+    let read = done.end;
     drop(done);
     let worked = worker_end(rt, &service, k, &gate, outlet);
     let wrote = writer_body(rt, alloc, &service, &gate, w, 0, role, batch, writer);
@@ -294,7 +293,7 @@ fn ends_of<A: Allocator + Copy, S: Site>(
 }
 
 /// The house makes so many connections.
-fn connect<A, C, L: Ledger, R: Wait>(
+fn connect<A, C, L: Ledger + Named, R: Wait>(
     rt: &R,
     service: &Service<C, L, A>,
     house: Option<Actor<L, A>>,
@@ -316,28 +315,31 @@ where
 }
 
 /// A service of one link and one worker, of which the house has made its connections, with its other actors.
-fn service_of<A, C, L: Ledger, R: Wait>(
+#[tactic(auto, using(crate::proofs::NewLemmas::new_left))]
+fn service_of<A, C, L: Ledger + Named, R: Wait>(
     rt: &R,
     alloc: A,
-    blank: Blank,
+    unopened: Unopened<A>,
     setting: Setting<'_>,
     role: Role,
 ) -> Option<(Service<C, L, A>, Actors<L, A>)>
 where
     A: Allocator + Copy,
     C: Historian<A> + Drop,
-    requires name { blank.name ≡ L.name }
-    requires parts { (blank.parts ≡ L.parts) × (blank.parts ≡ 4) }
+    requires name { (unopened.blank.name ≡ L.name) × (unopened.steps.name ≡ L.growing) }
+    requires parts { (unopened.blank.parts ≡ L.parts) × (unopened.blank.parts ≡ 4) }
     ensures reader { IfSome result (λ r. (r.1.reader.number ≡ 0) × (r.1.reader.receipts ≡ [])) }
     ensures writer { IfSome result (λ r. (r.1.writer.number ≡ 1) × (r.1.writer.receipts ≡ [])) }
     ensures worker { IfSome result (λ r. (r.1.worker.number ≡ 2) × (r.1.worker.receipts ≡ [])) }
 {
-    let (service, mut actors) = crate::threads::hub::service_of::<A, C, L>(
+    let Ok((service, mut actors)) = crate::threads::hub::service_of::<A, C, L>(
         alloc,
-        blank,
+        unopened,
         setting.steps,
         &[role],
-    ).ok()?;
+    ) else {
+        return None;
+    };
     connect(rt, &service, actors.pop(), setting.connected);
     match actors_of(actors) {
         Some(actors) => Some((service, actors)),
@@ -358,10 +360,10 @@ fn outlet_of<S: Site, A: Allocator>(outlet: Outlet<S, A>, is_alone: bool) -> Opt
 }
 
 /// The bodies of one memory link in turn, with the ends of a stage and the actors of a service of their own.
-fn in_stage<A, B, C, L: Site + Ledger, R: Wait>(
+fn in_stage<A, B, C, L: Site + Ledger + Named, R: Wait>(
     rt: &R,
     alloc: A,
-    blank: Blank,
+    unopened: Unopened<A>,
     stage: Stage<A>,
     setting: Setting<'_>,
     link: MemoryLink<B>,
@@ -370,8 +372,8 @@ where
     A: Allocator + Copy,
     B: Allocator + Copy,
     C: Historian<A> + Drop,
-    requires name { blank.name ≡ L.name }
-    requires parts { (blank.parts ≡ L.parts) × (blank.parts ≡ 4) }
+    requires name { (unopened.blank.name ≡ L.name) × (unopened.steps.name ≡ L.growing) }
+    requires parts { (unopened.blank.parts ≡ L.parts) × (unopened.blank.parts ≡ 4) }
     requires stage { stage ≡ L.stage }
 {
     let role = link.role();
@@ -386,7 +388,7 @@ where
         return None;
     };
     forge(rt, &mut intake, setting.forged);
-    let made = service_of::<A, C, L, R>(rt, alloc, blank, setting, role);
+    let made = service_of::<A, C, L, R>(rt, alloc, unopened, setting, role);
     let Some((service, actors)) = made else {
         drop(intake);
         drop(outlet);
@@ -418,5 +420,6 @@ pub(crate) fn run_link<A: Allocator + Copy, B: Allocator + Copy, R: Wait>(
     link: MemoryLink<B>,
 ) -> Option<Ran<MemoryWriter<B>, A>> {
     let stage = Stage::new(alloc, 8).ok()?;
-    in_stage::<A, B, TableRouter<A>, Brand, R>(rt, alloc, Blank::new(4), stage, setting, link)
+    let unopened = Unopened::new(4);
+    in_stage::<A, B, TableRouter<A>, Brand, R>(rt, alloc, unopened, stage, setting, link)
 }

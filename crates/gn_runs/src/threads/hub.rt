@@ -5,18 +5,20 @@
 //! the tests of the bodies. A run over one can't be had: all jobs are put by the run's own readers, and no caller has an
 //! intake.
 
-ghost use Rattle.std.specs.Prelude.{◌≡◌, ◌+◌, ◌*◌, ◌≤◌, length};
+ghost use Rattle.std.specs.Prelude.{◌≡◌, ◌+◌, ◌*◌, ◌≤◌, length, IfOk};
+ghost use Rattle.gn_hub.specs.ActorState.{AreNew};
 ghost use Rattle.gn_rules.specs.Limits.{most_links};
 
+use gn_actors::{Named, Unopened};
 use gn_fixtures::{ping, usual};
 use gn_hub::{Actor, Hub, Next, Role, Service, ServiceFault};
 use gn_payload::Checked;
-use gn_rules::{ConnId, Event, Historian, Refusal, RouterCore, Step, Ticket, is_step_of};
+use gn_rules::{ConnId, Event, Historian, Receipt, Refusal, RouterCore, Step, Ticket, is_step_of};
 use gn_search::PlainRouter;
 use gn_text::push_step;
-use std::alloc::{Allocator, Global};
+use std::alloc::{AllocError, Allocator, Global};
 use std::marker::Brand;
-use std::sync::ledger::{Blank, Ledger};
+use std::sync::ledger::Ledger;
 use std::test::Fail;
 
 /// A call, with the answer that is wanted. A Ping is named by the byte that its ID repeats.
@@ -84,43 +86,100 @@ const FORGED: &str = "\
 4 route 1 = routed local 1+a2a2a2a2a2a2a2a2a2a2a2a2a2a2a2a20101000e000000ca187f0000010500000028000000
 ";
 
+/// An actor, and the receipts that its calls answered.
+#[derive(Drop)]
+pub(crate) struct Caller<L: Ledger + Named, A: Allocator> {
+    pub(crate) me: Actor<L, A>,
+    pub(crate) receipts: Vec<Receipt<A>, A>,
+}
+
+impl<L: Ledger + Named, A: Allocator> Caller<L, A> {
+    /// Keeps the receipt that a call answered.
+    pub(crate) fn keep(&mut self, answer: Result<Receipt<A>, Refusal>) -> Result<(), Refusal> {
+        self.receipts.push(answer?)?;
+        Ok(())
+    }
+
+    /// Whether it has so many receipts, and each is a step of the history, at its index and its own.
+    pub(crate) fn has_receipts(&self, count: usize, history: &[Step<A>]) -> bool {
+        for receipt in &self.receipts {
+            match history.get(receipt.index as usize) {
+                Some(step) if is_step_of(step, self.me.number(), receipt) => {}
+                _ => return false,
+            }
+        }
+        self.receipts.len() == count
+    }
+}
+
+/// Callers that have called nothing, of these actors.
+pub(crate) fn callers_of<L: Ledger + Named, A: Allocator + Copy>(
+    alloc: A,
+    actors: Vec<Actor<L, A>, A>,
+) -> Result<Vec<Caller<L, A>, A>, AllocError> {
+    let mut callers = Vec::new(alloc);
+    for me in actors {
+        callers.push(Caller {
+            me,
+            receipts: Vec::new(alloc),
+        })?;
+    }
+    Ok(callers)
+}
+
 /// Whether a Ping is admitted.
-fn admits<A: Allocator + Copy, C: RouterCore<A>, L: Ledger>(
+fn admits<A: Allocator + Copy, C: RouterCore<A>, L: Ledger + Named>(
     hub: &mut Hub<C, L, A>,
-    me: &mut Actor<L, A>,
+    caller: &mut Caller<L, A>,
     byte: u8,
 ) -> Result<bool, Fail> {
     let event = Event::Admit(1, ping(byte, 7, 0)?);
-    let answer = hub.call(me, &event);
+    let answer = hub.call(&mut caller.me, &event);
     drop(event);
-    Ok(answer.is_ok())
+    Ok(caller.keep(answer).is_ok())
 }
 
 /// Whether the route of a Ping is answered so.
-fn is_routed<A: Allocator + Copy, C: RouterCore<A>, L: Ledger>(
+fn is_routed<A: Allocator + Copy, C: RouterCore<A>, L: Ledger + Named>(
     hub: &mut Hub<C, L, A>,
-    me: &mut Actor<L, A>,
+    caller: &mut Caller<L, A>,
     ticket: Ticket,
     byte: u8,
     wanted: Result<(), Refusal>,
 ) -> Result<bool, Fail> {
     let checked = Checked::new(ping(byte, 7, 0)?);
-    let answer = hub.route(me, ticket, &checked);
+    let answer = hub.route(&mut caller.me, ticket, &checked);
     drop(checked);
-    Ok(answer == wanted)
+    Ok(caller.keep(answer) == wanted)
+}
+
+/// Whether the Connect of this link's reader is answered.
+fn connects<A: Allocator + Copy, C: RouterCore<A>, L: Ledger + Named>(
+    hub: &mut Hub<C, L, A>,
+    caller: &mut Caller<L, A>,
+    link: u32,
+) -> bool {
+    if caller.me.number() != link {
+        return false;
+    }
+    let answer = hub.connect(&mut caller.me, link);
+    caller.keep(answer).is_ok()
 }
 
 /// Makes a call: whether its answer is the wanted one.
-fn is_answered<A: Allocator + Copy, C: RouterCore<A>, L: Ledger>(
+fn is_answered<A: Allocator + Copy, C: RouterCore<A>, L: Ledger + Named>(
     hub: &mut Hub<C, L, A>,
-    me: &mut Actor<L, A>,
+    caller: &mut Caller<L, A>,
     call: Call,
 ) -> Result<bool, Fail> {
     Ok(match call {
-        Call::Connects(link) => me.number() == link && hub.connect(me, link).is_ok(),
-        Call::Admits(byte) => admits(hub, me, byte)?,
-        Call::Routes(ticket, byte, wanted) => is_routed(hub, me, ticket, byte, wanted)?,
-        Call::Next(c, next) => hub.next_out(me, c) == Ok(next),
+        Call::Connects(link) => connects(hub, caller, link),
+        Call::Admits(byte) => admits(hub, caller, byte)?,
+        Call::Routes(ticket, byte, wanted) => is_routed(hub, caller, ticket, byte, wanted)?,
+        Call::Next(c, next) => {
+            let Caller { me, receipts } = caller;
+            hub.next_out(me, c, receipts) == Ok(next)
+        }
         Call::Done(link, closing) => {
             hub.reader_done(link);
             hub.closing() == closing
@@ -128,30 +187,19 @@ fn is_answered<A: Allocator + Copy, C: RouterCore<A>, L: Ledger>(
     })
 }
 
-/// Whether each of an actor's receipts is a step of the history, at its index and its own.
-pub(crate) fn stands_in<A: Allocator, L: Ledger>(me: &Actor<L, A>, history: &[Step<A>]) -> bool {
-    for receipt in me.receipts() {
-        match history.get(receipt.index as usize) {
-            Some(step) if is_step_of(step, me.number(), receipt) => {}
-            _ => return false,
-        }
-    }
-    true
-}
-
-/// Whether the actors have these shares, in order, and receipts that stand in the history.
-fn have_shares<A: Allocator, L: Ledger>(
-    actors: &[Actor<L, A>],
-    shares: &[u64],
+/// Whether the callers have so many receipts each, in order, that stand in the history.
+fn have_receipts<A: Allocator, L: Ledger + Named>(
+    callers: &[Caller<L, A>],
+    counts: &[usize],
     history: &[Step<A>],
 ) -> bool {
-    for (k, me) in actors.iter().enumerate() {
-        match shares.get(k) {
-            Some(share) if *share == me.share() && stands_in(me, history) => {}
+    for (k, caller) in callers.iter().enumerate() {
+        match counts.get(k) {
+            Some(count) if caller.has_receipts(*count, history) => {}
             _ => return false,
         }
     }
-    actors.len() == shares.len()
+    callers.len() == counts.len()
 }
 
 /// The lines of these steps.
@@ -163,8 +211,8 @@ pub(crate) fn lines_of(alloc: Global, steps: &[Step]) -> Result<Vec<u8>, Fail> {
     Ok(lines)
 }
 
-/// What a run left: whether each answer was the wanted one, and the actors have the shares that are wanted and receipts that
-/// stand in the history; the book, and the history.
+/// What a run left: whether each answer was the wanted one, and the actors got as many receipts as are wanted, which stand in
+/// the history; the book, and the history.
 #[derive(Drop)]
 struct Worked<A: Allocator> {
     is_right: bool,
@@ -173,16 +221,16 @@ struct Worked<A: Allocator> {
 }
 
 /// Makes all calls: whether each answer was the wanted one.
-fn are_answered<A: Allocator + Copy, C: RouterCore<A>, L: Ledger>(
+fn are_answered<A: Allocator + Copy, C: RouterCore<A>, L: Ledger + Named>(
     hub: &mut Hub<C, L, A>,
-    actors: &mut [Actor<L, A>],
+    callers: &mut [Caller<L, A>],
     calls: &[(usize, Call)],
 ) -> Result<bool, Fail> {
     for (who, call) in calls {
-        let Some(me) = actors.get_mut(*who) else {
+        let Some(caller) = callers.get_mut(*who) else {
             return Ok(false);
         };
-        if !is_answered(hub, me, *call)? {
+        if !is_answered(hub, caller, *call)? {
             return Ok(false);
         }
     }
@@ -190,49 +238,51 @@ fn are_answered<A: Allocator + Copy, C: RouterCore<A>, L: Ledger>(
 }
 
 /// A service of links of these roles and one worker that makes at most so many steps, with its actors.
-pub(crate) fn service_of<A: Allocator + Copy, C: Historian<A> + Drop, L: Ledger>(
+pub(crate) fn service_of<A: Allocator + Copy, C: Historian<A> + Drop, L: Ledger + Named>(
     alloc: A,
-    blank: Blank,
+    unopened: Unopened<A>,
     steps: u32,
     roles: &[Role],
 ) -> Result<(Service<C, L, A>, Vec<Actor<L, A>, A>), ServiceFault>
-    requires name { blank.name ≡ L.name }
-    requires parts { (blank.parts ≡ L.parts) × (blank.parts ≡ 2 * length roles.now + 1 + 1) }
+    requires name { (unopened.blank.name ≡ L.name) × (unopened.steps.name ≡ L.growing) }
+    requires parts { (unopened.blank.parts ≡ L.parts) × (unopened.blank.parts ≡ 2 * length roles.now + 1 + 1) }
     requires few { length roles.now ≤ most_links }
+    ensures { IfOk result (λ made. AreNew (2 * length roles.now + 1 + 1) made.1.items) }
 {
     let Ok(config) = usual(steps) else {
         return Err(ServiceFault::BadWorkers);
     };
-    Service::<C, L, A>::new(alloc, blank, &config, roles, 1)
+    Service::<C, L, A>::new(alloc, unopened, &config, roles, 1)
 }
 
 /// The calls of a run of two plain links and one worker.
-fn work<A: Allocator + Copy, C: Historian<A> + Drop, L: Ledger>(
+fn work<A: Allocator + Copy, C: Historian<A> + Drop, L: Ledger + Named>(
     alloc: A,
-    blank: Blank,
+    unopened: Unopened<A>,
     calls: &[(usize, Call)],
-    shares: &[u64],
+    counts: &[usize],
 ) -> Result<Worked<A>, Fail>
-    requires name { blank.name ≡ L.name }
-    requires parts { (blank.parts ≡ L.parts) × (blank.parts ≡ 6) }
+    requires name { (unopened.blank.name ≡ L.name) × (unopened.steps.name ≡ L.growing) }
+    requires parts { (unopened.blank.parts ≡ L.parts) × (unopened.blank.parts ≡ 6) }
 {
-    let Ok((service, mut actors)) = service_of::<A, C, L>(
+    let Ok((service, actors)) = service_of::<A, C, L>(
         alloc,
-        blank,
+        unopened,
         100,
         &[Role::Plain, Role::Plain],
     ) else {
         return Err(Fail::from("a service"));
     };
     let mut hub = service.into_hub();
-    let are_answered = are_answered(&mut hub, actors.as_mut_slice(), calls);
+    let mut callers = callers_of(alloc, actors)?;
+    let are_answered = are_answered(&mut hub, callers.as_mut_slice(), calls);
     let book = hub.book();
     let history = hub.into_router().into_history();
-    let have_shares = have_shares(actors.as_slice(), shares, history.as_slice());
-    drop(actors);
+    let have_receipts = have_receipts(callers.as_slice(), counts, history.as_slice());
+    drop(callers);
     match are_answered {
         Ok(are_answered) => Ok(Worked {
-            is_right: are_answered && have_shares,
+            is_right: are_answered && have_receipts,
             book,
             history,
         }),
@@ -247,20 +297,20 @@ fn work<A: Allocator + Copy, C: Historian<A> + Drop, L: Ledger>(
 fn work_plain<A: Allocator + Copy>(
     alloc: A,
     calls: &[(usize, Call)],
-    shares: &[u64],
+    counts: &[usize],
 ) -> Result<Worked<A>, Fail> {
-    work::<A, PlainRouter<A>, Brand>(alloc, Blank::new(6), calls, shares)
+    work::<A, PlainRouter<A>, Brand>(alloc, Unopened::new(6), calls, counts)
 }
 
-/// Whether the calls are answered as they must, and leave these shares, this book and the steps of these lines.
+/// Whether the calls are answered as they must, and leave so many receipts each, this book and the steps of these lines.
 fn is_worked(
     alloc: Global,
     calls: &[(usize, Call)],
-    shares: &[u64],
+    counts: &[usize],
     book: u64,
     wanted: &str,
 ) -> Result<bool, Fail> {
-    let worked = work_plain(alloc, calls, shares)?;
+    let worked = work_plain(alloc, calls, counts)?;
     let is_right = worked.is_right && worked.book == book;
     let lines = lines_of(alloc, worked.history.as_slice());
     drop(worked);

@@ -2,9 +2,10 @@
 
 ghost use Rattle.std.specs.Prelude.{◌≡◌, ◌+◌};
 
-use crate::threads::hub::{service_of, stands_in};
+use crate::threads::hub::{Caller, callers_of, service_of};
+use gn_actors::{Named, Unopened};
 use gn_fixtures::{ping, usual};
-use gn_hub::{Actor, Batch, Outgoing, Role, Service};
+use gn_hub::{Batch, Outgoing, Role, Service};
 use gn_payload::Checked;
 use gn_rules::{Event, Historian, Legality, Step};
 use gn_search::PlainRouter;
@@ -12,38 +13,39 @@ use gn_witness::legal;
 use std::alloc::Allocator;
 use std::marker::Brand;
 use std::sync::Wait;
-use std::sync::ledger::{Blank, Ledger};
+use std::sync::ledger::Ledger;
 use std::test::Fail;
 use std::thread;
 use std::thread::Threads;
 
 /// Makes so many Connect calls.
-fn connects<A: Allocator + Copy, C: Historian<A> + Drop, L: Ledger, R: Wait>(
+fn connects<A: Allocator + Copy, C: Historian<A> + Drop, L: Ledger + Named, R: Wait>(
     rt: &R,
     service: &Service<C, L, A>,
-    mut me: Actor<L, A>,
+    mut caller: Caller<L, A>,
     count: u32,
-) -> Actor<L, A> {
+) -> Caller<L, A> {
     let connect = Event::Connect;
     for _ in 0..count {
-        let _ = service.call(rt, &mut me, &connect);
+        let answer = service.call(rt, &mut caller.me, &connect);
+        let _ = caller.keep(answer);
     }
     drop(connect);
-    me
+    caller
 }
 
 /// Two threads connect fifty times each through one service.
 fn both_connect<
     A: Allocator + Copy + Send + Sync,
     C: Historian<A> + Drop + Send,
-    L: Ledger + Send + Sync,
+    L: Ledger + Named + Send + Sync,
     R: Threads + Wait + Sync,
 >(
     rt: &R,
     service: &Service<C, L, A>,
-    a: Actor<L, A>,
-    b: Actor<L, A>,
-) -> (Actor<L, A>, Actor<L, A>) {
+    a: Caller<L, A>,
+    b: Caller<L, A>,
+) -> (Caller<L, A>, Caller<L, A>) {
     thread::join(
         rt,
         move || connects(rt, service, a, 50),
@@ -52,7 +54,7 @@ fn both_connect<
 }
 
 /// Whether nobody meets a link that was shut, one that the run doesn't have, and one of a run that has failed.
-fn nobody_meets<A: Allocator + Copy, C: Historian<A> + Drop, L: Ledger, R: Wait>(
+fn nobody_meets<A: Allocator + Copy, C: Historian<A> + Drop, L: Ledger + Named, R: Wait>(
     rt: &R,
     service: &Service<C, L, A>,
 ) -> bool {
@@ -62,41 +64,36 @@ fn nobody_meets<A: Allocator + Copy, C: Historian<A> + Drop, L: Ledger, R: Wait>
     shut && service.meet(rt, 1).is_none()
 }
 
-/// The first three of these actors.
-fn first_three<A: Allocator, L: Ledger>(
-    actors: Vec<Actor<L, A>, A>,
-) -> Option<((Actor<L, A>, Actor<L, A>), Actor<L, A>)> {
-    let mut all = actors.into_iter();
+/// The first three of these callers.
+fn first_three<A: Allocator, L: Ledger + Named>(
+    callers: Vec<Caller<L, A>, A>,
+) -> Option<((Caller<L, A>, Caller<L, A>), Caller<L, A>)> {
+    let mut all = callers.into_iter();
     let three = all.next().zip(all.next()).zip(all.next());
     drop(all);
     three
 }
 
-/// Whether an actor has 50 receipts, which stand in the history.
-fn has_fifty<A: Allocator, L: Ledger>(me: &Actor<L, A>, history: &[Step<A>]) -> bool {
-    me.share() == 50 && stands_in(me, history)
-}
-
-/// The history of two threads that make 50 Connect calls each, where each actor has 50 receipts that stand in it. Nobody
+/// The history of two threads that make 50 Connect calls each, where each actor got 50 receipts that stand in it. Nobody
 /// connected either link, and nobody meets it once it is shut or the run has failed.
 fn hundred<
     A: Allocator + Copy + Send + Sync,
     C: Historian<A> + Drop + Send,
-    L: Ledger + Send + Sync,
+    L: Ledger + Named + Send + Sync,
     R: Threads + Wait + Sync,
->(rt: &R, alloc: A, blank: Blank) -> Result<Vec<Step<A>, A>, Fail>
-    requires name { blank.name ≡ L.name }
-    requires parts { (blank.parts ≡ L.parts) × (blank.parts ≡ 6) }
+>(rt: &R, alloc: A, unopened: Unopened<A>) -> Result<Vec<Step<A>, A>, Fail>
+    requires name { (unopened.blank.name ≡ L.name) × (unopened.steps.name ≡ L.growing) }
+    requires parts { (unopened.blank.parts ≡ L.parts) × (unopened.blank.parts ≡ 6) }
 {
     let Ok((service, actors)) = service_of::<A, C, L>(
         alloc,
-        blank,
+        unopened,
         100,
         &[Role::Plain, Role::Plain],
     ) else {
         return Err(Fail::from("a service"));
     };
-    let Some(((a, b), third)) = first_three(actors) else {
+    let Some(((a, b), third)) = first_three(callers_of(alloc, actors)?) else {
         drop(service);
         return Err(Fail::from("three actors"));
     };
@@ -104,7 +101,8 @@ fn hundred<
     let (a, b) = both_connect(rt, &service, a, b);
     let nobody_meets = nobody_meets(rt, &service);
     let history = service.into_hub().into_router().into_history();
-    let have_fifty = has_fifty(&a, history.as_slice()) && has_fifty(&b, history.as_slice());
+    let have_fifty = a.has_receipts(50, history.as_slice())
+        && b.has_receipts(50, history.as_slice());
     drop(a);
     drop(b);
     if nobody_meets && have_fifty {
@@ -120,7 +118,7 @@ fn hundred_plain<A: Allocator + Copy + Send + Sync, R: Threads + Wait + Sync>(
     rt: &R,
     alloc: A,
 ) -> Result<Vec<Step<A>, A>, Fail> {
-    hundred::<A, PlainRouter<A>, Brand, R>(rt, alloc, Blank::new(6))
+    hundred::<A, PlainRouter<A>, Brand, R>(rt, alloc, Unopened::new(6))
 }
 
 /// How many steps that history has, and whether it is legal.
@@ -141,17 +139,18 @@ fn two_threads_connect(rt: HostRuntime) -> Result<(), Fail> {
     Ok(())
 }
 
-/// A writer's part: waits for its door, then takes packets until the connection is over. How many it took.
-fn takes<A: Allocator + Copy, C: Historian<A> + Drop, L: Ledger, R: Wait>(
+/// A writer's part: waits for its door, then takes packets until the connection is over. How many receipts it got of them.
+fn takes<A: Allocator + Copy, C: Historian<A> + Drop, L: Ledger + Named, R: Wait>(
     rt: &R,
     service: &Service<C, L, A>,
-    me: &mut Actor<L, A>,
-) -> Option<u32> {
+    writer: &mut Caller<L, A>,
+) -> Option<usize> {
+    let Caller { me, receipts } = writer;
     let c = service.meet(rt, 0)?;
-    let mut taken = 0u32;
+    let mut taken = 0usize;
     for _ in rt.forever() {
-        match service.next_batch(rt, me, c, Batch::one()).ok()? {
-            Outgoing::Packet => taken = taken.saturating_add(1),
+        match service.next_batch(rt, me, c, Batch::one(), receipts).ok()? {
+            Outgoing::Packet => taken = taken.saturating_add(receipts.len()),
             Outgoing::Drained | Outgoing::Closed => break,
         }
     }
@@ -159,49 +158,50 @@ fn takes<A: Allocator + Copy, C: Historian<A> + Drop, L: Ledger, R: Wait>(
 }
 
 /// Connects the first link, by its reader.
-fn connect<A: Allocator + Copy, C: Historian<A> + Drop, L: Ledger, R: Wait>(
+fn connect<A: Allocator + Copy, C: Historian<A> + Drop, L: Ledger + Named, R: Wait>(
     rt: &R,
     service: &Service<C, L, A>,
-    reader: &mut Actor<L, A>,
+    reader: &mut Caller<L, A>,
 ) -> Option<()> {
-    if reader.number() != 0 {
+    if reader.me.number() != 0 {
         return None;
     }
-    service.connect(rt, reader, 0).ok()
+    let answer = service.connect(rt, &mut reader.me, 0);
+    reader.keep(answer).ok()
 }
 
 /// Admits the Ping of this number.
-fn admit<A: Allocator + Copy, C: Historian<A> + Drop, L: Ledger, R: Wait>(
+fn admit<A: Allocator + Copy, C: Historian<A> + Drop, L: Ledger + Named, R: Wait>(
     rt: &R,
     service: &Service<C, L, A>,
-    reader: &mut Actor<L, A>,
+    reader: &mut Caller<L, A>,
     number: u8,
 ) -> Option<()> {
     let event = Event::Admit(1, ping(number, 7, 0).ok()?);
-    let answer = service.call(rt, reader, &event);
+    let answer = service.call(rt, &mut reader.me, &event);
     drop(event);
-    answer.ok()
+    reader.keep(answer).ok()
 }
 
 /// Routes the Ping of this number.
-fn route<A: Allocator + Copy, C: Historian<A> + Drop, L: Ledger, R: Wait>(
+fn route<A: Allocator + Copy, C: Historian<A> + Drop, L: Ledger + Named, R: Wait>(
     rt: &R,
     service: &Service<C, L, A>,
-    worker: &mut Actor<L, A>,
+    worker: &mut Caller<L, A>,
     number: u8,
 ) -> Option<()> {
     let checked = Checked::new(ping(number, 7, 0).ok()?);
-    let answer = service.route(rt, worker, u32::from(number), &checked);
+    let answer = service.route(rt, &mut worker.me, u32::from(number), &checked);
     drop(checked);
-    answer.ok()
+    worker.keep(answer).ok()
 }
 
 /// Connects, and admits and routes so many Pings.
-fn send<A: Allocator + Copy, C: Historian<A> + Drop, L: Ledger, R: Wait>(
+fn send<A: Allocator + Copy, C: Historian<A> + Drop, L: Ledger + Named, R: Wait>(
     rt: &R,
     service: &Service<C, L, A>,
-    reader: &mut Actor<L, A>,
-    worker: &mut Actor<L, A>,
+    reader: &mut Caller<L, A>,
+    worker: &mut Caller<L, A>,
     count: u8,
 ) -> Option<()> {
     connect(rt, service, reader)?;
@@ -213,11 +213,11 @@ fn send<A: Allocator + Copy, C: Historian<A> + Drop, L: Ledger, R: Wait>(
 }
 
 /// A reader's part and a worker's: connects, and admits and routes so many Pings; then the reader is done.
-fn pings<A: Allocator + Copy, C: Historian<A> + Drop, L: Ledger, R: Wait>(
+fn pings<A: Allocator + Copy, C: Historian<A> + Drop, L: Ledger + Named, R: Wait>(
     rt: &R,
     service: &Service<C, L, A>,
-    mut reader: Actor<L, A>,
-    mut worker: Actor<L, A>,
+    mut reader: Caller<L, A>,
+    mut worker: Caller<L, A>,
     count: u8,
 ) -> Option<()> {
     let sent = send(rt, service, &mut reader, &mut worker, count);
@@ -228,11 +228,11 @@ fn pings<A: Allocator + Copy, C: Historian<A> + Drop, L: Ledger, R: Wait>(
 }
 
 /// A writer's part, after which the writer is done.
-fn takes_all<A: Allocator + Copy, C: Historian<A> + Drop, L: Ledger, R: Wait>(
+fn takes_all<A: Allocator + Copy, C: Historian<A> + Drop, L: Ledger + Named, R: Wait>(
     rt: &R,
     service: &Service<C, L, A>,
-    mut writer: Actor<L, A>,
-) -> Option<u32> {
+    mut writer: Caller<L, A>,
+) -> Option<usize> {
     let taken = takes(rt, service, &mut writer);
     drop(writer);
     taken
@@ -242,15 +242,15 @@ fn takes_all<A: Allocator + Copy, C: Historian<A> + Drop, L: Ledger, R: Wait>(
 fn ping_and_take<
     A: Allocator + Copy + Send + Sync,
     C: Historian<A> + Drop + Send,
-    L: Ledger + Send + Sync,
+    L: Ledger + Named + Send + Sync,
     R: Threads + Wait + Sync,
 >(
     rt: &R,
     service: &Service<C, L, A>,
-    reader: Actor<L, A>,
-    writer: Actor<L, A>,
-    worker: Actor<L, A>,
-) -> (Option<()>, Option<u32>) {
+    reader: Caller<L, A>,
+    writer: Caller<L, A>,
+    worker: Caller<L, A>,
+) -> (Option<()>, Option<usize>) {
     thread::join(
         rt,
         move || pings(rt, service, reader, worker, 8),
@@ -262,16 +262,16 @@ fn ping_and_take<
 fn wake<
     A: Allocator + Copy + Send + Sync,
     C: Historian<A> + Drop + Send,
-    L: Ledger + Send + Sync,
+    L: Ledger + Named + Send + Sync,
     R: Threads + Wait + Sync,
->(rt: &R, alloc: A, blank: Blank) -> Result<Option<u32>, Fail>
-    requires name { blank.name ≡ L.name }
-    requires parts { (blank.parts ≡ L.parts) × (blank.parts ≡ 4) }
+>(rt: &R, alloc: A, unopened: Unopened<A>) -> Result<Option<usize>, Fail>
+    requires name { (unopened.blank.name ≡ L.name) × (unopened.steps.name ≡ L.growing) }
+    requires parts { (unopened.blank.parts ≡ L.parts) × (unopened.blank.parts ≡ 4) }
 {
-    let Ok((service, actors)) = service_of::<A, C, L>(alloc, blank, 100, &[Role::Plain]) else {
+    let Ok((service, actors)) = service_of::<A, C, L>(alloc, unopened, 100, &[Role::Plain]) else {
         return Err(Fail::from("a service"));
     };
-    let Some(((reader, writer), worker)) = first_three(actors) else {
+    let Some(((reader, writer), worker)) = first_three(callers_of(alloc, actors)?) else {
         drop(service);
         return Err(Fail::from("three actors"));
     };
@@ -284,8 +284,8 @@ fn wake<
 fn wake_plain<A: Allocator + Copy + Send + Sync, R: Threads + Wait + Sync>(
     rt: &R,
     alloc: A,
-) -> Result<Option<u32>, Fail> {
-    wake::<A, PlainRouter<A>, Brand, R>(rt, alloc, Blank::new(4))
+) -> Result<Option<usize>, Fail> {
+    wake::<A, PlainRouter<A>, Brand, R>(rt, alloc, Unopened::new(4))
 }
 
 #[test]

@@ -7,6 +7,7 @@ loop-number-preserved g c =
     record {
       parts = search rules;
       amount = search rules;
+      seen = search rules;
       new = one_more (vec_items c.loop-number.actors) (vec_items c.push.new.self) c.new.result c.loop-number.number _ (search rules) c.loop-number.invariant.new (search rules) (search rules);
     }
 

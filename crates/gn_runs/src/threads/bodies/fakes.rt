@@ -7,13 +7,13 @@ use std::sync::Wait;
 /// The first steps of which a gate was told, a word a step, in order; after the last of them no word.
 pub(super) type Told = [&'static str; 8];
 
-/// Keeps which worker passed it last, and with which ticket, of which steps it was told, and which threads of a link it knows as
-/// ended.
+/// Keeps which worker passed it last, and with which ticket, of which steps it was told, of how many it was told with those who
+/// passed, and which threads of a link it knows as ended.
 #[derive(Drop)]
 pub(super) struct Doorman {
     pub(super) last: Cell<Option<(u32, u32)>>,
     pub(super) told: Cell<Told>,
-    count: Cell<usize>,
+    pub(super) count: Cell<usize>,
     pub(super) ended: Cell<(bool, bool)>,
 }
 

@@ -2,7 +2,10 @@ use Rattle.gn_rules.specs.Limits.{most_reads}
 use Rattle.gn_threads.proofs.arriving.run_arriving_by.Given as goal
 
 abbrev pub ghosts-run_arriving_in-B-Ledger : goal.ghosts-run_arriving_in-B-Ledger
-ghosts-run_arriving_in-B-Ledger g a = record { name = a.blank.name; parts = a.blank.parts }
+ghosts-run_arriving_in-B-Ledger g a = record { name = a.unopened.blank.name; parts = a.unopened.blank.parts }
+
+abbrev pub ghosts-run_arriving_in-B-Named : goal.ghosts-run_arriving_in-B-Named
+ghosts-run_arriving_in-B-Named g a = record { growing = a.unopened.steps.name }
 
 abbrev pub ghosts-run_arriving_in-B-Site : goal.ghosts-run_arriving_in-B-Site
 ghosts-run_arriving_in-B-Site g a = record { stage = a.stage }

@@ -34,7 +34,7 @@ finish-answer-requires-clause-counted g c =
         all.joined.read ∙ sym (length-map all.reading (λ l. l.role)) ∙ ap length (all.reading_roles ∙ c.in-Ok.ensures.roles),
         all.joined.written ∙ sym (length-map all.writing (λ l. l.role)) ∙ ap length (all.writing_roles ∙ c.in-Ok.ensures.roles),
       );
-      parts = omega (arith, worked, c.requires.blank.1, c.requires.blank.2);
+      parts = omega (arith, worked, c.requires.parts.0, c.requires.parts.1);
     }
 
 pub returns-in-Err-clause-fault : goal.returns-in-Err-clause-fault

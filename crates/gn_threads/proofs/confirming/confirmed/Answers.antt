@@ -24,7 +24,7 @@ returns-in-None-clause-holds g c =
       own = (all.own, all.only);
       links = links_hold s g.Rd.LinkReader.state g.W.LinkWriter.state (most_reads s.numbers.steps) g.L.Limited.batch roles it legal all c.requires.ends.readers c.requires.ends.writers;
       routes = (all.routes, (house_at (is_settled it.history.items) roles it settled).tickets);
-      stats = c.requires.counted.1;
+      stats = c.requires.stats;
     }
 
 pub returns-in-None-clause-same : goal.returns-in-None-clause-same

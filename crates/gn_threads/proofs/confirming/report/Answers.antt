@@ -1,34 +1,20 @@
-use Rattle.std.proofs.Common.{◌∙◌, ◌+◌, length, vec_len, ap, arith}
+use Rattle.std.proofs.Common.{◌+◌, length, vec_len, arith}
 use Rattle.std.proofs.lemmas.Result.{IfOk-weaker}
-use Rattle.gn_hub.specs.HubState.{HubState}
 use Rattle.gn_threads.proofs.CourseLemmas.{steps_kept}
 use Rattle.gn_threads.proofs.FaultLemmas.{answer_below, number_below}
-use Rattle.gn_threads.proofs.ReceiptLemmas.{receipts_counted}
 use Rattle.gn_threads.proofs.ReportedLemmas.{links_kept}
 use Rattle.gn_threads.proofs.confirming.report.Goals as goal
 
-pub confirmed-requires-clause-counted : goal.confirmed-requires-clause-counted
-confirmed-requires-clause-counted g c =
-    let own = ap length c.into_parts-house.ensures.receipts in (
-      receipts_counted c.args.linked.links.items c.args.worked.receipts.items c.into_parts-house.result.0.items
-          ∙ omega (arith, own, c.args.linked.amount, c.args.worked.amount, c.into_parts-house.ensures.share, c.add_up.ensures.total, ap length c.close-closed.ensures.steps),
-      c.close-closed.ensures.stats,
-    )
-
 pub confirmed-requires-clause-roles : goal.confirmed-requires-clause-roles
-confirmed-requires-clause-roles g c = omega (arith, c.requires.counted.each.0, c.args.linked.links.ok)
+confirmed-requires-clause-roles g c = omega (arith, c.requires.counted.each.0, c.args.reported.links.ok)
 
 pub confirmed-requires-clause-unconfirmed : goal.confirmed-requires-clause-unconfirmed
 confirmed-requires-clause-unconfirmed g c =
-    let n = length c.args.roles.now + length c.args.roles.now + vec_len c.args.worked.receipts + 1 in
+    let n = length c.args.roles.now + length c.args.roles.now + vec_len c.args.reported.workers + 1 in
     answer_below c.args.unconfirmed c.misconfigured-misconfigured.result c.least.result n c.requires.unconfirmed (number_below c.misconfigured-misconfigured.result _ n (omega (arith, c.requires.counted.each.0, c.requires.counted.few, c.len.ensures, c.len-2.ensures)) c.misconfigured-misconfigured.ensures.some) c.least.ensures.some
 
 pub returns-clause-clean : goal.returns-clause-clean
 returns-clause-clean g c = IfOk-weaker _ _ _ (λ found same. (c.least.ensures.none same.1).0) c.confirmed.ensures.same
-
-pub add_up-requires : goal.add_up-requires
-add_up-requires g c =
-    omega (arith, c.requires.counted.parts, c.requires.counted.each.0, c.args.linked.parts, c.args.worked.parts, c.into_parts-house.ensures.share)
 
 pub confirmed-requires-clause-legal : goal.confirmed-requires-clause-legal
 confirmed-requires-clause-legal g c = λ none. c.close-closed.ensures.legal (c.misconfigured-misconfigured.ensures.none (c.least.ensures.none none).1)
@@ -58,5 +44,4 @@ pub returns-clause-links : goal.returns-clause-links
 returns-clause-links g c = links_kept c.confirmed.result _ _ c.confirmed.ensures.same
 
 pub returns-clause-steps : goal.returns-clause-steps
-returns-clause-steps g c =
-    steps_kept c.confirmed.result _ _ _ (c.close-closed.ensures.steps ∙ ap (λ (h : HubState _). h.steps) c.add_up.ensures.same) c.confirmed.ensures.same
+returns-clause-steps g c = steps_kept c.confirmed.result _ _ _ c.close-closed.ensures.steps c.confirmed.ensures.same

@@ -20,9 +20,9 @@ pub assemble-requires-clause-counted : goal.assemble-requires-clause-counted
 assemble-requires-clause-counted g c =
     let was = c.requires.counted in
     record {
-      few = (was.few.0, omega (arith, was.few.1, c.in-Ok-report_workers.ensures.many));
+      few = (was.few.0, omega (arith, was.few.1, c.in-Ok-send_workers_home.ensures));
       each = (c.in-Ok.ensures.many ∙ was.each.0, was.each.1);
-      parts = omega (arith, was.parts, c.in-Ok-report_workers.ensures.many);
+      parts = omega (arith, was.parts, c.in-Ok-send_workers_home.ensures);
     }
 
 pub assemble-requires-clause-ends : goal.assemble-requires-clause-ends
@@ -32,13 +32,13 @@ assemble-requires-clause-ends g c =
 
 pub assemble-requires-clause-unconfirmed : goal.assemble-requires-clause-unconfirmed
 assemble-requires-clause-unconfirmed g c =
-    let n = length c.args.roles.now + length c.args.roles.now + vec_len c.in-Ok-report_workers.made.0.receipts + 1 in
+    let n = length c.args.roles.now + length c.args.roles.now + vec_len c.in-Ok-send_workers_home.made.0 + 1 in
     let long = ap length c.as_slice.ensures.value in
-    answer_below c.first_refused-worker.result c.in-Ok-settle.idle c.least.result n (below_more c.first_refused-worker.result _ n (omega (arith, long, c.args.done.workers.ok, c.in-Ok-report_workers.ensures.many)) c.first_refused-worker.ensures.some)
-    (number_below c.in-Ok-settle.idle _ n (omega (arith, c.len.ensures, c.in-Ok-report_workers.ensures.many)) c.in-Ok-settle.ensures.house) c.least.ensures.some
+    answer_below c.first_refused-worker.result c.in-Ok-settle.idle c.least.result n (below_more c.first_refused-worker.result _ n (omega (arith, long, c.args.done.workers.ok, c.in-Ok-send_workers_home.ensures)) c.first_refused-worker.ensures.some)
+    (number_below c.in-Ok-settle.idle _ n (omega (arith, c.len.ensures, c.in-Ok-send_workers_home.ensures)) c.in-Ok-settle.ensures.house) c.least.ensures.some
 
 pub returns-clause-fault : goal.returns-clause-fault
-returns-clause-fault g c = subst (λ n. IfErr c.assemble.result (λ fault. IsFaultOf (length c.args.roles.now) n fault)) c.in-Ok-report_workers.ensures.many c.assemble.ensures.fault
+returns-clause-fault g c = subst (λ n. IfErr c.assemble.result (λ fault. IsFaultOf (length c.args.roles.now) n fault)) c.in-Ok-send_workers_home.ensures c.assemble.ensures.fault
 
 pub returns-clause-clean : goal.returns-clause-clean
 returns-clause-clean g c =
@@ -48,7 +48,7 @@ returns-clause-clean g c =
 
 pub returns-clause-holds : goal.returns-clause-holds
 returns-clause-holds g c =
-    subst (λ n. IfOk c.assemble.result (λ report. Holds g.B.Limited.batch g.Rd.LinkReader.state g.W.LinkWriter.state c.args.config.now c.args.roles.now n report)) c.in-Ok-report_workers.ensures.many c.assemble.ensures.holds
+    subst (λ n. IfOk c.assemble.result (λ report. Holds g.B.Limited.batch g.Rd.LinkReader.state g.W.LinkWriter.state c.args.config.now c.args.roles.now n report)) c.in-Ok-send_workers_home.ensures c.assemble.ensures.holds
 
 pub returns-clause-bodies : goal.returns-clause-bodies
 returns-clause-bodies g c =
@@ -71,6 +71,6 @@ returns-in-Err-clause-begun_kept g c = begun_some (λ steps. steps.items) _ _ c.
 pub returns-in_default-clause-begun_kept : goal.returns-in_default-clause-begun_kept
 returns-in_default-clause-begun_kept g c = begun_some (λ steps. steps.items) _ _ c.keep_history.new.history (begun_self _) c.keep_history.ensures.own
 
-pub returns-in_default-report_workers-clause-begun_kept : goal.returns-in_default-report_workers-clause-begun_kept
-returns-in_default-report_workers-clause-begun_kept g c =
-    begun_some (λ steps. steps.items) _ _ c.keep_history-in_default-report_workers.new.history (begun_self _) c.keep_history-in_default-report_workers.ensures.own
+pub returns-in_default-send_workers_home-clause-begun_kept : goal.returns-in_default-send_workers_home-clause-begun_kept
+returns-in_default-send_workers_home-clause-begun_kept g c =
+    begun_some (λ steps. steps.items) _ _ c.keep_history-in_default-send_workers_home.new.history (begun_self _) c.keep_history-in_default-send_workers_home.ensures.own

@@ -1,6 +1,6 @@
-use Rattle.std.proofs.Common.{rules, List, ◌∙◌, ap, refl, subst}
+use Rattle.std.proofs.Common.{rules, List, ap, refl, subst}
 use Rattle.gn_bodies.specs.Admitting.{Admitting}
-use Rattle.gn_bodies.specs.Events.{connection_of, link_events}
+use Rattle.gn_bodies.specs.Events.{link_events}
 use Rattle.gn_bodies.specs.ReaderRows.{WithClose}
 use Rattle.gn_bodies.proofs.EventLemmas.{close_events, may_close}
 use Rattle.gn_bodies.proofs.JobLemmas.{closing}

@@ -1,12 +1,30 @@
-use Rattle.std.proofs.Common.{rules, ap}
-use Rattle.gn_hub.proofs.StepLemmas.{got}
+use Rattle.std.proofs.Common.{rules, ap, ◌∙◌, ◌++◌, ◌∷◌, [], length, sym}
+use Rattle.gn_actors.specs.ActorState.{with_receipt}
+use Rattle.gn_hub.proofs.StepLemmas.{receipt_is}
 use Rattle.gn_hub.proofs.hub.Hub.call.Goals as goal
 
-pub returns : goal.returns
-returns g c =
+pub record-requires : goal.record-requires
+record-requires g c =
+    let e = c.in_ok-receipt.ensures in
+    let r = c.in_ok-receipt.receipt in
+    let before = c.self.inside.annals in
+    record {
+      step = e.step ∙ ap (λ steps. steps ++ record { actor = c.number.result; event = c.args.event.now; reply = r.reply } ∷ []) (sym c.self.invariant)
+          ∙ ap (λ n. before ++ record { actor = n; event = c.args.event.now; reply = r.reply } ∷ []) c.number.ensures
+          ∙ ap (λ v. before ++ record { actor = c.args.me.now.number; event = v; reply = r.reply } ∷ []) (sym e.event);
+      index = e.index ∙ ap length (sym c.self.invariant);
+    }
+
+pub returns-clause-made : goal.returns-clause-made
+returns-clause-made g c =
     let e = c.in_ok-receipt.ensures in (
       c.in_ok-receipt.receipt.reply,
       rw (← c.self.view_is) e.answer,
       search rules,
-      got c.args.me.now c.me.inside.number c.push_reserved.new.self.items c.in_ok-receipt.receipt _ _ (ap (λ w. w.number) c.me.view_is) (search rules) (rw (← c.self.view_is) e.index) e.event,
+      c.record.ensures.actor ∙ ap (λ r. with_receipt c.args.me.now r) (receipt_is c.in_ok-receipt.receipt _ _ (rw (← c.self.view_is) e.index) e.event),
     )
+
+pub returns-clause-receipt : goal.returns-clause-receipt
+returns-clause-receipt g c =
+    let e = c.in_ok-receipt.ensures in
+    (rw (← c.self.view_is) e.answer, e.event, c.record.ensures.actor)

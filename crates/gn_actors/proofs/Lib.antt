@@ -1,0 +1,4 @@
+pub mod FitLemmas
+pub mod HomeLemmas
+pub mod SeenLemmas
+pub mod Steps

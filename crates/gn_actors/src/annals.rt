@@ -1,0 +1,108 @@
+//! The steps of a run: how many by the ledger, and which, as only proofs read.
+
+ghost use Rattle.std.specs.Prelude.{◌≡◌, [], length};
+ghost use Rattle.gn_actors.specs.ActorState.{new_actor, with_receipt};
+ghost use Rattle.gn_actors.specs.Annals.{Fits, IsStepped};
+
+use crate::actor::Actor;
+use crate::growing::{Beginning, Growing, Lists, Named, Unnamed};
+use gn_rules::{Receipt, RouterCore, Step};
+use std::alloc::{Allocator, Global};
+use std::marker::Model;
+use std::sync::ledger::{Blank, Book, Ledger, Share};
+
+/// The list of a router are its steps.
+pub(crate) struct StepsOf;
+
+impl<C: RouterCore<A>, A: Allocator + Copy> Lists<C, Step<A>> for StepsOf {
+    ghost list = { λ core. C.steps core };
+}
+
+/// What the annals of a run are opened from: a ledger and a list of steps, which no type stands for yet.
+#[derive(Drop)]
+pub struct Unopened<A: Allocator = Global> {
+    pub blank: Blank,
+    pub steps: Unnamed<Step<A>>,
+}
+
+impl<A: Allocator> Unopened<A> {
+    /// Of a run whose ledger has so many parts.
+    pub fn new(parts: u64) -> Self
+        ensures { result.blank.parts ≡ parts }
+    {
+        Unopened {
+            blank: Blank::new(parts),
+            steps: Unnamed::new(),
+        }
+    }
+}
+
+/// All steps of a run, in order. It takes no memory.
+#[derive(Drop)]
+pub struct Annals<L: Ledger + Named, A: Allocator = Global> {
+    book: Book<L>,
+    pub(crate) steps: Growing<Step<A>, L>,
+}
+
+impl<L: Ledger + Named, A: Allocator> Model for Annals<L, A> {
+    ghost use Rattle.std.specs.Prelude.{◌≡◌, List, length};
+    ghost use Rattle.gn_rules.specs.declared.receipt.Step.{Step};
+
+    ghost Value = { List (Step A) };
+
+    ghost view = { λ a. a.steps.items };
+
+    ghost invariant = { λ a. a.book.total ≡ length a.steps.items };
+}
+
+impl<L: Ledger + Named, A: Allocator + Copy> Annals<L, A> {
+    /// Of a run that begins, with all parts of the ledger and the beginning of the history, which is empty.
+    pub fn open(unopened: Unopened<A>) -> (Self, Share<L>, Beginning<Step<A>, L>)
+        requires name { (unopened.blank.name ≡ L.name) × (unopened.steps.name ≡ L.growing) }
+        requires parts { unopened.blank.parts ≡ L.parts }
+        ensures annals { result.0 ≡ [] }
+        ensures share { (result.1.parts ≡ L.parts) × (result.1.amount ≡ 0) }
+        ensures seen { result.2.items ≡ [] }
+    {
+        let Unopened { blank, steps } = unopened;
+        let (book, share) = blank.open::<L>();
+        let (steps, seen) = steps.named::<L>();
+        (Annals { book, steps }, share, seen)
+    }
+
+    /// An actor made the last of the router's steps, of which this is the receipt.
+    pub fn record<C: RouterCore<A>>(&mut self, me: &mut Actor<L, A>, core: &C, receipt: &Receipt<A>)
+        requires { IsStepped self.old (C.steps core.now) me.old receipt.now }
+        ensures steps { self.new ≡ C.steps core.now }
+        ensures actor { me.new ≡ with_receipt me.old receipt.now }
+    {
+        let Annals { book, steps } = self;
+        let Actor {
+            receipts,
+            seen,
+            share,
+            ..
+        } = me;
+        *receipts = receipts.and(receipt);
+        steps.record::<C, StepsOf>(seen, core);
+        book.add(share, 1);
+    }
+
+    /// An actor's receipts stand among the router's steps.
+    pub fn confirm<C: RouterCore<A>>(&mut self, me: &mut Actor<L, A>, core: &C)
+        requires { C.steps core.now ≡ self.old }
+        ensures same { (self.new ≡ self.old) × (me.new ≡ me.old) }
+        ensures fits { Fits self.new me.new }
+    {
+        self.steps.record::<C, StepsOf>(&mut me.seen, core);
+    }
+
+    /// All shares together are as many as the steps.
+    pub fn audit(&mut self, all: &mut Share<L>)
+        requires { all.old.parts ≡ L.parts }
+        ensures total { all.new.amount ≡ length self.new }
+        ensures same { (self.new ≡ self.old) × (all.new.amount ≡ all.old.amount) × (all.new.parts ≡ all.old.parts) }
+    {
+        self.book.audit(all);
+    }
+}

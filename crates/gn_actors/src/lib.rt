@@ -1,0 +1,12 @@
+//! Who calls the router of a run, and what all of them did: each step is known where it is made, and no memory is kept of it.
+#![tactic(auto)]
+
+mod actor;
+mod annals;
+mod growing;
+mod home;
+
+pub use actor::Actor;
+pub use annals::{Annals, Unopened};
+pub use growing::{Beginning, Growing, Lists, Named, Unnamed};
+pub use home::Home;

@@ -1,0 +1,2 @@
+-- What is promised: contracts of public functions rest on it.
+pub mod Made
