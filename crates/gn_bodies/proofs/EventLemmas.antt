@@ -68,6 +68,15 @@ events-route t me us (index, reply, fits, got) = events-receipt me us (receipt i
 pub number-route : {A : Type 0} (t : ℕ) (me us : ActorState A) → HasReceipt (Route t) me us → us.number ≡ me.number
 number-route t me us (index, reply, fits, got) = ap (λ w. w.number) got
 
+-- nor is one that was asked for
+pub routed-events : {A E : Type 0} (answer : Result (Unit {0}) E) (t : ℕ) (me us : ActorState A) → MatchResult answer (λ _. HasReceipt (Route t) me us) (λ _. us ≡ me) → link_events us ≡ link_events me
+routed-events (Ok u) t me us got = link_events-route t me us got
+routed-events (Err e) t me us same = ap link_events same
+
+pub routed-connection : {A E : Type 0} (answer : Result (Unit {0}) E) (t : ℕ) (me us : ActorState A) → MatchResult answer (λ _. HasReceipt (Route t) me us) (λ _. us ≡ me) → KeepsConnection me us
+routed-connection (Ok u) t me us got = connection-route t me us got
+routed-connection (Err e) t me us same = λ c was. ap connection_of same ∙ was
+
 -- what an admission does
 admission_none : {A : Type 0} (c : ℕ) (d : Packet) (reply : Reply A) → replies (Admit c d) reply ≡ true → admitted_of reply ≡ None → (reply ≡ Busy) ⊎ (reply ≡ Crowded)
 admission_none c d (Connected e) fits none = absurd (cc)

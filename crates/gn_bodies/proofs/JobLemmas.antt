@@ -1,22 +1,20 @@
 -- The jobs that receipts leave, with one receipt more.
 use Rattle.std.proofs.Common.{◌≡◌, inl, inr, ℕ, Bool, true, false, cond, List, [], ◌∷◌, ◌++◌, map, Option, Some, None, refl, ap, ◌∙◌, sym, subst, append_assoc, append-nil, arith, nat_eq}
 use Rattle.std.specs.Prelude.{MatchResult, Result}
-use Rattle.std.proofs.lemmas.List.{map-append}
 use Rattle.gn_wire.specs.Packet.{Packet}
 use Rattle.gn_rules.specs.declared.event.Event.{Event}
 use Rattle.gn_rules.specs.declared.event.Event.TheVariants.{Connect, Close, Admit, Route, Take, Originate}
 use Rattle.gn_rules.specs.declared.receipt.Receipt.{Receipt}
 use Rattle.gn_rules.specs.declared.reply.Reply.{Reply}
 use Rattle.gn_rules.specs.declared.reply.Reply.TheVariants.{Connected, TooMany, Closed, Admitted, Busy, Crowded, Routed, Dropped, Taken, Sent}
-use Rattle.gn_stage.specs.Ends.{End, with_job}
 use Rattle.gn_stage.specs.Jobs.{Queued}
 use Rattle.gn_hub.specs.ActorState.{ActorState, receipt, with_receipt}
 use Rattle.gn_hub.specs.Receipts.{HasClosed, HasReceipt}
 use Rattle.gn_bodies.specs.declared.ends.BodyFault.{BodyFault}
-use Rattle.gn_bodies.specs.Admitting.{Admitting, GoesOn, HasAdmitted, HasOnlyConnected, IsOwed, IsSettled}
+use Rattle.gn_bodies.specs.Admitting.{Admitting, GoesOn, HasAdmitted, HasOnlyConnected, IsOwed, IsOwing, IsSettled}
 use Rattle.gn_bodies.specs.Events.{connection_of, events_of}
-use Rattle.gn_bodies.specs.Jobs.{is_route, is_routed_next, is_route_of, job_by, jobs_left, routes_of}
-use Rattle.gn_bodies.proofs.EventLemmas.{MayClose, close_connection, close_number, events-route, may_close}
+use Rattle.gn_bodies.specs.Jobs.{is_route, is_routed_next, is_route_of, job_by, jobs_left}
+use Rattle.gn_bodies.proofs.EventLemmas.{MayClose, close_connection, close_number, may_close}
 
 no_route : {A : Type 0} (reply : Reply A) (event : Event A) → is_route event ≡ false → is_route_of reply event ≡ false
 no_route (Connected c) event other = refl
@@ -150,13 +148,16 @@ settled_routed {A} jobs job t old me us first ticket was (index, reply, fits, go
     ∙ jobs_left-routed is.earlier is.index index is.connection job.ticket job.descriptor reply in
     ap (λ w. w.jobs) intake ∙ is.settled (sym refused ∙ other) ∙ ap (λ w. jobs ++ w) (sym left)
 
+-- of several that are owed one was put
+pub owing_put : {A : Type 0} (before left : List Queued) (job : Queued) (old me us : Admitting A) → me ≡ old → IsOwing before (job ∷ left) old → us.actor ≡ me.actor → us.is_refused ≡ me.is_refused
+    → us.intake.jobs ≡ me.intake.jobs ++ job ∷ [] → IsOwing before left us
+owing_put {A} before left job old me us first was actor refused put other =
+    let is : IsOwing before (job ∷ left) me = subst (λ (v : Admitting A). IsOwing before (job ∷ left) v) (sym first) was in
+    ap (λ w. w ++ left) put ∙ append_assoc me.intake.jobs (job ∷ []) left ∙ is (sym refused ∙ other) ∙ ap (λ w. before ++ jobs_left w.receipts) (sym actor)
+
+pub owing_next : {A : Type 0} (before jobs left : List Queued) (job : Queued) (me : Admitting A) → jobs ≡ job ∷ left → IsOwing before jobs me → IsOwing before (job ∷ left) me
+owing_next {A} before jobs left job me is was = subst (λ w. IsOwing before w me) is was
+
 -- an actor that did nothing has routed nothing
 pub routes_none : {A : Type 0} (start : List (Event A)) (me : ActorState A) → me.receipts ≡ [] → start ≡ start ++ events_of me
 routes_none {A} start me none = sym (ap (λ (rs : List (Receipt A)). start ++ map (λ r. r.event) rs) none ∙ append-nil start)
-
--- a job more was taken, and routed
-pub routes_more : {A : Type 0} (start : List (Event A)) (job : Queued) (before after : End Queued) (me us : ActorState A) → after ≡ with_job before job
-    → HasReceipt (Route job.ticket) me us → routes_of before.jobs ≡ start ++ events_of me → routes_of after.jobs ≡ start ++ events_of us
-routes_more start job before after me us grown got was =
-    ap (λ w. routes_of w.jobs) grown ∙ map-append (λ j. Route j.ticket) before.jobs (job ∷ []) ∙ ap (λ w. w ++ Route job.ticket ∷ []) was
-    ∙ append_assoc start (events_of me) (Route job.ticket ∷ []) ∙ ap (λ w. start ++ w) (sym (events-route job.ticket me us got))

@@ -3,5 +3,7 @@ pub mod DeliveryLemmas
 pub mod EventLemmas
 pub mod JobLemmas
 pub mod ReadingLemmas
+pub mod RouteLemmas
+pub mod SeveralLemmas
 pub mod TextLemmas
 pub mod WrittenLemmas

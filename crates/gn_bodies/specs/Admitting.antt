@@ -11,7 +11,8 @@ use Rattle.gn_stage.specs.Jobs.{Queued}
 use Rattle.gn_wire.specs.Packet.{Packet}
 use Rattle.gn_hub.specs.ActorState.{ActorState, receipt, with_receipt}
 use Rattle.gn_bodies.specs.Events.{connection_of, events_of, link_events}
-use Rattle.gn_bodies.specs.Jobs.{jobs_left}
+use Rattle.gn_bodies.specs.Jobs.{job_by, jobs_left}
+use Rattle.std.specs.List.{flat_map}
 use Rattle.gn_bodies.specs.Stops.{fault_of}
 use Rattle.gn_bodies.specs.declared.piece.Halt.{Halt}
 use Rattle.gn_bodies.specs.declared.piece.Halt.TheVariants.{NotLive, Stop}
@@ -77,3 +78,12 @@ pub record IsOwed {A : Type 0} (before : List Queued) (job : Queued) (me : Admit
   pub earlier : List (Receipt A)
   pub last : me.actor.receipts ≡ earlier ++ receipt index (Admit connection job.descriptor) (Admitted job.ticket) ∷ []
   pub settled : me.is_refused ≡ false → me.intake.jobs ≡ before ++ jobs_left earlier
+
+-- the jobs that receipts admitted, in order
+abbrev pub jobs_by : {A : Type 0} → List (Receipt A) → List Queued
+jobs_by receipts = flat_map (λ r. job_by r.event r.reply) receipts
+
+-- these jobs were admitted and are to be put: with no route refused, the jobs that its intake put and then these are those that its
+-- receipts leave, after those of before
+abbrev pub IsOwing : {A : Type 0} → List Queued → List Queued → Admitting A → Type 0
+IsOwing before jobs me = me.is_refused ≡ false → me.intake.jobs ++ jobs ≡ before ++ jobs_left me.actor.receipts

@@ -57,7 +57,7 @@ pub(crate) fn admit<
 }
 
 /// Why no more descriptors are admitted where one was refused so.
-fn halt_of(refusal: Refusal) -> Halt
+pub(crate) fn halt_of(refusal: Refusal) -> Halt
     ensures { result ≡ halt_of refusal }
 {
     match refusal {

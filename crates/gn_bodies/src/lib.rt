@@ -10,6 +10,7 @@ mod handler;
 mod piece;
 mod reader;
 mod reading;
+mod several;
 mod worker;
 mod writer;
 

@@ -15,7 +15,7 @@ use crate::ends::{BodyFault, ReaderEnd, fail_at_stop};
 use crate::handler::ReaderHandler;
 use crate::piece::{Piece, Reading};
 use gn_actors::Named;
-use gn_hub::{Actor, FoundClosed, Service};
+use gn_hub::{Actor, Batch, FoundClosed, Service};
 use gn_links::{Gate, Half, LinkReader};
 use gn_rules::{ConnId, RouterCore};
 use gn_shake::{Role, Shake};
@@ -175,6 +175,7 @@ pub fn reader_body<
     link: u32,
     role: Role,
     turns: u32,
+    batch: Batch,
     reader: Rd,
     intake: Intake<B, A>,
 ) -> ReaderDone<Rd, B, A>
@@ -194,6 +195,7 @@ pub fn reader_body<
         alloc,
         actor,
         intake,
+        batch,
         is_refused: false,
     };
     let mut found_closed = None;

@@ -1,5 +1,6 @@
 -- Receipts that an actor got, and that are kept.
-use Rattle.std.proofs.Common.{◌≡◌, List, [], ◌∷◌, ◌++◌, sym, ap, ◌∙◌, append_assoc, append-nil}
+use Rattle.std.proofs.Common.{◌≡◌, List, [], ◌∷◌, ◌++◌, Result, Ok, sym, subst, ap, ◌∙◌, append_assoc, append-nil}
+use Rattle.std.specs.Prelude.{IfOk}
 use Rattle.gn_rules.specs.declared.receipt.Receipt.{Receipt}
 use Rattle.gn_hub.specs.ActorState.{ActorState, with_receipt}
 use Rattle.gn_hub.specs.Receipts.{AreKept, with_receipts}
@@ -29,3 +30,7 @@ all_kept kept me us did = did.actor ∙ ap (λ w. with_receipts me w) (sym did.k
 -- none is kept, and none was got
 pub none_got : {A : Type 0} (kept : List (Receipt A)) (me us : ActorState A) → kept ≡ [] → us ≡ me → us ≡ with_receipts me kept
 none_got kept me us none still = all_kept kept me us (none_kept [] kept me us none still)
+
+-- what holds of what was answered well
+pub when_ok : {X E : Type 0} (answer : Result X E) (x : X) (P : X → Type 0) → answer ≡ Ok x → IfOk answer P → P x
+when_ok answer x P is did = subst (λ w. IfOk w P) is did

@@ -1,5 +1,5 @@
 -- What the calls that take the lock do to their actor.
-use Rattle.std.specs.Prelude.{◌≡◌, ◌<◌, ◌≤◌, ℕ, Bool, true, false, List, ◌++◌, length, map, Option, Some, None}
+use Rattle.std.specs.Prelude.{◌≡◌, ◌<◌, ◌≤◌, ℕ, Bool, true, false, List, [], ◌∷◌, ◌++◌, length, map, slice_index_or, take, Option, Some, None}
 use Rattle.gn_wire.specs.Packet.{Packet}
 use Rattle.gn_rules.specs.declared.event.Event.{Event}
 use Rattle.gn_rules.specs.declared.event.Event.TheVariants.{Close, Take}
@@ -9,7 +9,8 @@ use Rattle.gn_rules.specs.declared.refusal.Refusal.TheVariants.{HistoryFull, NoM
 use Rattle.gn_rules.specs.declared.reply.Reply.{Reply}
 use Rattle.gn_rules.specs.declared.reply.Reply.TheVariants.{Closed, Taken}
 use Rattle.gn_hub.specs.ActorState.{ActorState, receipt, with_receipt}
-use Rattle.gn_rules.specs.Fits.{replies}
+use Rattle.gn_rules.specs.Fits.{refuses, replies}
+use Rattle.gn_hub.specs.declared.progress.Progress.{Progress}
 
 -- an actor got a receipt of the event, with a reply that it may have
 abbrev pub HasReceipt : {A : Type 0} → Event A → ActorState A → ActorState A → Type 0
@@ -29,6 +30,20 @@ pub record AreKept {A : Type 0} (before after : List (Receipt A)) (me us : Actor
   pub got : List (Receipt A)
   pub kept : after ≡ before ++ got
   pub actor : us ≡ with_receipts me got
+
+-- an actor got a receipt of each of these events, in order, with a reply that it may have
+abbrev pub HasReceipts : {A : Type 0} → List (Event A) → ActorState A → ActorState A → Type 0
+HasReceipts [] me us = us ≡ me
+HasReceipts {A} (event ∷ events) me us = (mid : ActorState A) × HasReceipt event me mid × HasReceipts events mid us
+
+-- an actor got receipts of the first of these events, so many as were done: of one at least, where none was refused
+pub record HasProgressed {A : Type 0} (events : List (Event A)) (progress : Progress) (me us : ActorState A) : Type 0 where
+  pub within : progress.done ≤ length events
+  pub receipts : HasReceipts (take progress.done events) me us
+  pub some : progress.refusal ≡ None → 0 < progress.done
+  -- the next one was refused as it may be
+  pub refused : (refusal : Refusal) → progress.refusal ≡ Some refusal
+      → (progress.done < length events) × ((d : Event A) → refuses (slice_index_or events progress.done d) refusal ≡ true)
 
 -- an actor got a receipt of a packet that was taken
 abbrev pub HasTaken : {A : Type 0} → ℕ → ActorState A → ActorState A → Type 0

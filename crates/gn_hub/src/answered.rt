@@ -5,6 +5,7 @@ ghost use Rattle.gn_rules.specs.declared.event.Event.TheVariants.{Connect, Route
 ghost use Rattle.gn_rules.specs.Fits.{refuses};
 ghost use Rattle.gn_rules.specs.History.{live};
 ghost use Rattle.gn_hub.specs.HubState.{is_closing, past_of};
+ghost use Rattle.gn_hub.specs.ActorState.{with_receipt};
 ghost use Rattle.gn_hub.specs.Receipts.{AreKept, HasClosed, HasDrained, HasReceipt, HasTaken, HasTakenMore, HasTakenSome, HasThis, is_stop};
 ghost use Rattle.gn_hub.specs.Waking.{LeavesOthers, LeavesWaiting, wakes_of};
 ghost use Rattle.gn_hub.specs.declared.wakes.Wakes.TheVariants.{Nobody, Everybody};
@@ -54,6 +55,7 @@ impl<C: RouterCore<A>, L: Ledger + Named, A: Allocator + Copy> Hub<C, L, A> {
             (λ _. HasReceipt event.now me.old me.new)
             (λ refusal. (refuses event.now refusal ≡ true) × (me.new ≡ me.old)) }
         ensures receipt { IfOk result.answer (λ r. HasThis event.now r me.old me.new) }
+        ensures got { IfOk result.answer (λ r. me.new ≡ with_receipt me.old r) }
         ensures quiet { MatchResult result.answer
             (λ _. LeavesOthers result.wakes me.new self.old self.new)
             (λ _. self.new ≡ self.old) }
@@ -79,6 +81,7 @@ impl<C: RouterCore<A>, L: Ledger + Named, A: Allocator + Copy> Hub<C, L, A> {
             (λ _. HasReceipt (Route ticket) me.old me.new)
             (λ refusal. (refuses {A = A} (Route ticket) refusal ≡ true) × (me.new ≡ me.old)) }
         ensures receipt { IfOk result.answer (λ r. HasThis (Route ticket) r me.old me.new) }
+        ensures got { IfOk result.answer (λ r. me.new ≡ with_receipt me.old r) }
         ensures quiet { MatchResult result.answer
             (λ _. LeavesOthers result.wakes me.new self.old self.new)
             (λ _. self.new ≡ self.old) }

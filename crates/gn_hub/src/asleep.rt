@@ -48,6 +48,14 @@ impl Asleep {
         self.at_door = true;
     }
 
+    /// With these others.
+    pub fn add(&mut self, others: Asleep) {
+        for at in 0..WORDS {
+            self.words[at] |= others.words[at];
+        }
+        self.at_door = self.at_door || others.at_door;
+    }
+
     /// Takes out all.
     pub fn take_all(&mut self) -> Self {
         let all = *self;

@@ -1,18 +1,20 @@
 //! The lock that the threads of a run take.
 
-ghost use Rattle.std.specs.Prelude.{◌≡◌, true, false, IfOk, IfErr, MatchResult};
+ghost use Rattle.std.specs.Prelude.{◌≡◌, ◌<◌, [], true, false, length, map, IfOk, IfErr, MatchResult};
 ghost use Rattle.gn_rules.specs.declared.event.Event.TheVariants.{Connect, Route};
 ghost use Rattle.gn_rules.specs.Fits.{refuses};
 ghost use Rattle.gn_hub.specs.declared.next.Outgoing.TheVariants.{Packet, Drained, Closed};
-ghost use Rattle.gn_hub.specs.Receipts.{HasClosed, HasDrained, HasReceipt, HasTakenSome, HasThis, is_stop, with_receipts};
+ghost use Rattle.gn_hub.specs.Receipts.{HasClosed, HasDrained, HasProgressed, HasReceipt, HasTakenSome, HasThis, is_stop, with_receipts};
 
 use crate::answered::Answered;
 use crate::asleep::Asleep;
 use crate::batch::Batch;
 use crate::found::FoundClosed;
+use crate::held::Held;
 use crate::hub::Hub;
 use crate::mark::Door;
 use crate::next::Outgoing;
+use crate::progress::Progress;
 use crate::waiters::Waiters;
 use crate::wakes::Wakes;
 use crossbeam_utils::CachePadded;
@@ -31,13 +33,6 @@ const TRIES: u32 = 32;
 
 /// How many looks are a try.
 const LOOKS: u32 = 8;
-
-/// What lies under the lock: the hub, and who sleeps.
-#[derive(Drop)]
-struct Held<C: RouterCore<A> + Drop, L: Ledger + Named, A: Allocator + Copy = Global> {
-    hub: Hub<C, L, A>,
-    asleep: Asleep,
-}
 
 /// The hub under one lock, and where threads sleep until a change may have brought what they wait for: a door, a packet, the end of a
 /// connection, the closing of the run, or its failure. Before it takes the lock for a step, a thread waits for room for that.
@@ -99,6 +94,21 @@ impl<C: RouterCore<A> + Drop, L: Ledger + Named, A: Allocator + Copy> Service<C,
         } else {
             Err(AllocError)
         }
+    }
+
+    /// Waits for room for one more step, and makes some for its receipt and those of further ones, so many in all, in place of
+    /// those that are lent. An `Err` is out of memory, or nobody takes steps any more.
+    fn make_room<R: Wait>(
+        &self,
+        rt: &R,
+        kept: &mut Vec<Receipt<A>, A>,
+        most: usize,
+    ) -> Result<(), AllocError>
+        ensures { kept.new.items ≡ [] }
+    {
+        kept.clear();
+        kept.reserve(most)?;
+        self.wait_for_room(rt)
     }
 
     /// Lets the hub go after a call on it, and wakes those who have to look again.
@@ -163,6 +173,51 @@ impl<C: RouterCore<A> + Drop, L: Ledger + Named, A: Allocator + Copy> Service<C,
         answer
     }
 
+    /// An actor's events in order, in one hold of the lock, until one is refused. Each further one only where there is room for its step
+    /// without waiting. The receipts of this call are put in place of those that are lent.
+    pub fn call_all<R: Wait>(
+        &self,
+        rt: &R,
+        me: &mut Actor<L, A>,
+        events: &[Event<A>],
+        kept: &mut Vec<Receipt<A>, A>,
+    ) -> Progress
+        requires some { 0 < length events.now }
+        ensures made { HasProgressed events.now result me.old me.new }
+        ensures kept { me.new ≡ with_receipts me.old kept.new.items }
+    {
+        if self.make_room(rt, kept, events.len()).is_err() {
+            return Progress::no_memory();
+        }
+        let mut held = self.lock(rt);
+        let mut woken = Asleep::nobody();
+        let progress = held.call_all(me, events, &self.room, &mut woken, kept);
+        self.release(rt, held, woken);
+        progress
+    }
+
+    /// As `call_all`, of Routes, with their descriptors' payloads checked beforehand.
+    pub fn route_all<R: Wait>(
+        &self,
+        rt: &R,
+        me: &mut Actor<L, A>,
+        jobs: &[(Ticket, Checked<A>)],
+        kept: &mut Vec<Receipt<A>, A>,
+    ) -> Progress
+        requires some { 0 < length jobs.now }
+        ensures made { HasProgressed (map (λ job. Route job.0) jobs.now) result me.old me.new }
+        ensures kept { me.new ≡ with_receipts me.old kept.new.items }
+    {
+        if self.make_room(rt, kept, jobs.len()).is_err() {
+            return Progress::no_memory();
+        }
+        let mut held = self.lock(rt);
+        let mut woken = Asleep::nobody();
+        let progress = held.route_all(me, jobs, &self.room, &mut woken, kept);
+        self.release(rt, held, woken);
+        progress
+    }
+
     /// The Connect of the reader of a link, which opens or shuts its door.
     pub fn connect<R: Wait>(
         &self,
@@ -221,11 +276,8 @@ impl<C: RouterCore<A> + Drop, L: Ledger + Named, A: Allocator + Copy> Service<C,
         ensures refused { IfErr result (λ refusal. (is_stop refusal ≡ true) × (me.new ≡ me.old)) }
         ensures kept { me.new ≡ with_receipts me.old kept.new.items }
     {
-        kept.clear();
-        kept.reserve(batch.most() as usize)?;
-        self.wait_for_room(rt)?;
+        self.make_room(rt, kept, batch.most() as usize)?;
         let mut held = self.lock(rt);
-        let mut has_yielded = false;
         for _ in rt.forever() {
             let Answered { answer, wakes } = held
                 .hub
@@ -235,26 +287,10 @@ impl<C: RouterCore<A> + Drop, L: Ledger + Named, A: Allocator + Copy> Service<C,
                 self.release(rt, held, woken);
                 return Ok(next);
             }
-            held = if has_yielded {
-                held.asleep.add_writer(c);
-                self.waiters.sleep_for(rt, held, c)
-            } else {
-                self.pass(rt, held)
-            };
-            has_yielded = !has_yielded;
+            held.asleep.add_writer(c);
+            held = self.waiters.sleep_for(rt, held, c);
         }
         unreachable!()
-    }
-
-    /// Lets the hub go, lets others run, and takes it again. That costs less than to sleep and be woken, and often brings a packet.
-    fn pass<'s, R: Wait>(
-        &'s self,
-        rt: &R,
-        held: MutexGuard<'s, CachePadded<Held<C, L, A>>>,
-    ) -> MutexGuard<'s, CachePadded<Held<C, L, A>>> {
-        drop(held);
-        yield_now();
-        self.lock(rt)
     }
 
     /// Waits until the door of the link is open or shut, or the run has failed. The connection, where it is open.

@@ -76,6 +76,15 @@ impl<S: Site, A: Allocator> Outlet<S, A> {
         unreachable!()
     }
 
+    /// Takes the job that was queued first, where it is there already. `None` says nothing: beside another thread inside a call of the
+    /// stage it may come though a job waits.
+    pub fn try_take<R: Wait>(&mut self, rt: &R) -> Option<Job<A>>
+        ensures { MatchOption result (self.new ≡ self.old) (λ job. self.new ≡ with_job self.old job) }
+    {
+        self.ready.try_recv(rt).ok()?;
+        self.take_one(rt)
+    }
+
     /// Takes the job at the head. `None` also comes to an outlet whose job another took: one that found the stage closed
     /// takes what it can, whoever has the token.
     fn take_one<R: Wait>(&mut self, rt: &R) -> Option<Job<A>>

@@ -137,6 +137,7 @@ fn run_reader<
         link,
         role,
         limits.turns,
+        limits.batch,
         reader,
         intake,
     )
@@ -181,12 +182,19 @@ fn run_writer<
 
 /// The body of a worker, from its start.
 fn run_worker<
-    B: Site + Ledger + Named,
+    B: Site + Ledger + Limited + Named,
     C: RouterCore<A> + Drop,
     G: Gate,
     A: Allocator + Copy,
     R: Wait,
->(rt: &R, service: &Service<C, B, A>, gate: &G, start: WorkerStart<B, A>) -> WorkerDone<B, A>
+>(
+    rt: &R,
+    alloc: A,
+    service: &Service<C, B, A>,
+    gate: &G,
+    limits: &Limits<B>,
+    start: WorkerStart<B, A>,
+) -> WorkerDone<B, A>
     ensures { link_events result.actor ≡ [] }
 {
     let WorkerStart {
@@ -194,7 +202,16 @@ fn run_worker<
         worker,
         outlet,
     } = start;
-    worker_body(rt, service, actor, worker, gate, outlet)
+    worker_body(
+        rt,
+        alloc,
+        service,
+        actor,
+        worker,
+        gate,
+        limits.batch,
+        outlet,
+    )
 }
 
 /// Starts a thread of this scope that keeps this promise. False where none can be made.
@@ -304,11 +321,12 @@ impl<
     ) -> bool
         ensures { result ≡ true → vec_len handles.new ≡ vec_len handles.old + 1 }
     {
-        let (rt, service, gate) = (self.rt, self.service, self.gate);
+        let (rt, alloc, service, gate) = (self.rt, self.alloc, self.service, self.gate);
+        let limits = self.limits;
         start_thread(
             self.scope,
             Works,
-            move || run_worker(rt, service, gate, start),
+            move || run_worker(rt, alloc, service, gate, limits, start),
             handles,
         )
     }

@@ -120,7 +120,8 @@ the others are served, 0 to 86400; 0: it is called once",
         letter: None,
         takes: Takes::Usual("N", "64"),
         help: "\
-How many packets are written to a neighbour at once at most, 1 to 1024.
+How many packets are written to a neighbour at once at most, 1 to 1024;
+as many descriptors are admitted, and routed by a worker, at once.
 A larger batch is faster. Where a write fails, up to so many packets that
 were taken for that neighbour are lost",
     },

@@ -93,7 +93,8 @@ pub mod stage {
 pub mod hub {
     pub use gn_actors::{Beginning, Growing, Home, Lists, Named, Unnamed, Unopened};
     pub use gn_hub::{
-        Actor, Batch, Door, FoundClosed, Frame, Hub, Mark, Next, Outgoing, Service, ServiceFault,
+        Actor, Batch, Door, FoundClosed, Frame, Hub, Mark, Next, Outgoing, Progress, Service,
+        ServiceFault,
     };
     pub use gn_room::{Following, Room, run_beside};
 }

@@ -208,9 +208,11 @@ where
 /// How a worker ends that has this outlet; well, where there is none.
 fn worker_end<A, C, B: Site + Ledger + Named, R: Wait>(
     rt: &R,
+    alloc: A,
     service: &Service<C, B, A>,
     worker: Actor<B, A>,
     gate: &Doorman,
+    batch: Batch,
     outlet: Option<Outlet<B, A>>,
 ) -> Result<(), BodyFault>
 where
@@ -222,7 +224,7 @@ where
         drop(worker);
         return Ok(());
     };
-    worker_body(rt, service, worker, WORKER, gate, outlet).end
+    worker_body(rt, alloc, service, worker, WORKER, gate, batch, outlet).end
 }
 
 /// The reader, the worker, where there is one, and the writer of one link, one after the other.
@@ -256,11 +258,11 @@ where
     let gate = Doorman::new();
     begin_refusals(refused);
     let done = reader_body(
-        rt, alloc, &service, &gate, a, 0, role, 1_000_000, reader, intake,
+        rt, alloc, &service, &gate, a, 0, role, 1_000_000, batch, reader, intake,
     );
     let read = done.end;
     drop(done);
-    let worked = worker_end(rt, &service, k, &gate, outlet);
+    let worked = worker_end(rt, alloc, &service, k, &gate, batch, outlet);
     let wrote = writer_body(rt, alloc, &service, &gate, w, 0, role, batch, writer);
     let has_refused = end_refusals(refused);
     what_ran(&gate, service.into_hub(), read, worked, wrote, has_refused)

@@ -32,3 +32,9 @@ returns-in-Ok-clause-receipt g c =
 
 pub returns-in-Err-clause-receipt : goal.returns-in-Err-clause-receipt
 returns-in-Err-clause-receipt g c = rw c.refused.ensures.answer tt
+
+pub returns-in-Ok-clause-got : goal.returns-in-Ok-clause-got
+returns-in-Ok-clause-got g c = c.in-Ok.ensures.receipt.2
+
+pub returns-in-Err-clause-got : goal.returns-in-Err-clause-got
+returns-in-Err-clause-got g c = rw c.refused.ensures.answer tt

@@ -28,7 +28,7 @@ returns-in_err-next-clause-refused g c =
     search rules
 
 pub loop-init : goal.loop-init
-loop-init g c = (refl, none_kept _ _ _ _ (c.reserve.ensures.items ∙ c.clear.ensures.items) refl)
+loop-init g c = (refl, none_kept _ _ _ _ c.make_room.ensures refl)
 
 pub returns-in-Some-2-clause-kept : goal.returns-in-Some-2-clause-kept
 returns-in-Some-2-clause-kept g c = all_kept _ _ _ (kept_on _ _ _ _ _ _ c.loop.invariant.1 c.batch_answered-answer.ensures.kept)

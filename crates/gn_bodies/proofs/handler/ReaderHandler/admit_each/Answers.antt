@@ -4,7 +4,7 @@ use Rattle.gn_wire.specs.Packet.{Packet}
 use Rattle.gn_rules.specs.declared.event.Event.TheVariants.{Admit}
 use Rattle.gn_bodies.specs.Events.{link_events}
 use Rattle.gn_bodies.proofs.AdmitLemmas.{admitting_none, admitting_more, admitting_part}
-use Rattle.gn_bodies.proofs.handler.ReaderHandler.admit_all.Goals as goal
+use Rattle.gn_bodies.proofs.handler.ReaderHandler.admit_each.Goals as goal
 
 pub loop-descriptor-init : goal.loop-descriptor-init
 loop-descriptor-init g c = admitting_none (into_iter_items c.into_iter-descriptor-iterator.result) c.args.c c.args.self.now
