@@ -1,12 +1,11 @@
 -- Receipts that fit a history fit each longer one, and one more receipt fits with its step.
-use Rattle.std.proofs.Common.{◌≡◌, ◌≤◌, ◌<◌, ◌+◌, ℕ, suc, Bool, true, false, not, ◌&&◌, ◌||◌, nat_lt, List, [], ◌∷◌, ◌++◌, length, get_or, refl, sym, ◌∙◌, subst, arith, inl, inr}
+use Rattle.std.proofs.Common.{◌≡◌, ◌≤◌, ◌<◌, ◌+◌, ℕ, suc, true, not, nat_lt, List, [], ◌∷◌, ◌++◌, length, get_or, refl, sym, ◌∙◌, subst, arith, inl, inr}
 use mathlib.Core.List.{IsPrefix, append-nil}
 use Rattle.std.proofs.lemmas.Bool.{and_parts, cases_lt, le-ltb}
 use Rattle.std.proofs.lemmas.List.{get_or_push, get_or_append_left, length-append, length_push}
 use Rattle.gn_rules.specs.declared.receipt.Receipt.{Receipt}
 use Rattle.gn_rules.specs.declared.receipt.Step.{Step}
-use Rattle.std.specs.List.{list_any}
-use Rattle.gn_rules.specs.History.{step_of, live, is_at, is_close, connected_of}
+use Rattle.gn_rules.specs.History.{step_of}
 use Rattle.gn_laws.specs.Owners.{AreFitting, indices_ascend}
 
 -- receipts that fit steps fit them and more
@@ -49,22 +48,6 @@ fit_next {A} steps a rs r is fits =
           ];
       ascend = ascend_push 0 (length steps) rs r (omega arith) is (λ j d low. (fits.stands j d (step_of a r) low).0) fits.ascend;
     }
-
--- a connection that was made, and isn't live, was closed
-pub made_then_closed : {A : Type 0} (past : List (Step A)) (c : ℕ) → live past c ≡ false → list_any (λ step. is_at c (connected_of step.reply)) past ≡ true → list_any (λ step. is_close c step.event) past ≡ true
-made_then_closed [] c gone made = absurd (cc)
-made_then_closed {A} (step ∷ earlier) c gone made = by_cases (is_at c (connected_of step.reply)) (is_close c step.event) (live earlier c) gone made (made_then_closed earlier c)
-  where
-    closed : Bool
-    closed = list_any (λ (s : Step A). is_close c s.event) earlier
-
-    made_before : Bool
-    made_before = list_any (λ (s : Step A). is_at c (connected_of s.reply)) earlier
-
-    by_cases : (m k l : Bool) → (m || (not k && l)) ≡ false → (m || made_before) ≡ true → (l ≡ false → made_before ≡ true → closed ≡ true) → (k || closed) ≡ true
-    by_cases true k l gone' made' earlier' = absurd (cc)
-    by_cases false true l gone' made' earlier' = refl
-    by_cases false false l gone' made' earlier' = earlier' gone' made'
 
 -- an actor's receipts fit after its step
 pub fit_recorded : {A : Type 0} (seen before after : List (Step A)) (a : ℕ) (rs : List (Receipt A)) (r : Receipt A) → IsPrefix seen before → after ≡ before ++ step_of a r ∷ [] → r.index ≡ length before → AreFitting seen a rs

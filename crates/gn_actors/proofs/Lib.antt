@@ -1,4 +1,4 @@
 pub mod FitLemmas
 pub mod HomeLemmas
-pub mod SeenLemmas
 pub mod Steps
+pub mod TallyLemmas

@@ -3,3 +3,4 @@ pub mod ActorState
 pub mod Annals
 pub mod Growing
 pub mod Home
+pub mod Tallies

@@ -1,8 +1,9 @@
 //! The steps of a run: how many by the ledger, and which, as only proofs read.
 
-ghost use Rattle.std.specs.Prelude.{◌≡◌, [], length};
-ghost use Rattle.gn_actors.specs.ActorState.{new_actor, with_receipt};
-ghost use Rattle.gn_actors.specs.Annals.{Fits, IsStepped};
+ghost use Rattle.std.specs.Prelude.{◌≡◌, ◌+◌, [], length};
+ghost use mathlib.Core.List.{IsPrefix};
+ghost use Rattle.gn_actors.specs.ActorState.{with_receipt};
+ghost use Rattle.gn_actors.specs.Annals.{IsStepped};
 
 use crate::actor::Actor;
 use crate::growing::{Beginning, Growing, Lists, Named, Unnamed};
@@ -42,6 +43,7 @@ impl<A: Allocator> Unopened<A> {
 pub struct Annals<L: Ledger + Named, A: Allocator = Global> {
     book: Book<L>,
     pub(crate) steps: Growing<Step<A>, L>,
+    seen: Beginning<Step<A>, L>,
 }
 
 impl<L: Ledger + Named, A: Allocator> Model for Annals<L, A> {
@@ -66,8 +68,9 @@ impl<L: Ledger + Named, A: Allocator + Copy> Annals<L, A> {
     {
         let Unopened { blank, steps } = unopened;
         let (book, share) = blank.open::<L>();
-        let (steps, seen) = steps.named::<L>();
-        (Annals { book, steps }, share, seen)
+        let (steps, mut seen) = steps.named::<L>();
+        let first = seen.again();
+        (Annals { book, steps, seen }, share, first)
     }
 
     /// An actor made the last of the router's steps, of which this is the receipt.
@@ -76,8 +79,10 @@ impl<L: Ledger + Named, A: Allocator + Copy> Annals<L, A> {
         ensures steps { self.new ≡ C.steps core.now }
         ensures actor { me.new ≡ with_receipt me.old receipt.now }
     {
-        let Annals { book, steps } = self;
+        let Annals { book, steps, .. } = self;
         let Actor {
+            last,
+            tally,
             receipts,
             seen,
             share,
@@ -86,23 +91,44 @@ impl<L: Ledger + Named, A: Allocator + Copy> Annals<L, A> {
         *receipts = receipts.and(receipt);
         steps.record::<C, StepsOf>(seen, core);
         book.add(share, 1);
+        *last = place_after(receipt);
+        *tally = tally.with(receipt);
     }
 
-    /// An actor's receipts stand among the router's steps.
-    pub fn confirm<C: RouterCore<A>>(&mut self, me: &mut Actor<L, A>, core: &C)
+    /// The steps so far, for who wants to know of them later.
+    pub fn so_far<C: RouterCore<A>>(&mut self, core: &C) -> Beginning<Step<A>, L>
         requires { C.steps core.now ≡ self.old }
-        ensures same { (self.new ≡ self.old) × (me.new ≡ me.old) }
-        ensures fits { Fits self.new me.new }
+        ensures same { self.new ≡ self.old }
+        ensures seen { result.items ≡ self.old }
     {
-        self.steps.record::<C, StepsOf>(&mut me.seen, core);
+        let Annals { steps, seen, .. } = self;
+        steps.record::<C, StepsOf>(seen, core);
+        seen.again()
+    }
+
+    /// What was seen before is a beginning of the steps.
+    pub fn recall<C: RouterCore<A>>(&mut self, seen: Beginning<Step<A>, L>, core: &C)
+        requires { C.steps core.now ≡ self.old }
+        ensures same { self.new ≡ self.old }
+        ensures began { IsPrefix seen.items self.new }
+    {
+        let mut seen = seen;
+        self.look(&mut seen, core);
     }
 
     /// All shares together are as many as the steps.
-    pub fn audit(&mut self, all: &mut Share<L>)
+    pub(crate) fn audit(&mut self, all: &mut Share<L>)
         requires { all.old.parts ≡ L.parts }
         ensures total { all.new.amount ≡ length self.new }
         ensures same { (self.new ≡ self.old) × (all.new.amount ≡ all.old.amount) × (all.new.parts ≡ all.old.parts) }
     {
         self.book.audit(all);
     }
+}
+
+/// One more than the index of a receipt.
+fn place_after<A: Allocator>(receipt: &Receipt<A>) -> u64
+    ensures { result ≡ receipt.now.index + 1 }
+{
+    u64::from(receipt.index) + 1
 }

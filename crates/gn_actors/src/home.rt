@@ -8,7 +8,7 @@ use crate::actor::Actor;
 use crate::annals::{Annals, StepsOf};
 use crate::growing::{Beginning, Named};
 use gn_laws::fitting_are_mine;
-use gn_rules::{RouterCore, Step};
+use gn_rules::{Receipt, RouterCore, Step};
 use gn_trail::Trail;
 use std::alloc::{Allocator, Global};
 use std::marker::Model;
@@ -35,26 +35,34 @@ impl<L: Ledger + Named, A: Allocator> Model for Home<L, A> {
 }
 
 impl<L: Ledger + Named, A: Allocator> Home<L, A> {
-    /// The first who is home.
-    pub fn of(me: Actor<L, A>) -> Self
-        ensures { result ≡ me ∷ [] }
+    /// The first who is home, and its receipts.
+    pub fn of(me: Actor<L, A>) -> (Self, Trail<Receipt<A>>)
+        ensures home { result.0 ≡ me ∷ [] }
+        ensures receipts { result.1.items ≡ me.receipts }
     {
         let actors = Trail::new().and(&me);
-        let (seen, share) = me.go_home();
-        Home {
+        let (receipts, seen, share) = me.go_home();
+        let home = Home {
             actors,
             seen,
             share,
-        }
+        };
+        (home, receipts)
     }
 }
 
 impl<L: Ledger + Named, A: Allocator + Copy> Annals<L, A> {
-    /// An actor comes home.
-    pub fn welcome<C: RouterCore<A>>(&mut self, home: &mut Home<L, A>, me: Actor<L, A>, core: &C)
+    /// An actor comes home. Its receipts.
+    pub fn welcome<C: RouterCore<A>>(
+        &mut self,
+        home: &mut Home<L, A>,
+        me: Actor<L, A>,
+        core: &C,
+    ) -> Trail<Receipt<A>>
         requires { C.steps core.now ≡ self.old }
         ensures same { self.new ≡ self.old }
         ensures home { home.new ≡ home.old ++ me ∷ [] }
+        ensures receipts { result.items ≡ me.receipts }
     {
         let Home {
             actors,
@@ -62,10 +70,11 @@ impl<L: Ledger + Named, A: Allocator + Copy> Annals<L, A> {
             share,
         } = home;
         *actors = actors.and(&me);
-        let (mut known, own) = me.go_home();
+        let (receipts, mut known, own) = me.go_home();
         self.look(&mut known, core);
         self.look(seen, core);
         share.merge(own);
+        receipts
     }
 
     /// What was seen is a beginning of the steps, and all of them are seen.

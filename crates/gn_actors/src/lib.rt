@@ -5,8 +5,10 @@ mod actor;
 mod annals;
 mod growing;
 mod home;
+mod tally;
 
 pub use actor::Actor;
 pub use annals::{Annals, Unopened};
 pub use growing::{Beginning, Growing, Lists, Named, Unnamed};
 pub use home::Home;
+pub use tally::Tally;

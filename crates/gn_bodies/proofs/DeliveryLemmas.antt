@@ -14,8 +14,8 @@ use Rattle.gn_hub.specs.ActorState.{ActorState}
 use Rattle.gn_bodies.specs.declared.piece.Halt.{Halt}
 use Rattle.gn_bodies.specs.declared.piece.Halt.TheVariants as halt
 use Rattle.gn_bodies.specs.Admitting.{Admitting, GoesOn}
-use Rattle.gn_bodies.specs.Events.{connection_of, link_events}
-use Rattle.gn_bodies.specs.Reading.{HasTakenPiece, IsTaken, piece_of}
+use Rattle.gn_bodies.specs.Events.{link_events}
+use Rattle.gn_bodies.specs.Reading.{HasTakenPiece, IsOffered, IsOpen, IsTaken, piece_of}
 use Rattle.gn_bodies.proofs.ReadingLemmas.{fault_row, not_live_row, whole_more}
 
 pub streamed : (s piece : List ℕ) (before : Option (List ℕ)) (ds : List Packet) (fault : Option FrameFault) (after : Option (List ℕ)) → PiecesAreOneStream → before ≡ held_of (frames_of s)
@@ -42,13 +42,40 @@ delivered_part s piece c n ds fault after me us is was below more =
     let long : length all ≡ length first + length ds = ap length is.all ∙ length-append first ds in
     (length first + n, omega arith, more ∙ ap (λ w. w ++ map (Admit c) (take n ds)) was ∙ ap (λ w. Connect ∷ w) (sym both))
 
+-- descriptors more were admitted
+offered_more : {A : Type 0} (c : ℕ) (ds : List Packet) (me us : ActorState A) → IsOffered c me.receipts → link_events us ≡ link_events me ++ map (Admit c) ds → IsOffered c us.receipts
+offered_more c ds me us (first, was) more =
+    (first ++ ds, more ∙ ap (λ w. w ++ map (Admit c) ds) was ∙ ap (λ w. Connect ∷ w) (sym (map-append (Admit c) first ds)))
+
 -- a piece whose descriptors were admitted so is taken
-pub admitted_piece : {A : Type 0} (c : ℕ) (frames : Option (List ℕ)) (admitted : Result (Unit {0}) Halt) (fault : Option FrameFault) (before after : Admitting A) → connection_of before.actor ≡ Some c
-    → GoesOn before after → HasTakenPiece (piece_of c frames admitted fault) before after
-admitted_piece c frames (Ok u) None before after has went = record { numbers = went.numbers; settled = went.settled; connection = went.connection c has; ends = tt; alone = tt }
-admitted_piece c frames (Ok u) (Some f) before after has went = record { numbers = went.numbers; settled = went.settled; connection = went.connection c has; ends = refl; alone = λ none. absurd (cc) }
-admitted_piece c frames (Err halt.NotLive) fault before after has went = record { numbers = went.numbers; settled = went.settled; connection = went.connection c has; ends = refl; alone = λ none. absurd (cc) }
-admitted_piece c frames (Err (halt.Stop f)) fault before after has went = record { numbers = went.numbers; settled = went.settled; connection = tt; ends = tt; alone = tt }
+pub admitted_piece : {A : Type 0} (c : ℕ) (ds : List Packet) (frames : Option (List ℕ)) (admitted : Result (Unit {0}) Halt) (fault : Option FrameFault) (before after : Admitting A) → IsOpen c before.actor
+    → GoesOn before after → OnOk admitted (link_events after.actor ≡ link_events before.actor ++ map (Admit c) ds)
+    → IfErr admitted (λ why. why ≡ halt.NotLive → (n : ℕ) × (n < length ds) × (link_events after.actor ≡ link_events before.actor ++ map (Admit c) (take n ds)))
+    → HasTakenPiece (piece_of c frames admitted fault) before after
+admitted_piece c ds frames (Ok u) None before after has went all not_live = record {
+  numbers = went.numbers;
+  settled = went.settled;
+  connection = record { connection = went.connection c has.connection; offered = offered_more c ds before.actor after.actor has.offered all };
+  ends = tt;
+  alone = tt;
+}
+admitted_piece c ds frames (Ok u) (Some f) before after has went all not_live = record {
+  numbers = went.numbers;
+  settled = went.settled;
+  connection = (went.connection c has.connection, (refl, offered_more c ds before.actor after.actor has.offered all));
+  ends = refl;
+  alone = λ none. absurd (cc);
+}
+admitted_piece c ds frames (Err halt.NotLive) fault before after has went all not_live =
+    let (n, below, more) = not_live refl in
+    record {
+      numbers = went.numbers;
+      settled = went.settled;
+      connection = (went.connection c has.connection, (refl, offered_more c (take n ds) before.actor after.actor has.offered more));
+      ends = refl;
+      alone = λ none. absurd (cc);
+    }
+admitted_piece c ds frames (Err (halt.Stop f)) fault before after has went all not_live = record { numbers = went.numbers; settled = went.settled; connection = tt; ends = tt; alone = tt }
 
 -- and leaves what its bytes do
 pub admitted_taken : {A : Type 0} → GreetingIsKnown → (role : Role) (b s piece : List ℕ) (c : ℕ) (ds : List Packet) (after : Option (List ℕ)) (admitted : Result (Unit {0}) Halt) (fault : Option FrameFault)

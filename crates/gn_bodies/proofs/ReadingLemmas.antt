@@ -25,8 +25,8 @@ use Rattle.gn_bodies.specs.declared.piece.Reading.TheVariants as reading
 use Rattle.gn_hub.specs.ActorState.{ActorState}
 use Rattle.gn_bodies.specs.Events.{events_of, link_events, link_events_in, connection_of}
 use Rattle.gn_links.specs.Halves.{Source, IsNewReader, IsReadFrom, ReadHalf}
-use Rattle.gn_bodies.specs.ReaderRows.{ConnectedRow, ReaderRow, SourceRow, WithClose, closes}
-use Rattle.gn_bodies.specs.Reading.{EndsReading, HasConnection, HasReadOn, HasReadPieces, HasTakenPiece, IsJoined, IsOffering, IsReading, IsTaken, ReadRow, OpenRow, reading_connection, end_of_bytes, end_of_turns, is_of_bytes}
+use Rattle.gn_bodies.specs.ReaderRows.{ClosesMaybe, ConnectedRow, ReaderDid, ReaderRow, SourceRow, WithClose, closes, is_joined_end}
+use Rattle.gn_bodies.specs.Reading.{EndsReading, OpenDid, HasConnection, HasReadOn, HasReadPieces, HasTakenPiece, IsJoined, IsOffered, IsOffering, IsReading, IsTaken, ReadRow, OpenRow, reading_connection, end_of_bytes, end_of_turns, is_of_bytes}
 use Rattle.gn_bodies.proofs.JobLemmas.{connected_settled, kept_settled}
 
 -- a stream that begins with the greeting has it accepted
@@ -112,12 +112,44 @@ ended_row known role (reading.Joined c frames) b me is has =
 
 pub conn_of_reading : {A : Type 0} (r : Reading A) (me : ActorState A) → HasConnection r me → connection_of me ≡ reading_connection r
 conn_of_reading (reading.Greeting shake) me none = ap (λ w. connection_of (record { number = me.number; receipts = w })) none
-conn_of_reading (reading.Joined c frames) me is = is
+conn_of_reading (reading.Joined c frames) me is = is.connection
 
 -- a reader that has no connection routed nothing
 pub alone_of_reading : {A : Type 0} (r : Reading A) (me : ActorState A) → HasConnection r me → reading_connection r ≡ None → events_of me ≡ link_events me
 alone_of_reading {A} (reading.Greeting shake) me none is = ap (λ w. map (λ (x : Receipt A). x.event) w) none ∙ sym (none_done me none)
 alone_of_reading (reading.Joined c frames) me has is = absurd (cc)
+
+-- what a reader did that stops reading
+pub failed_did : {A : Type 0} (r : Reading A) (me : ActorState A) → HasConnection r me → OpenDid ReadFailed (reading_connection r) me.receipts
+failed_did (reading.Greeting shake) me none = (refl, none)
+failed_did (reading.Joined c frames) me is = (refl, is.offered)
+
+pub turns_did : {A : Type 0} (r : Reading A) (me : ActorState A) → HasConnection r me → OpenDid Turns (reading_connection r) me.receipts
+turns_did (reading.Greeting shake) me none = (refl, none)
+turns_did (reading.Joined c frames) me is = (refl, is.offered)
+
+pub ended_did : {A : Type 0} (r : Reading A) (me : ActorState A) → HasConnection r me → OpenDid (end_of_bytes r) (reading_connection r) me.receipts
+ended_did (reading.Greeting shake) me none = (refl, none)
+ended_did (reading.Joined c frames) me is = (refl, is.offered)
+
+-- what it did once it has closed what it closes at this end
+pub unconnected_did : {A : Type 0} (end : ReaderEnd) (made : Option ℕ) (own : List (Receipt A)) → made ≡ None → OpenDid end made own → ReaderDid end made own
+unconnected_did end None own is did = did
+unconnected_did end (Some c) own is did = absurd (cc)
+
+pub closed_did : {A : Type 0} (end : ReaderEnd) (made : Option ℕ) (c : ℕ) (own before : List (Receipt A)) → made ≡ Some c → closes end ≡ true
+    → WithClose c (link_events_in own) (link_events_in before) → OpenDid end made before → ReaderDid end made own
+closed_did {A} end made c own before is may closed did =
+    let here : (is_joined_end end ≡ true) × IsOffered c before = subst (λ (o : Option ℕ). OpenDid end o before) is did in
+    let more : WithClose c (link_events_in own) (Connect ∷ map (Admit c) here.1.0) = subst (λ (w : List (Event A)). WithClose c (link_events_in own) w) here.1.1 closed in
+    let all : ClosesMaybe (closes end) c (link_events_in own) (Connect ∷ map (Admit c) here.1.0) = subst (λ b. ClosesMaybe b c (link_events_in own) (Connect ∷ map (Admit c) here.1.0)) (sym may) more in
+    subst (λ (o : Option ℕ). ReaderDid end o own) (sym is) (here.0, here.1.0, all)
+
+pub kept_did : {A : Type 0} (end : ReaderEnd) (made : Option ℕ) (c : ℕ) (own : List (Receipt A)) → made ≡ Some c → closes end ≡ false → OpenDid end made own → ReaderDid end made own
+kept_did {A} end made c own is keeps did =
+    let here : (is_joined_end end ≡ true) × IsOffered c own = subst (λ (o : Option ℕ). OpenDid end o own) is did in
+    let all : ClosesMaybe (closes end) c (link_events_in own) (Connect ∷ map (Admit c) here.1.0) = subst (λ b. ClosesMaybe b c (link_events_in own) (Connect ∷ map (Admit c) here.1.0)) (sym keeps) here.1.1 in
+    subst (λ (o : Option ℕ). ReaderDid end o own) (sym is) (here.0, here.1.0, all)
 
 -- an end that bytes bring says nothing of the half
 pub bytes_source : (turns : ℕ) (end : ReaderEnd) (half : ReadHalf) → is_of_bytes end ≡ true → SourceRow turns end half
@@ -184,13 +216,13 @@ connected_row {A} role end made c es before b is closes row =
     subst (λ (o : Option ℕ). ReaderRow role end o es b) (sym is) (here.0, closes here.1)
 
 -- what a reader promises of its half, by what it read
-pub reading_done : {A Rd O : Type 0} (state : Rd → ReadHalf) (made_of : Rd → O) (gives : O → Source) (turns : ℕ) (link : Half Rd) (me : ActorState A) (half : Rd) (end : Result ReaderEnd BodyFault)
+pub reading_done : {A Rd O : Type 0} (state : Rd → ReadHalf) (made_of : Rd → O) (gives : O → Source) (turns : ℕ) (link : Half Rd) (conn : Option ℕ) (me : ActorState A) (half : Rd) (end : Result ReaderEnd BodyFault)
     → made_of half ≡ made_of link.half → IsReadFrom (gives (made_of half)) (state half)
-    → IfOk end (λ e. ReadsAs turns link.role e (connection_of me) me.receipts (state half))
+    → IfOk end (λ e. ReadsAs turns link.role e conn me.receipts (state half) × (conn ≡ connection_of me))
     → OnOk end (connection_of me ≡ None → events_of me ≡ link_events me)
     → IfOk end (λ e. e ≡ ReadFailed → (gives (made_of half)).may_fail ≡ true)
-    → IsReaderDone state made_of gives turns link (record { receipts = me.receipts; half = half; end = end })
-reading_done {A} {Rd} {O} state made_of gives turns link me half end made own kept alone failed =
+    → IsReaderDone state made_of gives turns link (record { conn = conn; receipts = me.receipts; half = half; end = end })
+reading_done {A} {Rd} {O} state made_of gives turns link conn me half end made own kept alone failed =
     record {
       kept = kept;
       alone = alone;
@@ -200,12 +232,12 @@ reading_done {A} {Rd} {O} state made_of gives turns link me half end made own ke
     }
 
 -- a half that was finished is done as it was
-pub finished_done : {A Rd O : Type 0} (state : Rd → ReadHalf) (made_of : Rd → O) (gives : O → Source) (turns : ℕ) (link : Half Rd) (receipts : List (Receipt A)) (before after : Rd) (end : Result ReaderEnd BodyFault)
+pub finished_done : {A Rd O : Type 0} (state : Rd → ReadHalf) (made_of : Rd → O) (gives : O → Source) (turns : ℕ) (link : Half Rd) (conn : Option ℕ) (receipts : List (Receipt A)) (before after : Rd) (end : Result ReaderEnd BodyFault)
     → made_of after ≡ made_of before → state after ≡ state before
-    → IsReaderDone state made_of gives turns link (record { receipts = receipts; half = before; end = end }) → IsReaderDone state made_of gives turns link (record { receipts = receipts; half = after; end = end })
-finished_done {A} state made_of gives turns link receipts before after end made same was =
+    → IsReaderDone state made_of gives turns link (record { conn = conn; receipts = receipts; half = before; end = end }) → IsReaderDone state made_of gives turns link (record { conn = conn; receipts = receipts; half = after; end = end })
+finished_done {A} state made_of gives turns link conn receipts before after end made same was =
     record {
-      kept = subst (λ (h : ReadHalf). ReaderKeeps {A = A} turns link.role (record { receipts = receipts; half = h; end = end })) (sym same) was.kept;
+      kept = subst (λ (h : ReadHalf). ReaderKeeps {A = A} turns link.role (record { conn = conn; receipts = receipts; half = h; end = end })) (sym same) was.kept;
       alone = was.alone;
       made = made ∙ was.made;
       own = subst (λ (h : ReadHalf). IsReadFrom (gives (made_of link.half)) h) (sym same) was.own;
@@ -261,7 +293,8 @@ pub pieces_taken : {A : Type 0} (turns : ℕ) (role : Role) (p : Piece A) (befor
     → (half.is_known ≡ true → IsTaken role p half.bytes after.actor) → half.pieces ≡ count → half.failures ≡ 0 → HasReadPieces turns role p after.actor half may_fail count
 pieces_taken turns role (piece.More r) before after half may_fail count did is pieces unfailed = record { has = did.connection; is = is; pieces = pieces; unfailed = unfailed }
 pieces_taken turns role (piece.End made end) before after half may_fail count did is pieces unfailed = record {
-  connection = did.connection;
+  connection = did.connection.0;
+  did = did.connection.1;
   alone = did.alone;
   row = is;
   counts = bytes_source turns end half did.ends;
@@ -280,6 +313,7 @@ pub pieces_ended : {A : Type 0} (turns : ℕ) (role : Role) (p : Piece A) (me : 
     → IfOk (end_of_turns p) (λ e. EndsReading turns role e.1 e.0 me half may_fail)
 pieces_ended turns role (piece.More r) me half may_fail count known over did = record {
   connection = conn_of_reading r me did.has;
+  did = turns_did r me did.has;
   alone = λ none. alone_of_reading r me did.has none;
   row = λ is_known. turns_row known role r half.bytes me (did.is is_known) did.has;
   counts = did.pieces ∙ over r refl;

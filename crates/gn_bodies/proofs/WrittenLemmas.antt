@@ -11,7 +11,6 @@ use Rattle.gn_bodies.specs.declared.ends.WriterEnd.{WriterEnd}
 use Rattle.gn_bodies.specs.declared.ends.WriterEnd.TheVariants.{Drained, WriteFailed, Closed, NeverOpened}
 use Rattle.gn_bodies.specs.Done.{Half, IsWriterDone, WritesAs}
 use Rattle.std.proofs.lemmas.List.{drop_at, length-map, map-append}
-use Rattle.std.proofs.lemmas.Simd.{map-map}
 use Rattle.std.proofs.lemmas.List.Elements.{filter_map-append}
 use Rattle.std.proofs.lemmas.List.Folds.{concat-append}
 use Rattle.std.specs.List.{concat}
@@ -20,14 +19,13 @@ use Rattle.gn_wire.specs.Encoding.{bytes_of}
 use Rattle.gn_shake.specs.declared.role.Role.{Role}
 use Rattle.gn_shake.specs.declared.role.Role.TheVariants.{Accepting, Calling, Plain}
 use Rattle.gn_shake.specs.Greeting.{is_calling, request_text}
-use Rattle.gn_rules.specs.declared.event.Event.TheVariants.{Take}
 use Rattle.gn_rules.specs.History.{taken_of}
 use Rattle.gn_hub.specs.ActorState.{ActorState}
-use Rattle.gn_hub.specs.Receipts.{HasClosed, HasDrained, HasTakenSome, TakenAt, taken_receipt, with_receipts}
-use Rattle.gn_bodies.specs.Events.{events_of, packets_of}
+use Rattle.gn_hub.specs.Receipts.{HasClosed, HasTakenSome, IsDrainedAt, TakenAt, taken_receipt, with_receipts}
+use Rattle.gn_bodies.specs.Events.{packets_of}
 use Rattle.gn_laws.specs.Owners as laws
-use Rattle.gn_bodies.specs.Writing.{HasWrittenPackets, WritesOn, WritesPackets, text_of}
-use Rattle.gn_bodies.specs.Written.{AreTakes, HasWrittenText, PacketSteps, WriterRow, WriterSteps, opening_texts}
+use Rattle.gn_bodies.specs.Writing.{HasWrittenPackets, PacketSteps, WritesOn, WritesPackets, text_of}
+use Rattle.gn_bodies.specs.Written.{AreTakes, HasWrittenText, ThenClosed, WriterDid, WriterRow, WriterSteps, opening_texts}
 use Rattle.gn_bodies.proofs.EventLemmas.{drained_packets}
 
 pub written_on : (t u s text piece : List ℕ) (n m : ℕ) → piece ≡ drop n text → t ≡ s ++ take n text → u ≡ t ++ take m piece → u ≡ s ++ take (n + m) text
@@ -102,15 +100,15 @@ no_consent role (inl is) = ap called is ∙ sym (ap (λ r. concat (texts r [])) 
 no_consent role (inr is) = ap called is ∙ sym (ap (λ r. concat (texts r [])) is)
 
 -- an actor that did nothing has taken nothing
-pub takes_none : {A : Type 0} (c : ℕ) (me : ActorState A) → me.receipts ≡ [] → AreTakes c me
-takes_none c me none = ap (λ w. map (λ r. r.event) w) none ∙ ap (λ w. map (λ packet. Take c) (laws.packets_of w)) (sym none)
+pub takes_none : {A : Type 0} (c : ℕ) (me : ActorState A) → me.receipts ≡ [] → AreTakes c me.receipts
+takes_none c me none = ([], none)
 
 -- these packets were taken from connection c: at least one, and at most a batch
 pub record Took {A : Type 0} (batch c : ℕ) (packets : List Packet) (me us : ActorState A) : Type 0 where
   pub more : packets_of us ≡ packets_of me ++ packets
   pub some : 0 < length packets
   pub few : length packets ≤ batch
-  pub events : AreTakes c me → AreTakes c us
+  pub takes : AreTakes c me.receipts → AreTakes c us.receipts
 
 -- the packets of receipts of packets that were taken
 taken_packets : (A : Type 0) (c : ℕ) (taken : List TakenAt) → laws.packets_of {A = A} (map (taken_receipt c) taken) ≡ map (λ at. at.packet) taken
@@ -128,36 +126,37 @@ takes_some {A} batch c taken me us some few got =
       more = packets;
       some = omega (arith, length-map taken (λ at. at.packet));
       few = omega (arith, length-map taken (λ at. at.packet));
-      events = λ was.
-          ap events_of got ∙ map-append (λ r. r.event) me.receipts new ∙ ap (λ w. w ++ map (λ r. r.event) new) was
-          ∙ ap (λ w. map (λ p. Take c) (packets_of me) ++ w) (map-map (λ r. r.event) (taken_receipt c) taken ∙ sym (map-map (λ p. Take c) (λ at. at.packet) taken))
-          ∙ sym (map-append (λ p. Take c) (packets_of me) ds) ∙ ap (map (λ p. Take c)) (sym packets);
+      takes = λ was. (was.0 ++ taken, ap (λ w. w.receipts) got ∙ ap (λ w. w ++ new) was.1 ∙ sym (map-append (taken_receipt c) was.0 taken));
     }
 
 -- how a writer on connection c ends that found no packet: it closed the drained connection, or did nothing
-abbrev pub FoundNone : {A : Type 0} → WriterEnd → ℕ → ActorState A → ActorState A → Type 0
-FoundNone Drained c me us = HasDrained c me us
-FoundNone Closed c me us = us ≡ me
-FoundNone WriteFailed c me us = ⊥
-FoundNone NeverOpened c me us = ⊥
+abbrev pub FoundNone : {A : Type 0} → WriterEnd → ℕ → Option ℕ → ActorState A → ActorState A → Type 0
+FoundNone Drained c idle me us = IsDrainedAt c idle me us
+FoundNone Closed c idle me us = us ≡ me
+FoundNone WriteFailed c idle me us = ⊥
+FoundNone NeverOpened c idle me us = ⊥
 
 -- it has written all that it took
-pub found_none : {A : Type 0} (batch : ℕ) (role : Role) (end : WriterEnd) (c : ℕ) (me us : ActorState A) (half : WrittenHalf) → FoundNone end c me us → WritesPackets batch role Closed c me half
-    → WritesPackets batch role end c us half
-found_none batch role Drained c me us half found was = record {
+pub found_none : {A : Type 0} (batch : ℕ) (role : Role) (end : WriterEnd) (c : ℕ) (idle : Option ℕ) (me us : ActorState A) (half : WrittenHalf) → FoundNone end c idle me us
+    → WritesPackets batch role Closed c None me half → WritesPackets batch role end c idle us half
+found_none batch role Drained c None me us half found was = absurd found
+found_none batch role Drained c (Some at) me us half found was = record {
   written = record {
-    row = λ known. was.written.row known ∙ ap (λ packets. concat (texts role packets)) (sym (drained_packets c me us found));
+    row = λ known. was.written.row known ∙ ap (λ packets. concat (texts role packets)) (sym (drained_packets c me us (at, found)));
     hurt = λ ends. absurd (cc);
   };
-  steps = (me, was.steps, found);
+  steps = (me.receipts, was.steps, (at, refl, ap (λ w. w.receipts) found));
 }
-found_none {A} batch role Closed c me us half found was = subst (λ (w : ActorState A). WritesPackets batch role Closed c w half) (sym found) was
-found_none batch role WriteFailed c me us half found was = absurd found
-found_none batch role NeverOpened c me us half found was = absurd found
+found_none {A} batch role Closed c idle me us half found was = record {
+  written = subst (λ (w : ActorState A). WritesAs batch role Closed (packets_of w) half) (sym found) was.written;
+  steps = subst (λ (w : ActorState A). AreTakes c w.receipts) (sym found) was.steps;
+}
+found_none batch role WriteFailed c idle me us half found was = absurd found
+found_none batch role NeverOpened c idle me us half found was = absurd found
 
 -- packets were taken, and written whole
 pub packets_written : {A : Type 0} (batch : ℕ) (role : Role) (c : ℕ) (packets : List Packet) (me us : ActorState A) (before after : WrittenHalf) → Took batch c packets me us
-    → HasWrittenText true (text_of packets) before after → WritesPackets batch role Closed c me before → WritesPackets batch role Closed c us after
+    → HasWrittenText true (text_of packets) before after → WritesPackets batch role Closed c None me before → WritesPackets batch role Closed c None us after
 packets_written batch role c packets me us before after took did was = record {
   written = record {
     row = λ known.
@@ -165,13 +164,13 @@ packets_written batch role c packets me us before after took did was = record {
         encoded_more role (packets_of me) (packets_of us) packets before.bytes after.bytes took.more (was.written.row is_known) (did.all refl is_known);
     hurt = λ ends. absurd (cc);
   };
-  steps = took.events was.steps;
+  steps = took.takes was.steps;
 }
 
 -- or in part
-pub packets_broken : {A : Type 0} (batch : ℕ) (role : Role) (c : ℕ) (packets : List Packet) (me us : ActorState A) (before after : WrittenHalf) → Took batch c packets me us
-    → HasWrittenText false (text_of packets) before after → WritesPackets batch role Closed c me before → WritesPackets batch role WriteFailed c us after
-packets_broken batch role c packets me us before after took did was = record {
+pub packets_broken : {A : Type 0} (batch : ℕ) (role : Role) (c : ℕ) (idle : Option ℕ) (packets : List Packet) (me us : ActorState A) (before after : WrittenHalf) → Took batch c packets me us
+    → HasWrittenText false (text_of packets) before after → WritesPackets batch role Closed c None me before → WritesPackets batch role WriteFailed c idle us after
+packets_broken batch role c idle packets me us before after took did was = record {
   written = record {
     row = λ known.
         let is_known : before.is_known ≡ true = sym did.known ∙ known in
@@ -179,7 +178,7 @@ packets_broken batch role c packets me us before after took did was = record {
         encoded_part batch role (packets_of me) (packets_of us) packets before.bytes after.bytes n took.some took.few took.more (was.written.row is_known) more;
     hurt = λ _. did.hurt refl;
   };
-  steps = took.events was.steps;
+  steps = took.takes was.steps;
 }
 
 -- a text that was written so far is this one
@@ -188,25 +187,25 @@ same_text is_all all text other before after is same did =
     subst (λ (b : Bool). HasWrittenText b other before after) is (subst (λ (t : List ℕ). HasWrittenText is_all t before after) same did)
 
 -- packets were taken, and written whole or in part
-pub packets_done : {A : Type 0} (batch : ℕ) (role : Role) (c : ℕ) (packets : List Packet) (me us : ActorState A) (end : Option (Result WriterEnd BodyFault)) (before after : WrittenHalf)
-    → Took batch c packets me us → HasWrittenPackets end packets before after → WritesPackets batch role Closed c me before → WritesOn batch role end c us after
-packets_done batch role c packets me us None before after took did was = packets_written batch role c packets me us before after took did was
-packets_done batch role c packets me us (Some (Ok WriteFailed)) before after took did was = packets_broken batch role c packets me us before after took did was
-packets_done batch role c packets me us (Some (Ok Drained)) before after took did was = absurd did
-packets_done batch role c packets me us (Some (Ok Closed)) before after took did was = absurd did
-packets_done batch role c packets me us (Some (Ok NeverOpened)) before after took did was = absurd did
-packets_done batch role c packets me us (Some (Err fault)) before after took did was = tt
+pub packets_done : {A : Type 0} (batch : ℕ) (role : Role) (c : ℕ) (idle : Option ℕ) (packets : List Packet) (me us : ActorState A) (end : Option (Result WriterEnd BodyFault)) (before after : WrittenHalf)
+    → Took batch c packets me us → HasWrittenPackets end packets before after → WritesPackets batch role Closed c None me before → WritesOn batch role end c idle us after
+packets_done batch role c idle packets me us None before after took did was = packets_written batch role c packets me us before after took did was
+packets_done batch role c idle packets me us (Some (Ok WriteFailed)) before after took did was = packets_broken batch role c idle packets me us before after took did was
+packets_done batch role c idle packets me us (Some (Ok Drained)) before after took did was = absurd did
+packets_done batch role c idle packets me us (Some (Ok Closed)) before after took did was = absurd did
+packets_done batch role c idle packets me us (Some (Ok NeverOpened)) before after took did was = absurd did
+packets_done batch role c idle packets me us (Some (Err fault)) before after took did was = tt
 
 -- so they were where the receipts that were got say so
-pub packets_taken : {A : Type 0} (batch : ℕ) (role : Role) (c : ℕ) (me us : ActorState A) (kept seen : List (Receipt A)) (end : Option (Result WriterEnd BodyFault)) (before after : WrittenHalf)
+pub packets_taken : {A : Type 0} (batch : ℕ) (role : Role) (c : ℕ) (idle : Option ℕ) (me us : ActorState A) (kept seen : List (Receipt A)) (end : Option (Result WriterEnd BodyFault)) (before after : WrittenHalf)
     → seen ≡ kept → us ≡ with_receipts me kept → HasTakenSome batch c me us → HasWrittenPackets end (laws.packets_of seen) before after
-    → WritesPackets batch role Closed c me before → WritesOn batch role end c us after
-packets_taken {A} batch role c me us kept seen end before after same is (taken, some, few, got) did was =
+    → WritesPackets batch role Closed c None me before → WritesOn batch role end c idle us after
+packets_taken {A} batch role c idle me us kept seen end before after same is (taken, some, few, got) did was =
     let fresh : List (Receipt A) = map (taken_receipt c) taken in
     let n : ℕ = length me.receipts in
     let both : me.receipts ++ kept ≡ me.receipts ++ fresh = ap (λ (w : ActorState A). w.receipts) (sym is ∙ got) in
     let cut : kept ≡ fresh = sym (drop_at me.receipts kept n refl) ∙ ap (λ w. drop n w) both ∙ drop_at me.receipts fresh n refl in
-    packets_done batch role c (map (λ at. at.packet) taken) me us end before after (takes_some batch c taken me us some few got)
+    packets_done batch role c idle (map (λ at. at.packet) taken) me us end before after (takes_some batch c taken me us some few got)
     (subst (λ (ps : List Packet). HasWrittenPackets end ps before after) (ap laws.packets_of (same ∙ cut) ∙ taken_packets A c taken) did) was
 
 -- one that took one at once took a batch at once
@@ -225,46 +224,69 @@ took_none batch role end me half some none did =
     subst (λ packets. WritesAs batch role end packets half) (sym no) wide
 
 -- a writer that did nothing on its connection yet
-pub opened : {A : Type 0} (batch : ℕ) (role : Role) (end : WriterEnd) (c : ℕ) (me : ActorState A) (half : WrittenHalf) → 0 < batch → me.receipts ≡ [] → WritesAs 1 role end [] half
-    → PacketSteps end c me → WritesPackets batch role end c me half
-opened batch role end c me half some none did steps = record { written = took_none batch role end me half some none did; steps = steps }
+pub opened : {A : Type 0} (batch : ℕ) (role : Role) (end : WriterEnd) (c : ℕ) (idle : Option ℕ) (me : ActorState A) (half : WrittenHalf) → 0 < batch → me.receipts ≡ [] → WritesAs 1 role end [] half
+    → PacketSteps end c idle me.receipts → WritesPackets batch role end c idle me half
+opened batch role end c idle me half some none did steps = record { written = took_none batch role end me half some none did; steps = steps }
 
 -- a writer that goes on
-pub writes_more : {A : Type 0} (batch : ℕ) (role : Role) (asked : Option (Result WriterEnd BodyFault)) (c : ℕ) (me : ActorState A) (half : WrittenHalf) → asked ≡ None
-    → WritesOn batch role asked c me half → WritesPackets batch role Closed c me half
-writes_more batch role asked c me half is did = subst (λ (w : Option (Result WriterEnd BodyFault)). WritesOn batch role w c me half) is did
+pub writes_more : {A : Type 0} (batch : ℕ) (role : Role) (asked : Option (Result WriterEnd BodyFault)) (c : ℕ) (idle : Option ℕ) (me : ActorState A) (half : WrittenHalf) → asked ≡ None
+    → WritesOn batch role asked c idle me half → WritesPackets batch role Closed c None me half
+writes_more batch role asked c idle me half is did = subst (λ (w : Option (Result WriterEnd BodyFault)). WritesOn batch role w c idle me half) is did
 
 -- one that ends
-pub writes_last : {A : Type 0} (batch : ℕ) (role : Role) (asked : Option (Result WriterEnd BodyFault)) (end : Result WriterEnd BodyFault) (c : ℕ) (me : ActorState A) (half : WrittenHalf)
-    → asked ≡ Some end → WritesOn batch role asked c me half → IfOk end (λ e. WritesPackets batch role e c me half)
-writes_last batch role asked end c me half is did = subst (λ (w : Option (Result WriterEnd BodyFault)). WritesOn batch role w c me half) is did
+pub writes_last : {A : Type 0} (batch : ℕ) (role : Role) (asked : Option (Result WriterEnd BodyFault)) (end : Result WriterEnd BodyFault) (c : ℕ) (idle : Option ℕ) (me : ActorState A) (half : WrittenHalf)
+    → asked ≡ Some end → WritesOn batch role asked c idle me half → IfOk end (λ e. WritesPackets batch role e c idle me half)
+writes_last batch role asked end c idle me half is did = subst (λ (w : Option (Result WriterEnd BodyFault)). WritesOn batch role w c idle me half) is did
 
 -- a writer that closes nothing more is done with its steps
-pub steps_kept : {A : Type 0} (role : Role) (end : WriterEnd) (c : ℕ) (found : Option ℕ) (me : ActorState A) → ¬ (end ≡ WriteFailed) → PacketSteps end c me → WriterSteps role end c found me
-steps_kept role Drained c found me other steps = steps
-steps_kept role Closed c found me other steps = steps
-steps_kept role WriteFailed c found me other steps = absurd (other refl)
-steps_kept role NeverOpened c found me other steps = absurd steps
+pub steps_kept : {A : Type 0} (role : Role) (end : WriterEnd) (c : ℕ) (found idle : Option ℕ) (own : List (Receipt A)) → ¬ (end ≡ WriteFailed) → PacketSteps end c idle own
+    → WriterSteps role end (Some c) found idle own
+steps_kept role Drained c found idle own other steps = steps
+steps_kept role Closed c found idle own other steps = steps
+steps_kept role WriteFailed c found idle own other steps = absurd (other refl)
+steps_kept role NeverOpened c found idle own other steps = absurd steps
+
+-- what a close does to the receipts
+then_closed : {A : Type 0} (c : ℕ) (found : Option ℕ) (me us : ActorState A) → HasClosed c found me us → ThenClosed c found me.receipts us.receipts
+then_closed c None me us (index, count, got) = (index, count, ap (λ w. w.receipts) got)
+then_closed c (Some other) me us (is, same) = (is, ap (λ w. w.receipts) same)
 
 -- so is one whose write failed, once it has closed its connection, or found it closed
-pub steps_closed : {A : Type 0} (role : Role) (end : WriterEnd) (c : ℕ) (found : Option ℕ) (me us : ActorState A) → end ≡ WriteFailed → PacketSteps end c me → HasClosed c found me us
-    → WriterSteps role end c found us
-steps_closed role Drained c found me us is steps closed = absurd (cc)
-steps_closed role Closed c found me us is steps closed = absurd (cc)
-steps_closed role WriteFailed c found me us is steps closed = inr (me, steps, closed)
-steps_closed role NeverOpened c found me us is steps closed = absurd (cc)
+pub steps_closed : {A : Type 0} (role : Role) (end : WriterEnd) (c : ℕ) (found idle : Option ℕ) (me us : ActorState A) → end ≡ WriteFailed → PacketSteps end c idle me.receipts → HasClosed c found me us
+    → WriterSteps role end (Some c) found idle us.receipts
+steps_closed role Drained c found idle me us is steps closed = absurd (cc)
+steps_closed role Closed c found idle me us is steps closed = absurd (cc)
+steps_closed role WriteFailed c found idle me us is steps closed = (me.receipts, steps, then_closed c found me us closed)
+steps_closed role NeverOpened c found idle me us is steps closed = absurd (cc)
+
+-- and one that has no connection
+pub steps_uncalled : {A : Type 0} (role : Role) (conn found idle : Option ℕ) (own : List (Receipt A)) → conn ≡ None → is_calling role ≡ true → own ≡ []
+    → WriterSteps role WriteFailed conn found idle own
+steps_uncalled role None found idle own unmet calls none = (calls, none)
+steps_uncalled role (Some c) found idle own unmet calls none = absurd (cc)
+
+pub steps_unmet : {A : Type 0} (role : Role) (conn found idle : Option ℕ) (own : List (Receipt A)) → conn ≡ None → own ≡ [] → WriterSteps role NeverOpened conn found idle own
+steps_unmet role None found idle own unmet none = none
+steps_unmet role (Some c) found idle own unmet none = absurd (cc)
+
+-- what holds of an end, both
+both_ok : {T E : Type 0} (r : Result T E) (P Q : T → Type 0) → IfOk r P → IfOk r Q → IfOk r (λ x. P x × Q x)
+both_ok (Ok x) P Q this that = (this, that)
+both_ok (Err e) P Q this that = tt
 
 -- a writer that is finished keeps what its end says
-pub finished_writer : {A W O : Type 0} (state : W → WrittenHalf) (made_of : W → O) (batch : ℕ) (link : Half W) (receipts : List (Receipt A)) (before after : W) (end : Result WriterEnd BodyFault)
+pub finished_writer : {A W O : Type 0} (state : W → WrittenHalf) (made_of : W → O) (batch : ℕ) (link : Half W) (conn found idle : Option ℕ) (receipts : List (Receipt A)) (before after : W) (end : Result WriterEnd BodyFault)
     → made_of after ≡ made_of link.half → state after ≡ record (state before) { is_finished = true }
-    → IfOk end (λ e. WritesAs batch link.role e (laws.packets_of receipts) (state before))
-    → IsWriterDone state made_of batch link (record { receipts = receipts; half = after; end = end })
-finished_writer {A} state made_of batch link receipts before after end made same was =
-    let more : IfOk end (λ e. WritesAs batch link.role e (laws.packets_of receipts) (record (state before) { is_finished = true })) =
-    IfOk-weaker end (λ e. WritesAs batch link.role e (laws.packets_of receipts) (state before)) _ (λ e written. record { row = written.row; hurt = written.hurt }) was in
+    → IfOk end (λ e. WritesAs batch link.role e (laws.packets_of receipts) (state before)) → IfOk end (λ e. WriterSteps link.role e conn found idle receipts)
+    → IsWriterDone state made_of batch link (record { conn = conn; receipts = receipts; half = after; end = end })
+finished_writer {A} state made_of batch link conn found idle receipts before after end made same was steps =
+    let writes : WriterEnd → WrittenHalf → Type 0 = λ e h. WritesAs batch link.role e (laws.packets_of receipts) h in
+    let more : IfOk end (λ e. writes e (record (state before) { is_finished = true })) = IfOk-weaker end (λ e. writes e (state before)) _ (λ e written. record { row = written.row; hurt = written.hurt }) was in
+    let here : IfOk end (λ e. writes e (state after)) = subst (λ (h : WrittenHalf). IfOk end (λ e. writes e h)) (sym same) more in
+    let did : IfOk end (λ e. WriterDid link.role e conn receipts) = IfOk-weaker end (λ e. WriterSteps link.role e conn found idle receipts) _ (λ e is. (found, idle, is)) steps in
     record {
       kept = (
-        subst (λ (h : WrittenHalf). IfOk end (λ e. WritesAs batch link.role e (laws.packets_of receipts) h)) (sym same) more,
+        both_ok end (λ e. writes e (state after)) (λ e. WriterDid link.role e conn receipts) here did,
         subst (λ (h : WrittenHalf). h.is_finished ≡ true) (sym same) refl,
       );
       made = made;

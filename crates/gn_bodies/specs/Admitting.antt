@@ -5,7 +5,7 @@ use Rattle.gn_rules.specs.declared.event.Event.TheVariants.{Admit, Connect}
 use Rattle.gn_rules.specs.declared.receipt.Receipt.{Receipt}
 use Rattle.gn_rules.specs.declared.refusal.Refusal.{Refusal}
 use Rattle.gn_rules.specs.declared.refusal.Refusal.TheVariants as refusal
-use Rattle.gn_rules.specs.declared.reply.Reply.TheVariants.{Admitted, Busy, Crowded}
+use Rattle.gn_rules.specs.declared.reply.Reply.TheVariants.{Admitted, Busy, Crowded, TooMany}
 use Rattle.gn_stage.specs.Ends.{End}
 use Rattle.gn_stage.specs.Jobs.{Queued}
 use Rattle.gn_wire.specs.Packet.{Packet}
@@ -52,6 +52,7 @@ pub record HasOnlyConnected {A : Type 0} (made : Option ℕ) (me : ActorState A)
   pub events : link_events me ≡ Connect ∷ []
   pub alone : events_of me ≡ link_events me
   pub none_left : jobs_left me.receipts ≡ []
+  pub turned : made ≡ None → (index : ℕ) × (me.receipts ≡ receipt index Connect TooMany ∷ [])
 
 -- an actor got the receipt of an admission: a job with the ticket, or none at a threshold, that of all connections or its own
 abbrev pub HasAdmitted : {A : Type 0} → ℕ → Packet → Option Queued → ActorState A → ActorState A → Type 0

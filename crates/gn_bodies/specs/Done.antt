@@ -15,8 +15,8 @@ use Rattle.gn_bodies.specs.declared.reader.ReaderDone.{ReaderDone}
 use Rattle.gn_bodies.specs.declared.writer.WriterDone.{WriterDone}
 use Rattle.gn_bodies.specs.Events.{link_events_in}
 use Rattle.gn_laws.specs.Owners.{known_conn, packets_of}
-use Rattle.gn_bodies.specs.ReaderRows.{ReaderRow, SourceRow}
-use Rattle.gn_bodies.specs.Written.{WriterRow, opening_texts}
+use Rattle.gn_bodies.specs.ReaderRows.{ReaderDid, ReaderRow, SourceRow}
+use Rattle.gn_bodies.specs.Written.{WriterDid, WriterRow, opening_texts}
 
 -- a half of a link before its body began, and how the link begins
 pub record Half (H : Type 0) : Type 0 where
@@ -27,15 +27,16 @@ pub record Half (H : Type 0) : Type 0 where
 abbrev pub half_of : {H : Type 0} → Role → H → Half H
 half_of role half = record { role = role; half = half }
 
--- a body as it ended: its receipts, its half or what the half says, and its end
+-- a body as it ended: the connection that it knows of, its receipts, its half or what the half says, and its end
 pub record Ended (A E H : Type 0) : Type 0 where
+  pub conn : Option ℕ
   pub receipts : List (Receipt A)
   pub half : H
   pub end : Result E BodyFault
 
 -- the same body, with what its half says
 abbrev pub halved : {A E H T : Type 0} → (H → T) → Ended A E H → Ended A E T
-halved view body = record { receipts = body.receipts; half = view body.half; end = body.end }
+halved view body = record { conn = body.conn; receipts = body.receipts; half = view body.half; end = body.end }
 
 -- what a reader's end says of the connection, of the receipts, and of the half that was read, of which `turns` reads may give bytes
 pub record ReadsAs {A : Type 0} (turns : ℕ) (role : Role) (end : ReaderEnd) (conn : Option ℕ) (receipts : List (Receipt A))
@@ -43,6 +44,8 @@ pub record ReadsAs {A : Type 0} (turns : ℕ) (role : Role) (end : ReaderEnd) (c
   -- its events except the routes, in order, and its bytes are as the table of ends says, where the bytes are known
   pub row : half.is_known ≡ true
       → ReaderRow role end conn (filter (λ event. not (is_some (ticket_of event))) (map (λ r. r.event) receipts)) half.bytes
+  -- its receipts are as the end says, whatever its bytes were
+  pub did : ReaderDid end conn receipts
   -- the half ended, or a read failed, or as many reads gave bytes as may be, as the end says
   pub counts : SourceRow turns end half
 
@@ -53,15 +56,17 @@ pub record WritesAs (batch : ℕ) (role : Role) (end : WriterEnd) (packets : Lis
   -- a write failed, or took nothing, where the end says so
   pub hurt : end ≡ WriteFailed → (0 < half.failures) ⊎ (half.is_stuck ≡ true)
 
--- a reader's receipts and its half are as its end says, where it has one
+-- a reader's receipts and its half are as its end says, where it has one, and its connection is the one that its receipts made
 abbrev pub ReaderKeeps : {A : Type 0} → ℕ → Role → Ended A ReaderEnd ReadHalf → Type 0
 ReaderKeeps turns role body =
-    IfOk body.end (λ end. ReadsAs turns role end (known_conn body.receipts) body.receipts body.half)
+    IfOk body.end (λ end. ReadsAs turns role end body.conn body.receipts body.half × (body.conn ≡ known_conn body.receipts))
 
--- so are a writer's, and its half is finished
+-- a writer's receipts, its connection and its half are as its end says, where it has one, and its half is finished
 abbrev pub WriterKeeps : {A : Type 0} → ℕ → Role → Ended A WriterEnd WrittenHalf → Type 0
 WriterKeeps batch role body =
-    IfOk body.end (λ end. WritesAs batch role end (packets_of body.receipts) body.half) × (body.half.is_finished ≡ true)
+    IfOk body.end (λ end. WritesAs batch role end (packets_of body.receipts) body.half
+    × WriterDid role end body.conn body.receipts)
+    × (body.half.is_finished ≡ true)
 
 -- what the body of a reader promises of the half that it began with, where a half says this of itself and of the link that it
 -- was split from, a reader of such a link is to give this, and so many of its reads may give bytes
@@ -89,8 +94,8 @@ pub record IsWriterDone {A W O : Type 0} (state : W → WrittenHalf) (made_of : 
 
 -- a reader's body as it ended
 abbrev pub reader_ended : {Rd B A : Type 0} → ReaderDone Rd B A → Ended A ReaderEnd Rd
-reader_ended done = record { receipts = done.actor.receipts; half = done.reader; end = done.end }
+reader_ended done = record { conn = done.connection; receipts = done.actor.receipts; half = done.reader; end = done.end }
 
 -- a writer's body as it ended
 abbrev pub writer_ended : {W L A : Type 0} → WriterDone W L A → Ended A WriterEnd W
-writer_ended done = record { receipts = done.actor.receipts; half = done.writer; end = done.end }
+writer_ended done = record { conn = done.connection; receipts = done.actor.receipts; half = done.writer; end = done.end }

@@ -8,9 +8,12 @@ use Rattle.gn_shake.specs.declared.role.Role.{Role}
 use Rattle.gn_shake.specs.declared.shake.ShakeState.TheVariants.{More, Done, Refused}
 use Rattle.gn_shake.specs.Greeting.{greeting_state, greeting_of}
 use Rattle.gn_links.specs.Halves.{ReadHalf}
-use Rattle.gn_hub.specs.ActorState.{ActorState}
+use Rattle.gn_wire.specs.Packet.{Packet}
+use Rattle.gn_rules.specs.declared.receipt.Receipt.{Receipt}
+use Rattle.gn_rules.specs.declared.reply.Reply.TheVariants as reply
+use Rattle.gn_hub.specs.ActorState.{ActorState, receipt}
 use Rattle.gn_hub.specs.Receipts.{HasClosed}
-use Rattle.gn_bodies.specs.Events.{connection_of}
+use Rattle.gn_bodies.specs.Events.{connection_of, link_events_in}
 use Rattle.gn_bodies.specs.declared.ends.ReaderEnd.{ReaderEnd}
 use Rattle.gn_bodies.specs.declared.ends.ReaderEnd.TheVariants.{Bytes, Fault, ReadFailed, Turns, GreetingRefused, GreetingCut, TooMany, NotLive}
 
@@ -51,6 +54,41 @@ closes (Fault f) = true
 closes ReadFailed = true
 closes Turns = true
 closes end = false
+
+-- whether a connected reader may end so
+abbrev pub is_joined_end : ReaderEnd → Bool
+is_joined_end Bytes = true
+is_joined_end (Fault f) = true
+is_joined_end ReadFailed = true
+is_joined_end Turns = true
+is_joined_end NotLive = true
+is_joined_end end = false
+
+-- whether a reader may end so that made no event
+abbrev pub is_idle_end : ReaderEnd → Bool
+is_idle_end ReadFailed = true
+is_idle_end Turns = true
+is_idle_end GreetingRefused = true
+is_idle_end GreetingCut = true
+is_idle_end end = false
+
+-- what a reader did that has no connection: no event, but at TooMany one Connect, with that reply
+abbrev pub AloneDid : {A : Type 0} → ReaderEnd → List (Receipt A) → Type 0
+AloneDid TooMany own = (index : ℕ) × (own ≡ receipt index Connect reply.TooMany ∷ [])
+AloneDid end own = (is_idle_end end ≡ true) × (own ≡ [])
+
+-- the events are those of `before`, and where it may close, maybe a Close of c after them
+abbrev pub ClosesMaybe : {A : Type 0} → Bool → ℕ → List (Event A) → List (Event A) → Type 0
+ClosesMaybe true c es before = WithClose c es before
+ClosesMaybe false c es before = es ≡ before
+
+-- what the end of a reader says of its receipts, whatever its bytes were: it connected as c, admitted descriptors on c, in any number,
+-- and closed c where its end may close it, and made no other event but Routes; or it has no connection
+abbrev pub ReaderDid : {A : Type 0} → ReaderEnd → Option ℕ → List (Receipt A) → Type 0
+ReaderDid end (Some c) own =
+    (is_joined_end end ≡ true)
+    × (descriptors : List Packet) × ClosesMaybe (closes end) c (link_events_in own) (Connect ∷ map (Admit c) descriptors)
+ReaderDid end None own = AloneDid end own
 
 -- where a connected reader ends so, the last that it did is that it closed its connection; or that was found closed, as this
 -- says

@@ -2,6 +2,8 @@
 use Rattle.std.specs.Prelude.{◌≡◌, ◌<◌, ℕ, Bool, true, false, List, [], ◌∷◌, ◌++◌, drop, length, map, take, Option, Some, None, Result, Ok, Err, ⊤}
 use Rattle.gn_rules.specs.declared.event.Event.{Event}
 use Rattle.gn_rules.specs.declared.event.Event.TheVariants.{Admit, Connect}
+use Rattle.gn_rules.specs.declared.receipt.Receipt.{Receipt}
+use Rattle.gn_wire.specs.Packet.{Packet}
 use Rattle.gn_wire.specs.declared.header.FrameFault.{FrameFault}
 use Rattle.gn_frames.specs.Frames.{Frames, frames_of}
 use Rattle.gn_frames.specs.Reassembly.{held_of}
@@ -21,8 +23,8 @@ use Rattle.gn_bodies.specs.declared.piece.Piece.TheVariants as piece
 use Rattle.gn_bodies.specs.declared.piece.Reading.{Reading}
 use Rattle.gn_bodies.specs.declared.piece.Reading.TheVariants as reading
 use Rattle.gn_bodies.specs.Admitting.{Admitting, HasSameNumbers, StaysSettled}
-use Rattle.gn_bodies.specs.Events.{events_of, link_events, connection_of}
-use Rattle.gn_bodies.specs.ReaderRows.{ReaderRow, SourceRow}
+use Rattle.gn_bodies.specs.Events.{events_of, link_events, link_events_in, connection_of}
+use Rattle.gn_bodies.specs.ReaderRows.{AloneDid, ReaderRow, SourceRow, is_joined_end}
 
 -- a reader that connected as c: its row, before it closes what it closes
 abbrev pub OpenRow : {A : Type 0} → ReaderEnd → ℕ → List (Event A) → Frames → Type 0
@@ -39,6 +41,20 @@ abbrev pub ReadRow : {A : Type 0} → Role → ReaderEnd → Option ℕ → List
 ReadRow role end (Some c) es b =
     (greeting_state (greeting_of role) b ≡ Done) × OpenRow end c es (frames_of (drop (length (greeting_of role)) b))
 ReadRow role end None es b = ReaderRow role end None es b
+
+-- these are receipts of a Connect and of Admits on c, and of Routes
+abbrev pub IsOffered : {A : Type 0} → ℕ → List (Receipt A) → Type 0
+IsOffered c own = (descriptors : List Packet) × (link_events_in own ≡ Connect ∷ map (Admit c) descriptors)
+
+-- what a reader did, whatever its bytes were, before it closes what it closes
+abbrev pub OpenDid : {A : Type 0} → ReaderEnd → Option ℕ → List (Receipt A) → Type 0
+OpenDid end (Some c) own = (is_joined_end end ≡ true) × IsOffered c own
+OpenDid end None own = AloneDid end own
+
+-- a reader's connection is c, on which it admitted descriptors
+pub record IsOpen {A : Type 0} (c : ℕ) (me : ActorState A) : Type 0 where
+  pub connection : connection_of me ≡ Some c
+  pub offered : IsOffered c me.receipts
 
 -- a reader that connected as c has admitted all that its bytes after the greeting offer, and they have no fault
 pub record IsOffering {A : Type 0} (s : List ℕ) (c : ℕ) (frames : Option (List ℕ)) (me : ActorState A) : Type 0 where
@@ -63,11 +79,12 @@ abbrev pub reading_connection : {A : Type 0} → Reading A → Option ℕ
 reading_connection (reading.Greeting shake) = None
 reading_connection (reading.Joined c frames) = Some c
 
--- what a reader's end says before it closes what it closes: of its connection and its events, of the half that was read, and
+-- what a reader's end says before it closes what it closes: of its connection and its receipts, of the half that was read, and
 -- that a read of the link may fail
 pub record EndsReading {A : Type 0} (turns : ℕ) (role : Role) (end : ReaderEnd) (made : Option ℕ) (me : ActorState A) (half : ReadHalf)
     (may_fail : Bool) : Type 0 where
   pub connection : connection_of me ≡ made
+  pub did : OpenDid end made me.receipts
   pub alone : made ≡ None → events_of me ≡ link_events me
   pub row : half.is_known ≡ true → ReadRow role end made (link_events me) half.bytes
   pub counts : SourceRow turns end half
@@ -78,10 +95,10 @@ abbrev pub end_of_bytes : {A : Type 0} → Reading A → ReaderEnd
 end_of_bytes (reading.Greeting shake) = GreetingCut
 end_of_bytes (reading.Joined c frames) = Bytes
 
--- a reader that awaits the greeting has no receipts; a joined one has its connection
+-- a reader that awaits the greeting has no receipts; a joined one has its connection, on which it admitted descriptors
 abbrev pub HasConnection : {A : Type 0} → Reading A → ActorState A → Type 0
 HasConnection (reading.Greeting shake) me = me.receipts ≡ []
-HasConnection (reading.Joined c frames) me = connection_of me ≡ Some c
+HasConnection (reading.Joined c frames) me = IsOpen c me
 
 -- what a piece of a connected link did, by what its reassembler keeps, how its descriptors were admitted, and the fault that
 -- comes after them
@@ -91,10 +108,10 @@ piece_of c frames (Ok u) (Some f) = piece.End (Some c) (Fault f)
 piece_of c frames (Err halt.NotLive) fault = piece.End (Some c) NotLive
 piece_of c frames (Err (halt.Stop f)) fault = piece.Stop f
 
--- what a piece leaves of the connection
+-- what a piece leaves of the connection and of the receipts
 abbrev pub HasConnectionAfter : {A : Type 0} → Piece A → ActorState A → Type 0
 HasConnectionAfter (piece.More r) me = HasConnection r me
-HasConnectionAfter (piece.End made end) me = connection_of me ≡ made
+HasConnectionAfter (piece.End made end) me = (connection_of me ≡ made) × OpenDid end made me.receipts
 HasConnectionAfter (piece.Stop f) me = ⊤
 
 -- where a piece ends a reader that didn't connect, it routed nothing

@@ -7,8 +7,8 @@ ghost use Rattle.gn_bodies.specs.Admitting.{GoesOn, HasSameNumbers, StaysSettled
 ghost use Rattle.gn_bodies.specs.Done.{IsReaderDone, half_of, reader_ended};
 ghost use Rattle.gn_bodies.specs.Events.{connection_of, link_events};
 ghost use Rattle.gn_bodies.specs.Jobs.{jobs_left};
-ghost use Rattle.gn_bodies.specs.ReaderRows.{HasClosedAt, ReaderRow, closes};
-ghost use Rattle.gn_bodies.specs.Reading.{EndsReading, HasTakenPiece, IsTaken, ReadRow};
+ghost use Rattle.gn_bodies.specs.ReaderRows.{HasClosedAt, ReaderDid, ReaderRow, closes};
+ghost use Rattle.gn_bodies.specs.Reading.{EndsReading, HasTakenPiece, IsTaken, OpenDid, ReadRow};
 
 use crate::asking::close;
 use crate::ends::{BodyFault, ReaderEnd, fail_at_stop};
@@ -32,8 +32,17 @@ pub struct ReaderDone<Rd, B: Site + Ledger + Named, A: Allocator = Global> {
     pub reader: Rd,
     pub home: IntakeHome<B, A>,
     pub end: Result<ReaderEnd, BodyFault>,
+    /// The connection that it was given, where it has an end.
+    pub connection: Option<ConnId>,
     /// What says that the connection was found closed, where it was to be closed at this end.
     pub found_closed: Option<FoundClosed>,
+}
+
+/// What is known of a reader's connection at its end.
+#[derive(Drop)]
+struct Known {
+    connection: Option<ConnId>,
+    found_closed: Option<FoundClosed>,
 }
 
 impl<
@@ -97,6 +106,8 @@ impl<
         ensures none { connection ≡ None → self.new ≡ self.old }
         ensures row { (role : Role) (b : List ℕ) → ReadRow role end connection (link_events self.old.actor) b
             → ReaderRow role end connection (link_events self.new.actor) b }
+        ensures did { OpenDid end connection self.old.actor.receipts
+            → ReaderDid end connection self.new.actor.receipts }
         ensures closed { OnOk result (connection_of self.new.actor ≡ connection
             → HasClosedAt end found.new self.new.actor) }
     {
@@ -121,23 +132,31 @@ impl<
         reader: &mut Rd,
         role: Role,
         turns: u32,
-        found: &mut Option<FoundClosed>,
+        known: &mut Known,
     ) -> Result<ReaderEnd, BodyFault>
         requires new { IsNewReader (Rd.state reader.old) }
         requires none { self.old.actor.receipts ≡ [] }
         ensures numbers { HasSameNumbers self.old self.new }
         ensures done { IsReaderDone Rd.state Rd.made_of Rd.gives turns (half_of role reader.old)
-            (record { receipts = self.new.actor.receipts; half = reader.new; end = result }) }
+            (record {
+              conn = known.new.connection;
+              receipts = self.new.actor.receipts;
+              half = reader.new;
+              end = result;
+            }) }
         ensures put { OnOk result (self.old.is_refused ≡ false
             → self.new.intake.jobs ≡ self.old.intake.jobs ++ jobs_left self.new.actor.receipts) }
-        ensures closed { IfOk result (λ end. HasClosedAt end found.new self.new.actor) }
+        ensures closed { IfOk result (λ end. HasClosedAt end known.new.found_closed self.new.actor) }
     {
         match self.read_all(rt, reader, role, turns) {
-            Ok((connection, end)) => match self.close_at(rt, connection, end, found) {
-                Ok(()) if self.is_refused => Err(BodyFault::Refused),
-                Ok(()) => Ok(end),
-                Err(why) => Err(why),
-            },
+            Ok((connection, end)) => {
+                known.connection = connection;
+                match self.close_at(rt, connection, end, &mut known.found_closed) {
+                    Ok(()) if self.is_refused => Err(BodyFault::Refused),
+                    Ok(()) => Ok(end),
+                    Err(why) => Err(why),
+                }
+            }
             Err(why) => Err(why),
         }
     }
@@ -198,19 +217,27 @@ pub fn reader_body<
         batch,
         is_refused: false,
     };
-    let mut found_closed = None;
-    let end = me.read_link(rt, &mut reader, role, turns, &mut found_closed);
+    let mut known = Known {
+        connection: None,
+        found_closed: None,
+    };
+    let end = me.read_link(rt, &mut reader, role, turns, &mut known);
     fail_at_stop(rt, service, gate, &end);
     service.reader_done(rt, link);
     reader.finish(rt);
     gate.ended(link, Half::Reader);
     let ReaderHandler { actor, intake, .. } = me;
+    let Known {
+        connection,
+        found_closed,
+    } = known;
     ReaderDone {
         actor,
         role,
         reader,
         home: intake.finish(),
         end,
+        connection,
         found_closed,
     }
 }

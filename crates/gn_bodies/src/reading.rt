@@ -6,8 +6,7 @@ ghost use Rattle.gn_shake.specs.Greeting.{greeting_of};
 ghost use Rattle.gn_links.specs.Halves.{IsReadFrom};
 ghost use Rattle.gn_bodies.specs.declared.piece.Reading.TheVariants as reading;
 ghost use Rattle.gn_bodies.specs.Admitting.{HasSameNumbers, StaysSettled};
-ghost use Rattle.gn_bodies.specs.Events.{connection_of};
-ghost use Rattle.gn_bodies.specs.Reading.{HasConnection, HasReadOn, HasReadPieces, HasTakenPiece, IsOffering, IsReading, IsTaken};
+ghost use Rattle.gn_bodies.specs.Reading.{HasConnection, HasReadOn, HasReadPieces, HasTakenPiece, IsOffering, IsOpen, IsReading, IsTaken};
 
 use crate::asking::connect;
 use crate::ends::{BodyFault, ReaderEnd};
@@ -123,7 +122,7 @@ impl<
         frames: Reassembler<A>,
         piece: &[u8],
     ) -> Piece<A>
-        requires connection { connection_of self.old.actor ≡ Some c }
+        requires connection { IsOpen c self.old.actor }
         ensures piece { HasTakenPiece result self.old self.new }
         ensures taken { (role : Role) (b s : List ℕ) → b ≡ greeting_of role ++ s → IsOffering s c frames self.old.actor
             → IsTaken role result (b ++ piece.now) self.new.actor }

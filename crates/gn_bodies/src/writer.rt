@@ -1,6 +1,6 @@
 //! The body of a writer.
 
-ghost use Rattle.std.specs.Prelude.{◌≡◌, ◌<◌, ◌∷◌, ◌++◌, [], ℕ, false, true, IfOk, OnOk};
+ghost use Rattle.std.specs.Prelude.{◌≡◌, ◌<◌, ◌∷◌, ◌++◌, [], ℕ, None, false, true, IfOk, OnOk};
 ghost use Rattle.std.specs.Option.{option_copied};
 ghost use Rattle.gn_wire.specs.Encoding.{bytes_of};
 ghost use Rattle.gn_rules.specs.History.{taken_of};
@@ -17,7 +17,7 @@ ghost use Rattle.gn_bodies.specs.Written.{HasWrittenText, WriterSteps};
 use crate::asking::close;
 use crate::ends::{BodyFault, WriterEnd, fail_at_stop};
 use gn_actors::Named;
-use gn_hub::{Actor, Batch, FoundClosed, Outgoing, Service};
+use gn_hub::{Actor, Batch, FoundClosed, Idle, Outgoing, Service};
 use gn_links::{Gate, Half, LinkWriter, Made};
 use gn_rules::{ConnId, Receipt, Reply, RouterCore};
 use gn_shake::Role;
@@ -33,8 +33,20 @@ pub struct WriterDone<W, L: Ledger + Named, A: Allocator = Global> {
     pub role: Role,
     pub writer: W,
     pub end: Result<WriterEnd, BodyFault>,
+    /// The connection that its link has, where it has an end: none where it didn't wait for it, or the link never connected.
+    pub connection: Option<ConnId>,
     /// What says that the connection was found closed, where a write had failed.
     pub found_closed: Option<FoundClosed>,
+    /// What says that nothing was in flight when it closed its connection, where that was drained.
+    pub idle: Option<Idle<L, A>>,
+}
+
+/// What is known of a writer's connection at its end.
+#[derive(Drop)]
+struct Known<L: Ledger + Named, A: Allocator = Global> {
+    connection: Option<ConnId>,
+    found_closed: Option<FoundClosed>,
+    idle: Option<Idle<L, A>>,
 }
 
 /// What a writer lends to its calls, for one batch after another.
@@ -150,14 +162,15 @@ fn write_next<
     c: ConnId,
     batch: Batch,
     lent: &mut Lent<A>,
+    idle: &mut Option<Idle<L, A>>,
 ) -> Option<Result<WriterEnd, BodyFault>>
     ensures number { me.new.number ≡ me.old.number }
     ensures made { W.made_of writer.new ≡ W.made_of writer.old }
-    ensures written { (role : Role) → WritesPackets batch role Closed c me.old (W.state writer.old)
-        → WritesOn batch role result c me.new (W.state writer.new) }
+    ensures written { (role : Role) → WritesPackets batch role Closed c None me.old (W.state writer.old)
+        → WritesOn batch role result c idle.new me.new (W.state writer.new) }
 {
     let Lent { taken, text } = lent;
-    match service.next_batch(rt, me, c, batch, taken) {
+    match service.next_batch(rt, me, c, batch, taken, idle) {
         Ok(Outgoing::Packet) => write_taken(rt, gate, link, writer, taken.as_slice(), text),
         Ok(Outgoing::Drained) => {
             gate.made(link, Made::Closed);
@@ -214,19 +227,20 @@ fn write_packets<
     c: ConnId,
     batch: Batch,
     lent: &mut Lent<A>,
+    idle: &mut Option<Idle<L, A>>,
 ) -> Result<WriterEnd, BodyFault>
     requires some { 0 < batch }
     requires none { me.old.receipts ≡ [] }
     requires called { WritesAs 1 role NeverOpened [] (W.state writer.old) }
     ensures number { me.new.number ≡ me.old.number }
     ensures made { W.made_of writer.new ≡ W.made_of writer.old }
-    ensures written { IfOk result (λ end. WritesPackets batch role end c me.new (W.state writer.new)) }
+    ensures written { IfOk result (λ end. WritesPackets batch role end c idle.new me.new (W.state writer.new)) }
 {
     if !write_consent(rt, writer, role) {
         return Ok(WriterEnd::WriteFailed);
     }
     for _ in rt.forever() {
-        if let Some(end) = write_next(rt, service, gate, me, link, writer, c, batch, lent) {
+        if let Some(end) = write_next(rt, service, gate, me, link, writer, c, batch, lent, idle) {
             return end;
         }
     }
@@ -251,15 +265,17 @@ fn write_link<
     batch: Batch,
     writer: &mut W,
     lent: &mut Lent<A>,
-    found: &mut Option<FoundClosed>,
+    known: &mut Known<L, A>,
 ) -> Result<WriterEnd, BodyFault>
     requires some { 0 < batch }
     requires none { me.old.receipts ≡ [] }
     requires new { (W.state writer.old).bytes ≡ [] }
+    requires unknown { known.old.connection ≡ None }
     ensures number { me.new.number ≡ me.old.number }
     ensures made { W.made_of writer.new ≡ W.made_of writer.old }
     ensures written { IfOk result (λ end. WritesAs batch role end (packets_of me.new) (W.state writer.new)) }
-    ensures steps { IfOk result (λ end. (c : ℕ) × WriterSteps role end c found.new me.new) }
+    ensures steps { IfOk result
+        (λ end. WriterSteps role end known.new.connection known.new.found_closed known.new.idle me.new.receipts) }
 {
     if !write_request(rt, writer, role) {
         return Ok(WriterEnd::WriteFailed);
@@ -267,9 +283,22 @@ fn write_link<
     let Some(c) = service.meet(rt, link) else {
         return Ok(WriterEnd::NeverOpened);
     };
-    let end = write_packets(rt, service, gate, me, link, writer, role, c, batch, lent)?;
+    known.connection = Some(c);
+    let end = write_packets(
+        rt,
+        service,
+        gate,
+        me,
+        link,
+        writer,
+        role,
+        c,
+        batch,
+        lent,
+        &mut known.idle,
+    )?;
     if let WriterEnd::WriteFailed = end {
-        *found = close(rt, service, gate, me, link, c)?;
+        known.found_closed = close(rt, service, gate, me, link, c)?;
     }
     Ok(end)
 }
@@ -301,7 +330,8 @@ pub fn writer_body<
     requires new { IsNewWriter (W.state writer) }
     ensures same { (result.actor.number ≡ actor.number) × (result.role ≡ role) }
     ensures done { IsWriterDone W.state W.made_of batch (half_of role writer) (writer_ended result) }
-    ensures steps { IfOk result.end (λ end. (c : ℕ) × WriterSteps role end c result.found_closed result.actor) }
+    ensures steps { IfOk result.end
+        (λ end. WriterSteps role end result.connection result.found_closed result.idle result.actor.receipts) }
 {
     let (mut actor, mut writer) = (actor, writer);
     // It shows that a batch is one packet at least.
@@ -310,7 +340,11 @@ pub fn writer_body<
         taken: Vec::new(alloc),
         text: Vec::new(alloc),
     };
-    let mut found_closed = None;
+    let mut known = Known {
+        connection: None,
+        found_closed: None,
+        idle: None,
+    };
     let end = write_link(
         rt,
         service,
@@ -321,7 +355,7 @@ pub fn writer_body<
         batch,
         &mut writer,
         &mut lent,
-        &mut found_closed,
+        &mut known,
     );
     drop(lent);
     fail_at_stop(rt, service, gate, &end);
@@ -332,6 +366,8 @@ pub fn writer_body<
         role,
         writer,
         end,
-        found_closed,
+        connection: known.connection,
+        found_closed: known.found_closed,
+        idle: known.idle,
     }
 }

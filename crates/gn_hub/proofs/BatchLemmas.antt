@@ -9,7 +9,7 @@ use Rattle.gn_hub.specs.declared.next.Outgoing.TheVariants.{Packet, Drained}
 use Rattle.gn_hub.specs.ActorState.{ActorState, receipt, with_receipt}
 use Rattle.gn_hub.specs.Calls.{HasStepped, answer_now}
 use Rattle.gn_hub.specs.HubState.{HubState, past_of}
-use Rattle.gn_hub.specs.Receipts.{HasDrained, HasTaken, HasTakenMore, HasTakenSome, TakenAt, is_stop, taken_receipt}
+use Rattle.gn_hub.specs.Receipts.{HasTaken, HasTakenMore, HasTakenSome, TakenAt, is_stop, taken_receipt}
 use Rattle.gn_hub.specs.Waking.{LeavesWaiting}
 use Rattle.gn_hub.specs.declared.wakes.Wakes.{Wakes}
 use Rattle.gn_hub.specs.declared.wakes.Wakes.TheVariants.{Nobody, Everybody}
@@ -54,10 +54,9 @@ then_more (Err refusal) n most c me mid us same few first more = tt
 at_ok : {X E : Type 0} (answer : Result X E) (x : X) (P : X → Type 0) → answer ≡ Ok x → IfOk answer P → P x
 at_ok answer x P is did = subst (λ w. IfOk w P) is did
 
-pub drained_since : {A : Type 0} (answer : Result (Option Outgoing) Refusal) (at : Option Outgoing) (next : Outgoing) (c : ℕ) (me mid us : ActorState A) → answer ≡ Ok at → at ≡ Some next
-    → mid ≡ me → IfOk answer (λ next. next ≡ Some Drained → HasDrained c mid us) → next ≡ Drained → HasDrained c me us
-drained_since answer at next c me mid us is some same did end =
-    subst (λ w. HasDrained c w us) same (at_ok answer at (λ next. next ≡ Some Drained → HasDrained c mid us) is did (some ∙ ap Some end))
+pub drained_since : {A : Type 0} (Did : ActorState A → ActorState A → Type 0) (answer : Result (Option Outgoing) Refusal) (at : Option Outgoing) (next : Outgoing) (me mid us : ActorState A) → answer ≡ Ok at → at ≡ Some next
+    → mid ≡ me → IfOk answer (λ next. next ≡ Some Drained → Did mid us) → next ≡ Drained → Did me us
+drained_since Did answer at next me mid us is some same did end = subst (λ w. Did w us) same (at_ok answer at (λ next. next ≡ Some Drained → Did mid us) is did (some ∙ ap Some end))
 
 pub taken_since : {A : Type 0} (answer : Result (Option Outgoing) Refusal) (at : Option Outgoing) (next : Outgoing) (most c : ℕ) (me mid us : ActorState A) → answer ≡ Ok at → at ≡ Some next
     → mid ≡ me → IfOk answer (λ next. next ≡ Some Packet → HasTakenSome most c mid us) → next ≡ Packet → HasTakenSome most c me us

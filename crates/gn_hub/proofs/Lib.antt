@@ -1,5 +1,6 @@
 pub mod ActorLemmas
 pub mod BatchLemmas
+pub mod IdleLemmas
 pub mod KeptLemmas
 pub mod ProgressLemmas
 pub mod StepLemmas

@@ -60,15 +60,19 @@ packet_taken due answer c before after me us fit is did =
     let (packet, same) = taken_reply c reply fits in
     (length before.steps, packet, got ∙ ap (λ r. with_receipt me (receipt (length before.steps) (Take c) r)) same)
 
-pub drained : {A : Type 0} (due : Due) (answer : Option Outgoing) (c : ℕ) (before after : HubState A) (me us : ActorState A) → answer ≡ Some outgoing.Drained
-    → IsOutgoing due answer c before me after us → HasDrained c me us
-drained over answer c before after me us is (same, kept, mine) = let no : Some outgoing.Drained ≡ Some outgoing.Closed = sym is ∙ same in absurd (cc)
-drained take answer c before after me us is (same, step) = let no : Some outgoing.Drained ≡ Some outgoing.Packet = sym is ∙ same in absurd (cc)
-drained {A} close answer c before after me us is (same, none, (reply, replied, made, got)) =
+pub drained_at : {A : Type 0} (due : Due) (answer : Option Outgoing) (c : ℕ) (before after : HubState A) (me us : ActorState A) → answer ≡ Some outgoing.Drained
+    → IsOutgoing due answer c before me after us → us ≡ with_receipt me (receipt (length before.steps) (Close c) (kind.Closed 0))
+drained_at over answer c before after me us is (same, kept, mine) = let no : Some outgoing.Drained ≡ Some outgoing.Closed = sym is ∙ same in absurd (cc)
+drained_at take answer c before after me us is (same, step) = let no : Some outgoing.Drained ≡ Some outgoing.Packet = sym is ∙ same in absurd (cc)
+drained_at {A} close answer c before after me us is (same, none, (reply, replied, made, got)) =
     let both : Ok (kind.Closed 0) ≡ Ok reply = sym none ∙ replied in
     let closed : reply ≡ kind.Closed 0 = cc in
-    (length before.steps, got ∙ ap (λ r. with_receipt me (receipt (length before.steps) (Close c) r)) closed)
-drained later answer c before after me us is (same, kept, mine) = let no : Some outgoing.Drained ≡ None = sym is ∙ same in absurd (cc)
+    got ∙ ap (λ r. with_receipt me (receipt (length before.steps) (Close c) r)) closed
+drained_at later answer c before after me us is (same, kept, mine) = let no : Some outgoing.Drained ≡ None = sym is ∙ same in absurd (cc)
+
+pub drained : {A : Type 0} (due : Due) (answer : Option Outgoing) (c : ℕ) (before after : HubState A) (me us : ActorState A) → answer ≡ Some outgoing.Drained
+    → IsOutgoing due answer c before me after us → HasDrained c me us
+drained due answer c before after me us is did = (length before.steps, drained_at due answer c before after me us is did)
 
 -- a connection that is over, or has nothing yet: nothing was done
 pub closed_same : {A : Type 0} (due : Due) (answer : Option Outgoing) (c : ℕ) (before after : HubState A) (me us : ActorState A) → answer ≡ Some outgoing.Closed

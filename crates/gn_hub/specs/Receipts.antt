@@ -74,6 +74,11 @@ HasTakenSome most c me us =
 abbrev pub HasDrained : {A : Type 0} → ℕ → ActorState A → ActorState A → Type 0
 HasDrained {A} c me us = (index : ℕ) × (us ≡ with_receipt me (receipt index (Close c) (Closed 0)))
 
+-- an actor got a receipt of a close that discarded nothing, at the step before which nothing was in flight, as this says
+abbrev pub IsDrainedAt : {A : Type 0} → ℕ → Option ℕ → ActorState A → ActorState A → Type 0
+IsDrainedAt c None me us = ⊥
+IsDrainedAt c (Some idle) me us = us ≡ with_receipt me (receipt idle (Close c) (Closed 0))
+
 -- an actor closed a connection, and got a receipt of it; or, without a receipt, the connection was found closed, as this says
 abbrev pub HasClosed : {A : Type 0} → ℕ → Option ℕ → ActorState A → ActorState A → Type 0
 HasClosed {A} c None me us = (index count : ℕ) × (us ≡ with_receipt me (receipt index (Close c) (Closed count)))

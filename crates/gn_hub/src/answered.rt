@@ -6,7 +6,7 @@ ghost use Rattle.gn_rules.specs.Fits.{refuses};
 ghost use Rattle.gn_rules.specs.History.{live};
 ghost use Rattle.gn_hub.specs.HubState.{is_closing, past_of};
 ghost use Rattle.gn_hub.specs.ActorState.{with_receipt};
-ghost use Rattle.gn_hub.specs.Receipts.{AreKept, HasClosed, HasDrained, HasReceipt, HasTaken, HasTakenMore, HasTakenSome, HasThis, is_stop};
+ghost use Rattle.gn_hub.specs.Receipts.{AreKept, HasClosed, HasDrained, HasReceipt, HasTaken, HasTakenMore, HasTakenSome, HasThis, IsDrainedAt, is_stop};
 ghost use Rattle.gn_hub.specs.Waking.{LeavesOthers, LeavesWaiting, wakes_of};
 ghost use Rattle.gn_hub.specs.declared.wakes.Wakes.TheVariants.{Nobody, Everybody};
 ghost use Rattle.gn_hub.specs.declared.next.Outgoing.TheVariants.{Packet, Drained, Closed};
@@ -14,6 +14,7 @@ ghost use Rattle.gn_hub.specs.declared.next.Outgoing.TheVariants.{Packet, Draine
 use crate::batch::Batch;
 use crate::found::FoundClosed;
 use crate::hub::Hub;
+use crate::idle::Idle;
 use crate::next::Outgoing;
 use crate::wakes::Wakes;
 use gn_actors::{Actor, Named};
@@ -125,6 +126,7 @@ impl<C: RouterCore<A>, L: Ledger + Named, A: Allocator + Copy> Hub<C, L, A> {
         me: &mut Actor<L, A>,
         c: ConnId,
         kept: &mut Vec<Receipt<A>, A>,
+        idle: &mut Option<Idle<L, A>>,
     ) -> Answered<Option<Outgoing>>
         ensures packet { IfOk result.answer (λ next. next ≡ Some Packet → HasTaken c me.old me.new) }
         ensures drained { IfOk result.answer (λ next. next ≡ Some Drained → HasDrained c me.old me.new) }
@@ -132,10 +134,11 @@ impl<C: RouterCore<A>, L: Ledger + Named, A: Allocator + Copy> Hub<C, L, A> {
         ensures later { IfOk result.answer (λ next. next ≡ None → me.new ≡ me.old) }
         ensures refused { IfErr result.answer (λ refusal. (is_stop refusal ≡ true) × (me.new ≡ me.old)) }
         ensures kept { AreKept kept.old.items kept.new.items me.old me.new }
+        ensures idle { IfOk result.answer (λ next. next ≡ Some Drained → IsDrainedAt c idle.new me.old me.new) }
         ensures quiet { LeavesWaiting result.wakes [] self.old self.new }
     {
         answers_fit::<A>();
-        match self.outgoing(me, c, kept) {
+        match self.outgoing(me, c, kept, idle) {
             Ok(Some(Outgoing::Packet)) => Answered {
                 answer: Ok(Some(Outgoing::Packet)),
                 wakes: self.wakes_at_least(Wakes::Nobody),
@@ -160,6 +163,7 @@ impl<C: RouterCore<A>, L: Ledger + Named, A: Allocator + Copy> Hub<C, L, A> {
         batch: Batch,
         room: &Room,
         kept: &mut Vec<Receipt<A>, A>,
+        idle: &mut Option<Idle<L, A>>,
     ) -> Answered<Option<Outgoing>>
         ensures packet { IfOk result.answer (λ next. next ≡ Some Packet → HasTakenSome batch c me.old me.new) }
         ensures drained { IfOk result.answer (λ next. next ≡ Some Drained → HasDrained c me.old me.new) }
@@ -167,9 +171,10 @@ impl<C: RouterCore<A>, L: Ledger + Named, A: Allocator + Copy> Hub<C, L, A> {
         ensures later { IfOk result.answer (λ next. next ≡ None → me.new ≡ me.old) }
         ensures refused { IfErr result.answer (λ refusal. (is_stop refusal ≡ true) × (me.new ≡ me.old)) }
         ensures kept { AreKept kept.old.items kept.new.items me.old me.new }
+        ensures idle { IfOk result.answer (λ next. next ≡ Some Drained → IsDrainedAt c idle.new me.old me.new) }
         ensures quiet { LeavesWaiting result.wakes [] self.old self.new }
     {
-        let Answered { answer, wakes } = self.outgoing_answered(me, c, kept);
+        let Answered { answer, wakes } = self.outgoing_answered(me, c, kept, idle);
         if !matches!(answer, Ok(Some(Outgoing::Packet))) {
             return Answered { answer, wakes };
         }

@@ -1,25 +1,27 @@
 //! What lies under the lock: the router, the annals of its steps, and what is known of the links.
 
-ghost use Rattle.std.specs.Prelude.{◌≡◌, ◌==◌, ◌∷◌, ◌++◌, [], true, false, length, IfOk, MatchResult};
+ghost use Rattle.std.specs.Prelude.{◌≡◌, ◌≤◌, ◌==◌, ◌∷◌, ◌++◌, [], true, false, length, reverse, take, Some, IfOk, MatchResult};
 ghost use Rattle.std.specs.List.{list_all, slice_get};
 ghost use Rattle.gn_rules.specs.Answer.{checked_answer};
 ghost use Rattle.gn_rules.specs.Flight.{flying};
 ghost use Rattle.gn_rules.specs.declared.event.Event.TheVariants.{Connect, Route};
 ghost use Rattle.gn_hub.specs.declared.mark.Door.TheVariants.{Shut};
+ghost use Rattle.gn_hub.specs.declared.next.Outgoing.TheVariants.{Drained};
 ghost use Rattle.gn_hub.specs.HubState.{are_read, do_all_call, door_by, door_of, is_awaited_no_more, is_closing, past_of, with_door, with_reader_done};
-ghost use Rattle.gn_actors.specs.Annals.{Fits};
 ghost use Rattle.gn_actors.specs.Home.{AreNumbered, AreWhole};
 ghost use Rattle.gn_hub.specs.Calls.{HasConnected, HasGot, HasStepped, IsNext, IsOutgoing, IsRefusal, IsStop, answer_now, due, is_step};
-ghost use Rattle.gn_hub.specs.Receipts.{AreKept};
+ghost use Rattle.gn_hub.specs.Receipts.{AreKept, IsDrainedAt};
 
+use crate::idle::Idle;
 use crate::mark::{Door, Mark};
 use crate::next::{Next, Outgoing, next_of};
 use gn_actors::{Actor, Annals, Home, Named};
 use gn_payload::Checked;
 use gn_rules::{ConnId, Event, Receipt, Refusal, Reply, RouterCore, Ticket};
+use gn_trail::Trail;
 use std::alloc::{Allocator, Global};
 use std::marker::Model;
-use std::sync::ledger::{Ledger, Share};
+use std::sync::ledger::Ledger;
 
 /// The router that the threads of a run share, the annals of its steps, what is known of each link, and whether the run has
 /// failed. The annals are the router's history.
@@ -179,23 +181,26 @@ impl<C: RouterCore<A>, L: Ledger + Named, A: Allocator + Copy> Hub<C, L, A> {
             × (self.new ≡ self.old) × (me.new ≡ me.old)) }
         ensures kept { AreKept kept.old.items kept.new.items me.old me.new }
     {
-        let answer = self.outgoing(me, c, kept)?;
+        let answer = self.outgoing(me, c, kept, &mut None)?;
         Ok(next_of(answer))
     }
 
-    /// `next_out`, by what a writer is answered that waits while it is none.
+    /// `next_out`, by what a writer is answered that waits while it is none. Where this call closes the connection, what says
+    /// that nothing was in flight is put to `idle`.
     #[tactic(auto, using(crate::proofs::KeptLemmas::none_kept))]
     pub(crate) fn outgoing(
         &mut self,
         me: &mut Actor<L, A>,
         c: ConnId,
         kept: &mut Vec<Receipt<A>, A>,
+        idle: &mut Option<Idle<L, A>>,
     ) -> Result<Option<Outgoing>, Refusal>
         ensures made { MatchResult result
             (λ answer. IsOutgoing (due self.old c) answer c self.old me.old self.new me.new)
             (λ refusal. (is_step (due self.old c) ≡ true) × IsStop refusal self.old
             × (self.new ≡ self.old) × (me.new ≡ me.old)) }
         ensures kept { AreKept kept.old.items kept.new.items me.old me.new }
+        ensures idle { IfOk result (λ answer. answer ≡ Some Drained → IsDrainedAt c idle.new me.old me.new) }
     {
         if self.failed {
             return Ok(Some(Outgoing::Closed));
@@ -209,7 +214,9 @@ impl<C: RouterCore<A>, L: Ledger + Named, A: Allocator + Copy> Hub<C, L, A> {
             return Ok(Some(Outgoing::Closed));
         }
         if self.closing() {
+            let now = self.idle_now();
             self.call_kept(me, Event::Close(c), kept)?;
+            *idle = Some(now);
             return Ok(Some(Outgoing::Drained));
         }
         Ok(None)
@@ -255,6 +262,17 @@ impl<C: RouterCore<A>, L: Ledger + Named, A: Allocator + Copy> Hub<C, L, A> {
         ensures { result ≡ (length (flying (past_of self.now)) == 0) }
     {
         self.core.flights() == 0
+    }
+
+    /// What says that nothing is in flight now.
+    fn idle_now(&mut self) -> Idle<L, A>
+        requires { (length (flying (past_of self.old)) == 0) ≡ true }
+        ensures same { self.new ≡ self.old }
+        ensures at { result ≡ length self.old.steps }
+    {
+        let at = self.book();
+        let Hub { core, annals, .. } = self;
+        Idle::after(at, annals.so_far(core))
     }
 
     /// Whether the run waits for no reader any more.
@@ -350,22 +368,24 @@ impl<C: RouterCore<A>, L: Ledger + Named, A: Allocator + Copy> Hub<C, L, A> {
         }
     }
 
-    /// An actor's receipts stand among the steps: each at its index, in order.
-    pub fn confirm(&mut self, me: &mut Actor<L, A>)
-        ensures same { (self.new ≡ self.old) × (me.new ≡ me.old) }
-        ensures fits { Fits self.new.steps me.new }
+    /// What was told to be idle was so: after that many of the steps nothing was in flight.
+    pub fn recall_idle(&mut self, idle: Idle<L, A>)
+        ensures same { self.new ≡ self.old }
+        ensures idle { (idle ≤ length self.new.steps)
+            × ((length (flying (reverse (take idle self.new.steps))) == 0) ≡ true) }
     {
         let Hub { core, annals, .. } = self;
-        annals.confirm(me, core);
+        annals.recall(idle.into_seen(), core);
     }
 
-    /// An actor comes home.
-    pub fn welcome(&mut self, home: &mut Home<L, A>, me: Actor<L, A>)
+    /// An actor comes home. Its receipts.
+    pub fn welcome(&mut self, home: &mut Home<L, A>, me: Actor<L, A>) -> Trail<Receipt<A>>
         ensures same { self.new ≡ self.old }
         ensures home { home.new ≡ home.old ++ me ∷ [] }
+        ensures receipts { result.items ≡ me.receipts }
     {
         let Hub { core, annals, .. } = self;
-        annals.welcome(home, me, core);
+        annals.welcome(home, me, core)
     }
 
     /// All actors of the run are home: the receipts of each are its own steps, and no step is of anybody else.
@@ -377,15 +397,6 @@ impl<C: RouterCore<A>, L: Ledger + Named, A: Allocator + Copy> Hub<C, L, A> {
     {
         let Hub { core, annals, .. } = self;
         annals.close(home, core);
-    }
-
-    /// All shares together are the book.
-    pub fn audit(&mut self, all: &mut Share<L>)
-        requires { all.old.parts ≡ L.parts }
-        ensures total { all.new.amount ≡ length self.new.steps }
-        ensures same { (self.new ≡ self.old) × (all.new.amount ≡ all.old.amount) × (all.new.parts ≡ all.old.parts) }
-    {
-        self.annals.audit(all);
     }
 }
 

@@ -4,7 +4,7 @@ ghost use Rattle.std.specs.Prelude.{◌≡◌, ◌<◌, [], true, false, length,
 ghost use Rattle.gn_rules.specs.declared.event.Event.TheVariants.{Connect, Route};
 ghost use Rattle.gn_rules.specs.Fits.{refuses};
 ghost use Rattle.gn_hub.specs.declared.next.Outgoing.TheVariants.{Packet, Drained, Closed};
-ghost use Rattle.gn_hub.specs.Receipts.{HasClosed, HasDrained, HasProgressed, HasReceipt, HasTakenSome, HasThis, is_stop, with_receipts};
+ghost use Rattle.gn_hub.specs.Receipts.{HasClosed, HasDrained, HasProgressed, HasReceipt, HasTakenSome, HasThis, IsDrainedAt, is_stop, with_receipts};
 
 use crate::answered::Answered;
 use crate::asleep::Asleep;
@@ -12,6 +12,7 @@ use crate::batch::Batch;
 use crate::found::FoundClosed;
 use crate::held::Held;
 use crate::hub::Hub;
+use crate::idle::Idle;
 use crate::mark::Door;
 use crate::next::Outgoing;
 use crate::progress::Progress;
@@ -260,7 +261,8 @@ impl<C: RouterCore<A> + Drop, L: Ledger + Named, A: Allocator + Copy> Service<C,
 
     /// Waits until the connection has packets for its writer, or is over, also where this call closed it. At most `batch` packets are
     /// taken at once; the receipts of this call are put in place of those that are lent. A further packet is left where its step is
-    /// refused, or would have to wait for room.
+    /// refused, or would have to wait for room. Where this call closes the connection, what says that nothing was in flight before its
+    /// step is put to `idle`.
     #[tactic(auto, using(crate::proofs::KeptLemmas::none_got))]
     pub fn next_batch<R: Wait>(
         &self,
@@ -269,19 +271,21 @@ impl<C: RouterCore<A> + Drop, L: Ledger + Named, A: Allocator + Copy> Service<C,
         c: ConnId,
         batch: Batch,
         kept: &mut Vec<Receipt<A>, A>,
+        idle: &mut Option<Idle<L, A>>,
     ) -> Result<Outgoing, Refusal>
         ensures packet { IfOk result (λ next. next ≡ Packet → HasTakenSome batch c me.old me.new) }
         ensures drained { IfOk result (λ next. next ≡ Drained → HasDrained c me.old me.new) }
         ensures closed { IfOk result (λ next. next ≡ Closed → me.new ≡ me.old) }
         ensures refused { IfErr result (λ refusal. (is_stop refusal ≡ true) × (me.new ≡ me.old)) }
         ensures kept { me.new ≡ with_receipts me.old kept.new.items }
+        ensures idle { IfOk result (λ next. next ≡ Drained → IsDrainedAt c idle.new me.old me.new) }
     {
         self.make_room(rt, kept, batch.most() as usize)?;
         let mut held = self.lock(rt);
         for _ in rt.forever() {
             let Answered { answer, wakes } = held
                 .hub
-                .batch_answered(me, c, batch, &self.room, kept);
+                .batch_answered(me, c, batch, &self.room, kept, idle);
             if let Some(next) = answer? {
                 let woken = held.asleep.take_unqueued(wakes);
                 self.release(rt, held, woken);

@@ -23,7 +23,8 @@ use Rattle.gn_report.specs.BodyEnds.{is_settled, may_close_first}
 use Rattle.gn_report.specs.Flaw.{IsFlaw}
 use Rattle.gn_report.proofs.ConnLemmas.{conn_is_known}
 use Rattle.gn_report.proofs.ConfirmedLemmas.{Confirmed, reader_own}
-use Rattle.gn_bodies.specs.Done.{Half, ReadsAs, WritesAs, Ended, ReaderKeeps, IsReaderDone, WriterKeeps, IsWriterDone, reader_ended, halved, writer_ended}
+use Rattle.gn_bodies.specs.Done.{Half, ReadsAs, WritesAs}
+use Rattle.gn_threads.specs.Kept.{Ended, ReaderKeeps, IsReaderDone, WriterKeeps, IsWriterDone, reader_ended, halved, writer_ended}
 use Rattle.gn_threads.specs.Headline.{AreMadeOf, LinkHolds, LinksReadOwn, ReadOwn}
 use Rattle.gn_threads.specs.Joined.{EachKeeps}
 use Rattle.gn_threads.specs.Reported.{reader_reported, writer_reported}

@@ -1,5 +1,6 @@
 pub mod FaultLemmas
 pub mod ActorLemmas
+pub mod BodyLemmas
 pub mod JoinedLemmas
 pub mod EndLemmas
 pub mod HoldsLemmas

@@ -7,7 +7,8 @@ use Rattle.gn_bodies.specs.declared.ends.ReaderEnd.{ReaderEnd}
 use Rattle.gn_bodies.specs.declared.ends.WriterEnd.{WriterEnd}
 use Rattle.gn_threads.specs.declared.done.Done.{Done}
 use Rattle.gn_links.specs.Halves.{ReadHalf, WrittenHalf}
-use Rattle.gn_bodies.specs.Done.{Half, Ended, ReaderKeeps, WriterKeeps, reader_ended, writer_ended}
+use Rattle.gn_bodies.specs.Done.{Half}
+use Rattle.gn_threads.specs.Kept.{Ended, ReaderKeeps, WriterKeeps, reader_ended, writer_ended}
 use Rattle.gn_threads.specs.Faults.{is_ended_with}
 
 -- whether one of all bodies of a run ended with this fault

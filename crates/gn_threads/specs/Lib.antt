@@ -4,6 +4,7 @@ pub mod Faults
 pub mod Headline
 pub mod Ends
 -- Words of the proofs.
+pub mod Kept
 pub mod Joined
 pub mod Actors
 pub mod Shares

@@ -8,7 +8,7 @@ use Rattle.gn_bodies.specs.declared.ends.WriterEnd.{WriterEnd}
 use Rattle.gn_bodies.specs.declared.writer.WriterDone.{WriterDone}
 use Rattle.gn_report.specs.declared.report.LinkReport.{LinkReport}
 use Rattle.gn_report.specs.declared.report.Report.{Report}
-use Rattle.gn_bodies.specs.Done.{Ended}
+use Rattle.gn_threads.specs.Kept.{Ended}
 use Rattle.gn_threads.specs.declared.reported.LinkEnds.{LinkEnds}
 use Rattle.gn_threads.specs.declared.reported.ReaderResult.{ReaderResult}
 

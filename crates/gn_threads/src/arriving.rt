@@ -1,7 +1,7 @@
 //! A run whose links come one after another.
 
 ghost use Rattle.std.specs.Prelude.{◌≡◌, ◌+◌, ◌*◌, ◌≤◌, ◌↔◌, [], ℕ, None, length, map, reverse, take, vec_len, IfErr, IfOk, IfSome};
-ghost use Rattle.gn_bodies.specs.Done.{IsReaderDone, IsWriterDone};
+ghost use Rattle.gn_threads.specs.Kept.{IsReaderDone, IsWriterDone};
 ghost use Rattle.gn_rules.specs.Answer.{IsLegal};
 ghost use Rattle.gn_rules.specs.Limits.{IsCrew, most_links, most_reads};
 ghost use Rattle.gn_threads.specs.declared.fault.RunFault.TheVariants.{BadWorkers, HistoryFull};

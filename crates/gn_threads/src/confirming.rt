@@ -24,7 +24,7 @@ ghost use Rattle.gn_threads.specs.Faults.{IsFaultOf};
 ghost use Rattle.gn_threads.specs.declared.fault.RunFault.TheVariants.{HistoryFull};
 ghost use Rattle.gn_threads.specs.Reported.{reader_reported, writer_reported};
 ghost use Rattle.gn_threads.specs.Headline.{Holds};
-ghost use Rattle.gn_bodies.specs.Done.{halved};
+ghost use Rattle.gn_threads.specs.Kept.{halved};
 ghost use Rattle.gn_threads.specs.Joined.{KeepEnds};
 ghost use Rattle.gn_threads.specs.Shares.{AreCounted};
 

@@ -9,7 +9,7 @@ ghost use Rattle.gn_threads.specs.Faults.{IsFaultOf};
 ghost use Rattle.gn_threads.specs.declared.fault.RunFault.TheVariants.{HistoryFull};
 ghost use Rattle.gn_threads.specs.Reported.{HasBodies, reader_result};
 ghost use Rattle.gn_threads.specs.Headline.{Holds};
-ghost use Rattle.gn_bodies.specs.Done.{reader_ended, halved, writer_ended};
+ghost use Rattle.gn_threads.specs.Kept.{reader_ended, halved, writer_ended};
 ghost use Rattle.gn_threads.specs.Joined.{KeepEnds};
 ghost use Rattle.gn_threads.specs.Shares.{AreCounted};
 

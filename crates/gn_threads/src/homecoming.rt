@@ -44,9 +44,9 @@ fn bring_home<L: Ledger + Named, C: RouterCore<A>, A: Allocator + Copy>(
     let Some(first) = rest.next() else {
         unreachable!()
     };
-    let mut home = Home::of(first);
+    let (mut home, _) = Home::of(first);
     for actor in rest {
-        hub.welcome(&mut home, actor);
+        drop(hub.welcome(&mut home, actor));
     }
     hub.all_home(home);
 }

@@ -4,7 +4,8 @@ ghost use Rattle.std.specs.Prelude.{◌≡◌, [], ℕ, map, vec_len, if◌then�
 ghost use Rattle.std.specs.PromisedHandle.{KeepsEach};
 ghost use Rattle.gn_threads.specs.declared.fault.RunFault.TheVariants.{HistoryFull, NoMemory};
 ghost use Rattle.gn_threads.specs.Faults.{IsFaultOf};
-ghost use Rattle.gn_bodies.specs.Done.{half_of, IsReaderDone, IsWriterDone};
+ghost use Rattle.gn_bodies.specs.Done.{half_of};
+ghost use Rattle.gn_threads.specs.Kept.{IsReaderDone, IsWriterDone};
 ghost use Rattle.gn_threads.specs.Joined.{AreJoined};
 
 use crate::done::Done;

@@ -6,7 +6,7 @@ ghost use Rattle.gn_threads.specs.Faults.{IsFaultOf};
 ghost use Rattle.gn_threads.specs.Reported.{link_reader, link_writer, reader_actor, reader_given, reader_left, reader_receipts, reader_reported, reader_result, writer_actor, writer_given, writer_left, writer_receipts, writer_reported};
 ghost use Rattle.gn_threads.specs.Shares.{AreCounted};
 ghost use Rattle.gn_receipts.specs.Made.{receipt_list};
-ghost use Rattle.gn_bodies.specs.Done.{reader_ended, writer_ended};
+ghost use Rattle.gn_threads.specs.Kept.{reader_ended, writer_ended};
 
 use crate::fault::RunFault;
 use crate::homecoming::{Dealt, come_home, deal};
@@ -71,6 +71,7 @@ pub(crate) fn send_home<Rd: LinkReader, B: Site + Ledger + Named, A: Allocator +
             reader,
             home,
             end,
+            connection: _,
             found_closed: _,
         } = done;
         homed.push_reserved(ReaderResult { actor, reader, end });
@@ -120,7 +121,9 @@ impl<Rd: LinkReader, W: LinkWriter, L: Ledger + Named, A: Allocator + Copy> Link
             role: _,
             writer,
             end: _,
+            connection: _,
             found_closed: _,
+            idle: _,
         } = writer;
         let Linked {
             mut ends,

@@ -4,7 +4,7 @@ ghost use Rattle.std.specs.Prelude.{◌≡◌, ◌<◌, ◌++◌, ◌∷◌, [],
 ghost use Rattle.gn_links.specs.Halves.{IsNewReader, IsNewWriter};
 ghost use Rattle.gn_threads.specs.Faults.{IsArrivingFault};
 ghost use Rattle.gn_threads.specs.Joined.{AreJoinedOf};
-ghost use Rattle.gn_bodies.specs.Done.{IsReaderDone, IsWriterDone};
+ghost use Rattle.gn_threads.specs.Kept.{IsReaderDone, IsWriterDone};
 
 use crate::arrivals::Arrivals;
 use crate::done::Done;

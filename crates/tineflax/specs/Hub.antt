@@ -2,6 +2,7 @@
 
 pub use Rattle.gn_actors.specs.Annals
 pub use Rattle.gn_actors.specs.Home
+pub use Rattle.gn_actors.specs.Tallies
 pub use Rattle.gn_hub.specs.ActorState
 pub use Rattle.gn_hub.specs.Calls
 pub use Rattle.gn_hub.specs.HubState

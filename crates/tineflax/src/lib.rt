@@ -91,12 +91,13 @@ pub mod stage {
 
 /// The router under its lock, and the actors that call it.
 pub mod hub {
-    pub use gn_actors::{Beginning, Growing, Home, Lists, Named, Unnamed, Unopened};
+    pub use gn_actors::{Beginning, Growing, Home, Lists, Named, Tally, Unnamed, Unopened};
     pub use gn_hub::{
-        Actor, Batch, Door, FoundClosed, Frame, Hub, Mark, Next, Outgoing, Progress, Service,
+        Actor, Batch, Door, FoundClosed, Frame, Hub, Idle, Mark, Next, Outgoing, Progress, Service,
         ServiceFault,
     };
     pub use gn_room::{Following, Room, run_beside};
+    pub use gn_trail::Trail;
 }
 
 /// Links over memory and over TCP.

@@ -108,7 +108,9 @@ impl<'r, 's, A: Allocator + Copy, C: Historian<A> + Drop, L: Ledger + Named, R: 
     }
 
     fn take(&mut self, me: &mut Actor<L, A>, kept: &mut Vec<Receipt<A>, A>) -> Result<(), Refusal> {
-        let _ = self.service.next_batch(self.rt, me, 2, Batch::one(), kept)?;
+        let _ = self
+            .service
+            .next_batch(self.rt, me, 2, Batch::one(), kept, &mut None)?;
         Ok(())
     }
 }

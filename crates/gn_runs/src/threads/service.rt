@@ -149,7 +149,10 @@ fn takes<A: Allocator + Copy, C: Historian<A> + Drop, L: Ledger + Named, R: Wait
     let c = service.meet(rt, 0)?;
     let mut taken = 0usize;
     for _ in rt.forever() {
-        match service.next_batch(rt, me, c, Batch::one(), receipts).ok()? {
+        match service
+            .next_batch(rt, me, c, Batch::one(), receipts, &mut None)
+            .ok()?
+        {
             Outgoing::Packet => taken = taken.saturating_add(receipts.len()),
             Outgoing::Drained | Outgoing::Closed => break,
         }

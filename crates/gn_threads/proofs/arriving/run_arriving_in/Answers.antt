@@ -3,7 +3,7 @@ use Rattle.std.proofs.lemmas.List.{length-map}
 use Rattle.std.proofs.lemmas.Result.{IfOk-weaker}
 use Rattle.std.proofs.lemmas.Simd.{map-map}
 use Rattle.std.specs.Prelude.{IfErr, IfOk, IfSome}
-use Rattle.gn_bodies.specs.Done.{ReaderKeeps, halved, reader_ended, writer_ended}
+use Rattle.gn_threads.specs.Kept.{ReaderKeeps, halved, reader_ended, writer_ended}
 use Rattle.gn_threads.specs.Faults.{IsArrivingFault, IsFaultOf}
 use Rattle.gn_threads.specs.Headline.{Holds}
 use Rattle.gn_threads.specs.Courses.{IsBegunBy}

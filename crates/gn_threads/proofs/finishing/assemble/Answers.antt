@@ -2,7 +2,7 @@ use Rattle.std.proofs.Common.{◌∙◌, ap, arith, length, map, refl, sym, subs
 use Rattle.std.specs.Prelude.{IfErr, IfOk}
 use Rattle.std.proofs.lemmas.Result.{IfOk-weaker}
 use Rattle.gn_rules.specs.Limits.{most_reads}
-use Rattle.gn_bodies.specs.Done.{halved, writer_ended}
+use Rattle.gn_threads.specs.Kept.{halved, writer_ended}
 use Rattle.gn_threads.specs.Faults.{IsFaultOf}
 use Rattle.gn_threads.specs.Headline.{Holds}
 use Rattle.gn_threads.specs.Joined.{KeepEnds}

@@ -4,7 +4,7 @@ use Rattle.gn_bodies.specs.declared.worker.WorkerDone.{WorkerDone}
 use Rattle.gn_threads.specs.Faults.{IsFaultOf}
 use Rattle.std.proofs.lemmas.Result.{on_ok_weaker}
 use Rattle.gn_rules.specs.Limits.{most_reads}
-use Rattle.gn_bodies.specs.Done.{reader_ended, halved, writer_ended}
+use Rattle.gn_threads.specs.Kept.{reader_ended, halved, writer_ended}
 use Rattle.gn_threads.specs.Joined.{KeepEnds}
 use Rattle.gn_threads.specs.Headline.{Holds}
 use Rattle.gn_threads.specs.Reported.{HasBodies, reader_result}

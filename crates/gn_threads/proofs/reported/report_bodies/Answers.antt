@@ -4,7 +4,7 @@ use Rattle.std.proofs.lemmas.Simd.{map-map}
 use Rattle.gn_rules.specs.declared.receipt.Receipt.{Receipt}
 use Rattle.gn_bodies.specs.declared.ends.ReaderEnd.{ReaderEnd}
 use Rattle.gn_bodies.specs.declared.ends.WriterEnd.{WriterEnd}
-use Rattle.gn_bodies.specs.Done.{Ended}
+use Rattle.gn_threads.specs.Kept.{Ended}
 use Rattle.gn_receipts.specs.Made.{receipt_list}
 use Rattle.gn_threads.specs.Reported.{Left, reader_actor, reader_given, reader_left, reader_receipts, receipts_in, writer_actor, writer_given, writer_left, writer_receipts}
 use Rattle.gn_threads.proofs.FaultLemmas.{handed_on}

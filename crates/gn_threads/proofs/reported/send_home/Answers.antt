@@ -1,6 +1,6 @@
 use Rattle.std.proofs.Common.{ap, arith, length, vec_items}
 use Rattle.std.specs.Vec.Iter.{into_iter_items}
-use Rattle.gn_bodies.specs.Done.{reader_ended}
+use Rattle.gn_threads.specs.Kept.{reader_ended}
 use Rattle.gn_threads.specs.Reported.{reader_result}
 use Rattle.gn_threads.proofs.JoinedLemmas.{all_started, one_started}
 use Rattle.gn_threads.proofs.LoopLemmas.{none_taken, one_made}

@@ -1,7 +1,7 @@
 use Rattle.std.proofs.Common.{◌≡◌, ◌≤◌, ◌+◌, ◌++◌, map, vec_items, vec_len}
 use Rattle.std.specs.Prelude.{vec_capacity}
 use Rattle.std.specs.Vec.Iter.{into_iter_items, into_iter_len}
-use Rattle.gn_bodies.specs.Done.{reader_ended}
+use Rattle.gn_threads.specs.Kept.{reader_ended}
 use Rattle.gn_threads.specs.Reported.{reader_result}
 use Rattle.gn_threads.proofs.reported.send_home.Given as goal
 

@@ -4,11 +4,29 @@ use Rattle.gn_bodies.specs.Events.{link_events}
 use Rattle.gn_bodies.specs.ReaderRows.{WithClose}
 use Rattle.gn_bodies.proofs.EventLemmas.{close_events, may_close}
 use Rattle.gn_bodies.proofs.JobLemmas.{closing}
-use Rattle.gn_bodies.proofs.ReadingLemmas.{closed_row, connected_row, open_row, unconnected_row}
+use Rattle.gn_bodies.proofs.ReadingLemmas.{closed_did, closed_row, connected_row, kept_did, open_row, unconnected_did, unconnected_row}
 use Rattle.gn_bodies.proofs.handler.ReaderHandler.close_at.Goals as goal
 
 pub returns-in-None-clause-row : goal.returns-in-None-clause-row
 returns-in-None-clause-row g c role b row = unconnected_row role c.args.end c.args.connection _ b c.in-None.is row
+
+pub returns-in-None-clause-did : goal.returns-in-None-clause-did
+returns-in-None-clause-did g c did = unconnected_did c.args.end c.args.connection _ c.in-None.is did
+
+pub returns-in_ok-found-in-Some-clause-did : goal.returns-in_ok-found-in-Some-clause-did
+returns-in_ok-found-in-Some-clause-did g c did =
+    let may = may_close c.in-Some.c c.close.result c.self.inside.actor c.close.new.me c.close.ensures.closed in
+    let closed = subst (λ (es : List _). WithClose c.in-Some.c (link_events c.close.new.me) es) (ap (λ v. link_events v.actor) c.self.view_is) (close_events c.in-Some.c c.self.inside.actor c.close.new.me may) in
+    closed_did c.args.end c.args.connection c.in-Some.c _ _ c.in-Some.is (search rules) closed did
+
+pub returns-in_err-found-in-Some-clause-did : goal.returns-in_err-found-in-Some-clause-did
+returns-in_err-found-in-Some-clause-did g c did =
+    let may = may_close c.in-Some.c c.close.result c.self.inside.actor c.close.new.me c.close.ensures.closed in
+    let closed = subst (λ (es : List _). WithClose c.in-Some.c (link_events c.close.new.me) es) (ap (λ v. link_events v.actor) c.self.view_is) (close_events c.in-Some.c c.self.inside.actor c.close.new.me may) in
+    closed_did c.args.end c.args.connection c.in-Some.c _ _ c.in-Some.is (search rules) closed did
+
+pub returns-in-Some-2-clause-did : goal.returns-in-Some-2-clause-did
+returns-in-Some-2-clause-did g c did = kept_did c.args.end c.args.connection _ _ c.in-Some-2.is (search rules) did
 
 pub returns-in_ok-found-in-Some-clause-goes_on : goal.returns-in_ok-found-in-Some-clause-goes_on
 returns-in_ok-found-in-Some-clause-goes_on g c =

@@ -19,7 +19,12 @@ returns-in-Ok-None-clause-piece g c =
     let before : Admitting _ = record { actor = c.self.inside.actor; intake = c.self.inside.intake; is_refused = c.self.inside.is_refused } in
     let us : Admitting _ = record before { actor = c.connect.new.me } in
     let did = subst (λ (made : Option ℕ). HasOnlyConnected made c.connect.new.me) c.in-Ok-None.field-0-is c.in-Ok-None.ensures.connected in
-    piece_connected None (piece.End None TooMany) c.args.self.now before us us c.self.view_is c.requires.none c.connect.ensures.number did refl refl (record { numbers = (refl, refl); settled = λ jobs is. is; connection = did.connection; ends = refl; alone = λ _. did.alone })
+    piece_connected None (piece.End None TooMany) c.args.self.now before us us c.self.view_is c.requires.none c.connect.ensures.number did refl refl (record { numbers = (refl, refl); settled = λ jobs is. is; connection = (did.connection, did.turned refl); ends = refl; alone = λ _. did.alone })
+
+pub deliver_on-requires : goal.deliver_on-requires
+deliver_on-requires g c =
+    let did = subst (λ (made : Option ℕ). HasOnlyConnected made c.connect.new.me) c.in-Ok-Some.field-0-is c.in-Ok-Some.ensures.connected in
+    record { connection = record { connection = did.connection; offered = ([], did.events) } }
 
 pub returns-in-Err-new-clause-piece : goal.returns-in-Err-new-clause-piece
 returns-in-Err-new-clause-piece g c =

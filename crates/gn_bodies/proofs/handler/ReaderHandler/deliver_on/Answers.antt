@@ -3,7 +3,8 @@ use Rattle.gn_bodies.proofs.handler.ReaderHandler.deliver_on.Goals as goal
 
 pub returns-clause-piece : goal.returns-clause-piece
 returns-clause-piece g c =
-    rw c.of_admitted.ensures (admitted_piece c.args.c c.feed.new.self c.admit_all-admitted.result c.in-Ok.fed.fault c.args.self.now c.admit_all-admitted.new.self c.requires.connection c.admit_all-admitted.ensures.goes_on)
+    rw c.of_admitted.ensures (admitted_piece c.args.c c.in-Ok.fed.descriptors.items c.feed.new.self c.admit_all-admitted.result c.in-Ok.fed.fault c.args.self.now c.admit_all-admitted.new.self c.requires.connection c.admit_all-admitted.ensures.goes_on
+    c.admit_all-admitted.ensures.ok c.admit_all-admitted.ensures.not_live)
 
 pub returns-clause-taken : goal.returns-clause-taken
 returns-clause-taken g c role b s whole was =

@@ -1,5 +1,5 @@
 use Rattle.std.proofs.Common.{rules, ◌≡◌, ◌+◌, ◌∙◌, ◌++◌, ap, sym, take, true, append-nil}
-use Rattle.gn_bodies.proofs.ReadingLemmas.{alone_of_reading, conn_of_reading, end_not_failed, ended_row, failed_row, pieces_taken, read_greeting, read_joined}
+use Rattle.gn_bodies.proofs.ReadingLemmas.{alone_of_reading, conn_of_reading, end_not_failed, ended_did, ended_row, failed_did, failed_row, pieces_taken, read_greeting, read_joined}
 use Rattle.gn_bodies.proofs.handler.ReaderHandler.read_piece.Goals as goal
 
 pub returns-in-Err-clause-read : goal.returns-in-Err-clause-read
@@ -8,6 +8,7 @@ returns-in-Err-clause-read g c turns role count below was =
     let did = c.in-Err.ensures.state in
     record {
       connection = conn_of_reading c.args.reading c.args.self.now.actor was.has ∙ sym c.into_connection.ensures;
+      did = rw c.into_connection.ensures (failed_did c.args.reading c.args.self.now.actor was.has);
       alone = λ none. alone_of_reading c.args.reading c.args.self.now.actor was.has (sym c.into_connection.ensures ∙ none);
       row = λ known.
           let is_known : before.is_known ≡ true = sym did.known ∙ known in
@@ -24,6 +25,7 @@ returns-in-Ok-eq0-clause-read g c turns role count below was =
     let zero : c.in-Ok-eq0.field-0 ≡ 0 = search rules in
     record {
       connection = conn_of_reading c.args.reading c.args.self.now.actor was.has ∙ sym c.into_connection-in-Ok-eq0.ensures;
+      did = rw (c.end_of_bytes-end.ensures, c.into_connection-in-Ok-eq0.ensures) (ended_did c.args.reading c.args.self.now.actor was.has);
       alone = λ none. alone_of_reading c.args.reading c.args.self.now.actor was.has (sym c.into_connection-in-Ok-eq0.ensures ∙ none);
       row = λ known.
           let is_known : before.is_known ≡ true = sym did.known ∙ known in

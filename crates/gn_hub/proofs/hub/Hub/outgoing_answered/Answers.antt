@@ -11,6 +11,9 @@ returns-in-Ok-Some-Packet-clause-packet g c = λ is. packet_taken (due c.args.se
 pub returns-in-Ok-Some-Packet-clause-drained : goal.returns-in-Ok-Some-Packet-clause-drained
 returns-in-Ok-Some-Packet-clause-drained g c = λ no. absurd (cc)
 
+pub returns-in-Ok-Some-Packet-clause-idle : goal.returns-in-Ok-Some-Packet-clause-idle
+returns-in-Ok-Some-Packet-clause-idle g c = λ no. absurd (cc)
+
 pub returns-in-Ok-Some-Packet-clause-closed : goal.returns-in-Ok-Some-Packet-clause-closed
 returns-in-Ok-Some-Packet-clause-closed g c = λ no. absurd (cc)
 
@@ -31,6 +34,9 @@ returns-in-Ok-Some-clause-packet g c = λ is. packet_taken (due c.args.self.now 
 pub returns-in-Ok-Some-clause-drained : goal.returns-in-Ok-Some-clause-drained
 returns-in-Ok-Some-clause-drained g c = λ is. drained (due c.args.self.now c.args.c) c.in-Ok-Some.field-0 c.args.c c.args.self.now c.outgoing.new.self c.args.me.now c.outgoing.new.me (c.in-Ok-Some.field-0-is ∙ is) c.in-Ok-Some.ensures.made
 
+pub returns-in-Ok-Some-clause-idle : goal.returns-in-Ok-Some-clause-idle
+returns-in-Ok-Some-clause-idle g c = λ is. c.in-Ok-Some.ensures.idle (c.in-Ok-Some.field-0-is ∙ is)
+
 pub returns-in-Ok-Some-clause-closed : goal.returns-in-Ok-Some-clause-closed
 returns-in-Ok-Some-clause-closed g c = λ is. closed_same (due c.args.self.now c.args.c) c.in-Ok-Some.field-0 c.args.c c.args.self.now c.outgoing.new.self c.args.me.now c.outgoing.new.me (c.in-Ok-Some.field-0-is ∙ is) c.in-Ok-Some.ensures.made
 
@@ -49,6 +55,9 @@ returns-in-Ok-None-clause-packet g c = λ no. absurd (cc)
 pub returns-in-Ok-None-clause-drained : goal.returns-in-Ok-None-clause-drained
 returns-in-Ok-None-clause-drained g c = λ no. absurd (cc)
 
+pub returns-in-Ok-None-clause-idle : goal.returns-in-Ok-None-clause-idle
+returns-in-Ok-None-clause-idle g c = λ no. absurd (cc)
+
 pub returns-in-Ok-None-clause-closed : goal.returns-in-Ok-None-clause-closed
 returns-in-Ok-None-clause-closed g c = λ no. absurd (cc)
 
@@ -66,6 +75,9 @@ returns-in-Err-clause-packet g c = rw c.refused.ensures.answer tt
 
 pub returns-in-Err-clause-drained : goal.returns-in-Err-clause-drained
 returns-in-Err-clause-drained g c = rw c.refused.ensures.answer tt
+
+pub returns-in-Err-clause-idle : goal.returns-in-Err-clause-idle
+returns-in-Err-clause-idle g c = rw c.refused.ensures.answer tt
 
 pub returns-in-Err-clause-closed : goal.returns-in-Err-clause-closed
 returns-in-Err-clause-closed g c = rw c.refused.ensures.answer tt

@@ -1,12 +1,17 @@
 use Rattle.std.proofs.Common.{◌∙◌, ap, refl, rules, Some, None}
 use Rattle.gn_hub.specs.declared.next.Outgoing.TheVariants.{Closed}
+use Rattle.gn_hub.specs.Receipts.{HasDrained, IsDrainedAt}
 use Rattle.gn_hub.proofs.BatchLemmas.{drained_since, refused_since, same_since, taken_since}
 use Rattle.gn_hub.proofs.KeptLemmas.{all_kept, kept_on, none_kept}
 use Rattle.gn_hub.proofs.service.Service.next_batch.Goals as goal
 
 pub returns-in-Some-2-clause-drained : goal.returns-in-Some-2-clause-drained
 returns-in-Some-2-clause-drained g c =
-    drained_since c.batch_answered-answer.result.answer c.in_ok-next.field-0 c.in-Some-2.next c.args.c c.args.me.now c.loop.me c.batch_answered-answer.new.me c.in_ok-next.was c.in-Some-2.is c.loop.invariant.0 c.batch_answered-answer.ensures.drained
+    drained_since (HasDrained c.args.c) c.batch_answered-answer.result.answer c.in_ok-next.field-0 c.in-Some-2.next c.args.me.now c.loop.me c.batch_answered-answer.new.me c.in_ok-next.was c.in-Some-2.is c.loop.invariant.0 c.batch_answered-answer.ensures.drained
+
+pub returns-in-Some-2-clause-idle : goal.returns-in-Some-2-clause-idle
+returns-in-Some-2-clause-idle g c =
+    drained_since (IsDrainedAt c.args.c c.batch_answered-answer.new.idle) c.batch_answered-answer.result.answer c.in_ok-next.field-0 c.in-Some-2.next c.args.me.now c.loop.me c.batch_answered-answer.new.me c.in_ok-next.was c.in-Some-2.is c.loop.invariant.0 c.batch_answered-answer.ensures.idle
 
 pub returns-in-Some-2-clause-closed : goal.returns-in-Some-2-clause-closed
 returns-in-Some-2-clause-closed g c =

@@ -1,7 +1,8 @@
 use Rattle.std.proofs.Common.{arith, subst, vec_items, vec_len}
 use Rattle.std.specs.Prelude.{◌≡◌, IfOk}
 use Rattle.std.proofs.lemmas.List.{length-map}
-use Rattle.gn_bodies.specs.Done.{half_of, IsReaderDone, IsWriterDone, reader_ended, writer_ended}
+use Rattle.gn_bodies.specs.Done.{half_of}
+use Rattle.gn_threads.specs.Kept.{IsReaderDone, IsWriterDone, reader_ended, writer_ended}
 use Rattle.gn_threads.proofs.FaultLemmas.{of_lost, of_stop}
 use Rattle.gn_threads.proofs.JoinedLemmas.{keeps_promised}
 use Rattle.gn_threads.proofs.joins.Handles.join.Goals as goal

@@ -2,7 +2,8 @@ use Rattle.std.proofs.Common.{ap, length, map, subst, sym, vec_len, ◌∙◌}
 use Rattle.std.proofs.lemmas.List.{length-map}
 use Rattle.std.proofs.lemmas.Result.{IfOk-weaker}
 use Rattle.std.proofs.lemmas.Simd.{map-map}
-use Rattle.gn_bodies.specs.Done.{half_of, IsReaderDone, IsWriterDone}
+use Rattle.gn_bodies.specs.Done.{half_of}
+use Rattle.gn_threads.specs.Kept.{IsReaderDone, IsWriterDone}
 use Rattle.gn_threads.specs.Joined.{AreJoined, AreJoinedOf}
 use Rattle.gn_threads.proofs.FaultLemmas.{each_in_arriving, in_arriving}
 use Rattle.gn_threads.proofs.UnstartedLemmas.{first_come}
