@@ -71,10 +71,10 @@ some_of : {X : Type 0} (xs : List X) → 0 < length xs → X
 some_of [] below = absurd (omega arith)
 some_of (x ∷ xs) below = x
 
--- an actor that is neither a reader nor a writer routed alone
-routed_alone : {Rd W A : Type 0} (settled : ℕ → Bool) (roles : List Role) (report : Report Rd W A) → AllConfirmed settled roles report
+-- an actor that is neither a reader nor a writer routed alone, where workers and the house did
+pub others_routed : {Rd W A : Type 0} (report : Report Rd W A) → ((j : ℕ) (d : Vec (Receipt A) A) → j < length report.workers.items → AreRoutes (get_or report.workers.items j d).items) → AreRoutes report.house.items
     → (a : ℕ) → first_worker report ≤ a → a < actors report → AreRoutes (get_or (receipts_of report) a [])
-routed_alone {Rd} {W} {A} settled roles report all a past below =
+others_routed {Rd} {W} {A} report workers house a past below =
     let n = length report.links.items in
     let v = length report.workers.items in
     elim (cases_lt a (n + n + v)) as (λ x. AreRoutes (get_or (receipts_of report) a [])) [
@@ -83,10 +83,10 @@ routed_alone {Rd} {W} {A} settled roles report all a past below =
           let within : j < v = omega (arith, past, low) in
           let is : a ≡ n + n + j = omega (arith, past) in
           let some = some_of report.workers.items (omega (arith, within)) in
-          subst (λ rs. AreRoutes rs) (sym (at_worker report j a some within is)) (worker_at settled roles report all j some within)
+          subst (λ rs. AreRoutes rs) (sym (at_worker report j a some within is)) (workers j some within)
       | inr high ↦
           let is : a ≡ n + n + v = omega (arith, high, below) in
-          subst (λ rs. AreRoutes rs) (sym (at_house report a is)) (house_at settled roles report all).routes
+          subst (λ rs. AreRoutes rs) (sym (at_house report a is)) house
     ]
 
 -- what a report without a flaw says of its actors
@@ -105,7 +105,7 @@ confirmed settled roles report all = record {
   only = (house_at settled roles report all).only;
   reader = reader_at settled roles report all;
   writer = writer_at settled roles report all;
-  routes = routed_alone settled roles report all;
+  routes = others_routed report (worker_at settled roles report all) (house_at settled roles report all).routes;
 }
 
 -- the receipts of a link's reader and of its writer, by what all actors have
@@ -118,18 +118,27 @@ pub writer_own : {Rd W A : Type 0} (report : Report Rd W A) → AreOwn report �
 writer_own report own k d below = sym (at_writer report k (writer_of report k) d below refl) ∙ own (writer_of report k) (omega (arith, below))
 
 -- the events of actors that are neither a reader nor a writer are routes
-routes_only : {Rd W A : Type 0} (settled : ℕ → Bool) (roles : List Role) (report : Report Rd W A) → Confirmed settled roles report
+routes_only : {Rd W A : Type 0} (report : Report Rd W A) → AreOwn report → list_all (λ step. nat_lt step.actor (actors report)) report.history.items ≡ true
+    → ((a : ℕ) → first_worker report ≤ a → a < actors report → AreRoutes (get_or (receipts_of report) a []))
     → (a : ℕ) → first_worker report ≤ a → AreRoutes (mine report.history.items a)
-routes_only {Rd} {W} {A} settled roles report all a past =
+routes_only {Rd} {W} {A} report own only routes a past =
     elim (cases_lt a (actors report)) as (λ x. AreRoutes (mine report.history.items a)) [
-      | inl low ↦ subst (λ rs. AreRoutes rs) (all.own a low) (all.routes a past low)
-      | inr high ↦ ap (λ rs. list_all (λ (r : Receipt A). is_some (ticket_of r.event)) rs) (strangers_have_none A report.history.items (actors report) a all.only high)
+      | inl low ↦ subst (λ rs. AreRoutes rs) (own a low) (routes a past low)
+      | inr high ↦ ap (λ rs. list_all (λ (r : Receipt A). is_some (ticket_of r.event)) rs) (strangers_have_none A report.history.items (actors report) a only high)
     ]
 
--- in a legal history a report without a flaw is compared as the laws of owners ask it
-pub compared : {Rd W A : Type 0} (s : Config) (settled : ℕ → Bool) (roles : List Role) (report : Report Rd W A) → IsLegal s (reverse report.history.items) → Confirmed settled roles report
+-- what is said of a link's bodies: its connection is the one that its reader was given, and their events are on it
+pub record IsOnLink {Rd W A : Type 0} (link : LinkReport Rd W A) : Type 0 where
+  pub known : link.conn ≡ known_conn link.reader_receipts.items
+  pub read : list_all (λ r. is_readers link.conn r.event) link.reader_receipts.items ≡ true
+  pub written : list_all (λ r. is_writers link.conn r.event) link.writer_receipts.items ≡ true
+
+-- where that is so of each link, and all others routed, actors are compared as the laws of owners ask it
+pub compared_by : {Rd W A : Type 0} (report : Report Rd W A) → AreOwn report → list_all (λ step. nat_lt step.actor (actors report)) report.history.items ≡ true
+    → ((k : ℕ) (d : LinkReport Rd W A) → k < length report.links.items → IsOnLink (get_or report.links.items k d))
+    → ((a : ℕ) → first_worker report ≤ a → a < actors report → AreRoutes (get_or (receipts_of report) a []))
     → AreCompared report.history.items (map (λ link. link.conn) report.links.items)
-compared {Rd} {W} {A} s settled roles report legal all =
+compared_by {Rd} {W} {A} report owned only on routes =
     let links = report.links.items in
     let steps = report.history.items in
     let conns : List (Option ℕ) = map (λ (link : LinkReport Rd W A). link.conn) links in
@@ -139,23 +148,37 @@ compared {Rd} {W} {A} s settled roles report legal all =
     λ k below. get_or-map (λ (link : LinkReport Rd W A). link.conn) links k (some k below) None (omega (arith, many, below)) in
     record {
       connected = λ k below.
-          let reader = all.reader k Plain (some k below) (omega (arith, many, below)) in
-          let own = reader_own report all.own k (some k below) (omega (arith, many, below)) in
-          conn k below ∙ reader.conn ∙ conn_is_known s steps k (get_or links k (some k below)).reader_receipts.items legal own ∙ ap known_conn own;
+          let link = on k (some k below) (omega (arith, many, below)) in
+          let own = reader_own report owned k (some k below) (omega (arith, many, below)) in
+          conn k below ∙ link.known ∙ ap known_conn own;
       readers = λ k below.
-          let reader = all.reader k Plain (some k below) (omega (arith, many, below)) in
-          let own = reader_own report all.own k (some k below) (omega (arith, many, below)) in
+          let link = on k (some k below) (omega (arith, many, below)) in
+          let own = reader_own report owned k (some k below) (omega (arith, many, below)) in
           subst (λ o. list_all (λ (r : Receipt A). is_readers o r.event) (mine steps k) ≡ true) (sym (conn k below))
-          (subst (λ rs. list_all (λ (r : Receipt A). is_readers (get_or links k (some k below)).conn r.event) rs ≡ true) own reader.events);
+          (subst (λ rs. list_all (λ (r : Receipt A). is_readers (get_or links k (some k below)).conn r.event) rs ≡ true) own link.read);
       writers = λ k below.
-          let writer = all.writer k Plain (some k below) (omega (arith, many, below)) in
-          let own = writer_own report all.own k (some k below) (omega (arith, many, below)) in
+          let link = on k (some k below) (omega (arith, many, below)) in
+          let own = writer_own report owned k (some k below) (omega (arith, many, below)) in
           let at : length links + k ≡ length conns + k = omega (arith, many) in
           subst (λ i. list_all (λ (r : Receipt A). is_writers (get_or conns k None) r.event) (mine steps i) ≡ true) at
           (subst (λ o. list_all (λ (r : Receipt A). is_writers o r.event) (mine steps (length links + k)) ≡ true) (sym (conn k below))
-          (subst (λ rs. list_all (λ (r : Receipt A). is_writers (get_or links k (some k below)).conn r.event) rs ≡ true) own writer.events));
-      others = λ a past. routes_only settled roles report all a (omega (arith, many, past));
+          (subst (λ rs. list_all (λ (r : Receipt A). is_writers (get_or links k (some k below)).conn r.event) rs ≡ true) own link.written));
+      others = λ a past. routes_only report owned only routes a (omega (arith, many, past));
     }
+
+-- so it is in a legal history where the report has no flaw
+pub compared : {Rd W A : Type 0} (s : Config) (settled : ℕ → Bool) (roles : List Role) (report : Report Rd W A) → IsLegal s (reverse report.history.items) → Confirmed settled roles report
+    → AreCompared report.history.items (map (λ link. link.conn) report.links.items)
+compared {Rd} {W} {A} s settled roles report legal all =
+    compared_by report all.own all.only
+    (λ k d below.
+    let reader = all.reader k Plain d below in
+    record {
+      known = reader.conn ∙ conn_is_known s report.history.items k (get_or report.links.items k d).reader_receipts.items legal (reader_own report all.own k d below);
+      read = reader.events;
+      written = (all.writer k Plain d below).events;
+    })
+    all.routes
 
 -- one weaker test
 any_weaker : {X : Type 0} (p q : X → Bool) → ((x : X) → p x ≡ true → q x ≡ true) → (xs : List X) → list_any p xs ≡ true → list_any q xs ≡ true

@@ -6,3 +6,8 @@ pub mod ConnLemmas
 pub mod ConfirmedLemmas
 pub mod ComparedLemmas
 pub mod PlaceLemmas
+pub mod DidLemmas
+pub mod ClosedLemmas
+pub mod LaterLemmas
+pub mod RowLemmas
+pub mod SeenLemmas

@@ -2,6 +2,7 @@
 pub mod Actors
 pub mod BodyEnds
 pub mod Flaw
+pub mod Seen
 pub mod Survey
 -- Words of the proofs.
 pub mod Routes

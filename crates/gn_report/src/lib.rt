@@ -9,8 +9,10 @@ mod keeping;
 mod own;
 mod report;
 mod routes;
+mod seen;
 mod survey;
 
 pub use events::conn_of;
 pub use keeping::{Closed, close, kept};
 pub use report::{LinkReport, Report};
+pub use seen::seen_is_confirmed;
