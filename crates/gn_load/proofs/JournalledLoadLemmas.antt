@@ -1,7 +1,8 @@
 -- A load whose history was written while its run went on.
-use Rattle.std.proofs.Common.{◌≡◌, ◌≤◌, ◌↔◌, ℕ, List, length, map, reverse, Option, None, Some, Result, Ok, Err, Vec, inl, inr, refl, subst, sym}
+use Rattle.std.proofs.Common.{◌≡◌, ◌≤◌, ◌↔◌, ℕ, List, length, map, reverse, Option, None, Some, Result, Ok, Err, inl, inr, refl, subst, sym}
 use Rattle.std.specs.Prelude.{⊤, IfErr, IfSome, IsOk, MatchResult, OnOk}
 use Rattle.std.specs.Result.{IsErrAnd, IsOkAnd}
+use Rattle.std.specs.Io.KnownBytes.{Appends}
 use Rattle.std.specs.declared.alloc.Global.{Global}
 use Rattle.gn_rules.specs.Answer.{IsLegal}
 use Rattle.gn_rules.specs.Limits.{IsCrew}
@@ -16,6 +17,7 @@ use Rattle.gn_text.specs.declared.fault.CaptureFault.{CaptureFault}
 use Rattle.gn_text.specs.declared.title.Text.TheVariants.{History}
 use Rattle.gn_capture.specs.Histories.{history_text}
 use Rattle.gn_io.specs.Input.{input_limit}
+use Rattle.gn_io.specs.Parts.{AppendsPart}
 use Rattle.gn_io.specs.Streams.{NoneFailed, SinkState, Streams, text_of}
 use Rattle.gn_io.specs.declared.input.InputFault.{InputFault}
 use Rattle.gn_io.specs.declared.input.InputFault.TheVariants as input_fault
@@ -23,37 +25,39 @@ use Rattle.gn_replay.specs.Faults.{of_input, of_refusal}
 use Rattle.gn_text.specs.declared.fault.CaptureRefusal.{CaptureRefusal}
 use Rattle.gn_text.specs.declared.fault.CaptureRefusal.TheVariants as refusal
 use Rattle.gn_replay.specs.declared.fault.ReplayFault.TheVariants as replay
-use Rattle.gn_report.specs.declared.report.Report.{Report}
+use Rattle.gn_report.specs.Accounts.{report_of}
+use Rattle.gn_report.specs.declared.account.Account.{Account}
+use Rattle.gn_report.specs.declared.unkept.Unkept.{Unkept}
 use Rattle.gn_scribe.specs.Printed.{IsPrintFault}
 use Rattle.gn_scribe.specs.Written.{HasFinished, HasJournalled}
 use Rattle.gn_scribe.specs.declared.ending.Waiting.{Waiting}
 use Rattle.gn_scribe.specs.declared.printed.PrintFault.{PrintFault}
 use Rattle.gn_scribe.specs.declared.printed.PrintFault.TheVariants as print
-use Rattle.gn_threads.specs.Courses.{BeginsRun, IsBegunBy}
+use Rattle.gn_threads.specs.Courses.{AreStepsOf}
 use Rattle.gn_threads.specs.Faults.{IsFaultOf}
 use Rattle.gn_threads.specs.Headline.{AreMadeOf, Holds, LinksReadOwn}
 use Rattle.gn_threads.specs.declared.fault.RunFault.{RunFault}
 use Rattle.gn_threads.specs.declared.fault.RunFault.TheVariants.{BadWorkers, Listen, Call, Link, HistoryFull, NoMemory, Stage, Audit}
-use Rattle.gn_threads.specs.declared.stopped.Stopped.{Stopped}
+use Rattle.gn_threads.specs.declared.halted.Halted.{Halted}
 use Rattle.gn_load.specs.declared.fault.LoadFault.{LoadFault}
 use Rattle.gn_load.specs.declared.fault.LoadFault.TheVariants.{Run, Text}
 use Rattle.gn_load.specs.Faults.{IsLoadFault, IsRunFault}
 use Rattle.gn_load.specs.Journalled.{AppendsLegalPart, HasStoppedWriting}
 use Rattle.gn_load.specs.JournalledLoads.{AppendsStopped, HasStoppedAt, HasStoppedIn, HasStoppedOf, IsFaultAfter, IsJournalledLoad, of_print}
 use Rattle.gn_load.specs.Loads.{AppendsLoad, load_of}
-use Rattle.gn_load.proofs.JournalLemmas.{all_finished, done_part, left_part, nothing_yet, part_finished}
+use Rattle.gn_load.proofs.JournalLemmas.{all_finished, nothing_yet, part_finished, stopped_part, stopped_short}
 use Rattle.gn_load.proofs.LoadLemmas.{history_printed, is_read, of_known}
 use Rattle.gn_load.proofs.ServedLemmas.{kept}
 
--- an answered run began with these steps
-pub begun_ok : {Rd W A : Type 0} (r : Result (Report Rd W A) (Stopped A)) (report : Report Rd W A) (steps : List (Step A)) → r ≡ Ok report → BeginsRun r steps
-    → IsBegunBy steps report.history.items
-begun_ok r report steps is begun = subst (λ q. BeginsRun q steps) is begun
+-- an answered run had these steps
+pub steps_ok : {Rd W A : Type 0} (r : Result (Account Rd W A) (Halted A)) (account : Account Rd W A) (steps : List (Step A)) → r ≡ Ok account → AreStepsOf r steps
+    → account.history.items ≡ steps
+steps_ok r account steps is held = subst (λ q. AreStepsOf q steps) is held
 
--- and so did one that stopped
-pub begun_err : {Rd W A : Type 0} (r : Result (Report Rd W A) (Stopped A)) (stopped : Stopped A) (steps : List (Step A)) → r ≡ Err stopped → BeginsRun r steps
-    → IfSome stopped.history (λ history. IsBegunBy steps history.items)
-begun_err r stopped steps is begun = subst (λ q. BeginsRun q steps) is begun
+-- and so had one that stopped
+pub steps_err : {Rd W A : Type 0} (r : Result (Account Rd W A) (Halted A)) (halted : Halted A) (steps : List (Step A)) → r ≡ Err halted → AreStepsOf r steps
+    → IfSome halted.history (λ history. history.items ≡ steps)
+steps_err r halted steps is held = subst (λ q. AreStepsOf q steps) is held
 
 -- what is answered where no run began, since memory ran out
 pub unbegun_load : (batch : ℕ) (s : Config) (links : List Memory) (workers : ℕ) (sink : SinkState) (answer : Result ⊤ LoadFault) → IsErrAnd answer (λ e. e ≡ Text replay.NoMemory)
@@ -75,84 +79,81 @@ pub no_crew : (batch : ℕ) (s : Config) (links : List Memory) (workers : ℕ) (
 no_crew batch s links workers sink bad other = record { written = tt; unfailed = tt; stopped = kept sink.written; fault = record { bad = bad; other = other } }
 
 -- what is answered where the text of a history wasn't written whole, for this
-unwritten_load : (batch : ℕ) (s : Config) (links : List Memory) (workers : ℕ) (old new : SinkState) (why : PrintFault) (history : Option (Vec (Step Global) Global))
+unwritten_load : (batch : ℕ) (s : Config) (links : List Memory) (workers : ℕ) (old new : SinkState) (why : PrintFault) (history : Option (Unkept (Step Global)))
     → AppendsLegalPart Global s history old.written new.written → IsPrintFault why old new → IsJournalledLoad batch s links workers old new (Err (of_print why))
 unwritten_load batch s links workers old new print.Write history part cause = record { written = tt; unfailed = tt; stopped = (history, part); fault = cause }
 unwritten_load batch s links workers old new print.NoMemory history part cause = record { written = tt; unfailed = tt; stopped = (history, part); fault = tt }
 
 module _ (batch : ℕ) (s : Config) (links : List Memory) (workers : ℕ) (steps : List (Step Global)) (old mid new : SinkState) (waiting : Result (Waiting Global) PrintFault)
     (has : HasJournalled (header_text History s) steps old mid waiting) where
-  -- what is answered of a run with a report whose text was written
-  pub all_loaded : (report : Report MemoryReading MemoryWriting Global) (done : ⊤) → Holds batch half_read half_written s (map (λ link. link.role) links) workers report
-      → LinksReadOwn half_read (map source_of links) report
-      → AreMadeOf (λ (half : MemoryReading). half.link) (λ (half : MemoryWriting). half.link) links report → IsCrew workers
-      → IsBegunBy steps report.history.items → HasFinished report.history.items mid new waiting (Ok done) → IsJournalledLoad batch s links workers old new (Ok tt)
-  all_loaded report done holds bytes halves within begun finished =
-      let whole = all_finished s steps report.history.items old mid new waiting done begun has finished in
+  -- what is answered of a run with an account whose text was written
+  pub all_loaded : (account : Account MemoryReading MemoryWriting Global) (done : ⊤) → Holds batch half_read half_written s (map (λ link. link.role) links) workers (report_of account)
+      → LinksReadOwn half_read (map source_of links) (report_of account)
+      → AreMadeOf (λ (half : MemoryReading). half.link) (λ (half : MemoryWriting). half.link) links (report_of account) → IsCrew workers
+      → account.history.items ≡ steps → HasFinished mid new waiting (Ok done) → IsJournalledLoad batch s links workers old new (Ok tt)
+  all_loaded account done holds bytes halves within is finished =
+      let whole = all_finished s steps old mid new waiting done has finished in
+      let text : Appends old.written new.written (history_text s account.history.items) =
+      subst (λ (xs : List (Step Global)). Appends old.written new.written (history_text s xs)) (sym is) whole.0 in
       record {
-        written = λ input read. (history_text s report.history.items, history_printed Global input s links read workers batch report holds bytes halves within, whole.0);
+        written = λ input read. (history_text s account.history.items, history_printed Global input s links read workers batch (report_of account) holds bytes halves within, text);
         unfailed = whole.1;
         stopped = tt;
         fault = tt;
       }
 
   -- what is answered of one whose text wasn't
-  pub cut_load : (report : Report MemoryReading MemoryWriting Global) (why : PrintFault) → IsLegal s (reverse report.history.items)
-      → IsBegunBy steps report.history.items → HasFinished report.history.items mid new waiting (Err why) → IsJournalledLoad batch s links workers old new (Err (of_print why))
-  cut_load report why legal begun finished =
-      let cut = part_finished s steps report.history.items old mid new waiting why begun has finished in
-      unwritten_load batch s links workers old new why (Some report.history) (legal, cut.0) cut.1
+  pub cut_load : (account : Account MemoryReading MemoryWriting Global) (why : PrintFault) → IsLegal s (reverse account.history.items)
+      → account.history.items ≡ steps → HasFinished mid new waiting (Err why) → IsJournalledLoad batch s links workers old new (Err (of_print why))
+  cut_load account why legal is finished =
+      let cut = part_finished s steps old mid new waiting why has finished in
+      let part : AppendsPart old.written new.written (history_text s account.history.items) =
+      subst (λ (xs : List (Step Global)). AppendsPart old.written new.written (history_text s xs)) (sym is) cut.0 in
+      unwritten_load batch s links workers old new why (Some account.history) (legal, part) cut.1
 
 -- what a run answered that stopped, as far as that is known
-pub record StoppedLoad (s : Config) (links workers : ℕ) (steps : List (Step Global)) (stopped : Stopped Global) : Type 0 where
+pub record StoppedLoad (s : Config) (links workers : ℕ) (steps : List (Step Global)) (halted : Halted Global) : Type 0 where
   pub crew : IsCrew workers
-  pub bad_workers : (stopped.fault ≡ BadWorkers) ↔ (¬ IsCrew workers)
-  pub fault : IsCrew workers → IsFaultOf links workers stopped.fault
-  pub kept : IfSome stopped.history (λ history. IsLegal s (reverse history.items))
-  pub full : stopped.fault ≡ HistoryFull → IfSome stopped.history (λ history. length history.items ≡ s.numbers.steps)
-  pub begun : IfSome stopped.history (λ history. IsBegunBy steps history.items)
+  pub bad_workers : (halted.fault ≡ BadWorkers) ↔ (¬ IsCrew workers)
+  pub fault : IsCrew workers → IsFaultOf links workers halted.fault
+  pub full : halted.fault ≡ HistoryFull → IfSome halted.history (λ history. length history.items ≡ s.numbers.steps)
+  pub has : IfSome halted.history (λ history. history.items ≡ steps)
   pub legal : IsLegal s (reverse steps)
 
 -- a prefix of the text of the history that stands, or of a legal one, was written, and the fault isn't that there are too few workers
-stopped_part : (s : Config) (fault : RunFault) (old new : SinkState) (history : Option (Vec (Step Global) Global)) → ¬ (fault ≡ BadWorkers)
+appends_stopped : (s : Config) (fault : RunFault) (old new : SinkState) (history : Option (Unkept (Step Global))) → ¬ (fault ≡ BadWorkers)
     → AppendsLegalPart Global s history old.written new.written → (fault ≡ HistoryFull → IfSome history (λ steps. length steps.items ≡ s.numbers.steps))
     → AppendsStopped fault s old.written new.written
-stopped_part s BadWorkers old new history not part full = absurd (not refl)
-stopped_part s Listen old new history not part full = (history, part, full)
-stopped_part s (Call k) old new history not part full = (history, part, full)
-stopped_part s (Link k) old new history not part full = (history, part, full)
-stopped_part s HistoryFull old new history not part full = (history, part, full)
-stopped_part s NoMemory old new history not part full = (history, part, full)
-stopped_part s (Stage fault) old new history not part full = (history, part, full)
-stopped_part s (Audit a) old new history not part full = (history, part, full)
+appends_stopped s BadWorkers old new history not part full = absurd (not refl)
+appends_stopped s Listen old new history not part full = (history, part, full)
+appends_stopped s (Call k) old new history not part full = (history, part, full)
+appends_stopped s (Link k) old new history not part full = (history, part, full)
+appends_stopped s HistoryFull old new history not part full = (history, part, full)
+appends_stopped s NoMemory old new history not part full = (history, part, full)
+appends_stopped s (Stage fault) old new history not part full = (history, part, full)
+appends_stopped s (Audit a) old new history not part full = (history, part, full)
 
-module _ (batch : ℕ) (s : Config) (links : List Memory) (workers : ℕ) (steps : List (Step Global)) (old mid new : SinkState) (stopped : Stopped Global)
-    (run : StoppedLoad s (length links) workers steps stopped) where
+module _ (batch : ℕ) (s : Config) (links : List Memory) (workers : ℕ) (steps : List (Step Global)) (old mid new : SinkState) (halted : Halted Global)
+    (run : StoppedLoad s (length links) workers steps halted) where
   -- its text could be written while it went on
-  stopped_whole : (waiting : Waiting Global) → HasJournalled (header_text History s) steps old mid (Ok waiting) → HasStoppedWriting stopped.history mid new (Ok waiting)
-      → IsJournalledLoad batch s links workers old new (Err (Run stopped.fault))
-  stopped_whole waiting has either =
-      let part : AppendsLegalPart Global s stopped.history old.written new.written = elim either [
-        | inl still ↦ subst (λ (k : SinkState). AppendsLegalPart Global s stopped.history old.written k.written) (sym still) (left_part s steps old mid mid (Ok waiting) run.legal has stopped.history run.kept run.begun)
-        | inr finished ↦ done_part s steps old mid new (Ok waiting) run.legal has stopped.history run.kept run.begun finished
-      ] in
-      record {
-        written = tt;
-        unfailed = tt;
-        stopped = stopped_part s stopped.fault old new stopped.history (λ is. run.bad_workers.0 is run.crew) part run.full;
-        fault = record { bad = run.bad_workers; other = run.fault };
-      }
+  stopped_whole : (waiting : Waiting Global) → HasJournalled (header_text History s) steps old mid (Ok waiting) → HasStoppedWriting halted.history mid new (Ok waiting)
+      → IsJournalledLoad batch s links workers old new (Err (Run halted.fault))
+  stopped_whole waiting has wrote = record {
+    written = tt;
+    unfailed = tt;
+    stopped = appends_stopped s halted.fault old new halted.history (λ is. run.bad_workers.0 is run.crew) (stopped_part s steps old mid new waiting run.legal has halted.history run.has wrote) run.full;
+    fault = record { bad = run.bad_workers; other = run.fault };
+  }
 
   -- or it couldn't
   stopped_cut : (why : PrintFault) → HasJournalled (header_text History s) steps old mid (Err why) → new ≡ mid → IsJournalledLoad batch s links workers old new (Err (of_print why))
   stopped_cut why has still =
-      unwritten_load batch s links workers old new why stopped.history
-      (subst (λ (k : SinkState). AppendsLegalPart Global s stopped.history old.written k.written) (sym still) (left_part s steps old mid mid (Err why) run.legal has stopped.history run.kept run.begun))
-      (subst (λ (k : SinkState). IsPrintFault why old k) (sym still) has.1)
+      let short = stopped_short s steps old mid new why run.legal has halted.history run.has still in
+      unwritten_load batch s links workers old new why halted.history short.0 short.1
 
   -- by what waited
   pub stopped_as : (waiting : Result (Waiting Global) PrintFault) (fault : LoadFault) → HasJournalled (header_text History s) steps old mid waiting
-      → MatchResult waiting (λ _. fault ≡ Run stopped.fault) (λ why. fault ≡ of_print why) → HasStoppedWriting stopped.history mid new waiting
+      → MatchResult waiting (λ _. fault ≡ Run halted.fault) (λ why. fault ≡ of_print why) → HasStoppedWriting halted.history mid new waiting
       → IsJournalledLoad batch s links workers old new (Err fault)
   stopped_as (Ok waiting) fault has is wrote =
       subst (λ (f : LoadFault). IsJournalledLoad batch s links workers old new (Err f)) (sym is) (stopped_whole waiting has wrote)

@@ -1,10 +1,11 @@
 -- A scribe beside a run, and the two ends of its ring.
-use Rattle.std.proofs.Common.{◌≡◌, ◌∙◌, ◌<◌, ℕ, List, [], length, Option, Some, Result, Ok, Err, OnErr, OnOk, Vec, ap, append-nil, inl, refl, reverse, subst, sym}
+use Rattle.std.proofs.Common.{◌≡◌, ◌∙◌, ◌<◌, ℕ, List, [], length, Option, Some, Result, Ok, Err, OnErr, OnOk, ap, append-nil, inl, refl, reverse, subst, sym}
 use Rattle.std.specs.Option.{ForSome}
 use Rattle.std.specs.Prelude.{⊤, IfErr}
 use Rattle.rtrb.specs.Ends.{SameRing}
 use Rattle.rtrb.specs.Ring.{received}
 use Rattle.rtrb.specs.declared.end.End.{End}
+use Rattle.gn_report.specs.declared.unkept.Unkept.{Unkept}
 use Rattle.gn_rules.specs.Answer.{IsLegal}
 use Rattle.gn_rules.specs.declared.config.Config.{Config}
 use Rattle.gn_rules.specs.declared.receipt.Step.{Step}
@@ -60,20 +61,17 @@ module _ {A : Type 0} where
   legal_by_name name a steps is legal s named = subst (λ c. IsLegal c (reverse steps)) (sym (is s named)) legal
 
   -- one that took no step and is given up has done all
-  pub given_up : (scribe : Scribe A) (sink : SinkState) (waiting : Waiting A) (done : ⊤) → received scribe.steps ≡ [] → (waiting.block ≡ scribe.block) × (waiting.count ≡ 0)
+  pub given_up : (scribe : Scribe A) (sink : SinkState) (waiting : Waiting A) (done : ⊤) → received scribe.steps ≡ [] → waiting.block ≡ scribe.block
       → HasEnded scribe [] sink sink (Ok done) (Ok waiting)
-  given_up scribe sink waiting done none is = (
-    record {
-      more = [];
-      all = sym (append-nil (received scribe.steps) ∙ none);
-      left = subst (λ (all : List ℕ). LeavesToWrite sink.written sink.written waiting.block all) (is.0 ∙ sym (append-nil scribe.block)) (leaves_all sink.written waiting.block);
-      small = λ less. subst (λ (b : List ℕ). length b < block_size) (sym is.0) less;
-      unfailed = (refl, refl);
-    },
-    is.1,
-  )
+  given_up scribe sink waiting done none is = record {
+    more = [];
+    all = sym (append-nil (received scribe.steps) ∙ none);
+    left = subst (λ (all : List ℕ). LeavesToWrite sink.written sink.written waiting.block all) (is ∙ sym (append-nil scribe.block)) (leaves_all sink.written waiting.block);
+    small = λ less. subst (λ (b : List ℕ). length b < block_size) (sym is) less;
+    unfailed = (refl, refl);
+  }
 
   -- where nothing more is written of a run that stopped
-  pub still_stopped : (history : Option (Vec (Step A) A)) (sink : SinkState) (waiting : Result (Waiting A) PrintFault) → HasStoppedWriting history sink sink waiting
+  pub still_stopped : (history : Option (Unkept (Step A))) (sink : SinkState) (waiting : Result (Waiting A) PrintFault) → HasStoppedWriting history sink sink waiting
   still_stopped history sink (Ok waiting) = inl refl
   still_stopped history sink (Err fault) = refl

@@ -1,10 +1,11 @@
 -- A load whose history is written while its run goes on.
-use Rattle.std.specs.Prelude.{◌≡◌, ◌⊎◌, ℕ, ⊤, List, length, IfErr, IfSome, OnOk, Option, Result, Ok, Err, Vec}
+use Rattle.std.specs.Prelude.{◌≡◌, ◌⊎◌, ℕ, ⊤, List, length, IfErr, IfSome, OnOk, Option, Result, Ok}
 use Rattle.std.specs.Result.{IsOkAnd}
 use Rattle.std.specs.declared.alloc.Global.{Global}
 use Rattle.std.specs.Io.KnownBytes.{Keeps}
 use Rattle.gn_rules.specs.declared.config.Config.{Config}
 use Rattle.gn_rules.specs.declared.receipt.Step.{Step}
+use Rattle.gn_report.specs.declared.unkept.Unkept.{Unkept}
 use Rattle.gn_links.specs.Memory.{Memory}
 use Rattle.gn_io.specs.Streams.{HasWriteFailed, NoWriteFailed, SinkState}
 use Rattle.gn_replay.specs.declared.fault.ReplayFault.TheVariants as replay
@@ -29,7 +30,7 @@ of_print print.NoMemory = Text replay.NoMemory
 abbrev pub AppendsStopped : RunFault → Config → Option (List ℕ) → Option (List ℕ) → Type 0
 AppendsStopped BadWorkers s old new = Keeps old new
 AppendsStopped fault s old new =
-    (history : Option (Vec (Step Global) Global)) × AppendsLegalPart Global s history old new
+    (history : Option (Unkept (Step Global))) × AppendsLegalPart Global s history old new
     × (fault ≡ HistoryFull → IfSome history (λ steps. length steps.items ≡ s.numbers.steps))
 
 -- what was written where a load of this configuration stopped: a prefix of the text of a legal history, at a fault of the run of one

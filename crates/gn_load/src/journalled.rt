@@ -1,16 +1,17 @@
 //! A run over TCP whose history is written while it goes on.
 
-ghost use Rattle.std.specs.Prelude.{◌≡◌, ◌+◌, ◌≤◌, [], None, Some, length, IfOk, IfSome, MatchResult};
+ghost use Rattle.std.specs.Prelude.{◌≡◌, ◌+◌, ◌≤◌, [], None, Some, length, IfSome, MatchResult};
 ghost use Rattle.rtrb.specs.Ring.{IsPair, received, sent};
 ghost use Rattle.gn_rules.specs.Limits.{IsCrew, most_links};
 ghost use Rattle.gn_journal.specs.Rings.{name_of};
 ghost use Rattle.gn_text.specs.Header.{header_text};
 ghost use Rattle.gn_text.specs.declared.title.Text.TheVariants.{History};
+ghost use Rattle.gn_service.specs.Tallies.{tallies_of};
 ghost use Rattle.gn_load.specs.declared.serve_fault.ServeFault.TheVariants.{Run};
 ghost use Rattle.gn_load.specs.Journalled.{HasStoppedWriting, IsJournalled, of_print};
 
 use crate::serve_fault::ServeFault;
-use crate::serve_stopped::ServeStopped;
+use crate::serve_halted::ServeHalted;
 use crate::writing::{Begun, PLACES, Writing, write_stopped};
 use gn_io::{Block, Sink};
 use gn_journal::{Journal, Naming};
@@ -18,7 +19,8 @@ use gn_replay::history_heading;
 use gn_rules::{Config, MOST_WORKERS, Step};
 use gn_scribe::{PrintFault, Scribe, Waiting, finish_history};
 use gn_service::{
-    Batch, Ran, Report, RunFault, Serving, Stopped, TcpReader, TcpWriter, Watch, serve_by,
+    Account, Batch, Halted, Ran, RunFault, Serving, TcpReader, TcpWriter, Watch, serve_by,
+    tallies_of,
 };
 use gn_table_router::{Configuring, TableRouter};
 use rtrb::{Consumer, Producer, RingBuffer};
@@ -30,12 +32,13 @@ use std::thread::Threads;
 use std::time::Clock;
 
 /// A run that hasn't begun.
-fn unbegun<A: Allocator>(fault: RunFault) -> ServeStopped<A>
+fn unbegun<A: Allocator>(fault: RunFault) -> ServeHalted<A>
     ensures { (result.fault ≡ Run fault) × (result.history ≡ None) × (result.ran ≡ None) }
 {
-    ServeStopped {
+    ServeHalted {
         fault: ServeFault::Run(fault),
         history: None,
+        links: None,
         ran: None,
     }
 }
@@ -60,33 +63,63 @@ fn fault_of<A: Allocator>(fault: RunFault, waiting: &Result<Waiting<A>, PrintFau
     }
 }
 
-/// Writes what is left of the text of the history of a run that stopped, where that stands and has a step. Its fault is that of the
-/// run, unless its text couldn't be written while it went on.
-fn finish_stopped<A: Allocator + Copy, W: Sink>(
-    alloc: A,
-    stopped: Stopped<A>,
+/// Writes what is left of the text of a run that stopped, where its history stands and has a step. Its fault is that of the run, unless
+/// its text couldn't be written while it went on.
+fn finish_halted<A: Allocator, W: Sink>(
+    halted: Halted<A>,
     waiting: Result<Waiting<A>, PrintFault>,
     sink: &mut W,
-) -> ServeStopped<A>
-    requires { IfOk waiting (λ waiting. IfSome stopped.history (λ steps. waiting.count ≤ length steps.items)) }
-    ensures history { (result.history ≡ stopped.history) × (result.ran ≡ None) }
-    ensures fault { MatchResult waiting (λ _. result.fault ≡ Run stopped.fault) (λ why. result.fault ≡ of_print why) }
-    ensures written { HasStoppedWriting stopped.history (W.state sink.old) (W.state sink.new) waiting }
+) -> ServeHalted<A>
+    ensures same { (result.history ≡ halted.history) × (result.links ≡ halted.links) × (result.ran ≡ None) }
+    ensures fault { MatchResult waiting (λ _. result.fault ≡ Run halted.fault) (λ why. result.fault ≡ of_print why) }
+    ensures written { HasStoppedWriting halted.history (W.state sink.old) (W.state sink.new) waiting }
 {
-    let Stopped { fault, history } = stopped;
-    let fault = fault_of(fault, &waiting);
-    write_stopped(alloc, &history, waiting, sink);
-    ServeStopped {
+    let Halted {
         fault,
         history,
+        links,
+    } = halted;
+    let fault = fault_of(fault, &waiting);
+    write_stopped(&history, waiting, sink);
+    ServeHalted {
+        fault,
+        history,
+        links,
         ran: None,
     }
 }
 
+/// The run of this account, whose text couldn't be written whole for this.
+fn unwritten<'s, A: Allocator + Copy>(
+    alloc: A,
+    account: Account<TcpReader<'s>, TcpWriter, A>,
+    ran: Ran<A>,
+    why: PrintFault,
+) -> ServeHalted<A>
+    ensures fault { result.fault ≡ of_print why }
+    ensures same { (result.history ≡ Some account.entry.history) × (result.ran ≡ Some ran) }
+    ensures tallies { IfSome result.links (λ tallies. tallies.items ≡ tallies_of account.entry.links.items) }
+{
+    let links = tallies_of(alloc, &account.links);
+    let Account {
+        history,
+        links: _,
+        workers: _,
+        house: _,
+        stats: _,
+    } = account;
+    ServeHalted {
+        fault: of_print(why),
+        history: Some(history),
+        links,
+        ran: Some(ran),
+    }
+}
+
 /// Runs a router as `serve_on` does, and writes its history, which `audit` reads, while the run goes on: a step that was made is written
-/// once nobody makes another, or a block is full. Up to `batch` packets are written to a neighbour at once. The report comes back with
-/// what is remembered of the run, and a fault with what stands of the history. At a fault what was written is a prefix of the history; all
-/// of it, where that stands, unless a write failed.
+/// once nobody makes another, or a block is full. Up to `batch` packets are written to a neighbour at once. Nobody keeps the steps: the
+/// account comes back with what is remembered of the run. At a fault what was written is a prefix of the history; all of it, where that
+/// stands, unless a write failed.
 pub fn serve_journalled<
     's,
     R: Threads
@@ -109,7 +142,7 @@ pub fn serve_journalled<
     watch: &G,
     batch: Batch,
     sink: &mut W,
-) -> Result<(Report<TcpReader<'s>, TcpWriter>, Ran), ServeStopped>
+) -> Result<(Account<TcpReader<'s>, TcpWriter>, Ran), ServeHalted>
     requires few { accept + length peers.now ≤ most_links }
     ensures { IsJournalled batch config.now peers.now accept workers (W.state sink.old) (W.state sink.new) result }
 {
@@ -155,7 +188,7 @@ fn serve_named<
     producer: Producer<Step>,
     consumer: Consumer<Step>,
     sink: &mut W,
-) -> Result<(Report<TcpReader<'s>, TcpWriter>, Ran), ServeStopped>
+) -> Result<(Account<TcpReader<'s>, TcpWriter>, Ran), ServeHalted>
     requires named { (N.ring ≡ Some (name_of producer.end)) × (N.config ≡ Some config.now) }
     requires ring { IsPair producer consumer × (sent producer ≡ []) × (received consumer ≡ []) }
     requires heading { heading ≡ header_text History config.now }
@@ -184,14 +217,10 @@ fn serve_named<
     watch.end();
     let Begun { sink, waiting } = begun;
     match answer {
-        Ok((report, ran)) => match finish_history(alloc, &report.history, waiting, sink) {
-            Ok(()) => Ok((report, ran)),
-            Err(why) => Err(ServeStopped {
-                fault: of_print(why),
-                history: Some(report.history),
-                ran: Some(ran),
-            }),
+        Ok((account, ran)) => match finish_history(waiting, sink) {
+            Ok(()) => Ok((account, ran)),
+            Err(why) => Err(unwritten(alloc, account, ran, why)),
         },
-        Err(stopped) => Err(finish_stopped(alloc, stopped, waiting, sink)),
+        Err(halted) => Err(finish_halted(halted, waiting, sink)),
     }
 }

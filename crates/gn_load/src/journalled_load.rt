@@ -142,16 +142,16 @@ fn load_named<
     watch.end();
     let Begun { sink, waiting } = begun;
     match answer {
-        Ok(report) => {
-            let finished = finish_history(alloc, &report.history, waiting, sink);
-            watch.leave(report);
+        Ok(account) => {
+            let finished = finish_history(waiting, sink);
+            watch.leave(account);
             finished?;
             Ok(())
         }
-        Err(stopped) => {
-            let fault = fault_of(stopped.fault, &waiting);
-            write_stopped(alloc, &stopped.history, waiting, sink);
-            watch.leave(stopped);
+        Err(halted) => {
+            let fault = fault_of(halted.fault, &waiting);
+            write_stopped(&halted.history, waiting, sink);
+            watch.leave(halted);
             Err(fault)
         }
     }

@@ -1,16 +1,16 @@
 //! A history that is written while its run goes on.
 
-ghost use Rattle.std.specs.Prelude.{◌≡◌, ◌≤◌, [], List, Some, length, reverse, IfOk, IfSome};
+ghost use Rattle.std.specs.Prelude.{◌≡◌, [], Some, reverse};
 ghost use Rattle.rtrb.specs.Ring.{received};
 ghost use Rattle.gn_journal.specs.Rings.{name_of};
 ghost use Rattle.gn_rules.specs.declared.config.Config.{Config};
-ghost use Rattle.gn_rules.specs.declared.receipt.Step.{Step};
 ghost use Rattle.gn_rules.specs.Answer.{IsLegal};
 ghost use Rattle.gn_scribe.specs.Written.{HasEnded, HasFollowed};
 ghost use Rattle.gn_load.specs.Journalled.{HasStoppedWriting};
 
 use gn_io::Sink;
 use gn_journal::{Journal, Naming};
+use gn_report::Unkept;
 use gn_room::{Following, Room};
 use gn_rules::{RouterCore, Step};
 use gn_scribe::{PrintFault, Scribe, Waiting, finish_history};
@@ -77,34 +77,21 @@ impl<'a, W: Sink, N: Naming<Global>> Following for Writing<'a, W, N> {
     }
 }
 
-/// Writes what is left of the text of the history of a run that stopped, where that stands and has a step. That it can't be written changes
-/// no fault.
+/// Writes what is left of the text of a run that stopped, where its history stands and has a step. That it can't be written changes no
+/// fault.
 #[tactic(auto, using(crate::proofs::WritingLemmas::still_stopped))]
-pub(crate) fn write_stopped<A: Allocator + Copy, W: Sink>(
-    alloc: A,
-    history: &Option<Vec<Step<A>, A>>,
+pub(crate) fn write_stopped<A: Allocator, W: Sink>(
+    history: &Option<Unkept<Step<A>>>,
     waiting: Result<Waiting<A>, PrintFault>,
     sink: &mut W,
 )
-    requires { IfOk waiting (λ waiting. IfSome history.now (λ steps. waiting.count ≤ length steps.items)) }
     ensures { HasStoppedWriting history.now (W.state sink.old) (W.state sink.new) waiting }
 {
     match (waiting, history) {
-        (Ok(waiting), Some(steps)) if !steps.is_empty() => {
-            let _ = finish_history(alloc, steps, Ok(waiting), sink);
+        (Ok(waiting), Some(_)) if waiting.is_begun => {
+            let _ = finish_history(Ok(waiting), sink);
         }
         _ => {}
-    }
-}
-
-/// The keeper of these steps, where there are any.
-fn whole_of<A: Allocator>(history: Option<Vec<Step<A>, A>>) -> Option<Whole<A>>
-    ensures { (steps : List (Step A)) → IfSome history (λ kept. kept.items ≡ steps)
-        → IfSome result (λ whole. whole.steps.items ≡ steps) }
-{
-    match history {
-        Some(steps) => Some(Whole { steps }),
-        None => None,
     }
 }
 
@@ -123,9 +110,9 @@ impl<'a, W: Sink, N: Naming<Global>> Exchange<Global, Journal<N>, Whole> for Wri
             ..
         } = self;
         let mut producer = keeper.into_steps();
-        let (history, waiting) = scribe.end(written, &mut producer, sink);
+        let waiting = scribe.end(written, &mut producer, sink);
         drop(producer);
-        (whole_of(history), Begun { sink, waiting })
+        (None, Begun { sink, waiting })
     }
 }
 
@@ -134,8 +121,6 @@ impl<'a, W: Sink + Send, N: Naming<Global> + Configuring + Send> Course<
     Global,
 > for Writing<'a, W, N> {
     const IS_BESIDE: bool = true;
-
-    type Router = TableRouter;
 
     type Rest = Begun<'a, W>;
 
@@ -148,12 +133,10 @@ impl<'a, W: Sink + Send, N: Naming<Global> + Configuring + Send> Course<
     }
 
     #[tactic(auto, using(crate::proofs::WritingLemmas::legal_by_name))]
-    fn end(
-        ran: Written<'a, W, N>,
-        core: TableRouter<Global, Journal<N>, N>,
-    ) -> (Option<TableRouter>, Begun<'a, W>) {
+    fn end(ran: Written<'a, W, N>, core: TableRouter<Global, Journal<N>, N>) -> Begun<'a, W> {
         core.is_legal();
-        core.exchange(ran)
+        let (_, rest) = core.exchange::<Whole, Written<'a, W, N>>(ran);
+        rest
     }
 
     fn give_up(self) -> Begun<'a, W> {

@@ -1,3 +1,2 @@
 pub mod CommandLemmas
 pub mod ServeLemmas
-pub mod TallyLemmas

@@ -11,7 +11,6 @@ mod head;
 mod remarks;
 mod reports;
 mod serves;
-mod tally;
 mod text;
 mod told;
 mod unwatched;

@@ -2,15 +2,15 @@
 
 ghost use Rattle.std.specs.Prelude.{◌≡◌, None, Some};
 ghost use Rattle.std.specs.List.{slice_get};
-ghost use Rattle.gn_program.specs.Reports.{counts_of, line_counts};
+ghost use Rattle.gn_program.specs.Reports.{counts_of, tallied};
 ghost use Rattle.gn_program.specs.Reports as texts;
 
-use crate::tally::{EventCounts, Tally, is_offer, is_refusal, is_taking, tallies};
 use crate::text::write_text;
+use gn_actors::Tally;
 use gn_bodies::{ReaderEnd, WriterEnd};
 use gn_io::{Sink, write_all};
-use gn_report::{LinkReport, Report};
-use gn_rules::{ConnId, Receipt, Stats, Step};
+use gn_report::{Account, LinkAccount, LinkTally};
+use gn_rules::{ConnId, Stats};
 use gn_tcp::{TcpReader, TcpWriter};
 use gn_text::push_stats;
 use std::alloc::Global;
@@ -18,28 +18,40 @@ use std::fmt;
 use std::fmt::{Display, Formatter, Write};
 use std::net::SocketAddr;
 
-/// What these receipts count.
-fn counts_of(receipts: &[Receipt]) -> EventCounts
-    ensures { result ≡ counts_of receipts.now }
-{
-    let mut offered = 0;
-    let mut busy = 0;
-    let mut taken = 0;
-    for receipt in receipts {
-        if is_offer(&receipt.event) {
-            offered += 1;
-        }
-        if is_refusal(&receipt.reply) {
-            busy += 1;
-        }
-        if is_taking(&receipt.reply) {
-            taken += 1;
-        }
+/// What the line of a link counts.
+#[derive(Clone, Copy, Debug)]
+pub(crate) struct EventCounts {
+    /// Descriptors that the link brought.
+    pub(crate) offered: u64,
+    /// Those among them that were refused at a threshold, that of all or the link's own.
+    pub(crate) busy: u64,
+    /// Packets that its writer took.
+    pub(crate) taken: u64,
+}
+
+impl Display for EventCounts {
+    ghost use Rattle.std.specs.Prelude.{Some};
+    ghost use Rattle.gn_program.specs.Reports.{counts_text};
+
+    ghost output = { λ counts. Some (counts_text counts) };
+
+    fn fmt<W: Write>(&self, f: &mut Formatter<W>) -> fmt::Result {
+        write!(
+            f,
+            "offered {} busy {} taken {}",
+            self.offered, self.busy, self.taken
+        )
     }
+}
+
+/// What these tallies of a link's reader and writer count.
+fn tallied(read: &Tally, written: &Tally) -> EventCounts
+    ensures { result ≡ tallied read.now written.now }
+{
     EventCounts {
-        offered,
-        busy,
-        taken,
+        offered: read.offered,
+        busy: read.busy,
+        taken: written.taken,
     }
 }
 
@@ -170,26 +182,24 @@ impl Display for LinkLine {
 }
 
 /// The line of this link: what its reader brought, and what its writer took.
-fn line_of(link: usize, report: &LinkReport<TcpReader<'_>, TcpWriter>) -> LinkLine
+fn line_of(link: usize, done: &LinkAccount<TcpReader<'_>, TcpWriter>) -> LinkLine
     ensures link { result.named.link ≡ link }
-    ensures conn { result.named.conn ≡ report.now.conn }
-    ensures reader { result.ends.reader ≡ Some report.now.reader_end }
-    ensures writer { result.ends.writer ≡ Some report.now.writer_end }
-    ensures counts { result.counts ≡ line_counts report.now.reader_receipts.items report.now.writer_receipts.items }
+    ensures conn { result.named.conn ≡ done.now.conn }
+    ensures reader { result.ends.reader ≡ Some done.now.reader_end }
+    ensures writer { result.ends.writer ≡ Some done.now.writer_end }
+    ensures counts { result.counts ≡ counts_of done.now }
 {
-    let brought = counts_of(&report.reader_receipts);
-    let EventCounts { taken, .. } = counts_of(&report.writer_receipts);
     LinkLine {
         named: Named {
             link,
-            peer: Some(report.reader.peer()),
-            conn: report.conn,
+            peer: Some(done.reader.peer()),
+            conn: done.conn,
         },
         ends: Ends {
-            reader: Some(report.reader_end),
-            writer: Some(report.writer_end),
+            reader: Some(done.reader_end),
+            writer: Some(done.writer_end),
         },
-        counts: EventCounts { taken, ..brought },
+        counts: tallied(&done.read, &done.written),
     }
 }
 
@@ -201,58 +211,49 @@ fn write_stats<F: Sink>(alloc: Global, faults: &mut F, stats: &Stats) {
     }
 }
 
-/// Writes a line for each link whose peer came, and the counters. That it can't be written, or there is no memory for the counters' line,
-/// changes nothing.
-pub(crate) fn write_report<F: Sink>(
+/// Writes a line for each link whose peer came, and the counters. That it can't be written, or there is no memory for the counters'
+/// line, changes nothing.
+pub(crate) fn write_account<F: Sink>(
     alloc: Global,
     faults: &mut F,
-    report: &Report<TcpReader<'_>, TcpWriter>,
+    account: &Account<TcpReader<'_>, TcpWriter>,
 ) {
-    for (link, done) in report.links.iter().enumerate() {
+    for (link, done) in account.links.iter().enumerate() {
         if !done.reader.is_missing() {
             let _ = write_text(faults, line_of(link, done));
         }
     }
-    write_stats(alloc, faults, &report.stats);
+    write_stats(alloc, faults, &account.stats);
 }
 
-/// The line of this link of a run that has no report: of its peer the address that was called is known, if one was, and of its
-/// ends nothing.
-fn stopped_line(link: usize, peers: &[SocketAddr], tally: &Tally) -> LinkLine
+/// The line of this link of a run that stopped: of its peer the address that was called is known, if one was, and of its ends
+/// nothing.
+fn stopped_line(link: usize, peers: &[SocketAddr], tally: &LinkTally) -> LinkLine
     ensures link { result.named.link ≡ link }
     ensures peer { result.named.peer ≡ slice_get peers.now link }
-    ensures conn { result.named.conn ≡ tally.now.conn }
+    ensures conn { result.named.conn ≡ tally.now.read.connection }
     ensures ends { (result.ends.reader ≡ None) × (result.ends.writer ≡ None) }
-    ensures counts { result.counts ≡ tally.now.counts }
+    ensures counts { result.counts ≡ tallied tally.now.read tally.now.written }
 {
     LinkLine {
         named: Named {
             link,
             peer: peers.get(link).copied(),
-            conn: tally.conn,
+            conn: tally.read.connection,
         },
         ends: Ends {
             reader: None,
             writer: None,
         },
-        counts: tally.counts,
+        counts: tallied(&tally.read, &tally.written),
     }
 }
 
-/// Writes, of a run with so many links that has no report, a line for each link that got a connection, by the steps that it made. These
-/// peers were called. That it can't be written, or there is no memory for it, changes nothing.
-pub(crate) fn write_stopped<F: Sink>(
-    alloc: Global,
-    faults: &mut F,
-    peers: &[SocketAddr],
-    links: usize,
-    steps: &[Step],
-) {
-    let Ok(all) = tallies(alloc, steps, links) else {
-        return;
-    };
-    for (link, tally) in all.iter().enumerate() {
-        if tally.conn.is_some() {
+/// Writes of a run that stopped a line for each link that got a connection, by what its actors did. These peers were called. That it
+/// can't be written changes nothing.
+pub(crate) fn write_stopped<F: Sink>(faults: &mut F, peers: &[SocketAddr], links: &[LinkTally]) {
+    for (link, tally) in links.iter().enumerate() {
+        if tally.read.connection.is_some() {
             let _ = write_text(faults, stopped_line(link, peers, tally));
         }
     }

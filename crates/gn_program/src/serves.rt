@@ -15,15 +15,16 @@ ghost use Rattle.gn_rules.specs.Limits.{most_links};
 use crate::calls::Calls;
 use crate::eof::stop_at_eof;
 use crate::remarks::Remarks;
-use crate::reports::{write_report, write_stopped};
+use crate::reports::{write_account, write_stopped};
 use crate::text::write_text;
 use crate::told::Told;
 use gn_comments::{Commented, Lent, Naming};
 use gn_io::Sink;
 use gn_links::{LinkFault, Watch};
-use gn_load::{ServeFault, ServeStopped, serve_journalled};
-use gn_rules::{Config, Own, Step};
-use gn_service::{Batch, Ran, Report, Serving, Stop, TcpReader, TcpWriter};
+use gn_load::{ServeFault, ServeHalted, serve_journalled};
+use gn_report::{Account, LinkTally};
+use gn_rules::{Config, Own};
+use gn_service::{Batch, Ran, Serving, Stop, TcpReader, TcpWriter};
 use gn_tcp::Unmet;
 use gn_threads::RunFault;
 use gn_words::{Peer, ServeOptions};
@@ -169,37 +170,34 @@ fn listen<N: Net<Listener = TcpListener, Stream = TcpStream>>(
     }
 }
 
-/// Writes what became of the links of a run, where that is asked for, and lets go of its report.
+/// Writes what became of the links of a run, where that is asked for, and lets go of its account.
 fn report_ended<G: Watch, F: Sink>(
     alloc: Global,
     serving: &ServeOptions,
     watch: &G,
-    report: Report<TcpReader<'_>, TcpWriter>,
+    account: Account<TcpReader<'_>, TcpWriter>,
     faults: &mut F,
 ) {
     if serving.report {
-        write_report(alloc, faults, &report);
+        write_account(alloc, faults, &account);
     }
-    watch.leave(report);
+    watch.leave(account);
 }
 
-/// Writes what became of the links of a run that has no report, where that is asked for and something stands of its history, and lets
-/// go of that.
+/// Writes what became of the links of a run that stopped, where that is asked for and known, and lets go of it.
 fn report_stopped<G: Watch, F: Sink>(
-    alloc: Global,
     serving: &ServeOptions,
     watch: &G,
     peers: &[SocketAddr],
-    history: Option<Vec<Step>>,
+    links: Option<Vec<LinkTally>>,
     faults: &mut F,
 ) {
-    if let Some(steps) = &history
+    if let Some(links) = &links
         && serving.report
     {
-        let links = peers.len().saturating_add(serving.accept as usize);
-        write_stopped(alloc, faults, peers, links, steps);
+        write_stopped(faults, peers, links);
     }
-    watch.leave(history);
+    watch.leave(links);
 }
 
 /// Whether comments stand in the history: times, or links.
@@ -233,7 +231,7 @@ fn run_commented<
     calls: &Calls<'_, G>,
     lent: Lent<'w, W>,
 ) -> (
-    Result<(Report<TcpReader<'s>, TcpWriter>, Ran), ServeStopped>,
+    Result<(Account<TcpReader<'s>, TcpWriter>, Ran), ServeHalted>,
     Lent<'w, W>,
 )
     requires named { lent.sink.ghost_name ≡ B.sink }
@@ -284,7 +282,7 @@ fn run<
     serving: &ServeOptions,
     calls: &Calls<'_, G>,
     writer: &mut W,
-) -> Result<(Report<TcpReader<'s>, TcpWriter>, Ran), ServeStopped>
+) -> Result<(Account<TcpReader<'s>, TcpWriter>, Ran), ServeHalted>
     requires few { serving.now.accept + length peers.now ≤ most_links }
     ensures { (bare : SinkState) × IsBeside (has_comments serving.now) (W.state writer.old) bare (W.state writer.new)
         × IsJournalled serving.now.batch config.now peers.now serving.now.accept serving.now.workers
@@ -351,20 +349,22 @@ pub(crate) fn serve<
         rt, alloc, &listener, &config, &peers, &limits, serving, calls, writer,
     );
     match answer {
-        Ok((report, ran)) => {
+        Ok((account, ran)) => {
             *remembered = Some(ran);
-            report_ended(alloc, serving, calls, report, faults);
+            report_ended(alloc, serving, calls, account, faults);
             Ok(())
         }
         Err(
-            ServeStopped {
+            ServeHalted {
                 fault,
                 history,
+                links,
                 ran,
             },
         ) => {
             *remembered = ran;
-            report_stopped(alloc, serving, calls, &peers, history, faults);
+            let links = if history.is_some() { links } else { None };
+            report_stopped(serving, calls, &peers, links, faults);
             Err(fault)
         }
     }

@@ -11,3 +11,5 @@ pub mod ClosedLemmas
 pub mod LaterLemmas
 pub mod RowLemmas
 pub mod SeenLemmas
+pub mod ToldLemmas
+pub mod LookLemmas

@@ -1,6 +1,7 @@
 //! The crates of the threads: the stage queue, the lock, the bodies of one link, runs of many threads over links in memory, and
 //! what the report of a run is compared by.
 
+mod account;
 pub(crate) mod bodies;
 mod failing;
 mod full;

@@ -1,20 +1,16 @@
 -- Steps that a scribe took and wrote, and more after them.
-use Rattle.std.proofs.Common.{◌≡◌, ◌∙◌, ◌+◌, ◌<◌, ◌≤◌, ℕ, List, [], ◌∷◌, ◌++◌, drop, length, refl, sym, ap, subst, arith, append-nil, append_assoc, length-append}
-use Rattle.std.proofs.Math.Seq.{drop-append_seam}
+use Rattle.std.proofs.Common.{◌≡◌, ◌∙◌, ◌+◌, ◌<◌, ◌≤◌, ℕ, List, [], ◌∷◌, ◌++◌, length, refl, sym, ap, subst, arith, append-nil, append_assoc, length-append}
 use Rattle.std.proofs.lemmas.Grind.{flat_map-append}
 use Rattle.std.proofs.lemmas.List.{nil_from_length}
 use Rattle.std.specs.Io.KnownBytes.{Appends}
-use Rattle.std.specs.Prelude.{⊤, OnErr, OnOk, Result, Ok, Err}
-use Rattle.rtrb.specs.Ring.{IsPair, SameConsumer, SameProducer, known_items, received}
+use Rattle.rtrb.specs.Ring.{SameConsumer, known_items, received}
 use Rattle.rtrb.specs.declared.consumer.Consumer.{Consumer}
-use Rattle.rtrb.specs.declared.producer.Producer.{Producer}
 use Rattle.gn_rules.specs.declared.receipt.Step.{Step}
 use Rattle.gn_text.specs.Steps.{step_text}
 use Rattle.gn_capture.specs.Histories.{steps_text}
 use Rattle.gn_io.specs.Parts.{AppendsPart, LeavesToWrite, block_size}
 use Rattle.gn_io.specs.Streams.{NoWriteFailed, SinkState}
 use Rattle.gn_io.proofs.StreamLemmas.{leaves_all}
-use Rattle.gn_scribe.specs.declared.printed.PrintFault.{PrintFault}
 use Rattle.gn_scribe.specs.declared.scribe.Scribe.{Scribe}
 use Rattle.gn_scribe.specs.Written.{HasBroken, HasWritten}
 use Rattle.gn_scribe.proofs.PrintLemmas.{more_cut, more_left, none_written}
@@ -22,15 +18,6 @@ use Rattle.gn_scribe.proofs.PrintLemmas.{more_cut, more_left, none_written}
 module _ {A : Type 0} where
   pub same_then : {P : Type 0} (a b c : Consumer (Step A) A P) → SameConsumer a b → SameConsumer b c → SameConsumer a c
   same_then a b c h k = ((k.0.0 ∙ h.0.0, k.0.1 ∙ h.0.1, k.0.2 ∙ h.0.2, k.0.3 ∙ h.0.3), k.1 ∙ h.1)
-
-  -- the two ends of a ring are so later, too
-  pub pair_then : {P : Type 0} (p q : Producer (Step A) A P) (c d : Consumer (Step A) A P) → IsPair p c → SameProducer p q → SameConsumer c d → IsPair q d
-  pair_then p q c d h l k = (
-    k.0.0 ∙ (h.0 ∙ sym l.0.0),
-    k.0.1 ∙ (h.1 ∙ sym l.0.1),
-    k.0.2 ∙ (h.2 ∙ sym l.0.2),
-    k.0.3 ∙ (h.3 ∙ sym l.0.3),
-  )
 
   -- a scribe has looked into the ring, and taken and written nothing
   pub only_looked : (s0 s1 : Scribe A) (k : SinkState) → SameConsumer s0.steps s1.steps → received s1.steps ≡ received s0.steps → s1.block ≡ s0.block → HasWritten s0 s1 k k
@@ -99,79 +86,80 @@ module _ {A : Type 0} where
           more.part (append-nil _ ∙ both_texts s0.block so_far.steps more.steps);
     }
 
-  -- the steps that a scribe keeps behind those that it had before
-  pub kept_behind : (s0 s1 : Scribe A) (more : List (Step A)) (before : ℕ) → before ≡ length s0.kept.items → received s1.steps ≡ received s0.steps ++ more → drop before s1.kept.items ≡ more
-  kept_behind s0 s1 more before at taken =
-      ap (λ n. drop n s1.kept.items) at
-      ∙ (ap (λ xs. drop (length s0.kept.items) xs) (s1.whole ∙ (taken ∙ ap (λ r. r ++ more) (sym s0.whole))) ∙ drop-append_seam s0.kept.items more)
-
-  -- so many are there
-  pub before_within : (s0 s1 : Scribe A) (more : List (Step A)) (before : ℕ) → before ≡ length s0.kept.items → received s1.steps ≡ received s0.steps ++ more → before ≤ length s1.kept.items
-  before_within s0 s1 more before at taken =
-      omega (arith, at, ap length s0.whole, ap length s1.whole, ap length taken, length-append (received s0.steps) more)
-
-  -- steps were taken, and nothing was written
-  pub not_written : (s0 s1 : Scribe A) (k : SinkState) → SameConsumer s0.steps s1.steps → (more : List (Step A)) × (received s1.steps ≡ received s0.steps ++ more) → HasBroken s0 s1 k k
-  not_written s0 s1 k same some = record { same = same; steps = some.0; taken = some.1; part = none_written k.written (s0.block ++ steps_text some.0) }
-
-  -- steps were taken, and their lines written
-  module _ (s0 s1 s2 : Scribe A) (k0 k1 : SinkState) (more printed : List (Step A)) (same : SameConsumer s0.steps s1.steps) (taken : received s1.steps ≡ received s0.steps ++ more)
-      (block : s1.block ≡ s0.block) (is : printed ≡ more) (steps : s2.steps ≡ s1.steps) where
-    text : s1.block ++ steps_text printed ≡ s0.block ++ steps_text more
-    text = ap (λ (b : List ℕ). b ++ steps_text printed) block ∙ ap (λ (xs : List (Step A)). s0.block ++ steps_text xs) is
+  -- a step was taken, and its line written
+  module _ (s0 s1 s2 : Scribe A) (k0 k1 : SinkState) (x : Step A) (same : SameConsumer s0.steps s1.steps) (taken : received s1.steps ≡ received s0.steps ++ x ∷ [])
+      (steps : s2.steps ≡ s1.steps) where
+    line_text : s0.block ++ step_text x ≡ s0.block ++ steps_text (x ∷ [])
+    line_text = ap (λ (r : List ℕ). s0.block ++ r) (sym (append-nil (step_text x)))
 
     same_ring : SameConsumer s0.steps s2.steps
     same_ring = subst (λ (c : Consumer (Step A) A _). SameConsumer s0.steps c) (sym steps) same
 
-    pub lines_written : (r : Result ⊤ PrintFault) → OnOk r (LeavesToWrite k0.written k1.written s2.block (s1.block ++ steps_text printed))
-        → OnOk r (length s1.block < block_size → length s2.block < block_size) → OnOk r (NoWriteFailed k0 k1) → OnOk r (HasWritten s0 s2 k0 k1)
-    lines_written (Ok x) left small unfailed = record {
+    pub line_written : LeavesToWrite k0.written k1.written s2.block (s0.block ++ step_text x) → length s2.block < block_size → NoWriteFailed k0 k1 → HasWritten s0 s2 k0 k1
+    line_written left small unfailed = record {
       same = same_ring;
-      steps = more;
+      steps = x ∷ [];
       taken = ap (λ c. received c) steps ∙ taken;
-      left = subst (λ (all : List ℕ). LeavesToWrite k0.written k1.written s2.block all) text left;
-      small = λ less. small (subst (λ (b : List ℕ). length b < block_size) (sym block) less);
+      left = subst (λ (all : List ℕ). LeavesToWrite k0.written k1.written s2.block all) line_text left;
+      small = λ _. small;
       unfailed = unfailed;
     }
-    lines_written (Err e) left small unfailed = _
 
-    -- or only a prefix of them
-    pub lines_cut : (r : Result ⊤ PrintFault) → OnErr r (AppendsPart k0.written k1.written (s1.block ++ steps_text printed)) → OnErr r (HasBroken s0 s2 k0 k1)
-    lines_cut (Ok x) part = _
-    lines_cut (Err e) part = record {
+    -- or only a prefix of it
+    pub line_cut : AppendsPart k0.written k1.written (s0.block ++ step_text x) → HasBroken s0 s2 k0 k1
+    line_cut part = record {
       same = same_ring;
-      steps = more;
+      steps = x ∷ [];
       taken = ap (λ c. received c) steps ∙ taken;
-      part = subst (λ (all : List ℕ). AppendsPart k0.written k1.written all) text part;
+      part = subst (λ (all : List ℕ). AppendsPart k0.written k1.written all) line_text part;
     }
 
-  -- i of the steps that had come were taken; what was taken and what has come stay all of them
-  pub record IsKeeping {P : Type 0} (c0 c1 : Consumer (Step A) A P) (i : ℕ) : Type 0 where
-    pub same : SameConsumer c0 c1
-    pub more : List (Step A)
-    pub taken : received c1 ≡ received c0 ++ more
-    pub ahead : known_items c0 ≡ more ++ known_items c1
-    pub many : length more ≡ i
+  -- i of the steps that had come were taken, and their lines written; what was taken and what has come stay all of them
+  pub record IsWriting (s0 s1 : Scribe A) (k0 k1 : SinkState) (i : ℕ) : Type 0 where
+    pub so_far : HasWritten s0 s1 k0 k1
+    pub ahead : known_items s0.steps ≡ so_far.steps ++ known_items s1.steps
+    pub many : length so_far.steps ≡ i
 
-  pub keeping_none : {P : Type 0} (c : Consumer (Step A) A P) → IsKeeping c c 0
-  keeping_none c = record { same = same_self c; more = []; taken = sym (append-nil (received c)); ahead = refl; many = refl }
+  pub writing_none : (s : Scribe A) (k : SinkState) → IsWriting s s k k 0
+  unfolding written_none only_looked
+  writing_none s k = record { so_far = written_none s k; ahead = refl; many = refl }
 
-  pub keeping_more : {P : Type 0} (c0 c1 c2 : Consumer (Step A) A P) (i : ℕ) (x : Step A) → IsKeeping c0 c1 i → SameConsumer c1 c2 → received c2 ≡ received c1 ++ x ∷ []
-      → known_items c1 ≡ x ∷ known_items c2 → IsKeeping c0 c2 (i + 1)
-  keeping_more c0 c1 c2 i x so_far same taken ahead = record {
-    same = same_then c0 c1 c2 so_far.same same;
-    more = so_far.more ++ x ∷ [];
-    taken = taken ∙ (ap (λ r. r ++ x ∷ []) so_far.taken ∙ append_assoc (received c0) so_far.more (x ∷ []));
-    ahead = so_far.ahead ∙ (ap (λ r. so_far.more ++ r) ahead ∙ sym (append_assoc so_far.more (x ∷ []) (known_items c2)));
-    many = omega (arith, so_far.many, length-append so_far.more (x ∷ []));
+  pub writing_more : (s0 s1 s2 : Scribe A) (k0 k1 k2 : SinkState) (i : ℕ) (x : Step A) → IsWriting s0 s1 k0 k1 i → (next : HasWritten s1 s2 k1 k2) → next.steps ≡ x ∷ []
+      → known_items s1.steps ≡ x ∷ known_items s2.steps → IsWriting s0 s2 k0 k2 (i + 1)
+  unfolding written_more
+  writing_more s0 s1 s2 k0 k1 k2 i x h next one ahead = record {
+    so_far = written_more s0 s1 s2 k0 k1 k2 h.so_far next;
+    ahead =
+        h.ahead
+        ∙ (ap (λ r. h.so_far.steps ++ r) (ahead ∙ ap (λ (r : List (Step A)). r ++ known_items s2.steps) (sym one))
+        ∙ sym (append_assoc h.so_far.steps next.steps (known_items s2.steps)));
+    many = omega (arith, h.many, ap length one, length-append h.so_far.steps next.steps);
   }
 
+  -- so where the next was taken, and its line written
+  pub writing_next : (s0 s1 s2 s3 : Scribe A) (k0 k1 k2 : SinkState) (i : ℕ) (x : Step A) → IsWriting s0 s1 k0 k1 i → SameConsumer s1.steps s2.steps
+      → received s2.steps ≡ received s1.steps ++ x ∷ [] → known_items s1.steps ≡ x ∷ known_items s2.steps → s3.steps ≡ s2.steps
+      → LeavesToWrite k1.written k2.written s3.block (s1.block ++ step_text x) → length s3.block < block_size → NoWriteFailed k1 k2 → IsWriting s0 s3 k0 k2 (i + 1)
+  unfolding line_written
+  writing_next s0 s1 s2 s3 k0 k1 k2 i x h same taken ahead steps left small unfailed =
+      writing_more s0 s1 s3 k0 k1 k2 i x h (line_written s1 s2 s3 k1 k2 x same taken steps left small unfailed) refl (ahead ∙ ap (λ c. x ∷ known_items c) (sym steps))
+
   -- a step is there where fewer were taken than had come
-  pub one_ahead : {P : Type 0} (c0 c1 : Consumer (Step A) A P) (i : ℕ) → IsKeeping c0 c1 i → i < length (known_items c0) → 0 < length (known_items c1)
-  one_ahead c0 c1 i so_far less = omega (arith, less, so_far.many, ap length so_far.ahead, length-append so_far.more (known_items c1))
+  pub one_ahead : (s0 s1 : Scribe A) (k0 k1 : SinkState) (i : ℕ) → IsWriting s0 s1 k0 k1 i → i < length (known_items s0.steps) → 0 < length (known_items s1.steps)
+  one_ahead s0 s1 k0 k1 i h less = omega (arith, less, h.many, ap length h.ahead, length-append h.so_far.steps (known_items s1.steps))
 
   -- all that had come were taken
-  pub keeping_all : {P : Type 0} (c0 c1 : Consumer (Step A) A P) (i : ℕ) → IsKeeping c0 c1 i → i ≡ length (known_items c0) → received c1 ≡ received c0 ++ known_items c0
-  keeping_all c0 c1 i so_far all =
-      let none : known_items c1 ≡ [] = nil_from_length (known_items c1) (omega (arith, all, so_far.many, ap length so_far.ahead, length-append so_far.more (known_items c1))) in
-      so_far.taken ∙ ap (λ r. received c0 ++ r) (sym (so_far.ahead ∙ (ap (λ r. so_far.more ++ r) none ∙ append-nil so_far.more)))
+  pub none_ahead : (s0 s1 : Scribe A) (k0 k1 : SinkState) (i : ℕ) → IsWriting s0 s1 k0 k1 i → i ≡ length (known_items s0.steps) → known_items s1.steps ≡ []
+  none_ahead s0 s1 k0 k1 i h all = nil_from_length (known_items s1.steps) (omega (arith, all, h.many, ap length h.ahead, length-append h.so_far.steps (known_items s1.steps)))
+
+  -- what was taken and what has come is what it was
+  pub stays_ahead : (s0 s1 : Scribe A) (k0 k1 : SinkState) (i : ℕ) → IsWriting s0 s1 k0 k1 i → received s1.steps ++ known_items s1.steps ≡ received s0.steps ++ known_items s0.steps
+  stays_ahead s0 s1 k0 k1 i h =
+      ap (λ r. r ++ known_items s1.steps) h.so_far.taken
+      ∙ (append_assoc (received s0.steps) h.so_far.steps (known_items s1.steps) ∙ ap (λ r. received s0.steps ++ r) (sym h.ahead))
+
+  -- so after one more was taken
+  pub one_taken : {P : Type 0} (c0 c1 c2 : Consumer (Step A) A P) (x : Step A) → received c1 ++ known_items c1 ≡ received c0 ++ known_items c0 → received c2 ≡ received c1 ++ x ∷ []
+      → known_items c1 ≡ x ∷ known_items c2 → received c2 ++ known_items c2 ≡ received c0 ++ known_items c0
+  one_taken c0 c1 c2 x all taken ahead =
+      ap (λ r. r ++ known_items c2) taken ∙ (append_assoc (received c1) (x ∷ []) (known_items c2) ∙ (ap (λ r. received c1 ++ r) (sym ahead) ∙ all))

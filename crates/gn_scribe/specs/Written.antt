@@ -1,5 +1,5 @@
 -- What a scribe has written of the steps that it took.
-use Rattle.std.specs.Prelude.{◌≡◌, ◌<◌, ⊤, ℕ, List, ◌++◌, codes, drop, length, Result, Ok, Err}
+use Rattle.std.specs.Prelude.{◌≡◌, ◌<◌, ⊤, ℕ, List, ◌++◌, codes, length, Result, Ok, Err}
 use Rattle.std.specs.Io.KnownBytes.{Appends}
 use Rattle.rtrb.specs.Ring.{SameConsumer, received}
 use Rattle.gn_rules.specs.declared.receipt.Step.{Step}
@@ -51,17 +51,10 @@ pub record HasStayed {A : Type 0} (scribe : Scribe A) (steps : List (Step A)) (o
   pub same : new ≡ old
   pub reason : fault ≡ first
 
--- a scribe that could write all so far, or couldn't for a fault, took all of these steps and wrote them; or it could not; or it did
--- nothing more
-abbrev pub HasTold : {A : Type 0} → Scribe A → Scribe A → List (Step A) → SinkState → SinkState → Result ⊤ PrintFault → Result ⊤ PrintFault → Type 0
-HasTold before after steps old new (Ok x) (Ok y) = HasWritten before after old new × (received after.steps ≡ steps)
-HasTold before after steps old new (Ok x) (Err fault) = HasBroken before after old new × IsPrintFault fault old new
-HasTold before after steps old new (Err first) (Ok y) = ⊥
-HasTold before after steps old new (Err first) (Err fault) = (after ≡ before) × (new ≡ old) × (fault ≡ first)
-
--- the same of one that ended, and what waits then
+-- a scribe that could write all so far, or couldn't for a fault, ended: it took all of these steps and wrote them, but what waits then; or
+-- it could not; or it did nothing more
 abbrev pub HasEnded : {A : Type 0} → Scribe A → List (Step A) → SinkState → SinkState → Result ⊤ PrintFault → Result (Waiting A) PrintFault → Type 0
-HasEnded scribe steps old new (Ok x) (Ok waiting) = HasWrittenAll scribe steps old new waiting.block × (waiting.count ≡ length steps)
+HasEnded scribe steps old new (Ok x) (Ok waiting) = HasWrittenAll scribe steps old new waiting.block
 HasEnded scribe steps old new (Ok x) (Err fault) = HasBrokenOff scribe steps old new fault
 HasEnded scribe steps old new (Err first) (Ok waiting) = ⊥
 HasEnded scribe steps old new (Err first) (Err fault) = HasStayed scribe steps old new first fault
@@ -72,7 +65,7 @@ abbrev pub HasJournalled : {A : Type 0} → List ℕ → List (Step A) → SinkS
 HasJournalled heading steps old new (Ok waiting) =
     LeavesToWrite old.written new.written waiting.block (heading ++ steps_text steps)
     × (length heading < block_size → length waiting.block < block_size)
-    × NoWriteFailed old new × (waiting.count ≡ length steps)
+    × NoWriteFailed old new
 HasJournalled heading steps old new (Err fault) = AppendsPart old.written new.written (heading ++ steps_text steps) × IsPrintFault fault old new
 
 -- it took steps while they came, and wrote their lines, or couldn't
@@ -80,13 +73,9 @@ abbrev pub HasFollowed : {A : Type 0} → Scribe A → Scribe A → SinkState �
 HasFollowed before after old new (Ok x) = HasWritten before after old new
 HasFollowed before after old new (Err fault) = HasBroken before after old new × IsPrintFault fault old new
 
--- what waited of a text, the lines of the steps that neither were written nor wait, and the line `end` were written, or a prefix, for a fault;
--- where the text couldn't be written before, nothing was
-abbrev pub HasFinished : {A : Type 0} → List (Step A) → SinkState → SinkState → Result (Waiting A) PrintFault → Result ⊤ PrintFault → Type 0
-HasFinished steps old new (Ok waiting) (Ok x) =
-    Appends old.written new.written (waiting.block ++ steps_text (drop waiting.count steps) ++ codes "end\n") × NoWriteFailed old new
-HasFinished steps old new (Ok waiting) (Err fault) =
-    AppendsPart old.written new.written (waiting.block ++ steps_text (drop waiting.count steps) ++ codes "end\n")
-    × IsPrintFault fault old new
-HasFinished steps old new (Err first) (Ok x) = ⊥
-HasFinished steps old new (Err first) (Err fault) = (new ≡ old) × (fault ≡ first)
+-- what waited of a text and the line `end` were written, or a prefix of that, for a fault; where the text couldn't be written before, nothing was
+abbrev pub HasFinished : {A : Type 0} → SinkState → SinkState → Result (Waiting A) PrintFault → Result ⊤ PrintFault → Type 0
+HasFinished old new (Ok waiting) (Ok x) = Appends old.written new.written (waiting.block ++ codes "end\n") × NoWriteFailed old new
+HasFinished old new (Ok waiting) (Err fault) = AppendsPart old.written new.written (waiting.block ++ codes "end\n") × IsPrintFault fault old new
+HasFinished old new (Err first) (Ok x) = ⊥
+HasFinished old new (Err first) (Err fault) = (new ≡ old) × (fault ≡ first)

@@ -1,5 +1,5 @@
-//! A history that is written while its router runs: a thread of its own takes the steps out of a ring, writes their lines in
-//! blocks, and keeps them.
+//! A history that is written while its router runs: a thread of its own takes the steps out of a ring, and writes their lines in
+//! blocks.
 #![tactic(auto)]
 
 mod ending;
@@ -7,5 +7,5 @@ mod printed;
 mod scribe;
 
 pub use ending::{Waiting, finish_history};
-pub use printed::{PrintFault, print_end, print_step, print_steps};
+pub use printed::{PrintFault, print_end, print_step};
 pub use scribe::Scribe;

@@ -91,7 +91,7 @@ pub fn print_step<A: Allocator, B: Allocator, W: Sink>(
 }
 
 /// Adds a line for each step to what waits, and writes in blocks.
-pub fn print_steps<A: Allocator, B: Allocator, W: Sink>(
+fn print_steps<A: Allocator, B: Allocator, W: Sink>(
     steps: &[Step<A>],
     line: &mut Vec<u8, B>,
     block: &mut Block<B>,
@@ -108,6 +108,24 @@ pub fn print_steps<A: Allocator, B: Allocator, W: Sink>(
     for step in steps {
         print_step(step, line, block, sink)?;
     }
+    Ok(())
+}
+
+/// Writes what waits, and the line `end` behind it. An `Err` leaves a prefix of that.
+pub(crate) fn write_end<A: Allocator, W: Sink>(
+    waiting: Block<A>,
+    sink: &mut W,
+) -> Result<(), PrintFault>
+    ensures ok { OnOk result (Appends (W.state sink.old).written (W.state sink.new).written
+        (waiting ++ codes "end\n")) }
+    ensures err { OnErr result (AppendsPart (W.state sink.old).written (W.state sink.new).written
+        (waiting ++ codes "end\n")) }
+    ensures cause { IfErr result (λ fault. IsPrintFault fault (W.state sink.old) (W.state sink.new)) }
+    ensures unfailed { OnOk result (NoWriteFailed (W.state sink.old) (W.state sink.new)) }
+{
+    let mut block = waiting;
+    block.add(b"end\n")?;
+    block.write_rest(sink)?;
     Ok(())
 }
 
@@ -131,7 +149,5 @@ pub fn print_end<A: Allocator, B: Allocator + Copy, W: Sink>(
     let printed = print_steps(steps, &mut line, &mut block, sink);
     drop(line);
     printed?;
-    block.add(b"end\n")?;
-    block.write_rest(sink)?;
-    Ok(())
+    write_end(block, sink)
 }

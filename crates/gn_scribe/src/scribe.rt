@@ -1,17 +1,15 @@
 //! Who writes a history while its router runs.
 
-ghost use Rattle.std.specs.Prelude.{◌≡◌, ◌++◌, [], List, length, IfErr, IfOk, OnErr, OnOk};
-ghost use Rattle.gn_rules.specs.declared.receipt.Step.{Step};
-ghost use Rattle.rtrb.specs.Ring.{IsPair, SameConsumer, known_items, received, sent};
+ghost use Rattle.std.specs.Prelude.{◌≡◌, ◌++◌, [], length, IfErr, OnErr, OnOk};
+ghost use Rattle.rtrb.specs.Ring.{known_items, received};
 ghost use Rattle.gn_scribe.specs.Printed.{IsPrintFault};
 
-use crate::ending::behind;
-use crate::printed::{PrintFault, print_steps};
+use crate::printed::{PrintFault, print_step};
 use gn_io::{Block, Sink};
 use gn_room::Room;
 use gn_rules::Step;
-use rtrb::{Consumer, Producer};
-use std::alloc::{AllocError, Allocator, Global};
+use rtrb::Consumer;
+use std::alloc::{Allocator, Global};
 use std::sync::Wait;
 use std::thread::yield_now;
 
@@ -21,15 +19,15 @@ const LOOKS: u32 = 8;
 /// As many steps as it took since it wrote what waited, before it looks no more.
 const UNWRITTEN: usize = 64;
 
-/// Takes the steps of a run out of their ring, writes their lines in blocks, and keeps the steps. Of the text no more is in memory
-/// than a block and a line.
+/// Takes the steps of a run out of their ring, and writes their lines in blocks. It keeps none: in memory is no more than a block and a
+/// line of the text.
 #[derive(Drop)]
 pub struct Scribe<A: Allocator = Global> {
     pub(crate) steps: Consumer<Step<A>, A>,
     pub(crate) block: Block<A>,
     pub(crate) line: Vec<u8, A>,
-    pub(crate) kept: Vec<Step<A>, A>,
-    ghost whole: { kept.items ≡ received steps },
+    /// Whether it took a step.
+    pub(crate) is_begun: bool,
 }
 
 impl<A: Allocator + Copy> Scribe<A> {
@@ -46,27 +44,32 @@ impl<A: Allocator + Copy> Scribe<A> {
             steps,
             block,
             line: Vec::new(alloc),
-            kept: Vec::new(alloc),
+            is_begun: false,
         }
     }
 
     /// Takes so many steps, which have come, and writes their lines.
-    fn write_known<W: Sink>(&mut self, count: usize, sink: &mut W) -> Result<(), PrintFault>
+    pub(crate) fn write_known<W: Sink>(
+        &mut self,
+        count: usize,
+        sink: &mut W,
+    ) -> Result<(), PrintFault>
         requires { count ≡ length (known_items self.old.steps) }
-        ensures same { SameConsumer self.old.steps self.new.steps }
         ensures ok { OnOk result (HasWritten self.old self.new (W.state sink.old) (W.state sink.new)) }
-        ensures all { OnOk result (received self.new.steps ≡ received self.old.steps ++ known_items self.old.steps) }
+        ensures all { OnOk result (known_items self.new.steps ≡ []) }
+        ensures ahead { received self.new.steps ++ known_items self.new.steps
+            ≡ received self.old.steps ++ known_items self.old.steps }
         ensures err { OnErr result (HasBroken self.old self.new (W.state sink.old) (W.state sink.new)) }
         ensures cause { IfErr result (λ fault. IsPrintFault fault (W.state sink.old) (W.state sink.new)) }
     {
-        let before = self.kept.len();
-        self.keep_known(count)?;
-        print_steps(
-            behind(&self.kept, before),
-            &mut self.line,
-            &mut self.block,
-            sink,
-        )
+        for _ in 0..count {
+            let step = self.steps.pop_known();
+            self.is_begun = true;
+            let printed = print_step(&step, &mut self.line, &mut self.block, sink);
+            drop(step);
+            printed?;
+        }
+        Ok(())
     }
 
     /// Takes the steps that have come by now, and writes their lines. How many they were.
@@ -91,7 +94,7 @@ impl<A: Allocator + Copy> Scribe<A> {
         ensures err { OnErr result (HasBroken self.old self.new (W.state sink.old) (W.state sink.new)) }
         ensures cause { IfErr result (λ fault. IsPrintFault fault (W.state sink.old) (W.state sink.new)) }
     {
-        if self.kept.is_empty() {
+        if !self.is_begun {
             return Ok(());
         }
         *unwritten = 0;
@@ -178,62 +181,5 @@ impl<A: Allocator + Copy> Scribe<A> {
             room.shut(rt);
         }
         written
-    }
-
-    /// Takes the steps that are left of a ring, with its other end, and writes their lines.
-    pub(crate) fn write_left<W: Sink>(
-        &mut self,
-        producer: &mut Producer<Step<A>, A>,
-        sink: &mut W,
-    ) -> Result<(), PrintFault>
-        requires { IsPair producer.old self.old.steps }
-        ensures pair { IsPair producer.new self.new.steps × (sent producer.new ≡ sent producer.old) }
-        ensures ok { OnOk result (HasWritten self.old self.new (W.state sink.old) (W.state sink.new)) }
-        ensures all { OnOk result (received self.new.steps ≡ sent producer.old) }
-        ensures err { OnErr result (HasBroken self.old self.new (W.state sink.old) (W.state sink.new)) }
-        ensures cause { IfErr result (λ fault. IsPrintFault fault (W.state sink.old) (W.state sink.new)) }
-    {
-        let count = self.steps.slots_beside(producer);
-        self.write_known(count, sink)
-    }
-
-    /// All steps of a ring, with its other end, those that weren't taken among them, and the bytes that wait to be written. Nothing is
-    /// written any more. An `Err` is out of memory.
-    pub(crate) fn into_parts(
-        self,
-        producer: &mut Producer<Step<A>, A>,
-    ) -> Result<(Vec<Step<A>, A>, Block<A>), AllocError>
-        requires { IsPair producer.old self.steps }
-        ensures ahead { (more : List (Step A)) × (sent producer.old ≡ received self.steps ++ more) }
-        ensures history { IfOk result (λ parts. parts.0.items ≡ sent producer.old) }
-        ensures block { IfOk result (λ parts. parts.1 ≡ self.block) }
-    {
-        let mut scribe = self;
-        let count = scribe.steps.slots_beside(producer);
-        scribe.keep_known(count)?;
-        let Scribe {
-            steps,
-            block,
-            line,
-            kept,
-        } = scribe;
-        drop(steps);
-        drop(line);
-        Ok((kept, block))
-    }
-
-    /// Takes so many steps, which have come.
-    fn keep_known(&mut self, count: usize) -> Result<(), AllocError>
-        requires { count ≡ length (known_items self.old.steps) }
-        ensures same { SameConsumer self.old.steps self.new.steps }
-        ensures all { OnOk result (received self.new.steps ≡ received self.old.steps ++ known_items self.old.steps) }
-        ensures some { (more : List (Step A)) × (received self.new.steps ≡ received self.old.steps ++ more) }
-        ensures block { self.new.block ≡ self.old.block }
-    {
-        for _ in 0..count {
-            self.kept.reserve(1)?;
-            self.kept.push_reserved(self.steps.pop_known());
-        }
-        Ok(())
     }
 }

@@ -4,11 +4,12 @@ use crate::batch::usual_batch;
 use crate::loads::is_legal;
 use crate::loopback::peers::sent;
 use crate::wanted::a_listener;
+use gn_capture::read_history;
 use gn_fixtures::OWN;
 use gn_io::{Sink, WriterSink};
 use gn_load::serve_journalled;
-use gn_rules::Config;
-use gn_run_fixtures::{Meeting, are_even, have_met, pings};
+use gn_rules::{Config, Counter, Stats, Step};
+use gn_run_fixtures::{Meeting, have_met, pings};
 use gn_service::Serving;
 use std::alloc::Global;
 use std::net::{Net, Shutdown, SocketAddr, TcpListener, TcpStream};
@@ -45,7 +46,16 @@ fn six_callers<N: Net<Listener = TcpListener, Stream = TcpStream>>(
     Ok(callers)
 }
 
-/// How many steps a serve of them has, of which each of its two workers routes a half.
+/// How many steps these counters count.
+fn steps_of(stats: &Stats) -> usize {
+    let mut steps = 0usize;
+    for counter in Counter::ALL {
+        steps = steps.saturating_add(stats.get(counter) as usize);
+    }
+    steps
+}
+
+/// Serves them with two workers: how many steps that took.
 fn serve_six<
     R: Threads
         + Wait
@@ -77,20 +87,34 @@ fn serve_six<
         sink,
     );
     match served {
-        Ok((report, _ran)) => {
-            let (steps, are_even) = (report.history.len(), are_even(&report));
-            drop(report);
-            if are_even {
-                Ok(steps)
-            } else {
-                Err("two workers of 300 routes".into())
-            }
+        Ok((account, _ran)) => {
+            let steps = steps_of(&account.stats);
+            drop(account);
+            Ok(steps)
         }
         Err(_stopped) => Err("a serve".into()),
     }
 }
 
-/// Whether what such a serve writes is legal, and whole.
+/// How many of these steps an actor made.
+fn made_by(steps: &[Step], actor: u32) -> usize {
+    steps.iter().filter(|step| step.actor == actor).count()
+}
+
+/// Whether each of the two workers of six links made 300 steps of a history.
+fn are_even(alloc: Global, history: &[u8]) -> Result<bool, Fail> {
+    let (_, steps) = read_history(alloc, history)?;
+    let are_even = made_by(&steps, 12) == 300 && made_by(&steps, 13) == 300;
+    drop(steps);
+    Ok(are_even)
+}
+
+/// Whether a history is legal, has so many steps, and its workers share them evenly.
+fn is_right(alloc: Global, history: &[u8], steps: usize) -> Result<bool, Fail> {
+    Ok(is_legal(alloc, history, steps)? && are_even(alloc, history)?)
+}
+
+/// Whether what such a serve writes is so.
 fn is_shared<
     R: Threads
         + Wait
@@ -106,12 +130,12 @@ fn is_shared<
     let written = sink.into_inner();
     drop(callers);
     drop(listener);
-    let is_legal = match steps {
-        Ok(steps) => is_legal(alloc, &written, steps),
+    let is_shared = match steps {
+        Ok(steps) => is_right(alloc, &written, steps),
         Err(fail) => Err(fail),
     };
     drop(written);
-    is_legal
+    is_shared
 }
 
 #[test]

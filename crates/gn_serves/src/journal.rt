@@ -6,11 +6,9 @@ use crate::wanted::a_listener;
 use gn_fixtures::{OWN_PONG, PING, usual};
 use gn_io::{Sink, WriterSink};
 use gn_links::NoGate;
-use gn_load::{ServeFault, ServeStopped, print_history, serve_journalled};
-use gn_report::Report;
-use gn_rules::{Config, Step};
-use gn_service::{Ran, Serving};
-use gn_tcp::{TcpReader, TcpWriter};
+use gn_load::{ServeFault, serve_journalled};
+use gn_rules::Config;
+use gn_service::Serving;
 use std::alloc::Global;
 use std::io::{self, ErrorKind, Write};
 use std::net::{Net, Shutdown, SocketAddr, TcpListener, TcpStream};
@@ -68,9 +66,8 @@ impl<'a> Write for Counted<'a> {
     }
 }
 
-/// Serves one caller, and writes the history as it goes on.
+/// The fault of a serve of one caller, whose history is written as it goes on.
 fn serve_one<
-    's,
     R: Threads
         + Wait
         + Net<Listener = TcpListener, Stream = TcpStream>
@@ -83,52 +80,28 @@ fn serve_one<
     alloc: Global,
     listener: &TcpListener,
     config: &Config,
-    serving: &Serving<'s>,
     sink: &mut W,
-) -> Result<(Report<TcpReader<'s>, TcpWriter>, Ran), ServeStopped> {
-    serve_journalled::<R, NoGate, W>(
+) -> Option<ServeFault> {
+    let served = serve_journalled::<R, NoGate, W>(
         rt,
         alloc,
         listener,
         config,
         1,
         &[],
-        serving,
+        &Serving::UNLIMITED,
         1,
         &NoGate,
         usual_batch(),
         sink,
-    )
-}
-
-/// How a serve ended, and what stands of its history.
-#[derive(Drop)]
-struct Ended {
-    fault: Option<ServeFault>,
-    history: Option<Vec<Step>>,
-}
-
-/// The same of what it answers.
-fn ended_of(served: Result<(Report<TcpReader<'_>, TcpWriter>, Ran), ServeStopped>) -> Ended {
+    );
     match served {
-        Ok((report, _ran)) => {
-            let Report { history, .. } = report;
-            Ended {
-                fault: None,
-                history: Some(history),
-            }
-        }
-        Err(stopped) => {
-            let ServeStopped { fault, history, .. } = stopped;
-            Ended {
-                fault: Some(fault),
-                history,
-            }
-        }
+        Ok(_) => None,
+        Err(stopped) => Some(stopped.fault),
     }
 }
 
-/// How a serve of one caller ends, of whose history so many bytes can be written, and which were.
+/// The fault of a serve of one caller, of whose history so many bytes can be written, and those that were.
 fn serve_narrow<
     R: Threads
         + Wait
@@ -143,27 +116,15 @@ fn serve_narrow<
     config: &Config,
     most: usize,
     full: Full,
-) -> (Ended, Vec<u8>) {
+) -> (Option<ServeFault>, Vec<u8>) {
     let mut sink = WriterSink::new(Narrow {
         taken: Vec::new(alloc),
         left: most,
         full,
     });
-    let serving = Serving::UNLIMITED;
-    let served = serve_one(rt, alloc, listener, config, &serving, &mut sink);
-    let ended = ended_of(served);
+    let fault = serve_one(rt, alloc, listener, config, &mut sink);
     let Narrow { taken, .. } = sink.into_inner();
-    (ended, taken)
-}
-
-/// Whether a text is a beginning of the text of this history.
-fn begins(alloc: Global, config: &Config, steps: &[Step], written: &[u8]) -> bool {
-    let mut sink = WriterSink::new(Vec::new(alloc));
-    let printed = print_history(alloc, config, steps, &mut sink);
-    let whole = sink.into_inner();
-    let is_begun = printed.is_ok() && whole.as_slice().starts_with(written);
-    drop(whole);
-    is_begun
+    (fault, taken)
 }
 
 /// A caller that has sent a Ping and its end.
@@ -176,8 +137,7 @@ fn a_caller<N: Net<Listener = TcpListener, Stream = TcpStream>>(
     Ok(client)
 }
 
-/// The fault of a serve of such a caller where so many bytes can be written; and whether as many were, and begin the text of the
-/// history that comes back.
+/// The fault of a serve of such a caller where so many bytes can be written, and whether as many first ones of its history were.
 fn written_at_most<
     R: Threads
         + Wait
@@ -189,18 +149,12 @@ fn written_at_most<
     let config = usual(100)?;
     let listener = a_listener(rt)?;
     let client = a_caller(rt, listener.local_addr()?)?;
-    let (ended, written) = serve_narrow(rt, alloc, &listener, &config, most, full);
+    let (fault, written) = serve_narrow(rt, alloc, &listener, &config, most, full);
     drop(client);
     drop(listener);
-    let is_begun = match &ended.history {
-        Some(steps) => begins(alloc, &config, steps, &written),
-        None => false,
-    };
-    let is_right = is_begun && written.len() == most;
-    let fault = ended.fault;
+    let is_begun = written.len() == most && ONE_PING.as_bytes().starts_with(&written);
     drop(written);
-    drop(ended);
-    Ok((fault, is_right))
+    Ok((fault, is_begun))
 }
 
 /// Each of the first 200 writes that may fail ends the run, and each that may take nothing.
@@ -240,12 +194,11 @@ fn is_written<
     let config = usual(100)?;
     let listener = a_listener(rt)?;
     let client = a_caller(rt, listener.local_addr()?)?;
-    let (ended, written) = serve_narrow(rt, alloc, &listener, &config, 1_000_000, Full::Fails);
+    let (fault, written) = serve_narrow(rt, alloc, &listener, &config, 1_000_000, Full::Fails);
     drop(client);
     drop(listener);
-    let is_right = ended.fault.is_none() && written.as_slice() == ONE_PING.as_bytes();
+    let is_right = fault.is_none() && written.as_slice() == ONE_PING.as_bytes();
     drop(written);
-    drop(ended);
     Ok(is_right)
 }
 
@@ -281,9 +234,7 @@ fn is_served<
         return false;
     };
     let mut sink = WriterSink::new(Counted(written));
-    let serving = Serving::UNLIMITED;
-    let served = serve_one(rt, alloc, listener, &config, &serving, &mut sink);
-    let Ended { fault, .. } = ended_of(served);
+    let fault = serve_one(rt, alloc, listener, &config, &mut sink);
     drop(sink);
     fault.is_none()
 }

@@ -1,3 +1,5 @@
 mod RoleLemmas
 mod FaultLemmas
 mod ServedLemmas
+pub mod TallyLemmas
+pub mod KeptLemmas

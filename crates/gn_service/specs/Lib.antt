@@ -2,6 +2,7 @@
 pub mod Links
 pub mod Ran
 pub mod Stopping
+pub mod Tallies
 -- Words of the proofs.
 pub mod Serves
 pub mod Owing

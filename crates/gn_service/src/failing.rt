@@ -1,13 +1,15 @@
 //! How a run over TCP fails for a peer that can't be called.
 
 ghost use Rattle.std.specs.Prelude.{◌≡◌, ◌≢◌, ◌⊎◌, ◌≤◌, ℕ, true, IfSome, Some};
+ghost use Rattle.gn_service.specs.Tallies.{tallies_of};
 ghost use Rattle.gn_threads.specs.declared.fault.RunFault.TheVariants.{BadWorkers, HistoryFull};
 ghost use Rattle.gn_threads.specs.Faults.{IsArrivingFault};
 
 use crate::stops::Stops;
-use gn_report::Report;
+use crate::tallies::tallies_of;
+use gn_report::Account;
 use gn_tcp::{TcpReader, TcpWriter};
-use gn_threads::{RunFault, Stopped};
+use gn_threads::{Halted, RunFault};
 use std::alloc::Allocator;
 
 /// Why the threads that call so many peers end the run, if they do.
@@ -24,23 +26,28 @@ pub(crate) fn call_fault<A: Allocator>(stops: &Stops<'_, A>, calls: usize) -> Op
     }
 }
 
-/// The run of this report, which has failed.
-pub(crate) fn failed_at<'s, A: Allocator>(
-    report: Report<TcpReader<'s>, TcpWriter, A>,
+/// The run of this account, which has failed.
+pub(crate) fn failed_at<'s, A: Allocator + Copy>(
+    alloc: A,
+    account: Account<TcpReader<'s>, TcpWriter, A>,
     fault: RunFault,
-) -> Stopped<A>
-    ensures { (result.fault ≡ fault) × (result.history ≡ Some report.entry.history) }
+) -> Halted<A>
+    ensures fault { result.fault ≡ fault }
+    ensures history { result.history ≡ Some account.entry.history }
+    ensures tallies { IfSome result.links (λ tallies. tallies.items ≡ tallies_of account.entry.links.items) }
 {
-    let Report {
+    let tallies = tallies_of(alloc, &account.links);
+    let Account {
         history,
         links: _,
         workers: _,
         house: _,
         stats: _,
-    } = report;
-    Stopped {
+    } = account;
+    Halted {
         fault,
         history: Some(history),
+        links: tallies,
     }
 }
 
@@ -57,12 +64,13 @@ fn first_of(found: RunFault, later: RunFault) -> RunFault
 }
 
 /// The run that stopped so, and has failed for this, too.
-pub(crate) fn failed_too<A: Allocator>(stopped: Stopped<A>, fault: RunFault) -> Stopped<A>
-    ensures fault { (result.fault ≡ stopped.fault) ⊎ ((result.fault ≡ fault) × (stopped.fault ≢ BadWorkers)) }
-    ensures history { result.history ≡ stopped.history }
+pub(crate) fn failed_too<A: Allocator>(halted: Halted<A>, fault: RunFault) -> Halted<A>
+    ensures fault { (result.fault ≡ halted.fault) ⊎ ((result.fault ≡ fault) × (halted.fault ≢ BadWorkers)) }
+    ensures same { (result.history ≡ halted.history) × (result.links ≡ halted.links) }
 {
-    Stopped {
-        fault: first_of(stopped.fault, fault),
-        history: stopped.history,
+    Halted {
+        fault: first_of(halted.fault, fault),
+        history: halted.history,
+        links: halted.links,
     }
 }

@@ -16,6 +16,7 @@ mod serve;
 mod serving;
 mod stop;
 mod stops;
+mod tallies;
 
 pub use gn_bodies::{
     BodyFault, ReaderDone, ReaderEnd, WorkerDone, WriterDone, WriterEnd, reader_body, worker_body,
@@ -26,14 +27,15 @@ pub use gn_links::{
     Gate, Half, Link, LinkFault, LinkReader, LinkWriter, Made, MemoryLink, MemoryReader,
     MemoryWriter, NoGate, Watch,
 };
-pub use gn_report::{LinkReport, Report};
+pub use gn_report::{Account, LinkAccount, LinkReport, LinkTally, Report};
 pub use gn_shake::Role;
 pub use gn_tcp::{TcpLink, TcpOrigin, TcpReader, TcpWriter, listen};
 pub use gn_threads::{
-    Arrivals, Course, InMemory, RunFault, Stopped, run, run_arriving, run_arriving_by,
+    Arrivals, Course, Halted, InMemory, RunFault, Stopped, run, run_arriving, run_arriving_by,
     run_arriving_kept, run_by,
 };
 pub use ran::Ran;
 pub use serve::{serve_by, serve_kept, serve_on};
 pub use serving::Serving;
 pub use stop::Stop;
+pub use tallies::tallies_of;

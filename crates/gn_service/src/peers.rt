@@ -85,12 +85,15 @@ impl<
         fault
     }
 
-    /// The link of this number to this peer, which is called from now on.
+    /// The link of this number to this peer, which is called from now on; nobody is, where the run has failed.
     fn called(&self, link: u32, peer: SocketAddr) -> Result<TcpLink<'static>, RunFault>
         ensures found { IfOk result (λ found. (found.role ≡ Calling)
             × (found.origin ≡ record { link = 0; called = Some peer })) }
         ensures fault { IfErr result (λ fault. (links workers : ℕ) → IsArrivingFault true links workers fault) }
     {
+        if self.stops.has_failed() {
+            return Err(RunFault::NoMemory);
+        }
         let Ok((found, call)) = TcpLink::called(self.cells, peer) else {
             return Err(self.failing(RunFault::NoMemory));
         };
@@ -194,9 +197,6 @@ impl<
         };
         if link != self.next {
             return Err(RunFault::Link(link));
-        }
-        if self.stops.has_failed() {
-            return Err(RunFault::NoMemory);
         }
         let found = self
             .meet(link, role)?

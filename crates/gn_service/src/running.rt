@@ -3,8 +3,9 @@
 ghost use Rattle.std.specs.Prelude.{◌≡◌, ◌+◌, ◌≤◌, ◌↔◌, [], length, reverse, true, IfErr, IfOk, IfSome};
 ghost use Rattle.gn_rules.specs.Answer.{IsLegal};
 ghost use Rattle.gn_rules.specs.Limits.{IsCrew, most_links};
+ghost use Rattle.gn_report.specs.Accounts.{report_of};
 ghost use Rattle.gn_threads.specs.declared.fault.RunFault.TheVariants.{BadWorkers, HistoryFull};
-ghost use Rattle.gn_threads.specs.Courses.{BeginsRun, IsLeft};
+ghost use Rattle.gn_threads.specs.Courses.{AreStepsOf, AreTallies, IsLeft};
 ghost use Rattle.gn_threads.specs.Faults.{IsArrivingFault};
 ghost use Rattle.gn_threads.specs.Headline.{AreMadeOf, AreOfOne, Holds};
 ghost use Rattle.gn_service.specs.Links.{origins_of, roles_of};
@@ -20,10 +21,10 @@ use crate::stop::Stop;
 use crate::stops::Stops;
 use gn_hub::Batch;
 use gn_links::Watch;
-use gn_report::Report;
+use gn_report::Account;
 use gn_rules::{Config, RouterCore};
 use gn_tcp::{TcpReader, TcpWriter};
-use gn_threads::{Course, Stopped, run_arriving_by};
+use gn_threads::{Course, Halted, run_arriving_by};
 use std::alloc::{Allocator, Global};
 use std::net::{Net, SocketAddr, TcpListener, TcpStream};
 use std::sync::Wait;
@@ -71,12 +72,12 @@ where
     pub(crate) fn watched(
         self,
     ) -> (
-        Result<Report<TcpReader<'s>, TcpWriter, A>, Stopped<A>>,
+        Result<Account<TcpReader<'s>, TcpWriter, A>, Halted<A>>,
         W::Rest,
     )
         ensures served { IsServed self.entry.batch self.entry.config.now self.entry.peers.now self.entry.accept
             self.entry.workers result.0 }
-        ensures rest { IsLeft (W.follows self.entry.course) W.leaves result.1 (BeginsRun result.0) }
+        ensures rest { IsLeft (W.follows self.entry.course) W.leaves result.1 (AreStepsOf result.0) }
     {
         let rt = self.rt;
         let serving = self.serving;
@@ -94,7 +95,7 @@ where
             move ||
                 ensures served { IsServed self.entry.batch self.entry.config.now self.entry.peers.now self.entry.accept
                     self.entry.workers result.0 }
-                ensures rest { IsLeft (W.follows self.entry.course) W.leaves result.1 (BeginsRun result.0) }
+                ensures rest { IsLeft (W.follows self.entry.course) W.leaves result.1 (AreStepsOf result.0) }
             { self.run(stops) },
         );
         answer
@@ -105,19 +106,19 @@ where
         self,
         stops: &Stops<'_, A>,
     ) -> (
-        Result<Report<TcpReader<'s>, TcpWriter, A>, Stopped<A>>,
+        Result<Account<TcpReader<'s>, TcpWriter, A>, Halted<A>>,
         W::Rest,
     )
         ensures served { IsServed self.entry.batch self.entry.config.now self.entry.peers.now self.entry.accept
             self.entry.workers result.0 }
-        ensures rest { IsLeft (W.follows self.entry.course) W.leaves result.1 (BeginsRun result.0) }
+        ensures rest { IsLeft (W.follows self.entry.course) W.leaves result.1 (AreStepsOf result.0) }
     {
-        let calls = self.peers.len();
+        let (alloc, calls) = (self.alloc, self.peers.len());
         let (answer, rest) = self.over_links(stops);
         match (answer, call_fault(stops, calls)) {
             (answer, None) => (answer, rest),
-            (Ok(report), Some(fault)) => (Err(failed_at(report, fault)), rest),
-            (Err(stopped), Some(fault)) => (Err(failed_too(stopped, fault)), rest),
+            (Ok(account), Some(fault)) => (Err(failed_at(alloc, account, fault)), rest),
+            (Err(halted), Some(fault)) => (Err(failed_too(halted, fault)), rest),
         }
     }
 
@@ -126,24 +127,27 @@ where
         self,
         stops: &Stops<'_, A>,
     ) -> (
-        Result<Report<TcpReader<'s>, TcpWriter, A>, Stopped<A>>,
+        Result<Account<TcpReader<'s>, TcpWriter, A>, Halted<A>>,
         W::Rest,
     )
         ensures workers { IfOk result.0 (λ _. IsCrew self.entry.workers) }
-        ensures bad_workers { IfErr result.0 (λ stopped. (stopped.fault ≡ BadWorkers) ↔ (¬ IsCrew self.entry.workers)) }
-        ensures fault { IfErr result.0 (λ stopped. IsCrew self.entry.workers
-            → IsArrivingFault true (length self.entry.peers.now + self.entry.accept) self.entry.workers stopped.fault) }
-        ensures kept { IfErr result.0 (λ stopped. IfSome stopped.history (λ history.
+        ensures bad_workers { IfErr result.0 (λ halted. (halted.fault ≡ BadWorkers) ↔ (¬ IsCrew self.entry.workers)) }
+        ensures fault { IfErr result.0 (λ halted. IsCrew self.entry.workers
+            → IsArrivingFault true (length self.entry.peers.now + self.entry.accept) self.entry.workers halted.fault) }
+        ensures kept { IfErr result.0 (λ halted. IfSome halted.history (λ history.
             IsLegal self.entry.config.now (reverse history.items))) }
-        ensures full { IfErr result.0 (λ stopped. stopped.fault ≡ HistoryFull → IfSome stopped.history (λ history.
+        ensures full { IfErr result.0 (λ halted. halted.fault ≡ HistoryFull → IfSome halted.history (λ history.
             length history.items ≡ self.entry.config.now.numbers.steps)) }
-        ensures holds { IfOk result.0 (λ report. Holds self.entry.batch half_read half_written self.entry.config.now
+        ensures tallied { IfErr result.0 (λ halted. IfSome halted.history (λ history. IfSome halted.links (λ tallies.
+            AreTallies history.items (length self.entry.peers.now + self.entry.accept) tallies.items))) }
+        ensures holds { IfOk result.0 (λ account. Holds self.entry.batch half_read half_written self.entry.config.now
             (roles_of (length self.entry.peers.now) (length self.entry.peers.now + self.entry.accept))
-            self.entry.workers report) }
-        ensures made { IfOk result.0 (λ report. AreMadeOf (λ half. half.origin) (λ half. half.origin)
-            (origins_of self.entry.peers.now (length self.entry.peers.now + self.entry.accept)) report) }
-        ensures one_socket { IfOk result.0 (λ report. AreOfOne (λ half. half.socket) (λ half. half.socket) report) }
-        ensures rest { IsLeft (W.follows self.entry.course) W.leaves result.1 (BeginsRun result.0) }
+            self.entry.workers (report_of account)) }
+        ensures made { IfOk result.0 (λ account. AreMadeOf (λ half. half.origin) (λ half. half.origin)
+            (origins_of self.entry.peers.now (length self.entry.peers.now + self.entry.accept)) (report_of account)) }
+        ensures one_socket { IfOk result.0 (λ account.
+            AreOfOne (λ half. half.socket) (λ half. half.socket) (report_of account)) }
+        ensures rest { IsLeft (W.follows self.entry.course) W.leaves result.1 (AreStepsOf result.0) }
     {
         let Running {
             rt,

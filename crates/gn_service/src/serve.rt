@@ -3,8 +3,9 @@
 ghost use Rattle.std.specs.Prelude.{◌≡◌, ◌+◌, ◌≤◌, ◌↔◌, [], length, reverse, true, IfErr, IfOk, IfSome, MatchResult};
 ghost use Rattle.gn_rules.specs.Answer.{IsLegal};
 ghost use Rattle.gn_rules.specs.Limits.{IsCrew, most_links};
+ghost use Rattle.gn_report.specs.Accounts.{report_of};
 ghost use Rattle.gn_threads.specs.declared.fault.RunFault.TheVariants.{BadWorkers, HistoryFull};
-ghost use Rattle.gn_threads.specs.Courses.{IsBegunBy, IsLeft};
+ghost use Rattle.gn_threads.specs.Courses.{AreTallies, IsLeft};
 ghost use Rattle.gn_threads.specs.Faults.{IsArrivingFault};
 ghost use Rattle.gn_threads.specs.Headline.{AreMadeOf, AreOfOne, Holds};
 ghost use Rattle.gn_service.specs.Links.{origins_of, roles_of};
@@ -16,10 +17,10 @@ use crate::running::Running;
 use crate::serving::Serving;
 use gn_hub::Batch;
 use gn_links::Watch;
-use gn_report::Report;
+use gn_report::{Account, Report};
 use gn_rules::{Config, Historian, MOST_WORKERS, RouterCore};
 use gn_tcp::{TcpReader, TcpWriter};
-use gn_threads::{Course, InMemory, RunFault, Stopped};
+use gn_threads::{Course, Halted, InMemory, RunFault, Stopped, stopped_by, tell};
 use std::alloc::Allocator;
 use std::net::{Net, SocketAddr, TcpListener, TcpStream};
 use std::sync::Wait;
@@ -125,7 +126,7 @@ pub fn serve_kept<
     let Ok(core) = C::make(alloc, config) else {
         return Err(Stopped::before(RunFault::NoMemory));
     };
-    let (answer, ()) = serve_by::<C, InMemory, G, A, R>(
+    let (answer, core) = serve_by::<C, InMemory, G, A, R>(
         rt,
         alloc,
         listener,
@@ -139,11 +140,17 @@ pub fn serve_kept<
         core,
         InMemory,
     );
-    answer
+    match answer {
+        Ok((account, ran)) => match tell(alloc, account, core) {
+            Ok(report) => Ok((report, ran)),
+            Err(stopped) => Err(stopped),
+        },
+        Err(halted) => Err(stopped_by(alloc, halted, core)),
+    }
 }
 
-/// Does the same with a router of no steps, which may give its steps to somebody who runs beside it. What is left of that comes back;
-/// the history begins with the steps that it had. A writer writes up to `batch` packets at once.
+/// Does the same with a router of no steps, whose steps may go to somebody who runs beside it. Nobody keeps them: the account tells its
+/// report. What is left of who ran beside it comes back, who had all of them. A writer writes up to `batch` packets at once.
 pub fn serve_by<
     's,
     C: RouterCore<A> + Drop + Send,
@@ -170,7 +177,7 @@ pub fn serve_by<
     core: C,
     course: W,
 ) -> (
-    Result<(Report<TcpReader<'s>, TcpWriter, A>, Ran<A>), Stopped<A>>,
+    Result<(Account<TcpReader<'s>, TcpWriter, A>, Ran<A>), Halted<A>>,
     W::Rest,
 )
 where
@@ -178,22 +185,25 @@ where
     requires few { accept + length peers.now ≤ most_links }
     requires empty { C.steps core ≡ [] }
     ensures workers { IfOk result.0 (λ _. IsCrew workers) }
-    ensures bad_workers { IfErr result.0 (λ stopped. (stopped.fault ≡ BadWorkers) ↔ (¬ IsCrew workers)) }
-    ensures fault { IfErr result.0 (λ stopped. IsCrew workers
-        → IsArrivingFault true (length peers.now + accept) workers stopped.fault) }
-    ensures kept { IfErr result.0 (λ stopped. IfSome stopped.history (λ history.
+    ensures bad_workers { IfErr result.0 (λ halted. (halted.fault ≡ BadWorkers) ↔ (¬ IsCrew workers)) }
+    ensures fault { IfErr result.0 (λ halted. IsCrew workers
+        → IsArrivingFault true (length peers.now + accept) workers halted.fault) }
+    ensures kept { IfErr result.0 (λ halted. IfSome halted.history (λ history.
         IsLegal config.now (reverse history.items))) }
-    ensures full { IfErr result.0 (λ stopped. stopped.fault ≡ HistoryFull → IfSome stopped.history (λ history.
+    ensures full { IfErr result.0 (λ halted. halted.fault ≡ HistoryFull → IfSome halted.history (λ history.
         length history.items ≡ config.now.numbers.steps)) }
+    ensures tallied { IfErr result.0 (λ halted. IfSome halted.history (λ history. IfSome halted.links (λ tallies.
+        AreTallies history.items (length peers.now + accept) tallies.items))) }
     ensures holds { IfOk result.0 (λ done. Holds batch half_read half_written config.now
-        (roles_of (length peers.now) (length peers.now + accept)) workers done.0) }
+        (roles_of (length peers.now) (length peers.now + accept)) workers (report_of done.0)) }
     ensures made { IfOk result.0 (λ done. AreMadeOf (λ half. half.origin) (λ half. half.origin)
-        (origins_of peers.now (length peers.now + accept)) done.0) }
-    ensures one_socket { IfOk result.0 (λ done. AreOfOne (λ half. half.socket) (λ half. half.socket) done.0) }
-    ensures ran { IfOk result.0 (λ done. done.1 ≡ ran_of done.0) }
+        (origins_of peers.now (length peers.now + accept)) (report_of done.0)) }
+    ensures one_socket { IfOk result.0 (λ done.
+        AreOfOne (λ half. half.socket) (λ half. half.socket) (report_of done.0)) }
+    ensures ran { IfOk result.0 (λ done. done.1 ≡ ran_of (report_of done.0)) }
     ensures rest { IsLeft (W.follows course) W.leaves result.1 (λ steps. MatchResult result.0
-        (λ done. IsBegunBy steps done.0.history.items)
-        (λ stopped. IfSome stopped.history (λ history. IsBegunBy steps history.items))) }
+        (λ done. done.0.history.items ≡ steps)
+        (λ halted. IfSome halted.history (λ history. history.items ≡ steps))) }
 {
     let run = Running {
         rt,
@@ -211,10 +221,10 @@ where
     };
     let (answer, rest) = run.watched();
     match answer {
-        Ok(report) => {
-            let ran = Ran::of(&report);
-            (Ok((report, ran)), rest)
+        Ok(account) => {
+            let ran = Ran::of(&account);
+            (Ok((account, ran)), rest)
         }
-        Err(stopped) => (Err(stopped), rest),
+        Err(halted) => (Err(halted), rest),
     }
 }

@@ -1,5 +1,5 @@
 -- Actors that were made are numbered in order.
-use Rattle.std.proofs.Common.{◌≡◌, ◌<◌, ◌+◌, ℕ, zero, suc, List, [], ◌∷◌, length, get_or, take, drop, sym, ◌∙◌, ap, subst, arith}
+use Rattle.std.proofs.Common.{◌≡◌, ◌<◌, ◌+◌, ℕ, zero, suc, List, [], ◌∷◌, ◌++◌, length, get_or, take, drop, sym, ◌∙◌, ap, subst, arith}
 use Rattle.gn_hub.specs.ActorState.{ActorState, new_actor}
 use Rattle.gn_threads.specs.Actors.{AreActorsFrom}
 
@@ -33,3 +33,11 @@ rest_of k (suc n) m (actor ∷ actors) is from = rest_of (k + 1) n m actors (ome
 -- and those after the first
 pub rest_numbered : {A : Type 0} (k n m : ℕ) (actors rest : List (ActorState A)) → rest ≡ drop n actors → m ≡ k + n → AreActorsFrom k actors → AreActorsFrom m rest
 rest_numbered k n m actors rest are is from = subst (λ xs. AreActorsFrom m xs) (sym are) (rest_of k n m actors is from)
+
+last_of : {A : Type 0} (k : ℕ) (rest : List (ActorState A)) (me : ActorState A) → AreActorsFrom k (rest ++ me ∷ []) → me.receipts ≡ []
+last_of k [] me from = ap (λ (actor : ActorState _). actor.receipts) from.0
+last_of k (x ∷ rest) me from = last_of (k + 1) rest me from.1
+
+-- the last of them has no receipts
+pub last_numbered : {A : Type 0} (k : ℕ) (actors rest : List (ActorState A)) (me : ActorState A) → actors ≡ rest ++ me ∷ [] → AreActorsFrom k actors → me.receipts ≡ []
+last_numbered k actors rest me is from = last_of k rest me (subst (λ xs. AreActorsFrom k xs) is from)

@@ -1,7 +1,9 @@
 -- Of threads that were joined, each kept its promise.
-use Rattle.std.proofs.Common.{◌≡◌, ◌<◌, ℕ, suc, List, [], ◌∷◌, ◌++◌, length, map, take, get_or, refl, sym, ap, ◌∙◌, subst, Vec, Result, Ok, vec_items, vec_len, arith}
+use Rattle.std.proofs.Common.{◌≡◌, ◌<◌, ℕ, Bool, true, suc, List, [], ◌∷◌, ◌++◌, length, map, take, get_or, refl, sym, ap, ◌∙◌, subst, Vec, Result, Ok, vec_items, vec_len, arith}
+use Rattle.std.specs.List.{list_all}
 use Rattle.std.specs.Prelude.{IfOk}
 use Rattle.std.proofs.lemmas.List.{append-nil, append_assoc, get_or-map, length-map, nil_from_length}
+use Rattle.std.proofs.lemmas.List.Folds.{list_all-map}
 use Rattle.std.proofs.lemmas.Simd.{map-map}
 use Rattle.std.proofs.Math.Seq.{take-length}
 use Rattle.std.specs.PromisedHandle.{KeepsEach}
@@ -33,6 +35,22 @@ keeps_promised {T} {P} {K} {B} {A} {E} role_of body_of Q hs joined done is all_m
     keeps_each (λ (h : PromisedHandle T P). role_of h.promise) body_of Q (vec_items hs) (vec_items done) (omega (arith, many, hs.ok, done.ok)) (λ i d low.
     let at = (each i d (omega (arith, low, hs.ok))).1 in
     (at.handle, at.handle_is, at.kept))
+
+all_pass : {X : Type 0} (p : X → Bool) (xs : List X) → ((i : ℕ) (d : X) → i < length xs → p (get_or xs i d) ≡ true) → list_all p xs ≡ true
+all_pass p [] each = refl
+all_pass p (x ∷ xs) each =
+    let first : p x ≡ true = each 0 x (omega arith) in
+    let rest = all_pass p xs (λ i d below. each (suc i) d (omega (arith, below))) in
+    rw first rest
+
+-- where each promises that what it gives back passes a test, all pass it
+pub all_promised : {T P B A E : Type 0} (body_of : T → B) (passes : B → Bool) (hs : Vec (PromisedHandle T P) A) (joined : Result (Vec T A) E) (done : Vec T A) → joined ≡ Ok done
+    → IfOk joined (λ all. vec_len all ≡ vec_len hs) → IfOk joined (λ all. KeepsEach (record { kept_by = λ p d. passes (body_of d) ≡ true }) (vec_len hs) (vec_items hs) (vec_items all))
+    → list_all passes (map body_of (vec_items done)) ≡ true
+all_promised {T} {P} {B} {A} {E} body_of passes hs joined done is all_many all_each =
+    let many : vec_len done ≡ vec_len hs = subst (λ (r : Result (Vec T A) E). IfOk r (λ (all : Vec T A). vec_len all ≡ vec_len hs)) is all_many in
+    let each = subst (λ (r : Result (Vec T A) E). IfOk r (λ (all : Vec T A). KeepsEach (record { kept_by = λ (p : P) (d : T). passes (body_of d) ≡ true }) (vec_len hs) (vec_items hs) (vec_items all))) is all_each in
+    list_all-map passes body_of (vec_items done) ∙ all_pass (λ (d : T). passes (body_of d)) (vec_items done) (λ i d low. (each i d (omega (arith, low, done.ok, many))).1.kept)
 
 -- each keeps also what follows of that, of its link's part and of what its body says
 pub keeps_less : {K J B D : Type 0} (part : K → J) (view : B → D) (P : K → B → Type 0) (Q : J → D → Type 0) (links : List K) (bodies : List B) → length bodies ≡ length links

@@ -4,9 +4,12 @@ pub mod Faults
 pub mod Headline
 pub mod Ends
 -- Words of the proofs.
-pub mod Kept
 pub mod Joined
 pub mod Actors
 pub mod Shares
 pub mod House
+pub mod Tallied
 pub mod Reported
+pub mod Settled
+pub mod Confirmed
+pub mod Told

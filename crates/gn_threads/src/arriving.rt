@@ -1,32 +1,35 @@
 //! A run whose links come one after another.
 
-ghost use Rattle.std.specs.Prelude.{◌≡◌, ◌+◌, ◌*◌, ◌≤◌, ◌↔◌, [], ℕ, None, length, map, reverse, take, vec_len, IfErr, IfOk, IfSome};
-ghost use Rattle.gn_threads.specs.Kept.{IsReaderDone, IsWriterDone};
+ghost use Rattle.std.specs.Prelude.{◌≡◌, ◌+◌, ◌*◌, ◌≤◌, ◌↔◌, [], true, length, map, reverse, take, vec_len, IfErr, IfOk, IfSome};
+ghost use Rattle.gn_bodies.specs.Done.{IsReaderDone, IsWriterDone, writer_ended};
 ghost use Rattle.gn_rules.specs.Answer.{IsLegal};
 ghost use Rattle.gn_rules.specs.Limits.{IsCrew, most_links, most_reads};
 ghost use Rattle.gn_threads.specs.declared.fault.RunFault.TheVariants.{BadWorkers, HistoryFull};
-ghost use Rattle.gn_threads.specs.Courses.{BeginsAnswer, BeginsRun, IsLeft};
+ghost use Rattle.gn_threads.specs.Courses.{AreStepsOf, AreTallies, IsLeft};
+ghost use Rattle.gn_report.specs.Accounts.{report_of};
 ghost use Rattle.gn_threads.specs.Faults.{IsArrivingFault};
+ghost use Rattle.gn_threads.specs.Reported.{reader_result};
+ghost use Rattle.gn_threads.specs.Settled.{AreSized};
 ghost use Rattle.gn_threads.specs.Headline.{AreMadeOf, AreOfOne, Holds, LinksReadOwn};
-ghost use Rattle.gn_threads.specs.Joined.{AreJoinedOf};
+ghost use Rattle.gn_threads.specs.Joined.{AreJoinedOf, is_router};
 
 use crate::arrivals::Arrivals;
-use crate::confirming::keep_history;
+use crate::bodies::{Bodies, Cut};
 use crate::course::{Course, InMemory};
-use crate::done::Done;
+use crate::ending::{Opened, run_to_end};
 use crate::fault::RunFault;
-use crate::finishing::finish;
+use crate::finishing::conclude;
+use crate::halted::Halted;
 use crate::limits::{Limited, Limits};
 use crate::opening::{Opening, open_run};
-use crate::starting::start_and_join;
+use crate::reporting::told_by;
 use crate::stopped::Stopped;
-use crate::unstarted::Unstarted;
 use gn_actors::{Named, Unopened};
-use gn_hub::{Batch, Hub, Service};
+use gn_hub::{Batch, Service};
 use gn_links::Gate;
-use gn_report::Report;
+use gn_report::{Account, Report};
 use gn_room::run_beside;
-use gn_rules::{Config, Historian, MOST_WORKERS, RouterCore, Step};
+use gn_rules::{Config, Historian, MOST_WORKERS, RouterCore};
 use gn_shake::Role;
 use gn_stage::{Site, Stage};
 use std::alloc::Allocator;
@@ -117,7 +120,7 @@ where
     let Ok(core) = C::make(alloc, config) else {
         return Err(Stopped::before(RunFault::NoMemory));
     };
-    let (answer, ()) = run_arriving_by::<C, InMemory, V, G, A, R>(
+    let (answer, core) = run_arriving_by::<C, InMemory, V, G, A, R>(
         rt,
         alloc,
         config,
@@ -129,11 +132,12 @@ where
         core,
         InMemory,
     );
-    answer
+    told_by(alloc, answer, core)
 }
 
-/// Does the same with a router of no steps, which may give its steps to somebody who runs beside it, and with writers that take at
-/// most `batch` packets at once. What is left of who ran beside it comes back; the history begins with the steps that it had.
+/// Does the same with a router of no steps, whose steps may go to somebody who runs beside it, and with writers that take at most
+/// `batch` packets at once. Nobody keeps its steps: the account tells its report. What is left of who ran beside it comes back,
+/// who had all of them.
 pub fn run_arriving_by<
     C: RouterCore<A> + Drop + Send,
     W: Course<C, A> + Send + Drop,
@@ -152,7 +156,7 @@ pub fn run_arriving_by<
     batch: Batch,
     core: C,
     course: W,
-) -> (Result<Report<V::Reader, V::Writer, A>, Stopped<A>>, W::Rest)
+) -> (Result<Account<V::Reader, V::Writer, A>, Halted<A>>, W::Rest)
 where
     V::Reader: Send,
     V::Writer: Send,
@@ -160,55 +164,39 @@ where
     requires few { length roles.now ≤ most_links }
     requires empty { C.steps core ≡ [] }
     ensures workers { IfOk result.0 (λ _. IsCrew workers) }
-    ensures bad_workers { IfErr result.0 (λ stopped. (stopped.fault ≡ BadWorkers) ↔ (¬ IsCrew workers)) }
-    ensures fault { IfErr result.0 (λ stopped. IsCrew workers
-        → IsArrivingFault V.has_peers (length roles.now) workers stopped.fault) }
-    ensures kept { IfErr result.0 (λ stopped. IfSome stopped.history (λ history.
+    ensures bad_workers { IfErr result.0 (λ halted. (halted.fault ≡ BadWorkers) ↔ (¬ IsCrew workers)) }
+    ensures fault { IfErr result.0 (λ halted. IsCrew workers
+        → IsArrivingFault V.has_peers (length roles.now) workers halted.fault) }
+    ensures kept { IfErr result.0 (λ halted. IfSome halted.history (λ history.
         IsLegal config.now (reverse history.items))) }
-    ensures full { IfErr result.0 (λ stopped. stopped.fault ≡ HistoryFull → IfSome stopped.history (λ history.
+    ensures full { IfErr result.0 (λ halted. halted.fault ≡ HistoryFull → IfSome halted.history (λ history.
         length history.items ≡ config.now.numbers.steps)) }
-    ensures holds { IfOk result.0 (λ report.
-        Holds batch V.Reader.state V.Writer.state config.now roles.now workers report) }
-    ensures bytes { IfOk result.0 (λ report. LinksReadOwn V.Reader.state
-        (map (λ link. V.Reader.gives (V.Reader.made_of link.reader)) report.links.items) report) }
-    ensures made { IfOk result.0 (λ report. AreMadeOf
+    ensures tallied { IfErr result.0 (λ halted. IfSome halted.history (λ history. IfSome halted.links (λ links.
+        AreTallies history.items (length roles.now) links.items))) }
+    ensures holds { IfOk result.0 (λ account.
+        Holds batch V.Reader.state V.Writer.state config.now roles.now workers (report_of account)) }
+    ensures bytes { IfOk result.0 (λ account. LinksReadOwn V.Reader.state
+        (map (λ link. V.Reader.gives (V.Reader.made_of link.reader)) account.links.items) (report_of account)) }
+    ensures made { IfOk result.0 (λ account. AreMadeOf
         (λ reader. V.foreknown (V.Reader.made_of reader)) (λ writer. V.foreknown (V.Writer.made_of writer))
-        (take (length roles.now) (V.coming arrivals)) report) }
-    ensures one { IfOk result.0 (λ report. AreOfOne V.Reader.made_of V.Writer.made_of report) }
-    ensures rest { IsLeft (W.follows course) W.leaves result.1 (BeginsRun result.0) }
+        (take (length roles.now) (V.coming arrivals)) (report_of account)) }
+    ensures one { IfOk result.0 (λ account. AreOfOne V.Reader.made_of V.Writer.made_of (report_of account)) }
+    ensures rest { IsLeft (W.follows course) W.leaves result.1 (AreStepsOf result.0) }
 {
     if workers == 0 || workers > MOST_WORKERS {
-        return (Err(Stopped::before(RunFault::BadWorkers)), course.give_up());
+        return (Err(Halted::before(RunFault::BadWorkers)), course.give_up());
     }
     let Ok(stage) = Stage::new(alloc, config.numbers.stage as usize) else {
-        return (Err(Stopped::before(RunFault::NoMemory)), course.give_up());
+        return (Err(Halted::before(RunFault::NoMemory)), course.give_up());
     };
     let parts = 2 * roles.len() as u64 + workers as u64 + 1;
     let unopened = Unopened::new(parts);
-    let mut history = None;
-    let (answer, rest) = run_arriving_in::<Brand, C, W, V, G, A, R>(
-        rt,
-        alloc,
-        unopened,
-        stage,
-        config,
-        roles,
-        arrivals,
-        workers,
-        gate,
-        batch,
-        core,
-        course,
-        &mut history,
-    );
-    match answer {
-        Ok(report) => (Ok(report), rest),
-        Err(fault) => (Err(Stopped { fault, history }), rest),
-    }
+    run_arriving_in::<Brand, C, W, V, G, A, R>(
+        rt, alloc, unopened, stage, config, roles, arrivals, workers, gate, batch, core, course,
+    )
 }
 
-/// A run with its ledger, its stage and its limits, which `B` names. Where it stops, what stands of the history is put
-/// into `history`.
+/// A run with its ledger, its stage and its limits, which `B` names.
 fn run_arriving_in<
     B: Site + Ledger + Limited + Named + Send + Sync,
     C: RouterCore<A> + Drop + Send,
@@ -230,13 +218,11 @@ fn run_arriving_in<
     batch: Batch,
     core: C,
     course: W,
-    history: &mut Option<Vec<Step<A>, A>>,
-) -> (Result<Report<V::Reader, V::Writer, A>, RunFault>, W::Rest)
+) -> (Result<Account<V::Reader, V::Writer, A>, Halted<A>>, W::Rest)
 where
     V::Reader: Send,
     V::Writer: Send,
     W::Followed: Send + Drop,
-    requires none { history.old ≡ None }
     requires names { (unopened.blank.name ≡ B.name) × (unopened.steps.name ≡ B.growing) × (stage ≡ B.stage) }
     requires parts { (unopened.blank.parts ≡ B.parts)
         × (unopened.blank.parts ≡ 2 * length roles.now + workers + 1) }
@@ -244,23 +230,26 @@ where
     requires batch { B.batch ≡ batch }
     requires few { (length roles.now ≤ most_links) × IsCrew workers }
     requires empty { C.steps core ≡ [] }
-    ensures fault { IfErr result.0 (λ fault. IsArrivingFault V.has_peers (length roles.now) workers fault) }
-    ensures holds { IfOk result.0 (λ report.
-        Holds B.batch V.Reader.state V.Writer.state config.now roles.now workers report) }
-    ensures bytes { IfOk result.0 (λ report. LinksReadOwn V.Reader.state
-        (map (λ link. V.Reader.gives (V.Reader.made_of link.reader)) report.links.items) report) }
-    ensures made { IfOk result.0 (λ report. AreMadeOf
+    ensures fault { IfErr result.0 (λ halted. IsArrivingFault V.has_peers (length roles.now) workers halted.fault) }
+    ensures kept { IfErr result.0 (λ halted. IfSome halted.history (λ history.
+        IsLegal config.now (reverse history.items))) }
+    ensures full { IfErr result.0 (λ halted. halted.fault ≡ HistoryFull → IfSome halted.history (λ history.
+        length history.items ≡ config.now.numbers.steps)) }
+    ensures tallied { IfErr result.0 (λ halted. IfSome halted.history (λ history. IfSome halted.links (λ links.
+        AreTallies history.items (length roles.now) links.items))) }
+    ensures holds { IfOk result.0 (λ account.
+        Holds B.batch V.Reader.state V.Writer.state config.now roles.now workers (report_of account)) }
+    ensures bytes { IfOk result.0 (λ account. LinksReadOwn V.Reader.state
+        (map (λ link. V.Reader.gives (V.Reader.made_of link.reader)) account.links.items) (report_of account)) }
+    ensures made { IfOk result.0 (λ account. AreMadeOf
         (λ reader. V.foreknown (V.Reader.made_of reader)) (λ writer. V.foreknown (V.Writer.made_of writer))
-        (take (length roles.now) (V.coming arrivals)) report) }
-    ensures one { IfOk result.0 (λ report. AreOfOne V.Reader.made_of V.Writer.made_of report) }
-    ensures kept { IfSome history.new (λ steps. IsLegal config.now (reverse steps.items)) }
-    ensures full { IfErr result.0 (λ fault. fault ≡ HistoryFull
-        → IfSome history.new (λ steps. length steps.items ≡ config.now.numbers.steps)) }
-    ensures rest { IsLeft (W.follows course) W.leaves result.1 (BeginsAnswer result.0 history.new) }
+        (take (length roles.now) (V.coming arrivals)) (report_of account)) }
+    ensures one { IfOk result.0 (λ account. AreOfOne V.Reader.made_of V.Writer.made_of (report_of account)) }
+    ensures rest { IsLeft (W.follows course) W.leaves result.1 (AreStepsOf result.0) }
 {
     let room = course.room();
     let Ok(opening) = open_run::<B, C, A>(alloc, unopened, stage, core, room, roles, workers) else {
-        return (Err(RunFault::NoMemory), course.give_up());
+        return (Err(Halted::before(RunFault::NoMemory)), course.give_up());
     };
     let Opening {
         service,
@@ -268,26 +257,17 @@ where
         house,
         desk,
     } = opening;
-    let limits = Limits::of(config, batch);
-    let (joined, ran) = run_bodies(
-        rt, alloc, &service, gate, &limits, arrivals, unstarted, course,
-    );
-    let (core, frame) = service.into_hub().into_parts();
-    let (router, rest) = W::end(ran, core);
-    let Some(router) = router else {
-        return (Err(RunFault::NoMemory), rest);
+    let opened = Opened {
+        unstarted,
+        house,
+        desk,
     };
-    let hub = Hub::of_parts(router, frame);
-    match joined {
-        Ok(done) => {
-            let answer = finish(rt, alloc, config, roles, hub, desk, done, house, history);
-            (answer, rest)
-        }
-        Err(fault) => {
-            keep_history(config, fault, hub, history);
-            (Err(fault), rest)
-        }
-    }
+    let limits = Limits::of(config, batch);
+    let (over, ran) = run_bodies(rt, alloc, &service, gate, &limits, arrivals, opened, course);
+    let mut hub = service.into_hub();
+    let answer = conclude(alloc, config, roles, &mut hub, workers, over);
+    let rest = W::end(ran, hub.into_router());
+    (answer, rest)
 }
 
 /// Runs all bodies to their ends, and who takes their steps beside them.
@@ -307,29 +287,33 @@ fn run_bodies<
     gate: &G,
     limits: &Limits<B>,
     arrivals: V,
-    unstarted: Unstarted<'r, B, A>,
+    opened: Opened<'r, B, A>,
     course: W,
 ) -> (
-    Result<Done<V::Reader, V::Writer, B, A>, RunFault>,
+    Result<Bodies<V::Reader, V::Writer, B, A>, Cut<V::Reader, V::Writer, B, A>>,
     W::Followed,
 )
 where
     V::Reader: Send,
     V::Writer: Send,
     W::Followed: Send + Drop,
-    ensures joined { IfOk result.0 (λ done. AreJoinedOf
+    ensures joined { IfOk result.0 (λ bodies. AreJoinedOf
         (IsReaderDone V.Reader.state V.Reader.made_of V.Reader.gives B.turns)
         (IsWriterDone V.Writer.state V.Writer.made_of B.batch)
-        V.Reader.made_of V.Writer.made_of V.foreknown unstarted.entry.roles.now (V.coming arrivals)
-        (vec_len unstarted.entry.outlets) done) }
-    ensures fault { IfErr result.0 (λ fault. (workers : ℕ)
-        → IsArrivingFault V.has_peers (length unstarted.entry.roles.now) workers fault) }
+        V.Reader.made_of V.Writer.made_of V.foreknown opened.entry.unstarted.roles.now (V.coming arrivals)
+        (vec_len opened.entry.unstarted.outlets)
+        (map reader_result bodies.readers.items) (map writer_ended bodies.writers.items) bodies.workers.items) }
+    ensures house { IfOk result.0 (λ bodies. is_router bodies.house ≡ true) }
+    ensures cut { IfErr result.0 (λ cut. IfSome cut.bodies (λ bodies.
+        AreSized (length opened.entry.unstarted.roles.now) (vec_len opened.entry.unstarted.outlets) bodies)) }
+    ensures fault { IfErr result.0 (λ cut. IsArrivingFault V.has_peers (length opened.entry.unstarted.roles.now)
+        (vec_len opened.entry.unstarted.outlets) cut.fault) }
     ensures follows { W.follows course result.1 }
 {
-    let bodies = move || start_and_join(rt, alloc, service, gate, limits, arrivals, unstarted);
+    let bodies = move || run_to_end(rt, alloc, service, gate, limits, arrivals, opened);
     if W::IS_BESIDE {
         return run_beside(rt, service.room(), course, bodies);
     }
-    let done = bodies();
-    (done, course.follow(rt, service.room()))
+    let over = bodies();
+    (over, course.follow(rt, service.room()))
 }

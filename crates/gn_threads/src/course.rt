@@ -1,6 +1,6 @@
 //! What becomes of the steps of a run while it goes on.
 
-ghost use Rattle.std.specs.Prelude.{◌≡◌, [], List, IfSome};
+ghost use Rattle.std.specs.Prelude.{◌≡◌, [], List};
 ghost use Rattle.gn_rules.specs.declared.receipt.Step.{Step};
 
 use gn_room::{Following, Room};
@@ -13,9 +13,6 @@ pub trait Course<C: RouterCore<A>, A: Allocator + Copy>: Following {
     /// Whether somebody takes the steps, in a thread of its own.
     const IS_BESIDE: bool;
 
-    /// The router that has the history of the run.
-    type Router: Historian<A> + Drop;
-
     /// What is left.
     type Rest;
 
@@ -25,18 +22,16 @@ pub trait Course<C: RouterCore<A>, A: Allocator + Copy>: Following {
     /// The room for the steps of the run.
     fn room(&self) -> Room;
 
-    /// The router with the history of the run, and what is left. No router is out of memory.
-    fn end(ran: Self::Followed, core: C) -> (Option<Self::Router>, Self::Rest)
-        ensures settings { IfSome result.0 (λ router. Self.Router.settings router ≡ C.settings core) }
-        ensures steps { IfSome result.0 (λ router. Self.Router.steps router ≡ C.steps core) }
-        ensures leaves { leaves ran (C.steps core) result.1 };
+    /// What is left, with the router of the run.
+    fn end(ran: Self::Followed, core: C) -> Self::Rest
+        ensures { leaves ran (C.steps core) result };
 
     /// What is left where no run began.
     fn give_up(self) -> Self::Rest
         ensures { (ran : Self.Followed) × Self.follows self ran × leaves ran [] result };
 }
 
-/// The router keeps the steps.
+/// The router keeps the steps. It is what is left, where a run began.
 #[derive(Clone, Copy, Debug)]
 pub struct InMemory;
 
@@ -51,23 +46,24 @@ impl Following for InMemory {
 }
 
 impl<C: Historian<A> + Drop, A: Allocator + Copy> Course<C, A> for InMemory {
-    ghost use Rattle.std.specs.Prelude.{⊤};
+    ghost use Rattle.std.specs.Prelude.{◌≡◌};
+    ghost use Rattle.gn_threads.specs.Courses.{steps_left};
 
     const IS_BESIDE: bool = false;
 
-    type Router = C;
+    type Rest = Option<C>;
 
-    type Rest = ();
-
-    ghost leaves = { λ _ _ _. ⊤ };
+    ghost leaves = { λ _ steps rest. steps ≡ steps_left C.steps rest };
 
     fn room(&self) -> Room {
         Room::endless()
     }
 
-    fn end(_ran: (), core: C) -> (Option<C>, ()) {
-        (Some(core), ())
+    fn end(_ran: (), core: C) -> Option<C> {
+        Some(core)
     }
 
-    fn give_up(self) {}
+    fn give_up(self) -> Option<C> {
+        None
+    }
 }

@@ -22,8 +22,8 @@ pub enum RunFault {
     NoMemory,
     /// The house couldn't close the queue of tickets at the end: a thread hadn't given it up, or out of memory.
     Stage(StageFault),
-    /// The check at the end failed at this actor: the lowest whose receipts or end don't fit the history, or who was
-    /// refused a Route; or the house, if the router has another configuration than the run was given.
+    /// A look at the end failed at this actor: it was refused a Route, or reads a link whose ends don't fit the run; or it
+    /// is the house, and something is in flight, or the router's configuration isn't the run's.
     Audit(u32),
 }
 

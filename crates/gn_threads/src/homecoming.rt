@@ -1,16 +1,16 @@
-//! All actors of a run come home: the receipts of each are its own steps, so they are made of the history.
+//! All actors of a run come home: the receipts of each are its own steps.
 
 ghost use Rattle.gn_actors.specs.Home.{AreNumbered, AreWhole};
-ghost use Rattle.gn_receipts.specs.Made.{AreMade, receipt_list};
 ghost use Rattle.gn_threads.specs.Faults.{IsFaultOf};
-ghost use Rattle.gn_threads.specs.Reported.{receipts_in};
-ghost use Rattle.std.specs.Prelude.{◌≡◌, ◌+◌, ◌++◌, ◌∷◌, ◌<◌, ◌^◌, [], ℕ, None, length, map, vec_len, IfErr, IfOk, IfSome, OnOk};
+ghost use Rattle.gn_threads.specs.Reported.{came_list, is_short, receipts_in};
+ghost use Rattle.std.specs.List.{list_all};
+ghost use Rattle.std.specs.Prelude.{◌≡◌, ◌+◌, ◌++◌, ◌∷◌, ◌<◌, ◌^◌, [], ℕ, None, length, map, true, vec_len, IfErr, IfOk, IfSome};
 
+use crate::came::Came;
 use crate::fault::RunFault;
 use gn_actors::{Home, Named};
 use gn_hub::{Actor, Hub};
-use gn_receipts::receipts_by_actor;
-use gn_rules::{Historian, Receipt, RouterCore};
+use gn_rules::RouterCore;
 use std::alloc::{AllocError, Allocator, Global};
 use std::sync::ledger::Ledger;
 
@@ -30,74 +30,101 @@ fn misplaced<L: Ledger + Named, A: Allocator>(actors: &[Actor<L, A>]) -> Option<
     None
 }
 
-/// All actors of a run come home.
+/// The first actor comes home.
+fn first_home<L: Ledger + Named, A: Allocator>(me: Actor<L, A>) -> (Home<L, A>, Came<A>)
+    ensures home { result.0 ≡ me ∷ [] }
+    ensures came { came_list result.1 ≡ receipts_in me }
+{
+    let tally = me.tally();
+    let last = me.last();
+    let (home, receipts) = Home::of(me);
+    let came = Came {
+        receipts,
+        tally,
+        last,
+    };
+    (home, came)
+}
+
+/// An actor comes home.
+fn welcome<L: Ledger + Named, C: RouterCore<A>, A: Allocator + Copy>(
+    hub: &mut Hub<C, L, A>,
+    home: &mut Home<L, A>,
+    me: Actor<L, A>,
+) -> Came<A>
+    ensures same { hub.new ≡ hub.old }
+    ensures home { home.new ≡ home.old ++ me ∷ [] }
+    ensures came { came_list result ≡ receipts_in me }
+{
+    let tally = me.tally();
+    let last = me.last();
+    let receipts = hub.welcome(home, me);
+    Came {
+        receipts,
+        tally,
+        last,
+    }
+}
+
+/// All actors of a run come home. An `Err` is out of memory.
 fn bring_home<L: Ledger + Named, C: RouterCore<A>, A: Allocator + Copy>(
+    alloc: A,
     hub: &mut Hub<C, L, A>,
     actors: Vec<Actor<L, A>, A>,
-)
+) -> Result<Vec<Came<A>, A>, AllocError>
     requires all { (vec_len actors ≡ L.parts) × (0 < vec_len actors) }
     requires numbered { AreNumbered actors.items }
     ensures same { hub.new ≡ hub.old }
-    ensures whole { AreWhole hub.new.steps actors.items }
+    ensures whole { IfOk result (λ _. AreWhole hub.new.steps actors.items) }
+    ensures came { IfOk result (λ all. map came_list all.items ≡ map receipts_in actors.items) }
 {
+    let mut all = Vec::with_capacity(alloc, actors.len())?;
     let mut rest = actors.into_iter();
     let Some(first) = rest.next() else {
         unreachable!()
     };
-    let (mut home, _) = Home::of(first);
+    let (mut home, came) = first_home(first);
+    all.push_reserved(came);
     for actor in rest {
-        drop(hub.welcome(&mut home, actor));
+        all.push_reserved(welcome(hub, &mut home, actor));
     }
     hub.all_home(home);
+    Ok(all)
 }
 
-/// The receipts of so many actors, made of the history of a run. An `Err` is out of memory.
-fn receipts_made<L: Ledger + Named, C: Historian<A>, A: Allocator + Copy>(
-    alloc: A,
-    hub: &Hub<C, L, A>,
-    actors: u32,
-) -> Result<Vec<Vec<Receipt<A>, A>, A>, AllocError>
-    ensures { IfOk result (λ all. AreMade actors hub.now.steps (map receipt_list all.items)) }
-{
-    let router = hub.router();
-    let count = router.step_count();
-    let steps = router.history();
-    prove!(steps.len() == count as usize);
-    receipts_by_actor(alloc, steps, actors)
-}
-
-/// The receipts of all actors of a run, who come home. The fault names a place where an actor hasn't the place's number.
-pub(crate) fn come_home<L: Ledger + Named, C: Historian<A>, A: Allocator + Copy>(
+/// All actors of a run, who come home. The fault names a place where an actor hasn't the place's number.
+pub(crate) fn come_home<L: Ledger + Named, C: RouterCore<A>, A: Allocator + Copy>(
     alloc: A,
     hub: &mut Hub<C, L, A>,
     actors: Vec<Actor<L, A>, A>,
-) -> Result<Vec<Vec<Receipt<A>, A>, A>, RunFault>
+) -> Result<Vec<Came<A>, A>, RunFault>
     requires { (vec_len actors ≡ L.parts) × (0 < vec_len actors) × (vec_len actors < 2 ^ 32) }
     ensures fault { IfErr result (λ fault. (links workers : ℕ)
         → vec_len actors ≡ links + links + workers + 1 → IsFaultOf links workers fault) }
     ensures same { hub.new ≡ hub.old }
-    ensures receipts { IfOk result (λ all. map receipt_list all.items ≡ map receipts_in actors.items) }
+    ensures whole { IfOk result (λ _. AreWhole hub.new.steps actors.items) }
+    ensures came { IfOk result (λ all. map came_list all.items ≡ map receipts_in actors.items) }
+    ensures few { IfOk result (λ all. list_all is_short all.items ≡ true) }
 {
-    let count = actors.len() as u32;
     if let Some(place) = misplaced(actors.as_slice()) {
         return Err(RunFault::Audit(place));
     }
-    bring_home(hub, actors);
-    Ok(receipts_made(alloc, hub, count)?)
+    let _count = hub.router().step_count();
+    Ok(bring_home(alloc, hub, actors)?)
 }
 
-/// The receipts of all actors, by what the actors are.
+/// All actors who are home, by what they are.
 #[derive(Drop)]
 pub(crate) struct Dealt<A: Allocator = Global> {
-    pub readers: Vec<Vec<Receipt<A>, A>, A>,
-    pub writers: Vec<Vec<Receipt<A>, A>, A>,
-    pub workers: Vec<Vec<Receipt<A>, A>, A>,
-    pub house: Vec<Receipt<A>, A>,
+    pub readers: Vec<Came<A>, A>,
+    pub writers: Vec<Came<A>, A>,
+    pub workers: Vec<Came<A>, A>,
+    pub house: Came<A>,
 }
 
-/// Deals out the receipts of all actors of a run with so many links. An `Err` is out of memory.
+/// Deals out all actors of a run with so many links, who are home. An `Err` is out of memory.
 pub(crate) fn deal<A: Allocator + Copy>(
-    all: Vec<Vec<Receipt<A>, A>, A>,
+    all: Vec<Came<A>, A>,
     links: usize,
 ) -> Result<Dealt<A>, AllocError>
     requires { links + links < vec_len all }

@@ -4,9 +4,8 @@ ghost use Rattle.std.specs.Prelude.{◌≡◌, [], ℕ, map, vec_len, if◌then�
 ghost use Rattle.std.specs.PromisedHandle.{KeepsEach};
 ghost use Rattle.gn_threads.specs.declared.fault.RunFault.TheVariants.{HistoryFull, NoMemory};
 ghost use Rattle.gn_threads.specs.Faults.{IsFaultOf};
-ghost use Rattle.gn_bodies.specs.Done.{half_of};
-ghost use Rattle.gn_threads.specs.Kept.{IsReaderDone, IsWriterDone};
-ghost use Rattle.gn_threads.specs.Joined.{AreJoined};
+ghost use Rattle.gn_bodies.specs.Done.{half_of, IsReaderDone, IsWriterDone, reader_ended, writer_ended};
+ghost use Rattle.gn_threads.specs.Joined.{AreJoined, worker_state};
 
 use crate::done::Done;
 use crate::ended::{Body, any_ended_with};
@@ -128,14 +127,15 @@ impl<
         fault_of(readers.found_full | writers.found_full | workers.found_full)
     }
 
-    /// Joins all threads. Where a body was stopped, or there is no memory for what they give back, the fault is a full history
-    /// that one of them found, or else memory.
+    /// Joins all threads. The fault is that there is no memory for what they give back, or a full history that one of them found.
     pub(crate) fn join<R: Threads>(self, rt: &R) -> Result<Done<Rd, W, B, A>, RunFault>
         ensures joined { IfOk result (λ done. AreJoined
             (IsReaderDone Rd.state Rd.made_of Rd.gives B.turns) (IsWriterDone W.state W.made_of B.batch)
             (map (λ h. half_of h.promise.start.value.role h.promise.start.value.reader) self.readers.items)
             (map (λ h. half_of h.promise.start.value.role h.promise.start.value.writer) self.writers.items)
-            (vec_len self.workers) done) }
+            (vec_len self.workers)
+            (map reader_ended done.readers.items) (map writer_ended done.writers.items)
+            (map worker_state done.workers.items)) }
         ensures fault { IfErr result (λ fault. (links workers : ℕ) → IsFaultOf links workers fault) }
     {
         let Handles {
@@ -150,14 +150,10 @@ impl<
         let (Ok(readers), Ok(writers), Ok(workers)) = (readers, writers, workers) else {
             return Err(fault_of(is_full));
         };
-        let done = Done {
+        Ok(Done {
             readers,
             writers,
             workers,
-        };
-        match done.stop() {
-            Some(fault) => Err(fault),
-            None => Ok(done),
-        }
+        })
     }
 }

@@ -45,6 +45,7 @@ pub(crate) fn open_run<'r, B: Site + Ledger + Named, C: RouterCore<A> + Drop, A:
     requires empty { C.steps core ≡ [] }
     ensures roles { IfOk result (λ opening. opening.unstarted.roles.now ≡ roles.now) }
     ensures workers { IfOk result (λ opening. vec_len opening.unstarted.outlets ≡ workers) }
+    ensures house { IfOk result (λ opening. opening.house.receipts ≡ []) }
 {
     let Ok((service, actors)) = Service::<C, B, A>::over_router(
         alloc, unopened, core, room, roles, workers,

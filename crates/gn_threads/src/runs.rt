@@ -4,7 +4,8 @@ ghost use Rattle.std.specs.Prelude.{◌≡◌, ◌≤◌, ◌↔◌, [], length,
 ghost use Rattle.gn_rules.specs.Answer.{IsLegal};
 ghost use Rattle.gn_rules.specs.Limits.{IsCrew, most_links};
 ghost use Rattle.gn_threads.specs.declared.fault.RunFault.TheVariants.{BadWorkers, HistoryFull};
-ghost use Rattle.gn_threads.specs.Courses.{BeginsRun, IsLeft};
+ghost use Rattle.gn_threads.specs.Courses.{AreStepsOf, AreTallies, IsLeft};
+ghost use Rattle.gn_report.specs.Accounts.{report_of};
 ghost use Rattle.gn_threads.specs.Faults.{IsWholeFault};
 ghost use Rattle.gn_threads.specs.Headline.{AreMadeOf, Holds, LinksReadOwn, RunsAddUp};
 
@@ -12,10 +13,11 @@ use crate::arrivals::Arrived;
 use crate::arriving::run_arriving_by;
 use crate::course::{Course, InMemory};
 use crate::fault::RunFault;
-use crate::stopped::Stopped;
+use crate::halted::Halted;
+use crate::reporting::told_by;
 use gn_hub::Batch;
 use gn_links::{Gate, Link, SplitLinks, split_all};
-use gn_report::Report;
+use gn_report::{Account, Report};
 use gn_rules::{Config, Historian, MOST_WORKERS, RouterCore};
 use std::alloc::Allocator;
 use std::sync::Wait;
@@ -61,7 +63,7 @@ where
     let Ok(core) = C::make(alloc, config) else {
         return Err(RunFault::NoMemory);
     };
-    let (answer, ()) = run_by::<C, InMemory, K, G, A, R>(
+    let (answer, core) = run_by::<C, InMemory, K, G, A, R>(
         rt,
         alloc,
         config,
@@ -72,16 +74,16 @@ where
         core,
         InMemory,
     );
-    match answer {
+    match told_by(alloc, answer, core) {
         Ok(report) => Ok(report),
         Err(stopped) => Err(stopped.fault),
     }
 }
 
-/// Does the same with a router of no steps, which may give its steps to somebody who runs beside it, and with writers that take at
-/// most `batch` packets at once. What is left of who ran beside it comes back; the history begins with the steps that it had. A fault
-/// comes with what stands of the history, which is legal by the configuration of the call, and has as many steps as it may have where
-/// the fault is a full history.
+/// Does the same with a router of no steps, whose steps may go to somebody who runs beside it, and with writers that take at most
+/// `batch` packets at once. Nobody keeps its steps: the account tells its report. What is left of who ran beside it comes back,
+/// who had all of them. A fault comes with what stands of the history, which is legal by the configuration of the call, and has as
+/// many steps as it may have where the fault is a full history.
 pub fn run_by<
     C: RouterCore<A> + Drop + Send,
     W: Course<C, A> + Send + Drop,
@@ -99,7 +101,7 @@ pub fn run_by<
     batch: Batch,
     core: C,
     course: W,
-) -> (Result<Report<K::Reader, K::Writer, A>, Stopped<A>>, W::Rest)
+) -> (Result<Account<K::Reader, K::Writer, A>, Halted<A>>, W::Rest)
 where
     K::Reader: Send,
     K::Writer: Send,
@@ -107,31 +109,30 @@ where
     requires few { length links.items ≤ most_links }
     requires empty { C.steps core ≡ [] }
     ensures workers { IfOk result.0 (λ _. IsCrew workers) }
-    ensures bad_workers { IfErr result.0 (λ stopped. (stopped.fault ≡ BadWorkers) ↔ (¬ IsCrew workers)) }
-    ensures fault { IfErr result.0 (λ stopped. IsCrew workers
-        → IsWholeFault (map K.may_not_split links.items) workers stopped.fault) }
-    ensures kept { IfErr result.0 (λ stopped. IfSome stopped.history (λ history.
+    ensures bad_workers { IfErr result.0 (λ halted. (halted.fault ≡ BadWorkers) ↔ (¬ IsCrew workers)) }
+    ensures fault { IfErr result.0 (λ halted. IsCrew workers
+        → IsWholeFault (map K.may_not_split links.items) workers halted.fault) }
+    ensures kept { IfErr result.0 (λ halted. IfSome halted.history (λ history.
         IsLegal config.now (reverse history.items))) }
-    ensures full { IfErr result.0 (λ stopped. stopped.fault ≡ HistoryFull → IfSome stopped.history (λ history.
+    ensures full { IfErr result.0 (λ halted. halted.fault ≡ HistoryFull → IfSome halted.history (λ history.
         length history.items ≡ config.now.numbers.steps)) }
-    ensures holds { IfOk result.0 (λ report. Holds batch K.Reader.state K.Writer.state config.now
-        (map K.role_of links.items) workers report) }
-    ensures bytes { IfOk result.0 (λ report. LinksReadOwn K.Reader.state
-        (map (λ link. K.Reader.gives (K.origin_of link)) links.items) report) }
-    ensures made { IfOk result.0 (λ report. AreMadeOf K.Reader.made_of K.Writer.made_of
-        (map K.origin_of links.items) report) }
-    ensures rest { IsLeft (W.follows course) W.leaves result.1 (BeginsRun result.0) }
+    ensures tallied { IfErr result.0 (λ halted. IfSome halted.history (λ history. IfSome halted.links (λ tallies.
+        AreTallies history.items (length links.items) tallies.items))) }
+    ensures holds { IfOk result.0 (λ account. Holds batch K.Reader.state K.Writer.state config.now
+        (map K.role_of links.items) workers (report_of account)) }
+    ensures bytes { IfOk result.0 (λ account. LinksReadOwn K.Reader.state
+        (map (λ link. K.Reader.gives (K.origin_of link)) links.items) (report_of account)) }
+    ensures made { IfOk result.0 (λ account. AreMadeOf K.Reader.made_of K.Writer.made_of
+        (map K.origin_of links.items) (report_of account)) }
+    ensures rest { IsLeft (W.follows course) W.leaves result.1 (AreStepsOf result.0) }
 {
     if workers == 0 || workers > MOST_WORKERS {
-        return (Err(Stopped::before(RunFault::BadWorkers)), course.give_up());
+        return (Err(Halted::before(RunFault::BadWorkers)), course.give_up());
     }
     let split = match split_all(alloc, links) {
         Ok(split) => split,
         Err(fault) => {
-            return (
-                Err(Stopped::before(RunFault::from(fault))),
-                course.give_up(),
-            );
+            return (Err(Halted::before(RunFault::from(fault))), course.give_up());
         }
     };
     let SplitLinks { roles, links } = split;

@@ -3,9 +3,8 @@
 ghost use Rattle.gn_rules.specs.Limits.{most_workers};
 ghost use Rattle.std.specs.Prelude.{◌≡◌, ◌+◌, ◌++◌, ◌∷◌, ◌≤◌, [], true, map, vec_len};
 ghost use Rattle.gn_links.specs.Halves.{IsNewReader, IsNewWriter};
-ghost use Rattle.gn_bodies.specs.Done.{half_of};
-ghost use Rattle.gn_threads.specs.Kept.{IsReaderDone, IsWriterDone, reader_ended, writer_ended};
-ghost use Rattle.gn_bodies.specs.Events.{link_events};
+ghost use Rattle.gn_bodies.specs.Done.{half_of, IsReaderDone, IsWriterDone, reader_ended, writer_ended};
+ghost use Rattle.gn_threads.specs.Joined.{is_router, worker_state};
 
 use crate::actors::UnstartedActors;
 use crate::limits::{Limited, Limits};
@@ -63,8 +62,7 @@ pub(crate) struct Reads<Rd: LinkReader, B: Site + Ledger + Named, A: Allocator =
 
 impl<Rd: LinkReader, B: Site + Ledger + Limited + Named, A: Allocator> Promise<ReaderDone<Rd, B, A>>
     for Reads<Rd, B, A> {
-    ghost use Rattle.gn_bodies.specs.Done.{half_of};
-    ghost use Rattle.gn_threads.specs.Kept.{IsReaderDone, reader_ended};
+    ghost use Rattle.gn_bodies.specs.Done.{IsReaderDone, half_of, reader_ended};
 
     ghost kept_by = { λ p r. IsReaderDone Rd.state Rd.made_of Rd.gives B.turns
         (half_of p.start.value.role p.start.value.reader) (reader_ended r) };
@@ -78,8 +76,7 @@ pub(crate) struct Writes<W: LinkWriter, B: Ledger + Named, A: Allocator = Global
 
 impl<W: LinkWriter, B: Ledger + Limited + Named, A: Allocator> Promise<WriterDone<W, B, A>>
     for Writes<W, B, A> {
-    ghost use Rattle.gn_bodies.specs.Done.{half_of};
-    ghost use Rattle.gn_threads.specs.Kept.{IsWriterDone, writer_ended};
+    ghost use Rattle.gn_bodies.specs.Done.{IsWriterDone, half_of, writer_ended};
 
     ghost kept_by = { λ p r. IsWriterDone W.state W.made_of B.batch
         (half_of p.start.value.role p.start.value.writer) (writer_ended r) };
@@ -90,10 +87,10 @@ impl<W: LinkWriter, B: Ledger + Limited + Named, A: Allocator> Promise<WriterDon
 pub(crate) struct Works;
 
 impl<B: Site + Ledger + Named, A: Allocator> Promise<WorkerDone<B, A>> for Works {
-    ghost use Rattle.std.specs.Prelude.{◌≡◌, []};
-    ghost use Rattle.gn_bodies.specs.Events.{link_events};
+    ghost use Rattle.std.specs.Prelude.{◌≡◌, true};
+    ghost use Rattle.gn_threads.specs.Joined.{is_router, worker_state};
 
-    ghost kept_by = { λ p r. link_events r.actor ≡ [] };
+    ghost kept_by = { λ p r. is_router (worker_state r) ≡ true };
 }
 
 /// The thread of a reader, with what its body promises.
@@ -106,7 +103,6 @@ pub(crate) type WriterHandle<W, L, A> = PromisedHandle<WriterDone<W, L, A>, Writ
 pub(crate) type WorkerHandle<B, A> = PromisedHandle<WorkerDone<B, A>, Works>;
 
 /// The body of a reader, from its start.
-#[tactic(auto, using(crate::proofs::BodyLemmas::reader_kept))]
 fn run_reader<
     Rd: LinkReader,
     B: Site + Ledger + Limited + Named,
@@ -148,7 +144,6 @@ fn run_reader<
 }
 
 /// The body of a writer, from its start.
-#[tactic(auto, using(crate::proofs::BodyLemmas::writer_kept))]
 fn run_writer<
     W: LinkWriter,
     B: Ledger + Limited + Named,
@@ -200,7 +195,7 @@ fn run_worker<
     limits: &Limits<B>,
     start: WorkerStart<B, A>,
 ) -> WorkerDone<B, A>
-    ensures { link_events result.actor ≡ [] }
+    ensures { is_router (worker_state result) ≡ true }
 {
     let WorkerStart {
         actor,

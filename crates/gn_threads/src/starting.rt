@@ -3,8 +3,8 @@
 ghost use Rattle.std.specs.Prelude.{◌≡◌, ◌<◌, ◌++◌, ◌∷◌, [], ℕ, Bool, true, length, map, vec_len, IfErr, IfOk, OnOk};
 ghost use Rattle.gn_links.specs.Halves.{IsNewReader, IsNewWriter};
 ghost use Rattle.gn_threads.specs.Faults.{IsArrivingFault};
-ghost use Rattle.gn_threads.specs.Joined.{AreJoinedOf};
-ghost use Rattle.gn_threads.specs.Kept.{IsReaderDone, IsWriterDone};
+ghost use Rattle.gn_threads.specs.Joined.{AreJoinedOf, worker_state};
+ghost use Rattle.gn_bodies.specs.Done.{IsReaderDone, IsWriterDone, reader_ended, writer_ended};
 
 use crate::arrivals::Arrivals;
 use crate::done::Done;
@@ -214,7 +214,9 @@ impl<
             (IsReaderDone V.Reader.state V.Reader.made_of V.Reader.gives B.turns)
             (IsWriterDone V.Writer.state V.Writer.made_of B.batch)
             V.Reader.made_of V.Writer.made_of V.foreknown unstarted.entry.roles.now (V.coming arrivals)
-            (vec_len unstarted.entry.outlets) done) }
+            (vec_len unstarted.entry.outlets)
+            (map reader_ended done.readers.items) (map writer_ended done.writers.items)
+            (map worker_state done.workers.items)) }
         ensures fault { IfErr result (λ fault. (workers : ℕ)
             → IsArrivingFault V.has_peers (length unstarted.entry.roles.now) workers fault) }
     {
@@ -266,7 +268,9 @@ where
         (IsReaderDone V.Reader.state V.Reader.made_of V.Reader.gives B.turns)
         (IsWriterDone V.Writer.state V.Writer.made_of B.batch)
         V.Reader.made_of V.Writer.made_of V.foreknown unstarted.entry.roles.now (V.coming arrivals)
-        (vec_len unstarted.entry.outlets) done) }
+        (vec_len unstarted.entry.outlets)
+        (map reader_ended done.readers.items) (map writer_ended done.writers.items)
+        (map worker_state done.workers.items)) }
     ensures fault { IfErr result (λ fault. (workers : ℕ)
         → IsArrivingFault V.has_peers (length unstarted.entry.roles.now) workers fault) }
 {

@@ -133,6 +133,7 @@ pub(crate) fn unstarted_of<'r, B: Site + Ledger + Named, A: Allocator + Copy>(
     requires actors { AreNew (2 * vec_len intakes + vec_len outlets + 1) actors.items }
     ensures roles { IfOk result (λ made. made.0.roles.now ≡ roles.now) }
     ensures workers { IfOk result (λ made. vec_len made.0.outlets ≡ vec_len outlets) }
+    ensures house { IfOk result (λ made. made.1.receipts ≡ []) }
 {
     let many = intakes.len() as u32;
     let mut readers = actors;

@@ -1,6 +1,7 @@
 -- The definitions of runs of many threads and of their reports.
 
 pub use Rattle.gn_receipts.specs.Made
+pub use Rattle.gn_report.specs.Accounts
 pub use Rattle.gn_report.specs.Actors
 pub use Rattle.gn_report.specs.BodyEnds
 pub use Rattle.gn_report.specs.Flaw

@@ -120,13 +120,13 @@ pub mod bodies {
     };
 }
 
-/// Runs of many threads, and their reports.
+/// Runs of many threads, and their reports and accounts.
 pub mod run {
     pub use gn_receipts::receipts_by_actor;
-    pub use gn_report::{LinkReport, Report};
+    pub use gn_report::{Account, LinkAccount, LinkReport, LinkTally, Report, Unkept};
     pub use gn_service::{Ran, Serving, Stop, serve_by, serve_kept, serve_on};
     pub use gn_threads::{
-        Arrivals, Course, InMemory, RunFault, Stopped, run, run_arriving, run_arriving_by,
+        Arrivals, Course, Halted, InMemory, RunFault, Stopped, run, run_arriving, run_arriving_by,
         run_arriving_kept, run_by,
     };
 }
@@ -164,8 +164,9 @@ pub mod show {
 pub mod load {
     pub use gn_links::Watch;
     pub use gn_load::{
-        LoadFault, PrintFault, ServeFault, ServeStopped, links_of, load, load_journalled,
-        load_watched, print_history, serve_history, serve_history_kept, serve_journalled,
+        LoadFault, PrintFault, ServeFault, ServeHalted, ServeStopped, links_of, load,
+        load_journalled, load_watched, print_history, serve_history, serve_history_kept,
+        serve_journalled,
     };
 }
 

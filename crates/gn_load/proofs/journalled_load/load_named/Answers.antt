@@ -1,29 +1,16 @@
 use Rattle.std.proofs.Common.{◌∙◌, Err, Ok, ap, length, subst, sym}
 use Rattle.rtrb.specs.Ring.{received}
-use Rattle.gn_scribe.specs.Written.{HasFinished}
-use Rattle.gn_text.specs.Header.{header_text}
-use Rattle.gn_text.specs.declared.title.Text.TheVariants.{History}
+use Rattle.gn_report.specs.Accounts.{report_of}
 use Rattle.gn_threads.proofs.CourseLemmas.{err_of, ok_of}
 use Rattle.gn_load.specs.JournalledLoads.{IsJournalledLoad, of_print}
-use Rattle.gn_load.proofs.JournalLemmas.{counted_kept, journalled_from}
-use Rattle.gn_load.proofs.JournalledLoadLemmas.{StoppedLoad, all_loaded, begun_err, begun_ok, cut_load, handed_load, stopped_as, unbegun_load}
+use Rattle.gn_load.proofs.JournalLemmas.{journalled_from}
+use Rattle.gn_load.proofs.JournalledLoadLemmas.{StoppedLoad, all_loaded, cut_load, handed_load, steps_err, steps_ok, stopped_as, unbegun_load}
 use Rattle.gn_load.proofs.LoadLemmas.{halves_made, none_split}
 use Rattle.gn_load.proofs.journalled_load.load_named.Goals as goal
 
 pub returns-in_err-router : goal.returns-in_err-router
 returns-in_err-router g c =
     unbegun_load c.args.batch c.args.config.now c.args.links.items c.args.workers (g.W.Sink.state c.args.sink.now) c.from_residual.result c.from_residual.ensures.1
-
-pub write_stopped-requires : goal.write_stopped-requires
-write_stopped-requires g c =
-    let rest = c.run_by-answer.ensures.rest in
-    let old = g.W.Sink.state c.args.sink.now in
-    let mid = g.W.Sink.state c.run_by-answer.result.1.sink.now in
-    let has = journalled_from c.args.config.now c.new.result rest.ran.scribe old (g.W.Sink.state rest.ran.sink.now) mid rest.steps rest.ran.written c.run_by-answer.result.1.waiting
-    (c.new.ensures.block ∙ c.requires.heading) (ap received c.new.ensures.steps ∙ c.requires.ring.2) rest.became.1 rest.left.0.1 in
-    let answer = c.run_by-answer.result.0 in
-    counted_kept (header_text History c.args.config.now) rest.steps c.in-Err.stopped.history old mid c.run_by-answer.result.1.waiting
-    (begun_err answer c.in-Err.stopped rest.steps c.in-Err.is rest.held) has
 
 pub returns-in-Err : goal.returns-in-Err
 returns-in-Err g c =
@@ -33,20 +20,19 @@ returns-in-Err g c =
     let has = journalled_from c.args.config.now c.new.result rest.ran.scribe old (g.W.Sink.state rest.ran.sink.now) mid rest.steps rest.ran.written c.run_by-answer.result.1.waiting
     (c.new.ensures.block ∙ c.requires.heading) (ap received c.new.ensures.steps ∙ c.requires.ring.2) rest.became.1 rest.left.0.1 in
     let answer = c.run_by-answer.result.0 in
-    let stopped = c.in-Err.stopped in
+    let halted = c.in-Err.halted in
     let new = g.W.Sink.state c.write_stopped.new.sink in
-    let run : StoppedLoad c.args.config.now (length c.args.links.items) c.args.workers rest.steps stopped = record {
+    let run : StoppedLoad c.args.config.now (length c.args.links.items) c.args.workers rest.steps halted = record {
       crew = c.requires.few.1;
-      bad_workers = err_of answer stopped _ c.in-Err.is c.run_by-answer.ensures.bad_workers;
-      fault = λ crew. none_split c.args.links.items c.args.workers stopped.fault (err_of answer stopped _ c.in-Err.is c.run_by-answer.ensures.fault crew);
-      kept = err_of answer stopped _ c.in-Err.is c.run_by-answer.ensures.kept;
-      full = err_of answer stopped _ c.in-Err.is c.run_by-answer.ensures.full;
-      begun = begun_err answer stopped rest.steps c.in-Err.is rest.held;
+      bad_workers = err_of answer halted _ c.in-Err.is c.run_by-answer.ensures.bad_workers;
+      fault = λ crew. none_split c.args.links.items c.args.workers halted.fault (err_of answer halted _ c.in-Err.is c.run_by-answer.ensures.fault crew);
+      full = err_of answer halted _ c.in-Err.is c.run_by-answer.ensures.full;
+      has = steps_err answer halted rest.steps c.in-Err.is rest.held;
       legal = rest.left.1 c.args.config.now c.requires.named.1;
     } in
     let named = sym (rest.left.0.0 ∙ rest.became.0) in
     subst (λ (k : g.row.W.Denot). IsJournalledLoad c.args.batch c.args.config.now c.args.links.items c.args.workers old (g.W.Sink.state k) (Err c.fault_of-fault.result)) (sym (c.sink-in-Err-1.given.1 named))
-    (stopped_as c.args.batch c.args.config.now c.args.links.items c.args.workers rest.steps old mid new stopped run c.run_by-answer.result.1.waiting c.fault_of-fault.result has
+    (stopped_as c.args.batch c.args.config.now c.args.links.items c.args.workers rest.steps old mid new halted run c.run_by-answer.result.1.waiting c.fault_of-fault.result has
     c.fault_of-fault.ensures c.write_stopped.ensures)
 
 pub returns-in_ok-finished-in-Ok : goal.returns-in_ok-finished-in-Ok
@@ -57,17 +43,16 @@ returns-in_ok-finished-in-Ok g c =
     let has = journalled_from c.args.config.now c.new.result rest.ran.scribe old (g.W.Sink.state rest.ran.sink.now) mid rest.steps rest.ran.written c.run_by-answer.result.1.waiting
     (c.new.ensures.block ∙ c.requires.heading) (ap received c.new.ensures.steps ∙ c.requires.ring.2) rest.became.1 rest.left.0.1 in
     let answer = c.run_by-answer.result.0 in
-    let report = c.in-Ok.report in
+    let account = c.in-Ok.account in
     let new = g.W.Sink.state c.finish_history-finished.new.sink in
-    let finished = subst (λ steps. HasFinished steps mid new c.run_by-answer.result.1.waiting (Ok c.in_ok-finished-in-Ok.field-0)) c.deref.ensures.value c.in_ok-finished-in-Ok.ensures in
     let named = sym (rest.left.0.0 ∙ rest.became.0) in
     subst (λ (k : g.row.W.Denot). IsJournalledLoad c.args.batch c.args.config.now c.args.links.items c.args.workers old (g.W.Sink.state k) (Ok tt)) (sym (c.sink-1.given.1 named))
-    (all_loaded c.args.batch c.args.config.now c.args.links.items c.args.workers rest.steps old mid new c.run_by-answer.result.1.waiting has report c.in_ok-finished-in-Ok.field-0
-    (ok_of answer report _ c.in-Ok.is c.run_by-answer.ensures.holds)
-    (ok_of answer report _ c.in-Ok.is c.run_by-answer.ensures.bytes)
-    (halves_made c.args.links.items report (ok_of answer report _ c.in-Ok.is c.run_by-answer.ensures.made))
+    (all_loaded c.args.batch c.args.config.now c.args.links.items c.args.workers rest.steps old mid new c.run_by-answer.result.1.waiting has account c.in_ok-finished-in-Ok.field-0
+    (ok_of answer account _ c.in-Ok.is c.run_by-answer.ensures.holds)
+    (ok_of answer account _ c.in-Ok.is c.run_by-answer.ensures.bytes)
+    (halves_made c.args.links.items (report_of account) (ok_of answer account _ c.in-Ok.is c.run_by-answer.ensures.made))
     c.requires.few.1
-    (begun_ok answer report rest.steps c.in-Ok.is rest.held) finished)
+    (steps_ok answer account rest.steps c.in-Ok.is rest.held) c.in_ok-finished-in-Ok.ensures)
 
 pub returns-in_err-finished-in-Ok : goal.returns-in_err-finished-in-Ok
 returns-in_err-finished-in-Ok g c =
@@ -77,12 +62,11 @@ returns-in_err-finished-in-Ok g c =
     let has = journalled_from c.args.config.now c.new.result rest.ran.scribe old (g.W.Sink.state rest.ran.sink.now) mid rest.steps rest.ran.written c.run_by-answer.result.1.waiting
     (c.new.ensures.block ∙ c.requires.heading) (ap received c.new.ensures.steps ∙ c.requires.ring.2) rest.became.1 rest.left.0.1 in
     let answer = c.run_by-answer.result.0 in
-    let report = c.in-Ok.report in
+    let account = c.in-Ok.account in
     let new = g.W.Sink.state c.finish_history-finished.new.sink in
-    let finished = subst (λ steps. HasFinished steps mid new c.run_by-answer.result.1.waiting (Err c.in_err-finished-in-Ok.field-0.0)) c.deref.ensures.value c.in_err-finished-in-Ok.ensures in
     let named = sym (rest.left.0.0 ∙ rest.became.0) in
     subst (λ (k : g.row.W.Denot). IsJournalledLoad c.args.batch c.args.config.now c.args.links.items c.args.workers old (g.W.Sink.state k) c.from_residual-in_err-finished-in-Ok.result) (sym (c.sink-1.given.1 named))
     (handed_load c.args.batch c.args.config.now c.args.links.items c.args.workers old new c.from_residual-in_err-finished-in-Ok.result (of_print c.in_err-finished-in-Ok.field-0.0) c.from_residual-in_err-finished-in-Ok.ensures.1
-    (cut_load c.args.batch c.args.config.now c.args.links.items c.args.workers rest.steps old mid new c.run_by-answer.result.1.waiting has report c.in_err-finished-in-Ok.field-0.0
-    (ok_of answer report _ c.in-Ok.is c.run_by-answer.ensures.holds).legal
-    (begun_ok answer report rest.steps c.in-Ok.is rest.held) finished))
+    (cut_load c.args.batch c.args.config.now c.args.links.items c.args.workers rest.steps old mid new c.run_by-answer.result.1.waiting has account c.in_err-finished-in-Ok.field-0.0
+    (ok_of answer account _ c.in-Ok.is c.run_by-answer.ensures.holds).legal
+    (steps_ok answer account rest.steps c.in-Ok.is rest.held) c.in_err-finished-in-Ok.ensures))

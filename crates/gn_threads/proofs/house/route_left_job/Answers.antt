@@ -1,14 +1,14 @@
-use Rattle.std.proofs.Common.{ap}
-use Rattle.gn_hub.specs.HubState.{HubState}
-use Rattle.gn_threads.proofs.CourseLemmas.{begun_as, begun_step}
-use Rattle.gn_threads.proofs.HouseLemmas.{one_event_more}
+use Rattle.std.proofs.Common.{ap, refl}
+use Rattle.gn_bodies.specs.Events.{link_events}
+use Rattle.gn_hub.specs.ActorState.{ActorState}
+use Rattle.gn_threads.proofs.HouseLemmas.{no_event_more, one_event_more}
 use Rattle.gn_threads.proofs.house.route_left_job.Goals as goal
 
 pub returns-in-Ok-clause-routed : goal.returns-in-Ok-clause-routed
-returns-in-Ok-clause-routed g c = rw (← c.job.view_is) (one_event_more c.args.me.now c.route-answer.new.me _ c.in-Ok.ensures.made.3)
+returns-in-Ok-clause-routed g c = rw (← c.job.view_is) (one_event_more c.args.me.now c.route-answer.new.me _ c.in-Ok.ensures.answer.3)
 
-pub returns-in-Ok-clause-more : goal.returns-in-Ok-clause-more
-returns-in-Ok-clause-more g c = begun_step c.args.hub.now c.route-answer.new.self _ _ _ c.in-Ok.ensures.made.2
+pub returns-in-Ok-clause-alone : goal.returns-in-Ok-clause-alone
+returns-in-Ok-clause-alone g c = no_event_more c.args.me.now c.route-answer.new.me _ refl c.in-Ok.ensures.answer.3
 
-pub returns-in-Err-clause-more : goal.returns-in-Err-clause-more
-returns-in-Err-clause-more g c = begun_as _ _ (ap (λ (h : HubState _). h.steps) c.in-Err.ensures.made.1)
+pub returns-in-Err-clause-alone : goal.returns-in-Err-clause-alone
+returns-in-Err-clause-alone g c = ap (λ (me : ActorState _). link_events me) c.in-Err.ensures.answer.1

@@ -1,7 +1,8 @@
-use Rattle.std.proofs.Common.{ap, arith, length, subst, vec_items}
+use Rattle.std.proofs.Common.{◌∙◌, ap, arith, length, subst, vec_items, refl}
+use Rattle.std.specs.List.{list_all}
 use Rattle.std.specs.Vec.Iter.{into_iter_items}
 use Rattle.gn_threads.specs.Faults.{IsFaultOf}
-use Rattle.gn_threads.specs.Reported.{link_reader, link_writer, reader_actor, reader_left, writer_actor, writer_left}
+use Rattle.gn_threads.specs.Reported.{is_idle_end, link_reader, link_writer, reader_actor, reader_left, writer_actor, writer_left}
 use Rattle.gn_threads.proofs.FaultLemmas.{handed_on}
 use Rattle.gn_threads.proofs.JoinedLemmas.{all_moved, all_started, one_moved, one_started}
 use Rattle.gn_threads.proofs.LoopLemmas.{none_moved, none_taken}
@@ -19,6 +20,8 @@ loop-reader-preserved g c =
     let readers = into_iter_items c.loop-reader.reader-iterator in
     let writers = into_iter_items c.loop-reader.writers in
     record {
+      hub = c.in_ok-linked.ensures.same ∙ was.hub;
+      idle = c.in_ok-linked.ensures.idle was.idle;
       number = omega (arith, was.number, c.in-Some.ensures.steps.1);
       writers_left = omega (arith, was.writers_left, c.in-Some.ensures.steps.1, c.in-Some-next.ensures.len);
       many = omega (arith, was.many, c.in_ok-linked.ensures.many);
@@ -37,6 +40,8 @@ loop-reader-init g c =
     let readers = into_iter_items c.into_iter-reader-iterator.result in
     let writers = into_iter_items c.into_iter-writers.result in
     record {
+      hub = refl;
+      idle = ap (λ es. list_all (is_idle_end c.args.hub.now.steps) es) none.0;
       number = omega (arith, ap length reading, c.into_iter-reader-iterator.result.rest.ok, c.args.readers.ok);
       writers_left = omega (arith, ap length reading, c.into_iter-reader-iterator.result.rest.ok, c.args.readers.ok, ap length writing, c.into_iter-writers.result.rest.ok, c.args.writers.ok, c.requires.many);
       many = omega (arith, ap length none.0, ends.ok);

@@ -1,10 +1,13 @@
-use Rattle.std.proofs.Common.{◌≡◌, ◌+◌, ◌++◌, map, vec_items, vec_len}
+use Rattle.std.proofs.Common.{◌≡◌, ◌+◌, ◌++◌, true, map, vec_items, vec_len}
 use Rattle.std.specs.Vec.Iter.{into_iter_items, into_iter_len}
-use Rattle.gn_threads.specs.Reported.{link_reader, link_writer, reader_actor, reader_left, writer_actor, writer_left}
+use Rattle.std.specs.List.{list_all}
+use Rattle.gn_threads.specs.Reported.{is_idle_end, link_reader, link_writer, reader_actor, reader_left, writer_actor, writer_left}
 use Rattle.gn_threads.proofs.reported.part_links.Given as goal
 
 abbrev pub invariant-loop-reader : goal.invariant-loop-reader
 invariant-loop-reader g l = record {
+  hub : l.hub ≡ l.fn.hub;
+  idle : list_all (is_idle_end l.hub.steps) (vec_items l.linked.ends) ≡ true;
   number : l.link + into_iter_len l.reader-iterator ≡ vec_len l.fn.readers;
   writers_left : into_iter_len l.writers ≡ into_iter_len l.reader-iterator;
   many : vec_len l.linked.ends ≡ l.link;

@@ -1,6 +1,6 @@
 use Rattle.std.proofs.Common.{◌*◌, ap, arith, refl}
 use Rattle.gn_threads.specs.Actors.{Turn}
-use Rattle.gn_threads.proofs.ActorLemmas.{first_numbered, numbered_all, rest_numbered}
+use Rattle.gn_threads.proofs.ActorLemmas.{first_numbered, last_numbered, numbered_all, rest_numbered}
 use Rattle.gn_threads.proofs.unstarted.unstarted_of.Goals as goal
 
 pub split_off-requires : goal.split_off-requires
@@ -64,3 +64,11 @@ returns-clause-roles g c = refl
 
 pub returns-clause-workers : goal.returns-clause-workers
 returns-clause-workers g c = refl
+
+pub returns-clause-house : goal.returns-clause-house
+returns-clause-house g c =
+    let many = c.len-many.result in
+    let all = numbered_all c.args.actors.items (λ k d below. c.requires.actors.each k d (omega (arith, below, c.requires.actors.long))) in
+    let rest = rest_numbered 0 many many c.args.actors.items _ c.in_ok-writers.ensures.tail (omega arith) all in
+    let last = rest_numbered many many (2 * many) _ _ c.in_ok-workers.ensures.tail (omega arith) rest in
+    last_numbered (2 * many) _ _ c.in-Some.house c.in-Some.ensures.items last

@@ -1,6 +1,6 @@
 use Rattle.std.proofs.Common.{◌≡◌, ◌≤◌, ℕ, true, length, subst, sym}
 use Rattle.std.specs.Prelude.{IfSome}
-use Rattle.gn_threads.specs.Courses.{BeginsRun, IsBegunBy}
+use Rattle.gn_threads.specs.Courses.{AreStepsOf}
 use Rattle.gn_threads.proofs.CourseLemmas.{left_on}
 use Rattle.gn_threads.specs.Faults.{IsArrivingFault}
 use Rattle.gn_threads.specs.declared.fault.RunFault.TheVariants.{BadWorkers, HistoryFull}
@@ -15,6 +15,7 @@ returns-in_default-None-clause-served g c = record {
   fault = c.over_links-answer.ensures.fault;
   kept = c.over_links-answer.ensures.kept;
   full = c.over_links-answer.ensures.full;
+  tallied = c.over_links-answer.ensures.tallied;
   holds = c.over_links-answer.ensures.holds;
   made = c.over_links-answer.ensures.made;
   one_socket = c.over_links-answer.ensures.one_socket;
@@ -22,36 +23,38 @@ returns-in_default-None-clause-served g c = record {
 
 pub returns-in-Ok-Some-clause-served : goal.returns-in-Ok-Some-clause-served
 returns-in-Ok-Some-clause-served g c =
-    failed_at c.args.self.batch c.args.self.config.now c.args.self.peers.now c.args.self.accept c.args.self.workers c.in-Ok-Some.report c.failed_at.result c.in-Ok-Some.fault
+    failed_at c.args.self.batch c.args.self.config.now c.args.self.peers.now c.args.self.accept c.args.self.workers c.in-Ok-Some.account c.failed_at.result c.in-Ok-Some.fault
     (subst (λ answer. IsServed c.args.self.batch c.args.self.config.now c.args.self.peers.now c.args.self.accept c.args.self.workers answer) c.in-Ok-Some.is-0 (record {
       crew = c.over_links-answer.ensures.workers;
       bad_workers = c.over_links-answer.ensures.bad_workers;
       fault = c.over_links-answer.ensures.fault;
       kept = c.over_links-answer.ensures.kept;
       full = c.over_links-answer.ensures.full;
+      tallied = c.over_links-answer.ensures.tallied;
       holds = c.over_links-answer.ensures.holds;
       made = c.over_links-answer.ensures.made;
       one_socket = c.over_links-answer.ensures.one_socket;
     }))
-    c.failed_at.ensures
+    c.failed_at.ensures.fault c.failed_at.ensures.history c.failed_at.ensures.tallies
     (subst (λ o. IfSome o (λ fault. ¬ (fault ≡ BadWorkers))) c.in-Ok-Some.is-1 c.call_fault.ensures.crew)
     (subst (λ o. IfSome o (λ fault. ¬ (fault ≡ HistoryFull))) c.in-Ok-Some.is-1 c.call_fault.ensures.full)
     (subst (λ o. IfSome o (λ fault. (links workers : ℕ) → length c.args.self.peers.now ≤ links → IsArrivingFault true links workers fault)) c.in-Ok-Some.is-1 c.call_fault.ensures.fault)
 
 pub returns-in-Err-Some-clause-served : goal.returns-in-Err-Some-clause-served
 returns-in-Err-Some-clause-served g c =
-    failed_too c.args.self.batch c.args.self.config.now c.args.self.peers.now c.args.self.accept c.args.self.workers c.in-Err-Some.stopped c.failed_too.result c.in-Err-Some.fault
+    failed_too c.args.self.batch c.args.self.config.now c.args.self.peers.now c.args.self.accept c.args.self.workers c.in-Err-Some.halted c.failed_too.result c.in-Err-Some.fault
     (subst (λ answer. IsServed c.args.self.batch c.args.self.config.now c.args.self.peers.now c.args.self.accept c.args.self.workers answer) c.in-Err-Some.is-0 (record {
       crew = c.over_links-answer.ensures.workers;
       bad_workers = c.over_links-answer.ensures.bad_workers;
       fault = c.over_links-answer.ensures.fault;
       kept = c.over_links-answer.ensures.kept;
       full = c.over_links-answer.ensures.full;
+      tallied = c.over_links-answer.ensures.tallied;
       holds = c.over_links-answer.ensures.holds;
       made = c.over_links-answer.ensures.made;
       one_socket = c.over_links-answer.ensures.one_socket;
     }))
-    c.failed_too.ensures.fault c.failed_too.ensures.history
+    c.failed_too.ensures.fault c.failed_too.ensures.same
     (subst (λ o. IfSome o (λ fault. ¬ (fault ≡ BadWorkers))) c.in-Err-Some.is-1 c.call_fault.ensures.crew)
     (subst (λ o. IfSome o (λ fault. ¬ (fault ≡ HistoryFull))) c.in-Err-Some.is-1 c.call_fault.ensures.full)
     (subst (λ o. IfSome o (λ fault. (links workers : ℕ) → length c.args.self.peers.now ≤ links → IsArrivingFault true links workers fault)) c.in-Err-Some.is-1 c.call_fault.ensures.fault)
@@ -59,11 +62,11 @@ returns-in-Err-Some-clause-served g c =
 pub returns-in-Ok-Some-clause-rest : goal.returns-in-Ok-Some-clause-rest
 returns-in-Ok-Some-clause-rest g c =
     left_on _ _ _ _ _
-    (λ steps held. subst (λ h. IfSome h (λ history. IsBegunBy steps history.items)) (sym c.failed_at.ensures.1) (subst (λ answer. BeginsRun answer steps) c.in-Ok-Some.is-0 held))
+    (λ steps held. subst (λ h. IfSome h (λ history. history.items ≡ steps)) (sym c.failed_at.ensures.history) (subst (λ answer. AreStepsOf answer steps) c.in-Ok-Some.is-0 held))
     c.over_links-answer.ensures.rest
 
 pub returns-in-Err-Some-clause-rest : goal.returns-in-Err-Some-clause-rest
 returns-in-Err-Some-clause-rest g c =
     left_on _ _ _ _ _
-    (λ steps held. subst (λ h. IfSome h (λ history. IsBegunBy steps history.items)) (sym c.failed_too.ensures.history) (subst (λ answer. BeginsRun answer steps) c.in-Err-Some.is-0 held))
+    (λ steps held. subst (λ h. IfSome h (λ history. history.items ≡ steps)) (sym c.failed_too.ensures.same.0) (subst (λ answer. AreStepsOf answer steps) c.in-Err-Some.is-0 held))
     c.over_links-answer.ensures.rest

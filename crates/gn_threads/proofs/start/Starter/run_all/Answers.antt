@@ -2,9 +2,8 @@ use Rattle.std.proofs.Common.{ap, length, map, subst, sym, vec_len, ◌∙◌}
 use Rattle.std.proofs.lemmas.List.{length-map}
 use Rattle.std.proofs.lemmas.Result.{IfOk-weaker}
 use Rattle.std.proofs.lemmas.Simd.{map-map}
-use Rattle.gn_bodies.specs.Done.{half_of}
-use Rattle.gn_threads.specs.Kept.{IsReaderDone, IsWriterDone}
-use Rattle.gn_threads.specs.Joined.{AreJoined, AreJoinedOf}
+use Rattle.gn_bodies.specs.Done.{half_of, IsReaderDone, IsWriterDone, reader_ended, writer_ended}
+use Rattle.gn_threads.specs.Joined.{AreJoined, AreJoinedOf, worker_state}
 use Rattle.gn_threads.proofs.FaultLemmas.{each_in_arriving, in_arriving}
 use Rattle.gn_threads.proofs.UnstartedLemmas.{first_come}
 use Rattle.gn_threads.proofs.start.Starter.run_all.Goals as goal
@@ -22,7 +21,7 @@ returns-in-Ok-clause-joined g c =
     let handles = c.start_all.new.handles in
     let reading = map (λ h. half_of h.promise.start.value.role h.promise.start.value.reader) handles.readers.items in
     let writing = map (λ h. half_of h.promise.start.value.role h.promise.start.value.writer) handles.writers.items in
-    IfOk-weaker _ _ (λ done. AreJoinedOf reads writes g.V.Reader.LinkReader.made_of g.V.Writer.LinkWriter.made_of g.V.Arrivals.foreknown c.args.unstarted.roles.now (g.V.Arrivals.coming c.args.arrivals) (vec_len c.args.unstarted.outlets) done)
+    IfOk-weaker _ _ (λ done. AreJoinedOf reads writes g.V.Reader.LinkReader.made_of g.V.Writer.LinkWriter.made_of g.V.Arrivals.foreknown c.args.unstarted.roles.now (g.V.Arrivals.coming c.args.arrivals) (vec_len c.args.unstarted.outlets) (map reader_ended done.readers.items) (map writer_ended done.writers.items) (map worker_state done.workers.items))
     (λ done joined.
     record {
       reading = reading;
@@ -34,6 +33,6 @@ returns-in-Ok-clause-joined g c =
           (sym (length-map handles.readers.items (λ h. h.promise.start.value.role)) ∙ ap length c.in-Ok.ensures.readers);
       writing_made = map-map (λ l. g.V.Writer.LinkWriter.made_of l.half) (λ h. half_of h.promise.start.value.role h.promise.start.value.writer) handles.writers.items
           ∙ c.in-Ok.ensures.written ∙ sym (map-map (λ l. g.V.Reader.LinkReader.made_of l.half) (λ h. half_of h.promise.start.value.role h.promise.start.value.reader) handles.readers.items);
-      joined = subst (λ n. AreJoined reads writes reading writing n done) c.in-Ok.ensures.workers joined;
+      joined = subst (λ n. AreJoined reads writes reading writing n (map reader_ended done.readers.items) (map writer_ended done.writers.items) (map worker_state done.workers.items)) c.in-Ok.ensures.workers joined;
     })
     c.join.ensures.joined

@@ -4,7 +4,7 @@ use Rattle.gn_service.proofs.running.fn.Running.watched.join+arg3+FnOnce.call_on
 
 pub join+arg3-requires : goal.join+arg3-requires
 join+arg3-requires g c =
-    let bounds = c.requires.1.1.1.1.1.1.1.1 in (
+    let bounds = c.requires.1.1.1.1.1.1.1 in (
       param_send _ _ (arg_send _ yes _ bounds.0),
       (
         param_send _ _ (arg_send _ yes _ bounds.1),

@@ -1,0 +1,5 @@
+use Rattle.gn_scribe.proofs.WrittenLemmas.{IsWriting}
+use Rattle.gn_scribe.proofs.scribe.Scribe.write_known.Given as goal
+
+abbrev pub invariant-loop : goal.invariant-loop
+invariant-loop g l = IsWriting l.fn.self l.self (g.W.Sink.state l.fn.sink) (g.W.Sink.state l.sink) l.counter
