@@ -64,7 +64,7 @@ test:
 
 # What a call of each table takes; then, three times in a process of its own, what a job through the stage queue takes: these go to
 # standard error. Then tables of what the program gn takes: replays and audits of mixed captures, and loads of 1, 2, 4 and 16 workers
-# beside replays; and that a replay and an audit of a million steps take no more memory beyond their input than of ten thousand.
+# beside replays; and that a replay and an audit of a million steps take no more memory beyond their input than of ten thousand, nor a serve.
 bench: build
 	scripts/build gn_bench
 	crates/gn_bench/out/gn_bench tables
