@@ -85,14 +85,14 @@ impl<
         fault
     }
 
-    /// The link of this number to this peer, which is called from now on; nobody is, where the run has failed.
+    /// The link of this number to this peer, which is called from now on. Where the run has failed nobody is, and none comes.
     fn called(&self, link: u32, peer: SocketAddr) -> Result<TcpLink<'static>, RunFault>
         ensures found { IfOk result (λ found. (found.role ≡ Calling)
             × (found.origin ≡ record { link = 0; called = Some peer })) }
         ensures fault { IfErr result (λ fault. (links workers : ℕ) → IsArrivingFault true links workers fault) }
     {
         if self.stops.has_failed() {
-            return Err(RunFault::NoMemory);
+            return Ok(TcpLink::missing(Role::Calling, Some(peer)));
         }
         let Ok((found, call)) = TcpLink::called(self.cells, peer) else {
             return Err(self.failing(RunFault::NoMemory));

@@ -33,7 +33,9 @@ pub trait Arrivals: Drop {
     /// What is known of the links that are still to come, in order.
     ghost coming: { Self → List Self.Foreknown };
 
-    /// Waits for the next link, which has this number, counted from 0, and shall begin in this role; and takes it apart.
+    /// Waits for the next link, which has this number, counted from 0, and shall begin in this role; and takes it apart. A run that
+    /// has failed asks for its links, too, so that all its bodies are at hand. Nobody is waited for then: once the gate knows of it
+    /// (`Gate::failed`) a call owes an answer at once, a link of no bytes or `NoMemory`, which gives way to what the bodies found.
     fn next(&mut self, link: u32, role: Role) -> Result<(Self::Reader, Self::Writer), RunFault>
         ensures reader { IfOk result (λ h. IsNewReader (Self.Reader.state h.0)) }
         ensures writer { IfOk result (λ h. IsNewWriter (Self.Writer.state h.1)) }

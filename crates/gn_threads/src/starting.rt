@@ -34,28 +34,6 @@ impl<
     A: Allocator + Copy + Send + Sync + 's,
     R: Threads + Wait + Sync + 's,
 > Starter<'s, E, C, B, G, A, R> {
-    /// Waits for a link with this number, in this role. Where the run has failed by then nobody is waited for: what the bodies
-    /// that have started found is said once they are joined.
-    fn next_link<V: Arrivals>(
-        &self,
-        arrivals: &mut V,
-        link: u32,
-        role: Role,
-    ) -> Result<(V::Reader, V::Writer), RunFault>
-        ensures reader { IfOk result (λ h. IsNewReader (V.Reader.state h.0)) }
-        ensures writer { IfOk result (λ h. IsNewWriter (V.Writer.state h.1)) }
-        ensures made { IfOk result (λ h.
-            (V.coming arrivals.old ≡ V.foreknown (V.Reader.made_of h.0) ∷ V.coming arrivals.new)
-            × (V.Writer.made_of h.1 ≡ V.Reader.made_of h.0)) }
-        ensures fault { IfErr result (λ fault. (links workers : ℕ) → link < links
-            → IsArrivingFault V.has_peers links workers fault) }
-    {
-        if self.service.failed(self.rt) {
-            return Err(RunFault::NoMemory);
-        }
-        arrivals.next(link, role)
-    }
-
     /// Starts the two bodies of a link. False where a thread can't be made.
     fn start_bodies<Rd: LinkReader + Send + 's, W: LinkWriter + Send + 's>(
         &self,
@@ -104,8 +82,7 @@ impl<
         ensures fault { IfErr result (λ fault. (links workers : ℕ) → unstarted.link < links
             → IsArrivingFault V.has_peers links workers fault) }
     {
-        let coming = self.next_link(arrivals, unstarted.link, unstarted.role);
-        match coming {
+        match arrivals.next(unstarted.link, unstarted.role) {
             Err(fault) => {
                 drop(unstarted);
                 Err(fault)
