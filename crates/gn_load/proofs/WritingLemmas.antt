@@ -1,5 +1,5 @@
 -- A scribe beside a run, and the two ends of its ring.
-use Rattle.std.proofs.Common.{◌≡◌, ◌∙◌, ◌<◌, ℕ, List, [], length, Option, Some, Result, Ok, Err, OnErr, OnOk, ap, append-nil, inl, refl, reverse, subst, sym}
+use Rattle.std.proofs.Common.{◌≡◌, ◌∙◌, ◌<◌, ℕ, false, List, [], length, Option, Some, Result, Ok, Err, OnErr, OnOk, ap, append-nil, inl, refl, reverse, subst, sym}
 use Rattle.std.specs.Option.{ForSome}
 use Rattle.std.specs.Prelude.{⊤, IfErr}
 use Rattle.rtrb.specs.Ends.{SameRing}
@@ -61,14 +61,15 @@ module _ {A : Type 0} where
   legal_by_name name a steps is legal s named = subst (λ c. IsLegal c (reverse steps)) (sym (is s named)) legal
 
   -- one that took no step and is given up has done all
-  pub given_up : (scribe : Scribe A) (sink : SinkState) (waiting : Waiting A) (done : ⊤) → received scribe.steps ≡ [] → waiting.block ≡ scribe.block
+  pub given_up : (scribe : Scribe A) (sink : SinkState) (waiting : Waiting A) (done : ⊤) → received scribe.steps ≡ [] → waiting.block ≡ scribe.block → waiting.is_begun ≡ false
       → HasEnded scribe [] sink sink (Ok done) (Ok waiting)
-  given_up scribe sink waiting done none is = record {
+  given_up scribe sink waiting done none is begun = record {
     more = [];
     all = sym (append-nil (received scribe.steps) ∙ none);
     left = subst (λ (all : List ℕ). LeavesToWrite sink.written sink.written waiting.block all) (is ∙ sym (append-nil scribe.block)) (leaves_all sink.written waiting.block);
     small = λ less. subst (λ (b : List ℕ). length b < block_size) (sym is) less;
     unfailed = (refl, refl);
+    begun = λ _. ((λ is. absurd (cc)), (λ some. absurd (some refl)));
   }
 
   -- where nothing more is written of a run that stopped

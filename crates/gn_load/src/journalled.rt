@@ -119,7 +119,7 @@ fn unwritten<'s, A: Allocator + Copy>(
 /// Runs a router as `serve_on` does, and writes its history, which `audit` reads, while the run goes on: a step that was made is written
 /// once nobody makes another, or a block is full. Up to `batch` packets are written to a neighbour at once. Nobody keeps the steps: the
 /// account comes back with what is remembered of the run. At a fault what was written is a prefix of the history; all of it, where that
-/// stands, unless a write failed.
+/// stands, unless a write failed (no clause says so).
 pub fn serve_journalled<
     's,
     R: Threads

@@ -1,6 +1,6 @@
 //! A capture, loaded: its links are run, and the history of the run is written while it goes on.
 
-ghost use Rattle.std.specs.Prelude.{◌≡◌, ◌≤◌, [], Some, length, IfErr, IfOk, IfSome, IsOk, MatchResult, OnOk};
+ghost use Rattle.std.specs.Prelude.{◌≡◌, ◌≤◌, [], Some, length, IfErr, IfSome, IsOk, MatchResult, OnOk};
 ghost use Rattle.std.specs.declared.alloc.Global.{Global as Heap};
 ghost use Rattle.rtrb.specs.Ring.{IsPair, received, sent};
 ghost use Rattle.gn_rules.specs.Limits.{IsCrew, most_links};

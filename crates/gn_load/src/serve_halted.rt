@@ -13,7 +13,8 @@ pub struct ServeHalted<A: Allocator = Global> {
     /// The history up to where the run ended, whole, as only proofs read it; `None`, where it hasn't begun, or something of it
     /// isn't confirmed.
     pub history: Option<Unkept<Step<A>>>,
-    /// What the bodies of each link did, in the order of the links, where all have ended and there is memory for it.
+    /// What the bodies of each link did, in the order of the links; `None`, where not all links came, where a look at the end failed,
+    /// or where there is no memory for it.
     pub links: Option<Vec<LinkTally, A>>,
     /// What is remembered of the run, where it has an account: its history wasn't written whole.
     pub ran: Option<Ran<A>>,

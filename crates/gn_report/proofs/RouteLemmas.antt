@@ -114,11 +114,6 @@ not_nearer {A} t steps near apart before ahead behind place low high =
       ]
     ]
 
--- the first k steps, as a history of their own
-pub settled_alone : {A : Type 0} (steps some : List (Step A)) (k : ℕ) → some ≡ take k steps → is_settled some (length some) ≡ is_settled steps k
-settled_alone {A} steps some k is =
-    ap (λ (xs : List (Step A)). length (flying (reverse xs)) == 0) (take_all (length some) some (omega arith) ∙ is)
-
 -- what was said of the steps that pass a test is said of one place more, where the routes are within reach if the step there passes it
 pub settled_on : {A : Type 0} (asked : Step A → Bool) (steps : List (Step A)) (i : ℕ) (reach : Reach) (said now : Bool) → IsReach steps i reach
     → (said ≡ true → (k : ℕ) (d : Step A) → k < i → asked (get_or steps k d) ≡ true → is_settled steps k ≡ true)

@@ -24,7 +24,7 @@ use Rattle.gn_report.specs.BodyEnds.{is_settled, may_close_first}
 use Rattle.gn_report.specs.Flaw.{IsFitting, ReaderConfirmed, WriterConfirmed}
 use Rattle.gn_report.specs.Seen.{AreSeen, SeenIsConfirmed, must_be_gone}
 use Rattle.gn_report.proofs.ClosedLemmas.{closed_by_writer, gone_closed}
-use Rattle.gn_report.proofs.ConfirmedLemmas.{Confirmed, compared_by, confirmed, others_routed, reader_own, writer_own}
+use Rattle.gn_report.proofs.ConfirmedLemmas.{compared_by, others_routed, reader_own, writer_own}
 use Rattle.gn_report.proofs.ConnLemmas.{conn_is_known}
 use Rattle.gn_report.proofs.LaterLemmas.{drained_close}
 use Rattle.gn_report.proofs.RowLemmas.{connected_once, reader_end_is, writer_end_is, writers_alone}
@@ -148,7 +148,3 @@ seen_fits {Rd} {W} {A} s roles report legal seen a below =
 -- in a legal history the report of a run of which this is seen has no flaw
 pub seen_is_confirmed : (Rd W A : Type 0) → SeenIsConfirmed Rd W A
 seen_is_confirmed Rd W A s roles report legal seen a below = (seen.own a below, seen_fits s roles report legal seen a below)
-
--- so all that a report without a flaw says is so
-pub confirmed_by_seen : {Rd W A : Type 0} (s : Config) (roles : List Role) (report : Report Rd W A) → IsLegal s (reverse report.history.items) → AreSeen roles report → Confirmed (is_settled report.history.items) roles report
-confirmed_by_seen {Rd} {W} {A} s roles report legal seen = confirmed (is_settled report.history.items) roles report (seen_is_confirmed Rd W A s roles report legal seen)

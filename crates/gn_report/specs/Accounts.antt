@@ -1,9 +1,6 @@
 -- The report that an account tells: its lists, in vectors.
-use Rattle.std.specs.Prelude.{◌≡◌, ◌<◌, ◌+◌, ◌^◌, List, length, map, Vec}
-use Rattle.gn_rules.specs.declared.receipt.Receipt.{Receipt}
 use Rattle.gn_report.specs.declared.account.Account.{Account}
 use Rattle.gn_report.specs.declared.account.LinkAccount.{LinkAccount}
-use Rattle.gn_report.specs.declared.unkept.Unkept.{Unkept}
 use Rattle.gn_report.specs.declared.report.LinkReport.{LinkReport}
 use Rattle.gn_report.specs.declared.report.Report.{Report}
 use Rattle.gn_report.specs.Vectors.{map_vec, mapped_numbered, vec_of}

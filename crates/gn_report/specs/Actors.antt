@@ -8,7 +8,6 @@ use Rattle.gn_rules.specs.declared.receipt.Step.{Step}
 use Rattle.gn_shake.specs.declared.role.Role.{Role}
 use Rattle.gn_shake.specs.Greeting as greeting
 use Rattle.gn_rules.specs.History.{mine, step_of}
-use Rattle.gn_report.specs.declared.report.LinkReport.{LinkReport}
 use Rattle.gn_report.specs.declared.report.Report.{Report}
 
 -- the number of the actor who writes link k

@@ -1,5 +1,5 @@
 -- Vectors that contracts alone make.
-use Rattle.std.specs.Prelude.{◌≡◌, ◌<◌, ◌≤◌, ◌+◌, ◌^◌, List, length, map, Vec}
+use Rattle.std.specs.Prelude.{◌<◌, ◌+◌, ◌^◌, List, length, map, Vec}
 use Rattle.std.proofs.Math.Path.{◌∙◌, refl, sym, subst}
 use Rattle.std.proofs.Math.Nat.{le_refl}
 use Rattle.std.proofs.lemmas.List.{length-map}

@@ -38,7 +38,9 @@ pub struct LinkAccount<Rd, W, A: Allocator = Global> {
     pub written_on: Option<ConnId>,
     /// After how many steps nothing was in flight, where the writer closed the connection.
     pub idle: Option<u64>,
+    /// The tallies are those of the receipts.
     pub ghost counted: { (read ≡ tally_of reader_receipts.items) × (written ≡ tally_of writer_receipts.items) },
+    /// And so are the numbers of the last steps.
     pub ghost placed: { (last_read ≡ last_place reader_receipts.items)
         × (last_written ≡ last_place writer_receipts.items) },
 }
@@ -52,7 +54,7 @@ pub struct LinkTally {
     pub written: Tally,
 }
 
-/// What a run did whose steps nobody keeps: a `Report` whose lists only proofs read.
+/// What a run did whose steps nobody keeps: a `Report` whose lists only proofs read. The actors have the numbers that they have there.
 #[derive(Drop)]
 pub struct Account<Rd, W, A: Allocator = Global> {
     /// All steps, in order.

@@ -160,7 +160,7 @@ impl<Rd, W, A: Allocator> Report<Rd, W, A> {
         None
     }
 
-    /// The least actor of which something doesn't hold that is compared after a run: that its receipts are its own
+    /// The least actor of which something doesn't hold that is compared here: that its receipts are its own
     /// steps, that its events, its link's connection and its end go together with the history and with the end of the
     /// link's other body. `None` where all of it holds of each actor. A step of an actor that the run doesn't have, and
     /// an admitted ticket that isn't routed, is charged to the house. One role for each link.

@@ -1,12 +1,12 @@
-//! What a run of many threads did: its report, and how the report is compared with its own history.
+//! What a run of many threads did: its report, and how the report is compared with its own history; and its account.
 #![tactic(auto)]
 
 mod account;
 mod closes;
 mod compared;
+mod dealing;
 mod ends;
 mod events;
-mod keeping;
 mod looks;
 mod own;
 mod report;
@@ -18,8 +18,8 @@ mod unkeeping;
 mod unkept;
 
 pub use account::{Account, LinkAccount, LinkTally};
+pub use dealing::{Dealt, deal};
 pub use events::conn_of;
-pub use keeping::{Closed, close, kept};
 pub use looks::first_wrong;
 pub use report::{LinkReport, Report};
 pub use seen::seen_is_confirmed;

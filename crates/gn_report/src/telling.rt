@@ -1,25 +1,17 @@
 //! The report that an account tells, whose lists are made of the history of its run.
 
-ghost use Rattle.std.specs.Prelude.{◌≡◌, ◌+◌, ◌++◌, ◌∷◌, ◌<◌, ◌^◌, [], IfErr, IfOk, length, map, vec_len};
+ghost use Rattle.std.specs.Prelude.{◌≡◌, ◌+◌, ◌<◌, ◌^◌, IfErr, IfOk, length, map, vec_len};
 ghost use Rattle.gn_receipts.specs.Made.{AreMade, receipt_list};
 ghost use Rattle.gn_report.specs.Accounts.{report_of};
 ghost use Rattle.gn_report.specs.Actors.{AreOwn};
 ghost use Rattle.gn_report.specs.Told.{Tells, account_ends, ends_of, lists_of};
 
 use crate::account::{Account, LinkAccount};
+use crate::dealing::{Dealt, deal};
 use crate::report::{LinkReport, Report};
 use gn_receipts::receipts_by_actor;
 use gn_rules::{Receipt, Step};
 use std::alloc::{AllocError, Allocator, Global};
-
-/// The receipts of all actors, by what the actors are.
-#[derive(Drop)]
-struct Dealt<A: Allocator = Global> {
-    pub readers: Vec<Vec<Receipt<A>, A>, A>,
-    pub writers: Vec<Vec<Receipt<A>, A>, A>,
-    pub workers: Vec<Vec<Receipt<A>, A>, A>,
-    pub house: Vec<Receipt<A>, A>,
-}
 
 /// What a report has of its actors.
 #[derive(Drop)]
@@ -27,31 +19,6 @@ struct Actors<Rd, W, A: Allocator = Global> {
     pub links: Vec<LinkReport<Rd, W, A>, A>,
     pub workers: Vec<Vec<Receipt<A>, A>, A>,
     pub house: Vec<Receipt<A>, A>,
-}
-
-/// Deals out the receipts of all actors of a run with so many links. An `Err` is out of memory.
-fn deal<A: Allocator + Copy>(
-    all: Vec<Vec<Receipt<A>, A>, A>,
-    links: usize,
-) -> Result<Dealt<A>, AllocError>
-    requires { links + links < vec_len all }
-    ensures many { IfOk result (λ dealt. (vec_len dealt.readers ≡ links) × (vec_len dealt.writers ≡ links)
-        × (links + links + vec_len dealt.workers + 1 ≡ vec_len all)) }
-    ensures all { IfOk result (λ dealt. all.items
-        ≡ dealt.readers.items ++ (dealt.writers.items ++ (dealt.workers.items ++ dealt.house ∷ []))) }
-{
-    let mut readers = all;
-    let mut writers = readers.split_off(links)?;
-    let mut workers = writers.split_off(links)?;
-    let Some(house) = workers.pop() else {
-        unreachable!()
-    };
-    Ok(Dealt {
-        readers,
-        writers,
-        workers,
-        house,
-    })
 }
 
 /// The report of a link of which this is the account, and whose actors have these receipts.

@@ -8,14 +8,14 @@ use gn_rules::{RouterCore, Step};
 use gn_trail::Trail;
 use std::alloc::Allocator;
 
-/// The list of a router are its steps.
+/// The list of a router is its steps.
 struct StepsOf;
 
 impl<C: RouterCore<A>, A: Allocator + Copy> Lists<C, Step<A>> for StepsOf {
     ghost list = { λ core. C.steps core };
 }
 
-/// The list of a trail are its items.
+/// The list of a trail is its items.
 struct ItemsOf;
 
 impl<T> Lists<Trail<T>, T> for ItemsOf {
@@ -26,6 +26,7 @@ impl<T> Lists<Trail<T>, T> for ItemsOf {
 pub fn unkept_steps<C: RouterCore<A>, A: Allocator + Copy>(core: &C) -> Unkept<Step<A>>
     ensures { result.items ≡ C.steps core.now }
 {
+    // Its contract says that there are no more than a vector may hold.
     let _count = core.step_count();
     Unkept::of::<C, StepsOf>(core)
 }

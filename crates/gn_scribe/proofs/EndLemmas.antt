@@ -16,7 +16,7 @@ use Rattle.gn_scribe.specs.declared.scribe.Scribe.{Scribe}
 use Rattle.gn_scribe.specs.Printed.{IsPrintFault}
 use Rattle.gn_scribe.specs.Written.{HasBroken, HasEnded, HasFinished, HasFollowed, HasJournalled, HasWritten}
 use Rattle.gn_scribe.proofs.PrintLemmas.{cause_after, more_cut, more_left, part_of}
-use Rattle.gn_scribe.proofs.WrittenLemmas.{broken_after, only_looked, written_more}
+use Rattle.gn_scribe.proofs.WrittenLemmas.{begun_same, broken_after, only_looked, written_more}
 
 module _ {A : Type 0} where
   -- the text of some steps and of others after them
@@ -32,6 +32,7 @@ module _ {A : Type 0} where
     pub same : SameConsumer s0.steps s1.steps
     pub taken : received s1.steps ≡ received s0.steps
     pub block : s1.block ≡ s0.block
+    pub begun : s1.is_begun ≡ s0.is_begun
     pub all : received s1.steps ++ known_items s1.steps ≡ steps
 
   module _ (s0 s1 : Scribe A) (steps : List (Step A)) (looked : HasLooked s0 s1 steps) where
@@ -46,22 +47,24 @@ module _ {A : Type 0} where
     module _ (s2 : Scribe A) (k0 k1 : SinkState) (before : Result ⊤ PrintFault) (x : ⊤) (could : before ≡ Ok x) where
       -- all were written, and this waits
       pub ended_all : (waiting : Waiting A) → HasWritten s1 s2 k0 k1 → known_items s2.steps ≡ [] → received s2.steps ++ known_items s2.steps ≡ received s1.steps ++ known_items s1.steps
-          → waiting.block ≡ s2.block → HasEnded s0 steps k0 k1 before (Ok waiting)
-      ended_all waiting h none ahead block =
-          let so_far = written_more s0 s1 s2 k0 k0 k1 (only_looked s0 s1 k0 looked.same looked.taken looked.block) h in
+          → waiting.block ≡ s2.block → waiting.is_begun ≡ s2.is_begun → HasEnded s0 steps k0 k1 before (Ok waiting)
+      ended_all waiting h none ahead block begun =
+          let all : steps ≡ received s2.steps = sym looked.all ∙ (sym ahead ∙ (ap (λ r. received s2.steps ++ r) none ∙ append-nil (received s2.steps))) in
+          let so_far = written_more s0 s1 s2 k0 k0 k1 (only_looked s0 s1 k0 looked.same looked.taken looked.block looked.begun) h in
           subst (λ r. HasEnded s0 steps k0 k1 r (Ok waiting)) (sym could) (record {
             more = so_far.steps;
-            all = sym looked.all ∙ (sym ahead ∙ (ap (λ r. received s2.steps ++ r) none ∙ (append-nil (received s2.steps) ∙ so_far.taken)));
+            all = all ∙ so_far.taken;
             left = subst (λ (b : List ℕ). LeavesToWrite k0.written k1.written b (s0.block ++ steps_text so_far.steps)) (sym block) so_far.left;
             small = λ less. subst (λ (b : List ℕ). length b < block_size) (sym block) (so_far.small less);
             unfailed = so_far.unfailed;
+            begun = λ knows. begun_same s2.is_begun waiting.is_begun (received s2.steps) steps begun all (so_far.begun knows);
           })
 
       -- only a prefix was
       pub ended_cut : (fault : PrintFault) → HasBroken s1 s2 k0 k1 → received s2.steps ++ known_items s2.steps ≡ received s1.steps ++ known_items s1.steps → IsPrintFault fault k0 k1
           → HasEnded s0 steps k0 k1 before (Err fault)
       ended_cut fault h ahead cause =
-          let so_far = broken_after s0 s1 s2 k0 k0 k1 (only_looked s0 s1 k0 looked.same looked.taken looked.block) h in
+          let so_far = broken_after s0 s1 s2 k0 k0 k1 (only_looked s0 s1 k0 looked.same looked.taken looked.block looked.begun) h in
           let rest = known_items s2.steps in
           subst (λ r. HasEnded s0 steps k0 k1 r (Err fault)) (sym could) (record {
             more = so_far.steps ++ rest;

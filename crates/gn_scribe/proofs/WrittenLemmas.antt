@@ -1,5 +1,5 @@
 -- Steps that a scribe took and wrote, and more after them.
-use Rattle.std.proofs.Common.{◌≡◌, ◌∙◌, ◌+◌, ◌<◌, ◌≤◌, ℕ, List, [], ◌∷◌, ◌++◌, length, refl, sym, ap, subst, arith, append-nil, append_assoc, length-append}
+use Rattle.std.proofs.Common.{◌≡◌, ◌∙◌, ◌+◌, ◌↔◌, ◌<◌, ℕ, Bool, true, List, [], ◌∷◌, ◌++◌, length, refl, sym, ap, subst, arith, append-nil, append_assoc, length-append}
 use Rattle.std.proofs.lemmas.Grind.{flat_map-append}
 use Rattle.std.proofs.lemmas.List.{nil_from_length}
 use Rattle.std.specs.Io.KnownBytes.{Appends}
@@ -12,43 +12,54 @@ use Rattle.gn_io.specs.Parts.{AppendsPart, LeavesToWrite, block_size}
 use Rattle.gn_io.specs.Streams.{NoWriteFailed, SinkState}
 use Rattle.gn_io.proofs.StreamLemmas.{leaves_all}
 use Rattle.gn_scribe.specs.declared.scribe.Scribe.{Scribe}
+use Rattle.std.specs.Prelude.{◌≢◌}
 use Rattle.gn_scribe.specs.Written.{HasBroken, HasWritten}
-use Rattle.gn_scribe.proofs.PrintLemmas.{more_cut, more_left, none_written}
+use Rattle.gn_scribe.proofs.PrintLemmas.{more_cut, more_left}
 
 module _ {A : Type 0} where
   pub same_then : {P : Type 0} (a b c : Consumer (Step A) A P) → SameConsumer a b → SameConsumer b c → SameConsumer a c
   same_then a b c h k = ((k.0.0 ∙ h.0.0, k.0.1 ∙ h.0.1, k.0.2 ∙ h.0.2, k.0.3 ∙ h.0.3), k.1 ∙ h.1)
 
+  -- whether there is a step, of the same steps
+  pub begun_same : (a b : Bool) (xs ys : List (Step A)) → b ≡ a → ys ≡ xs → (a ≡ true) ↔ (xs ≢ []) → (b ≡ true) ↔ (ys ≢ [])
+  begun_same a b xs ys is same knows = subst (λ x. (x ≡ true) ↔ (ys ≢ [])) (sym is) (subst (λ (r : List (Step A)). (a ≡ true) ↔ (r ≢ [])) (sym same) knows)
+
+  -- one step more is a step
+  begun_more : (b : Bool) (xs ys : List (Step A)) (x : Step A) → b ≡ true → ys ≡ xs ++ x ∷ [] → (b ≡ true) ↔ (ys ≢ [])
+  begun_more b xs ys x is more = ((λ _ none. omega (arith, ap length (sym more ∙ none), length-append xs (x ∷ []))), (λ _. is))
+
   -- a scribe has looked into the ring, and taken and written nothing
-  pub only_looked : (s0 s1 : Scribe A) (k : SinkState) → SameConsumer s0.steps s1.steps → received s1.steps ≡ received s0.steps → s1.block ≡ s0.block → HasWritten s0 s1 k k
-  only_looked s0 s1 k same taken block = record {
+  pub only_looked : (s0 s1 : Scribe A) (k : SinkState) → SameConsumer s0.steps s1.steps → received s1.steps ≡ received s0.steps → s1.block ≡ s0.block → s1.is_begun ≡ s0.is_begun → HasWritten s0 s1 k k
+  only_looked s0 s1 k same taken block begun = record {
     same = same;
     steps = [];
     taken = taken ∙ sym (append-nil (received s0.steps));
     left = subst (λ (all : List ℕ). LeavesToWrite k.written k.written s1.block all) (block ∙ sym (append-nil s0.block)) (leaves_all k.written s1.block);
     small = λ less. subst (λ (b : List ℕ). length b < block_size) (sym block) less;
     unfailed = (refl, refl);
+    begun = begun_same s0.is_begun s1.is_begun (received s0.steps) (received s1.steps) begun taken;
   }
 
   same_self : {P : Type 0} (c : Consumer (Step A) A P) → SameConsumer c c
   same_self c = ((refl, refl, refl, refl), refl)
 
   pub written_none : (s : Scribe A) (k : SinkState) → HasWritten s s k k
-  written_none s k = only_looked s s k (same_self s.steps) refl refl
+  written_none s k = only_looked s s k (same_self s.steps) refl refl refl
 
   -- the text of some steps and of others after them
   both_texts : (waited : List ℕ) (steps more : List (Step A)) → (waited ++ steps_text steps) ++ steps_text more ≡ waited ++ steps_text (steps ++ more)
   both_texts waited steps more = append_assoc waited (steps_text steps) (steps_text more) ∙ ap (λ r. waited ++ r) (sym (flat_map-append step_text steps more))
 
   -- all that waited was written
-  pub waiting_written : (s0 s1 : Scribe A) (k0 k1 : SinkState) → s1.steps ≡ s0.steps → s1.block ≡ [] → Appends k0.written k1.written s0.block → NoWriteFailed k0 k1 → HasWritten s0 s1 k0 k1
-  waiting_written s0 s1 k0 k1 steps block all unfailed = record {
+  pub waiting_written : (s0 s1 : Scribe A) (k0 k1 : SinkState) → s1.steps ≡ s0.steps → s1.block ≡ [] → s1.is_begun ≡ s0.is_begun → Appends k0.written k1.written s0.block → NoWriteFailed k0 k1 → HasWritten s0 s1 k0 k1
+  waiting_written s0 s1 k0 k1 steps block begun all unfailed = record {
     same = subst (λ (c : Consumer (Step A) A _). SameConsumer s0.steps c) (sym steps) (same_self s0.steps);
     steps = [];
     taken = ap (λ c. received c) steps ∙ sym (append-nil (received s0.steps));
     left = (s0.block, all, ap (λ r. s0.block ++ r) block);
     small = λ _. subst (λ (b : List ℕ). length b < block_size) (sym block) (omega (arith));
     unfailed = unfailed;
+    begun = begun_same s0.is_begun s1.is_begun (received s0.steps) (received s1.steps) begun (ap (λ c. received c) steps);
   }
 
   -- only a prefix of what waited was
@@ -74,6 +85,7 @@ module _ {A : Type 0} where
           (more_left k0.written k1.written k2.written s1.block s2.block (steps_text more.steps) (s0.block ++ steps_text so_far.steps) so_far.left more.left);
       small = λ less. more.small (so_far.small less);
       unfailed = (more.unfailed.0 ∙ so_far.unfailed.0, more.unfailed.1 ∙ so_far.unfailed.1);
+      begun = λ knows. more.begun (so_far.begun knows);
     }
 
     -- only a prefix of more was
@@ -95,14 +107,15 @@ module _ {A : Type 0} where
     same_ring : SameConsumer s0.steps s2.steps
     same_ring = subst (λ (c : Consumer (Step A) A _). SameConsumer s0.steps c) (sym steps) same
 
-    pub line_written : LeavesToWrite k0.written k1.written s2.block (s0.block ++ step_text x) → length s2.block < block_size → NoWriteFailed k0 k1 → HasWritten s0 s2 k0 k1
-    line_written left small unfailed = record {
+    pub line_written : LeavesToWrite k0.written k1.written s2.block (s0.block ++ step_text x) → length s2.block < block_size → NoWriteFailed k0 k1 → s2.is_begun ≡ true → HasWritten s0 s2 k0 k1
+    line_written left small unfailed begun = record {
       same = same_ring;
       steps = x ∷ [];
       taken = ap (λ c. received c) steps ∙ taken;
       left = subst (λ (all : List ℕ). LeavesToWrite k0.written k1.written s2.block all) line_text left;
       small = λ _. small;
       unfailed = unfailed;
+      begun = λ _. begun_more s2.is_begun (received s0.steps) (received s2.steps) x begun (ap (λ c. received c) steps ∙ taken);
     }
 
     -- or only a prefix of it
@@ -139,10 +152,10 @@ module _ {A : Type 0} where
   -- so where the next was taken, and its line written
   pub writing_next : (s0 s1 s2 s3 : Scribe A) (k0 k1 k2 : SinkState) (i : ℕ) (x : Step A) → IsWriting s0 s1 k0 k1 i → SameConsumer s1.steps s2.steps
       → received s2.steps ≡ received s1.steps ++ x ∷ [] → known_items s1.steps ≡ x ∷ known_items s2.steps → s3.steps ≡ s2.steps
-      → LeavesToWrite k1.written k2.written s3.block (s1.block ++ step_text x) → length s3.block < block_size → NoWriteFailed k1 k2 → IsWriting s0 s3 k0 k2 (i + 1)
+      → LeavesToWrite k1.written k2.written s3.block (s1.block ++ step_text x) → length s3.block < block_size → NoWriteFailed k1 k2 → s3.is_begun ≡ true → IsWriting s0 s3 k0 k2 (i + 1)
   unfolding line_written
-  writing_next s0 s1 s2 s3 k0 k1 k2 i x h same taken ahead steps left small unfailed =
-      writing_more s0 s1 s3 k0 k1 k2 i x h (line_written s1 s2 s3 k1 k2 x same taken steps left small unfailed) refl (ahead ∙ ap (λ c. x ∷ known_items c) (sym steps))
+  writing_next s0 s1 s2 s3 k0 k1 k2 i x h same taken ahead steps left small unfailed begun =
+      writing_more s0 s1 s3 k0 k1 k2 i x h (line_written s1 s2 s3 k1 k2 x same taken steps left small unfailed begun) refl (ahead ∙ ap (λ c. x ∷ known_items c) (sym steps))
 
   -- a step is there where fewer were taken than had come
   pub one_ahead : (s0 s1 : Scribe A) (k0 k1 : SinkState) (i : ℕ) → IsWriting s0 s1 k0 k1 i → i < length (known_items s0.steps) → 0 < length (known_items s1.steps)

@@ -1,6 +1,6 @@
 //! What a scribe leaves once no more steps come.
 
-ghost use Rattle.std.specs.Prelude.{◌≡◌};
+ghost use Rattle.std.specs.Prelude.{◌≡◌, false};
 ghost use Rattle.rtrb.specs.Ring.{IsPair, sent};
 ghost use Rattle.gn_scribe.specs.Written.{HasEnded, HasFinished};
 
@@ -45,7 +45,8 @@ impl<A: Allocator + Copy> Scribe<A> {
 
     /// What waits to be written, where no step is taken.
     pub fn give_up(self) -> Waiting<A>
-        ensures { result.block ≡ self.block }
+        ensures block { result.block ≡ self.block }
+        ensures begun { result.is_begun ≡ false }
     {
         let Scribe { block, .. } = self;
         Waiting {

@@ -32,13 +32,14 @@ pub struct Scribe<A: Allocator = Global> {
 
 impl<A: Allocator + Copy> Scribe<A> {
     ghost use Rattle.gn_io.specs.Streams.{SinkState};
-    ghost use Rattle.gn_scribe.specs.Written.{HasBroken, HasWritten};
+    ghost use Rattle.gn_scribe.specs.Written.{HasBroken, HasWritten, KnowsBegun};
 
     /// A scribe of a ring of which no step was taken yet, with bytes that wait to be written before the first.
     pub fn new(alloc: A, steps: Consumer<Step<A>, A>, block: Block<A>) -> Self
         requires { received steps ≡ [] }
         ensures steps { result.steps ≡ steps }
         ensures block { result.block ≡ block }
+        ensures begun { KnowsBegun result }
     {
         Scribe {
             steps,

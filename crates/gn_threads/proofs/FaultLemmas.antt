@@ -1,5 +1,5 @@
 -- Faults that a run may meet.
-use Rattle.std.proofs.Common.{◌≡◌, ◌⊎◌, ◌<◌, ◌≤◌, ℕ, Bool, true, false, List, length, Option, Some, None, Result, Ok, Err, if◌then◌else◌, sym, subst, inl, inr, arith}
+use Rattle.std.proofs.Common.{◌≡◌, ◌<◌, ◌≤◌, ℕ, Bool, true, false, List, length, Option, Some, None, Result, Ok, Err, if◌then◌else◌, sym, subst, arith}
 use Rattle.std.specs.Prelude.{IfErr, IfSome, IsErrAnd}
 use Rattle.std.proofs.lemmas.Result.{err_from_is_err_and}
 use Rattle.gn_threads.specs.declared.fault.RunFault.{RunFault}
@@ -52,12 +52,6 @@ in_arriving has_peers links workers NoMemory holds = holds
 in_arriving has_peers links workers (Stage fault) holds = holds
 in_arriving has_peers links workers (Audit a) holds = holds
 
--- so of what is answered
-pub err_in_arriving : {T : Type 0} (has_peers : Bool) (links workers : ℕ) (r : Result T RunFault) → IfErr r (λ fault. IsFaultOf links workers fault)
-    → IfErr r (λ fault. IsArrivingFault has_peers links workers fault)
-err_in_arriving has_peers links workers (Ok x) holds = tt
-err_in_arriving has_peers links workers (Err fault) holds = in_arriving has_peers links workers fault holds
-
 -- so of what is answered whatever the links and workers
 pub each_in_arriving : {T : Type 0} (has_peers : Bool) (links : ℕ) (r : Result T RunFault) → IfErr r (λ fault. (links workers : ℕ) → IsFaultOf links workers fault)
     → IfErr r (λ fault. (workers : ℕ) → IsArrivingFault has_peers links workers fault)
@@ -85,18 +79,6 @@ err_without_peers of may links workers (Err e) many holds =
 -- such a fault isn't that there are too few or too many workers
 pub not_bad_workers : (may : List Bool) (workers : ℕ) (fault : RunFault) → IsWholeFault may workers fault → ¬ (fault ≡ BadWorkers)
 not_bad_workers may workers fault holds is = subst (λ x. IsWholeFault may workers x) is holds
-
--- the least of two actors is below what both are below
-pub least_below : (a b : Option ℕ) (k n : ℕ) → IfSome a (λ i. i < n) → IfSome b (λ i. i < n) → (a ≡ Some k) ⊎ (b ≡ Some k) → k < n
-least_below a b k n low high either = elim either as (λ _. k < n) [
-  | inl is ↦ subst (λ o. IfSome o (λ i. i < n)) is low
-  | inr is ↦ subst (λ o. IfSome o (λ i. i < n)) is high
-]
-
--- so is the one that is answered
-pub answer_below : (a b r : Option ℕ) (n : ℕ) → IfSome a (λ i. i < n) → IfSome b (λ i. i < n) → IfSome r (λ k. (a ≡ Some k) ⊎ (b ≡ Some k)) → IfSome r (λ k. k < n)
-answer_below a b None n low high either = tt
-answer_below a b (Some k) n low high either = least_below a b k n low high either
 
 -- an actor of this number is below
 pub number_below : (a : Option ℕ) (number n : ℕ) → number < n → IfSome a (λ i. i ≡ number) → IfSome a (λ i. i < n)

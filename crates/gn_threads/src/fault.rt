@@ -1,4 +1,4 @@
-//! Why a run has no report.
+//! Why a run has no report and no account.
 
 use gn_bodies::BodyFault;
 use gn_links::SplitFault;
@@ -22,8 +22,8 @@ pub enum RunFault {
     NoMemory,
     /// The house couldn't close the queue of tickets at the end: a thread hadn't given it up, or out of memory.
     Stage(StageFault),
-    /// A look at the end failed at this actor: it was refused a Route, or reads a link whose ends don't fit the run; or it
-    /// is the house, and something is in flight, or the router's configuration isn't the run's.
+    /// This actor was refused a Route or hasn't its place's number, or reads a link whose ends don't fit the run; or it is
+    /// the house, and something is in flight, or the router's configuration isn't the run's.
     Audit(u32),
 }
 

@@ -14,7 +14,8 @@ pub struct Halted<A: Allocator = Global> {
     /// The history up to where the run stopped, whole, as only proofs read it; `None`, where it hasn't begun, or something of it
     /// isn't confirmed.
     pub history: Option<Unkept<Step<A>>>,
-    /// What each link's bodies did, in the order of the links, where all bodies of the run have ended and there is memory for it.
+    /// What each link's bodies did, in the order of the links; `None`, where not all links came, where a look at the end failed, or
+    /// where there is no memory for it.
     pub links: Option<Vec<LinkTally, A>>,
 }
 

@@ -11,7 +11,7 @@ use crate::fault::RunFault;
 use gn_actors::{Home, Named};
 use gn_hub::{Actor, Hub};
 use gn_rules::RouterCore;
-use std::alloc::{AllocError, Allocator, Global};
+use std::alloc::{AllocError, Allocator};
 use std::sync::ledger::Ledger;
 
 /// The first place of an actor that hasn't the place's number.
@@ -109,40 +109,7 @@ pub(crate) fn come_home<L: Ledger + Named, C: RouterCore<A>, A: Allocator + Copy
     if let Some(place) = misplaced(actors.as_slice()) {
         return Err(RunFault::Audit(place));
     }
+    // Its contract says that the history has no more steps, and so each actor no more receipts, than a vector may hold.
     let _count = hub.router().step_count();
     Ok(bring_home(alloc, hub, actors)?)
-}
-
-/// All actors who are home, by what they are.
-#[derive(Drop)]
-pub(crate) struct Dealt<A: Allocator = Global> {
-    pub readers: Vec<Came<A>, A>,
-    pub writers: Vec<Came<A>, A>,
-    pub workers: Vec<Came<A>, A>,
-    pub house: Came<A>,
-}
-
-/// Deals out all actors of a run with so many links, who are home. An `Err` is out of memory.
-pub(crate) fn deal<A: Allocator + Copy>(
-    all: Vec<Came<A>, A>,
-    links: usize,
-) -> Result<Dealt<A>, AllocError>
-    requires { links + links < vec_len all }
-    ensures many { IfOk result (λ dealt. (vec_len dealt.readers ≡ links) × (vec_len dealt.writers ≡ links)
-        × (links + links + vec_len dealt.workers + 1 ≡ vec_len all)) }
-    ensures all { IfOk result (λ dealt. all.items
-        ≡ dealt.readers.items ++ (dealt.writers.items ++ (dealt.workers.items ++ dealt.house ∷ []))) }
-{
-    let mut readers = all;
-    let mut writers = readers.split_off(links)?;
-    let mut workers = writers.split_off(links)?;
-    let Some(house) = workers.pop() else {
-        unreachable!()
-    };
-    Ok(Dealt {
-        readers,
-        writers,
-        workers,
-        house,
-    })
 }

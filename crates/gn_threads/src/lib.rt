@@ -1,4 +1,5 @@
-//! The run: a thread for the reader and the writer of each link and for each worker, until all links are done; and its report.
+//! The run: a thread for the reader and the writer of each link and for each worker, until all links are done; and its report
+//! or account.
 #![tactic(auto)]
 
 mod actors;

@@ -1,7 +1,6 @@
 //! How all bodies of a run are started and joined.
 
 ghost use Rattle.std.specs.Prelude.{◌≡◌, ◌<◌, ◌++◌, ◌∷◌, [], ℕ, Bool, true, length, map, vec_len, IfErr, IfOk, OnOk};
-ghost use Rattle.gn_links.specs.Halves.{IsNewReader, IsNewWriter};
 ghost use Rattle.gn_threads.specs.Faults.{IsArrivingFault};
 ghost use Rattle.gn_threads.specs.Joined.{AreJoinedOf, worker_state};
 ghost use Rattle.gn_bodies.specs.Done.{IsReaderDone, IsWriterDone, reader_ended, writer_ended};

@@ -6,6 +6,7 @@ pub use Rattle.gn_report.specs.Actors
 pub use Rattle.gn_report.specs.BodyEnds
 pub use Rattle.gn_report.specs.Flaw
 pub use Rattle.gn_report.specs.Survey
+pub use Rattle.gn_report.specs.Told
 pub use Rattle.gn_threads.specs.Courses
 pub use Rattle.gn_threads.specs.Ends
 pub use Rattle.gn_threads.specs.Faults

@@ -59,7 +59,7 @@ impl Peer {
         matches!(self, Peer::Called | Peer::CalledLate)
     }
 
-    /// Whether its run is over soon after it. One that was flooded with large packets compares megabytes first.
+    /// Whether its run is over soon after it. One that was flooded with large packets makes megabytes of receipts first.
     pub(crate) fn is_brief(self) -> bool {
         !matches!(self, Peer::NeverReads | Peer::Deaf | Peer::ReadsLate)
     }

@@ -15,7 +15,7 @@ pub loop-preserved : goal.loop-preserved
 loop-preserved g c =
     writing_next c.args.self.now c.loop.self (record { steps = c.pop_known-step.new.self; block = c.loop.self.block; line = c.loop.self.line; is_begun = true }) _ (g.W.Sink.state c.args.sink.now) (g.W.Sink.state c.loop.sink) (g.W.Sink.state c.print_step-printed.new.sink)
     c.loop.counter c.pop_known-step.result c.loop.invariant c.pop_known-step.ensures.ring c.pop_known-step.ensures.received.0 c.pop_known-step.ensures.received.1 refl
-    c.in_ok-printed.ensures.ok c.in_ok-printed.ensures.small c.in_ok-printed.ensures.writes
+    c.in_ok-printed.ensures.ok c.in_ok-printed.ensures.small c.in_ok-printed.ensures.writes refl
 
 pub returns-in_err-printed-clause-ahead : goal.returns-in_err-printed-clause-ahead
 returns-in_err-printed-clause-ahead g c =

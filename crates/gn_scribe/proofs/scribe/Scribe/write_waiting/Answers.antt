@@ -9,5 +9,5 @@ returns-in_err-write_rest-clause-err g c =
 
 pub returns-clause-ok : goal.returns-clause-ok
 returns-clause-ok g c =
-    waiting_written c.args.self.now _ (g.W.Sink.state c.args.sink.now) (g.W.Sink.state c.write_rest.new.sink) refl c.write_rest.ensures.empty c.in_ok-write_rest.ensures.ok
+    waiting_written c.args.self.now _ (g.W.Sink.state c.args.sink.now) (g.W.Sink.state c.write_rest.new.sink) refl c.write_rest.ensures.empty refl c.in_ok-write_rest.ensures.ok
     c.in_ok-write_rest.ensures.unfailed
