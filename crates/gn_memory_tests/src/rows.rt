@@ -15,27 +15,23 @@ type Row = (Asked, &'static str, &'static [u64]);
 
 /// At the router with tables. A step grows for its receipt, its packets, and where a table or the history is full.
 const WITH_TABLES: [Row; 13] = [
-    (Asked::Apply, FIRST_PING, &[2, 1, 8, 10]),
+    (Asked::Apply, FIRST_PING, &[2, 1, 8, 9]),
     (
         Asked::Apply,
         REMEMBERED_AND_FORGOTTEN,
-        &[2, 8, 10, 0, 7, 0, 0, 0, 7, 0, 6],
+        &[2, 8, 9, 0, 6, 0, 0, 0, 6, 0, 5],
     ),
     (
         Asked::Apply,
         ONE_REMEMBERED,
-        &[2, 1, 8, 10, 1, 6, 0, 0, 1, 3],
+        &[2, 1, 8, 9, 1, 5, 0, 0, 1, 3],
     ),
-    (
-        Asked::Apply,
-        PONGS_GO_BACK,
-        &[2, 1, 8, 10, 1, 3, 0, 3, 1, 0],
-    ),
-    (Asked::Apply, CLOSE_AND_REJOIN, &[2, 1, 8, 10, 1, 1, 0, 0]),
+    (Asked::Apply, PONGS_GO_BACK, &[2, 1, 8, 9, 1, 3, 0, 3, 1, 0]),
+    (Asked::Apply, CLOSE_AND_REJOIN, &[2, 1, 8, 9, 1, 1, 0, 0]),
     (
         Asked::Apply,
         BUSY_AND_FULL_OUTPUT,
-        &[2, 1, 8, 0, 11, 0, 6, 0, 1, 6],
+        &[2, 1, 8, 0, 10, 0, 5, 0, 1, 5],
     ),
     (Asked::Apply, ORIGINATED, &[2, 7, 8, 0, 4]),
     (
@@ -43,8 +39,8 @@ const WITH_TABLES: [Row; 13] = [
         FORGOTTEN_SERVENTS,
         &[2, 1, 1, 8, 8, 0, 8, 0, 5, 0, 3, 0, 3, 0, 3, 0, 1],
     ),
-    (Asked::Route, FIRST_PING, &[10]),
-    (Asked::Enter, FIRST_PING, &[2, 1, 8, 9]),
+    (Asked::Route, FIRST_PING, &[9]),
+    (Asked::Enter, FIRST_PING, &[2, 1, 8, 8]),
     (Asked::Enter, ORIGINATED, &[2, 6, 8, 0, 3]),
     (Asked::Add, FIRST_PING, &[2, 1, 8, 5]),
     (Asked::Add, ORIGINATED, &[2, 5, 8, 0, 2]),
@@ -52,12 +48,12 @@ const WITH_TABLES: [Row; 13] = [
 
 /// At the router that searches its history, which is all that grows beside packets and receipts.
 const IN_HISTORY: [Row; 9] = [
-    (Asked::Apply, FIRST_PING, &[2, 0, 0, 5]),
-    (Asked::Apply, PONGS_GO_BACK, &[2, 0, 0, 5, 1, 2, 0, 2, 1, 0]),
-    (Asked::Apply, CLOSE_AND_REJOIN, &[2, 0, 0, 5, 1, 0, 0, 0]),
+    (Asked::Apply, FIRST_PING, &[2, 0, 0, 4]),
+    (Asked::Apply, PONGS_GO_BACK, &[2, 0, 0, 4, 1, 2, 0, 2, 1, 0]),
+    (Asked::Apply, CLOSE_AND_REJOIN, &[2, 0, 0, 4, 1, 0, 0, 0]),
     (Asked::Apply, ORIGINATED, &[2, 2, 0, 0, 3]),
-    (Asked::Route, FIRST_PING, &[5]),
-    (Asked::Enter, FIRST_PING, &[2, 0, 0, 4]),
+    (Asked::Route, FIRST_PING, &[4]),
+    (Asked::Enter, FIRST_PING, &[2, 0, 0, 3]),
     (Asked::Enter, ORIGINATED, &[2, 1, 0, 0, 2]),
     (Asked::Add, FIRST_PING, &[2, 0, 0, 0]),
     (Asked::Add, ORIGINATED, &[2, 0, 0, 0, 1]),
@@ -68,24 +64,24 @@ type List = (&'static str, u64);
 
 /// The growths at the router over tables.
 const LISTS_WITH_TABLES: [List; 7] = [
-    (FIRST_PING, 22),
-    (EXPIRED_PING, 24),
-    (TTL_AND_HOPS_LIMITS, 30),
-    (REMEMBERED_AND_FORGOTTEN, 41),
-    (ONE_REMEMBERED, 33),
-    (PONGS_GO_BACK, 30),
-    (CLOSE_AND_REJOIN, 24),
+    (FIRST_PING, 21),
+    (EXPIRED_PING, 23),
+    (TTL_AND_HOPS_LIMITS, 28),
+    (REMEMBERED_AND_FORGOTTEN, 37),
+    (ONE_REMEMBERED, 31),
+    (PONGS_GO_BACK, 29),
+    (CLOSE_AND_REJOIN, 23),
 ];
 
 /// The growths at the router that searches its history.
 const LISTS_IN_HISTORY: [List; 7] = [
-    (FIRST_PING, 8),
-    (EXPIRED_PING, 9),
-    (TTL_AND_HOPS_LIMITS, 15),
-    (REMEMBERED_AND_FORGOTTEN, 25),
-    (ONE_REMEMBERED, 17),
-    (PONGS_GO_BACK, 14),
-    (CLOSE_AND_REJOIN, 9),
+    (FIRST_PING, 7),
+    (EXPIRED_PING, 8),
+    (TTL_AND_HOPS_LIMITS, 13),
+    (REMEMBERED_AND_FORGOTTEN, 21),
+    (ONE_REMEMBERED, 15),
+    (PONGS_GO_BACK, 13),
+    (CLOSE_AND_REJOIN, 8),
 ];
 
 /// Whether each row meets its growths. An `Err` names the first that doesn't.

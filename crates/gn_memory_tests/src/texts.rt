@@ -369,8 +369,8 @@ type Row = (Command, &'static str, &'static str, u64, u64);
 
 /// Each command over the first Ping's capture or history.
 const COMMANDS: [Row; 8] = [
-    (Command::Replay, CAPTURE, PRINTED, 48, 49),
-    (Command::ReplayHistory, CAPTURE, FIRST_PING, 51, 52),
+    (Command::Replay, CAPTURE, PRINTED, 47, 48),
+    (Command::ReplayHistory, CAPTURE, FIRST_PING, 50, 51),
     (
         Command::Audit(Legality::Legal),
         FIRST_PING,
@@ -389,8 +389,8 @@ const COMMANDS: [Row; 8] = [
         Command::Audit(Legality::WrongAt(2)),
         ONE_CONNECTION,
         "wrong 2\n",
+        30,
         31,
-        32,
     ),
     (
         Command::Audit(Legality::WrongAt(3)),

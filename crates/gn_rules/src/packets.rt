@@ -6,7 +6,7 @@ ghost use Rattle.gn_rules.specs.Sending as sending;
 
 use crate::config::Own;
 use bytes::Bytes;
-use gn_payload::{Pong, Verdict, verdict_on, write_pong};
+use gn_payload::{Pong, Verdict, encode_pong, verdict_on};
 use gn_wire::{Descriptor, Kind};
 use std::alloc::{AllocError, Allocator};
 
@@ -25,15 +25,13 @@ pub fn own_pong<A: Allocator + Copy>(
         files: own.files,
         kbytes: own.kbytes,
     };
-    let mut payload = Vec::new(alloc);
-    write_pong(&pong, &mut payload)?;
     let ttl = ping.hops().saturating_add(1);
     match Descriptor::new(
         ping.id(),
         Kind::Pong,
         ttl,
         0,
-        Bytes::copy_from_slice(alloc, &payload)?,
+        Bytes::copy_from_slice(alloc, &encode_pong(&pong))?,
     ) {
         Ok(pong) => Ok(pong),
         Err(_) => unreachable!(),

@@ -127,7 +127,8 @@ impl<A: Allocator> Reply<A> {
 }
 
 impl<A: Allocator + Copy> Reply<A> {
-    /// An equal reply. An `Err` is out of memory.
+    /// An equal reply. An `Err` is out of memory. It is inlined, so that the copy is made where it is kept.
+    #[inline(always)]
     pub fn copy(&self, alloc: A) -> Result<Self, AllocError>
         ensures { IfOk result (λ r. r ≡ self.now) }
     {
