@@ -54,7 +54,7 @@ fn most_sends<A: Allocator, L: Lookup<A>>(past: &L, outgoing: &Outgoing<'_, A>) 
 }
 
 /// The packets that are outgoing, in room that is made once. An `Err` is out of memory.
-fn sends_of<A: Allocator + Copy, L: Lookup<A>>(
+pub(crate) fn sends_of<A: Allocator + Copy, L: Lookup<A>>(
     alloc: A,
     past: &L,
     outgoing: &Outgoing<'_, A>,

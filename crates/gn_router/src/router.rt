@@ -1,17 +1,21 @@
 //! The router, once for all stores.
 
-ghost use Rattle.std.specs.Prelude.{◌≡◌, ◌∷◌, ◌++◌, [], Ok, length, reverse, IfOk, OnErr, OnOk};
+ghost use Rattle.std.specs.Prelude.{◌≡◌, ◌∷◌, ◌++◌, [], Ok, length, reverse, IfErr, IfOk, OnErr, OnOk};
 ghost use Rattle.gn_rules.specs.Answer as rules;
+ghost use Rattle.gn_rules.specs.declared.event.Event.TheVariants.{Take};
+ghost use Rattle.gn_rules.specs.declared.refusal.Refusal.TheVariants.{NoMemory};
+ghost use Rattle.gn_rules.specs.declared.reply.Reply.TheVariants.{Taken};
 
-use crate::answering::{find, reply_of};
+use crate::answering::{find, reply_of, sends_of};
 use crate::comparing;
 use crate::store::{FreshStore, StepStore, Store};
-use gn_decide::{Found, Places, plan_checked, plan_of};
+use gn_decide::{Found, Places, Plan, plan_checked, plan_of};
 use gn_payload::Checked;
 use gn_rules::{
     Config, ConnId, Event, FreshRouter, Historian, Receipt, Refusal, Reply, RouterCore, Stats,
     Step, Ticket,
 };
+use gn_wire::Descriptor;
 use std::alloc::{AllocError, Allocator, Global};
 
 /// A router over a store: it finds each answer by what the store looks up, and makes its step the store's last. Receipts and
@@ -24,6 +28,7 @@ pub struct Router<S, A: Allocator + Copy = Global> {
 
 impl<S: Store<A>, A: Allocator + Copy> Router<S, A> {
     /// The receipt of the next step, with copies of its event and its reply. An `Err` is out of memory.
+    #[inline(always)]
     fn receipt_of(&self, event: &Event<A>, reply: &Reply<A>) -> Result<Receipt<A>, AllocError>
         ensures { IfOk result (λ receipt. receipt
             ≡ record { index = length (S.steps self.now.store); event = event.now; reply = reply.now }) }
@@ -35,44 +40,66 @@ impl<S: Store<A>, A: Allocator + Copy> Router<S, A> {
         })
     }
 
-    /// Makes the step of a copy of an event and the rules' reply the last. An `Err` is out of memory, and changes nothing.
+    /// Makes the step of an event and the rules' reply the last, and gives its receipt. An `Err` is out of memory, and
+    /// changes nothing. It is inlined, so that of an event and a reply whose kinds are known only what these have is moved.
+    #[inline(always)]
     fn record(
         &mut self,
         actor: u32,
         places: Places,
-        event: &Event<A>,
+        event: Event<A>,
         reply: Reply<A>,
-    ) -> Result<(), AllocError>
-        requires { rules.answer (S.settings self.old.store) (reverse (S.steps self.old.store)) event.now ≡ Ok reply }
-        ensures step { OnOk result (S.steps self.new.store
-            ≡ S.steps self.old.store ++ record { actor = actor; event = event.now; reply = reply } ∷ []) }
+    ) -> Result<Receipt<A>, Refusal>
+        requires { rules.answer (S.settings self.old.store) (reverse (S.steps self.old.store)) event ≡ Ok reply }
+        ensures answer { rules.Finds (rules.reply_of result) (Ok reply) }
+        ensures step { IfOk result (λ receipt. S.steps self.new.store
+            ≡ S.steps self.old.store ++ record { actor = actor; event = event; reply = receipt.reply } ∷ []) }
+        ensures index { IfOk result (λ receipt. receipt.index ≡ length (S.steps self.old.store)) }
+        ensures event { IfOk result (λ receipt. receipt.event ≡ event) }
         ensures err { OnErr result (S.steps self.new.store ≡ S.steps self.old.store) }
         ensures settings { S.settings self.new.store ≡ S.settings self.old.store }
     {
-        let mut reply = reply;
-        let Ok(mut event) = event.copy() else {
-            drop(reply);
-            return Err(AllocError);
-        };
-        let followed = self
-            .store
-            .follow(self.alloc, actor, places, &mut event, &mut reply);
-        drop(event);
-        drop(reply);
-        followed
+        let (mut event, mut reply) = (event, reply);
+        let receipt = self.receipt_of(&event, &reply)?;
+        self.store
+            .follow(self.alloc, actor, places, &mut event, &mut reply)?;
+        Ok(receipt)
     }
 
-    /// Makes the step of an event and the rules' reply the last, and gives its receipt. An `Err` is out of memory, and
+    /// Makes the step of a Take the last, of whose packet this is a copy, and gives its receipt. An `Err` is out of memory, and
     /// changes nothing.
-    fn record_with_receipt(
+    #[inline(always)]
+    fn record_take(
         &mut self,
         actor: u32,
         places: Places,
-        event: &Event<A>,
-        reply: Reply<A>,
+        c: ConnId,
+        packet: Descriptor<A>,
     ) -> Result<Receipt<A>, Refusal>
-        requires { rules.answer (S.settings self.old.store) (reverse (S.steps self.old.store)) event.now ≡ Ok reply }
-        ensures answer { rules.Finds (rules.reply_of result) (Ok reply) }
+        requires { rules.answer (S.settings self.old.store) (reverse (S.steps self.old.store)) (Take c)
+            ≡ Ok (Taken packet) }
+        ensures receipt { IfOk result (λ receipt. receipt
+            ≡ record { index = length (S.steps self.old.store); event = Take c; reply = Taken packet }) }
+        ensures step { OnOk result (S.steps self.new.store
+            ≡ S.steps self.old.store ++ record { actor = actor; event = Take c; reply = Taken packet } ∷ []) }
+        ensures refusal { IfErr result (λ refusal. refusal ≡ NoMemory) }
+        ensures err { OnErr result (S.steps self.new.store ≡ S.steps self.old.store) }
+        ensures settings { S.settings self.new.store ≡ S.settings self.old.store }
+    {
+        let index = RouterCore::step_count(self);
+        self.store
+            .follow_take(self.alloc, actor, places, c, &packet)?;
+        Ok(Receipt {
+            index,
+            event: Event::Take(c),
+            reply: Reply::Taken(packet),
+        })
+    }
+
+    /// As `apply`, whatever the event is.
+    fn answer(&mut self, actor: u32, event: &Event<A>) -> Result<Receipt<A>, Refusal>
+        ensures answer { rules.Finds (rules.reply_of result)
+            (rules.answer (S.settings self.old.store) (reverse (S.steps self.old.store)) event.now) }
         ensures step { IfOk result (λ receipt. S.steps self.new.store
             ≡ S.steps self.old.store ++ record { actor = actor; event = event.now; reply = receipt.reply } ∷ []) }
         ensures index { IfOk result (λ receipt. receipt.index ≡ length (S.steps self.old.store)) }
@@ -80,17 +107,9 @@ impl<S: Store<A>, A: Allocator + Copy> Router<S, A> {
         ensures err { OnErr result (S.steps self.new.store ≡ S.steps self.old.store) }
         ensures settings { S.settings self.new.store ≡ S.settings self.old.store }
     {
-        let Ok(receipt) = self.receipt_of(event, &reply) else {
-            drop(reply);
-            return Err(Refusal::NoMemory);
-        };
-        match self.record(actor, places, event, reply) {
-            Ok(()) => Ok(receipt),
-            Err(_) => {
-                drop(receipt);
-                Err(Refusal::NoMemory)
-            }
-        }
+        let Found { plan, places } = plan_of(&self.store, event)?;
+        let reply = reply_of(self.alloc, &self.store, plan)?;
+        self.record(actor, places, event.copy()?, reply)
     }
 }
 
@@ -103,10 +122,24 @@ impl<S: Store<A>, A: Allocator + Copy> RouterCore<A> for Router<S, A> {
         find(self.alloc, &self.store, event)
     }
 
+    // Most events are Takes. Inlined for these, it moves little besides the packet.
+    #[inline(always)]
     fn apply(&mut self, actor: u32, event: &Event<A>) -> Result<Receipt<A>, Refusal> {
-        let Found { plan, places } = plan_of(&self.store, event)?;
-        let reply = reply_of(self.alloc, &self.store, plan)?;
-        self.record_with_receipt(actor, places, event, reply)
+        let Event::Take(c) = event else {
+            return self.answer(actor, event);
+        };
+        let event = Event::Take(*c);
+        let Found { plan, places } = plan_of(&self.store, &event)?;
+        match plan {
+            Plan::Taken(packet) => {
+                let packet = packet.copy()?;
+                self.record_take(actor, places, *c, packet)
+            }
+            plan => {
+                let reply = reply_of(self.alloc, &self.store, plan)?;
+                self.record(actor, places, event, reply)
+            }
+        }
     }
 
     fn enter(&mut self, actor: u32, event: &mut Event<A>) -> Result<(), Refusal> {
@@ -138,11 +171,17 @@ impl<S: Store<A>, A: Allocator + Copy> RouterCore<A> for Router<S, A> {
         checked: &Checked<A>,
     ) -> Result<Receipt<A>, Refusal> {
         let Found { plan, places } = plan_checked(&self.store, ticket, checked)?;
-        let reply = reply_of(self.alloc, &self.store, plan)?;
         let event = Event::Route(ticket);
-        let answer = self.record_with_receipt(actor, places, &event, reply);
-        drop(event);
-        answer
+        match plan {
+            Plan::Routed(outgoing, local) => {
+                let sends = sends_of(self.alloc, &self.store, &outgoing)?;
+                self.record(actor, places, event, Reply::Routed { sends, local })
+            }
+            plan => {
+                let reply = reply_of(self.alloc, &self.store, plan)?;
+                self.record(actor, places, event, reply)
+            }
+        }
     }
 
     fn config(&self) -> &Config {

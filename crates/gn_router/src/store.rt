@@ -3,9 +3,12 @@
 ghost use Rattle.std.specs.Prelude.{◌≡◌, ◌∷◌, ◌++◌, [], Ok, reverse, IfOk, OnErr, OnOk};
 ghost use Rattle.gn_rules.specs.Answer as rules;
 ghost use Rattle.gn_rules.specs.Statistics.{stats_of};
+ghost use Rattle.gn_rules.specs.declared.event.Event.TheVariants.{Take};
+ghost use Rattle.gn_rules.specs.declared.reply.Reply.TheVariants.{Taken};
 
 use gn_decide::{Lookup, Places};
-use gn_rules::{Config, Event, Reply, Stats, Step};
+use gn_rules::{Config, ConnId, Event, Reply, Stats, Step};
+use gn_wire::Descriptor;
 use std::alloc::{AllocError, Allocator};
 use std::mem;
 
@@ -28,6 +31,27 @@ pub trait Store<A: Allocator + Copy>: Lookup<A> {
         ensures event { OnErr result (event.new ≡ event.old) }
         ensures reply { OnErr result (reply.new ≡ reply.old) }
         ensures settings { Self.settings self.new ≡ Self.settings self.old };
+
+    /// As `follow` of a Take, of whose packet this is a copy: the packet itself can be moved out of what waits.
+    fn follow_take(
+        &mut self,
+        alloc: A,
+        actor: u32,
+        places: Places,
+        c: ConnId,
+        packet: &Descriptor<A>,
+    ) -> Result<(), AllocError>
+        requires { rules.answer (Self.settings self.old) (reverse (Self.steps self.old)) (Take c)
+            ≡ Ok (Taken packet.now) }
+        ensures step { OnOk result (Self.steps self.new
+            ≡ Self.steps self.old ++ record { actor = actor; event = Take c; reply = Taken packet.now } ∷ []) }
+        ensures err { OnErr result (Self.steps self.new ≡ Self.steps self.old) }
+        ensures settings { Self.settings self.new ≡ Self.settings self.old }
+    {
+        let mut event = Event::Take(c);
+        let mut reply = Reply::Taken(packet.copy()?);
+        self.follow(alloc, actor, places, &mut event, &mut reply)
+    }
 
     /// How many steps had each reply.
     fn stats(&self) -> Stats

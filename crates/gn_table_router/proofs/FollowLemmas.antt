@@ -1,7 +1,7 @@
 -- What an event with its reply and its packets do to the tables is what one more step makes of them.
 use Rattle.std.proofs.Common.{◌≡◌, ℕ, ◌+◌, ◌<◌, ◌≤◌, ◌==◌, not, Bool, true, false, cond, if◌then◌else◌, List, [], ◌∷◌, length, is_some, slice_get, nat_le, ◌&&◌, ok_or, Option, Some, None, Result, Ok, Err, refl, sym, ap, ◌∙◌, subst, arith}
 use Rattle.std.specs.List.{All}
-use Rattle.std.specs.Option.{option_map}
+use Rattle.std.specs.Option.{option_and_then, option_map}
 use Rattle.std.specs.FinMap as fin
 use Rattle.std.proofs.lemmas.Grind.{common_steps}
 use Rattle.gn_wire.specs.declared.key.Key.{Key}
@@ -27,7 +27,7 @@ use Rattle.gn_rules.specs.SeenEntries.{is_remembered, entry_of}
 use Rattle.gn_rules.specs.Statistics.{counter_of, raised, stats_of}
 use Rattle.gn_rules.proofs.StepLemmas.{rows-closed, rows-connected, rows-sent, rows-taken}
 use Rattle.gn_tables.specs.declared.flights.Flight.{Flight}
-use Rattle.gn_tables.specs.Outputs.{Outputs, joined, left, popped}
+use Rattle.gn_tables.specs.Outputs.{Outputs, first_of, joined, left, output_of, popped}
 use Rattle.gn_table_router.specs.declared.tables.Tables.{Tables}
 use Rattle.gn_kept.specs.Remembered.{with_kept}
 use Rattle.gn_tables.specs.Routed.{with_heard}
@@ -38,6 +38,7 @@ use Rattle.gn_table_router.proofs.DecisionLemmas.{route_sends}
 use Rattle.gn_table_router.proofs.FlightLemmas.{flights_admitted, flights_kept, flights_routed}
 use Rattle.gn_table_router.proofs.MemoryLemmas.{known_routed, remembered_routed, known_more, remembered_more, with_entry_of, with_hit_of}
 use Rattle.gn_table_router.proofs.NumberLemmas.{numbered_closed, numbered_connected, numbered_kept}
+use Rattle.gn_table_router.proofs.ReadLemmas.{front_known}
 use Rattle.gn_table_router.proofs.SendableLemmas.{AreSendable, fanout_sends, sends_quiet, sent_none}
 
 pub below_from : (n m : ℕ) → n ≤ m → (n == m) ≡ false → n < m
@@ -60,6 +61,15 @@ pub first_for : {A : Type 0} (packets : List Packet) (reply : Reply A) → ok_or
     → (p : Packet) × (reply ≡ Taken p)
 first_for [] reply h = absurd (cc)
 first_for (p ∷ ps) reply h = let is : reply ≡ Taken p = cc in (p, is)
+
+-- the packet that is taken is the first that waits
+first_is : {A : Type 0} (o : Option Packet) (p : Packet) → ◌≡◌ {A = Result (Reply A) Refusal} (ok_or (option_map (λ p. Taken p) o) NothingWaiting) (Ok (Taken p)) → o ≡ Some p
+first_is None p h = absurd (cc)
+first_is (Some q) p h = cc
+
+first_there : {X Y : Type 0} (f : X → Option Y) (o : Option X) (y : Y) → option_map f o ≡ Some (Some y) → option_and_then f o ≡ Some y
+first_there f None y h = absurd (cc)
+first_there f (Some x) y h = cc
 
 -- what may be originated, and isn't remembered
 pub origin_for : {A : Type 0} (may known : Bool) (sends : List (Sending A)) (reply : Reply A)
@@ -126,6 +136,14 @@ module _ {A : Type 0} (s : Config) (past : List (Step A)) (t : Tables A) (are : 
       → sent (sends_of step.reply) t.neighbours ≡ outputs s (step ∷ past)
   lines_sent step none no_close no_take =
       ap (sent (sends_of step.reply)) are.neighbours_are ∙ ap with_rows (sym (rows-sent past step none no_close no_take))
+
+  -- so it is the first of the table's, too
+  pub first_taken : (c : ℕ) (p : Packet) → answer s past (Take c) ≡ Ok (Taken p) → first_of c t.neighbours ≡ Some p
+  first_taken c p h =
+      let found = live_for (live past c) (ok_or (option_map (λ p. Taken p) (slice_get (out past c) 0)) NothingWaiting) (Taken p) (room_for _ _ (Taken p) h).1 in
+      let head : slice_get (out past c) 0 ≡ Some p = first_is {A = A} (slice_get (out past c) 0) p found.1 in
+      let there : (if live past c then Some (slice_get (out past c) 0) else None) ≡ Some (Some p) = rw (found.0, head) refl in
+      first_there (λ packets. slice_get packets 0) (output_of c t.neighbours) p (front_known s past t are c ∙ there)
 
   stats_moved : (reply : Reply A) → raised (counter_of reply) t.stats ≡ raised (counter_of reply) (stats_of past)
   stats_moved reply = ap (raised (counter_of reply)) are.stats_are
@@ -275,3 +293,10 @@ module _ {A : Type 0} (s : Config) (past : List (Step A)) (t : Tables A) (are : 
     follows (Route u) reply h = routes u reply h
     follows (Take c) reply h = takes c reply h
     follows (Originate d) reply h = originates d reply h
+
+    -- a Take, after which no packets are queued
+    pub follows_take : (c : ℕ) (p : Packet) → answer s past (Take c) ≡ Ok (Taken p)
+        → IsTabled s (record { actor = actor; event = Take c; reply = Taken p } ∷ past) (followed {A = A} (Take c) (Taken p) t)
+    follows_take c p h =
+        subst (λ (o : Outputs). IsTabled s (record { actor = actor; event = Take c; reply = Taken p } ∷ past) (record (followed {A = A} (Take c) (Taken p) t) { neighbours = o }))
+        (sent_none A (popped c t.neighbours)) (takes c (Taken p) h)

@@ -1,9 +1,12 @@
 //! What an event with its reply does to the tables.
 
-ghost use Rattle.std.specs.Prelude.{◌≡◌, OnErr, OnOk};
+ghost use Rattle.std.specs.Prelude.{◌≡◌, Some, OnErr, OnOk};
 ghost use Rattle.std.specs.FinMap as map;
 ghost use Rattle.gn_wire.specs.Keys.{key_of};
 ghost use Rattle.gn_kept.specs.Remembered.{IsNewKey};
+ghost use Rattle.gn_rules.specs.declared.event.Event.TheVariants.{Take};
+ghost use Rattle.gn_rules.specs.declared.reply.Reply.TheVariants.{Taken};
+ghost use Rattle.gn_tables.specs.Outputs.{first_of};
 ghost use Rattle.gn_table_router.specs.Followed as after;
 ghost use Rattle.gn_table_router.specs.Sent.{CanSend, sent};
 
@@ -17,6 +20,7 @@ use std::alloc::{AllocError, Allocator};
 impl<A: Allocator + Copy> Tables<A> {
     /// Does what an event with this reply does to the tables; its packets are queued after it. An `Err` is out of memory, and
     /// changes nothing.
+    #[inline(always)]
     pub(crate) fn follow(
         &mut self,
         places: Places,
@@ -34,6 +38,7 @@ impl<A: Allocator + Copy> Tables<A> {
 
     /// Does what an event with this reply does to the tables, its count left out. An `Err` is out of memory, and changes
     /// nothing.
+    #[inline(always)]
     fn update(
         &mut self,
         places: Places,
@@ -116,7 +121,27 @@ impl<A: Allocator + Copy> Tables<A> {
         self.seen.keep(packet.kind(), packet.id(), 0)
     }
 
+    /// Does what a Take of this packet does to the tables, and gives the packet, moved out of what waits. Its connection is looked
+    /// for at the place `near` first.
+    #[inline(always)]
+    pub(crate) fn take(&mut self, near: usize, c: u32, packet: &Descriptor<A>) -> Descriptor<A>
+        requires first { first_of c self.old.neighbours ≡ Some packet.now }
+        requires can { after.CanFollow {A = A} (Take c) (Taken packet.now) self.old }
+        ensures packet { result ≡ packet.now }
+        ensures tables { self.new ≡ after.followed {A = A} (Take c) (Taken packet.now) self.old }
+    {
+        let _ = packet;
+        match self.neighbours.pop_near(near, c) {
+            Some(first) => {
+                self.stats.raise(Counter::Taken);
+                first
+            }
+            None => unreachable!(),
+        }
+    }
+
     /// Queues the packets that a reply sends. The first one's connection is looked for at the place `near` first.
+    #[inline(always)]
     pub(crate) fn queue(&mut self, near: usize, sends: Sends<A>)
         requires { CanSend sends self.old.neighbours }
         ensures { self.new ≡ after.queued sends self.old }

@@ -145,6 +145,7 @@ impl<A: Allocator + Copy, K: Keeper<A>> Lookup<A> for TableStore<A, K> {
 }
 
 /// Copies of the packets that a reply sends, where the keeper takes the reply; `None` where it leaves it. An `Err` is out of memory.
+#[inline(always)]
 fn copies_for<A: Allocator + Copy, K: Keeper<A>>(
     alloc: A,
     keeper: &K,
@@ -155,10 +156,15 @@ fn copies_for<A: Allocator + Copy, K: Keeper<A>>(
     if keeper.leaves_reply() {
         return Ok(None);
     }
-    Ok(Some(Sends::copied(alloc, reply.sends())?))
+    let sends = reply.sends();
+    if sends.is_empty() {
+        return Ok(Some(Sends::new(alloc)));
+    }
+    Ok(Some(Sends::copied(alloc, sends)?))
 }
 
 /// The packets that a reply sends, moved out of its place. Takes no memory.
+#[inline(always)]
 fn take_sends<A: Allocator + Copy>(alloc: A, reply: &mut Reply<A>) -> Sends<A>
     ensures { result ≡ sends_of reply.old }
 {
@@ -170,6 +176,7 @@ fn take_sends<A: Allocator + Copy>(alloc: A, reply: &mut Reply<A>) -> Sends<A>
 
 /// Gives a keeper the step of this event and this reply, and gives the packets that the reply sends: these copies of them, or
 /// themselves, where the keeper leaves the reply.
+#[inline(always)]
 fn keep<A: Allocator + Copy, K: Keeper<A>>(
     alloc: A,
     keeper: &mut K,
@@ -192,6 +199,7 @@ fn keep<A: Allocator + Copy, K: Keeper<A>>(
 }
 
 impl<A: Allocator + Copy, K: Keeper<A>> Store<A> for TableStore<A, K> {
+    #[inline(always)]
     fn follow(
         &mut self,
         alloc: A,
@@ -205,6 +213,22 @@ impl<A: Allocator + Copy, K: Keeper<A>> Store<A> for TableStore<A, K> {
         self.tables.follow(places, event, reply)?;
         let sends = keep(alloc, &mut self.history, copies, actor, event, reply);
         self.tables.queue(places.neighbour, sends);
+        Ok(())
+    }
+
+    #[inline(always)]
+    fn follow_take(
+        &mut self,
+        _alloc: A,
+        actor: u32,
+        places: Places,
+        c: ConnId,
+        packet: &Descriptor<A>,
+    ) -> Result<(), AllocError> {
+        self.history.make_room()?;
+        let taken = self.tables.take(places.neighbour, c, packet);
+        let (mut event, mut reply) = (Event::Take(c), Reply::Taken(taken));
+        self.history.keep(actor, &mut event, &mut reply);
         Ok(())
     }
 

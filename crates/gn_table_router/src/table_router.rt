@@ -36,6 +36,7 @@ impl<A: Allocator + Copy, K: Keeper<A>, N: Configuring> RouterCore<A> for TableR
         self.router.answer_to(event)
     }
 
+    #[inline(always)]
     fn apply(&mut self, actor: u32, event: &Event<A>) -> Result<Receipt<A>, Refusal> {
         self.router.apply(actor, event)
     }
@@ -52,6 +53,7 @@ impl<A: Allocator + Copy, K: Keeper<A>, N: Configuring> RouterCore<A> for TableR
         self.router.add(step)
     }
 
+    #[inline(always)]
     fn route(
         &mut self,
         actor: u32,
