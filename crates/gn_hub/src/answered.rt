@@ -47,6 +47,7 @@ impl<T> Answered<T> {
 
 impl<C: RouterCore<A>, L: Ledger + Named, A: Allocator + Copy> Hub<C, L, A> {
     /// `call`, for the lock.
+    #[inline(always)]
     pub(crate) fn call_answered(
         &mut self,
         me: &mut Actor<L, A>,
@@ -72,6 +73,7 @@ impl<C: RouterCore<A>, L: Ledger + Named, A: Allocator + Copy> Hub<C, L, A> {
     }
 
     /// `route`, for the lock.
+    #[inline(always)]
     pub(crate) fn route_answered(
         &mut self,
         me: &mut Actor<L, A>,
@@ -198,21 +200,24 @@ impl<C: RouterCore<A>, L: Ledger + Named, A: Allocator + Copy> Hub<C, L, A> {
         ensures quiet { result ≡ false → LeavesWaiting Nobody [] self.old self.new }
     {
         let mut closes = false;
+        let mut free = room.free(self.book());
         for _ in 0..most {
-            match self.take_another(me, c, room, kept) {
+            match self.take_another(me, c, free, kept) {
                 Ok(closing) => closes = closes || closing,
                 Err(_) => break,
             }
+            free = free.saturating_sub(1);
         }
         closes
     }
 
-    /// Takes one more packet of a connection. Whether the run closes. `NothingWaiting` also where its step would have to wait for room.
+    /// Takes one more packet of a connection, where there is room for so many more steps. Whether the run closes. `NothingWaiting` also
+    /// where its step would have to wait for room.
     fn take_another(
         &mut self,
         me: &mut Actor<L, A>,
         c: ConnId,
-        room: &Room,
+        free: u64,
         kept: &mut Vec<Receipt<A>, A>,
     ) -> Result<bool, Refusal>
         ensures taken { IfOk result (λ _. HasTaken c me.old me.new) }
@@ -221,7 +226,7 @@ impl<C: RouterCore<A>, L: Ledger + Named, A: Allocator + Copy> Hub<C, L, A> {
         ensures refused { IfErr result (λ _. (self.new ≡ self.old) × (me.new ≡ me.old)) }
     {
         answers_fit::<A>();
-        if self.router().waiting(c) == 0 || !room.has_more(self.book()) {
+        if free == 0 || self.router().waiting(c) == 0 {
             return Err(Refusal::NothingWaiting);
         }
         self.call_kept(me, Event::Take(c), kept)?;

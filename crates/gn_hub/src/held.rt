@@ -24,15 +24,17 @@ pub(crate) struct Held<C: RouterCore<A> + Drop, L: Ledger + Named, A: Allocator 
     pub asleep: Asleep,
 }
 
-impl<C: RouterCore<A> + Drop, L: Ledger + Named, A: Allocator + Copy> Held<C, L, A> {
-    /// Whether there is room for one more step without waiting, where a call has made so many. It has waited for room for the first.
-    fn has_room(&self, done: usize, room: &Room) -> bool
-        ensures { done ≡ 0 → result ≡ true }
-    {
-        done == 0 || room.has_more(self.hub.book())
-    }
+/// Whether there is room for one more step without waiting, where there was room for so many when a call began, which has made so many.
+/// It has waited for room for the first.
+fn has_room(done: usize, free: u64) -> bool
+    ensures { done ≡ 0 → result ≡ true }
+{
+    done == 0 || (done as u64) < free
+}
 
+impl<C: RouterCore<A> + Drop, L: Ledger + Named, A: Allocator + Copy> Held<C, L, A> {
     /// Puts the receipt of a step to those that are kept, and those who sleep and whom the step concerns to the woken.
+    #[inline(always)]
     fn keep(
         &mut self,
         receipt: Receipt<A>,
@@ -48,6 +50,7 @@ impl<C: RouterCore<A> + Drop, L: Ledger + Named, A: Allocator + Copy> Held<C, L,
     }
 
     /// Takes an actor's event. Its receipt is put to those that are kept; those who sleep and whom the step concerns, to the woken.
+    #[inline(always)]
     #[tactic(auto, using(crate::proofs::KeptLemmas::none_kept))]
     fn call_one(
         &mut self,
@@ -69,6 +72,7 @@ impl<C: RouterCore<A> + Drop, L: Ledger + Named, A: Allocator + Copy> Held<C, L,
     }
 
     /// As `call_one`, of a Route, with the descriptor's payload checked beforehand.
+    #[inline(always)]
     #[tactic(auto, using(crate::proofs::KeptLemmas::none_kept))]
     fn route_one(
         &mut self,
@@ -103,9 +107,10 @@ impl<C: RouterCore<A> + Drop, L: Ledger + Named, A: Allocator + Copy> Held<C, L,
         ensures made { HasProgressed events.now result me.old me.new }
         ensures kept { AreKept kept.old.items kept.new.items me.old me.new }
     {
+        let free = room.free(self.hub.book());
         let mut done = 0;
         for event in events {
-            if !self.has_room(done, room) {
+            if !has_room(done, free) {
                 break;
             }
             if let Err(refusal) = self.call_one(me, event, woken, kept) {
@@ -135,9 +140,10 @@ impl<C: RouterCore<A> + Drop, L: Ledger + Named, A: Allocator + Copy> Held<C, L,
         ensures made { HasProgressed (map (λ job. Route job.0) jobs.now) result me.old me.new }
         ensures kept { AreKept kept.old.items kept.new.items me.old me.new }
     {
+        let free = room.free(self.hub.book());
         let mut done = 0;
         for job in jobs {
-            if !self.has_room(done, room) {
+            if !has_room(done, free) {
                 break;
             }
             if let Err(refusal) = self.route_one(me, job.0, &job.1, woken, kept) {

@@ -33,14 +33,6 @@ pub struct Hub<C: RouterCore<A>, L: Ledger + Named, A: Allocator + Copy = Global
     failed: bool,
 }
 
-/// What is left of a hub where its router was taken out.
-#[derive(Drop)]
-pub struct Frame<L: Ledger + Named, A: Allocator = Global> {
-    pub(crate) annals: Annals<L, A>,
-    links: Vec<Mark, A>,
-    failed: bool,
-}
-
 impl<C: RouterCore<A>, L: Ledger + Named, A: Allocator + Copy> Model for Hub<C, L, A> {
     ghost use Rattle.std.specs.Prelude.{◌≡◌, length};
     ghost use Rattle.gn_hub.specs.HubState.{HubState};
@@ -72,6 +64,7 @@ impl<C: RouterCore<A>, L: Ledger + Named, A: Allocator + Copy> Hub<C, L, A> {
     }
 
     /// An actor's event, and the receipt of its step. A refusal changes nothing.
+    #[inline(always)]
     pub fn call(&mut self, me: &mut Actor<L, A>, event: &Event<A>) -> Result<Receipt<A>, Refusal>
         ensures made { MatchResult result
             (λ _. HasStepped (answer_now self.old event.now) event.now self.old me.old self.new me.new)
@@ -85,6 +78,7 @@ impl<C: RouterCore<A>, L: Ledger + Named, A: Allocator + Copy> Hub<C, L, A> {
     }
 
     /// As `call`, of an event that nobody needs any more.
+    #[inline(always)]
     pub(crate) fn call_with(
         &mut self,
         me: &mut Actor<L, A>,
@@ -113,6 +107,7 @@ impl<C: RouterCore<A>, L: Ledger + Named, A: Allocator + Copy> Hub<C, L, A> {
 
     /// As `call_with`, and the receipt is put to those that are kept. `NoMemory` also where there is no room for it.
     #[tactic(auto, using(crate::proofs::KeptLemmas::none_kept, crate::proofs::KeptLemmas::one_kept))]
+    #[inline(always)]
     pub(crate) fn call_kept(
         &mut self,
         me: &mut Actor<L, A>,
@@ -132,6 +127,7 @@ impl<C: RouterCore<A>, L: Ledger + Named, A: Allocator + Copy> Hub<C, L, A> {
 
     /// As `call` of a Route, with the descriptor's payload checked beforehand. A descriptor that isn't the admitted one is
     /// refused as strange. A refusal changes nothing.
+    #[inline(always)]
     pub fn route(
         &mut self,
         me: &mut Actor<L, A>,
@@ -327,45 +323,6 @@ impl<C: RouterCore<A>, L: Ledger + Named, A: Allocator + Copy> Hub<C, L, A> {
         ensures steps { C.steps result ≡ self.steps }
     {
         self.core
-    }
-
-    /// The router, and the frame that it was taken out of.
-    pub fn into_parts(self) -> (C, Frame<L, A>)
-        ensures settings { C.settings result.0 ≡ self.settings }
-        ensures steps { C.steps result.0 ≡ self.steps }
-        ensures frame { result.1.annals ≡ self.steps }
-    {
-        let Hub {
-            core,
-            annals,
-            links,
-            failed,
-        } = self;
-        let frame = Frame {
-            annals,
-            links,
-            failed,
-        };
-        (core, frame)
-    }
-
-    /// A hub of a router that has as many steps as the one that was taken out of this frame.
-    pub fn of_parts(core: C, frame: Frame<L, A>) -> Self
-        requires { frame.annals ≡ C.steps core }
-        ensures settings { result.settings ≡ C.settings core }
-        ensures steps { result.steps ≡ C.steps core }
-    {
-        let Frame {
-            annals,
-            links,
-            failed,
-        } = frame;
-        Hub {
-            core,
-            annals,
-            links,
-            failed,
-        }
     }
 
     /// What was told to be idle was so: after that many of the steps nothing was in flight.

@@ -20,7 +20,7 @@ pub use batch::Batch;
 pub use found::FoundClosed;
 pub use gn_actors::Actor;
 pub use gn_shake::Role;
-pub use hub::{Frame, Hub};
+pub use hub::Hub;
 pub use idle::Idle;
 pub use mark::{Door, Mark};
 pub use next::{Next, Outgoing};

@@ -60,9 +60,9 @@ impl Waiters {
 
 /// Wakes those of a word.
 fn wake_word(places: &[Condvar; BITS], word: u64) {
-    for bit in 0..BITS {
-        if word >> bit & 1 == 1 {
-            places[bit].notify_all();
-        }
+    let mut left = word;
+    for _ in 0..word.count_ones() {
+        places[left.trailing_zeros() as usize % BITS].notify_all();
+        left = left & left.wrapping_sub(1);
     }
 }

@@ -66,10 +66,11 @@ impl Room {
         self.sleep_until_room(rt)
     }
 
-    /// Whether there is room for one more step, where so many were made. Who has waited for room and makes several steps under the
-    /// lock looks here before each further one, as it has waited for the first alone.
-    pub fn has_more(&self, made: u64) -> bool {
-        made.saturating_sub(self.taken.load(Ordering::SeqCst)) < self.most
+    /// For how many more steps there is room, where so many were made. Who has waited for room and makes several steps under the lock
+    /// looks here once, as it has waited for the first alone.
+    pub fn free(&self, made: u64) -> u64 {
+        let waiting = made.saturating_sub(self.taken.load(Ordering::SeqCst));
+        self.most.saturating_sub(waiting)
     }
 
     /// As `wait`, for a thread that has tried.

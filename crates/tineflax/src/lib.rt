@@ -93,7 +93,7 @@ pub mod stage {
 pub mod hub {
     pub use gn_actors::{Beginning, Growing, Home, Lists, Named, Tally, Unnamed, Unopened};
     pub use gn_hub::{
-        Actor, Batch, Door, FoundClosed, Frame, Hub, Idle, Mark, Next, Outgoing, Progress, Service,
+        Actor, Batch, Door, FoundClosed, Hub, Idle, Mark, Next, Outgoing, Progress, Service,
         ServiceFault,
     };
     pub use gn_room::{Following, Room, run_beside};
