@@ -73,6 +73,10 @@ pub routed-events : {A E : Type 0} (answer : Result (Unit {0}) E) (t : ℕ) (me 
 routed-events (Ok u) t me us got = link_events-route t me us got
 routed-events (Err e) t me us same = ap link_events same
 
+pub routed-number : {A E : Type 0} (answer : Result (Unit {0}) E) (t : ℕ) (me us : ActorState A) → MatchResult answer (λ _. HasReceipt (Route t) me us) (λ _. us ≡ me) → us.number ≡ me.number
+routed-number (Ok u) t me us got = number-route t me us got
+routed-number (Err e) t me us same = ap (λ w. w.number) same
+
 pub routed-connection : {A E : Type 0} (answer : Result (Unit {0}) E) (t : ℕ) (me us : ActorState A) → MatchResult answer (λ _. HasReceipt (Route t) me us) (λ _. us ≡ me) → KeepsConnection me us
 routed-connection (Ok u) t me us got = connection-route t me us got
 routed-connection (Err e) t me us same = λ c was. ap connection_of same ∙ was

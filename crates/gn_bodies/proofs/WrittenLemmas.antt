@@ -21,10 +21,12 @@ use Rattle.gn_shake.specs.declared.role.Role.TheVariants.{Accepting, Calling, Pl
 use Rattle.gn_shake.specs.Greeting.{is_calling, request_text}
 use Rattle.gn_rules.specs.History.{taken_of}
 use Rattle.gn_hub.specs.ActorState.{ActorState}
+use Rattle.gn_hub.specs.declared.next.Outgoing.{Outgoing}
+use Rattle.gn_hub.specs.declared.next.Outgoing.TheVariants as outgoing
 use Rattle.gn_hub.specs.Receipts.{HasClosed, HasTakenSome, IsDrainedAt, TakenAt, taken_receipt, with_receipts}
 use Rattle.gn_bodies.specs.Events.{packets_of}
 use Rattle.gn_laws.specs.Owners as laws
-use Rattle.gn_bodies.specs.Writing.{HasWrittenPackets, PacketSteps, WritesOn, WritesPackets, text_of}
+use Rattle.gn_bodies.specs.Writing.{HasNext, HasWrittenPackets, PacketSteps, WritesOn, WritesPackets, text_of}
 use Rattle.gn_bodies.specs.Written.{AreTakes, HasWrittenText, ThenClosed, WriterDid, WriterRow, WriterSteps, opening_texts}
 use Rattle.gn_bodies.proofs.EventLemmas.{drained_packets}
 
@@ -135,6 +137,13 @@ FoundNone Drained c idle me us = IsDrainedAt c idle me us
 FoundNone Closed c idle me us = us ≡ me
 FoundNone WriteFailed c idle me us = ⊥
 FoundNone NeverOpened c idle me us = ⊥
+
+-- what was answered did what it says
+pub asked_next : {A : Type 0} (batch c : ℕ) (next : Outgoing) (idle : Option ℕ) (me us : ActorState A) → (next ≡ outgoing.Packet → HasTakenSome batch c me us)
+    → (next ≡ outgoing.Drained → IsDrainedAt c idle me us) → (next ≡ outgoing.Closed → us ≡ me) → HasNext batch c next idle me us
+asked_next batch c outgoing.Packet idle me us took drained closed = took refl
+asked_next batch c outgoing.Drained idle me us took drained closed = drained refl
+asked_next batch c outgoing.Closed idle me us took drained closed = closed refl
 
 -- it has written all that it took
 pub found_none : {A : Type 0} (batch : ℕ) (role : Role) (end : WriterEnd) (c : ℕ) (idle : Option ℕ) (me us : ActorState A) (half : WrittenHalf) → FoundNone end c idle me us

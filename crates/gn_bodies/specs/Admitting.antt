@@ -31,6 +31,13 @@ HasSameNumbers before after = (after.actor.number ≡ before.actor.number) × (a
 abbrev pub KeepsConnection : {A : Type 0} → ActorState A → ActorState A → Type 0
 KeepsConnection before after = (c : ℕ) → connection_of before ≡ Some c → connection_of after ≡ Some c
 
+-- a reader after a step that is no event of its link: its actor and its intake are those of before, its connection, where it had one, is
+-- the same, and it made no event but routes
+pub record KeepsLink {A : Type 0} (before after : Admitting A) : Type 0 where
+  pub numbers : HasSameNumbers before after
+  pub connection : KeepsConnection before.actor after.actor
+  pub events : link_events after.actor ≡ link_events before.actor
+
 -- with no route refused, its intake put the jobs that its receipts leave, after those of before
 abbrev pub IsSettled : {A : Type 0} → List Queued → Admitting A → Type 0
 IsSettled before me = me.is_refused ≡ false → me.intake.jobs ≡ before ++ jobs_left me.actor.receipts

@@ -12,11 +12,15 @@ use Rattle.gn_bodies.specs.declared.ends.ReaderEnd.TheVariants.{ReadFailed}
 use Rattle.gn_bodies.specs.declared.ends.WriterEnd.{WriterEnd}
 use Rattle.gn_bodies.specs.declared.ends.WriterEnd.TheVariants.{WriteFailed}
 use Rattle.gn_bodies.specs.declared.reader.ReaderDone.{ReaderDone}
+use Rattle.gn_bodies.specs.declared.reader.ReaderTask.{ReaderTask}
 use Rattle.gn_bodies.specs.declared.writer.WriterDone.{WriterDone}
+use Rattle.gn_bodies.specs.declared.writer.WriterTask.{WriterTask}
+use Rattle.gn_hub.specs.ActorState.{ActorState}
 use Rattle.gn_bodies.specs.Events.{link_events_in}
+use Rattle.gn_bodies.specs.Jobs.{jobs_left}
 use Rattle.gn_laws.specs.Owners.{known_conn, packets_of}
-use Rattle.gn_bodies.specs.ReaderRows.{ReaderDid, ReaderRow, SourceRow}
-use Rattle.gn_bodies.specs.Written.{WriterDid, WriterRow, opening_texts}
+use Rattle.gn_bodies.specs.ReaderRows.{HasClosedAt, ReaderDid, ReaderRow, SourceRow}
+use Rattle.gn_bodies.specs.Written.{WriterDid, WriterRow, WriterSteps, opening_texts}
 
 -- a half of a link before its body began, and how the link begins
 pub record Half (H : Type 0) : Type 0 where
@@ -37,6 +41,10 @@ pub record Ended (A E H : Type 0) : Type 0 where
 -- the same body, with what its half says
 abbrev pub halved : {A E H T : Type 0} → (H → T) → Ended A E H → Ended A E T
 halved view body = record { conn = body.conn; receipts = body.receipts; half = view body.half; end = body.end }
+
+-- the body of an actor as it ended
+abbrev pub ended : {A E H : Type 0} → Option ℕ → ActorState A → H → Result E BodyFault → Ended A E H
+ended conn me half end = record { conn = conn; receipts = me.receipts; half = half; end = end }
 
 -- what a reader's end says of the connection, of the receipts, and of the half that was read, of which `turns` reads may give bytes
 pub record ReadsAs {A : Type 0} (turns : ℕ) (role : Role) (end : ReaderEnd) (conn : Option ℕ) (receipts : List (Receipt A))
@@ -99,3 +107,22 @@ reader_ended done = record { conn = done.connection; receipts = done.actor.recei
 -- a writer's body as it ended
 abbrev pub writer_ended : {W L A : Type 0} → WriterDone W L A → Ended A WriterEnd W
 writer_ended done = record { conn = done.connection; receipts = done.actor.receipts; half = done.writer; end = done.end }
+
+-- how a reader's body leaves its actor, its role and its intake
+pub record ReaderLeaves {Rd B A : Type 0} (me : ActorState A) (task : ReaderTask Rd B A)
+    (done : ReaderDone Rd B A) : Type 0 where
+  -- they are those that it began with
+  pub same : (done.actor.number ≡ me.number) × (done.role ≡ task.role) × (done.home.number ≡ task.intake.number)
+  -- the jobs that its receipts leave were put to the intake, where it has an end
+  pub put : OnOk done.end (done.home.jobs ≡ task.intake.jobs ++ jobs_left done.actor.receipts)
+  -- where its end closes the connection, the last that it did is that; or the connection was found closed
+  pub closed : IfOk done.end (λ end. HasClosedAt end done.found_closed done.actor)
+
+-- how a writer's body leaves its actor and its role
+pub record WriterLeaves {W L A : Type 0} (me : ActorState A) (task : WriterTask W)
+    (done : WriterDone W L A) : Type 0 where
+  -- they are those that it began with
+  pub same : (done.actor.number ≡ me.number) × (done.role ≡ task.role)
+  -- its receipts are as its end says, and so are the connection, what it found closed, and what closed it drained
+  pub steps : IfOk done.end
+      (λ end. WriterSteps task.role end done.connection done.found_closed done.idle done.actor.receipts)

@@ -1,5 +1,5 @@
 -- What a writer did, batch by batch.
-use Rattle.std.specs.Prelude.{ℕ, true, false, List, map, Option, Some, None, Result, Ok, Err, IfOk, ⊤}
+use Rattle.std.specs.Prelude.{◌≡◌, ℕ, true, false, List, map, Option, Some, None, Result, Ok, Err, IfOk, ⊤}
 use Rattle.std.specs.List.{concat}
 use Rattle.gn_wire.specs.Encoding.{bytes_of}
 use Rattle.gn_wire.specs.Packet.{Packet}
@@ -7,6 +7,9 @@ use Rattle.gn_rules.specs.declared.receipt.Receipt.{Receipt}
 use Rattle.gn_shake.specs.declared.role.Role.{Role}
 use Rattle.gn_links.specs.Halves.{WrittenHalf}
 use Rattle.gn_hub.specs.ActorState.{ActorState}
+use Rattle.gn_hub.specs.Receipts.{HasTakenSome, IsDrainedAt}
+use Rattle.gn_hub.specs.declared.next.Outgoing.{Outgoing}
+use Rattle.gn_hub.specs.declared.next.Outgoing.TheVariants as outgoing
 use Rattle.gn_bodies.specs.declared.ends.BodyFault.{BodyFault}
 use Rattle.gn_bodies.specs.declared.ends.WriterEnd.{WriterEnd}
 use Rattle.gn_bodies.specs.declared.ends.WriterEnd.TheVariants.{Closed, Drained, NeverOpened, WriteFailed}
@@ -45,3 +48,10 @@ HasWrittenPackets (Some (Err fault)) packets before after = ⊤
 abbrev pub WritesOn : {A : Type 0} → ℕ → Role → Option (Result WriterEnd BodyFault) → ℕ → Option ℕ → ActorState A → WrittenHalf → Type 0
 WritesOn batch role None c idle me half = WritesPackets batch role Closed c None me half
 WritesOn batch role (Some end) c idle me half = IfOk end (λ e. WritesPackets batch role e c idle me half)
+
+-- what an actor did that asked for the next packets of a connection, at most a batch, and was answered so: it took some; it closed
+-- the drained connection, as `idle` says; or it did nothing
+abbrev pub HasNext : {A : Type 0} → (batch c : ℕ) → Outgoing → (idle : Option ℕ) → ActorState A → ActorState A → Type 0
+HasNext batch c outgoing.Packet idle me us = HasTakenSome batch c me us
+HasNext batch c outgoing.Drained idle me us = IsDrainedAt c idle me us
+HasNext batch c outgoing.Closed idle me us = us ≡ me

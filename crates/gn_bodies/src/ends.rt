@@ -1,13 +1,7 @@
 //! How the bodies end.
 
-use gn_actors::Named;
-use gn_hub::Service;
-use gn_links::Gate;
-use gn_rules::{Refusal, RouterCore};
+use gn_rules::Refusal;
 use gn_wire::FrameFault;
-use std::alloc::Allocator;
-use std::sync::Wait;
-use std::sync::ledger::Ledger;
 
 /// How the body of a reader ended.
 #[derive(Clone, Copy, Debug, PartialEq, Eq)]
@@ -78,22 +72,5 @@ impl BodyFault {
         ensures { result ≡ is_stop self }
     {
         matches!(self, BodyFault::HistoryFull | BodyFault::NoMemory)
-    }
-}
-
-/// Where a body stopped, the run has failed, and the gate learns of it.
-pub(crate) fn fail_at_stop<
-    T,
-    G: Gate,
-    C: RouterCore<A> + Drop,
-    L: Ledger + Named,
-    A: Allocator + Copy,
-    R: Wait,
->(rt: &R, service: &Service<C, L, A>, gate: &G, end: &Result<T, BodyFault>) {
-    if let Err(fault) = end
-        && fault.is_stop()
-    {
-        service.fail(rt);
-        gate.failed();
     }
 }

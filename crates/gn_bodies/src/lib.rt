@@ -4,7 +4,7 @@
 //! it gives back: the tests show these calls.
 #![tactic(auto)]
 
-mod asking;
+mod caller;
 mod ends;
 mod handler;
 mod piece;
@@ -14,7 +14,8 @@ mod several;
 mod worker;
 mod writer;
 
+pub use caller::Caller;
 pub use ends::{BodyFault, ReaderEnd, WriterEnd};
-pub use reader::{ReaderDone, reader_body};
-pub use worker::{WorkerDone, worker_body};
-pub use writer::{WriterDone, writer_body};
+pub use reader::{ReaderDone, ReaderTask, reader_body};
+pub use worker::{WorkerDone, WorkerTask, worker_body};
+pub use writer::{WriterDone, WriterTask, writer_body};

@@ -4,18 +4,18 @@ ghost use Rattle.std.specs.Prelude.{◌≡◌, ◌++◌, [], ℕ, List, None, fa
 ghost use Rattle.gn_shake.specs.declared.role.Role.{Role};
 ghost use Rattle.gn_links.specs.Halves.{IsNewReader, IsReadFrom};
 ghost use Rattle.gn_bodies.specs.Admitting.{GoesOn, HasSameNumbers, StaysSettled};
-ghost use Rattle.gn_bodies.specs.Done.{IsReaderDone, half_of, reader_ended};
+ghost use Rattle.gn_bodies.specs.Done.{IsReaderDone, ReaderLeaves, ended, half_of, reader_ended};
 ghost use Rattle.gn_bodies.specs.Events.{connection_of, link_events};
 ghost use Rattle.gn_bodies.specs.Jobs.{jobs_left};
 ghost use Rattle.gn_bodies.specs.ReaderRows.{HasClosedAt, ReaderDid, ReaderRow, closes};
 ghost use Rattle.gn_bodies.specs.Reading.{EndsReading, HasTakenPiece, IsTaken, OpenDid, ReadRow};
 
-use crate::asking::close;
-use crate::ends::{BodyFault, ReaderEnd, fail_at_stop};
+use crate::caller::Caller;
+use crate::ends::{BodyFault, ReaderEnd};
 use crate::handler::ReaderHandler;
 use crate::piece::{Piece, Reading};
 use gn_actors::Named;
-use gn_hub::{Actor, Batch, FoundClosed, Service};
+use gn_hub::{Actor, Batch, FoundClosed};
 use gn_links::{Gate, Half, LinkReader};
 use gn_rules::{ConnId, RouterCore};
 use gn_shake::{Role, Shake};
@@ -38,6 +38,17 @@ pub struct ReaderDone<Rd, B: Site + Ledger + Named, A: Allocator = Global> {
     pub found_closed: Option<FoundClosed>,
 }
 
+/// What a reader is to do: to read this link of this role, at most so many reads that give bytes, to admit at most a batch of
+/// descriptors in one hold of the lock, and to put their jobs to this intake.
+#[derive(Drop)]
+pub struct ReaderTask<Rd, B: Site + Ledger + Named, A: Allocator = Global> {
+    pub role: Role,
+    pub turns: u32,
+    pub batch: Batch,
+    pub reader: Rd,
+    pub intake: Intake<B, A>,
+}
+
 /// What is known of a reader's connection at its end.
 #[derive(Drop)]
 struct Known {
@@ -50,10 +61,11 @@ impl<
     G: Gate,
     B: Site + Ledger + Named,
     C: RouterCore<A> + Drop,
+    R: Wait,
     A: Allocator + Copy,
-> ReaderHandler<'s, G, B, C, A> {
+> ReaderHandler<'s, G, B, C, R, A> {
     /// A link that has no bytes yet: a plain one is connected at once.
-    fn begin<R: Wait>(&mut self, rt: &R, role: Role) -> Piece<A>
+    fn begin(&mut self, role: Role) -> Piece<A>
         requires none { self.old.actor.receipts ≡ [] }
         ensures piece { HasTakenPiece result self.old self.new }
         ensures taken { IsTaken role result [] self.new.actor }
@@ -61,33 +73,30 @@ impl<
         match role {
             Role::Accepting => Piece::More(Reading::Greeting(Shake::accepting())),
             Role::Calling => Piece::More(Reading::Greeting(Shake::calling())),
-            Role::Plain => self.connect_and_take(rt, &[]),
+            Role::Plain => self.connect_and_take(&[]),
         }
     }
 
     /// Reads to the end, or as often as so many reads give bytes, and closes nothing.
-    fn read_all<Rd: LinkReader, R: Wait>(
+    fn read_all<Rd: LinkReader>(
         &mut self,
-        rt: &R,
         reader: &mut Rd,
         role: Role,
         turns: u32,
     ) -> Result<(Option<ConnId>, ReaderEnd), BodyFault>
-        requires new { IsNewReader (Rd.state reader.old) }
-        requires none { self.old.actor.receipts ≡ [] }
-        ensures numbers { HasSameNumbers self.old self.new }
-        ensures settled { StaysSettled self.old self.new }
-        ensures made { Rd.made_of reader.new ≡ Rd.made_of reader.old }
-        ensures own { IsReadFrom (Rd.gives (Rd.made_of reader.new)) (Rd.state reader.new) }
+        requires new { IsNewReader (Rd.state reader.old) × (self.old.actor.receipts ≡ []) }
+        ensures same { HasSameNumbers self.old self.new × StaysSettled self.old self.new }
+        ensures own { (Rd.made_of reader.new ≡ Rd.made_of reader.old)
+            × IsReadFrom (Rd.gives (Rd.made_of reader.new)) (Rd.state reader.new) }
         ensures read { IfOk result (λ r. EndsReading turns role r.1 r.0 self.new.actor (Rd.state reader.new)
             (Rd.gives (Rd.made_of reader.new)).may_fail) }
     {
         gn_shake::greeting_is_known();
         let mut buffer = [0u8; 4096];
-        let mut piece = self.begin(rt, role);
+        let mut piece = self.begin(role);
         for _ in 0..turns {
             piece = match piece {
-                Piece::More(reading) => self.read_piece(rt, reader, reading, &mut buffer),
+                Piece::More(reading) => self.read_piece(reader, reading, &mut buffer),
                 ended => return ended.into_end(),
             };
         }
@@ -95,9 +104,8 @@ impl<
     }
 
     /// Closes the connection at an end that closes it, and shuts the door where there is none.
-    fn close_at<R: Wait>(
+    fn close_at(
         &mut self,
-        rt: &R,
         connection: Option<ConnId>,
         end: ReaderEnd,
         found: &mut Option<FoundClosed>,
@@ -111,14 +119,13 @@ impl<
         ensures closed { OnOk result (connection_of self.new.actor ≡ connection
             → HasClosedAt end found.new self.new.actor) }
     {
-        let link = self.actor.number();
         match connection {
             None => {
-                self.service.shut(rt, link);
+                self.caller.shut();
                 Ok(())
             }
             Some(c) if closes(end) => {
-                *found = close(rt, self.service, self.gate, &mut self.actor, link, c)?;
+                *found = self.caller.close(c)?;
                 Ok(())
             }
             Some(_) => Ok(()),
@@ -126,32 +133,25 @@ impl<
     }
 
     /// Reads to the end, and closes the connection or shuts the door.
-    fn read_link<Rd: LinkReader, R: Wait>(
+    fn read_link<Rd: LinkReader>(
         &mut self,
-        rt: &R,
         reader: &mut Rd,
         role: Role,
         turns: u32,
         known: &mut Known,
     ) -> Result<ReaderEnd, BodyFault>
-        requires new { IsNewReader (Rd.state reader.old) }
-        requires none { self.old.actor.receipts ≡ [] }
+        requires new { IsNewReader (Rd.state reader.old) × (self.old.actor.receipts ≡ []) }
         ensures numbers { HasSameNumbers self.old self.new }
         ensures done { IsReaderDone Rd.state Rd.made_of Rd.gives turns (half_of role reader.old)
-            (record {
-              conn = known.new.connection;
-              receipts = self.new.actor.receipts;
-              half = reader.new;
-              end = result;
-            }) }
+            (ended known.new.connection self.new.actor reader.new result) }
         ensures put { OnOk result (self.old.is_refused ≡ false
             → self.new.intake.jobs ≡ self.old.intake.jobs ++ jobs_left self.new.actor.receipts) }
         ensures closed { IfOk result (λ end. HasClosedAt end known.new.found_closed self.new.actor) }
     {
-        match self.read_all(rt, reader, role, turns) {
+        match self.read_all(reader, role, turns) {
             Ok((connection, end)) => {
                 known.connection = connection;
-                match self.close_at(rt, connection, end, &mut known.found_closed) {
+                match self.close_at(connection, end, &mut known.found_closed) {
                     Ok(()) if self.is_refused => Err(BodyFault::Refused),
                     Ok(()) => Ok(end),
                     Err(why) => Err(why),
@@ -185,34 +185,23 @@ pub fn reader_body<
     C: RouterCore<A> + Drop,
     A: Allocator + Copy,
     R: Wait,
->(
-    rt: &R,
-    alloc: A,
-    service: &Service<C, B, A>,
-    gate: &G,
-    actor: Actor<B, A>,
-    link: u32,
-    role: Role,
-    turns: u32,
-    batch: Batch,
-    reader: Rd,
-    intake: Intake<B, A>,
-) -> ReaderDone<Rd, B, A>
-    requires new { IsNewReader (Rd.state reader) }
-    requires number { actor.number ≡ link }
-    requires none { actor.receipts ≡ [] }
-    ensures same { (result.actor.number ≡ link) × (result.role ≡ role) × (result.home.number ≡ intake.number) }
-    ensures done { IsReaderDone Rd.state Rd.made_of Rd.gives turns (half_of role reader) (reader_ended result) }
-    ensures put { OnOk result.end (result.home.jobs ≡ intake.jobs ++ jobs_left result.actor.receipts) }
+>(caller: Caller<'_, G, B, C, R, A>, task: ReaderTask<Rd, B, A>) -> ReaderDone<Rd, B, A>
+    requires new { IsNewReader (Rd.state task.reader) }
+    requires none { caller.receipts ≡ [] }
+    ensures done { IsReaderDone Rd.state Rd.made_of Rd.gives task.turns (half_of task.role task.reader)
+        (reader_ended result) }
     ensures finished { Rd.is_finished result.reader ≡ true }
-    ensures closed { IfOk result.end (λ end. HasClosedAt end result.found_closed result.actor) }
+    ensures left { ReaderLeaves caller.entry task result }
 {
-    let mut reader = reader;
+    let ReaderTask {
+        role,
+        turns,
+        batch,
+        mut reader,
+        intake,
+    } = task;
     let mut me = ReaderHandler {
-        service,
-        gate,
-        alloc,
-        actor,
+        caller,
         intake,
         batch,
         is_refused: false,
@@ -221,18 +210,18 @@ pub fn reader_body<
         connection: None,
         found_closed: None,
     };
-    let end = me.read_link(rt, &mut reader, role, turns, &mut known);
-    fail_at_stop(rt, service, gate, &end);
-    service.reader_done(rt, link);
-    reader.finish(rt);
-    gate.ended(link, Half::Reader);
-    let ReaderHandler { actor, intake, .. } = me;
+    let end = me.read_link(&mut reader, role, turns, &mut known);
+    let ReaderHandler { caller, intake, .. } = me;
+    caller.fail_at_stop(&end);
+    caller.reader_done();
+    reader.finish(caller.rt());
+    caller.tell_ended(Half::Reader);
     let Known {
         connection,
         found_closed,
     } = known;
     ReaderDone {
-        actor,
+        actor: caller.into_actor(),
         role,
         reader,
         home: intake.finish(),

@@ -8,7 +8,6 @@ ghost use Rattle.gn_bodies.specs.declared.piece.Reading.TheVariants as reading;
 ghost use Rattle.gn_bodies.specs.Admitting.{HasSameNumbers, StaysSettled};
 ghost use Rattle.gn_bodies.specs.Reading.{HasConnection, HasReadOn, HasReadPieces, HasTakenPiece, IsOffering, IsOpen, IsReading, IsTaken};
 
-use crate::asking::connect;
 use crate::ends::{BodyFault, ReaderEnd};
 use crate::handler::ReaderHandler;
 use crate::piece::{Piece, Reading};
@@ -27,28 +26,27 @@ impl<
     G: Gate,
     B: Site + Ledger + Named,
     C: RouterCore<A> + Drop,
+    R: Wait,
     A: Allocator + Copy,
-> ReaderHandler<'s, G, B, C, A> {
+> ReaderHandler<'s, G, B, C, R, A> {
     /// Reads once, and takes the piece that was read.
-    pub(crate) fn read_piece<Rd: LinkReader, R: Wait>(
+    pub(crate) fn read_piece<Rd: LinkReader>(
         &mut self,
-        rt: &R,
         reader: &mut Rd,
         reading: Reading<A>,
         buffer: &mut [u8; 4096],
     ) -> Piece<A>
         requires connection { HasConnection reading self.old.actor }
-        ensures numbers { HasSameNumbers self.old self.new }
-        ensures settled { StaysSettled self.old self.new }
-        ensures made { Rd.made_of reader.new ≡ Rd.made_of reader.old }
-        ensures own { IsReadFrom (Rd.gives (Rd.made_of reader.new)) (Rd.state reader.new) }
+        ensures same { HasSameNumbers self.old self.new × StaysSettled self.old self.new }
+        ensures own { (Rd.made_of reader.new ≡ Rd.made_of reader.old)
+            × IsReadFrom (Rd.gives (Rd.made_of reader.new)) (Rd.state reader.new) }
         ensures read { (turns : ℕ) (role : Role) (count : ℕ) → count < 2 ^ 32
             → HasReadOn role reading self.old.actor (Rd.state reader.old) count
             → HasReadPieces turns role result self.new.actor (Rd.state reader.new)
             (Rd.gives (Rd.made_of reader.new)).may_fail (count + 1) }
     {
         gn_shake::greeting_is_known();
-        match reader.read(rt, buffer) {
+        match reader.read(self.caller.rt(), buffer) {
             Err(_) => Piece::End {
                 connection: reading.into_connection(),
                 end: ReaderEnd::ReadFailed,
@@ -63,9 +61,9 @@ impl<
             Ok(n) => {
                 let piece = &buffer[..n];
                 match reading {
-                    Reading::Greeting(shake) => self.greet(rt, shake, piece),
+                    Reading::Greeting(shake) => self.greet(shake, piece),
                     Reading::Joined { connection, frames } => {
-                        self.deliver_on(rt, connection, frames, piece)
+                        self.deliver_on(connection, frames, piece)
                     }
                 }
             }
@@ -73,7 +71,7 @@ impl<
     }
 
     /// Takes a piece of a link that awaits its greeting.
-    fn greet<R: Wait>(&mut self, rt: &R, shake: Shake, piece: &[u8]) -> Piece<A>
+    fn greet(&mut self, shake: Shake, piece: &[u8]) -> Piece<A>
         requires none { self.old.actor.receipts ≡ [] }
         ensures piece { HasTakenPiece result self.old self.new }
         ensures taken { (role : Role) (b : List ℕ) → IsReading {A = A} role (reading.Greeting shake) b self.old.actor
@@ -89,39 +87,33 @@ impl<
                 connection: None,
                 end: ReaderEnd::GreetingRefused,
             },
-            ShakeState::Done => self.connect_and_take(rt, shaken.rest_of(piece)),
+            ShakeState::Done => self.connect_and_take(shaken.rest_of(piece)),
         }
     }
 
     /// Connects a link whose greeting is done, and takes the bytes after it.
-    pub(crate) fn connect_and_take<R: Wait>(&mut self, rt: &R, piece: &[u8]) -> Piece<A>
+    pub(crate) fn connect_and_take(&mut self, piece: &[u8]) -> Piece<A>
         requires none { self.old.actor.receipts ≡ [] }
         ensures piece { HasTakenPiece result self.old self.new }
         ensures taken { (role : Role) (b : List ℕ) → b ≡ greeting_of role ++ piece.now
             → IsTaken role result b self.new.actor }
     {
         gn_shake::greeting_is_known();
-        match connect(rt, self.service, self.gate, &mut self.actor) {
+        match self.caller.connect() {
             Err(why) => Piece::Stop(why),
             Ok(None) => Piece::End {
                 connection: None,
                 end: ReaderEnd::TooMany,
             },
-            Ok(Some(c)) => match Reassembler::new(self.alloc) {
+            Ok(Some(c)) => match Reassembler::new(self.caller.alloc) {
                 Err(_) => Piece::Stop(BodyFault::NoMemory),
-                Ok(frames) => self.deliver_on(rt, c, frames, piece),
+                Ok(frames) => self.deliver_on(c, frames, piece),
             },
         }
     }
 
     /// Takes a piece of a connected link, of which the frames are kept.
-    fn deliver_on<R: Wait>(
-        &mut self,
-        rt: &R,
-        c: ConnId,
-        frames: Reassembler<A>,
-        piece: &[u8],
-    ) -> Piece<A>
+    fn deliver_on(&mut self, c: ConnId, frames: Reassembler<A>, piece: &[u8]) -> Piece<A>
         requires connection { IsOpen c self.old.actor }
         ensures piece { HasTakenPiece result self.old self.new }
         ensures taken { (role : Role) (b s : List ℕ) → b ≡ greeting_of role ++ s → IsOffering s c frames self.old.actor
@@ -134,7 +126,7 @@ impl<
             return Piece::Stop(BodyFault::NoMemory);
         };
         let Fed { descriptors, fault } = fed;
-        let admitted = self.admit_all(rt, c, descriptors);
+        let admitted = self.admit_all(c, descriptors);
         Piece::of_admitted(c, frames, admitted, fault)
     }
 }

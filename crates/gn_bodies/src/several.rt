@@ -6,16 +6,16 @@ ghost use Rattle.gn_bodies.specs.declared.piece.Halt.TheVariants as halt;
 ghost use Rattle.gn_bodies.specs.Events.{link_events};
 ghost use Rattle.gn_wire.specs.Packet.{Packet};
 ghost use Rattle.gn_rules.specs.declared.event.Event.TheVariants.{Admit};
-ghost use Rattle.gn_bodies.specs.Admitting.{GoesOn, HasSameNumbers, IsOwing, IsSettled, KeepsConnection, jobs_by};
+ghost use Rattle.gn_bodies.specs.Admitting.{GoesOn, IsOwing, IsSettled, KeepsLink, jobs_by};
 ghost use Rattle.gn_bodies.specs.Jobs.{job_by};
 
-use crate::asking::halt_of;
+use crate::caller::halt_of;
 use crate::ends::BodyFault;
 use crate::handler::ReaderHandler;
 use crate::piece::Halt;
 use gn_actors::Named;
 use gn_hub::{Batch, Progress};
-use gn_links::{Gate, Made};
+use gn_links::Gate;
 use gn_rules::{ConnId, Event, Receipt, RouterCore};
 use gn_stage::{Job, Site};
 use gn_wire::Descriptor;
@@ -80,46 +80,34 @@ fn end_of_batch(at: usize, count: usize, batch: Batch) -> usize
     count.min(at.saturating_add(batch.most() as usize))
 }
 
-/// Tells the gate of these admissions.
-fn tell<G: Gate, A: Allocator>(gate: &G, link: u32, receipts: &[Receipt<A>]) {
-    for receipt in receipts {
-        match receipt.reply.admitted() {
-            Some(ticket) => gate.made(link, Made::Admitted(ticket)),
-            None => gate.made(link, Made::Busy),
-        }
-    }
-}
-
 impl<
     's,
     G: Gate,
     B: Site + Ledger + Named,
     C: RouterCore<A> + Drop,
+    R: Wait,
     A: Allocator + Copy,
-> ReaderHandler<'s, G, B, C, A> {
+> ReaderHandler<'s, G, B, C, R, A> {
     /// Puts the jobs of these admissions, which were made together. Where memory for them is refused, their routes are marked as refused.
-    fn put_admitted<R: Wait>(&mut self, rt: &R, receipts: &[Receipt<A>]) -> Result<(), Halt>
-        ensures numbers { HasSameNumbers self.old self.new }
-        ensures connection { KeepsConnection self.old.actor self.new.actor }
-        ensures events { link_events self.new.actor ≡ link_events self.old.actor }
+    fn put_admitted(&mut self, receipts: &[Receipt<A>]) -> Result<(), Halt>
+        ensures link { KeepsLink self.old self.new }
         ensures settled { (before : List Queued) (c : ℕ) (ds : List Packet)
             → map (λ r. r.event) receipts.now ≡ map (Admit c) ds
             → IsOwing before (jobs_by receipts.now) self.old → IsSettled before self.new }
         ensures stops { IfErr result (λ why. why ≡ halt.NotLive → ⊥) }
     {
-        tell(self.gate, self.actor.number(), receipts);
-        let Ok(jobs) = jobs_of(self.alloc, receipts) else {
+        self.caller.tell_admitted(receipts);
+        let Ok(jobs) = jobs_of(self.caller.alloc, receipts) else {
             self.is_refused = true;
             return Err(Halt::Stop(BodyFault::NoMemory));
         };
-        self.put_all(rt, jobs)
+        self.put_all(jobs)
     }
 
     /// Admits the first of these descriptors in one hold of the lock, and puts their jobs. How many. The receipts are put in place of
     /// those that are lent.
-    fn admit_some<R: Wait>(
+    fn admit_some(
         &mut self,
-        rt: &R,
         events: &[Event<A>],
         kept: &mut Vec<Receipt<A>, A>,
     ) -> Result<usize, Halt>
@@ -131,8 +119,8 @@ impl<
         ensures not_live { IfErr result (λ why. why ≡ halt.NotLive → (n : ℕ) × (n < length events.now)
             × (link_events self.new.actor ≡ link_events self.old.actor ++ take n events.now)) }
     {
-        let Progress { done, refusal } = self.service.call_all(rt, &mut self.actor, events, kept);
-        self.put_admitted(rt, kept.as_slice())?;
+        let Progress { done, refusal } = self.caller.call_all(events, kept);
+        self.put_admitted(kept.as_slice())?;
         match refusal {
             None => Ok(done),
             Some(refusal) => Err(halt_of(refusal)),
@@ -140,9 +128,8 @@ impl<
     }
 
     /// Admits these descriptors in order, at most a batch in one hold of the lock.
-    fn admit_events<R: Wait>(
+    fn admit_events(
         &mut self,
-        rt: &R,
         events: &[Event<A>],
         kept: &mut Vec<Receipt<A>, A>,
     ) -> Result<(), Halt>
@@ -155,15 +142,14 @@ impl<
         let mut at: usize = 0;
         while at < events.len() {
             let end = end_of_batch(at, events.len(), self.batch);
-            at += self.admit_some(rt, &events[at..end], kept)?;
+            at += self.admit_some(&events[at..end], kept)?;
         }
         Ok(())
     }
 
     /// Admits these descriptors in order, at most a batch in one hold of the lock, and puts their jobs after each.
-    pub(crate) fn admit_batches<R: Wait>(
+    pub(crate) fn admit_batches(
         &mut self,
-        rt: &R,
         c: ConnId,
         descriptors: Vec<Descriptor<A>, A>,
     ) -> Result<(), Halt>
@@ -173,11 +159,11 @@ impl<
         ensures not_live { IfErr result (λ why. why ≡ halt.NotLive → (n : ℕ) × (n < length descriptors.items)
             × (link_events self.new.actor ≡ link_events self.old.actor ++ map (Admit c) (take n descriptors.items))) }
     {
-        let Ok(events) = admits_of(self.alloc, c, descriptors) else {
+        let Ok(events) = admits_of(self.caller.alloc, c, descriptors) else {
             return Err(Halt::Stop(BodyFault::NoMemory));
         };
-        let mut kept = Vec::new(self.alloc);
-        let answer = self.admit_events(rt, events.as_slice(), &mut kept);
+        let mut kept = Vec::new(self.caller.alloc);
+        let answer = self.admit_events(events.as_slice(), &mut kept);
         drop(events);
         answer
     }

@@ -9,16 +9,16 @@ ghost use Rattle.gn_links.specs.Halves.{IsNewWriter};
 ghost use Rattle.gn_shake.specs.Greeting.{is_calling};
 ghost use Rattle.gn_shake.specs.declared.role.Role.{Role};
 ghost use Rattle.gn_bodies.specs.declared.ends.WriterEnd.TheVariants.{Closed, NeverOpened, WriteFailed};
-ghost use Rattle.gn_bodies.specs.Done.{IsWriterDone, WritesAs, half_of, writer_ended};
+ghost use Rattle.gn_bodies.specs.Done.{IsWriterDone, WriterLeaves, WritesAs, half_of, writer_ended};
 ghost use Rattle.gn_bodies.specs.Events.{packets_of};
 ghost use Rattle.gn_bodies.specs.Writing.{HasWrittenPackets, WritesOn, WritesPackets, text_of};
 ghost use Rattle.gn_bodies.specs.Written.{HasWrittenText, WriterSteps};
 
-use crate::asking::close;
-use crate::ends::{BodyFault, WriterEnd, fail_at_stop};
+use crate::caller::Caller;
+use crate::ends::{BodyFault, WriterEnd};
 use gn_actors::Named;
-use gn_hub::{Actor, Batch, FoundClosed, Idle, Outgoing, Service};
-use gn_links::{Gate, Half, LinkWriter, Made};
+use gn_hub::{Actor, Batch, FoundClosed, Idle, Outgoing};
+use gn_links::{Gate, Half, LinkWriter};
 use gn_rules::{ConnId, Receipt, Reply, RouterCore};
 use gn_shake::Role;
 use gn_wire::{Descriptor, HEADER_BYTES};
@@ -41,12 +41,12 @@ pub struct WriterDone<W, L: Ledger + Named, A: Allocator = Global> {
     pub idle: Option<Idle<L, A>>,
 }
 
-/// What is known of a writer's connection at its end.
+/// What a writer is to do: to write to this link of this role, and to take at most a batch of packets at once.
 #[derive(Drop)]
-struct Known<L: Ledger + Named, A: Allocator = Global> {
-    connection: Option<ConnId>,
-    found_closed: Option<FoundClosed>,
-    idle: Option<Idle<L, A>>,
+pub struct WriterTask<W> {
+    pub role: Role,
+    pub batch: Batch,
+    pub writer: W,
 }
 
 /// What a writer lends to its calls, for one batch after another.
@@ -56,6 +56,35 @@ struct Lent<A: Allocator = Global> {
     taken: Vec<Receipt<A>, A>,
     /// Their encodings.
     text: Vec<u8, A>,
+}
+
+impl<A: Allocator + Copy> Lent<A> {
+    /// What holds no batch yet.
+    fn none(alloc: A) -> Self {
+        Lent {
+            taken: Vec::new(alloc),
+            text: Vec::new(alloc),
+        }
+    }
+}
+
+/// A writer at work: its actor's calls, the half of its link, what it lends to its calls, and what is known of how its connection was
+/// closed.
+#[derive(Drop)]
+struct WriterHandler<
+    's,
+    W,
+    G,
+    L: Ledger + Named,
+    C: RouterCore<A> + Drop,
+    R,
+    A: Allocator + Copy = Global,
+> {
+    caller: Caller<'s, G, L, C, R, A>,
+    writer: W,
+    lent: Lent<A>,
+    found_closed: Option<FoundClosed>,
+    idle: Option<Idle<L, A>>,
 }
 
 /// Writes all of a text. False where a write failed, or took nothing.
@@ -119,68 +148,6 @@ fn encode_all<A: Allocator>(
     Ok(())
 }
 
-/// Tells the gate of the packets that were taken, encodes them, and writes them as one text. None where all of it was written;
-/// else how the body ends.
-fn write_taken<W: LinkWriter, G: Gate, A: Allocator, R: Wait>(
-    rt: &R,
-    gate: &G,
-    link: u32,
-    writer: &mut W,
-    receipts: &[Receipt<A>],
-    text: &mut Vec<u8, A>,
-) -> Option<Result<WriterEnd, BodyFault>>
-    ensures made { W.made_of writer.new ≡ W.made_of writer.old }
-    ensures state { HasWrittenPackets result (laws.packets_of receipts.now) (W.state writer.old) (W.state writer.new) }
-{
-    for _ in receipts {
-        gate.made(link, Made::Taken);
-    }
-    let Ok(()) = encode_all(receipts, text) else {
-        return Some(Err(BodyFault::NoMemory));
-    };
-    if !write_text(rt, writer, text.as_slice()) {
-        return Some(Ok(WriterEnd::WriteFailed));
-    }
-    None
-}
-
-/// Takes the link's next packets, at most a batch, and writes them. None where all of them were written; else how the body ends.
-fn write_next<
-    W: LinkWriter,
-    G: Gate,
-    C: RouterCore<A> + Drop,
-    L: Ledger + Named,
-    A: Allocator + Copy,
-    R: Wait,
->(
-    rt: &R,
-    service: &Service<C, L, A>,
-    gate: &G,
-    me: &mut Actor<L, A>,
-    link: u32,
-    writer: &mut W,
-    c: ConnId,
-    batch: Batch,
-    lent: &mut Lent<A>,
-    idle: &mut Option<Idle<L, A>>,
-) -> Option<Result<WriterEnd, BodyFault>>
-    ensures number { me.new.number ≡ me.old.number }
-    ensures made { W.made_of writer.new ≡ W.made_of writer.old }
-    ensures written { (role : Role) → WritesPackets batch role Closed c None me.old (W.state writer.old)
-        → WritesOn batch role result c idle.new me.new (W.state writer.new) }
-{
-    let Lent { taken, text } = lent;
-    match service.next_batch(rt, me, c, batch, taken, idle) {
-        Ok(Outgoing::Packet) => write_taken(rt, gate, link, writer, taken.as_slice(), text),
-        Ok(Outgoing::Drained) => {
-            gate.made(link, Made::Closed);
-            Some(Ok(WriterEnd::Drained))
-        }
-        Ok(Outgoing::Closed) => Some(Ok(WriterEnd::Closed)),
-        Err(refusal) => Some(Err(BodyFault::from(refusal))),
-    }
-}
-
 /// Writes the request of a calling link. False where a write failed, or took nothing.
 fn write_request<W: LinkWriter, R: Wait>(rt: &R, writer: &mut W, role: Role) -> bool
     requires new { (W.state writer.old).bytes ≡ [] }
@@ -208,99 +175,103 @@ fn write_consent<W: LinkWriter, R: Wait>(rt: &R, writer: &mut W, role: Role) -> 
     }
 }
 
-/// Writes the consent of an accepting link, and then the packets that it takes. `lent` holds one batch at a time.
-fn write_packets<
+impl<
+    's,
     W: LinkWriter,
     G: Gate,
-    C: RouterCore<A> + Drop,
     L: Ledger + Named,
-    A: Allocator + Copy,
+    C: RouterCore<A> + Drop,
     R: Wait,
->(
-    rt: &R,
-    service: &Service<C, L, A>,
-    gate: &G,
-    me: &mut Actor<L, A>,
-    link: u32,
-    writer: &mut W,
-    role: Role,
-    c: ConnId,
-    batch: Batch,
-    lent: &mut Lent<A>,
-    idle: &mut Option<Idle<L, A>>,
-) -> Result<WriterEnd, BodyFault>
-    requires some { 0 < batch }
-    requires none { me.old.receipts ≡ [] }
-    requires called { WritesAs 1 role NeverOpened [] (W.state writer.old) }
-    ensures number { me.new.number ≡ me.old.number }
-    ensures made { W.made_of writer.new ≡ W.made_of writer.old }
-    ensures written { IfOk result (λ end. WritesPackets batch role end c idle.new me.new (W.state writer.new)) }
-{
-    if !write_consent(rt, writer, role) {
-        return Ok(WriterEnd::WriteFailed);
+    A: Allocator + Copy,
+> WriterHandler<'s, W, G, L, C, R, A> {
+    /// Encodes the packets that were taken, and writes them as one text. None where all of it was written; else how the body ends.
+    fn write_taken(&mut self) -> Option<Result<WriterEnd, BodyFault>>
+        ensures same { (self.new.caller ≡ self.old.caller) × (self.new.idle ≡ self.old.idle) }
+        ensures made { W.made_of self.new.writer ≡ W.made_of self.old.writer }
+        ensures state { HasWrittenPackets result (laws.packets_of self.old.lent.taken.items) (W.state self.old.writer)
+            (W.state self.new.writer) }
+    {
+        let Ok(()) = encode_all(self.lent.taken.as_slice(), &mut self.lent.text) else {
+            return Some(Err(BodyFault::NoMemory));
+        };
+        let text = self.lent.text.as_slice();
+        if !write_text(self.caller.rt(), &mut self.writer, text) {
+            return Some(Ok(WriterEnd::WriteFailed));
+        }
+        None
     }
-    for _ in rt.forever() {
-        if let Some(end) = write_next(rt, service, gate, me, link, writer, c, batch, lent, idle) {
-            return end;
+
+    /// Takes the link's next packets, at most a batch, and writes them. None where all of them were written; else how the body ends.
+    fn write_next(&mut self, c: ConnId, batch: Batch) -> Option<Result<WriterEnd, BodyFault>>
+        ensures same { (self.new.caller.number ≡ self.old.caller.number)
+            × (W.made_of self.new.writer ≡ W.made_of self.old.writer) }
+        ensures written { (role : Role)
+            → WritesPackets batch role Closed c None self.old.caller (W.state self.old.writer)
+            → WritesOn batch role result c self.new.idle self.new.caller (W.state self.new.writer) }
+    {
+        match self
+            .caller
+            .next_out(c, batch, &mut self.lent.taken, &mut self.idle)
+        {
+            Ok(Outgoing::Packet) => self.write_taken(),
+            Ok(Outgoing::Drained) => Some(Ok(WriterEnd::Drained)),
+            Ok(Outgoing::Closed) => Some(Ok(WriterEnd::Closed)),
+            Err(fault) => Some(Err(fault)),
         }
     }
-    unreachable!()
-}
 
-/// Opens the link, writes, and closes it where a write failed.
-fn write_link<
-    W: LinkWriter,
-    G: Gate,
-    C: RouterCore<A> + Drop,
-    L: Ledger + Named,
-    A: Allocator + Copy,
-    R: Wait,
->(
-    rt: &R,
-    service: &Service<C, L, A>,
-    gate: &G,
-    me: &mut Actor<L, A>,
-    link: u32,
-    role: Role,
-    batch: Batch,
-    writer: &mut W,
-    lent: &mut Lent<A>,
-    known: &mut Known<L, A>,
-) -> Result<WriterEnd, BodyFault>
-    requires some { 0 < batch }
-    requires none { me.old.receipts ≡ [] }
-    requires new { (W.state writer.old).bytes ≡ [] }
-    requires unknown { known.old.connection ≡ None }
-    ensures number { me.new.number ≡ me.old.number }
-    ensures made { W.made_of writer.new ≡ W.made_of writer.old }
-    ensures written { IfOk result (λ end. WritesAs batch role end (packets_of me.new) (W.state writer.new)) }
-    ensures steps { IfOk result
-        (λ end. WriterSteps role end known.new.connection known.new.found_closed known.new.idle me.new.receipts) }
-{
-    if !write_request(rt, writer, role) {
-        return Ok(WriterEnd::WriteFailed);
+    /// Writes the consent of an accepting link, and then the packets that it takes.
+    fn write_packets(&mut self, role: Role, c: ConnId, batch: Batch) -> Result<WriterEnd, BodyFault>
+        requires some { 0 < batch }
+        requires none { self.old.caller.receipts ≡ [] }
+        requires called { WritesAs 1 role NeverOpened [] (W.state self.old.writer) }
+        ensures same { (self.new.caller.number ≡ self.old.caller.number)
+            × (W.made_of self.new.writer ≡ W.made_of self.old.writer) }
+        ensures written { IfOk result (λ end. WritesPackets batch role end c self.new.idle self.new.caller
+            (W.state self.new.writer)) }
+    {
+        if !write_consent(self.caller.rt(), &mut self.writer, role) {
+            return Ok(WriterEnd::WriteFailed);
+        }
+        let rt = self.caller.rt();
+        for _ in rt.forever() {
+            if let Some(end) = self.write_next(c, batch) {
+                return end;
+            }
+        }
+        unreachable!()
     }
-    let Some(c) = service.meet(rt, link) else {
-        return Ok(WriterEnd::NeverOpened);
-    };
-    known.connection = Some(c);
-    let end = write_packets(
-        rt,
-        service,
-        gate,
-        me,
-        link,
-        writer,
-        role,
-        c,
-        batch,
-        lent,
-        &mut known.idle,
-    )?;
-    if let WriterEnd::WriteFailed = end {
-        known.found_closed = close(rt, service, gate, me, link, c)?;
+
+    /// Opens the link, writes, and closes it where a write failed. Its connection is put to this one, which isn't known before.
+    fn write_link(
+        &mut self,
+        role: Role,
+        batch: Batch,
+        connection: &mut Option<ConnId>,
+    ) -> Result<WriterEnd, BodyFault>
+        requires some { 0 < batch }
+        requires new { (self.old.caller.receipts ≡ []) × ((W.state self.old.writer).bytes ≡ [])
+            × (connection.old ≡ None) }
+        ensures same { (self.new.caller.number ≡ self.old.caller.number)
+            × (W.made_of self.new.writer ≡ W.made_of self.old.writer) }
+        ensures written { IfOk result
+            (λ end. WritesAs batch role end (packets_of self.new.caller) (W.state self.new.writer)) }
+        ensures steps { IfOk result
+            (λ end. WriterSteps role end connection.new self.new.found_closed self.new.idle self.new.caller.receipts) }
+    {
+        if !write_request(self.caller.rt(), &mut self.writer, role) {
+            return Ok(WriterEnd::WriteFailed);
+        }
+        let Some(c) = self.caller.meet() else {
+            return Ok(WriterEnd::NeverOpened);
+        };
+        *connection = Some(c);
+        let end = self.write_packets(role, c, batch)?;
+        if let WriterEnd::WriteFailed = end {
+            self.found_closed = self.caller.close(c)?;
+        }
+        Ok(end)
     }
-    Ok(end)
 }
 
 /// The body of a writer: it writes the request of a calling link, waits until the link has connected, writes the consent of
@@ -315,59 +286,47 @@ pub fn writer_body<
     L: Ledger + Named,
     A: Allocator + Copy,
     R: Wait,
->(
-    rt: &R,
-    alloc: A,
-    service: &Service<C, L, A>,
-    gate: &G,
-    actor: Actor<L, A>,
-    link: u32,
-    role: Role,
-    batch: Batch,
-    writer: W,
-) -> WriterDone<W, L, A>
-    requires none { actor.receipts ≡ [] }
-    requires new { IsNewWriter (W.state writer) }
-    ensures same { (result.actor.number ≡ actor.number) × (result.role ≡ role) }
-    ensures done { IsWriterDone W.state W.made_of batch (half_of role writer) (writer_ended result) }
-    ensures steps { IfOk result.end
-        (λ end. WriterSteps role end result.connection result.found_closed result.idle result.actor.receipts) }
+>(caller: Caller<'_, G, L, C, R, A>, task: WriterTask<W>) -> WriterDone<W, L, A>
+    requires none { caller.receipts ≡ [] }
+    requires new { IsNewWriter (W.state task.writer) }
+    ensures done { IsWriterDone W.state W.made_of task.batch (half_of task.role task.writer) (writer_ended result) }
+    ensures left { WriterLeaves caller.entry task result }
 {
-    let (mut actor, mut writer) = (actor, writer);
+    let WriterTask {
+        role,
+        batch,
+        writer,
+    } = task;
     // It shows that a batch is one packet at least.
     let _most = batch.most();
-    let mut lent = Lent {
-        taken: Vec::new(alloc),
-        text: Vec::new(alloc),
-    };
-    let mut known = Known {
-        connection: None,
+    let lent = Lent::none(caller.alloc);
+    let mut me = WriterHandler {
+        caller,
+        writer,
+        lent,
         found_closed: None,
         idle: None,
     };
-    let end = write_link(
-        rt,
-        service,
-        gate,
-        &mut actor,
-        link,
-        role,
-        batch,
-        &mut writer,
-        &mut lent,
-        &mut known,
-    );
+    let mut connection = None;
+    let end = me.write_link(role, batch, &mut connection);
+    let WriterHandler {
+        caller,
+        mut writer,
+        lent,
+        found_closed,
+        idle,
+    } = me;
     drop(lent);
-    fail_at_stop(rt, service, gate, &end);
-    writer.finish(rt);
-    gate.ended(link, Half::Writer);
+    caller.fail_at_stop(&end);
+    writer.finish(caller.rt());
+    caller.tell_ended(Half::Writer);
     WriterDone {
-        actor,
+        actor: caller.into_actor(),
         role,
         writer,
         end,
-        connection: known.connection,
-        found_closed: known.found_closed,
-        idle: known.idle,
+        connection,
+        found_closed,
+        idle,
     }
 }

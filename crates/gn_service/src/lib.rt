@@ -19,8 +19,8 @@ mod stops;
 mod tallies;
 
 pub use gn_bodies::{
-    BodyFault, ReaderDone, ReaderEnd, WorkerDone, WriterDone, WriterEnd, reader_body, worker_body,
-    writer_body,
+    BodyFault, Caller, ReaderDone, ReaderEnd, ReaderTask, WorkerDone, WorkerTask, WriterDone,
+    WriterEnd, WriterTask, reader_body, worker_body, writer_body,
 };
 pub use gn_hub::{Actor, Batch, Door, Hub, Mark, Next, Outgoing, Service, ServiceFault};
 pub use gn_links::{

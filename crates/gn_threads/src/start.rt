@@ -9,7 +9,10 @@ ghost use Rattle.gn_threads.specs.Joined.{is_router, worker_state};
 use crate::actors::UnstartedActors;
 use crate::limits::{Limited, Limits};
 use gn_actors::Named;
-use gn_bodies::{ReaderDone, WorkerDone, WriterDone, reader_body, worker_body, writer_body};
+use gn_bodies::{
+    Caller, ReaderDone, ReaderTask, WorkerDone, WorkerTask, WriterDone, WriterTask, reader_body,
+    worker_body, writer_body,
+};
 use gn_hub::{Actor, Service};
 use gn_links::{Gate, LinkReader, LinkWriter};
 use gn_rules::RouterCore;
@@ -128,19 +131,22 @@ fn run_reader<
         reader,
         intake,
     } = start;
-    reader_body(
+    let caller = Caller {
         rt,
         alloc,
         service,
         gate,
+        place: link,
         actor,
-        link,
+    };
+    let task = ReaderTask {
         role,
-        limits.turns,
-        limits.batch,
+        turns: limits.turns,
+        batch: limits.batch,
         reader,
         intake,
-    )
+    };
+    reader_body(caller, task)
 }
 
 /// The body of a writer, from its start.
@@ -167,17 +173,20 @@ fn run_writer<
         role,
         writer,
     } = start;
-    writer_body(
+    let caller = Caller {
         rt,
         alloc,
         service,
         gate,
+        place: link,
         actor,
-        link,
+    };
+    let task = WriterTask {
         role,
-        limits.batch,
+        batch: limits.batch,
         writer,
-    )
+    };
+    writer_body(caller, task)
 }
 
 /// The body of a worker, from its start.
@@ -202,16 +211,19 @@ fn run_worker<
         worker,
         outlet,
     } = start;
-    worker_body(
+    let caller = Caller {
         rt,
         alloc,
         service,
-        actor,
-        worker,
         gate,
-        limits.batch,
+        place: worker,
+        actor,
+    };
+    let task = WorkerTask {
+        batch: limits.batch,
         outlet,
-    )
+    };
+    worker_body(caller, task)
 }
 
 /// Starts a thread of this scope that keeps this promise. False where none can be made.

@@ -115,8 +115,8 @@ pub mod links {
 /// What the threads of a run do.
 pub mod bodies {
     pub use gn_bodies::{
-        BodyFault, ReaderDone, ReaderEnd, WorkerDone, WriterDone, WriterEnd, reader_body,
-        worker_body, writer_body,
+        BodyFault, Caller, ReaderDone, ReaderEnd, ReaderTask, WorkerDone, WorkerTask, WriterDone,
+        WriterEnd, WriterTask, reader_body, worker_body, writer_body,
     };
 }
 

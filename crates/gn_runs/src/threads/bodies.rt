@@ -13,7 +13,8 @@ mod worked;
 use fakes::{Doorman, Told};
 use gn_actors::{Named, Unopened};
 use gn_bodies::{
-    BodyFault, ReaderEnd, WriterDone, WriterEnd, reader_body, worker_body, writer_body,
+    BodyFault, Caller, ReaderEnd, ReaderTask, WorkerTask, WriterDone, WriterEnd, WriterTask,
+    reader_body, worker_body, writer_body,
 };
 use gn_fixtures::{Heap, Refused, ping};
 use gn_hub::{Actor, Batch, Door, Hub, Service};
@@ -205,6 +206,29 @@ where
     }
 }
 
+/// An actor of the only link, with all that its calls need.
+fn at_link<'s, A, C, L: Ledger + Named, R>(
+    rt: &'s R,
+    alloc: A,
+    service: &'s Service<C, L, A>,
+    gate: &'s Doorman,
+    actor: Actor<L, A>,
+) -> Caller<'s, Doorman, L, C, R, A>
+where
+    A: Allocator + Copy,
+    C: RouterCore<A> + Drop,
+    ensures { result ≡ actor }
+{
+    Caller {
+        rt,
+        alloc,
+        service,
+        gate,
+        place: 0,
+        actor,
+    }
+}
+
 /// How a worker ends that has this outlet; well, where there is none.
 fn worker_end<A, C, B: Site + Ledger + Named, R: Wait>(
     rt: &R,
@@ -224,7 +248,15 @@ where
         drop(worker);
         return Ok(());
     };
-    worker_body(rt, alloc, service, worker, WORKER, gate, batch, outlet).end
+    let caller = Caller {
+        rt,
+        alloc,
+        service,
+        gate,
+        place: WORKER,
+        actor: worker,
+    };
+    worker_body(caller, WorkerTask { batch, outlet }).end
 }
 
 /// The reader, the worker, where there is one, and the writer of one link, one after the other.
@@ -257,13 +289,23 @@ where
     } = actors;
     let gate = Doorman::new();
     begin_refusals(refused);
-    let done = reader_body(
-        rt, alloc, &service, &gate, a, 0, role, 1_000_000, batch, reader, intake,
-    );
+    let reads = ReaderTask {
+        role,
+        turns: 1_000_000,
+        batch,
+        reader,
+        intake,
+    };
+    let done = reader_body(at_link(rt, alloc, &service, &gate, a), reads);
     let read = done.end;
     drop(done);
     let worked = worker_end(rt, alloc, &service, k, &gate, batch, outlet);
-    let wrote = writer_body(rt, alloc, &service, &gate, w, 0, role, batch, writer);
+    let writes = WriterTask {
+        role,
+        batch,
+        writer,
+    };
+    let wrote = writer_body(at_link(rt, alloc, &service, &gate, w), writes);
     let has_refused = end_refusals(refused);
     what_ran(&gate, service.into_hub(), read, worked, wrote, has_refused)
 }

@@ -5,10 +5,10 @@ use Rattle.std.proofs.lemmas.Grind.{common_steps}
 use Rattle.gn_bodies.specs.Events.{events_of}
 use Rattle.gn_bodies.specs.Jobs.{routes_by}
 use Rattle.gn_bodies.proofs.RouteLemmas.{routed_on, when_ok}
-use Rattle.gn_bodies.proofs.worker.route_jobs.Goals as goal
+use Rattle.gn_bodies.proofs.caller.Caller.route_jobs.Goals as goal
 
 pub loop-at-init : goal.loop-at-init
-loop-at-init g c = record { within = omega arith; number = refl; routes = refl; each = sym (append-nil (events_of c.args.me.now)) }
+loop-at-init g c = record { within = omega arith; number = refl; routes = refl; each = sym (append-nil (events_of c.args.self.now)) }
 
 pub loop-at-preserved-in-Ok : goal.loop-at-preserved-in-Ok
 loop-at-preserved-in-Ok g c =
@@ -20,7 +20,7 @@ loop-at-preserved-in-Ok g c =
       within = omega arith;
       number = c.route_some-count.ensures.number ∙ was.number;
       routes = c.route_some-count.ensures.routes ∙ was.routes;
-      each = routed_on c.loop-at.end c.args.jobs.now (take (length c.args.jobs.now - c.loop-at.at) (drop c.loop-at.at c.args.jobs.now)) c.loop-at.at c.route_some-count.result.0 (events_of c.args.me.now) c.loop-at.me c.route_some-count.new.me rest
+      each = routed_on c.loop-at.end c.args.jobs.now (take (length c.args.jobs.now - c.loop-at.at) (drop c.loop-at.at c.args.jobs.now)) c.loop-at.at c.route_some-count.result.0 (events_of c.args.self.now) c.loop-at.self c.route_some-count.new.self rest
           (when_ok c.route_some-count.result.1 _ c.in-Ok.is c.route_some-count.ensures.each) was.each;
     }
 
@@ -39,4 +39,4 @@ loop-at-preserved g c =
 pub returns-clause-each : goal.returns-clause-each
 returns-clause-each g c =
     let was = c.loop-at.invariant in
-    on_ok_weaker c.loop-at.end (λ before. before ∙ ap (λ w. events_of c.args.me.now ++ routes_by w) (take_all c.loop-at.at c.args.jobs.now (omega arith))) was.each
+    on_ok_weaker c.loop-at.end (λ before. before ∙ ap (λ w. events_of c.args.self.now ++ routes_by w) (take_all c.loop-at.at c.args.jobs.now (omega arith))) was.each
