@@ -22,7 +22,7 @@ use gn_journal::{Journal, Naming};
 use gn_replay::history_heading;
 use gn_rules::{Config, MOST_WORKERS, Step};
 use gn_scribe::{PrintFault, Scribe, Waiting, finish_history};
-use gn_service::{Batch, MemoryLink, RunFault, Watch, run_by};
+use gn_service::{Asked, Batch, MemoryLink, Routing, RunFault, Watch, run_by};
 use gn_table_router::{Configuring, TableRouter};
 use rtrb::{Consumer, Producer, RingBuffer};
 use std::alloc::Global;
@@ -123,11 +123,18 @@ fn load_named<
     let journal = Journal::<N>::new(producer);
     let router = TableRouter::over(alloc, config, journal)?;
     let core = router.named::<N>();
-    let writing = Writing::<W, N> {
+    let course = Writing::<W, N> {
         scribe: Scribe::new(alloc, consumer, heading),
         sink,
         of: PhantomData,
     };
+    let asked = Asked {
+        config,
+        workers,
+        gate: watch,
+        batch,
+    };
+    let routing = Routing { core, course };
     watch.begin(links.len());
     let (answer, begun) = run_by::<
         TableRouter<Global, Journal<N>, N>,
@@ -136,9 +143,7 @@ fn load_named<
         _,
         Global,
         R,
-    >(
-        rt, alloc, config, links, workers, watch, batch, core, writing,
-    );
+    >(rt, alloc, &asked, links, routing);
     watch.end();
     let Begun { sink, waiting } = begun;
     match answer {

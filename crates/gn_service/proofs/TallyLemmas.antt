@@ -61,7 +61,8 @@ are_tallies account own n many = record {
       let within = subst (λ m. k < m) (sym many) below in writer_tally account own k d within (some_link account.links.items k within) n many;
 }
 
-many_roles : (calls links : ℕ) → calls ≤ links → length (roles_of calls links) ≡ links
+-- there are as many roles as links
+pub many_roles : (calls links : ℕ) → calls ≤ links → length (roles_of calls links) ≡ links
 many_roles calls links few = omega (
   arith,
   few,

@@ -1,8 +1,8 @@
 -- What is promised: contracts of public functions rest on it.
 pub mod Links
 pub mod Ran
+pub mod Serves
 pub mod Stopping
 pub mod Tallies
 -- Words of the proofs.
-pub mod Serves
 pub mod Owing

@@ -31,8 +31,8 @@ pub use gn_report::{Account, LinkAccount, LinkReport, LinkTally, Report};
 pub use gn_shake::Role;
 pub use gn_tcp::{TcpLink, TcpOrigin, TcpReader, TcpWriter, listen};
 pub use gn_threads::{
-    Arrivals, Course, Halted, InMemory, RunFault, Stopped, run, run_arriving, run_arriving_by,
-    run_arriving_kept, run_by, stopped_by, tell,
+    Arrivals, Asked, Coming, Course, Halted, InMemory, Routing, RunFault, Stopped, run,
+    run_arriving, run_arriving_by, run_arriving_kept, run_by, stopped_by, tell,
 };
 pub use ran::Ran;
 pub use serve::{serve_by, serve_kept, serve_on};

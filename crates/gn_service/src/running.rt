@@ -1,16 +1,9 @@
 //! A run over TCP: its links come and are watched, its peers are called, and bodies run over them.
 
-ghost use Rattle.std.specs.Prelude.{◌≡◌, ◌+◌, ◌≤◌, ◌↔◌, [], length, reverse, true, IfErr, IfOk, IfSome};
-ghost use Rattle.gn_rules.specs.Answer.{IsLegal};
-ghost use Rattle.gn_rules.specs.Limits.{IsCrew, most_links};
-ghost use Rattle.gn_report.specs.Accounts.{report_of};
-ghost use Rattle.gn_threads.specs.declared.fault.RunFault.TheVariants.{BadWorkers, HistoryFull};
-ghost use Rattle.gn_threads.specs.Courses.{AreStepsOf, AreTallies, IsLeft};
-ghost use Rattle.gn_threads.specs.Faults.{IsArrivingFault};
-ghost use Rattle.gn_threads.specs.Headline.{AreMadeOf, AreOfOne, Holds};
-ghost use Rattle.gn_service.specs.Links.{origins_of, roles_of};
-ghost use Rattle.gn_sockets.specs.TcpHalves.{half_read, half_written};
-ghost use Rattle.gn_service.specs.Serves.{IsServed};
+ghost use Rattle.std.specs.Prelude.{◌≡◌, ◌+◌, ◌≤◌, [], length};
+ghost use Rattle.gn_rules.specs.Limits.{most_links};
+ghost use Rattle.gn_threads.specs.Courses.{AreStepsOf, IsLeft};
+ghost use Rattle.gn_service.specs.Serves.{IsTallied};
 
 use crate::calling::Callers;
 use crate::counted::Counted;
@@ -22,9 +15,9 @@ use crate::stops::Stops;
 use gn_hub::Batch;
 use gn_links::Watch;
 use gn_report::Account;
-use gn_rules::{Config, RouterCore};
+use gn_rules::{Config, Numbers, RouterCore};
 use gn_tcp::{TcpReader, TcpWriter};
-use gn_threads::{Course, Halted, run_arriving_by};
+use gn_threads::{Asked, Coming, Course, Halted, Routing, run_arriving_by};
 use std::alloc::{Allocator, Global};
 use std::net::{Net, SocketAddr, TcpListener, TcpStream};
 use std::sync::Wait;
@@ -75,7 +68,7 @@ where
         Result<Account<TcpReader<'s>, TcpWriter, A>, Halted<A>>,
         W::Rest,
     )
-        ensures served { IsServed self.entry.batch self.entry.config.now self.entry.peers.now self.entry.accept
+        ensures served { IsTallied self.entry.batch self.entry.config.now self.entry.peers.now self.entry.accept
             self.entry.workers result.0 }
         ensures rest { IsLeft (W.follows self.entry.course) W.leaves result.1 (AreStepsOf result.0) }
     {
@@ -93,7 +86,7 @@ where
             rt,
             || watch_and_call(rt, serving, stops, watch),
             move ||
-                ensures served { IsServed self.entry.batch self.entry.config.now self.entry.peers.now self.entry.accept
+                ensures served { IsTallied self.entry.batch self.entry.config.now self.entry.peers.now self.entry.accept
                     self.entry.workers result.0 }
                 ensures rest { IsLeft (W.follows self.entry.course) W.leaves result.1 (AreStepsOf result.0) }
             { self.run(stops) },
@@ -109,7 +102,7 @@ where
         Result<Account<TcpReader<'s>, TcpWriter, A>, Halted<A>>,
         W::Rest,
     )
-        ensures served { IsServed self.entry.batch self.entry.config.now self.entry.peers.now self.entry.accept
+        ensures served { IsTallied self.entry.batch self.entry.config.now self.entry.peers.now self.entry.accept
             self.entry.workers result.0 }
         ensures rest { IsLeft (W.follows self.entry.course) W.leaves result.1 (AreStepsOf result.0) }
     {
@@ -130,23 +123,8 @@ where
         Result<Account<TcpReader<'s>, TcpWriter, A>, Halted<A>>,
         W::Rest,
     )
-        ensures workers { IfOk result.0 (λ _. IsCrew self.entry.workers) }
-        ensures bad_workers { IfErr result.0 (λ halted. (halted.fault ≡ BadWorkers) ↔ (¬ IsCrew self.entry.workers)) }
-        ensures fault { IfErr result.0 (λ halted. IsCrew self.entry.workers
-            → IsArrivingFault true (length self.entry.peers.now + self.entry.accept) self.entry.workers halted.fault) }
-        ensures kept { IfErr result.0 (λ halted. IfSome halted.history (λ history.
-            IsLegal self.entry.config.now (reverse history.items))) }
-        ensures full { IfErr result.0 (λ halted. halted.fault ≡ HistoryFull → IfSome halted.history (λ history.
-            length history.items ≡ self.entry.config.now.numbers.steps)) }
-        ensures tallied { IfErr result.0 (λ halted. IfSome halted.history (λ history. IfSome halted.links (λ tallies.
-            AreTallies history.items (length self.entry.peers.now + self.entry.accept) tallies.items))) }
-        ensures holds { IfOk result.0 (λ account. Holds self.entry.batch half_read half_written self.entry.config.now
-            (roles_of (length self.entry.peers.now) (length self.entry.peers.now + self.entry.accept))
-            self.entry.workers (report_of account)) }
-        ensures made { IfOk result.0 (λ account. AreMadeOf (λ half. half.origin) (λ half. half.origin)
-            (origins_of self.entry.peers.now (length self.entry.peers.now + self.entry.accept)) (report_of account)) }
-        ensures one_socket { IfOk result.0 (λ account.
-            AreOfOne (λ half. half.socket) (λ half. half.socket) (report_of account)) }
+        ensures served { IsTallied self.entry.batch self.entry.config.now self.entry.peers.now self.entry.accept
+            self.entry.workers result.0 }
         ensures rest { IsLeft (W.follows self.entry.course) W.leaves result.1 (AreStepsOf result.0) }
     {
         let Running {
@@ -167,10 +145,7 @@ where
         let all = roles_of(peers.len(), links);
         let roles = &all[..links];
         let numbers = &config.numbers;
-        watch.open(numbers.steps);
-        if accept == 0 {
-            stops.close_listener();
-        }
+        begin(watch, numbers, accept, stops);
         let gate = Counted::new(rt, watch, stops, numbers, links as u32);
         let arrivals = Peers {
             net: rt,
@@ -183,9 +158,23 @@ where
             stops,
             watch,
         };
-        run_arriving_by::<C, W, _, _, _, _>(
-            rt, alloc, config, roles, arrivals, workers, &gate, batch, core, course,
-        )
+        let asked = Asked {
+            config,
+            workers,
+            gate: &gate,
+            batch,
+        };
+        let coming = Coming { roles, arrivals };
+        let routing = Routing { core, course };
+        run_arriving_by::<C, W, _, _, _, _>(rt, alloc, &asked, coming, routing)
+    }
+}
+
+/// The run begins, as who watches it learns; where it accepts nobody, nobody listens any more.
+fn begin<G: Watch, A: Allocator>(watch: &G, numbers: &Numbers, accept: u32, stops: &Stops<'_, A>) {
+    watch.open(numbers.steps);
+    if accept == 0 {
+        stops.close_listener();
     }
 }
 

@@ -1,16 +1,16 @@
 //! A run over TCP.
 
-ghost use Rattle.std.specs.Prelude.{◌≡◌, ◌+◌, ◌≤◌, ◌↔◌, [], length, reverse, true, IfErr, IfOk, IfSome, MatchResult};
-ghost use Rattle.gn_rules.specs.Answer.{IsLegal};
-ghost use Rattle.gn_rules.specs.Limits.{IsCrew, most_links};
+ghost use Rattle.std.specs.Prelude.{◌≡◌, ◌+◌, ◌≤◌, [], length, true, IfErr, IfOk, IfSome, MatchResult};
+ghost use Rattle.gn_rules.specs.Limits.{most_links};
 ghost use Rattle.gn_report.specs.Accounts.{report_of};
-ghost use Rattle.gn_threads.specs.declared.fault.RunFault.TheVariants.{BadWorkers, HistoryFull};
+ghost use Rattle.gn_threads.specs.Answers.{IsRunAnswer, halted_views, stopped_views};
 ghost use Rattle.gn_threads.specs.Courses.{AreTallies, IsLeft};
 ghost use Rattle.gn_threads.specs.Faults.{IsArrivingFault};
 ghost use Rattle.gn_threads.specs.Headline.{AreMadeOf, AreOfOne, Holds};
 ghost use Rattle.gn_service.specs.Links.{origins_of, roles_of};
 ghost use Rattle.gn_sockets.specs.TcpHalves.{half_read, half_written};
 ghost use Rattle.gn_service.specs.Ran.{ran_of};
+ghost use Rattle.gn_service.specs.Serves.{IsServed, served_account, served_report};
 
 use crate::ran::Ran;
 use crate::running::Running;
@@ -62,14 +62,10 @@ pub fn serve_on<
     watch: &G,
 ) -> Result<Report<TcpReader<'s>, TcpWriter, A>, RunFault>
     requires few { accept + length peers.now ≤ most_links }
-    ensures workers { IfOk result (λ _. IsCrew workers) }
-    ensures bad_workers { IfErr result (λ fault. (fault ≡ BadWorkers) ↔ (¬ IsCrew workers)) }
-    ensures fault { IfErr result (λ fault. IsCrew workers
-        → IsArrivingFault true (length peers.now + accept) workers fault) }
-    ensures holds { IfOk result (λ report. Holds 1 half_read half_written config.now
-        (roles_of (length peers.now) (length peers.now + accept)) workers report) }
-    ensures made { IfOk result (λ report. AreMadeOf (λ half. half.origin) (λ half. half.origin)
-        (origins_of peers.now (length peers.now + accept)) report) }
+    ensures answered { IsRunAnswer workers (IsArrivingFault true (length peers.now + accept) workers)
+        (Holds 1 half_read half_written config.now (roles_of (length peers.now) (length peers.now + accept)) workers)
+        (AreMadeOf (λ half. half.origin) (λ half. half.origin) (origins_of peers.now (length peers.now + accept)))
+        (λ report. report) (λ fault. fault) result }
     ensures one_socket { IfOk result (λ report. AreOfOne (λ half. half.socket) (λ half. half.socket) report) }
 {
     match serve_kept::<C, G, A, R>(
@@ -105,19 +101,7 @@ pub fn serve_kept<
     watch: &G,
 ) -> Result<(Report<TcpReader<'s>, TcpWriter, A>, Ran<A>), Stopped<A>>
     requires few { accept + length peers.now ≤ most_links }
-    ensures workers { IfOk result (λ _. IsCrew workers) }
-    ensures bad_workers { IfErr result (λ stopped. (stopped.fault ≡ BadWorkers) ↔ (¬ IsCrew workers)) }
-    ensures fault { IfErr result (λ stopped. IsCrew workers
-        → IsArrivingFault true (length peers.now + accept) workers stopped.fault) }
-    ensures kept { IfErr result (λ stopped. IfSome stopped.history (λ history.
-        IsLegal config.now (reverse history.items))) }
-    ensures full { IfErr result (λ stopped. stopped.fault ≡ HistoryFull → IfSome stopped.history (λ history.
-        length history.items ≡ config.now.numbers.steps)) }
-    ensures holds { IfOk result (λ done. Holds 1 half_read half_written config.now
-        (roles_of (length peers.now) (length peers.now + accept)) workers done.0) }
-    ensures made { IfOk result (λ done. AreMadeOf (λ half. half.origin) (λ half. half.origin)
-        (origins_of peers.now (length peers.now + accept)) done.0) }
-    ensures one_socket { IfOk result (λ done. AreOfOne (λ half. half.socket) (λ half. half.socket) done.0) }
+    ensures served { IsServed 1 config.now peers.now accept workers served_report stopped_views result }
     ensures ran { IfOk result (λ done. done.1 ≡ ran_of done.0) }
 {
     if workers == 0 || workers > MOST_WORKERS {
@@ -184,22 +168,9 @@ where
     W::Followed: Send + Drop,
     requires few { accept + length peers.now ≤ most_links }
     requires empty { C.steps core ≡ [] }
-    ensures workers { IfOk result.0 (λ _. IsCrew workers) }
-    ensures bad_workers { IfErr result.0 (λ halted. (halted.fault ≡ BadWorkers) ↔ (¬ IsCrew workers)) }
-    ensures fault { IfErr result.0 (λ halted. IsCrew workers
-        → IsArrivingFault true (length peers.now + accept) workers halted.fault) }
-    ensures kept { IfErr result.0 (λ halted. IfSome halted.history (λ history.
-        IsLegal config.now (reverse history.items))) }
-    ensures full { IfErr result.0 (λ halted. halted.fault ≡ HistoryFull → IfSome halted.history (λ history.
-        length history.items ≡ config.now.numbers.steps)) }
+    ensures served { IsServed batch config.now peers.now accept workers served_account halted_views result.0 }
     ensures tallied { IfErr result.0 (λ halted. IfSome halted.history (λ history. IfSome halted.links (λ tallies.
         AreTallies history.items (length peers.now + accept) tallies.items))) }
-    ensures holds { IfOk result.0 (λ done. Holds batch half_read half_written config.now
-        (roles_of (length peers.now) (length peers.now + accept)) workers (report_of done.0)) }
-    ensures made { IfOk result.0 (λ done. AreMadeOf (λ half. half.origin) (λ half. half.origin)
-        (origins_of peers.now (length peers.now + accept)) (report_of done.0)) }
-    ensures one_socket { IfOk result.0 (λ done.
-        AreOfOne (λ half. half.socket) (λ half. half.socket) (report_of done.0)) }
     ensures ran { IfOk result.0 (λ done. done.1 ≡ ran_of (report_of done.0)) }
     ensures rest { IsLeft (W.follows course) W.leaves result.1 (λ steps. MatchResult result.0
         (λ done. done.0.history.items ≡ steps)

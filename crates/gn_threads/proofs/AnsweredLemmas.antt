@@ -1,20 +1,17 @@
 -- What is told of a run whose router keeps its steps is what its answer says where nobody keeps them.
-use Rattle.std.proofs.Common.{◌≡◌, ◌∙◌, ◌↔◌, ℕ, List, map, reverse, Option, Some, None, Result, Ok, Err, Vec, sym, subst}
+use Rattle.std.proofs.Common.{◌≡◌, ◌∙◌, ◌↔◌, ℕ, List, reverse, Option, Some, None, Result, Ok, Err, Vec, sym, subst}
 use Rattle.std.specs.Prelude.{IfErr, IfOk, IfSome}
 use Rattle.std.specs.Option.{IsSomeAnd}
-use Rattle.std.proofs.lemmas.Simd.{map-map}
 use Rattle.gn_rules.specs.declared.config.Config.{Config}
 use Rattle.gn_rules.specs.declared.receipt.Step.{Step}
 use Rattle.gn_rules.specs.Answer.{IsLegal}
 use Rattle.gn_rules.specs.Limits.{IsCrew}
 use Rattle.gn_shake.specs.declared.role.Role.{Role}
-use Rattle.gn_links.specs.Halves.{ReadHalf, Source, WrittenHalf}
+use Rattle.gn_links.specs.Halves.{ReadHalf, WrittenHalf}
 use Rattle.gn_report.specs.declared.account.Account.{Account}
-use Rattle.gn_report.specs.declared.account.LinkAccount.{LinkAccount}
-use Rattle.gn_report.specs.declared.report.LinkReport.{LinkReport}
 use Rattle.gn_report.specs.declared.report.Report.{Report}
 use Rattle.gn_report.specs.declared.unkept.Unkept.{Unkept}
-use Rattle.gn_report.specs.Accounts.{link_of, report_of}
+use Rattle.gn_report.specs.Accounts.{report_of}
 use Rattle.gn_report.specs.Actors.{AreOwn}
 use Rattle.gn_report.specs.Told.{Tells}
 use Rattle.gn_threads.specs.declared.fault.RunFault.{RunFault}
@@ -22,9 +19,8 @@ use Rattle.gn_threads.specs.declared.fault.RunFault.TheVariants.{BadWorkers, His
 use Rattle.gn_threads.specs.declared.halted.Halted.{Halted}
 use Rattle.gn_threads.specs.declared.stopped.Stopped.{Stopped}
 use Rattle.gn_threads.specs.Courses.{AreStepsOf, IsLeft}
-use Rattle.gn_threads.specs.Headline.{Holds, LinksReadOwn}
+use Rattle.gn_threads.specs.Headline.{Holds}
 use Rattle.gn_threads.specs.Told.{IsStoppedOf, IsToldOf}
-use Rattle.gn_threads.proofs.ToldLemmas.{bytes_told, same_halves}
 
 -- what holds anyway holds of a result, where there is one
 pub ok_always : {T E : Type 0} (r : Result T E) (P : Type 0) → P → IfOk r (λ _. P)
@@ -89,12 +85,3 @@ pub stopped_bad : {Rd W A : Type 0} (answer : Result (Account Rd W A) (Halted A)
     → IfErr answer (λ halted. (halted.fault ≡ BadWorkers) ↔ (¬ IsCrew workers)) → (stopped.fault ≡ BadWorkers) ↔ (¬ IsCrew workers)
 stopped_bad (Ok account) stopped workers same crew bad = (λ is some. let other : NoMemory ≡ BadWorkers = sym same.0 ∙ is in cc, λ not. absurd (not crew))
 stopped_bad (Err halted) stopped workers same crew bad = subst (λ fault. (fault ≡ BadWorkers) ↔ (¬ IsCrew workers)) (sym same.0) bad
-
--- what was read is that of the links that the readers of a report say they have
-pub own_told : {Rd W A O : Type 0} (account : Account Rd W A) (report : Report Rd W A) → Tells account report → (reads : Rd → ReadHalf) (reader_of : Rd → O) (gives : O → Source)
-    → LinksReadOwn reads (map (λ link. gives (reader_of link.reader)) account.links.items) (report_of account) → LinksReadOwn reads (map (λ link. gives (reader_of link.reader)) report.links.items) report
-own_told {Rd} {W} {A} account report tells reads reader_of gives own =
-    let same = same_halves account report tells (λ e. gives (reader_of e.reader)) in
-    let known : map (λ (link : LinkReport Rd W A). gives (reader_of link.reader)) report.links.items ≡ map (λ (link : LinkAccount Rd W A). gives (reader_of link.reader)) account.links.items =
-    same ∙ map-map (λ (link : LinkReport Rd W A). gives (reader_of link.reader)) (link_of account.links.alloc) account.links.items in
-    subst (λ sources. LinksReadOwn reads sources report) (sym known) (bytes_told account report tells reads _ own)

@@ -23,6 +23,7 @@ use Rattle.gn_report.specs.BodyEnds.{is_settled, may_close_first}
 use Rattle.gn_report.specs.Flaw.{ReaderConfirmed, WriterConfirmed}
 use Rattle.gn_report.proofs.ConfirmedLemmas.{Confirmed}
 use Rattle.gn_bodies.specs.Done.{Half, ReadsAs, Ended, ReaderKeeps, IsReaderDone, WriterKeeps, IsWriterDone, halved}
+use Rattle.gn_threads.specs.Answers.{AreArrived}
 use Rattle.gn_threads.specs.Headline.{AreMadeOf, AreOfOne, LinkHolds, LinksReadOwn, ReadOwn}
 use Rattle.gn_threads.specs.Joined.{EachKeeps, KeepEnds}
 use Rattle.gn_threads.specs.Reported.{reader_accounted, writer_accounted}
@@ -181,12 +182,9 @@ are_of_one {Rd} {W} {A} reads reader_of gives turns writes writer_of batch readi
 
 -- where it is known from which links the halves were split, it is known what their readers are to give
 pub own_of_known : {Rd W A O E : Type 0} (reads : Rd → ReadHalf) (reader_of : Rd → O) (writer_of : W → O) (gives : O → Source) (origins : List O) (r : Result (Account Rd W A) E)
-    → IfOk r (λ account. AreMadeOf reader_of writer_of origins (report_of account))
-    → IfOk r (λ account. LinksReadOwn reads (map (λ link. gives (reader_of link.reader)) account.links.items) (report_of account))
+    → IfOk r (λ account. AreMadeOf reader_of writer_of origins (report_of account)) → IfOk r (λ account. AreArrived reads gives reader_of writer_of (report_of account))
     → IfOk r (λ account. LinksReadOwn reads (map gives origins) (report_of account))
-own_of_known reads reader_of writer_of gives origins (Err e) made own = tt
-own_of_known {Rd} {W} {A} reads reader_of writer_of gives origins (Ok account) made own =
-    let links = account.links.items in
+own_of_known reads reader_of writer_of gives origins (Err e) made arrived = tt
+own_of_known {Rd} {W} {A} reads reader_of writer_of gives origins (Ok account) made arrived =
     subst (λ sources. LinksReadOwn reads sources (report_of account))
-    (sym (map-map gives (λ (link : LinkAccount Rd W A). reader_of link.reader) links)
-    ∙ ap (map gives) (sym (map-map (λ (link : LinkReport Rd W A). reader_of link.reader) (link_of account.links.alloc) links) ∙ made.readers)) own
+    (sym (map-map gives (λ (link : LinkReport Rd W A). reader_of link.reader) (report_of account).links.items) ∙ ap (map gives) made.readers) arrived.bytes

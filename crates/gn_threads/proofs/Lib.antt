@@ -6,6 +6,7 @@ pub mod HoldsLemmas
 mod AccountLemmas
 mod OverLemmas
 pub mod AnsweredLemmas
+pub mod AnswerLemmas
 pub mod FollowLemmas
 pub mod CourseLemmas
 pub mod ToldLemmas

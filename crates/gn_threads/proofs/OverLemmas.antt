@@ -14,11 +14,13 @@ use Rattle.gn_report.specs.declared.account.Account.{Account}
 use Rattle.gn_report.specs.declared.account.LinkAccount.{LinkAccount}
 use Rattle.gn_report.specs.declared.account.LinkTally.{LinkTally}
 use Rattle.gn_report.specs.declared.unkept.Unkept.{Unkept}
-use Rattle.gn_report.specs.Accounts.{report_of}
+use Rattle.gn_report.specs.declared.report.LinkReport.{LinkReport}
+use Rattle.gn_report.specs.Accounts.{link_of, report_of}
 use Rattle.gn_threads.specs.declared.bodies.Bodies.{Bodies}
 use Rattle.gn_threads.specs.declared.halted.Halted.{Halted}
 use Rattle.gn_threads.specs.Courses.{AreStepsOf, AreTallies, IsLeft}
-use Rattle.gn_threads.specs.Headline.{AreMadeOf, AreOfOne, LinksReadOwn}
+use Rattle.gn_threads.specs.Answers.{AreArrived}
+use Rattle.gn_threads.specs.Headline.{AreMadeOf}
 use Rattle.gn_threads.specs.Joined.{AllRoute, AreJoinedOf, EachKeeps, KeepEnds}
 use Rattle.gn_threads.specs.Reported.{HaveBodies, reader_result}
 use Rattle.gn_threads.specs.Settled.{AreSized}
@@ -110,21 +112,22 @@ module _ {Rd W B A O F : Type 0} (reads : Rd → ReadHalf) (reader_of : Rd → O
       }
 
   module _ (account : Account Rd W A) (has : HaveBodies (map reader_result bodies.readers.items) (map writer_ended bodies.writers.items) account.links.items) where
-    -- what the account's readers read is their own links'
-    pub over_bytes : LinksReadOwn reads (map (λ link. gives (reader_of link.reader)) account.links.items) (report_of account)
-    over_bytes =
-        let made = readers_made_of reads reader_of gives turns all.reading (map reader_result bodies.readers.items) account all.joined.read all.joined.each_read has.readers in
-        let own = sym (map-map gives (λ (h : Half Rd). reader_of h.half) all.reading) ∙ (ap (map gives) (sym made) ∙ map-map gives (λ (link : LinkAccount Rd W A). reader_of link.reader) account.links.items) in
-        links_read_own reads reader_of gives turns all.reading _ (map reader_result bodies.readers.items) account own all.joined.read has.readers all.joined.each_read
-
     -- its halves were split from the links that were to come
     pub over_made : AreMadeOf (λ reader. foreknown (reader_of reader)) (λ writer. foreknown (writer_of writer)) (take (length roles) coming) (report_of account)
     over_made =
         are_made_of reads reader_of gives turns writes writer_of batch foreknown all.reading all.writing (map reader_result bodies.readers.items) (map writer_ended bodies.writers.items) _ account
         all.reading_made all.writing_made all.joined.read all.joined.written all.joined.each_read all.joined.each_written has.readers has.writers
 
-    -- and those of a link from one
-    pub over_one : AreOfOne reader_of writer_of (report_of account)
-    over_one =
-        are_of_one reads reader_of gives turns writes writer_of batch all.reading all.writing (map reader_result bodies.readers.items) (map writer_ended bodies.writers.items) account
-        all.writing_made all.joined.read all.joined.written all.joined.each_read all.joined.each_written has.readers has.writers
+    -- its readers read their own links, and the halves of a link were split from one
+    pub over_arrived : AreArrived reads gives reader_of writer_of (report_of account)
+    over_arrived =
+        let made = readers_made_of reads reader_of gives turns all.reading (map reader_result bodies.readers.items) account all.joined.read all.joined.each_read has.readers in
+        let own = sym (map-map gives (λ (h : Half Rd). reader_of h.half) all.reading)
+        ∙ (ap (map gives) (sym made)
+        ∙ (map-map gives (λ (link : LinkAccount Rd W A). reader_of link.reader) account.links.items
+        ∙ sym (map-map (λ (link : LinkReport Rd W A). gives (reader_of link.reader)) (link_of account.links.alloc) account.links.items))) in
+        record {
+          bytes = links_read_own reads reader_of gives turns all.reading _ (map reader_result bodies.readers.items) account own all.joined.read has.readers all.joined.each_read;
+          one = are_of_one reads reader_of gives turns writes writer_of batch all.reading all.writing (map reader_result bodies.readers.items) (map writer_ended bodies.writers.items) account
+              all.writing_made all.joined.read all.joined.written all.joined.each_read all.joined.each_written has.readers has.writers;
+        }

@@ -2,6 +2,7 @@
 pub mod Courses
 pub mod Faults
 pub mod Headline
+pub mod Answers
 pub mod Ends
 -- Words of the proofs.
 pub mod Joined

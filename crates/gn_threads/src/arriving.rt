@@ -1,19 +1,19 @@
 //! A run whose links come one after another.
 
-ghost use Rattle.std.specs.Prelude.{◌≡◌, ◌+◌, ◌*◌, ◌≤◌, ◌↔◌, [], true, length, map, reverse, take, vec_len, IfErr, IfOk, IfSome};
+ghost use Rattle.std.specs.Prelude.{◌≡◌, ◌+◌, ◌*◌, ◌≤◌, [], true, length, map, take, vec_len, IfErr, IfOk, IfSome};
 ghost use Rattle.gn_bodies.specs.Done.{IsReaderDone, IsWriterDone, writer_ended};
-ghost use Rattle.gn_rules.specs.Answer.{IsLegal};
 ghost use Rattle.gn_rules.specs.Limits.{IsCrew, most_links, most_reads};
-ghost use Rattle.gn_threads.specs.declared.fault.RunFault.TheVariants.{BadWorkers, HistoryFull};
+ghost use Rattle.gn_threads.specs.Answers.{AreArrived, IsKeptAnswer, IsRunAnswer, halted_views, stopped_views};
 ghost use Rattle.gn_threads.specs.Courses.{AreStepsOf, AreTallies, IsLeft};
 ghost use Rattle.gn_report.specs.Accounts.{report_of};
 ghost use Rattle.gn_threads.specs.Faults.{IsArrivingFault};
+ghost use Rattle.gn_threads.specs.Headline.{AreMadeOf, Holds};
 ghost use Rattle.gn_threads.specs.Reported.{reader_result};
 ghost use Rattle.gn_threads.specs.Settled.{AreSized};
-ghost use Rattle.gn_threads.specs.Headline.{AreMadeOf, AreOfOne, Holds, LinksReadOwn};
 ghost use Rattle.gn_threads.specs.Joined.{AreJoinedOf, is_router};
 
 use crate::arrivals::Arrivals;
+use crate::asked::{Asked, Coming, Routing};
 use crate::bodies::{Bodies, Cut};
 use crate::course::{Course, InMemory};
 use crate::ending::{Opened, run_to_end};
@@ -59,17 +59,12 @@ where
     V::Reader: Send,
     V::Writer: Send,
     requires few { length roles.now ≤ most_links }
-    ensures workers { IfOk result (λ _. IsCrew workers) }
-    ensures bad_workers { IfErr result (λ fault. (fault ≡ BadWorkers) ↔ (¬ IsCrew workers)) }
-    ensures fault { IfErr result (λ fault. IsCrew workers
-        → IsArrivingFault V.has_peers (length roles.now) workers fault) }
-    ensures holds { IfOk result (λ report. Holds 1 V.Reader.state V.Writer.state config.now roles.now workers report) }
-    ensures bytes { IfOk result (λ report. LinksReadOwn V.Reader.state
-        (map (λ link. V.Reader.gives (V.Reader.made_of link.reader)) report.links.items) report) }
-    ensures made { IfOk result (λ report. AreMadeOf
-        (λ reader. V.foreknown (V.Reader.made_of reader)) (λ writer. V.foreknown (V.Writer.made_of writer))
-        (take (length roles.now) (V.coming arrivals)) report) }
-    ensures one { IfOk result (λ report. AreOfOne V.Reader.made_of V.Writer.made_of report) }
+    ensures answer { IsRunAnswer workers (IsArrivingFault V.has_peers (length roles.now) workers)
+        (Holds 1 V.Reader.state V.Writer.state config.now roles.now workers)
+        (AreMadeOf (λ reader. V.foreknown (V.Reader.made_of reader)) (λ writer. V.foreknown (V.Writer.made_of writer))
+        (take (length roles.now) (V.coming arrivals))) (λ report. report) (λ fault. fault) result }
+    ensures arrived { IfOk result (λ report.
+        AreArrived V.Reader.state V.Reader.gives V.Reader.made_of V.Writer.made_of report) }
 {
     match run_arriving_kept::<C, V, G, A, R>(rt, alloc, config, roles, arrivals, workers, gate) {
         Ok(report) => Ok(report),
@@ -98,21 +93,12 @@ where
     V::Reader: Send,
     V::Writer: Send,
     requires few { length roles.now ≤ most_links }
-    ensures workers { IfOk result (λ _. IsCrew workers) }
-    ensures bad_workers { IfErr result (λ stopped. (stopped.fault ≡ BadWorkers) ↔ (¬ IsCrew workers)) }
-    ensures fault { IfErr result (λ stopped. IsCrew workers
-        → IsArrivingFault V.has_peers (length roles.now) workers stopped.fault) }
-    ensures kept { IfErr result (λ stopped. IfSome stopped.history (λ history.
-        IsLegal config.now (reverse history.items))) }
-    ensures full { IfErr result (λ stopped. stopped.fault ≡ HistoryFull → IfSome stopped.history (λ history.
-        length history.items ≡ config.now.numbers.steps)) }
-    ensures holds { IfOk result (λ report. Holds 1 V.Reader.state V.Writer.state config.now roles.now workers report) }
-    ensures bytes { IfOk result (λ report. LinksReadOwn V.Reader.state
-        (map (λ link. V.Reader.gives (V.Reader.made_of link.reader)) report.links.items) report) }
-    ensures made { IfOk result (λ report. AreMadeOf
-        (λ reader. V.foreknown (V.Reader.made_of reader)) (λ writer. V.foreknown (V.Writer.made_of writer))
-        (take (length roles.now) (V.coming arrivals)) report) }
-    ensures one { IfOk result (λ report. AreOfOne V.Reader.made_of V.Writer.made_of report) }
+    ensures answer { IsKeptAnswer config.now workers (IsArrivingFault V.has_peers (length roles.now) workers)
+        (Holds 1 V.Reader.state V.Writer.state config.now roles.now workers)
+        (AreMadeOf (λ reader. V.foreknown (V.Reader.made_of reader)) (λ writer. V.foreknown (V.Writer.made_of writer))
+        (take (length roles.now) (V.coming arrivals))) (λ report. report) stopped_views result }
+    ensures arrived { IfOk result (λ report.
+        AreArrived V.Reader.state V.Reader.gives V.Reader.made_of V.Writer.made_of report) }
 {
     if workers == 0 || workers > MOST_WORKERS {
         return Err(Stopped::before(RunFault::BadWorkers));
@@ -120,17 +106,19 @@ where
     let Ok(core) = C::make(alloc, config) else {
         return Err(Stopped::before(RunFault::NoMemory));
     };
-    let (answer, core) = run_arriving_by::<C, InMemory, V, G, A, R>(
-        rt,
-        alloc,
+    let asked = Asked {
         config,
-        roles,
-        arrivals,
         workers,
         gate,
-        Batch::one(),
+        batch: Batch::one(),
+    };
+    let routing = Routing {
         core,
-        InMemory,
+        course: InMemory,
+    };
+    let coming = Coming { roles, arrivals };
+    let (answer, core) = run_arriving_by::<C, InMemory, V, G, A, R>(
+        rt, alloc, &asked, coming, routing,
     );
     told_by(alloc, answer, core)
 }
@@ -148,52 +136,46 @@ pub fn run_arriving_by<
 >(
     rt: &R,
     alloc: A,
-    config: &Config,
-    roles: &[Role],
-    arrivals: V,
-    workers: u32,
-    gate: &G,
-    batch: Batch,
-    core: C,
-    course: W,
+    asked: &Asked<'_, G>,
+    coming: Coming<'_, V>,
+    routing: Routing<C, W>,
 ) -> (Result<Account<V::Reader, V::Writer, A>, Halted<A>>, W::Rest)
 where
     V::Reader: Send,
     V::Writer: Send,
     W::Followed: Send + Drop,
-    requires few { length roles.now ≤ most_links }
-    requires empty { C.steps core ≡ [] }
-    ensures workers { IfOk result.0 (λ _. IsCrew workers) }
-    ensures bad_workers { IfErr result.0 (λ halted. (halted.fault ≡ BadWorkers) ↔ (¬ IsCrew workers)) }
-    ensures fault { IfErr result.0 (λ halted. IsCrew workers
-        → IsArrivingFault V.has_peers (length roles.now) workers halted.fault) }
-    ensures kept { IfErr result.0 (λ halted. IfSome halted.history (λ history.
-        IsLegal config.now (reverse history.items))) }
-    ensures full { IfErr result.0 (λ halted. halted.fault ≡ HistoryFull → IfSome halted.history (λ history.
-        length history.items ≡ config.now.numbers.steps)) }
+    requires few { length coming.roles.now ≤ most_links }
+    requires empty { C.steps routing.core ≡ [] }
+    ensures answer { IsKeptAnswer asked.now.config.now asked.now.workers
+        (IsArrivingFault V.has_peers (length coming.entry.roles.now) asked.now.workers)
+        (Holds asked.now.batch V.Reader.state V.Writer.state asked.now.config.now coming.entry.roles.now
+        asked.now.workers)
+        (AreMadeOf (λ reader. V.foreknown (V.Reader.made_of reader)) (λ writer. V.foreknown (V.Writer.made_of writer))
+        (take (length coming.entry.roles.now) (V.coming coming.entry.arrivals))) report_of halted_views result.0 }
+    ensures arrived { IfOk result.0 (λ account.
+        AreArrived V.Reader.state V.Reader.gives V.Reader.made_of V.Writer.made_of (report_of account)) }
     ensures tallied { IfErr result.0 (λ halted. IfSome halted.history (λ history. IfSome halted.links (λ links.
-        AreTallies history.items (length roles.now) links.items))) }
-    ensures holds { IfOk result.0 (λ account.
-        Holds batch V.Reader.state V.Writer.state config.now roles.now workers (report_of account)) }
-    ensures bytes { IfOk result.0 (λ account. LinksReadOwn V.Reader.state
-        (map (λ link. V.Reader.gives (V.Reader.made_of link.reader)) account.links.items) (report_of account)) }
-    ensures made { IfOk result.0 (λ account. AreMadeOf
-        (λ reader. V.foreknown (V.Reader.made_of reader)) (λ writer. V.foreknown (V.Writer.made_of writer))
-        (take (length roles.now) (V.coming arrivals)) (report_of account)) }
-    ensures one { IfOk result.0 (λ account. AreOfOne V.Reader.made_of V.Writer.made_of (report_of account)) }
-    ensures rest { IsLeft (W.follows course) W.leaves result.1 (AreStepsOf result.0) }
+        AreTallies history.items (length coming.entry.roles.now) links.items))) }
+    ensures rest { IsLeft (W.follows routing.course) W.leaves result.1 (AreStepsOf result.0) }
 {
+    let Coming { roles, arrivals } = coming;
+    let workers = asked.workers;
     if workers == 0 || workers > MOST_WORKERS {
-        return (Err(Halted::before(RunFault::BadWorkers)), course.give_up());
+        return (
+            Err(Halted::before(RunFault::BadWorkers)),
+            routing.course.give_up(),
+        );
     }
-    let Ok(stage) = Stage::new(alloc, config.numbers.stage as usize) else {
-        return (Err(Halted::before(RunFault::NoMemory)), course.give_up());
+    let Ok(stage) = Stage::new(alloc, asked.config.numbers.stage as usize) else {
+        return (
+            Err(Halted::before(RunFault::NoMemory)),
+            routing.course.give_up(),
+        );
     };
     let parts = 2 * roles.len() as u64 + workers as u64 + 1;
     let unopened = Unopened::new(parts);
-    run_arriving_in::<Brand, C, W, V, G, A, R>(
-        rt, alloc, unopened, stage, config, roles, arrivals, workers, gate, batch, core, course,
-    )
+    let links = Coming { roles, arrivals };
+    run_arriving_in::<Brand, C, W, V, G, A, R>(rt, alloc, unopened, stage, asked, links, routing)
 }
 
 /// A run with its ledger, its stage and its limits, which `B` names.
@@ -210,14 +192,9 @@ fn run_arriving_in<
     alloc: A,
     unopened: Unopened<A>,
     stage: Stage<A>,
-    config: &Config,
-    roles: &[Role],
-    arrivals: V,
-    workers: u32,
-    gate: &G,
-    batch: Batch,
-    core: C,
-    course: W,
+    asked: &Asked<'_, G>,
+    coming: Coming<'_, V>,
+    routing: Routing<C, W>,
 ) -> (Result<Account<V::Reader, V::Writer, A>, Halted<A>>, W::Rest)
 where
     V::Reader: Send,
@@ -225,28 +202,25 @@ where
     W::Followed: Send + Drop,
     requires names { (unopened.blank.name ≡ B.name) × (unopened.steps.name ≡ B.growing) × (stage ≡ B.stage) }
     requires parts { (unopened.blank.parts ≡ B.parts)
-        × (unopened.blank.parts ≡ 2 * length roles.now + workers + 1) }
-    requires turns { B.turns ≡ most_reads config.now.numbers.steps }
-    requires batch { B.batch ≡ batch }
-    requires few { (length roles.now ≤ most_links) × IsCrew workers }
-    requires empty { C.steps core ≡ [] }
-    ensures fault { IfErr result.0 (λ halted. IsArrivingFault V.has_peers (length roles.now) workers halted.fault) }
-    ensures kept { IfErr result.0 (λ halted. IfSome halted.history (λ history.
-        IsLegal config.now (reverse history.items))) }
-    ensures full { IfErr result.0 (λ halted. halted.fault ≡ HistoryFull → IfSome halted.history (λ history.
-        length history.items ≡ config.now.numbers.steps)) }
+        × (unopened.blank.parts ≡ 2 * length coming.roles.now + asked.now.workers + 1) }
+    requires turns { B.turns ≡ most_reads asked.now.config.now.numbers.steps }
+    requires batch { B.batch ≡ asked.now.batch }
+    requires few { (length coming.roles.now ≤ most_links) × IsCrew asked.now.workers }
+    requires empty { C.steps routing.core ≡ [] }
+    ensures answer { IsKeptAnswer asked.now.config.now asked.now.workers
+        (IsArrivingFault V.has_peers (length coming.entry.roles.now) asked.now.workers)
+        (Holds B.batch V.Reader.state V.Writer.state asked.now.config.now coming.entry.roles.now asked.now.workers)
+        (AreMadeOf (λ reader. V.foreknown (V.Reader.made_of reader)) (λ writer. V.foreknown (V.Writer.made_of writer))
+        (take (length coming.entry.roles.now) (V.coming coming.entry.arrivals))) report_of halted_views result.0 }
+    ensures arrived { IfOk result.0 (λ account.
+        AreArrived V.Reader.state V.Reader.gives V.Reader.made_of V.Writer.made_of (report_of account)) }
     ensures tallied { IfErr result.0 (λ halted. IfSome halted.history (λ history. IfSome halted.links (λ links.
-        AreTallies history.items (length roles.now) links.items))) }
-    ensures holds { IfOk result.0 (λ account.
-        Holds B.batch V.Reader.state V.Writer.state config.now roles.now workers (report_of account)) }
-    ensures bytes { IfOk result.0 (λ account. LinksReadOwn V.Reader.state
-        (map (λ link. V.Reader.gives (V.Reader.made_of link.reader)) account.links.items) (report_of account)) }
-    ensures made { IfOk result.0 (λ account. AreMadeOf
-        (λ reader. V.foreknown (V.Reader.made_of reader)) (λ writer. V.foreknown (V.Writer.made_of writer))
-        (take (length roles.now) (V.coming arrivals)) (report_of account)) }
-    ensures one { IfOk result.0 (λ account. AreOfOne V.Reader.made_of V.Writer.made_of (report_of account)) }
-    ensures rest { IsLeft (W.follows course) W.leaves result.1 (AreStepsOf result.0) }
+        AreTallies history.items (length coming.entry.roles.now) links.items))) }
+    ensures rest { IsLeft (W.follows routing.course) W.leaves result.1 (AreStepsOf result.0) }
 {
+    let (config, workers) = (asked.config, asked.workers);
+    let Coming { roles, arrivals } = coming;
+    let Routing { core, course } = routing;
     let room = course.room();
     let Ok(opening) = open_run::<B, C, A>(alloc, unopened, stage, core, room, roles, workers) else {
         return (Err(Halted::before(RunFault::NoMemory)), course.give_up());
@@ -262,8 +236,10 @@ where
         house,
         desk,
     };
-    let limits = Limits::of(config, batch);
-    let (over, ran) = run_bodies(rt, alloc, &service, gate, &limits, arrivals, opened, course);
+    let limits = Limits::of(config, asked.batch);
+    let (over, ran) = run_bodies(
+        rt, alloc, &service, asked.gate, &limits, arrivals, opened, course,
+    );
     let mut hub = service.into_hub();
     let answer = conclude(alloc, config, roles, &mut hub, workers, over);
     let rest = W::end(ran, hub.into_router());

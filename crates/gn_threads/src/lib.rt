@@ -5,6 +5,7 @@
 mod actors;
 mod arrivals;
 mod arriving;
+mod asked;
 mod bodies;
 mod came;
 mod course;
@@ -31,6 +32,7 @@ mod unstarted;
 
 pub use arrivals::Arrivals;
 pub use arriving::{run_arriving, run_arriving_by, run_arriving_kept};
+pub use asked::{Asked, Coming, Routing};
 pub use course::{Course, InMemory};
 pub use fault::RunFault;
 pub use halted::Halted;

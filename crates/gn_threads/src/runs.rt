@@ -1,9 +1,8 @@
 //! A run from its links to its report.
 
-ghost use Rattle.std.specs.Prelude.{◌≡◌, ◌≤◌, ◌↔◌, [], length, map, reverse, IfErr, IfOk, IfSome};
-ghost use Rattle.gn_rules.specs.Answer.{IsLegal};
-ghost use Rattle.gn_rules.specs.Limits.{IsCrew, most_links};
-ghost use Rattle.gn_threads.specs.declared.fault.RunFault.TheVariants.{BadWorkers, HistoryFull};
+ghost use Rattle.std.specs.Prelude.{◌≡◌, ◌≤◌, [], length, map, IfErr, IfOk, IfSome};
+ghost use Rattle.gn_rules.specs.Limits.{most_links};
+ghost use Rattle.gn_threads.specs.Answers.{IsKeptAnswer, IsRunAnswer, halted_views};
 ghost use Rattle.gn_threads.specs.Courses.{AreStepsOf, AreTallies, IsLeft};
 ghost use Rattle.gn_report.specs.Accounts.{report_of};
 ghost use Rattle.gn_threads.specs.Faults.{IsWholeFault};
@@ -11,6 +10,7 @@ ghost use Rattle.gn_threads.specs.Headline.{AreMadeOf, Holds, LinksReadOwn, Runs
 
 use crate::arrivals::Arrived;
 use crate::arriving::run_arriving_by;
+use crate::asked::{Asked, Coming, Routing};
 use crate::course::{Course, InMemory};
 use crate::fault::RunFault;
 use crate::halted::Halted;
@@ -46,16 +46,12 @@ where
     K::Reader: Send,
     K::Writer: Send,
     requires few { length links.items ≤ most_links }
-    ensures workers { IfOk result (λ _. IsCrew workers) }
-    ensures bad_workers { IfErr result (λ fault. (fault ≡ BadWorkers) ↔ (¬ IsCrew workers)) }
-    ensures fault { IfErr result (λ fault. IsCrew workers
-        → IsWholeFault (map K.may_not_split links.items) workers fault) }
-    ensures holds { IfOk result (λ report. Holds 1 K.Reader.state K.Writer.state config.now
-        (map K.role_of links.items) workers report) }
+    ensures answer { IsRunAnswer workers (IsWholeFault (map K.may_not_split links.items) workers)
+        (Holds 1 K.Reader.state K.Writer.state config.now (map K.role_of links.items) workers)
+        (AreMadeOf K.Reader.made_of K.Writer.made_of (map K.origin_of links.items))
+        (λ report. report) (λ fault. fault) result }
     ensures bytes { IfOk result (λ report. LinksReadOwn K.Reader.state
         (map (λ link. K.Reader.gives (K.origin_of link)) links.items) report) }
-    ensures made { IfOk result (λ report. AreMadeOf K.Reader.made_of K.Writer.made_of
-        (map K.origin_of links.items) report) }
 {
     if workers == 0 || workers > MOST_WORKERS {
         return Err(RunFault::BadWorkers);
@@ -63,17 +59,17 @@ where
     let Ok(core) = C::make(alloc, config) else {
         return Err(RunFault::NoMemory);
     };
-    let (answer, core) = run_by::<C, InMemory, K, G, A, R>(
-        rt,
-        alloc,
+    let asked = Asked {
         config,
-        links,
         workers,
         gate,
-        Batch::one(),
+        batch: Batch::one(),
+    };
+    let routing = Routing {
         core,
-        InMemory,
-    );
+        course: InMemory,
+    };
+    let (answer, core) = run_by::<C, InMemory, K, G, A, R>(rt, alloc, &asked, links, routing);
     match told_by(alloc, answer, core) {
         Ok(report) => Ok(report),
         Err(stopped) => Err(stopped.fault),
@@ -94,63 +90,50 @@ pub fn run_by<
 >(
     rt: &R,
     alloc: A,
-    config: &Config,
+    asked: &Asked<'_, G>,
     links: Vec<K, A>,
-    workers: u32,
-    gate: &G,
-    batch: Batch,
-    core: C,
-    course: W,
+    routing: Routing<C, W>,
 ) -> (Result<Account<K::Reader, K::Writer, A>, Halted<A>>, W::Rest)
 where
     K::Reader: Send,
     K::Writer: Send,
     W::Followed: Send + Drop,
     requires few { length links.items ≤ most_links }
-    requires empty { C.steps core ≡ [] }
-    ensures workers { IfOk result.0 (λ _. IsCrew workers) }
-    ensures bad_workers { IfErr result.0 (λ halted. (halted.fault ≡ BadWorkers) ↔ (¬ IsCrew workers)) }
-    ensures fault { IfErr result.0 (λ halted. IsCrew workers
-        → IsWholeFault (map K.may_not_split links.items) workers halted.fault) }
-    ensures kept { IfErr result.0 (λ halted. IfSome halted.history (λ history.
-        IsLegal config.now (reverse history.items))) }
-    ensures full { IfErr result.0 (λ halted. halted.fault ≡ HistoryFull → IfSome halted.history (λ history.
-        length history.items ≡ config.now.numbers.steps)) }
-    ensures tallied { IfErr result.0 (λ halted. IfSome halted.history (λ history. IfSome halted.links (λ tallies.
-        AreTallies history.items (length links.items) tallies.items))) }
-    ensures holds { IfOk result.0 (λ account. Holds batch K.Reader.state K.Writer.state config.now
-        (map K.role_of links.items) workers (report_of account)) }
+    requires empty { C.steps routing.core ≡ [] }
+    ensures answer { IsKeptAnswer asked.now.config.now asked.now.workers
+        (IsWholeFault (map K.may_not_split links.items) asked.now.workers)
+        (Holds asked.now.batch K.Reader.state K.Writer.state asked.now.config.now (map K.role_of links.items)
+        asked.now.workers)
+        (AreMadeOf K.Reader.made_of K.Writer.made_of (map K.origin_of links.items)) report_of halted_views result.0 }
     ensures bytes { IfOk result.0 (λ account. LinksReadOwn K.Reader.state
         (map (λ link. K.Reader.gives (K.origin_of link)) links.items) (report_of account)) }
-    ensures made { IfOk result.0 (λ account. AreMadeOf K.Reader.made_of K.Writer.made_of
-        (map K.origin_of links.items) (report_of account)) }
-    ensures rest { IsLeft (W.follows course) W.leaves result.1 (AreStepsOf result.0) }
+    ensures tallied { IfErr result.0 (λ halted. IfSome halted.history (λ history. IfSome halted.links (λ tallies.
+        AreTallies history.items (length links.items) tallies.items))) }
+    ensures rest { IsLeft (W.follows routing.course) W.leaves result.1 (AreStepsOf result.0) }
 {
+    let workers = asked.workers;
     if workers == 0 || workers > MOST_WORKERS {
-        return (Err(Halted::before(RunFault::BadWorkers)), course.give_up());
+        return (
+            Err(Halted::before(RunFault::BadWorkers)),
+            routing.course.give_up(),
+        );
     }
     let split = match split_all(alloc, links) {
         Ok(split) => split,
         Err(fault) => {
-            return (Err(Halted::before(RunFault::from(fault))), course.give_up());
+            return (
+                Err(Halted::before(RunFault::from(fault))),
+                routing.course.give_up(),
+            );
         }
     };
     let SplitLinks { roles, links } = split;
+    let roles = roles.as_slice();
     let arrivals = Arrived {
         links: links.into_iter(),
     };
-    run_arriving_by::<C, W, Arrived<K, A>, G, A, R>(
-        rt,
-        alloc,
-        config,
-        roles.as_slice(),
-        arrivals,
-        workers,
-        gate,
-        batch,
-        core,
-        course,
-    )
+    let coming = Coming { roles, arrivals };
+    run_arriving_by::<C, W, Arrived<K, A>, G, A, R>(rt, alloc, asked, coming, routing)
 }
 
 /// The law of what follows where `Holds` does, whatever the batch: as many receipts as steps, each ticket routed once, and both actors

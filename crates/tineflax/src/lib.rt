@@ -126,8 +126,8 @@ pub mod run {
     pub use gn_report::{Account, LinkAccount, LinkReport, LinkTally, Report, Unkept};
     pub use gn_service::{Ran, Serving, Stop, serve_by, serve_kept, serve_on};
     pub use gn_threads::{
-        Arrivals, Course, Halted, InMemory, RunFault, Stopped, run, run_arriving, run_arriving_by,
-        run_arriving_kept, run_by, stopped_by, tell,
+        Arrivals, Asked, Coming, Course, Halted, InMemory, Routing, RunFault, Stopped, run,
+        run_arriving, run_arriving_by, run_arriving_kept, run_by, stopped_by, tell,
     };
 }
 

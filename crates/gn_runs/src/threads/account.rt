@@ -10,7 +10,7 @@ use gn_run_fixtures::pings;
 use gn_shake::Role;
 use gn_table_router::TableRouter;
 use gn_tables::Forgetful;
-use gn_threads::{Course, run_by};
+use gn_threads::{Asked, Course, Routing, run_by};
 use std::alloc::{AllocError, Allocator, Global};
 use std::sync::Wait;
 use std::test::Fail;
@@ -80,16 +80,18 @@ fn account_of<R: Threads + Wait + Sync>(
         drop(links);
         return Err("few links".into());
     }
-    let (answer, ()) = run_by::<TableRouter<Global, Forgetful<Global>>, Nobody, _, _, _, R>(
-        rt,
-        alloc,
+    let asked = Asked {
         config,
-        links,
-        1,
-        &NoGate,
-        Batch::one(),
+        workers: 1,
+        gate: &NoGate,
+        batch: Batch::one(),
+    };
+    let routing = Routing {
         core,
-        Nobody,
+        course: Nobody,
+    };
+    let (answer, ()) = run_by::<TableRouter<Global, Forgetful<Global>>, Nobody, _, _, _, R>(
+        rt, alloc, &asked, links, routing,
     );
     match answer {
         Ok(account) => Ok(account),

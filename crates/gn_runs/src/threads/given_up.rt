@@ -6,7 +6,9 @@ use gn_links::{Gate, Link, Made, MemoryLink, MemoryReader, MemoryWriter};
 use gn_rules::FreshRouter;
 use gn_shake::Role;
 use gn_table_router::TableRouter;
-use gn_threads::{Arrivals, Halted, InMemory, RunFault, run_arriving, run_arriving_by};
+use gn_threads::{
+    Arrivals, Asked, Coming, Halted, InMemory, Routing, RunFault, run_arriving, run_arriving_by,
+};
 use std::alloc::{AllocError, Global};
 use std::sync::Wait;
 use std::sync::atomic::{AtomicBool, AtomicU32, Ordering};
@@ -151,17 +153,22 @@ fn halted_over<R: Threads + Wait + Sync>(
         links: links.into_iter(),
         news: &news,
     };
-    let (answer, _core) = run_arriving_by::<TableRouter, InMemory, Late<'_>, News, Global, R>(
-        rt,
-        alloc,
-        &config,
-        &ROLES,
-        late,
-        1,
-        &news,
-        Batch::one(),
+    let asked = Asked {
+        config: &config,
+        workers: 1,
+        gate: &news,
+        batch: Batch::one(),
+    };
+    let coming = Coming {
+        roles: &ROLES,
+        arrivals: late,
+    };
+    let routing = Routing {
         core,
-        InMemory,
+        course: InMemory,
+    };
+    let (answer, _core) = run_arriving_by::<TableRouter, InMemory, Late<'_>, News, Global, R>(
+        rt, alloc, &asked, coming, routing,
     );
     Ok(answer.err())
 }

@@ -27,9 +27,9 @@ returns-in-Err g c =
     (stopped_as c.args.batch c.args.config.now c.args.peers.now c.args.accept c.args.workers rest.steps old mid new halted c.finish_halted.result
     (record {
       crew = c.requires.few.1;
-      bad_workers = err_of answer halted _ c.in-Err.is c.serve_by-answer.ensures.bad_workers;
-      fault = err_of answer halted _ c.in-Err.is c.serve_by-answer.ensures.fault;
-      full = err_of answer halted _ c.in-Err.is c.serve_by-answer.ensures.full;
+      bad_workers = err_of answer halted _ c.in-Err.is c.serve_by-answer.ensures.served.answered.run.bad_workers;
+      fault = err_of answer halted _ c.in-Err.is c.serve_by-answer.ensures.served.answered.run.fault;
+      full = err_of answer halted _ c.in-Err.is c.serve_by-answer.ensures.served.answered.full;
       tallied = err_of answer halted _ c.in-Err.is c.serve_by-answer.ensures.tallied;
       has = held_err answer halted _ _ c.in-Err.is rest.held;
       legal = rest.left.1 c.args.config.now c.requires.named.1;
@@ -51,9 +51,9 @@ returns-in-Ok-finish_history g c =
     subst (λ (k : g.row.W.Denot). IsJournalled c.args.batch c.args.config.now c.args.peers.now c.args.accept c.args.workers old (g.W.Sink.state k) (Ok (account, ran))) (sym (c.sink-1.given.1 named))
     (all_written_of c.args.batch c.args.config.now c.args.peers.now c.args.accept c.args.workers rest.steps old mid new account ran c.serve_by-answer.result.1.waiting c.in-Ok-finish_history.field-0 c.requires.few.1
     (ok_of answer (account, ran) _ c.in-Ok-answer.is c.serve_by-answer.ensures.ran)
-    (ok_of answer (account, ran) _ c.in-Ok-answer.is c.serve_by-answer.ensures.holds)
-    (ok_of answer (account, ran) _ c.in-Ok-answer.is c.serve_by-answer.ensures.made)
-    (ok_of answer (account, ran) _ c.in-Ok-answer.is c.serve_by-answer.ensures.one_socket)
+    (ok_of answer (account, ran) _ c.in-Ok-answer.is c.serve_by-answer.ensures.served.answered.run.holds)
+    (ok_of answer (account, ran) _ c.in-Ok-answer.is c.serve_by-answer.ensures.served.answered.run.made)
+    (ok_of answer (account, ran) _ c.in-Ok-answer.is c.serve_by-answer.ensures.served.one_socket)
     (held_ok answer (account, ran) _ _ c.in-Ok-answer.is rest.held) has
     (subst (λ r. HasFinished mid new c.serve_by-answer.result.1.waiting r) c.in-Ok-finish_history.is c.finish_history.ensures))
 
@@ -72,9 +72,9 @@ returns-in-Err-finish_history g c =
     subst (λ (k : g.row.W.Denot). IsJournalled c.args.batch c.args.config.now c.args.peers.now c.args.accept c.args.workers old (g.W.Sink.state k) (Err c.unwritten.result)) (sym (c.sink-1.given.1 named))
     (unwritten c.args.batch c.args.config.now c.args.peers.now c.args.accept c.args.workers rest.steps old mid new account ran c.unwritten.result c.serve_by-answer.result.1.waiting c.in-Err-finish_history.why c.requires.few.1
     (ok_of answer (account, ran) _ c.in-Ok-answer.is c.serve_by-answer.ensures.ran)
-    (ok_of answer (account, ran) _ c.in-Ok-answer.is c.serve_by-answer.ensures.holds)
-    (ok_of answer (account, ran) _ c.in-Ok-answer.is c.serve_by-answer.ensures.made)
-    (ok_of answer (account, ran) _ c.in-Ok-answer.is c.serve_by-answer.ensures.one_socket)
+    (ok_of answer (account, ran) _ c.in-Ok-answer.is c.serve_by-answer.ensures.served.answered.run.holds)
+    (ok_of answer (account, ran) _ c.in-Ok-answer.is c.serve_by-answer.ensures.served.answered.run.made)
+    (ok_of answer (account, ran) _ c.in-Ok-answer.is c.serve_by-answer.ensures.served.one_socket)
     (held_ok answer (account, ran) _ _ c.in-Ok-answer.is rest.held) has
     (subst (λ r. HasFinished mid new c.serve_by-answer.result.1.waiting r) c.in-Err-finish_history.is c.finish_history.ensures)
     c.unwritten.ensures.fault c.unwritten.ensures.same c.unwritten.ensures.tallies)

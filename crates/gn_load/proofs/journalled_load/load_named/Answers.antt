@@ -24,9 +24,9 @@ returns-in-Err g c =
     let new = g.W.Sink.state c.write_stopped.new.sink in
     let run : StoppedLoad c.args.config.now (length c.args.links.items) c.args.workers rest.steps halted = record {
       crew = c.requires.few.1;
-      bad_workers = err_of answer halted _ c.in-Err.is c.run_by-answer.ensures.bad_workers;
-      fault = λ crew. none_split c.args.links.items c.args.workers halted.fault (err_of answer halted _ c.in-Err.is c.run_by-answer.ensures.fault crew);
-      full = err_of answer halted _ c.in-Err.is c.run_by-answer.ensures.full;
+      bad_workers = err_of answer halted _ c.in-Err.is c.run_by-answer.ensures.answer.run.bad_workers;
+      fault = λ crew. none_split c.args.links.items c.args.workers halted.fault (err_of answer halted _ c.in-Err.is c.run_by-answer.ensures.answer.run.fault crew);
+      full = err_of answer halted _ c.in-Err.is c.run_by-answer.ensures.answer.full;
       has = steps_err answer halted rest.steps c.in-Err.is rest.held;
       legal = rest.left.1 c.args.config.now c.requires.named.1;
     } in
@@ -48,9 +48,9 @@ returns-in_ok-finished-in-Ok g c =
     let named = sym (rest.left.0.0 ∙ rest.became.0) in
     subst (λ (k : g.row.W.Denot). IsJournalledLoad c.args.batch c.args.config.now c.args.links.items c.args.workers old (g.W.Sink.state k) (Ok tt)) (sym (c.sink-1.given.1 named))
     (all_loaded c.args.batch c.args.config.now c.args.links.items c.args.workers rest.steps old mid new c.run_by-answer.result.1.waiting has account c.in_ok-finished-in-Ok.field-0
-    (ok_of answer account _ c.in-Ok.is c.run_by-answer.ensures.holds)
+    (ok_of answer account _ c.in-Ok.is c.run_by-answer.ensures.answer.run.holds)
     (ok_of answer account _ c.in-Ok.is c.run_by-answer.ensures.bytes)
-    (halves_made c.args.links.items (report_of account) (ok_of answer account _ c.in-Ok.is c.run_by-answer.ensures.made))
+    (halves_made c.args.links.items (report_of account) (ok_of answer account _ c.in-Ok.is c.run_by-answer.ensures.answer.run.made))
     c.requires.few.1
     (steps_ok answer account rest.steps c.in-Ok.is rest.held) c.in_ok-finished-in-Ok.ensures)
 
@@ -68,5 +68,5 @@ returns-in_err-finished-in-Ok g c =
     subst (λ (k : g.row.W.Denot). IsJournalledLoad c.args.batch c.args.config.now c.args.links.items c.args.workers old (g.W.Sink.state k) c.from_residual-in_err-finished-in-Ok.result) (sym (c.sink-1.given.1 named))
     (handed_load c.args.batch c.args.config.now c.args.links.items c.args.workers old new c.from_residual-in_err-finished-in-Ok.result (of_print c.in_err-finished-in-Ok.field-0.0) c.from_residual-in_err-finished-in-Ok.ensures.1
     (cut_load c.args.batch c.args.config.now c.args.links.items c.args.workers rest.steps old mid new c.run_by-answer.result.1.waiting has account c.in_err-finished-in-Ok.field-0.0
-    (ok_of answer account _ c.in-Ok.is c.run_by-answer.ensures.holds).legal
+    (ok_of answer account _ c.in-Ok.is c.run_by-answer.ensures.answer.run.holds).legal
     (steps_ok answer account rest.steps c.in-Ok.is rest.held) c.in_err-finished-in-Ok.ensures))

@@ -16,14 +16,14 @@ pub returns-in_err-report-clause-fault : goal.returns-in_err-report-clause-fault
 returns-in_err-report-clause-fault g c =
     on_err c.from_residual-in_err-report.result (Run c.in_err-report.field-0.0) (λ fault. IsRunLoadFault c.args.workers fault (load_of g.row.A.Denot c.args.text.items))
     c.from_residual-in_err-report.ensures.1
-    (refused_run g.row.A.Denot c.args.text.items c.in_ok-config.config c.in_ok-config.links.items c.in_ok-config.ensures.read c.args.workers c.in_err-report.field-0.0 c.in_err-report.ensures.bad_workers
-    (λ crew. none_split c.in_ok-config.links.items c.args.workers c.in_err-report.field-0.0 (c.in_err-report.ensures.fault crew)))
+    (refused_run g.row.A.Denot c.args.text.items c.in_ok-config.config c.in_ok-config.links.items c.in_ok-config.ensures.read c.args.workers c.in_err-report.field-0.0 c.in_err-report.ensures.answer.bad_workers
+    (λ crew. none_split c.in_ok-config.links.items c.args.workers c.in_err-report.field-0.0 (c.in_err-report.ensures.answer.fault crew)))
 
 pub returns-clause-history : goal.returns-clause-history
 returns-clause-history g c =
     let ran = c.in_ok-report.ensures in
-    history_printed g.row.A.Denot c.args.text.items c.in_ok-config.config c.in_ok-config.links.items c.in_ok-config.ensures.read c.args.workers 1 c.in_ok-report.report ran.holds ran.bytes
-    (halves_made c.in_ok-config.links.items c.in_ok-report.report ran.made) ran.workers
+    history_printed g.row.A.Denot c.args.text.items c.in_ok-config.config c.in_ok-config.links.items c.in_ok-config.ensures.read c.args.workers 1 c.in_ok-report.report ran.answer.holds ran.bytes
+    (halves_made c.in_ok-config.links.items c.in_ok-report.report ran.answer.made) ran.answer.crew
 
 pub run-requires-send-K-Reader : goal.run-requires-send-K-Reader
 run-requires-send-K-Reader g c κs within = search (sendable, reader_send) depth 40

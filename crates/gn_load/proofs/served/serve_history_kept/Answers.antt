@@ -9,7 +9,7 @@ use Rattle.gn_load.proofs.served.serve_history_kept.Goals as goal
 pub returns-in-Ok-print_history-clause-written : goal.returns-in-Ok-print_history-clause-written
 returns-in-Ok-print_history-clause-written g c =
     let ran = c.in-Ok.ensures in
-    written 1 c.args.config.now c.args.peers.now c.args.accept c.args.workers c.in-Ok.done.0 c.in-Ok.done.1 ran.ran ran.holds ran.made ran.one_socket c.deref.result.now
+    written 1 c.args.config.now c.args.peers.now c.args.accept c.args.workers c.in-Ok.done.0 c.in-Ok.done.1 ran.ran ran.served.answered.run.holds ran.served.answered.run.made ran.served.one_socket c.deref.result.now
     (g.W.Sink.state c.args.sink.now).written (g.W.Sink.state c.print_history.new.sink).written c.deref.ensures.value c.in-Ok-print_history.ensures.ok
 
 pub returns-in-Err-clause-stopped : goal.returns-in-Err-clause-stopped
@@ -24,23 +24,23 @@ returns-in-Err-Write-clause-fault g c = λ crew.
 pub returns-in-Err-Write-clause-stopped : goal.returns-in-Err-Write-clause-stopped
 returns-in-Err-Write-clause-stopped g c =
     let ran = c.in-Ok.ensures in
-    written_part 1 c.args.config.now c.args.peers.now c.args.accept c.args.workers c.in-Ok.done.0 c.in-Ok.done.1 ran.ran ran.holds ran.made ran.one_socket c.deref.result.now
+    written_part 1 c.args.config.now c.args.peers.now c.args.accept c.args.workers c.in-Ok.done.0 c.in-Ok.done.1 ran.ran ran.served.answered.run.holds ran.served.answered.run.made ran.served.one_socket c.deref.result.now
     (g.W.Sink.state c.args.sink.now).written (g.W.Sink.state c.print_history.new.sink).written c.deref.ensures.value c.in-Err-Write.ensures.err
 
 pub returns-clause-stopped : goal.returns-clause-stopped
 returns-clause-stopped g c =
     let ran = c.in-Ok.ensures in
-    inr (written_part 1 c.args.config.now c.args.peers.now c.args.accept c.args.workers c.in-Ok.done.0 c.in-Ok.done.1 ran.ran ran.holds ran.made ran.one_socket c.deref.result.now
+    inr (written_part 1 c.args.config.now c.args.peers.now c.args.accept c.args.workers c.in-Ok.done.0 c.in-Ok.done.1 ran.ran ran.served.answered.run.holds ran.served.answered.run.made ran.served.one_socket c.deref.result.now
     (g.W.Sink.state c.args.sink.now).written (g.W.Sink.state c.print_history.new.sink).written c.deref.ensures.value c.in-Err-NoMemory.ensures.err)
 
 pub returns-in-Err-clause-bad_workers : goal.returns-in-Err-clause-bad_workers
-returns-in-Err-clause-bad_workers g c = run_is c.in-Err.field-0.fault _ c.in-Err.ensures.bad_workers
+returns-in-Err-clause-bad_workers g c = run_is c.in-Err.field-0.fault _ c.in-Err.ensures.served.answered.run.bad_workers
 
 pub returns-in-Err-clause-fault : goal.returns-in-Err-clause-fault
-returns-in-Err-clause-fault g c = c.in-Err.ensures.fault
+returns-in-Err-clause-fault g c = c.in-Err.ensures.served.answered.run.fault
 
 pub returns-in-Ok-print_history-clause-workers : goal.returns-in-Ok-print_history-clause-workers
-returns-in-Ok-print_history-clause-workers g c = c.in-Ok.ensures.workers
+returns-in-Ok-print_history-clause-workers g c = c.in-Ok.ensures.served.answered.run.crew
 
 pub returns-in-Ok-print_history-clause-report : goal.returns-in-Ok-print_history-clause-report
 returns-in-Ok-print_history-clause-report g c =
@@ -51,28 +51,28 @@ pub returns-in-Ok-print_history-clause-unfailed : goal.returns-in-Ok-print_histo
 returns-in-Ok-print_history-clause-unfailed g c = c.in-Ok-print_history.ensures.unfailed
 
 pub returns-in-Err-Write-clause-bad_workers : goal.returns-in-Err-Write-clause-bad_workers
-returns-in-Err-Write-clause-bad_workers g c = write_is_other c.args.workers c.in-Ok.ensures.workers
+returns-in-Err-Write-clause-bad_workers g c = write_is_other c.args.workers c.in-Ok.ensures.served.answered.run.crew
 
 pub returns-clause-bad_workers : goal.returns-clause-bad_workers
-returns-clause-bad_workers g c = memory_is_other c.args.workers c.in-Ok.ensures.workers
+returns-clause-bad_workers g c = memory_is_other c.args.workers c.in-Ok.ensures.served.answered.run.crew
 
 pub returns-in-Ok-print_history-clause-holds : goal.returns-in-Ok-print_history-clause-holds
-returns-in-Ok-print_history-clause-holds g c = c.in-Ok.ensures.holds
+returns-in-Ok-print_history-clause-holds g c = c.in-Ok.ensures.served.answered.run.holds
 
 pub returns-in-Ok-print_history-clause-made : goal.returns-in-Ok-print_history-clause-made
-returns-in-Ok-print_history-clause-made g c = c.in-Ok.ensures.made
+returns-in-Ok-print_history-clause-made g c = c.in-Ok.ensures.served.answered.run.made
 
 pub returns-in-Ok-print_history-clause-one_socket : goal.returns-in-Ok-print_history-clause-one_socket
-returns-in-Ok-print_history-clause-one_socket g c = c.in-Ok.ensures.one_socket
+returns-in-Ok-print_history-clause-one_socket g c = c.in-Ok.ensures.served.one_socket
 
 pub returns-in-Err-clause-full : goal.returns-in-Err-clause-full
-returns-in-Err-clause-full g c = λ is. c.in-Err.ensures.full (is_full is)
+returns-in-Err-clause-full g c = λ is. c.in-Err.ensures.served.answered.full (is_full is)
 
 pub returns-in-Err-Write-clause-kept : goal.returns-in-Err-Write-clause-kept
-returns-in-Err-Write-clause-kept g c = c.in-Ok.ensures.holds.legal
+returns-in-Err-Write-clause-kept g c = c.in-Ok.ensures.served.answered.run.holds.legal
 
 pub returns-clause-kept : goal.returns-clause-kept
-returns-clause-kept g c = c.in-Ok.ensures.holds.legal
+returns-clause-kept g c = c.in-Ok.ensures.served.answered.run.holds.legal
 
 pub returns-in-Err-Write-clause-full : goal.returns-in-Err-Write-clause-full
 returns-in-Err-Write-clause-full g c = λ is. absurd (cc)

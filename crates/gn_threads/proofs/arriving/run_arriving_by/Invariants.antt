@@ -11,4 +11,4 @@ abbrev pub ghosts-run_arriving_in-B-Site : goal.ghosts-run_arriving_in-B-Site
 ghosts-run_arriving_in-B-Site g a = record { stage = a.stage }
 
 abbrev pub ghosts-run_arriving_in-B-Limited : goal.ghosts-run_arriving_in-B-Limited
-ghosts-run_arriving_in-B-Limited g a = record { turns = most_reads a.config.now.numbers.steps; batch = a.batch }
+ghosts-run_arriving_in-B-Limited g a = record { turns = most_reads a.asked.now.config.now.numbers.steps; batch = a.asked.now.batch }

@@ -10,7 +10,8 @@ use Rattle.gn_threads.specs.Headline.{AreMadeOf}
 use Rattle.gn_threads.specs.Joined.{KeepEnds}
 use Rattle.gn_threads.specs.Reported.{reader_result}
 use Rattle.gn_threads.specs.Settled.{AreSized}
-use Rattle.gn_threads.proofs.OverLemmas.{answered, both_of, left_unopened, over_bytes, over_ends, over_made, over_one, over_routes, over_sized, tallied_as}
+use Rattle.gn_threads.proofs.AnswerLemmas.{crewed}
+use Rattle.gn_threads.proofs.OverLemmas.{answered, both_of, left_unopened, over_arrived, over_ends, over_made, over_routes, over_sized, tallied_as}
 use Rattle.gn_threads.proofs.arriving.run_arriving_in.Goals as goal
 
 pub conclude-answer-requires-clause-few : goal.conclude-answer-requires-clause-few
@@ -18,20 +19,20 @@ conclude-answer-requires-clause-few g c = (c.requires.few.0, c.requires.few.1.gr
 
 pub conclude-answer-requires-clause-sized : goal.conclude-answer-requires-clause-sized
 conclude-answer-requires-clause-sized g c =
-    subst (λ roles. IfOk c.run_bodies-over.result.0 (λ bodies. AreSized (length roles) c.args.workers bodies)) c.in-Ok.ensures.roles
+    subst (λ roles. IfOk c.run_bodies-over.result.0 (λ bodies. AreSized (length roles) c.args.asked.now.workers bodies)) c.in-Ok.ensures.roles
     (subst (λ n. IfOk c.run_bodies-over.result.0 (λ bodies. AreSized (length c.in-Ok.opening.unstarted.roles.now) n bodies)) c.in-Ok.ensures.workers
     (IfOk-weaker c.run_bodies-over.result.0 _ _ (λ bodies all. over_sized _ _ _ _ _ _ _ _ _ _ _ bodies all) c.run_bodies-over.ensures.joined))
 
 pub conclude-answer-requires-clause-cut : goal.conclude-answer-requires-clause-cut
 conclude-answer-requires-clause-cut g c =
-    subst (λ roles. IfErr c.run_bodies-over.result.0 (λ cut. IfSome cut.bodies (λ bodies. AreSized (length roles) c.args.workers bodies))) c.in-Ok.ensures.roles
+    subst (λ roles. IfErr c.run_bodies-over.result.0 (λ cut. IfSome cut.bodies (λ bodies. AreSized (length roles) c.args.asked.now.workers bodies))) c.in-Ok.ensures.roles
     (subst (λ n. IfErr c.run_bodies-over.result.0 (λ cut. IfSome cut.bodies (λ bodies. AreSized (length c.in-Ok.opening.unstarted.roles.now) n bodies))) c.in-Ok.ensures.workers c.run_bodies-over.ensures.cut)
 
 pub conclude-answer-requires-clause-ends : goal.conclude-answer-requires-clause-ends
 conclude-answer-requires-clause-ends g c =
     let reads = g.V.Reader.LinkReader.state in
     let writes = g.V.Writer.LinkWriter.state in
-    subst (λ roles. IfOk c.run_bodies-over.result.0 (λ bodies. KeepEnds (most_reads c.args.config.now.numbers.steps) g.B.Limited.batch roles (map (λ d. halved reads (reader_result d)) bodies.readers.items) (map (λ d. halved writes (writer_ended d)) bodies.writers.items))) c.in-Ok.ensures.roles
+    subst (λ roles. IfOk c.run_bodies-over.result.0 (λ bodies. KeepEnds (most_reads c.args.asked.now.config.now.numbers.steps) g.B.Limited.batch roles (map (λ d. halved reads (reader_result d)) bodies.readers.items) (map (λ d. halved writes (writer_ended d)) bodies.writers.items))) c.in-Ok.ensures.roles
     (IfOk-weaker c.run_bodies-over.result.0 _ _ (λ bodies all. over_ends _ _ _ _ _ _ _ _ _ _ _ bodies all _ c.requires.turns) c.run_bodies-over.ensures.joined)
 
 pub conclude-answer-requires-clause-routes : goal.conclude-answer-requires-clause-routes
@@ -53,27 +54,23 @@ returns-clause-rest g c = record {
 pub returns-in_default-clause-rest : goal.returns-in_default-clause-rest
 returns-in_default-clause-rest g c = left_unopened _ _ _ c.before-in_default.result c.before-in_default.ensures.1 c.give_up.ensures
 
-pub returns-clause-fault : goal.returns-clause-fault
-returns-clause-fault g c =
-    let over = subst (λ roles. IfErr c.run_bodies-over.result.0 (λ cut. IsArrivingFault g.V.Arrivals.has_peers (length roles) c.args.workers cut.fault)) c.in-Ok.ensures.roles
-    (subst (λ n. IfErr c.run_bodies-over.result.0 (λ cut. IsArrivingFault g.V.Arrivals.has_peers (length c.in-Ok.opening.unstarted.roles.now) n cut.fault)) c.in-Ok.ensures.workers c.run_bodies-over.ensures.fault) in
-    IfErr-weaker c.conclude-answer.result _ _ (λ halted may. may g.V.Arrivals.has_peers over) c.conclude-answer.ensures.fault
-
-pub returns-clause-bytes : goal.returns-clause-bytes
-returns-clause-bytes g c =
-    answered c.conclude-answer.result c.run_bodies-over.result.0 _ _ _ c.conclude-answer.ensures.bodies c.conclude-answer.ensures.ended c.run_bodies-over.ensures.joined
-    (λ account bodies has all. over_bytes _ _ _ _ _ _ _ _ _ _ _ bodies all account has)
-
-pub returns-clause-made : goal.returns-clause-made
-returns-clause-made g c =
-    let coming = g.V.Arrivals.coming c.args.arrivals in
+pub returns-clause-answer : goal.returns-clause-answer
+returns-clause-answer g c =
+    let coming = g.V.Arrivals.coming c.args.coming.arrivals in
     let read_of = g.V.Reader.LinkReader.made_of in
     let written_of = g.V.Writer.LinkWriter.made_of in
-    subst (λ roles. IfOk c.conclude-answer.result (λ account. AreMadeOf (λ reader. g.V.Arrivals.foreknown (read_of reader)) (λ writer. g.V.Arrivals.foreknown (written_of writer)) (take (length roles) coming) (report_of account))) c.in-Ok.ensures.roles
+    let over = subst (λ roles. IfErr c.run_bodies-over.result.0 (λ cut. IsArrivingFault g.V.Arrivals.has_peers (length roles) c.args.asked.now.workers cut.fault)) c.in-Ok.ensures.roles
+    (subst (λ n. IfErr c.run_bodies-over.result.0 (λ cut. IsArrivingFault g.V.Arrivals.has_peers (length c.in-Ok.opening.unstarted.roles.now) n cut.fault)) c.in-Ok.ensures.workers c.run_bodies-over.ensures.fault) in
+    let made = subst (λ roles. IfOk c.conclude-answer.result (λ account. AreMadeOf (λ reader. g.V.Arrivals.foreknown (read_of reader)) (λ writer. g.V.Arrivals.foreknown (written_of writer)) (take (length roles) coming) (report_of account))) c.in-Ok.ensures.roles
     (answered c.conclude-answer.result c.run_bodies-over.result.0 _ _ _ c.conclude-answer.ensures.bodies c.conclude-answer.ensures.ended c.run_bodies-over.ensures.joined
-    (λ account bodies has all. over_made _ _ _ _ _ _ _ _ _ _ _ bodies all account has))
+    (λ account bodies has all. over_made _ _ _ _ _ _ _ _ _ _ _ bodies all account has)) in
+    record {
+      run = crewed _ _ _ _ _ _ c.conclude-answer.result c.requires.few.1 (λ never. never) (IfErr-weaker c.conclude-answer.result _ _ (λ halted may. may g.V.Arrivals.has_peers over) c.conclude-answer.ensures.fault) c.conclude-answer.ensures.holds made;
+      kept = c.conclude-answer.ensures.kept;
+      full = c.conclude-answer.ensures.full;
+    }
 
-pub returns-clause-one : goal.returns-clause-one
-returns-clause-one g c =
+pub returns-clause-arrived : goal.returns-clause-arrived
+returns-clause-arrived g c =
     answered c.conclude-answer.result c.run_bodies-over.result.0 _ _ _ c.conclude-answer.ensures.bodies c.conclude-answer.ensures.ended c.run_bodies-over.ensures.joined
-    (λ account bodies has all. over_one _ _ _ _ _ _ _ _ _ _ _ bodies all account has)
+    (λ account bodies has all. over_arrived _ _ _ _ _ _ _ _ _ _ _ bodies all account has)

@@ -4,37 +4,14 @@ use Rattle.gn_threads.specs.Courses.{AreStepsOf}
 use Rattle.gn_threads.proofs.CourseLemmas.{left_on}
 use Rattle.gn_threads.specs.Faults.{IsArrivingFault}
 use Rattle.gn_threads.specs.declared.fault.RunFault.TheVariants.{BadWorkers, HistoryFull}
-use Rattle.gn_service.specs.Serves.{IsServed}
+use Rattle.gn_service.specs.Serves.{IsTallied}
 use Rattle.gn_service.proofs.ServedLemmas.{failed_at, failed_too}
 use Rattle.gn_service.proofs.running.Running.run.Goals as goal
-
-pub returns-in_default-None-clause-served : goal.returns-in_default-None-clause-served
-returns-in_default-None-clause-served g c = record {
-  crew = c.over_links-answer.ensures.workers;
-  bad_workers = c.over_links-answer.ensures.bad_workers;
-  fault = c.over_links-answer.ensures.fault;
-  kept = c.over_links-answer.ensures.kept;
-  full = c.over_links-answer.ensures.full;
-  tallied = c.over_links-answer.ensures.tallied;
-  holds = c.over_links-answer.ensures.holds;
-  made = c.over_links-answer.ensures.made;
-  one_socket = c.over_links-answer.ensures.one_socket;
-}
 
 pub returns-in-Ok-Some-clause-served : goal.returns-in-Ok-Some-clause-served
 returns-in-Ok-Some-clause-served g c =
     failed_at c.args.self.batch c.args.self.config.now c.args.self.peers.now c.args.self.accept c.args.self.workers c.in-Ok-Some.account c.failed_at.result c.in-Ok-Some.fault
-    (subst (λ answer. IsServed c.args.self.batch c.args.self.config.now c.args.self.peers.now c.args.self.accept c.args.self.workers answer) c.in-Ok-Some.is-0 (record {
-      crew = c.over_links-answer.ensures.workers;
-      bad_workers = c.over_links-answer.ensures.bad_workers;
-      fault = c.over_links-answer.ensures.fault;
-      kept = c.over_links-answer.ensures.kept;
-      full = c.over_links-answer.ensures.full;
-      tallied = c.over_links-answer.ensures.tallied;
-      holds = c.over_links-answer.ensures.holds;
-      made = c.over_links-answer.ensures.made;
-      one_socket = c.over_links-answer.ensures.one_socket;
-    }))
+    (subst (λ answer. IsTallied c.args.self.batch c.args.self.config.now c.args.self.peers.now c.args.self.accept c.args.self.workers answer) c.in-Ok-Some.is-0 c.over_links-answer.ensures.served)
     c.failed_at.ensures.fault c.failed_at.ensures.history c.failed_at.ensures.tallies
     (subst (λ o. IfSome o (λ fault. ¬ (fault ≡ BadWorkers))) c.in-Ok-Some.is-1 c.call_fault.ensures.crew)
     (subst (λ o. IfSome o (λ fault. ¬ (fault ≡ HistoryFull))) c.in-Ok-Some.is-1 c.call_fault.ensures.full)
@@ -43,17 +20,7 @@ returns-in-Ok-Some-clause-served g c =
 pub returns-in-Err-Some-clause-served : goal.returns-in-Err-Some-clause-served
 returns-in-Err-Some-clause-served g c =
     failed_too c.args.self.batch c.args.self.config.now c.args.self.peers.now c.args.self.accept c.args.self.workers c.in-Err-Some.halted c.failed_too.result c.in-Err-Some.fault
-    (subst (λ answer. IsServed c.args.self.batch c.args.self.config.now c.args.self.peers.now c.args.self.accept c.args.self.workers answer) c.in-Err-Some.is-0 (record {
-      crew = c.over_links-answer.ensures.workers;
-      bad_workers = c.over_links-answer.ensures.bad_workers;
-      fault = c.over_links-answer.ensures.fault;
-      kept = c.over_links-answer.ensures.kept;
-      full = c.over_links-answer.ensures.full;
-      tallied = c.over_links-answer.ensures.tallied;
-      holds = c.over_links-answer.ensures.holds;
-      made = c.over_links-answer.ensures.made;
-      one_socket = c.over_links-answer.ensures.one_socket;
-    }))
+    (subst (λ answer. IsTallied c.args.self.batch c.args.self.config.now c.args.self.peers.now c.args.self.accept c.args.self.workers answer) c.in-Err-Some.is-0 c.over_links-answer.ensures.served)
     c.failed_too.ensures.fault c.failed_too.ensures.same
     (subst (λ o. IfSome o (λ fault. ¬ (fault ≡ BadWorkers))) c.in-Err-Some.is-1 c.call_fault.ensures.crew)
     (subst (λ o. IfSome o (λ fault. ¬ (fault ≡ HistoryFull))) c.in-Err-Some.is-1 c.call_fault.ensures.full)
