@@ -7,10 +7,12 @@ pub use Rattle.gn_report.specs.BodyEnds
 pub use Rattle.gn_report.specs.Flaw
 pub use Rattle.gn_report.specs.Survey
 pub use Rattle.gn_report.specs.Told
+pub use Rattle.gn_threads.specs.Answers
 pub use Rattle.gn_threads.specs.Courses
 pub use Rattle.gn_threads.specs.Ends
 pub use Rattle.gn_threads.specs.Faults
 pub use Rattle.gn_threads.specs.Headline
 pub use Rattle.gn_service.specs.Links
 pub use Rattle.gn_service.specs.Ran
+pub use Rattle.gn_service.specs.Serves
 pub use Rattle.gn_service.specs.Stopping
