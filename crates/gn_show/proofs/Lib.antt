@@ -1,8 +1,8 @@
 pub mod CountLemmas
-pub mod FloatLemmas
 pub mod LinesLemmas
 pub mod RowLemmas
 pub mod ShowLemmas
 pub mod ShowingLemmas
 pub mod TimeLemmas
+pub mod TokenLemmas
 pub mod ValueLemmas

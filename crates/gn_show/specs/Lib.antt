@@ -9,3 +9,4 @@ pub mod Values
 pub mod Words
 -- Words of the proofs.
 pub mod Showing
+pub mod Tokens

@@ -1,73 +1,60 @@
 //! Descriptors and sends as JSON.
+#![tactic(auto, using(std::proofs::Common::append_assoc))]
 
-ghost use Rattle.std.specs.Prelude.{◌≡◌, map, IfOk, OnOk};
-ghost use Rattle.serde_json.specs.Data.{no_members, object};
-ghost use Rattle.serde_json.specs.View.{items_of, items_view, members_view, view};
-ghost use Rattle.gn_show.specs.Values.{descriptor_data, sending_data};
+ghost use Rattle.std.specs.Prelude.{◌≡◌, ◌++◌, OnOk};
+ghost use Rattle.gn_show.specs.Tokens.{sending_tokens, tokens_of};
+ghost use Rattle.gn_show.specs.Values.{descriptor_data, sends_data};
 
-use crate::members::{Members, put_flag, put_hex, put_number, put_text};
-use crate::payload_json::payload_value;
+use crate::payload_json::put_payload;
 use crate::text::name_of;
+use crate::tokens::Tokens;
 use gn_rules::Sending;
 use gn_wire::Descriptor;
-use serde_json::{Map, Value, put};
 use std::alloc::{AllocError, Global};
 
-/// Adds the members of a descriptor.
-fn put_descriptor(
+/// Writes a descriptor, its payload read.
+pub(crate) fn put_descriptor(
     alloc: Global,
-    members: &mut Members,
+    tokens: &mut Tokens,
     descriptor: &Descriptor,
 ) -> Result<(), AllocError>
-    requires { members_view members.old.entries ≡ no_members }
-    ensures { OnOk result (object (members_view members.new.entries) ≡ descriptor_data descriptor.now) }
+    ensures { OnOk result (tokens.new ≡ tokens.old ++ tokens_of (descriptor_data descriptor.now)) }
 {
     let kind = descriptor.kind();
-    put_number(alloc, members, "code", u32::from(kind.code()))?;
-    put_number(alloc, members, "hops", u32::from(descriptor.hops()))?;
-    put_hex(alloc, members, "id", &descriptor.id().0)?;
-    put_text(alloc, members, "kind", name_of(kind))?;
-    let payload = payload_value(alloc, kind, descriptor.payload().as_slice())?;
-    put(members, alloc, "payload", payload)?;
-    put_number(alloc, members, "ttl", u32::from(descriptor.ttl()))
+    tokens.begin_object()?;
+    tokens.put_number("code", u32::from(kind.code()))?;
+    tokens.put_number("hops", u32::from(descriptor.hops()))?;
+    tokens.put_hex(alloc, "id", &descriptor.id().0)?;
+    tokens.put_text("kind", name_of(kind))?;
+    tokens.put_name("payload")?;
+    put_payload(alloc, tokens, kind, descriptor.payload().as_slice())?;
+    tokens.put_number("ttl", u32::from(descriptor.ttl()))?;
+    tokens.end_object()
 }
 
-/// A descriptor, its payload read.
-pub(crate) fn descriptor_value(alloc: Global, descriptor: &Descriptor) -> Result<Value, AllocError>
-    ensures { IfOk result (λ value. view value ≡ descriptor_data descriptor.now) }
+/// Writes a send, with its descriptor.
+fn put_sending(alloc: Global, tokens: &mut Tokens, sending: &Sending) -> Result<(), AllocError>
+    ensures { OnOk result (tokens.new ≡ tokens.old ++ sending_tokens sending.now) }
 {
-    let mut members = Map::new(alloc);
-    put_descriptor(alloc, &mut members, descriptor)?;
-    Ok(Value::Object(members))
+    tokens.begin_object()?;
+    tokens.put_number("connection", sending.to)?;
+    tokens.put_name("descriptor")?;
+    put_descriptor(alloc, tokens, &sending.packet)?;
+    tokens.put_flag("queued", sending.queued)?;
+    tokens.end_object()
 }
 
-/// Adds the members of a send.
-fn put_sending(alloc: Global, members: &mut Members, sending: &Sending) -> Result<(), AllocError>
-    requires { members_view members.old.entries ≡ no_members }
-    ensures { OnOk result (object (members_view members.new.entries) ≡ sending_data sending.now) }
+/// Writes sends, in order.
+pub(crate) fn put_sends(
+    alloc: Global,
+    tokens: &mut Tokens,
+    sends: &[Sending],
+) -> Result<(), AllocError>
+    ensures { OnOk result (tokens.new ≡ tokens.old ++ tokens_of (sends_data sends.now)) }
 {
-    put_number(alloc, members, "connection", sending.to)?;
-    let descriptor = descriptor_value(alloc, &sending.packet)?;
-    put(members, alloc, "descriptor", descriptor)?;
-    put_flag(alloc, members, "queued", sending.queued)
-}
-
-/// A send, with its descriptor.
-fn sending_value(alloc: Global, sending: &Sending) -> Result<Value, AllocError>
-    ensures { IfOk result (λ value. view value ≡ sending_data sending.now) }
-{
-    let mut members = Map::new(alloc);
-    put_sending(alloc, &mut members, sending)?;
-    Ok(Value::Object(members))
-}
-
-/// Sends, in order.
-pub(crate) fn sends_value(alloc: Global, sends: &[Sending]) -> Result<Vec<Value>, AllocError>
-    ensures { IfOk result (λ values. items_view values.items ≡ items_of (map sending_data sends.now)) }
-{
-    let mut values = Vec::new(alloc);
+    tokens.begin_array()?;
     for sending in sends {
-        values.push(sending_value(alloc, sending)?)?;
+        put_sending(alloc, tokens, sending)?;
     }
-    Ok(values)
+    tokens.end_array()
 }

@@ -9,7 +9,8 @@ ghost use Rattle.gn_show.specs.Subjects.{subject, waiting};
 
 use crate::clock::Moment;
 use crate::flight::{Flight, Subject};
-use crate::step_json::step_value;
+use crate::step_json::put_step;
+use crate::tokens::Tokens;
 use gn_rules::Step;
 use std::alloc::{AllocError, Global};
 
@@ -35,11 +36,9 @@ fn json_line(
 ) -> Result<Vec<u8>, AllocError>
     ensures { IfOk result (λ line. line.items ≡ json_line (seen subject.entry) (placed moment.entry) step.now) }
 {
-    let value = step_value(alloc, subject, moment.index, step)?;
-    let written = value.to_string(alloc);
-    drop(value);
-    let text = written?;
-    let mut line = text.into_bytes();
+    let mut tokens = Tokens::new(alloc)?;
+    put_step(alloc, &mut tokens, subject, moment.index, step)?;
+    let mut line = tokens.into_text();
     add_time(&mut line, moment.time)?;
     line.push(b'\n')?;
     Ok(line)

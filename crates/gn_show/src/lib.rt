@@ -6,7 +6,6 @@ mod descriptor_json;
 mod flight;
 mod form;
 mod json_lines;
-mod members;
 mod payload_json;
 mod plain;
 mod plain_descriptor;
@@ -16,6 +15,7 @@ mod shows;
 mod stats;
 mod step_json;
 mod text;
+mod tokens;
 
 pub use form::{Form, View};
 pub use shows::show;

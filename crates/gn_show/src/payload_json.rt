@@ -1,152 +1,158 @@
 //! Payloads as JSON.
+#![tactic(auto, using(std::proofs::Common::append_assoc))]
 
-ghost use Rattle.std.specs.Prelude.{◌≡◌, ℕ, List, map, IfOk, OnOk};
-ghost use Rattle.serde_json.specs.Data.{no_members, object};
-ghost use Rattle.serde_json.specs.View.{items_of, items_view, members_view, view};
+ghost use Rattle.std.specs.Prelude.{◌≡◌, ◌++◌, ℕ, List, map, OnOk};
+ghost use Rattle.serde_json.specs.Data.{array, no_members, object};
+ghost use Rattle.serde_json.specs.View.{items_of};
 ghost use Rattle.gn_payload.specs.Grammar.{IsPong, IsPush};
 ghost use Rattle.gn_payload.specs.Views.{query_fields, result_fields};
+ghost use Rattle.gn_show.specs.Tokens.{text_tokens, tokens_of};
 ghost use Rattle.gn_show.specs.Values.{hit_data, payload_data, pong_data, push_data, query_data, result_data, unread_data};
 
-use crate::members::{Members, put_hex, put_ip, put_number, put_text};
 use crate::text::utf8;
+use crate::tokens::Tokens;
 use gn_payload::{
     HitResult, Pong, Push, Query, QueryHit, read_hit, read_pong, read_push, read_query,
 };
 use gn_wire::Kind;
-use serde_json::{Map, Value, put};
 use std::alloc::{AllocError, Global};
 
-/// Adds the members of a Pong.
-fn put_pong(alloc: Global, members: &mut Members, pong: &Pong) -> Result<(), AllocError>
-    requires { members_view members.old.entries ≡ no_members }
+/// Writes the payload of a Pong.
+fn put_pong(alloc: Global, tokens: &mut Tokens, pong: &Pong) -> Result<(), AllocError>
     ensures { OnOk result ((bytes : List ℕ) → IsPong bytes pong.now
-        → object (members_view members.new.entries) ≡ pong_data bytes) }
+        → tokens.new ≡ tokens.old ++ tokens_of (pong_data bytes)) }
 {
-    put_number(alloc, members, "files", pong.files)?;
-    put_ip(alloc, members, "ip", pong.ip)?;
-    put_number(alloc, members, "kilobytes", pong.kbytes)?;
-    put_number(alloc, members, "port", u32::from(pong.port))
+    tokens.begin_object()?;
+    tokens.put_number("files", pong.files)?;
+    tokens.put_ip(alloc, "ip", pong.ip)?;
+    tokens.put_number("kilobytes", pong.kbytes)?;
+    tokens.put_number("port", u32::from(pong.port))?;
+    tokens.end_object()
 }
 
-/// Adds the members of a Push.
-fn put_push(alloc: Global, members: &mut Members, push: &Push) -> Result<(), AllocError>
-    requires { members_view members.old.entries ≡ no_members }
+/// Writes the payload of a Push.
+fn put_push(alloc: Global, tokens: &mut Tokens, push: &Push) -> Result<(), AllocError>
     ensures { OnOk result ((bytes : List ℕ) → IsPush bytes push.now
-        → object (members_view members.new.entries) ≡ push_data bytes) }
+        → tokens.new ≡ tokens.old ++ tokens_of (push_data bytes)) }
 {
-    put_number(alloc, members, "index", push.file)?;
-    put_ip(alloc, members, "ip", push.ip)?;
-    put_number(alloc, members, "port", u32::from(push.port))?;
-    put_hex(alloc, members, "servent", &push.servent.0)
+    tokens.begin_object()?;
+    tokens.put_number("index", push.file)?;
+    tokens.put_ip(alloc, "ip", push.ip)?;
+    tokens.put_number("port", u32::from(push.port))?;
+    tokens.put_hex(alloc, "servent", &push.servent.0)?;
+    tokens.end_object()
 }
 
-/// Adds the members of a Query.
-fn put_query(alloc: Global, members: &mut Members, query: &Query<'_>) -> Result<(), AllocError>
-    requires { members_view members.old.entries ≡ no_members }
-    ensures { OnOk result (object (members_view members.new.entries) ≡ query_data (query_fields query.now)) }
-{
-    put_number(alloc, members, "minimum_speed", u32::from(query.speed))?;
-    put_hex(alloc, members, "tail_hex", query.tail)?;
-    match utf8(query.text) {
-        Some(text) => put_text(alloc, members, "text", text),
-        None => put_hex(alloc, members, "text_hex", query.text),
-    }
-}
-
-/// Adds the members of one result of a Query Hit.
-fn put_result(alloc: Global, members: &mut Members, found: &HitResult<'_>) -> Result<(), AllocError>
-    requires { members_view members.old.entries ≡ no_members }
-    ensures { OnOk result (object (members_view members.new.entries) ≡ result_data (result_fields found.now)) }
-{
-    put_hex(alloc, members, "extra_hex", found.extra)?;
-    put_number(alloc, members, "index", found.file)?;
-    put_number(alloc, members, "size", found.size)?;
-    match utf8(found.name) {
-        Some(name) => put_text(alloc, members, "name", name),
-        None => put_hex(alloc, members, "name_hex", found.name),
-    }
-}
-
-/// One result of a Query Hit.
-fn result_value(alloc: Global, found: &HitResult<'_>) -> Result<Value, AllocError>
-    ensures { IfOk result (λ value. view value ≡ result_data (result_fields found.now)) }
-{
-    let mut members = Map::new(alloc);
-    put_result(alloc, &mut members, found)?;
-    Ok(Value::Object(members))
-}
-
-/// The results of a Query Hit, in order.
-fn results_value(alloc: Global, hit: &QueryHit<'_>) -> Result<Vec<Value>, AllocError>
-    ensures { IfOk result (λ values. items_view values.items ≡ items_of (map result_data hit.now.results)) }
-{
-    let mut values = Vec::new(alloc);
-    for found in hit.results() {
-        values.push(result_value(alloc, &found)?)?;
-    }
-    Ok(values)
-}
-
-/// Adds the members of a Query Hit.
-fn put_hit(alloc: Global, members: &mut Members, hit: &QueryHit<'_>) -> Result<(), AllocError>
-    requires { members_view members.old.entries ≡ no_members }
-    ensures { OnOk result (object (members_view members.new.entries) ≡ hit_data hit.now) }
-{
-    put_ip(alloc, members, "ip", hit.ip())?;
-    put_number(alloc, members, "port", u32::from(hit.port()))?;
-    let results = results_value(alloc, hit)?;
-    put(members, alloc, "results", Value::Array(results))?;
-    put_hex(alloc, members, "servent", &hit.servent().0)?;
-    put_number(alloc, members, "speed", hit.speed())?;
-    put_hex(alloc, members, "trailer_hex", hit.trailer())
-}
-
-/// Adds the bytes of a payload without a reading.
-fn put_unread(alloc: Global, members: &mut Members, payload: &[u8]) -> Result<(), AllocError>
-    requires { members_view members.old.entries ≡ no_members }
-    ensures { OnOk result (object (members_view members.new.entries) ≡ unread_data payload.now) }
-{
-    put_hex(alloc, members, "unread_hex", payload)
-}
-
-/// Adds the members of a payload of this kind.
-#[tactic(auto, using(crate::proofs::ValueLemmas::readings))]
-fn put_payload(
+/// Writes a text that is UTF-8 under its name; the bytes of another in hex, under the other name.
+fn put_words(
     alloc: Global,
-    members: &mut Members,
+    tokens: &mut Tokens,
+    name: &str,
+    hex_name: &str,
+    bytes: &[u8],
+) -> Result<(), AllocError>
+    ensures { OnOk result (tokens.new ≡ tokens.old ++ text_tokens name.now hex_name.now bytes.now) }
+{
+    match utf8(bytes) {
+        Some(text) => tokens.put_text(name, text),
+        None => tokens.put_hex(alloc, hex_name, bytes),
+    }
+}
+
+/// Writes the payload of a Query.
+fn put_query(alloc: Global, tokens: &mut Tokens, query: &Query<'_>) -> Result<(), AllocError>
+    ensures { OnOk result (tokens.new ≡ tokens.old ++ tokens_of (query_data (query_fields query.now))) }
+{
+    tokens.begin_object()?;
+    tokens.put_number("minimum_speed", u32::from(query.speed))?;
+    tokens.put_hex(alloc, "tail_hex", query.tail)?;
+    put_words(alloc, tokens, "text", "text_hex", query.text)?;
+    tokens.end_object()
+}
+
+/// Writes one result of a Query Hit.
+fn put_result(alloc: Global, tokens: &mut Tokens, found: &HitResult<'_>) -> Result<(), AllocError>
+    ensures { OnOk result (tokens.new ≡ tokens.old ++ tokens_of (result_data (result_fields found.now))) }
+{
+    tokens.begin_object()?;
+    tokens.put_hex(alloc, "extra_hex", found.extra)?;
+    tokens.put_number("index", found.file)?;
+    put_words(alloc, tokens, "name", "name_hex", found.name)?;
+    tokens.put_number("size", found.size)?;
+    tokens.end_object()
+}
+
+/// Writes the results of a Query Hit, in order.
+fn put_results(alloc: Global, tokens: &mut Tokens, hit: &QueryHit<'_>) -> Result<(), AllocError>
+    ensures { OnOk result (tokens.new ≡ tokens.old ++ tokens_of (array (items_of (map result_data hit.now.results)))) }
+{
+    tokens.begin_array()?;
+    for found in hit.results() {
+        put_result(alloc, tokens, &found)?;
+    }
+    tokens.end_array()
+}
+
+/// Writes the payload of a Query Hit.
+fn put_hit(alloc: Global, tokens: &mut Tokens, hit: &QueryHit<'_>) -> Result<(), AllocError>
+    ensures { OnOk result (tokens.new ≡ tokens.old ++ tokens_of (hit_data hit.now)) }
+{
+    tokens.begin_object()?;
+    tokens.put_ip(alloc, "ip", hit.ip())?;
+    tokens.put_number("port", u32::from(hit.port()))?;
+    tokens.put_name("results")?;
+    put_results(alloc, tokens, hit)?;
+    tokens.put_hex(alloc, "servent", &hit.servent().0)?;
+    tokens.put_number("speed", hit.speed())?;
+    tokens.put_hex(alloc, "trailer_hex", hit.trailer())?;
+    tokens.end_object()
+}
+
+/// Writes the bytes of a payload without a reading.
+fn put_unread(alloc: Global, tokens: &mut Tokens, payload: &[u8]) -> Result<(), AllocError>
+    ensures { OnOk result (tokens.new ≡ tokens.old ++ tokens_of (unread_data payload.now)) }
+{
+    tokens.begin_object()?;
+    tokens.put_hex(alloc, "unread_hex", payload)?;
+    tokens.end_object()
+}
+
+/// Writes an empty payload.
+fn put_empty(tokens: &mut Tokens) -> Result<(), AllocError>
+    ensures { OnOk result (tokens.new ≡ tokens.old ++ tokens_of (object no_members)) }
+{
+    tokens.begin_object()?;
+    tokens.end_object()
+}
+
+/// Writes the payload of a descriptor of this kind: what its fields say, or its bytes where it has no reading.
+#[tactic(auto, using(crate::proofs::ValueLemmas::readings))]
+pub(crate) fn put_payload(
+    alloc: Global,
+    tokens: &mut Tokens,
     kind: Kind,
     payload: &[u8],
 ) -> Result<(), AllocError>
-    requires { members_view members.old.entries ≡ no_members }
-    ensures { OnOk result (object (members_view members.new.entries) ≡ payload_data kind payload.now) }
+    ensures { OnOk result (tokens.new ≡ tokens.old ++ tokens_of (payload_data kind payload.now)) }
 {
     match kind {
-        Kind::Ping if payload.is_empty() => Ok(()),
+        Kind::Ping if payload.is_empty() => put_empty(tokens),
         Kind::Pong => match read_pong(payload) {
-            Some(pong) => put_pong(alloc, members, &pong),
-            None => put_unread(alloc, members, payload),
+            Some(pong) => put_pong(alloc, tokens, &pong),
+            None => put_unread(alloc, tokens, payload),
         },
         Kind::Push => match read_push(payload) {
-            Some(push) => put_push(alloc, members, &push),
-            None => put_unread(alloc, members, payload),
+            Some(push) => put_push(alloc, tokens, &push),
+            None => put_unread(alloc, tokens, payload),
         },
         Kind::Query => match read_query(payload) {
-            Some(query) => put_query(alloc, members, &query),
-            None => put_unread(alloc, members, payload),
+            Some(query) => put_query(alloc, tokens, &query),
+            None => put_unread(alloc, tokens, payload),
         },
         Kind::QueryHit => match read_hit(payload) {
-            Some(hit) => put_hit(alloc, members, &hit),
-            None => put_unread(alloc, members, payload),
+            Some(hit) => put_hit(alloc, tokens, &hit),
+            None => put_unread(alloc, tokens, payload),
         },
-        _ => put_unread(alloc, members, payload),
+        _ => put_unread(alloc, tokens, payload),
     }
-}
-
-/// The payload of a descriptor of this kind: what its fields say, or its bytes where it has no reading.
-pub(crate) fn payload_value(alloc: Global, kind: Kind, payload: &[u8]) -> Result<Value, AllocError>
-    ensures { IfOk result (λ value. view value ≡ payload_data kind payload.now) }
-{
-    let mut members = Map::new(alloc);
-    put_payload(alloc, &mut members, kind, payload)?;
-    Ok(Value::Object(members))
 }

@@ -37,7 +37,7 @@ pub(crate) fn dotted(alloc: Global, ip: [u8; 4]) -> Result<String, AllocError>
     ensures { IfOk result (λ text. string_bytes text ≡ ip_text ip) }
 {
     let [a, b, c, d] = ip;
-    let mut text = String::new(alloc);
+    let mut text = String::with_capacity(alloc, 15)?;
     push_part(&mut text, "", a)?;
     push_part(&mut text, ".", b)?;
     push_part(&mut text, ".", c)?;
