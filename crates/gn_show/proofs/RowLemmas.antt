@@ -1,6 +1,7 @@
 -- The lines of a step's rows.
 use Rattle.std.proofs.Common.{◌≡◌, ◌++◌, ◌∙◌, ℕ, Bool, true, false, List, [], ◌∷◌, map, refl, ap, append_assoc, append-nil, sym, Option, Some}
-use Rattle.std.specs.Prelude.{if◌then◌else◌}
+use Rattle.std.proofs.lemmas.List.{drop-append-le}
+use Rattle.std.specs.Prelude.{◌≤◌, drop, if◌then◌else◌, length}
 use Rattle.std.specs.List.{flat_map}
 use Rattle.std.specs.declared.alloc.Global.{Global}
 use Rattle.gn_rules.specs.Flight.{Admission}
@@ -53,3 +54,7 @@ pub ruleset row_lines = (append-nil, sends_lines)
 -- lists are the same where their first elements are, and the rest
 pub both_same : {X : Type 0} {x y : X} {xs ys : List X} → x ≡ y → xs ≡ ys → x ∷ xs ≡ y ∷ ys
 both_same {y = y} {xs = xs} is rest = ap (λ z. z ∷ xs) is ∙ ap (λ zs. y ∷ zs) rest
+
+-- what is written after the steps before
+pub row_after : (begun : ℕ) (old row : List ℕ) → begun ≤ length old → drop begun (old ++ row) ≡ drop begun old ++ row
+row_after begun old row le = drop-append-le begun old row le

@@ -7,6 +7,7 @@ pub mod Subjects
 pub mod Times
 pub mod Values
 pub mod Words
+pub mod Writers
 -- Words of the proofs.
 pub mod Showing
 pub mod Tokens

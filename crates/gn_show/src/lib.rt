@@ -9,6 +9,7 @@ mod json_lines;
 mod payload_json;
 mod plain;
 mod plain_descriptor;
+mod row_writer;
 mod rows;
 mod showing;
 mod shows;

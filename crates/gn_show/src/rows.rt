@@ -4,7 +4,6 @@
 ghost use Rattle.std.specs.Prelude.{◌≡◌, ◌++◌, ◌∷◌, if◌then◌else◌, List, [], Some, length, map, IfOk, OnOk, option_map};
 ghost use Rattle.std.specs.List.{flat_map};
 ghost use Rattle.std.specs.declared.alloc.Global.{Global};
-ghost use Rattle.csv.specs.Writing.{default_writer, row_text};
 ghost use Rattle.hex.specs.Hex.{encode_lower};
 ghost use Rattle.gn_rules.specs.declared.receipt.Step.{Step};
 ghost use Rattle.gn_show.specs.Kept.{Follows, fields_seen, placed, row_seen, seen};
@@ -12,8 +11,8 @@ ghost use Rattle.gn_show.specs.Rows.{event_word, lines_of, number_field, origin_
 
 use crate::clock::Moment;
 use crate::flight::{Flight, Subject};
+use crate::row_writer::RowWriter;
 use crate::text::{name_of, reason_word};
-use csv::WriterBuilder;
 use gn_rules::{ConnId, Event, Reply, Sending, Step};
 use gn_text::{push_hex, push_number};
 use gn_wire::Descriptor;
@@ -84,13 +83,13 @@ fn number_field(alloc: Global, number: Option<u32>) -> Result<Vec<u8>, AllocErro
     }
 }
 
-/// The bytes of a word.
-fn word_field(alloc: Global, word: &[u8]) -> Result<Vec<u8>, AllocError>
-    ensures { IfOk result (λ field. field.items ≡ word.now) }
+/// A copy of some bytes.
+fn copied(alloc: Global, bytes: &[u8]) -> Result<Vec<u8>, AllocError>
+    ensures { IfOk result (λ copy. copy.items ≡ bytes.now) }
 {
-    let mut field = Vec::new(alloc);
-    field.extend_from_slice(word)?;
-    Ok(field)
+    let mut copy = Vec::new(alloc);
+    copy.extend_from_slice(bytes)?;
+    Ok(copy)
 }
 
 /// Bytes in hex digits.
@@ -124,7 +123,7 @@ fn payload_length(packet: &Descriptor) -> u32
 fn known_fields(alloc: Global, packet: &Descriptor) -> Result<PacketFields, AllocError>
     ensures { IfOk result (λ fields. fields_seen fields ≡ packet_fields (Some packet.now)) }
 {
-    let kind = word_field(alloc, name_of(packet.kind()).as_bytes())?;
+    let kind = copied(alloc, name_of(packet.kind()).as_bytes())?;
     let id = hex_field(alloc, &packet.id().0)?;
     let ttl = number_field(alloc, Some(u32::from(packet.ttl())))?;
     let hops = number_field(alloc, Some(u32::from(packet.hops())))?;
@@ -154,45 +153,30 @@ fn fields_of(alloc: Global, packet: Option<&Descriptor>) -> Result<PacketFields,
     }
 }
 
-/// The line of some fields.
-fn line_of(alloc: Global, fields: &[&[u8]]) -> Result<Vec<u8>, AllocError>
-    ensures { IfOk result (λ line. line.items ≡ row_text default_writer (map (λ f. f.now) fields.now)) }
-{
-    let mut writer = WriterBuilder::new().from_writer(Vec::new(alloc));
-    if writer.write_fields(fields).is_err() {
-        return Err(AllocError);
-    }
-    match writer.into_inner() {
-        Ok(line) => Ok(line),
-        Err(_) => Err(AllocError),
-    }
-}
-
-/// The line of a row.
-fn row_line(
+/// Appends the line of a row.
+fn push_row(
     alloc: Global,
+    rows: &mut RowWriter,
     moment: Moment<'_>,
     step: &Step,
     row: &Row<'_>,
-) -> Result<Vec<u8>, AllocError>
-    ensures { IfOk result (λ line. line.items ≡ row_line (placed moment.entry) step.now (row_seen row.now)) }
+) -> Result<(), AllocError>
+    ensures { OnOk result (rows.new ≡ rows.old ++ row_line (placed moment.entry) step.now (row_seen row.now)) }
 {
     let index = number_field(alloc, Some(moment.index))?;
+    let time = copied(alloc, moment.time)?;
     let actor = number_field(alloc, Some(step.actor))?;
-    let event = word_field(alloc, event_word(&step.event).as_bytes())?;
-    let reply = word_field(alloc, reply_word(&step.reply).as_bytes())?;
     let from = number_field(alloc, row.from)?;
     let to = number_field(alloc, row.to)?;
     let packet = fields_of(alloc, row.packet)?;
-    let queued = word_field(alloc, queued_field(row.queued))?;
-    line_of(
+    rows.push(
         alloc,
         &[
             index.as_slice(),
-            moment.time,
+            time.as_slice(),
             actor.as_slice(),
-            event.as_slice(),
-            reply.as_slice(),
+            event_word(&step.event).as_bytes(),
+            reply_word(&step.reply).as_bytes(),
             from.as_slice(),
             to.as_slice(),
             packet.kind.as_slice(),
@@ -200,24 +184,9 @@ fn row_line(
             packet.ttl.as_slice(),
             packet.hops.as_slice(),
             packet.length.as_slice(),
-            queued.as_slice(),
+            queued_field(row.queued),
         ],
     )
-}
-
-/// Appends the line of a row.
-fn push_row(
-    alloc: Global,
-    out: &mut Vec<u8>,
-    moment: Moment<'_>,
-    step: &Step,
-    row: &Row<'_>,
-) -> Result<(), AllocError>
-    ensures { OnOk result (out.new.items
-        ≡ out.old.items ++ row_line (placed moment.entry) step.now (row_seen row.now)) }
-{
-    let line = row_line(alloc, moment, step, row)?;
-    out.extend_from_slice(&line)
 }
 
 /// Which connection brought a packet.
@@ -253,14 +222,14 @@ fn taker(event: &Event) -> Option<ConnId>
 /// Appends the line of the packet that a step's event speaks of.
 fn push_own(
     alloc: Global,
-    out: &mut Vec<u8>,
+    rows: &mut RowWriter,
     moment: Moment<'_>,
     step: &Step,
     subject: Option<Subject<'_>>,
     to: Option<ConnId>,
 ) -> Result<(), AllocError>
-    ensures { OnOk result (out.new.items
-        ≡ out.old.items ++ own_line (seen subject.entry) (placed moment.entry) step.now to) }
+    ensures { OnOk result (rows.new
+        ≡ rows.old ++ own_line (seen subject.entry) (placed moment.entry) step.now to) }
 {
     let row = Row {
         from: origin_of(subject),
@@ -268,20 +237,20 @@ fn push_own(
         packet: packet_of(subject),
         queued: None,
     };
-    push_row(alloc, out, moment, step, &row)
+    push_row(alloc, rows, moment, step, &row)
 }
 
 /// Appends the line of a send.
 fn push_send(
     alloc: Global,
-    out: &mut Vec<u8>,
+    rows: &mut RowWriter,
     moment: Moment<'_>,
     step: &Step,
     subject: Option<Subject<'_>>,
     sending: &Sending,
 ) -> Result<(), AllocError>
-    ensures { OnOk result (out.new.items
-        ≡ out.old.items ++ send_line (seen subject.entry) (placed moment.entry) step.now sending.now) }
+    ensures { OnOk result (rows.new
+        ≡ rows.old ++ send_line (seen subject.entry) (placed moment.entry) step.now sending.now) }
 {
     let row = Row {
         from: origin_of(subject),
@@ -289,23 +258,23 @@ fn push_send(
         packet: Some(&sending.packet),
         queued: Some(sending.queued),
     };
-    push_row(alloc, out, moment, step, &row)
+    push_row(alloc, rows, moment, step, &row)
 }
 
 /// Appends a line for each send.
 fn push_sends(
     alloc: Global,
-    out: &mut Vec<u8>,
+    rows: &mut RowWriter,
     moment: Moment<'_>,
     step: &Step,
     subject: Option<Subject<'_>>,
     sends: &[Sending],
 ) -> Result<(), AllocError>
-    ensures { OnOk result (out.new.items
-        ≡ out.old.items ++ flat_map (send_line (seen subject.entry) (placed moment.entry) step.now) sends.now) }
+    ensures { OnOk result (rows.new
+        ≡ rows.old ++ flat_map (send_line (seen subject.entry) (placed moment.entry) step.now) sends.now) }
 {
     for sending in sends {
-        push_send(alloc, out, moment, step, subject, sending)?;
+        push_send(alloc, rows, moment, step, subject, sending)?;
     }
     Ok(())
 }
@@ -313,34 +282,34 @@ fn push_sends(
 /// Appends the lines of a routing.
 fn push_routed(
     alloc: Global,
-    out: &mut Vec<u8>,
+    rows: &mut RowWriter,
     moment: Moment<'_>,
     step: &Step,
     subject: Option<Subject<'_>>,
     sends: &[Sending],
     local: bool,
 ) -> Result<(), AllocError>
-    ensures { OnOk result (out.new.items
-        ≡ out.old.items ++ flat_map (send_line (seen subject.entry) (placed moment.entry) step.now) sends.now
+    ensures { OnOk result (rows.new
+        ≡ rows.old ++ flat_map (send_line (seen subject.entry) (placed moment.entry) step.now) sends.now
         ++ (if local then own_line (seen subject.entry) (placed moment.entry) step.now (Some 0) else [])) }
 {
-    push_sends(alloc, out, moment, step, subject, sends)?;
+    push_sends(alloc, rows, moment, step, subject, sends)?;
     if !local {
         return Ok(());
     }
-    push_own(alloc, out, moment, step, subject, Some(0))
+    push_own(alloc, rows, moment, step, subject, Some(0))
 }
 
 /// Appends the line of what a step takes.
 fn push_taken(
     alloc: Global,
-    out: &mut Vec<u8>,
+    rows: &mut RowWriter,
     moment: Moment<'_>,
     step: &Step,
     packet: &Descriptor,
 ) -> Result<(), AllocError>
-    ensures { OnOk result (out.new.items
-        ≡ out.old.items ++ row_line (placed moment.entry) step.now (taken_row step.now.event packet.now)) }
+    ensures { OnOk result (rows.new
+        ≡ rows.old ++ row_line (placed moment.entry) step.now (taken_row step.now.event packet.now)) }
 {
     let row = Row {
         from: None,
@@ -348,36 +317,36 @@ fn push_taken(
         packet: Some(packet),
         queued: None,
     };
-    push_row(alloc, out, moment, step, &row)
+    push_row(alloc, rows, moment, step, &row)
 }
 
 /// Appends the lines of a step's rows, of which there may be none.
 #[tactic(auto, using(crate::proofs::RowLemmas::row_lines))]
 fn push_lines(
     alloc: Global,
-    out: &mut Vec<u8>,
+    rows: &mut RowWriter,
     moment: Moment<'_>,
     step: &Step,
     subject: Option<Subject<'_>>,
 ) -> Result<(), AllocError>
-    ensures { OnOk result (out.new.items
-        ≡ out.old.items ++ lines_of (seen subject.entry) (placed moment.entry) step.now) }
+    ensures { OnOk result (rows.new
+        ≡ rows.old ++ lines_of (seen subject.entry) (placed moment.entry) step.now) }
 {
     match &step.reply {
         Reply::Admitted(_) | Reply::Busy | Reply::Crowded | Reply::Dropped(_) => {
-            push_own(alloc, out, moment, step, subject, None)
+            push_own(alloc, rows, moment, step, subject, None)
         }
         Reply::Routed { sends, local } => push_routed(
             alloc,
-            out,
+            rows,
             moment,
             step,
             subject,
             sends.as_slice(),
             *local,
         ),
-        Reply::Sent(sends) => push_sends(alloc, out, moment, step, subject, sends.as_slice()),
-        Reply::Taken(packet) => push_taken(alloc, out, moment, step, packet),
+        Reply::Sent(sends) => push_sends(alloc, rows, moment, step, subject, sends.as_slice()),
+        Reply::Taken(packet) => push_taken(alloc, rows, moment, step, packet),
         Reply::Connected(_) | Reply::TooMany | Reply::Closed(_) => Ok(()),
     }
 }
@@ -385,6 +354,7 @@ fn push_lines(
 /// The lines of the rows of a step, which comes next; what it leaves in flight is followed.
 pub(crate) fn next_lines(
     alloc: Global,
+    rows: &mut RowWriter,
     flight: &mut Flight,
     moment: Moment<'_>,
     step: Step,
@@ -392,9 +362,9 @@ pub(crate) fn next_lines(
     ensures { IfOk result (λ lines. (past : List (Step Global)) → Follows flight.old past
         → (lines.items ≡ step_lines past (placed moment.entry) step) × Follows flight.new (step ∷ past)) }
 {
-    let mut out = Vec::new(alloc);
-    let pushed = push_lines(alloc, &mut out, moment, &step, flight.subject(&step.event));
+    rows.begin(alloc);
+    let pushed = push_lines(alloc, rows, moment, &step, flight.subject(&step.event));
     pushed?;
     flight.follow(step)?;
-    Ok(out)
+    copied(alloc, rows.text())
 }

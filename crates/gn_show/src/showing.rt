@@ -17,6 +17,7 @@ use crate::flight::Flight;
 use crate::form::Form;
 use crate::json_lines::next_json;
 use crate::plain::plain_line;
+use crate::row_writer::RowWriter;
 use crate::rows::next_lines;
 use crate::stats::next_index;
 use gn_io::{Block, IoFault, Sink, Source};
@@ -34,6 +35,8 @@ pub(crate) struct Showing {
     time: Vec<u8>,
     /// What was admitted and isn't routed yet.
     flight: Flight,
+    /// What writes rows.
+    rows: RowWriter,
     /// The index of the next step.
     index: u32,
     /// What is shown and waits to be written.
@@ -56,6 +59,7 @@ fn due_head(due: Due, form: Form) -> &'static [u8]
 fn line_of(
     alloc: Global,
     form: Form,
+    rows: &mut RowWriter,
     flight: &mut Flight,
     moment: Moment<'_>,
     step: Step,
@@ -66,7 +70,7 @@ fn line_of(
     match form {
         Form::Plain => plain_line(alloc, moment.index, &step),
         Form::Json => next_json(alloc, flight, moment, step),
-        Form::Rows => next_lines(alloc, flight, moment, step),
+        Form::Rows => next_lines(alloc, rows, flight, moment, step),
     }
 }
 
@@ -79,6 +83,7 @@ impl Showing {
             due: Due::Title,
             time: Vec::new(alloc),
             flight: Flight::new(alloc),
+            rows: RowWriter::new(alloc),
             index: 0,
             block: Block::new(alloc),
         }
@@ -98,7 +103,7 @@ impl Showing {
             index: self.index,
             time: &self.time,
         };
-        let line = line_of(alloc, form, &mut self.flight, moment, step)?;
+        let line = line_of(alloc, form, &mut self.rows, &mut self.flight, moment, step)?;
         self.block.add(&line)?;
         self.index = next;
         Ok(())

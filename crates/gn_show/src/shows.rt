@@ -13,7 +13,8 @@ use std::alloc::Global;
 
 /// Reads a history's text to its end, and writes what is shown of it: the lines of each step; or the line of its counters. Whether the
 /// history is legal isn't looked at. The text may have any length, and a line of it at most 67,108,864 bytes: no more is held than a
-/// line, 16,384 bytes of the text, what is shown of one step and waits, and what was admitted and isn't routed.
+/// line, 16,384 bytes of the text, as many of rows that were shown, what is shown of one step and waits, and what was admitted and
+/// isn't routed.
 ///
 /// Lines of steps are written in blocks of at least 32,768 bytes, and all that wait before the source is asked for more, where the next
 /// line isn't read yet, so that what is shown is seen while the source waits. The text is read no further than its first fault, and the
