@@ -102,15 +102,16 @@ pub record IsLoadAnswer (workers : ℕ) (s : Streams) (answer : Result (Unit {0}
   pub stopped : IfErr answer (λ fault. HasStoppedAt fault (text_of s) s.sink.written s.sink_new.written)
   pub fault : IfErr answer (λ fault. IsLoadFault workers fault (load_of Global) s)
 
--- the own servent of a router that serves: it is on the port of 127.0.0.1 that is asked for, and shares nothing
+-- the own servent of a router that serves: it is on the port of 127.0.0.1 that is asked for, and its Pongs say that it shares as
+-- much as is asked for
 abbrev pub own_served : AskedServe → Own
 own_served serving =
     record {
       servent = serving.servent;
       ip = 127 ∷ 0 ∷ 0 ∷ 1 ∷ [];
       port = serving.port;
-      files = 0;
-      kbytes = 0;
+      files = serving.files;
+      kbytes = serving.kilobytes;
     }
 
 -- a configuration is that of a router that serves: it has the numbers that are asked for

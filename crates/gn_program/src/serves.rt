@@ -48,7 +48,7 @@ impl Display for Listening {
     }
 }
 
-/// The configuration of a router that serves: its own servent is on this port, and shares nothing.
+/// The configuration of a router that serves: its own servent is on this port, and shares what the options say.
 fn settings(serving: &ServeOptions) -> Config
     ensures { IsServing serving.now result }
 {
@@ -56,8 +56,8 @@ fn settings(serving: &ServeOptions) -> Config
         servent: serving.servent,
         ip: [127, 0, 0, 1],
         port: serving.port,
-        files: 0,
-        kbytes: 0,
+        files: serving.files,
+        kbytes: serving.kilobytes,
     };
     match Config::of(serving.numbers, own) {
         Ok(config) => config,

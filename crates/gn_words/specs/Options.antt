@@ -42,6 +42,10 @@ servent_of rows = do
   text ← first_of (codes "servent") rows
   guid_of text
 
+-- a number that is asked for and that four bytes hold
+abbrev pub word_of : Text → List Row → Option ℕ
+word_of option rows = number_asked option 0 4294967295 rows
+
 -- the peer at an address, where that is one of this machine, 127 and three bytes more, and the text says its port, 1 to 65,535
 abbrev pub peer_at : Text → List ℕ → Option Peer
 peer_at place ip = do
@@ -116,6 +120,8 @@ serving_of rows = do
   accept ← number_asked (codes "accept") 0 128 rows
   workers ← workers_of rows
   servent ← servent_of rows
+  files ← word_of (codes "files") rows
+  kilobytes ← word_of (codes "kilobytes") rows
   peers ← peers_of rows
   batch ← batch_of rows
   numbers ← numbers_of rows
@@ -125,6 +131,8 @@ serving_of rows = do
     accept = accept;
     workers = workers;
     servent = servent;
+    files = files;
+    kilobytes = kilobytes;
     peers = peers;
     idle = times.idle;
     retry = times.retry;

@@ -4,8 +4,8 @@ use Rattle.gn_rules.specs.declared.limits.Numbers.{Numbers}
 use Rattle.gn_wire.specs.declared.kind.Guid.{Guid}
 use Rattle.gn_words.specs.declared.request.Peer.{Peer}
 
--- what the options of a serve say: the port, how many peers may call, the workers, the own servent's ID, the peers that
--- are called; the seconds after which a silent peer is given up, 0 for never; the seconds for which a peer that doesn't listen is
+-- what the options of a serve say: the port, how many peers may call, the workers, the own servent's ID, the files and kilobytes
+-- that its Pongs say that it shares, the peers that are called; the seconds after which a silent peer is given up, 0 for never; the seconds for which a peer that doesn't listen is
 -- called again; how many packets are written to a neighbour at once at most; the numbers of the router's rules; the seconds after
 -- which the run is stopped, 0 for never, and those that it then has to end; whether it is stopped at nine tenths of its steps, and at
 -- the end of standard input; whether the history of a run that stops at a fault is kept; whether times and links stand in the history
@@ -15,6 +15,8 @@ pub record AskedServe : Type 0 where
   pub accept : ℕ
   pub workers : ℕ
   pub servent : Guid
+  pub files : ℕ
+  pub kilobytes : ℕ
   pub peers : List Peer
   pub idle : ℕ
   pub retry : ℕ

@@ -62,6 +62,8 @@ quiet_app = with_rules (new_app (codes "serve"))
     ∷ value_rule (codes "accept")
     ∷ workers_rule
     ∷ default_rule (codes "servent") usual_servent
+    ∷ default_rule (codes "files") (codes "0")
+    ∷ default_rule (codes "kilobytes") (codes "0")
     ∷ repeated_rule (codes "peer")
     ∷ default_rule (codes "idle") (codes "0")
     ∷ default_rule (codes "retry") (codes "0")
@@ -216,6 +218,8 @@ pub record PlainWordsAreRead : Type 0 where
         accept = 128;
         workers = 64;
         servent = record { 0 = 71 ∷ 71 ∷ 71 ∷ 71 ∷ 71 ∷ 71 ∷ 71 ∷ 71 ∷ 71 ∷ 71 ∷ 71 ∷ 71 ∷ 71 ∷ 71 ∷ 71 ∷ 71 ∷ [] };
+        files = 0;
+        kilobytes = 0;
         peers = [];
         idle = 0;
         retry = 0;

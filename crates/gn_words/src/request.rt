@@ -47,6 +47,10 @@ pub struct ServeOptions {
     pub workers: u32,
     /// The router's own servent ID.
     pub servent: Guid,
+    /// How many files its own Pongs say that it shares.
+    pub files: u32,
+    /// How many kilobytes its own Pongs say that it shares.
+    pub kilobytes: u32,
     /// The peers that are called, in this order.
     pub peers: Vec<Peer>,
     /// The seconds after which a silent peer is given up; 0: it never is.
@@ -89,6 +93,8 @@ impl Model for ServeOptions {
       accept = s.accept;
       workers = s.workers;
       servent = s.servent;
+      files = s.files;
+      kilobytes = s.kilobytes;
       peers = s.peers.items;
       idle = s.idle;
       retry = s.retry;

@@ -24,8 +24,9 @@ use std::alloc::{AllocError, Global};
 const ABOUT: &str = "Routes for peers on this machine over TCP, and prints the history";
 
 /// How it is called.
-const USAGE: &str = "gn serve --port P --accept A --workers V [--servent HEX32] [--peer IP:PORT]..
-                [--idle SECONDS] [--retry SECONDS] [--batch N] [--neighbours N]
+const USAGE: &str =
+    "gn serve --port P --accept A --workers V [--servent HEX32] [--files N] [--kilobytes N]
+                [--peer IP:PORT].. [--idle SECONDS] [--retry SECONDS] [--batch N] [--neighbours N]
                 [--remembered N] [--servents N] [--stage N] [--queue N] [--life L] [--crowd Q]
                 [--steps N] [--for SECONDS] [--grace SECONDS] [--stop-early] [--until-eof]
                 [--keep-history] [--times] [--links] [--report] [--progress]";
@@ -69,7 +70,7 @@ after 5 seconds.
 const OWN_SERVENT: &str = "47474747474747474747474747474747";
 
 /// What has to be given, and who the router is.
-const OPTIONS: [OptionRow; 4] = [
+const OPTIONS: [OptionRow; 6] = [
     OptionRow {
         name: "port",
         letter: None,
@@ -88,6 +89,18 @@ const OPTIONS: [OptionRow; 4] = [
         letter: None,
         takes: Takes::Unshown("HEX32", OWN_SERVENT),
         help: "The router's own servent ID, 32 hex digits; by default 47 sixteen times",
+    },
+    OptionRow {
+        name: "files",
+        letter: None,
+        takes: Takes::Usual("N", "0"),
+        help: "How many files its own Pongs say that it shares, 0 to 4294967295",
+    },
+    OptionRow {
+        name: "kilobytes",
+        letter: None,
+        takes: Takes::Usual("N", "0"),
+        help: "How many kilobytes its own Pongs say that it shares, 0 to 4294967295",
     },
 ];
 
@@ -303,6 +316,22 @@ const ACCEPT: NumberOption = NumberOption {
     mistake: "--accept takes a number of 0 to 128",
 };
 
+/// What `--files` takes: what four bytes hold.
+const FILES: NumberOption = NumberOption {
+    name: "files",
+    least: 0,
+    most: u32::MAX,
+    mistake: "--files takes a number of 0 to 4294967295",
+};
+
+/// What `--kilobytes` takes: what four bytes hold.
+const KILOBYTES: NumberOption = NumberOption {
+    name: "kilobytes",
+    least: 0,
+    most: u32::MAX,
+    mistake: "--kilobytes takes a number of 0 to 4294967295",
+};
+
 /// What `--idle` takes: at most a day.
 const IDLE: NumberOption = NumberOption {
     name: "idle",
@@ -502,6 +531,8 @@ pub(crate) fn serving_of(alloc: Global, options: &ArgMatches<'_>) -> Result<Serv
     let accept = asked(options, &ACCEPT)?;
     let workers = asked(options, &WORKERS)?;
     let servent = servent_of(options)?;
+    let files = asked(options, &FILES)?;
+    let kilobytes = asked(options, &KILOBYTES)?;
     let peers = peers_of(alloc, options)?;
     let batch = asked(options, &BATCH)?;
     let numbers = numbers_of(options)?;
@@ -511,6 +542,8 @@ pub(crate) fn serving_of(alloc: Global, options: &ArgMatches<'_>) -> Result<Serv
         accept,
         workers,
         servent,
+        files,
+        kilobytes,
         peers,
         idle: times.idle,
         retry: times.retry,
