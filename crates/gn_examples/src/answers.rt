@@ -8,6 +8,7 @@ use gn_table_router::TableRouter;
 use gn_tables::Forgetful;
 use std::io::StdinLock;
 use std::net::{Net, TcpListener, TcpStream};
+use std::random::RandomSource;
 use std::sync::Wait;
 use std::thread::Threads;
 use std::time::Clock;
@@ -36,6 +37,7 @@ pub(crate) fn answer_under<
         + Net<Listener = TcpListener, Stream = TcpStream>
         + Clock
         + Input<Reader = StdinLock<'static>>
+        + RandomSource
         + Sync
         + AllocGlobal,
     G: Watch + Sync,
@@ -68,6 +70,7 @@ pub(crate) fn answer_to<
         + Net<Listener = TcpListener, Stream = TcpStream>
         + Clock
         + Input<Reader = StdinLock<'static>>
+        + RandomSource
         + Sync
         + AllocGlobal,
 >(rt: &R, words: &[&str], input: Given<'_>, fails: (bool, bool)) -> Answer {

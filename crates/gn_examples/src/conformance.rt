@@ -9,6 +9,7 @@ use gn_program::{Head, Kept, command};
 use std::io;
 use std::io::StdinLock;
 use std::net::{Net, TcpListener, TcpStream};
+use std::random::RandomSource;
 use std::rt::Files;
 use std::sync::Wait;
 use std::thread::Threads;
@@ -21,6 +22,7 @@ fn answer_case<
         + Net<Listener = TcpListener, Stream = TcpStream>
         + Clock
         + Input<Reader = StdinLock<'static>>
+        + RandomSource
         + Sync
         + AllocGlobal,
 >(rt: &R, case: &Case) -> io::Result<Answer> {
@@ -52,6 +54,7 @@ fn try_cases<
         + Net<Listener = TcpListener, Stream = TcpStream>
         + Clock
         + Input<Reader = StdinLock<'static>>
+        + RandomSource
         + Sync
         + Files
         + Print
@@ -79,6 +82,7 @@ pub(crate) fn try_set<
         + Net<Listener = TcpListener, Stream = TcpStream>
         + Clock
         + Input<Reader = StdinLock<'static>>
+        + RandomSource
         + Sync
         + Files
         + Print

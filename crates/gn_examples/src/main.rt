@@ -19,6 +19,7 @@ use gn_program::refuse_words;
 use neighbours::Neighbour;
 use std::io::{ErrorKind, StdinLock};
 use std::net::{Ipv4Addr, Net, SocketAddr, TcpListener, TcpStream};
+use std::random::RandomSource;
 use std::rt::Files;
 use std::sync::Wait;
 use std::thread::Threads;
@@ -39,6 +40,7 @@ fn answer_beside<
         + Net<Listener = TcpListener, Stream = TcpStream>
         + Clock
         + Input<Reader = StdinLock<'static>>
+        + RandomSource
         + Sync
         + AllocGlobal,
 >(
@@ -125,6 +127,7 @@ fn is_as_wanted<
         + Net<Listener = TcpListener, Stream = TcpStream>
         + Clock
         + Input<Reader = StdinLock<'static>>
+        + RandomSource
         + Sync
         + Files
         + AllocGlobal,
@@ -184,6 +187,7 @@ fn is_graced<
         + Net<Listener = TcpListener, Stream = TcpStream>
         + Clock
         + Input<Reader = StdinLock<'static>>
+        + RandomSource
         + Sync
         + AllocGlobal,
 >(rt: &R) -> io::Result<bool> {

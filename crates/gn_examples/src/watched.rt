@@ -5,6 +5,7 @@ use crate::streams::Given;
 use gn_links::{Gate, Watch};
 use std::io::StdinLock;
 use std::net::{Net, SocketAddr, TcpListener, TcpStream};
+use std::random::RandomSource;
 use std::sync::Wait;
 use std::sync::atomic::{AtomicU32, Ordering};
 use std::thread::Threads;
@@ -82,6 +83,7 @@ pub(crate) fn are_told<
         + Net<Listener = TcpListener, Stream = TcpStream>
         + Clock
         + Input<Reader = StdinLock<'static>>
+        + RandomSource
         + Sync
         + AllocGlobal,
 >(rt: &R) -> bool {

@@ -1,5 +1,5 @@
 -- What a command does: what replay, audit, show, load or serve answers to its input and output, and the status that stands for it.
-use Rattle.std.specs.Prelude.{◌≡◌, ◌≢◌, ◌⊎◌, ◌≤◌, ◌+◌, ◌∷◌, ◌||◌, [], ℕ, Bool, false, true, List, Option, Some, length, IfSome, IsOk, Result, Ok, Err, IfOk, IfErr, OnOk}
+use Rattle.std.specs.Prelude.{◌≡◌, ◌≢◌, ◌⊎◌, ◌≤◌, ◌+◌, ◌∷◌, ◌||◌, [], ℕ, Bool, false, true, List, Option, None, Some, length, IfSome, IsOk, Result, Ok, Err, IfOk, IfErr, OnOk}
 use Rattle.std.specs.declared.alloc.Global.{Global}
 use Rattle.std.specs.declared.net.socket_addr.SocketAddr.{SocketAddr}
 use Rattle.clap.specs.declared.error.kind.ErrorKind.{ErrorKind}
@@ -34,8 +34,11 @@ use Rattle.gn_rules.specs.declared.config.Own.{Own}
 use Rattle.gn_rules.specs.declared.legality.Legality.{Legality}
 use Rattle.gn_rules.specs.declared.legality.Legality.TheVariants.{Legal, WrongAt}
 use Rattle.gn_words.specs.ServeOptions.{AskedServe}
+use Rattle.gn_wire.specs.declared.kind.Guid.{Guid}
 use Rattle.gn_words.specs.declared.request.Request.{Request}
 use Rattle.gn_words.specs.declared.request.Request.TheVariants.{Replay, History, Audit, Explain, Unfinished, Show, Load, Watched, Serve}
+use Rattle.gn_words.specs.declared.request.Servent.{Servent}
+use Rattle.gn_words.specs.declared.request.Servent.TheVariants.{Given, Random}
 
 -- what replay answers: the input was a capture, no longer than it may be, and its replay text was written, its steps
 -- and refusals counted; or it stopped, at a fault that the streams confirm, and what was written then is a prefix of
@@ -102,21 +105,27 @@ pub record IsLoadAnswer (workers : ℕ) (s : Streams) (answer : Result (Unit {0}
   pub stopped : IfErr answer (λ fault. HasStoppedAt fault (text_of s) s.sink.written s.sink_new.written)
   pub fault : IfErr answer (λ fault. IsLoadFault workers fault (load_of Global) s)
 
--- the own servent of a router that serves: it is on the port of 127.0.0.1 that is asked for, and its Pongs say that it shares as
+-- an ID is the one that is asked for: the one that is given, or, of a random servent, some sixteen bytes
+abbrev pub IsIdOf : Servent → Guid → Type 0
+IsIdOf (Given asked) id = id ≡ asked
+IsIdOf Random id = length id.0 ≡ 16
+
+-- the own servent of a router that serves, with this ID: it is on the port of 127.0.0.1 that is asked for, and its Pongs say that it shares as
 -- much as is asked for
-abbrev pub own_served : AskedServe → Own
-own_served serving =
+abbrev pub own_served : AskedServe → Guid → Own
+own_served serving id =
     record {
-      servent = serving.servent;
+      servent = id;
       ip = 127 ∷ 0 ∷ 0 ∷ 1 ∷ [];
       port = serving.port;
       files = serving.files;
       kbytes = serving.kilobytes;
     }
 
--- a configuration is that of a router that serves: it has the numbers that are asked for
+-- a configuration is that of a router that serves: it has the numbers and the servent that are asked for
 abbrev pub IsServing : AskedServe → Config → Type 0
-IsServing serving settings = IsMadeOf settings serving.numbers (own_served serving)
+IsServing serving settings =
+    (id : Guid) × IsIdOf serving.servent id × IsMadeOf settings serving.numbers (own_served serving id)
 
 -- a run with so many workers is remembered, over links to the peers of the words, which are called, and to so many that call, which
 -- writes at most so many packets to one at once; and known bytes grew by the text of its history
@@ -225,10 +234,20 @@ ServesTo serving remembered sink sink_new status =
     (answer : Result (Unit {0}) ServeFault)
     × HasServed serving sink sink_new answer remembered × (status ≡ serve_status answer)
 
+-- no ID could be drawn for a servent that was to be random: nothing is written, no run is remembered, and the status is 1
+abbrev pub IsUnnamed : AskedServe → Option (Remembered Global) → SinkState → SinkState → ℕ → Type 0
+IsUnnamed serving remembered sink sink_new status =
+    (serving.servent ≡ Random) × (remembered ≡ None) × (sink_new ≡ sink) × (status ≡ 1)
+
+-- a serve is answered, or has no ID
+abbrev pub EndsServe : AskedServe → Option (Remembered Global) → SinkState → SinkState → ℕ → Type 0
+EndsServe serving remembered sink sink_new status =
+    ServesTo serving remembered sink sink_new status ⊎ IsUnnamed serving remembered sink sink_new status
+
 -- nothing is read, and the output and the status are so
 abbrev pub Serves : AskedServe → Option (Remembered Global) → Streams → ℕ → Type 0
 Serves serving remembered s status =
-    (s.source_new ≡ s.source) × ServesTo serving remembered s.sink s.sink_new status
+    (s.source_new ≡ s.source) × EndsServe serving remembered s.sink s.sink_new status
 
 -- the streams and the status are as one of the request's answers says, and so is what is remembered of the run of a serve
 abbrev pub Does : Request → Streams → ℕ → Option (Remembered Global) → Type 0

@@ -12,7 +12,7 @@ use Rattle.gn_load.specs.declared.fault.LoadFault.TheVariants as load
 use Rattle.gn_load.specs.declared.serve_fault.ServeFault.{ServeFault}
 use Rattle.gn_load.specs.declared.serve_fault.ServeFault.TheVariants as serve
 use Rattle.gn_program.specs.declared.fault.Fault.{Fault}
-use Rattle.gn_program.specs.declared.fault.Fault.TheVariants.{Input, InputTooLarge, Line, Output, NoMemory, HistoryFull, Listen, Call, Link, StageMissing, Audit, Workers}
+use Rattle.gn_program.specs.declared.fault.Fault.TheVariants.{Input, InputTooLarge, Line, Output, NoMemory, HistoryFull, Listen, Call, Link, StageMissing, Audit, Workers, NoRandomBytes}
 
 -- the word for a cause
 abbrev pub cause_word : Cause → List ℕ
@@ -41,6 +41,7 @@ fault_text (Link link) = codes "fault: link " ++ decimal link ++ codes "\n"
 fault_text StageMissing = codes "fault: stage missing\n"
 fault_text (Audit actor) = codes "fault: audit " ++ decimal actor ++ codes "\n"
 fault_text Workers = codes "fault: workers\n"
+fault_text NoRandomBytes = codes "fault: no random bytes\n"
 
 -- the line of a replay's or an audit's fault
 abbrev pub of_replay : ReplayFault → Fault

@@ -7,7 +7,7 @@ ghost use Rattle.clap.specs.Kinds.{IsAmong};
 ghost use Rattle.clap.specs.Words.{kind_of};
 ghost use Rattle.clap.specs.declared.error.kind.ErrorKind.{ErrorKind as Kind};
 ghost use Rattle.clap.specs.declared.error.kind.ErrorKind.TheVariants.{OutOfMemory};
-ghost use Rattle.gn_program.specs.Commands.{Does, HasDone, IsTurnedAway, IsUnread, Loads, ServesTo, audit_status, load_status, replay_status, serve_status, show_status};
+ghost use Rattle.gn_program.specs.Commands.{Does, EndsServe, HasDone, IsIdOf, IsTurnedAway, IsUnread, Loads, ServesTo, audit_status, load_status, replay_status, serve_status, show_status};
 ghost use Rattle.gn_io.specs.Streams.{streams};
 ghost use Rattle.gn_words.specs.Words.{kinds_of, request_of};
 ghost use Rattle.gn_words.specs.declared.request.Request.{Request as Asked};
@@ -17,7 +17,7 @@ use crate::detail::{Reading, write_detail};
 use crate::ended::Ended;
 use crate::fault::Fault;
 use crate::head::Head;
-use crate::serves::{batch_of, serve};
+use crate::serves::{batch_of, id_of, serve};
 use crate::text::write_text;
 use crate::told::Told;
 use crate::unwatched::Unwatched;
@@ -33,12 +33,14 @@ use gn_rules::{FreshRouter, Legality};
 use gn_show::show;
 use gn_table_router::TableRouter;
 use gn_tables::Forgetful;
+use gn_wire::Guid;
 use gn_words::{Request, ServeOptions, read_words};
 use std::alloc::Global;
 use std::convert::AsStr;
 use std::io;
 use std::io::StdinLock;
 use std::net::{Net, TcpListener, TcpStream};
+use std::random::RandomSource;
 use std::sync::Wait;
 use std::thread::Threads;
 use std::time::Clock;
@@ -148,14 +150,23 @@ fn serve_watched<
     G: Watch + Sync,
     W: Sink + Send,
     F: Sink,
->(rt: &R, alloc: Global, serving: &ServeOptions, watch: &G, writer: &mut W, faults: &mut F) -> Ended
+>(
+    rt: &R,
+    alloc: Global,
+    serving: &ServeOptions,
+    id: Guid,
+    watch: &G,
+    writer: &mut W,
+    faults: &mut F,
+) -> Ended
+    requires { IsIdOf serving.now.servent id }
     ensures { ServesTo serving.now result.ran (W.state writer.old) (W.state writer.new) result.status }
 {
     let calls = Calls::new(watch);
     let mut told = Told::Nothing;
     let mut ran = None;
     let answer = serve(
-        rt, alloc, serving, &calls, writer, faults, &mut told, &mut ran,
+        rt, alloc, serving, id, &calls, writer, faults, &mut told, &mut ran,
     );
     let told = calls.told(&answer, told);
     let status = end_serve(faults, answer, told);
@@ -169,19 +180,23 @@ fn serve_asked<
         + Net<Listener = TcpListener, Stream = TcpStream>
         + Clock
         + Input<Reader = StdinLock<'static>>
+        + RandomSource
         + AllocGlobal
         + Sync,
     G: Watch + Sync,
     W: Sink + Send,
     F: Sink,
 >(rt: &R, alloc: Global, serving: &ServeOptions, watch: &G, writer: &mut W, faults: &mut F) -> Ended
-    ensures { ServesTo serving.now result.ran (W.state writer.old) (W.state writer.new) result.status }
+    ensures { EndsServe serving.now result.ran (W.state writer.old) (W.state writer.new) result.status }
 {
+    let Some(id) = id_of(rt, serving.servent) else {
+        return Ended::with(write_fault(faults, Fault::NoRandomBytes));
+    };
     if serving.progress {
-        return serve_watched(rt, alloc, serving, watch, writer, faults);
+        return serve_watched(rt, alloc, serving, id, watch, writer, faults);
     }
     let unwatched = Unwatched(watch);
-    serve_watched(rt, alloc, serving, &unwatched, writer, faults)
+    serve_watched(rt, alloc, serving, id, &unwatched, writer, faults)
 }
 
 /// Does what is asked for.
@@ -192,6 +207,7 @@ fn obey<
         + Net<Listener = TcpListener, Stream = TcpStream>
         + Clock
         + Input<Reader = StdinLock<'static>>
+        + RandomSource
         + AllocGlobal
         + Sync,
     G: Watch + Sync,
@@ -272,13 +288,14 @@ fn turn_away<W: Sink, F: Sink>(error: Error, writer: &mut W, faults: &mut F) -> 
 ///
 /// A load and a serve alone start threads and wait; a serve alone opens sockets, reads nothing from `reader`, and says
 /// `listening PORT` on a line of `faults` once it can be called. With `--until-eof` it reads the standard input of `rt`, by a
-/// thread that goes on where that hasn't ended.
+/// thread that goes on where that hasn't ended; with `--servent random` it takes random bytes of the system.
 pub fn command<
     R: Threads
         + Wait
         + Net<Listener = TcpListener, Stream = TcpStream>
         + Clock
         + Input<Reader = StdinLock<'static>>
+        + RandomSource
         + AllocGlobal
         + Sync,
     T: AsStr,
@@ -318,6 +335,7 @@ pub fn command_with<
         + Net<Listener = TcpListener, Stream = TcpStream>
         + Clock
         + Input<Reader = StdinLock<'static>>
+        + RandomSource
         + AllocGlobal
         + Sync,
     G: Watch + Sync,

@@ -39,6 +39,8 @@ pub enum Fault {
     Audit(u32),
     /// Not 1 to 64 workers, which the command line refuses before.
     Workers,
+    /// The system gave no random bytes for the own servent's ID.
+    NoRandomBytes,
 }
 
 impl Display for Fault {
@@ -63,6 +65,7 @@ impl Display for Fault {
             Fault::StageMissing => f.write_str("fault: stage missing\n"),
             Fault::Audit(actor) => writeln!(f, "fault: audit {actor}"),
             Fault::Workers => f.write_str("fault: workers\n"),
+            Fault::NoRandomBytes => f.write_str("fault: no random bytes\n"),
         }
     }
 }

@@ -1,16 +1,17 @@
 //! A router that serves, as a command line asks for it.
 
-ghost use Rattle.std.specs.Prelude.{◌≡◌, ◌*◌, ◌+◌, ◌<◌, ◌≤◌, ℕ, List, None, length, IfOk};
+ghost use Rattle.std.specs.Prelude.{◌≡◌, ◌*◌, ◌+◌, ◌<◌, ◌≤◌, ℕ, List, None, length, IfNone, IfOk, IfSome};
 ghost use Rattle.std.specs.Option.{IsSomeAnd};
 ghost use Rattle.std.specs.Bool.{then_some};
 ghost use Rattle.std.specs.Duration.{as_nanos};
 ghost use Rattle.gn_comments.specs.Sinks.{HasWrittenBoth, without_comments};
 ghost use Rattle.gn_io.specs.Streams.{SinkState};
 ghost use Rattle.gn_load.specs.Journalled.{IsJournalled};
-ghost use Rattle.gn_program.specs.Commands.{HasServed, IsBeside, IsServing, has_comments};
+ghost use Rattle.gn_program.specs.Commands.{HasServed, IsBeside, IsIdOf, IsServing, has_comments};
 ghost use Rattle.gn_program.specs.Limits.{IsLimit, IsStopOf, may_stop};
 ghost use Rattle.gn_program.specs.Peers.{AreAt};
 ghost use Rattle.gn_rules.specs.Limits.{most_links};
+ghost use Rattle.gn_words.specs.declared.request.Servent.TheVariants.{Random};
 
 use crate::calls::Calls;
 use crate::eof::stop_at_eof;
@@ -27,13 +28,15 @@ use gn_rules::{Config, Own};
 use gn_service::{Batch, Ran, Serving, Stop, TcpReader, TcpWriter};
 use gn_tcp::Unmet;
 use gn_threads::RunFault;
-use gn_words::{Peer, ServeOptions};
+use gn_wire::Guid;
+use gn_words::{Peer, ServeOptions, Servent};
 use std::alloc::{AllocError, Global};
 use std::fmt;
 use std::fmt::{Display, Formatter, Write};
 use std::io::StdinLock;
 use std::marker::Brand;
 use std::net::{Ipv4Addr, Net, SocketAddr, SocketAddrV4, TcpListener, TcpStream};
+use std::random::RandomSource;
 use std::sync::{Arc, Wait};
 use std::thread::Threads;
 use std::time::{Clock, Duration};
@@ -48,12 +51,30 @@ impl Display for Listening {
     }
 }
 
-/// The configuration of a router that serves: its own servent is on this port, and shares what the options say.
-fn settings(serving: &ServeOptions) -> Config
+/// The ID of the servent that is asked for; none, where it has to be drawn and the system gives no random bytes.
+pub(crate) fn id_of<R: RandomSource>(rt: &R, servent: Servent) -> Option<Guid>
+    ensures id { IfSome result (IsIdOf servent) }
+    ensures none { IfNone result (servent ≡ Random) }
+{
+    match servent {
+        Servent::Given(id) => Some(id),
+        Servent::Random => {
+            let mut bytes = [0u8; 16];
+            match rt.fill_bytes(&mut bytes) {
+                Ok(()) => Some(Guid(bytes)),
+                Err(_) => None,
+            }
+        }
+    }
+}
+
+/// The configuration of a router that serves: its own servent has this ID, is on this port, and shares what the options say.
+fn settings(serving: &ServeOptions, id: Guid) -> Config
+    requires { IsIdOf serving.now.servent id }
     ensures { IsServing serving.now result }
 {
     let own = Own {
-        servent: serving.servent,
+        servent: id,
         ip: [127, 0, 0, 1],
         port: serving.port,
         files: serving.files,
@@ -328,16 +349,18 @@ pub(crate) fn serve<
     rt: &R,
     alloc: Global,
     serving: &ServeOptions,
+    id: Guid,
     calls: &Calls<'_, G>,
     writer: &mut W,
     faults: &mut F,
     told: &mut Told,
     remembered: &mut Option<Ran>,
 ) -> Result<(), ServeFault>
-    requires { remembered.old ≡ None }
+    requires none { remembered.old ≡ None }
+    requires id { IsIdOf serving.now.servent id }
     ensures { HasServed serving.now (W.state writer.old) (W.state writer.new) result remembered.new }
 {
-    let config = settings(serving);
+    let config = settings(serving, id);
     let peers = addresses(alloc, &serving.peers)?;
     let stop = stop_of(rt, alloc, serving)?;
     let Ok(listener) = listen(rt, serving.port, told) else {

@@ -60,6 +60,7 @@ plain_words = record {
   workers = λ program. refl;
   help = λ program. refl;
   help_option = λ program. refl;
+  random = refl;
   near = refl;
   far = refl;
   long = λ peer. refl;

@@ -1,5 +1,5 @@
 -- What the values of options say.
-use Rattle.std.specs.Prelude.{◌≡◌, ◌∷◌, ◌++◌, ◌==◌, ◌&&◌, ℕ, Bool, false, List, [], Option, Some, None, Result, Ok, Err, codes, length, nat_le, slice_index, unwrap_or, if◌then◌else◌}
+use Rattle.std.specs.Prelude.{◌≡◌, ◌∷◌, ◌++◌, ◌==◌, ◌&&◌, ℕ, Bool, false, List, [], Option, Some, None, Result, Ok, Err, codes, length, nat_le, option_map, slice_index, unwrap_or, if◌then◌else◌}
 use Rattle.std.specs.List.{slice_split}
 use Rattle.std.specs.Option.{option_map_or}
 use Rattle.std.specs.Str.{bytes_eq}
@@ -9,10 +9,11 @@ use Rattle.gn_rules.specs.declared.limits.Numbers.{Numbers}
 use Rattle.gn_text.specs.Addresses.{ip_of}
 use Rattle.gn_text.specs.Bytes.{guid_of}
 use Rattle.gn_numbers.specs.Numbers.{number_below, number_of, ◌>>=◌}
-use Rattle.gn_wire.specs.declared.kind.Guid.{Guid}
 use Rattle.gn_words.specs.ServeOptions.{AskedServe}
 use Rattle.gn_words.specs.declared.serve.Times.{Times}
 use Rattle.gn_words.specs.declared.request.Peer.{Peer}
+use Rattle.gn_words.specs.declared.request.Servent.{Servent}
+use Rattle.gn_words.specs.declared.request.Servent.TheVariants.{Given, Random}
 use Rattle.gn_words.specs.declared.unread.Unread.{Unread}
 use Rattle.gn_words.specs.declared.unread.Unread.TheVariants.{Mistake, NoMemory}
 
@@ -36,11 +37,15 @@ number_asked option least most rows = do
 abbrev pub workers_of : List Row → Option ℕ
 workers_of rows = number_asked (codes "workers") 1 most_workers rows
 
--- the ID that is asked for
-abbrev pub servent_of : List Row → Option Guid
+-- who a text says that a router is: one of a random ID, or the servent of this ID
+abbrev pub servent_in : Text → Option Servent
+servent_in text = if bytes_eq text (codes "random") then Some Random else option_map Given (guid_of text)
+
+-- who the router is that is asked for
+abbrev pub servent_of : List Row → Option Servent
 servent_of rows = do
   text ← first_of (codes "servent") rows
-  guid_of text
+  servent_in text
 
 -- a number that is asked for and that four bytes hold
 abbrev pub word_of : Text → List Row → Option ℕ

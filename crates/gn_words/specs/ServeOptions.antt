@@ -1,10 +1,10 @@
 -- What a serve is asked for.
 use Rattle.std.specs.Prelude.{ℕ, Bool, List}
 use Rattle.gn_rules.specs.declared.limits.Numbers.{Numbers}
-use Rattle.gn_wire.specs.declared.kind.Guid.{Guid}
 use Rattle.gn_words.specs.declared.request.Peer.{Peer}
+use Rattle.gn_words.specs.declared.request.Servent.{Servent}
 
--- what the options of a serve say: the port, how many peers may call, the workers, the own servent's ID, the files and kilobytes
+-- what the options of a serve say: the port, how many peers may call, the workers, who the router is, the files and kilobytes
 -- that its Pongs say that it shares, the peers that are called; the seconds after which a silent peer is given up, 0 for never; the seconds for which a peer that doesn't listen is
 -- called again; how many packets are written to a neighbour at once at most; the numbers of the router's rules; the seconds after
 -- which the run is stopped, 0 for never, and those that it then has to end; whether it is stopped at nine tenths of its steps, and at
@@ -14,7 +14,7 @@ pub record AskedServe : Type 0 where
   pub port : ℕ
   pub accept : ℕ
   pub workers : ℕ
-  pub servent : Guid
+  pub servent : Servent
   pub files : ℕ
   pub kilobytes : ℕ
   pub peers : List Peer

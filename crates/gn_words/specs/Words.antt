@@ -6,9 +6,10 @@ use Rattle.clap.specs.Kinds.{Kinds, or_else}
 use Rattle.clap.specs.declared.builder.action.ArgAction.TheVariants.{Append, Set, SetTrue}
 use Rattle.clap.specs.declared.error.kind.ErrorKind.TheVariants.{DisplayHelp, InvalidSubcommand, ValueValidation}
 use Rattle.gn_words.specs.Rows.{with_rules}
-use Rattle.gn_words.specs.Options.{is_set, peer_of, peers_in, serving_of, workers_of}
+use Rattle.gn_words.specs.Options.{is_set, peer_of, peers_in, servent_in, serving_of, workers_of}
 use Rattle.gn_words.specs.declared.request.Request.{Request}
 use Rattle.gn_words.specs.declared.request.Request.TheVariants.{Replay, History, Audit, Explain, Unfinished, Show, Load, Watched, Serve}
+use Rattle.gn_words.specs.declared.request.Servent.TheVariants.{Given, Random}
 use Rattle.gn_show.specs.declared.form.Form.TheVariants.{Json, Plain, Rows}
 use Rattle.gn_show.specs.declared.form.View.{View}
 use Rattle.gn_show.specs.declared.form.View.TheVariants.{Stats, Steps}
@@ -217,7 +218,7 @@ pub record PlainWordsAreRead : Type 0 where
         port = 6346;
         accept = 128;
         workers = 64;
-        servent = record { 0 = 71 ∷ 71 ∷ 71 ∷ 71 ∷ 71 ∷ 71 ∷ 71 ∷ 71 ∷ 71 ∷ 71 ∷ 71 ∷ 71 ∷ 71 ∷ 71 ∷ 71 ∷ 71 ∷ [] };
+        servent = Given (record { 0 = 71 ∷ 71 ∷ 71 ∷ 71 ∷ 71 ∷ 71 ∷ 71 ∷ 71 ∷ 71 ∷ 71 ∷ 71 ∷ 71 ∷ 71 ∷ 71 ∷ 71 ∷ 71 ∷ [] });
         files = 0;
         kilobytes = 0;
         peers = [];
@@ -253,6 +254,8 @@ pub record PlainWordsAreRead : Type 0 where
   -- help is asked for by a subcommand, which may also say that there is none of a name behind it, and by an option
   pub help : (program : Text) → kinds_of (program ∷ codes "help" ∷ []) ≡ DisplayHelp ∷ InvalidSubcommand ∷ []
   pub help_option : (program : Text) → kinds_of (program ∷ codes "serve" ∷ codes "--help" ∷ []) ≡ DisplayHelp ∷ []
+  -- a router is random where that word says so, and otherwise who the ID says
+  pub random : servent_in (codes "random") ≡ Some Random
   -- a peer of this machine is one that is called; one of another machine is a mistake
   pub near : peer_of (codes "127.0.0.1:6347") ≡ Some (record { ip = 127 ∷ 0 ∷ 0 ∷ 1 ∷ []; port = 6347 })
   pub far : peer_of (codes "10.0.0.1:6347") ≡ None

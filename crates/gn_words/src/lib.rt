@@ -14,5 +14,5 @@ mod show;
 mod unread;
 mod words;
 
-pub use request::{Peer, Request, ServeOptions};
+pub use request::{Peer, Request, ServeOptions, Servent};
 pub use words::{plain_words_are_read, read_words};

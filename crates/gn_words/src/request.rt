@@ -36,6 +36,15 @@ pub struct Peer {
     pub port: u16,
 }
 
+/// Who a router is.
+#[derive(Clone, Copy, Debug, PartialEq, Eq)]
+pub enum Servent {
+    /// The servent of this ID.
+    Given(Guid),
+    /// One whose ID is drawn at random at its start.
+    Random,
+}
+
 /// A run over TCP, as its options ask for it.
 #[derive(Debug, Drop)]
 pub struct ServeOptions {
@@ -45,8 +54,8 @@ pub struct ServeOptions {
     pub accept: u32,
     /// How many threads route.
     pub workers: u32,
-    /// The router's own servent ID.
-    pub servent: Guid,
+    /// Who the router is.
+    pub servent: Servent,
     /// How many files its own Pongs say that it shares.
     pub files: u32,
     /// How many kilobytes its own Pongs say that it shares.

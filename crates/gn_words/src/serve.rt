@@ -4,20 +4,18 @@ ghost use Rattle.std.specs.Prelude.{◌≡◌, IfOk, codes, false, option_and_th
 ghost use Rattle.clap.specs.Words.{app_of, found_of, rows_of};
 ghost use Rattle.clap.specs.declared.builder.command.Command.TheViews.{out-Command as fields_of};
 ghost use Rattle.gn_rules.specs.Limits.{AreWithin, most};
-ghost use Rattle.gn_text.specs.Bytes.{guid_of};
-ghost use Rattle.gn_words.specs.Options.{IsReadAs, number_asked, numbers_of, servent_of, serving_of, times_of};
+ghost use Rattle.gn_words.specs.Options.{IsReadAs, number_asked, numbers_of, servent_in, servent_of, serving_of, times_of};
 ghost use Rattle.gn_words.specs.Words.{quiet_app, serve_app};
 
 use crate::numbers::{NumberOption, WORKERS, WORKERS_ROW, asked};
 use crate::peers::peers_of;
-use crate::request::ServeOptions;
+use crate::request::{ServeOptions, Servent};
 use crate::rows::{OptionRow, Takes, with_options};
 use crate::unread::Unread;
 use crate::words::{is_set, leaf};
 use clap::{ArgMatches, Command};
 use gn_rules::Numbers;
 use gn_text::guid;
-use gn_wire::Guid;
 use std::alloc::{AllocError, Global};
 
 /// What it does.
@@ -88,7 +86,9 @@ const OPTIONS: [OptionRow; 6] = [
         name: "servent",
         letter: None,
         takes: Takes::Unshown("HEX32", OWN_SERVENT),
-        help: "The router's own servent ID, 32 hex digits; by default 47 sixteen times",
+        help: "\
+The router's own servent ID, 32 hex digits, or `random` for one that is drawn
+at its start; by default 47 sixteen times",
     },
     OptionRow {
         name: "files",
@@ -456,20 +456,30 @@ fn life_of(options: &ArgMatches<'_>) -> Result<u8, Unread>
     }
 }
 
-/// The ID that a text says.
-fn servent_in(text: Option<&str>) -> Option<Guid>
-    ensures { result ≡ option_and_then (λ s. guid_of s.now) text.entry }
+/// The servent that a text says: a random one, or one of this ID.
+fn servent_in(text: &str) -> Option<Servent>
+    ensures { result ≡ servent_in text.now }
 {
-    guid(text?.as_bytes())
+    match text {
+        "random" => Some(Servent::Random),
+        _ => Some(Servent::Given(guid(text.as_bytes())?)),
+    }
 }
 
-/// The ID that `--servent` asks for.
-fn servent_of(options: &ArgMatches<'_>) -> Result<Guid, Unread>
-    ensures { IsReadAs (λ id. id) (servent_of (rows_of (found_of options.now))) result }
+/// The servent that a text says, where there is one.
+fn servent_said(text: Option<&str>) -> Option<Servent>
+    ensures { result ≡ option_and_then (λ s. servent_in s.now) text.entry }
 {
-    match servent_in(options.get_str("servent")) {
+    servent_in(text?)
+}
+
+/// The servent that `--servent` asks for.
+fn servent_of(options: &ArgMatches<'_>) -> Result<Servent, Unread>
+    ensures { IsReadAs (λ servent. servent) (servent_of (rows_of (found_of options.now))) result }
+{
+    match servent_said(options.get_str("servent")) {
         Some(servent) => Ok(servent),
-        None => Err(Unread::Mistake("--servent takes 32 hex digits")),
+        None => Err(Unread::Mistake("--servent takes 32 hex digits, or random")),
     }
 }
 

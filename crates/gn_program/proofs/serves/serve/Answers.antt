@@ -10,7 +10,7 @@ pub returns-in_err-peers : goal.returns-in_err-peers
 returns-in_err-peers g c = (
   g.W.Sink.state c.args.writer.now,
   beside_itself _ (g.W.Sink.state c.args.writer.now),
-  unserved c.args.serving.now c.settings-config.result c.args.remembered.now c.requires (g.W.Sink.state c.args.writer.now) c.from_residual.result NoMemory c.settings-config.ensures
+  unserved c.args.serving.now c.settings-config.result c.args.remembered.now c.requires.none (g.W.Sink.state c.args.writer.now) c.from_residual.result NoMemory c.settings-config.ensures
       c.from_residual.ensures.1 tt,
 )
 
@@ -18,7 +18,7 @@ pub returns-in_err-stop : goal.returns-in_err-stop
 returns-in_err-stop g c = (
   g.W.Sink.state c.args.writer.now,
   beside_itself _ (g.W.Sink.state c.args.writer.now),
-  unserved c.args.serving.now c.settings-config.result c.args.remembered.now c.requires (g.W.Sink.state c.args.writer.now) c.from_residual-in_err-stop.result NoMemory c.settings-config.ensures
+  unserved c.args.serving.now c.settings-config.result c.args.remembered.now c.requires.none (g.W.Sink.state c.args.writer.now) c.from_residual-in_err-stop.result NoMemory c.settings-config.ensures
       c.from_residual-in_err-stop.ensures.1 tt,
 )
 
@@ -26,7 +26,7 @@ pub returns-in_default : goal.returns-in_default
 returns-in_default g c = (
   g.W.Sink.state c.args.writer.now,
   beside_itself _ (g.W.Sink.state c.args.writer.now),
-  unserved c.args.serving.now c.settings-config.result c.args.remembered.now c.requires (g.W.Sink.state c.args.writer.now) _ Listen c.settings-config.ensures refl refl,
+  unserved c.args.serving.now c.settings-config.result c.args.remembered.now c.requires.none (g.W.Sink.state c.args.writer.now) _ Listen c.settings-config.ensures refl refl,
 )
 
 pub returns : goal.returns
