@@ -1,5 +1,6 @@
 -- What a command does: what replay, audit, show, load or serve answers to its input and output, and the status that stands for it.
 use Rattle.std.specs.Prelude.{◌≡◌, ◌≢◌, ◌⊎◌, ◌≤◌, ◌+◌, ◌∷◌, ◌||◌, [], ℕ, Bool, false, true, List, Option, None, Some, length, IfSome, IsOk, Result, Ok, Err, IfOk, IfErr, OnOk}
+use Rattle.std.specs.Io.KnownBytes.{Appends}
 use Rattle.std.specs.declared.alloc.Global.{Global}
 use Rattle.std.specs.declared.net.socket_addr.SocketAddr.{SocketAddr}
 use Rattle.clap.specs.declared.error.kind.ErrorKind.{ErrorKind}
@@ -8,7 +9,8 @@ use Rattle.gn_comments.specs.Sinks.{HasWrittenBoth, without_comments}
 use Rattle.gn_replay.specs.Faults.{IsAnswerOn, IsAuditOn}
 use Rattle.gn_replay.specs.declared.fault.ReplayFault.{ReplayFault}
 use Rattle.gn_io.specs.Input.{input_limit}
-use Rattle.gn_io.specs.Streams.{NoneFailed, NoWriteFailed, SinkState, Streams, text_of}
+use Rattle.gn_io.specs.Parts.{AppendsPart}
+use Rattle.gn_io.specs.Streams.{HasWriteFailed, NoneFailed, NoWriteFailed, SinkState, Streams, text_of}
 use Rattle.gn_capture.specs.Captures.{capture_of}
 use Rattle.gn_replay.specs.Replays.{AppendsReplay, HasStopped, IsCounted}
 use Rattle.gn_replay.specs.declared.replays.Exit.{Exit}
@@ -33,10 +35,11 @@ use Rattle.gn_rules.specs.declared.config.Config.{Config}
 use Rattle.gn_rules.specs.declared.config.Own.{Own}
 use Rattle.gn_rules.specs.declared.legality.Legality.{Legality}
 use Rattle.gn_rules.specs.declared.legality.Legality.TheVariants.{Legal, WrongAt}
+use Rattle.gn_words.specs.ConfigTexts.{config_text}
 use Rattle.gn_words.specs.ServeOptions.{AskedServe}
 use Rattle.gn_wire.specs.declared.kind.Guid.{Guid}
 use Rattle.gn_words.specs.declared.request.Request.{Request}
-use Rattle.gn_words.specs.declared.request.Request.TheVariants.{Replay, History, Audit, Explain, Unfinished, Show, Load, Watched, Serve}
+use Rattle.gn_words.specs.declared.request.Request.TheVariants.{Replay, History, Audit, Explain, Unfinished, Show, Load, Watched, Serve, Config as PrintConfig}
 use Rattle.gn_words.specs.declared.request.Servent.{Servent}
 use Rattle.gn_words.specs.declared.request.Servent.TheVariants.{Given, Random}
 
@@ -110,8 +113,8 @@ abbrev pub IsIdOf : Servent → Guid → Type 0
 IsIdOf (Given asked) id = id ≡ asked
 IsIdOf Random id = length id.0 ≡ 16
 
--- the own servent of a router that serves, with this ID: it is on the port of 127.0.0.1 that is asked for, and its Pongs say that it shares as
--- much as is asked for
+-- the own servent of a router that serves, with this ID: it is on the port of 127.0.0.1 that is asked for, and its Pongs say that
+-- it shares as much as is asked for
 abbrev pub own_served : AskedServe → Guid → Own
 own_served serving id =
     record {
@@ -249,6 +252,17 @@ abbrev pub Serves : AskedServe → Option (Remembered Global) → Streams → �
 Serves serving remembered s status =
     (s.source_new ≡ s.source) × EndsServe serving remembered s.sink s.sink_new status
 
+-- the words of a serve are written, no write failed, and the status is 0; or it is 1, and a prefix of them is written, as a write
+-- failed, or nothing, as memory ran out
+abbrev pub HasPrinted : AskedServe → SinkState → SinkState → ℕ → Type 0
+HasPrinted serving old new status =
+    ((status ≡ 0) × Appends old.written new.written (config_text serving) × NoWriteFailed old new)
+    ⊎ ((status ≡ 1) × ((new ≡ old) ⊎ (AppendsPart old.written new.written (config_text serving) × HasWriteFailed old new)))
+
+-- the words of a serve are written, and nothing is read
+abbrev pub Prints : AskedServe → Streams → ℕ → Type 0
+Prints serving s status = (s.source_new ≡ s.source) × HasPrinted serving s.sink s.sink_new status
+
 -- the streams and the status are as one of the request's answers says, and so is what is remembered of the run of a serve
 abbrev pub Does : Request → Streams → ℕ → Option (Remembered Global) → Type 0
 Does Replay s status remembered = Replays s status
@@ -260,6 +274,7 @@ Does (Show view) s status remembered = Shows view s status
 Does (Load workers) s status remembered = Loads workers s status
 Does (Watched workers) s status remembered = Loads workers s status
 Does (Serve serving) s status remembered = Serves serving remembered s status
+Does (PrintConfig serving) s status remembered = Prints serving s status
 
 -- the same, where the run of a serve isn't remembered any more
 abbrev pub HasDone : Request → Streams → ℕ → Type 0

@@ -7,7 +7,7 @@ ghost use Rattle.clap.specs.Kinds.{IsAmong};
 ghost use Rattle.clap.specs.Words.{kind_of};
 ghost use Rattle.clap.specs.declared.error.kind.ErrorKind.{ErrorKind as Kind};
 ghost use Rattle.clap.specs.declared.error.kind.ErrorKind.TheVariants.{OutOfMemory};
-ghost use Rattle.gn_program.specs.Commands.{Does, EndsServe, HasDone, IsIdOf, IsTurnedAway, IsUnread, Loads, ServesTo, audit_status, load_status, replay_status, serve_status, show_status};
+ghost use Rattle.gn_program.specs.Commands.{Does, EndsServe, HasDone, HasPrinted, IsIdOf, IsTurnedAway, IsUnread, Loads, ServesTo, audit_status, load_status, replay_status, serve_status, show_status};
 ghost use Rattle.gn_io.specs.Streams.{streams};
 ghost use Rattle.gn_words.specs.Words.{kinds_of, request_of};
 ghost use Rattle.gn_words.specs.declared.request.Request.{Request as Asked};
@@ -23,7 +23,7 @@ use crate::told::Told;
 use crate::unwatched::Unwatched;
 use clap::Error;
 use clap::error::ErrorKind;
-use gn_io::{Sink, Source};
+use gn_io::{Sink, Source, write_all};
 use gn_links::{NoGate, Watch};
 use gn_load::{LoadFault, ServeFault, load_journalled};
 use gn_replay::{
@@ -34,7 +34,7 @@ use gn_show::show;
 use gn_table_router::TableRouter;
 use gn_tables::Forgetful;
 use gn_wire::Guid;
-use gn_words::{Request, ServeOptions, read_words};
+use gn_words::{Request, ServeOptions, config_text, read_words};
 use std::alloc::Global;
 use std::convert::AsStr;
 use std::io;
@@ -199,6 +199,24 @@ fn serve_asked<
     serve_watched(rt, alloc, serving, id, &unwatched, writer, faults)
 }
 
+/// Writes the words that a serve would run with, and gives the status.
+fn print_config<W: Sink, F: Sink>(
+    alloc: Global,
+    serving: &ServeOptions,
+    writer: &mut W,
+    faults: &mut F,
+) -> u8
+    ensures { HasPrinted serving.now (W.state writer.old) (W.state writer.new) result }
+{
+    let Ok(text) = config_text(alloc, serving) else {
+        return write_fault(faults, Fault::NoMemory);
+    };
+    match write_all(writer, &text) {
+        Ok(()) => DONE,
+        Err(_) => write_fault(faults, Fault::Output),
+    }
+}
+
 /// Does what is asked for.
 fn obey<
     C: FreshRouter<Global> + Drop,
@@ -260,6 +278,7 @@ fn obey<
             Ended::with(load(rt, alloc, workers, watch, reader, writer, faults))
         }
         Request::Serve(serving) => serve_asked(rt, alloc, &serving, watch, writer, faults),
+        Request::Config(serving) => Ended::with(print_config(alloc, &serving, writer, faults)),
     }
 }
 

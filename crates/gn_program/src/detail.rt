@@ -36,7 +36,7 @@ impl Reading {
                 Text::History,
             ),
             Request::Show(_) => Reading::new("show", Text::History),
-            Request::Serve(_) => None,
+            Request::Serve(_) | Request::Config(_) => None,
         }
     }
 }

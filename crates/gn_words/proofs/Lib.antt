@@ -1,2 +1,3 @@
+mod ConfigLemmas
 mod OptionLemmas
 mod WordLemmas

@@ -22,7 +22,8 @@ use Rattle.clap.specs.declared.error.Error.{Error}
 use Rattle.clap.specs.declared.error.kind.ErrorKind.TheVariants.{ValueValidation}
 use Rattle.clap.proofs.OnLiterals.{clap_on_literals}
 use Rattle.clap.proofs.WalkLemmas.{first_value-rows, raw_values-rows}
-use Rattle.hex.specs.Hex.{decode_pairs}
+use Rattle.std.specs.Fmt.{digits}
+use Rattle.hex.specs.Hex.{decode_pairs, encode_with}
 use Rattle.gn_words.specs.Options.{is_set, peers_in, peers_of}
 use Rattle.gn_words.specs.Words.{PlainWordsAreRead, gn_app, kinds_of, request_by, request_named, request_of, value_kinds}
 use Rattle.gn_words.specs.declared.request.Request.{Request}
@@ -36,7 +37,7 @@ unfolding clap_on_literals
 gn_is_free = refl
 
 pub plain_words : PlainWordsAreRead
-unfolding clap_on_literals decode_pairs
+unfolding clap_on_literals decode_pairs digits encode_with
 plain_words = record {
   replay = λ program. refl;
   history = λ program. refl;
@@ -55,6 +56,9 @@ plain_words = record {
   none = λ program. refl;
   many = λ program. refl;
   serve = λ program. refl;
+  config = λ program. refl;
+  written = λ program. refl;
+  full = λ program. refl;
   no_port = λ program. refl;
   accepts = λ program. refl;
   workers = λ program. refl;

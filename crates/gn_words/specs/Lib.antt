@@ -1,4 +1,5 @@
 -- What is promised: contracts of public functions rest on it.
+pub mod ConfigTexts
 pub mod Options
 pub mod Rows
 pub mod ServeOptions

@@ -1,14 +1,17 @@
 -- How the words of a command line are read: by the rules of the crate clap, for this command.
-use Rattle.std.specs.Prelude.{◌≡◌, ◌∷◌, ℕ, List, [], Bool, true, false, Option, Some, None, codes, is_some, option_map, replicate, if◌then◌else◌}
+use Rattle.std.specs.Prelude.{◌≡◌, ◌∷◌, ℕ, List, [], Bool, true, false, Option, Some, None, codes, filter, is_some, length, nat_eq, not, option_map, replicate, ◌==◌, ◌||◌, if◌then◌else◌}
+use Rattle.std.specs.List.{slice_split}
 use Rattle.std.specs.Str.{bytes_eq}
 use Rattle.clap.specs.Words.{App, Row, Rule, Text, fault_of, new_app, new_rule, subcommand_of, with_subcommand}
 use Rattle.clap.specs.Kinds.{Kinds, or_else}
 use Rattle.clap.specs.declared.builder.action.ArgAction.TheVariants.{Append, Set, SetTrue}
 use Rattle.clap.specs.declared.error.kind.ErrorKind.TheVariants.{DisplayHelp, InvalidSubcommand, ValueValidation}
+use Rattle.gn_words.specs.ConfigTexts.{config_text}
 use Rattle.gn_words.specs.Rows.{with_rules}
 use Rattle.gn_words.specs.Options.{is_set, peer_of, peers_in, servent_in, serving_of, workers_of}
+use Rattle.gn_words.specs.ServeOptions.{AskedServe}
 use Rattle.gn_words.specs.declared.request.Request.{Request}
-use Rattle.gn_words.specs.declared.request.Request.TheVariants.{Replay, History, Audit, Explain, Unfinished, Show, Load, Watched, Serve}
+use Rattle.gn_words.specs.declared.request.Request.TheVariants.{Replay, History, Audit, Explain, Unfinished, Show, Load, Watched, Serve, Config}
 use Rattle.gn_words.specs.declared.request.Servent.TheVariants.{Given, Random}
 use Rattle.gn_show.specs.declared.form.Form.TheVariants.{Json, Plain, Rows}
 use Rattle.gn_show.specs.declared.form.View.{View}
@@ -91,6 +94,7 @@ serve_app = with_rules quiet_app
     ∷ flag_rule (codes "links")
     ∷ flag_rule (codes "report")
     ∷ flag_rule (codes "progress")
+    ∷ flag_rule (codes "print-config")
     ∷ [])
 
 -- the command `gn` before it has its subcommands: it has a version, and one of them has to be named. It gets one more than
@@ -148,6 +152,15 @@ load_by true workers = Watched workers
 abbrev pub load_of : List Row → Option Request
 load_of rows = option_map (load_by (is_set (codes "progress") rows)) (workers_of rows)
 
+-- a serve that is run, or one whose options are written
+abbrev pub serve_by : Bool → AskedServe → Request
+serve_by false serving = Serve serving
+serve_by true serving = Config serving
+
+-- what a serve asks for, by the flag `--print-config`, where each value is within its limits
+abbrev pub serve_of : List Row → Option Request
+serve_of rows = option_map (serve_by (is_set (codes "print-config") rows)) (serving_of rows)
+
 -- the request that a subcommand with these flags and options stands for; nothing, where a value isn't within its limits
 abbrev pub request_named : Text → List Row → Option Request
 request_named name rows =
@@ -155,7 +168,7 @@ request_named name rows =
     else (if bytes_eq name (codes "audit") then audit_of rows
     else (if bytes_eq name (codes "show") then option_map Show (view_of rows)
     else (if bytes_eq name (codes "load") then load_of rows
-    else (if bytes_eq name (codes "serve") then option_map Serve (serving_of rows) else None))))
+    else (if bytes_eq name (codes "serve") then serve_of rows else None))))
 
 -- what is wrong with the values of a subcommand's options: one isn't within its limits, so that they stand for no request
 abbrev pub value_kinds : Option (Text × List Row) → Kinds
@@ -192,6 +205,85 @@ abbrev pub serve_words : Text → Text → Text → Text → List Text → List 
 serve_words program port accept workers more =
     program ∷ codes "serve" ∷ codes "--port" ∷ port ∷ codes "--accept" ∷ accept ∷ codes "--workers" ∷ workers ∷ more
 
+-- the words between the spaces and line feeds of a text
+abbrev pub words_between : Text → List Text
+words_between text = filter (λ word. not (nat_eq (length word) 0)) (slice_split (λ b. b == 32 || b == 10) text)
+
+-- a serve of one port, with what holds of the options that aren't given
+abbrev pub usual_serve : AskedServe
+usual_serve =
+    record {
+      port = 6346;
+      accept = 128;
+      workers = 64;
+      servent = Given (record { 0 = 71 ∷ 71 ∷ 71 ∷ 71 ∷ 71 ∷ 71 ∷ 71 ∷ 71 ∷ 71 ∷ 71 ∷ 71 ∷ 71 ∷ 71 ∷ 71 ∷ 71 ∷ 71 ∷ [] });
+      files = 0;
+      kilobytes = 0;
+      peers = [];
+      idle = 0;
+      retry = 0;
+      batch = 64;
+      numbers = record {
+        neighbours = 64;
+        seen = 4096;
+        servents = 1024;
+        stage = 1024;
+        out = 1024;
+        steps = 1000000;
+        life = 0;
+        crowd = 0;
+      };
+      seconds = 0;
+      grace = 5;
+      early = false;
+      until_eof = false;
+      keeps = false;
+      times = false;
+      links = false;
+      report = false;
+      progress = false;
+    }
+
+-- a serve of which each option is given
+abbrev pub full_serve : AskedServe
+full_serve =
+    record {
+      port = 65535;
+      accept = 0;
+      workers = 1;
+      servent = Random;
+      files = 4294967295;
+      kilobytes = 70;
+      peers =
+          record { ip = 127 ∷ 0 ∷ 0 ∷ 1 ∷ []; port = 6347 } ∷ record { ip = 127 ∷ 255 ∷ 0 ∷ 13 ∷ []; port = 1 } ∷ [];
+      idle = 86400;
+      retry = 7;
+      batch = 1024;
+      numbers = record {
+        neighbours = 2;
+        seen = 65536;
+        servents = 8;
+        stage = 16;
+        out = 32;
+        steps = 99;
+        life = 255;
+        crowd = 3;
+      };
+      seconds = 10;
+      grace = 3600;
+      early = true;
+      until_eof = true;
+      keeps = true;
+      times = true;
+      links = true;
+      report = true;
+      progress = true;
+    }
+
+-- the words that are written of a serve, behind the program's name and the command's
+abbrev pub written_words : Text → AskedServe → List Text
+written_words program serving = program ∷ codes "serve" ∷ words_between (config_text serving)
+
 -- plain words are read as they say, whatever the program's name is; and a value that isn't within its limits is a mistake in
 -- the value of an option
 pub record PlainWordsAreRead : Type 0 where
@@ -212,39 +304,14 @@ pub record PlainWordsAreRead : Type 0 where
   pub short : (program : Text) → request_of (program ∷ codes "load" ∷ codes "-w" ∷ codes "4" ∷ []) ≡ Some (Load 4)
   pub none : (program : Text) → kinds_of (load_words program (codes "0")) ≡ ValueValidation ∷ []
   pub many : (program : Text) → kinds_of (load_words program (codes "65")) ≡ ValueValidation ∷ []
-  -- a serve of one port, with what holds of the options that aren't given
   pub serve : (program : Text) → request_of (serve_words program (codes "6346") (codes "128") (codes "64") [])
-      ≡ Some (Serve (record {
-        port = 6346;
-        accept = 128;
-        workers = 64;
-        servent = Given (record { 0 = 71 ∷ 71 ∷ 71 ∷ 71 ∷ 71 ∷ 71 ∷ 71 ∷ 71 ∷ 71 ∷ 71 ∷ 71 ∷ 71 ∷ 71 ∷ 71 ∷ 71 ∷ 71 ∷ [] });
-        files = 0;
-        kilobytes = 0;
-        peers = [];
-        idle = 0;
-        retry = 0;
-        batch = 64;
-        numbers = record {
-          neighbours = 64;
-          seen = 4096;
-          servents = 1024;
-          stage = 1024;
-          out = 1024;
-          steps = 1000000;
-          life = 0;
-          crowd = 0;
-        };
-        seconds = 0;
-        grace = 5;
-        early = false;
-        until_eof = false;
-        keeps = false;
-        times = false;
-        links = false;
-        report = false;
-        progress = false;
-      }))
+      ≡ Some (Serve usual_serve)
+  pub config : (program : Text)
+      → request_of (serve_words program (codes "6346") (codes "128") (codes "64") (codes "--print-config" ∷ []))
+      ≡ Some (Config usual_serve)
+  -- what is then written is read as that very serve, and so is what is written of one with each option
+  pub written : (program : Text) → request_of (written_words program usual_serve) ≡ Some (Serve usual_serve)
+  pub full : (program : Text) → request_of (written_words program full_serve) ≡ Some (Serve full_serve)
   pub no_port : (program : Text)
       → kinds_of (serve_words program (codes "0") (codes "1") (codes "1") []) ≡ ValueValidation ∷ []
   pub accepts : (program : Text)

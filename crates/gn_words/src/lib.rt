@@ -2,6 +2,7 @@
 #![tactic(auto)]
 
 mod audit;
+mod config;
 mod help;
 mod load;
 mod numbers;
@@ -14,5 +15,6 @@ mod show;
 mod unread;
 mod words;
 
+pub use config::config_text;
 pub use request::{Peer, Request, ServeOptions, Servent};
 pub use words::{plain_words_are_read, read_words};

@@ -26,6 +26,8 @@ pub enum Request {
     Watched(u32),
     /// A router is run over TCP, and its history is written.
     Serve(ServeOptions),
+    /// The options of such a run are written.
+    Config(ServeOptions),
 }
 
 /// A peer on this machine, which is called.

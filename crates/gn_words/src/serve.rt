@@ -5,11 +5,11 @@ ghost use Rattle.clap.specs.Words.{app_of, found_of, rows_of};
 ghost use Rattle.clap.specs.declared.builder.command.Command.TheViews.{out-Command as fields_of};
 ghost use Rattle.gn_rules.specs.Limits.{AreWithin, most};
 ghost use Rattle.gn_words.specs.Options.{IsReadAs, number_asked, numbers_of, servent_in, servent_of, serving_of, times_of};
-ghost use Rattle.gn_words.specs.Words.{quiet_app, serve_app};
+ghost use Rattle.gn_words.specs.Words.{quiet_app, serve_app, serve_of};
 
 use crate::numbers::{NumberOption, WORKERS, WORKERS_ROW, asked};
 use crate::peers::peers_of;
-use crate::request::{ServeOptions, Servent};
+use crate::request::{Request, ServeOptions, Servent};
 use crate::rows::{OptionRow, Takes, with_options};
 use crate::unread::Unread;
 use crate::words::{is_set, leaf};
@@ -27,7 +27,7 @@ const USAGE: &str =
                 [--peer IP:PORT].. [--idle SECONDS] [--retry SECONDS] [--batch N] [--neighbours N]
                 [--remembered N] [--servents N] [--stage N] [--queue N] [--life L] [--crowd Q]
                 [--steps N] [--for SECONDS] [--grace SECONDS] [--stop-early] [--until-eof]
-                [--keep-history] [--times] [--links] [--report] [--progress]";
+                [--keep-history] [--times] [--links] [--report] [--progress] [--print-config]";
 
 /// What it does, how it ends, and what it prints, with an example.
 const TEXTS: &str = "\
@@ -235,7 +235,7 @@ read and not looked at",
 ];
 
 /// What is printed in and beside its history.
-const OUTPUT: [OptionRow; 5] = [
+const OUTPUT: [OptionRow; 6] = [
     OptionRow {
         name: "keep-history",
         letter: None,
@@ -276,6 +276,14 @@ the run has ended",
 Writes on standard error each link that comes or ends, once a second how
 far the router is, and at a half and nine tenths of its most steps which
 link offered most",
+    },
+    OptionRow {
+        name: "print-config",
+        letter: None,
+        takes: Takes::Nothing,
+        help: "\
+Prints these options and runs no router: one a line, each with its value, as
+`gn serve $(cat FILE)` takes them again",
     },
 ];
 
@@ -534,7 +542,7 @@ fn times_of(options: &ArgMatches<'_>) -> Result<Times, Unread>
 }
 
 /// What the options of a serve ask for, where each is within its limits.
-pub(crate) fn serving_of(alloc: Global, options: &ArgMatches<'_>) -> Result<ServeOptions, Unread>
+fn serving_of(alloc: Global, options: &ArgMatches<'_>) -> Result<ServeOptions, Unread>
     ensures { IsReadAs (λ s. s) (serving_of (rows_of (found_of options.now))) result }
 {
     let port = port_of(options)?;
@@ -569,4 +577,16 @@ pub(crate) fn serving_of(alloc: Global, options: &ArgMatches<'_>) -> Result<Serv
         report: is_set(options, "report"),
         progress: is_set(options, "progress"),
     })
+}
+
+/// What a serve with these options asks for; a mistake, where a value isn't within its limits.
+pub(crate) fn serve_of(alloc: Global, options: &ArgMatches<'_>) -> Result<Request, Unread>
+    ensures { IsReadAs (λ r. r) (serve_of (rows_of (found_of options.now))) result }
+{
+    let serving = serving_of(alloc, options)?;
+    if is_set(options, "print-config") {
+        Ok(Request::Config(serving))
+    } else {
+        Ok(Request::Serve(serving))
+    }
 }

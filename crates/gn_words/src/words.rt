@@ -14,7 +14,7 @@ use crate::help;
 use crate::load::{load_command, load_of};
 use crate::replay::{replay_command, replay_of};
 use crate::request::Request;
-use crate::serve::{serve_command, serving_of};
+use crate::serve::{serve_command, serve_of};
 use crate::show::{show_command, view_of};
 use crate::unread::Unread;
 use clap::error::ErrorKind;
@@ -117,7 +117,7 @@ fn request_named(alloc: Global, name: &str, options: &ArgMatches<'_>) -> Result<
         "audit" => audit_of(options),
         "show" => Ok(Request::Show(view_of(options)?)),
         "load" => load_of(options),
-        "serve" => Ok(Request::Serve(serving_of(alloc, options)?)),
+        "serve" => serve_of(alloc, options),
         _ => Err(Unread::Mistake("there is no such subcommand")),
     }
 }

@@ -1,0 +1,97 @@
+-- The words of a serve, as they are printed: an option a line, each with its value.
+use Rattle.std.specs.Prelude.{◌∷◌, ◌++◌, ℕ, Bool, false, true, List, [], codes, decimal}
+use Rattle.clap.specs.Words.{Text}
+use Rattle.gn_rules.specs.declared.limits.Numbers.{Numbers}
+use Rattle.gn_text.specs.Addresses.{ip_text}
+use Rattle.gn_words.specs.ServeOptions.{AskedServe}
+use Rattle.gn_words.specs.declared.request.Peer.{Peer}
+use Rattle.gn_words.specs.declared.request.Servent.{Servent}
+use Rattle.gn_words.specs.declared.request.Servent.TheVariants.{Given, Random}
+use Rattle.hex.specs.Hex.{encode_lower}
+
+-- an option with its value
+abbrev pub option_line : Text → Text → Text
+option_line name value = codes "--" ++ name ++ codes " " ++ value ++ codes "\n"
+
+-- options that take a number, with theirs
+abbrev pub numbers_lines : List (Text × ℕ) → Text
+numbers_lines [] = []
+numbers_lines ((name, number) ∷ more) = option_line name (decimal number) ++ numbers_lines more
+
+-- a flag; nothing, where it isn't set
+abbrev pub flag_line : Text → Bool → Text
+flag_line name false = []
+flag_line name true = codes "--" ++ name ++ codes "\n"
+
+-- flags that may be set
+abbrev pub flags_lines : List (Text × Bool) → Text
+flags_lines [] = []
+flags_lines ((name, is_set) ∷ more) = flag_line name is_set ++ flags_lines more
+
+-- who a router is
+abbrev pub servent_text : Servent → Text
+servent_text (Given id) = encode_lower id.0
+servent_text Random = codes "random"
+
+-- the option that says who the router is
+abbrev pub servent_line : AskedServe → Text
+servent_line serving = option_line (codes "servent") (servent_text serving.servent)
+
+-- a peer that is called
+abbrev pub peer_text : Peer → Text
+peer_text peer = ip_text peer.ip ++ codes ":" ++ decimal peer.port
+
+-- the peers that are called
+abbrev pub peers_lines : List Peer → Text
+peers_lines [] = []
+peers_lines (peer ∷ more) = option_line (codes "peer") (peer_text peer) ++ peers_lines more
+
+-- what has to be given
+abbrev pub given_lines : AskedServe → Text
+given_lines serving = numbers_lines
+    ((codes "port", serving.port) ∷ (codes "accept", serving.accept) ∷ (codes "workers", serving.workers) ∷ [])
+
+-- what the own Pongs say that the router shares
+abbrev pub shared_lines : AskedServe → Text
+shared_lines serving = numbers_lines ((codes "files", serving.files) ∷ (codes "kilobytes", serving.kilobytes) ∷ [])
+
+-- when a peer is given up, and how much is done at once
+abbrev pub patience_lines : AskedServe → Text
+patience_lines serving =
+    numbers_lines ((codes "idle", serving.idle) ∷ (codes "retry", serving.retry) ∷ (codes "batch", serving.batch) ∷ [])
+
+-- the numbers of the rules
+abbrev pub rules_lines : Numbers → Text
+rules_lines numbers = numbers_lines
+    ((codes "neighbours", numbers.neighbours)
+    ∷ (codes "remembered", numbers.seen)
+    ∷ (codes "servents", numbers.servents)
+    ∷ (codes "stage", numbers.stage)
+    ∷ (codes "queue", numbers.out)
+    ∷ (codes "life", numbers.life)
+    ∷ (codes "crowd", numbers.crowd)
+    ∷ (codes "steps", numbers.steps)
+    ∷ [])
+
+-- what stops the router, and how long it then has
+abbrev pub end_lines : AskedServe → Text
+end_lines serving = numbers_lines ((codes "for", serving.seconds) ∷ (codes "grace", serving.grace) ∷ [])
+
+-- the flags that are set
+abbrev pub set_lines : AskedServe → Text
+set_lines serving = flags_lines
+    ((codes "stop-early", serving.early)
+    ∷ (codes "until-eof", serving.until_eof)
+    ∷ (codes "keep-history", serving.keeps)
+    ∷ (codes "times", serving.times)
+    ∷ (codes "links", serving.links)
+    ∷ (codes "report", serving.report)
+    ∷ (codes "progress", serving.progress)
+    ∷ [])
+
+-- all words of a serve behind `gn serve`, in the order in which help has them
+abbrev pub config_text : AskedServe → Text
+config_text serving =
+    given_lines serving ++ servent_line serving ++ shared_lines serving
+    ++ peers_lines serving.peers ++ patience_lines serving ++ rules_lines serving.numbers ++ end_lines serving
+    ++ set_lines serving
