@@ -8,4 +8,4 @@ mod trail;
 
 pub use streams::{read_told, write_told};
 pub use told::Told;
-pub use trail::Trail;
+pub use trail::{Tells, Trail};
