@@ -2,7 +2,7 @@
 
 ghost use Rattle.std.specs.Prelude.{◌≡◌, ◌∷◌, ◌++◌, [], Ok, length, reverse, IfErr, IfOk, OnErr, OnOk};
 ghost use Rattle.gn_rules.specs.Answer as rules;
-ghost use Rattle.gn_rules.specs.declared.event.Event.TheVariants.{Take};
+ghost use Rattle.gn_rules.specs.declared.event.Event.TheVariants.{Route, Take};
 ghost use Rattle.gn_rules.specs.declared.refusal.Refusal.TheVariants.{NoMemory};
 ghost use Rattle.gn_rules.specs.declared.reply.Reply.TheVariants.{Taken};
 
@@ -12,8 +12,8 @@ use crate::store::{FreshStore, StepStore, Store};
 use gn_decide::{Found, Places, Plan, plan_checked, plan_of};
 use gn_payload::Checked;
 use gn_rules::{
-    Config, ConnId, Event, FreshRouter, Historian, Receipt, Refusal, Reply, RouterCore, Stats,
-    Step, Ticket,
+    Config, ConnId, Event, Excerpt, FreshRouter, Historian, Receipt, Refusal, Reply, RouterCore,
+    Stats, Step, Ticket,
 };
 use gn_wire::Descriptor;
 use std::alloc::{AllocError, Allocator, Global};
@@ -64,6 +64,32 @@ impl<S: Store<A>, A: Allocator + Copy> Router<S, A> {
         self.store
             .follow(self.alloc, actor, places, &mut event, &mut reply)?;
         Ok(receipt)
+    }
+
+    /// Makes the step of a Route and the rules' reply the last, and gives an excerpt of the reply. An `Err` is out of memory, and
+    /// changes nothing.
+    #[inline(always)]
+    fn record_route<E: Excerpt<A>>(
+        &mut self,
+        actor: u32,
+        places: Places,
+        ticket: Ticket,
+        reply: Reply<A>,
+    ) -> Result<E, Refusal>
+        requires { rules.answer (S.settings self.old.store) (reverse (S.steps self.old.store)) (Route ticket)
+            ≡ Ok reply }
+        ensures told { IfOk result (λ told. E.tells told reply) }
+        ensures step { OnOk result (S.steps self.new.store
+            ≡ S.steps self.old.store ++ record { actor = actor; event = Route ticket; reply = reply } ∷ []) }
+        ensures refusal { IfErr result (λ refusal. refusal ≡ NoMemory) }
+        ensures err { OnErr result (S.steps self.new.store ≡ S.steps self.old.store) }
+        ensures settings { S.settings self.new.store ≡ S.settings self.old.store }
+    {
+        let (mut event, mut reply) = (Event::Route(ticket), reply);
+        let told = E::of(&reply);
+        self.store
+            .follow(self.alloc, actor, places, &mut event, &mut reply)?;
+        Ok(told)
     }
 
     /// Makes the step of a Take the last, of whose packet this is a copy, and gives its receipt. An `Err` is out of memory, and
@@ -180,6 +206,26 @@ impl<S: Store<A>, A: Allocator + Copy> RouterCore<A> for Router<S, A> {
             plan => {
                 let reply = reply_of(self.alloc, &self.store, plan)?;
                 self.record(actor, places, event, reply)
+            }
+        }
+    }
+
+    #[inline(always)]
+    fn pass<E: Excerpt<A>>(
+        &mut self,
+        actor: u32,
+        ticket: Ticket,
+        checked: &Checked<A>,
+    ) -> Result<E, Refusal> {
+        let Found { plan, places } = plan_checked(&self.store, ticket, checked)?;
+        match plan {
+            Plan::Routed(outgoing, local) => {
+                let sends = sends_of(self.alloc, &self.store, &outgoing)?;
+                self.record_route(actor, places, ticket, Reply::Routed { sends, local })
+            }
+            plan => {
+                let reply = reply_of(self.alloc, &self.store, plan)?;
+                self.record_route(actor, places, ticket, reply)
             }
         }
     }

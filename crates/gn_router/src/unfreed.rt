@@ -4,8 +4,8 @@ ghost use Rattle.std.specs.Mem.{manually_drop_value};
 
 use gn_payload::Checked;
 use gn_rules::{
-    Config, ConnId, Event, FreshRouter, Historian, Receipt, Refusal, Reply, RouterCore, Stats,
-    Step, Ticket,
+    Config, ConnId, Event, Excerpt, FreshRouter, Historian, Receipt, Refusal, Reply, RouterCore,
+    Stats, Step, Ticket,
 };
 use std::alloc::{AllocError, Allocator};
 use std::mem::ManuallyDrop;
@@ -49,6 +49,15 @@ impl<A: Allocator + Copy, C: RouterCore<A> + Drop> RouterCore<A> for Unfreed<C> 
         checked: &Checked<A>,
     ) -> Result<Receipt<A>, Refusal> {
         self.router.route(actor, ticket, checked)
+    }
+
+    fn pass<E: Excerpt<A>>(
+        &mut self,
+        actor: u32,
+        ticket: Ticket,
+        checked: &Checked<A>,
+    ) -> Result<E, Refusal> {
+        self.router.pass(actor, ticket, checked)
     }
 
     fn config(&self) -> &Config {

@@ -3,6 +3,7 @@
 
 mod config;
 mod event;
+mod excerpt;
 mod fresh;
 mod historian;
 mod laws;
@@ -20,6 +21,7 @@ mod statistics;
 
 pub use config::{BadConfig, Config, Field, Own};
 pub use event::{ConnId, Event, Ticket};
+pub use excerpt::Excerpt;
 pub use fresh::FreshRouter;
 pub use historian::Historian;
 pub use laws::{

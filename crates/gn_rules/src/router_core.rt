@@ -13,6 +13,7 @@ ghost use Rattle.gn_rules.specs.declared.reply.Reply.{Reply};
 
 use crate::config::Config;
 use crate::event::{ConnId, Event, Ticket};
+use crate::excerpt::Excerpt;
 use crate::receipt::{Receipt, Step};
 use crate::refusal::Refusal;
 use crate::reply::Reply;
@@ -85,6 +86,28 @@ pub trait RouterCore<A: Allocator + Copy> {
         ensures event { IfOk result (λ receipt. receipt.event ≡ Route ticket) }
         ensures err { OnErr result (steps self.new ≡ steps self.old) }
         ensures settings { settings self.new ≡ settings self.old };
+
+    /// As `route`, without a receipt: its caller gets an excerpt of the reply.
+    fn pass<E: Excerpt<A>>(
+        &mut self,
+        actor: u32,
+        ticket: Ticket,
+        checked: &Checked<A>,
+    ) -> Result<E, Refusal>
+        ensures step { OnOk result ((reply : Reply A)
+            × (checked_answer (settings self.old) (reverse (steps self.old)) ticket checked.now ≡ Ok reply)
+            × (steps self.new ≡ steps self.old ++ record { actor = actor; event = Route ticket; reply = reply } ∷ [])) }
+        ensures told { IfOk result (λ told. (reply : Reply A)
+            → checked_answer (settings self.old) (reverse (steps self.old)) ticket checked.now ≡ Ok reply
+            → E.tells told reply) }
+        ensures refusal { IfErr result (λ refusal. Finds (Err refusal)
+            (checked_answer (settings self.old) (reverse (steps self.old)) ticket checked.now)) }
+        ensures err { OnErr result (steps self.new ≡ steps self.old) }
+        ensures settings { settings self.new ≡ settings self.old }
+    {
+        let receipt = self.route(actor, ticket, checked)?;
+        Ok(E::of(&receipt.reply))
+    }
 
     /// The configuration that it was made with.
     fn config(&self) -> &Config

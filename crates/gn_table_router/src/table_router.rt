@@ -8,8 +8,8 @@ use crate::store::TableStore;
 use gn_payload::Checked;
 use gn_router::Router;
 use gn_rules::{
-    Config, ConnId, Event, FreshRouter, Historian, Receipt, Refusal, Reply, RouterCore, Stats,
-    Step, Ticket,
+    Config, ConnId, Event, Excerpt, FreshRouter, Historian, Receipt, Refusal, Reply, RouterCore,
+    Stats, Step, Ticket,
 };
 use gn_tables::{Forgetful, Keeper, Whole};
 use std::alloc::{AllocError, Allocator, Global};
@@ -61,6 +61,16 @@ impl<A: Allocator + Copy, K: Keeper<A>, N: Configuring> RouterCore<A> for TableR
         checked: &Checked<A>,
     ) -> Result<Receipt<A>, Refusal> {
         self.router.route(actor, ticket, checked)
+    }
+
+    #[inline(always)]
+    fn pass<E: Excerpt<A>>(
+        &mut self,
+        actor: u32,
+        ticket: Ticket,
+        checked: &Checked<A>,
+    ) -> Result<E, Refusal> {
+        self.router.pass(actor, ticket, checked)
     }
 
     fn config(&self) -> &Config {
