@@ -1,4 +1,5 @@
 pub mod FitLemmas
 pub mod HomeLemmas
+pub mod LastLemmas
 pub mod Steps
 pub mod TallyLemmas

@@ -6,8 +6,13 @@ use Rattle.std.proofs.lemmas.Bool.{and_parts, ltb-false, not-true}
 use Rattle.std.proofs.lemmas.List.Sums.{sum_by_push, count_by-le-length}
 use Rattle.gn_rules.specs.declared.receipt.Receipt.{Receipt}
 use Rattle.gn_rules.specs.declared.receipt.Step.{Step}
+use Rattle.gn_rules.specs.declared.event.Event.TheVariants.{Route}
+use Rattle.gn_rules.specs.declared.reply.Reply.{Reply}
+use Rattle.gn_rules.specs.declared.reply.Reply.TheVariants as kind
+use Rattle.gn_rules.specs.Fits.{replies}
 use Rattle.gn_rules.specs.History.{connected_of, step_of}
 use Rattle.gn_laws.specs.Owners.{AreFitting, indices_ascend, known_conn}
+use Rattle.gn_actors.specs.ActorState.{receipt}
 use Rattle.gn_actors.specs.Tallies.{HasRoom, is_offer, is_refusal, is_taking, last_place, tally_of, tally_with}
 use Rattle.gn_actors.specs.declared.tally.Tally.{Tally}
 
@@ -45,6 +50,25 @@ tally_push {A} rs r =
     let more = tally_with before r in
     told_is all.connection more.connection all.offered more.offered all.busy more.busy all.taken more.taken (known_push rs r)
     (count_push (λ (r : Receipt A). is_offer r.event) rs r) (count_push (λ (r : Receipt A). is_refusal r.reply) rs r) (count_push (λ (r : Receipt A). is_taking r.reply) rs r)
+
+no_more : (n : ℕ) → n + 0 ≡ n
+no_more n = omega arith
+
+told_same : (t : Tally) → told (option_or t.connection None) (t.offered + 0) (t.busy + 0) (t.taken + 0) ≡ t
+told_same t = told_is (option_or t.connection None) t.connection (t.offered + 0) t.offered (t.busy + 0) t.busy (t.taken + 0) t.taken (or_none t.connection) (no_more t.offered) (no_more t.busy) (no_more t.taken)
+
+-- a Route's receipt counts nothing
+pub tally_route : {A : Type 0} (t : Tally) (index ticket : ℕ) (reply : Reply A) → replies {A = A} (Route ticket) reply ≡ true → tally_with t (receipt index (Route ticket) reply) ≡ t
+tally_route t index ticket (kind.Connected c) fits = absurd (cc)
+tally_route t index ticket kind.TooMany fits = absurd (cc)
+tally_route t index ticket (kind.Closed n) fits = absurd (cc)
+tally_route t index ticket (kind.Admitted u) fits = absurd (cc)
+tally_route t index ticket kind.Busy fits = absurd (cc)
+tally_route t index ticket kind.Crowded fits = absurd (cc)
+tally_route t index ticket (kind.Routed sends local) fits = told_same t
+tally_route t index ticket (kind.Dropped reason) fits = told_same t
+tally_route t index ticket (kind.Taken packet) fits = absurd (cc)
+tally_route t index ticket (kind.Sent sends) fits = absurd (cc)
 
 -- receipts whose indices ascend from i, all below n, are at most so many
 few : {A : Type 0} (i n : ℕ) (rs : List (Receipt A)) → i ≤ n → indices_ascend i rs ≡ true → ((j : ℕ) (d : Receipt A) → j < length rs → (get_or rs j d).index < n) → i + length rs ≤ n

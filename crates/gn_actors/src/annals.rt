@@ -1,13 +1,15 @@
 //! The steps of a run: how many by the ledger, and which, as only proofs read.
 
-ghost use Rattle.std.specs.Prelude.{◌≡◌, ◌+◌, [], length};
+ghost use Rattle.std.specs.Prelude.{◌≡◌, ◌+◌, ℕ, [], length};
 ghost use mathlib.Core.List.{IsPrefix};
 ghost use Rattle.gn_actors.specs.ActorState.{with_receipt};
-ghost use Rattle.gn_actors.specs.Annals.{IsStepped};
+ghost use Rattle.gn_rules.specs.declared.reply.Reply.{Reply};
+ghost use Rattle.gn_actors.specs.Annals.{IsRouted, IsStepped, last_receipt};
 
 use crate::actor::Actor;
 use crate::growing::{Beginning, Growing, Lists, Named, Unnamed};
 use gn_rules::{Receipt, RouterCore, Step};
+use gn_trail::Tells;
 use std::alloc::{Allocator, Global};
 use std::marker::Model;
 use std::sync::ledger::{Blank, Book, Ledger, Share};
@@ -17,6 +19,13 @@ pub(crate) struct StepsOf;
 
 impl<C: RouterCore<A>, A: Allocator + Copy> Lists<C, Step<A>> for StepsOf {
     ghost list = { λ core. C.steps core };
+}
+
+/// A router tells the last of its steps, as its actor's receipt.
+struct LastStep;
+
+impl<C: RouterCore<A>, A: Allocator + Copy> Tells<C, Receipt<A>> for LastStep {
+    ghost told = { λ core. last_receipt (C.steps core) };
 }
 
 /// What the annals of a run are opened from: a ledger and a list of steps, which no type stands for yet.
@@ -93,6 +102,26 @@ impl<L: Ledger + Named, A: Allocator + Copy> Annals<L, A> {
         book.add(share, 1);
         *last = place_after(receipt);
         *tally = tally.with(receipt);
+    }
+
+    /// An actor made the last of the router's steps, a Route, of which nobody has the receipt.
+    pub fn record_route<C: RouterCore<A>>(&mut self, me: &mut Actor<L, A>, core: &C)
+        requires { (ticket : ℕ) × (reply : Reply A) × IsRouted self.old (C.steps core.now) me.old ticket reply }
+        ensures steps { self.new ≡ C.steps core.now }
+        ensures actor { me.new ≡ with_receipt me.old (last_receipt (C.steps core.now)) }
+    {
+        let Annals { book, steps, .. } = self;
+        let Actor {
+            last,
+            receipts,
+            seen,
+            share,
+            ..
+        } = me;
+        *receipts = receipts.and_of::<C, LastStep>(core);
+        steps.record::<C, StepsOf>(seen, core);
+        book.add(share, 1);
+        *last = u64::from(core.step_count());
     }
 
     /// The steps so far, for who wants to know of them later.
