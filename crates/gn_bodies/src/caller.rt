@@ -113,16 +113,12 @@ impl<'s, G: Gate, B: Ledger + Named, C: RouterCore<A> + Drop, R: Wait, A: Alloca
         }
     }
 
-    /// As `call_all`, of the routes of jobs that were checked.
-    pub(crate) fn route_all(
-        &mut self,
-        jobs: &[(Ticket, Checked<A>)],
-        kept: &mut Vec<Receipt<A>, A>,
-    ) -> Progress
+    /// As `call_all`, of the routes of jobs that were checked, whose receipts nobody needs.
+    pub(crate) fn route_all(&mut self, jobs: &[(Ticket, Checked<A>)]) -> Progress
         requires some { 0 < length jobs.now }
         ensures made { HasProgressed (map (λ job. Route job.0) jobs.now) result self.old self.new }
     {
-        self.service.route_all(self.rt, &mut self.actor, jobs, kept)
+        self.service.route_all(self.rt, &mut self.actor, jobs)
     }
 
     /// Connects the link of a reader that has no receipts yet. The connection, or none where too many are live.

@@ -12,7 +12,7 @@ use gn_actors::Named;
 use gn_hub::{Actor, Batch, Progress};
 use gn_links::Gate;
 use gn_payload::Checked;
-use gn_rules::{Receipt, RouterCore, Ticket};
+use gn_rules::{RouterCore, Ticket};
 use gn_stage::{Job, Outlet, OutletHome, Site};
 use std::alloc::{AllocError, Allocator, Global};
 use std::sync::Wait;
@@ -33,7 +33,7 @@ pub struct WorkerTask<B: Site + Ledger + Named, A: Allocator = Global> {
     pub outlet: Outlet<B, A>,
 }
 
-/// A worker at work: its actor's calls, its outlet, the jobs that it has taken and checked, and what it lends to its calls.
+/// A worker at work: its actor's calls, its outlet, and the jobs that it has taken and checked.
 #[derive(Drop)]
 struct WorkerHandler<
     's,
@@ -46,7 +46,6 @@ struct WorkerHandler<
     caller: Caller<'s, G, B, C, R, A>,
     outlet: Outlet<B, A>,
     jobs: Vec<(Ticket, Checked<A>), A>,
-    kept: Vec<Receipt<A>, A>,
 }
 
 impl<
@@ -119,7 +118,7 @@ impl<
             if !any {
                 return end;
             }
-            if let Err(fault) = self.caller.route_jobs(self.jobs.as_slice(), &mut self.kept) {
+            if let Err(fault) = self.caller.route_jobs(self.jobs.as_slice()) {
                 if fault.is_stop() {
                     return Err(fault);
                 }
@@ -138,21 +137,16 @@ impl<'s, G: Gate, B: Ledger + Named, C: RouterCore<A> + Drop, R: Wait, A: Alloca
     R,
     A,
 > {
-    /// Routes the first of these jobs in one hold of the lock; the receipts are put in place of those that are lent, and dropped once it
-    /// is let go. How many it went through: the last of them may have been refused, and made no step.
-    fn route_some(
-        &mut self,
-        jobs: &[(Ticket, Checked<A>)],
-        kept: &mut Vec<Receipt<A>, A>,
-    ) -> (usize, Result<(), BodyFault>)
+    /// Routes the first of these jobs in one hold of the lock. How many it went through: the last of them may have been refused, and
+    /// made no step.
+    fn route_some(&mut self, jobs: &[(Ticket, Checked<A>)]) -> (usize, Result<(), BodyFault>)
         requires some { 0 < length jobs.now }
         ensures number { self.new.number ≡ self.old.number }
         ensures routes { link_events self.new ≡ link_events self.old }
         ensures some { (0 < result.0) × (result.0 ≤ length jobs.now) }
         ensures each { OnOk result.1 (events_of self.new ≡ events_of self.old ++ routes_by (take result.0 jobs.now)) }
     {
-        let Progress { done, refusal } = self.route_all(jobs, kept);
-        kept.clear();
+        let Progress { done, refusal } = self.route_all(jobs);
         match refusal {
             None => (done, Ok(())),
             Some(refusal) => (done + 1, Err(BodyFault::from(refusal))),
@@ -160,11 +154,7 @@ impl<'s, G: Gate, B: Ledger + Named, C: RouterCore<A> + Drop, R: Wait, A: Alloca
     }
 
     /// Routes these jobs in order, in as few holds of the lock as there is room for. A job that is refused its route makes no step.
-    fn route_jobs(
-        &mut self,
-        jobs: &[(Ticket, Checked<A>)],
-        kept: &mut Vec<Receipt<A>, A>,
-    ) -> Result<(), BodyFault>
+    fn route_jobs(&mut self, jobs: &[(Ticket, Checked<A>)]) -> Result<(), BodyFault>
         ensures number { self.new.number ≡ self.old.number }
         ensures routes { link_events self.new ≡ link_events self.old }
         ensures each { OnOk result (events_of self.new ≡ events_of self.old ++ routes_by jobs.now) }
@@ -172,7 +162,7 @@ impl<'s, G: Gate, B: Ledger + Named, C: RouterCore<A> + Drop, R: Wait, A: Alloca
         let mut end: Result<(), BodyFault> = Ok(());
         let mut at: usize = 0;
         while at < jobs.len() {
-            let (count, answer) = self.route_some(&jobs[at..], kept);
+            let (count, answer) = self.route_some(&jobs[at..]);
             at += count;
             match answer {
                 Ok(()) => {}
@@ -208,12 +198,11 @@ pub fn worker_body<
         (routes_of result.home.jobs ≡ routes_of task.outlet.jobs ++ events_of result.actor) }
 {
     let WorkerTask { batch, outlet } = task;
-    let (jobs, kept) = (Vec::new(caller.alloc), Vec::new(caller.alloc));
+    let jobs = Vec::new(caller.alloc);
     let mut me = WorkerHandler {
         caller,
         outlet,
         jobs,
-        kept,
     };
     let end = me.route_all(batch);
     let WorkerHandler { caller, outlet, .. } = me;

@@ -2,7 +2,7 @@
 use Rattle.std.proofs.Common.{◌≡◌, ℕ, true, length, Bool, false, ◌==◌, cond, not, Option, Some, None, Result, Ok, Err, refl, sym, subst, ap, ◌∙◌}
 use Rattle.gn_wire.specs.Packet.{Packet}
 use Rattle.gn_rules.specs.declared.event.Event.{Event}
-use Rattle.gn_rules.specs.declared.event.Event.TheVariants.{Close, Take}
+use Rattle.gn_rules.specs.declared.event.Event.TheVariants.{Close, Route, Take}
 use Rattle.gn_rules.specs.declared.receipt.Receipt.{Receipt}
 use Rattle.gn_rules.specs.declared.refusal.Refusal.{Refusal}
 use Rattle.gn_rules.specs.declared.refusal.Refusal.TheVariants.{HistoryFull, NotLive, NoTicket, Strange, NothingWaiting, BadOrigin, Remembered, NoMemory}
@@ -107,6 +107,10 @@ receipt_fits answer event before after me us fit (reply, replied, made, got) = (
 
 pub this_fits : {A : Type 0} (answer : Result (Reply A) Refusal) (event : Event A) (r : Receipt A) (me us : ActorState A) → is_fit event answer ≡ true → HasGot answer event r me us → HasThis event r me us
 this_fits answer event r me us fit (replied, of, got) = (subst (λ a. is_fit event a ≡ true) replied fit, got ∙ ap (λ w. with_receipt me w) (receipt_is r r.index event refl of))
+
+pub route_fits : {A : Type 0} (answer : Result (Reply A) Refusal) (ticket : ℕ) (reply : Reply A) → is_fit {A = A} (Route ticket) answer ≡ true → answer ≡ Ok reply
+    → replies {A = A} (Route ticket) reply ≡ true
+route_fits {A} answer ticket reply fit is = subst (λ a. is_fit {A = A} (Route ticket) a ≡ true) is fit
 
 pub refusal_fits : {A : Type 0} (answer : Result (Reply A) Refusal) (event : Event A) (refusal : Refusal) → is_fit event answer ≡ true → IsRefusal refusal answer → refuses event refusal ≡ true
 refusal_fits answer event HistoryFull fit is = refl

@@ -1,11 +1,12 @@
 //! The calls on the hub by what they do to the actor, and whom they may have brought what they wait for.
 
-ghost use Rattle.std.specs.Prelude.{◌≡◌, [], true, false, if◌then◌else◌, Some, None, Ok, Err, IfErr, IfOk, MatchResult};
+ghost use Rattle.std.specs.Prelude.{◌≡◌, [], ℕ, true, false, if◌then◌else◌, Some, None, Ok, Err, IfErr, IfOk, MatchResult};
 ghost use Rattle.gn_rules.specs.declared.event.Event.TheVariants.{Connect, Route};
+ghost use Rattle.gn_rules.specs.declared.reply.Reply.{Reply};
 ghost use Rattle.gn_rules.specs.Fits.{refuses};
 ghost use Rattle.gn_rules.specs.History.{live};
 ghost use Rattle.gn_hub.specs.HubState.{is_closing, past_of};
-ghost use Rattle.gn_hub.specs.ActorState.{with_receipt};
+ghost use Rattle.gn_hub.specs.ActorState.{receipt, with_receipt};
 ghost use Rattle.gn_hub.specs.Receipts.{AreKept, HasClosed, HasDrained, HasReceipt, HasTaken, HasTakenMore, HasTakenSome, HasThis, IsDrainedAt, is_stop};
 ghost use Rattle.gn_hub.specs.Waking.{LeavesOthers, LeavesWaiting, wakes_of};
 ghost use Rattle.gn_hub.specs.declared.wakes.Wakes.TheVariants.{Nobody, Everybody};
@@ -21,7 +22,7 @@ use gn_actors::{Actor, Named};
 use gn_payload::Checked;
 use gn_room::Room;
 use gn_rules::{
-    ConnId, Event, Receipt, Refusal, RouterCore, Ticket, answers_fit, checked_answers_fit,
+    ConnId, Event, Excerpt, Receipt, Refusal, RouterCore, Ticket, answers_fit, checked_answers_fit,
 };
 use std::alloc::Allocator;
 use std::sync::ledger::Ledger;
@@ -93,6 +94,33 @@ impl<C: RouterCore<A>, L: Ledger + Named, A: Allocator + Copy> Hub<C, L, A> {
         match self.route(me, ticket, checked) {
             Ok(receipt) => Answered {
                 answer: Ok(receipt),
+                wakes: self.wakes_at_least(Wakes::Queued),
+            },
+            Err(refusal) => Answered::refused(refusal),
+        }
+    }
+
+    /// `pass`, for the lock.
+    #[inline(always)]
+    pub(crate) fn pass_answered<E: Excerpt<A>>(
+        &mut self,
+        me: &mut Actor<L, A>,
+        ticket: Ticket,
+        checked: &Checked<A>,
+    ) -> Answered<E>
+        ensures answer { MatchResult result.answer
+            (λ _. HasReceipt (Route ticket) me.old me.new)
+            (λ refusal. (refuses {A = A} (Route ticket) refusal ≡ true) × (me.new ≡ me.old)) }
+        ensures told { IfOk result.answer (λ told. (index : ℕ) × (reply : Reply A)
+            × (me.new ≡ with_receipt me.old (receipt index (Route ticket) reply)) × E.tells told reply) }
+        ensures quiet { MatchResult result.answer
+            (λ _. LeavesOthers result.wakes me.new self.old self.new)
+            (λ _. self.new ≡ self.old) }
+    {
+        checked_answers_fit::<A>();
+        match self.pass(me, ticket, checked) {
+            Ok(told) => Answered {
+                answer: Ok(told),
                 wakes: self.wakes_at_least(Wakes::Queued),
             },
             Err(refusal) => Answered::refused(refusal),

@@ -3,7 +3,7 @@
 ghost use Rattle.std.specs.Prelude.{◌<◌};
 
 use crate::wakes::Wakes;
-use gn_rules::{ConnId, Sending};
+use gn_rules::{ConnId, Excerpt, Reply, Sending};
 use std::alloc::Allocator;
 
 /// How many words of 64 places there are for the writers of connections.
@@ -17,6 +17,12 @@ pub(crate) struct Asleep {
     pub at_door: bool,
 }
 
+/// The places of the connections that a reply queued a packet to: all that is kept of a reply that nobody gets.
+#[derive(Clone, Copy)]
+pub(crate) struct Queued {
+    words: [u64; WORDS],
+}
+
 /// The word of a connection's place.
 pub(crate) fn word_of(c: ConnId) -> usize
     ensures { result < 4 }
@@ -27,6 +33,27 @@ pub(crate) fn word_of(c: ConnId) -> usize
 /// The bit of a connection's place in its word.
 fn bit_of(c: ConnId) -> u64 {
     1 << (c % 64)
+}
+
+impl Queued {
+    /// By what a reply sends.
+    fn by<A: Allocator>(sends: &[Sending<A>]) -> Self {
+        let mut words = [0; WORDS];
+        for sent in sends {
+            if sent.queued {
+                words[word_of(sent.to)] |= bit_of(sent.to);
+            }
+        }
+        Queued { words }
+    }
+}
+
+impl<A: Allocator> Excerpt<A> for Queued {
+    ghost tells = { λ queued reply. Unit {0} };
+
+    fn of(reply: &Reply<A>) -> Self {
+        Queued::by(reply.sends())
+    }
 }
 
 impl Asleep {
@@ -82,14 +109,14 @@ impl Asleep {
     }
 
     /// Takes out the writers of the connections that a packet was queued to.
-    fn take_queued<A: Allocator>(&mut self, sends: &[Sending<A>]) -> Self {
-        let mut queued = Asleep::nobody();
-        for sent in sends {
-            if sent.queued {
-                self.move_writer(sent.to, &mut queued);
-            }
+    fn take_queued(&mut self, queued: Queued) -> Self {
+        let mut writers = Asleep::nobody();
+        for at in 0..WORDS {
+            let word = self.words[at] & queued.words[at];
+            self.words[at] ^= word;
+            writers.words[at] = word;
         }
-        queued
+        writers
     }
 
     /// Takes out the writer of this connection.
@@ -102,7 +129,15 @@ impl Asleep {
     /// Takes out those whom a change concerns, by whom it wakes, and what the reply of its step sends.
     pub fn take<A: Allocator>(&mut self, wakes: Wakes, sends: &[Sending<A>]) -> Self {
         match wakes {
-            Wakes::Queued => self.take_queued(sends),
+            Wakes::Queued => self.take_queued(Queued::by(sends)),
+            others => self.take_unqueued(others),
+        }
+    }
+
+    /// As `take`, by what was kept of the reply.
+    pub fn take_told(&mut self, wakes: Wakes, queued: Queued) -> Self {
+        match wakes {
+            Wakes::Queued => self.take_queued(queued),
             others => self.take_unqueued(others),
         }
     }

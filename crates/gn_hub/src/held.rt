@@ -6,7 +6,7 @@ ghost use Rattle.gn_rules.specs.Fits.{refuses};
 ghost use Rattle.gn_hub.specs.Receipts.{AreKept, HasProgressed, HasReceipt};
 
 use crate::answered::Answered;
-use crate::asleep::Asleep;
+use crate::asleep::{Asleep, Queued};
 use crate::hub::Hub;
 use crate::progress::Progress;
 use crate::wakes::Wakes;
@@ -71,26 +71,23 @@ impl<C: RouterCore<A> + Drop, L: Ledger + Named, A: Allocator + Copy> Held<C, L,
         Ok(())
     }
 
-    /// As `call_one`, of a Route, with the descriptor's payload checked beforehand.
+    /// Routes a ticket for an actor, with the descriptor's payload checked beforehand. Those who sleep and whom the step concerns are put
+    /// to the woken.
     #[inline(always)]
-    #[tactic(auto, using(crate::proofs::KeptLemmas::none_kept))]
     fn route_one(
         &mut self,
         me: &mut Actor<L, A>,
         ticket: Ticket,
         checked: &Checked<A>,
         woken: &mut Asleep,
-        kept: &mut Vec<Receipt<A>, A>,
     ) -> Result<(), Refusal>
         ensures answer { MatchResult result
             (λ _. HasReceipt (Route ticket) me.old me.new)
             (λ refusal. (refuses {A = A} (Route ticket) refusal ≡ true) × (me.new ≡ me.old)) }
-        ensures kept { AreKept kept.old.items kept.new.items me.old me.new }
     {
-        kept.reserve(1)?;
-        let Answered { answer, wakes } = self.hub.route_answered(me, ticket, checked);
-        let receipt = answer?;
-        self.keep(receipt, wakes, woken, kept);
+        let Answered { answer, wakes } = self.hub.pass_answered(me, ticket, checked);
+        let queued: Queued = answer?;
+        woken.add(self.asleep.take_told(wakes, queued));
         Ok(())
     }
 
@@ -127,18 +124,16 @@ impl<C: RouterCore<A> + Drop, L: Ledger + Named, A: Allocator + Copy> Held<C, L,
         }
     }
 
-    /// As `call_all`, of Routes, with their descriptors' payloads checked beforehand.
+    /// As `call_all`, of Routes, with their descriptors' payloads checked beforehand, whose receipts nobody needs.
     pub fn route_all(
         &mut self,
         me: &mut Actor<L, A>,
         jobs: &[(Ticket, Checked<A>)],
         room: &Room,
         woken: &mut Asleep,
-        kept: &mut Vec<Receipt<A>, A>,
     ) -> Progress
         requires some { 0 < length jobs.now }
         ensures made { HasProgressed (map (λ job. Route job.0) jobs.now) result me.old me.new }
-        ensures kept { AreKept kept.old.items kept.new.items me.old me.new }
     {
         let free = room.free(self.hub.book());
         let mut done = 0;
@@ -146,7 +141,7 @@ impl<C: RouterCore<A> + Drop, L: Ledger + Named, A: Allocator + Copy> Held<C, L,
             if !has_room(done, free) {
                 break;
             }
-            if let Err(refusal) = self.route_one(me, job.0, &job.1, woken, kept) {
+            if let Err(refusal) = self.route_one(me, job.0, &job.1, woken) {
                 return Progress {
                     done,
                     refusal: Some(refusal),

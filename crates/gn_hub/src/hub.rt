@@ -1,10 +1,11 @@
 //! What lies under the lock: the router, the annals of its steps, and what is known of the links.
 
-ghost use Rattle.std.specs.Prelude.{◌≡◌, ◌≤◌, ◌==◌, ◌∷◌, ◌++◌, [], true, false, length, reverse, take, Some, IfOk, MatchResult};
+ghost use Rattle.std.specs.Prelude.{◌≡◌, ◌≤◌, ◌==◌, ◌∷◌, ◌++◌, [], true, false, length, reverse, take, Some, Ok, IfOk, MatchResult};
 ghost use Rattle.std.specs.List.{list_all, slice_get};
 ghost use Rattle.gn_rules.specs.Answer.{checked_answer};
 ghost use Rattle.gn_rules.specs.Flight.{flying};
 ghost use Rattle.gn_rules.specs.declared.event.Event.TheVariants.{Connect, Route};
+ghost use Rattle.gn_rules.specs.declared.reply.Reply.{Reply};
 ghost use Rattle.gn_hub.specs.declared.mark.Door.TheVariants.{Shut};
 ghost use Rattle.gn_hub.specs.declared.next.Outgoing.TheVariants.{Drained};
 ghost use Rattle.gn_hub.specs.HubState.{are_read, do_all_call, door_by, door_of, is_awaited_no_more, is_closing, past_of, with_door, with_reader_done};
@@ -17,7 +18,9 @@ use crate::mark::{Door, Mark};
 use crate::next::{Next, Outgoing, next_of};
 use gn_actors::{Actor, Annals, Home, Named};
 use gn_payload::Checked;
-use gn_rules::{ConnId, Event, Receipt, Refusal, Reply, RouterCore, Ticket};
+use gn_rules::{
+    ConnId, Event, Excerpt, Receipt, Refusal, Reply, RouterCore, Ticket, checked_answers_fit,
+};
 use gn_trail::Trail;
 use std::alloc::{Allocator, Global};
 use std::marker::Model;
@@ -147,6 +150,29 @@ impl<C: RouterCore<A>, L: Ledger + Named, A: Allocator + Copy> Hub<C, L, A> {
         let receipt = core.route(me.number(), ticket, checked)?;
         annals.record(me, core, &receipt);
         Ok(receipt)
+    }
+
+    /// As `route`, where nobody needs the receipt: an excerpt of the reply.
+    #[inline(always)]
+    pub(crate) fn pass<E: Excerpt<A>>(
+        &mut self,
+        me: &mut Actor<L, A>,
+        ticket: Ticket,
+        checked: &Checked<A>,
+    ) -> Result<E, Refusal>
+        ensures made { MatchResult result
+            (λ _. HasStepped (checked_answer self.old.settings (past_of self.old) ticket checked.now) (Route ticket)
+            self.old me.old self.new me.new)
+            (λ refusal. IsRefusal refusal (checked_answer self.old.settings (past_of self.old) ticket checked.now)
+            × (self.new ≡ self.old) × (me.new ≡ me.old)) }
+        ensures told { IfOk result (λ told. (reply : Reply A)
+            → checked_answer self.old.settings (past_of self.old) ticket checked.now ≡ Ok reply → E.tells told reply) }
+    {
+        checked_answers_fit::<A>();
+        let Hub { core, annals, .. } = self;
+        let told = core.pass(me.number(), ticket, checked)?;
+        annals.record_route(me, core);
+        Ok(told)
     }
 
     /// The Connect of the reader of a link. Its reply opens the link's door, or shuts it. A refusal changes nothing.

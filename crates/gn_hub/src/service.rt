@@ -197,24 +197,22 @@ impl<C: RouterCore<A> + Drop, L: Ledger + Named, A: Allocator + Copy> Service<C,
         progress
     }
 
-    /// As `call_all`, of Routes, with their descriptors' payloads checked beforehand.
+    /// As `call_all`, of Routes, with their descriptors' payloads checked beforehand. Nobody gets their receipts.
     pub fn route_all<R: Wait>(
         &self,
         rt: &R,
         me: &mut Actor<L, A>,
         jobs: &[(Ticket, Checked<A>)],
-        kept: &mut Vec<Receipt<A>, A>,
     ) -> Progress
         requires some { 0 < length jobs.now }
         ensures made { HasProgressed (map (λ job. Route job.0) jobs.now) result me.old me.new }
-        ensures kept { me.new ≡ with_receipts me.old kept.new.items }
     {
-        if self.make_room(rt, kept, jobs.len()).is_err() {
+        if self.wait_for_room(rt).is_err() {
             return Progress::no_memory();
         }
         let mut held = self.lock(rt);
         let mut woken = Asleep::nobody();
-        let progress = held.route_all(me, jobs, &self.room, &mut woken, kept);
+        let progress = held.route_all(me, jobs, &self.room, &mut woken);
         self.release(rt, held, woken);
         progress
     }

@@ -42,11 +42,12 @@ pub mod inbound {
 /// Configurations, events, replies and steps, and what every router promises.
 pub mod rules {
     pub use gn_rules::{
-        BadConfig, Config, ConnId, Counter, DropReason, Event, Field, FreshRouter, Historian,
-        Legality, MOST_LINKS, MOST_WORKERS, Numbers, Own, Receipt, Refusal, Reply, RouterCore,
-        Sending, Sends, Stats, Step, Ticket, answers_fit, checked_answers_fit, counters_add_up,
-        counters_count, is_same_config, live_connections_rise, may_originate, output_is_untaken,
-        run_events, runs_agree, runs_agree_so_far, runs_stay_legal, servent_route_is_last,
+        BadConfig, Config, ConnId, Counter, DropReason, Event, Excerpt, Field, FreshRouter,
+        Historian, Legality, MOST_LINKS, MOST_WORKERS, Numbers, Own, Receipt, Refusal, Reply,
+        RouterCore, Sending, Sends, Stats, Step, Ticket, answers_fit, checked_answers_fit,
+        counters_add_up, counters_count, is_same_config, live_connections_rise, may_originate,
+        output_is_untaken, run_events, runs_agree, runs_agree_so_far, runs_stay_legal,
+        servent_route_is_last,
     };
 }
 
@@ -97,7 +98,7 @@ pub mod hub {
         ServiceFault,
     };
     pub use gn_room::{Following, Room, run_beside};
-    pub use gn_trail::Trail;
+    pub use gn_trail::{Tells, Trail};
 }
 
 /// Links over memory and over TCP.

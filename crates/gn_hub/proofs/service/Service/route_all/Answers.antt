@@ -1,16 +1,8 @@
-use Rattle.gn_hub.proofs.KeptLemmas.{all_kept, none_got}
-use Rattle.gn_hub.proofs.ProgressLemmas.{not_begun, routes_below}
-use Rattle.std.proofs.Common.{map, refl, subst}
-use Rattle.gn_hub.specs.Receipts.{AreKept}
+use Rattle.std.proofs.Common.{map, refl}
 use Rattle.gn_rules.specs.declared.event.Event.TheVariants.{Route}
+use Rattle.gn_hub.proofs.ProgressLemmas.{not_begun, routes_below}
 use Rattle.gn_hub.proofs.service.Service.route_all.Goals as goal
 
-pub returns-then-is_err-clause-made : goal.returns-then-is_err-clause-made
-returns-then-is_err-clause-made g c =
-    not_begun (map (λ j. Route j.0) c.args.jobs.now) c.no_memory.result c.args.me.now c.args.me.now c.no_memory.ensures.done c.no_memory.ensures.refusal (routes_below _ c.args.jobs.now 0 c.requires.some) refl
-
-pub returns-then-is_err-clause-kept : goal.returns-then-is_err-clause-kept
-returns-then-is_err-clause-kept g c = none_got _ _ _ c.make_room.ensures refl
-
-pub returns-clause-kept : goal.returns-clause-kept
-returns-clause-kept g c = all_kept _ _ _ (subst (λ w. AreKept w c.route_all-progress.new.kept.items c.args.me.now c.route_all-progress.new.me) c.make_room.ensures c.route_all-progress.ensures.kept)
+pub returns-then-is_err : goal.returns-then-is_err
+returns-then-is_err g c =
+    record { made = not_begun (map (λ j. Route j.0) c.args.jobs.now) c.no_memory.result c.args.me.now c.args.me.now c.no_memory.ensures.done c.no_memory.ensures.refusal (routes_below _ c.args.jobs.now 0 c.requires.some) refl }
