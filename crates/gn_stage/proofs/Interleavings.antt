@@ -56,14 +56,14 @@ module _ {J : Type 0} where
   not_among : (p : ℕ) (es : List (End J)) → All (λ e. p ≢ e.number) es → Among p es → ⊥
   not_among p es apart there = apart there.0 there.1 there.2 (sym (ap (λ (y : End J). y.number) there.3 ∙ there.4))
 
-  among_tail : (p : ℕ) (e : End J) (es : List (End J)) → p ≢ e.number → Among p (e ∷ es) → Among p es
+  pub among_tail : (p : ℕ) (e : End J) (es : List (End J)) → p ≢ e.number → Among p (e ∷ es) → Among p es
   among_tail p e es n (zero, x, lt, at, is) = absurd (n (sym (ap (λ (y : End J). y.number) at ∙ is)))
   among_tail p e es n (suc k, x, lt, at, is) = (k, x, omega arith, at, is)
 
-  pairs_tail : (e : End J) (es : List (End J)) → AllPairs (λ a b. a.number ≢ b.number) (e ∷ es) → AllPairs (λ a b. a.number ≢ b.number) es
+  pub pairs_tail : (e : End J) (es : List (End J)) → AllPairs (λ a b. a.number ≢ b.number) (e ∷ es) → AllPairs (λ a b. a.number ≢ b.number) es
   pairs_tail e es h i j d lt below = h (suc i) (suc j) d (omega arith) (omega arith)
 
-  pairs_head : (e : End J) (es : List (End J)) → AllPairs (λ a b. a.number ≢ b.number) (e ∷ es) → All (λ b. e.number ≢ b.number) es
+  pub pairs_head : (e : End J) (es : List (End J)) → AllPairs (λ a b. a.number ≢ b.number) (e ∷ es) → All (λ b. e.number ≢ b.number) es
   pairs_head e es h k d lt = h 0 (suc k) d (omega arith) (omega arith)
 
   sizes_other : (x : Owned J) (q : List (Owned J)) (es : List (End J)) → All (λ e. x.owner ≢ e.number) es → sum_by (size (x ∷ q)) es ≡ sum_by (size q) es

@@ -1,4 +1,5 @@
 pub mod Interleavings
+pub mod Numbers
 pub mod Owners
 pub mod Passes
 pub mod Settling

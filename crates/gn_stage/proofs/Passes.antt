@@ -1,6 +1,7 @@
 -- What the desk knows, as its parts.
-use Rattle.std.proofs.Common.{◌≡◌, ℕ, ◌+◌, length, sym, ap, ◌∙◌, arith}
-use Rattle.gn_stage.specs.Rule.{Role, Known, IsDeskOf, new_pass, new_desk, with_intake, with_outlet, one_made}
+use Rattle.std.proofs.Common.{◌≡◌, ℕ, ◌+◌, List, [], ◌∷◌, ◌++◌, length, sym, ap, ◌∙◌, arith}
+use Rattle.gn_stage.specs.Ends.{End}
+use Rattle.gn_stage.specs.Rule.{Role, Known, IsDeskOf, new_pass, new_desk, with_intake, with_intake_home, with_outlet, one_made, one_home}
 use Rattle.gn_stage.specs.Settled.{capped}
 
 module _ {J : Type 0} where
@@ -13,7 +14,7 @@ module _ {J : Type 0} where
     sym (ap (λ (v : Known J). capped (length v.end.jobs)) e),
   )
 
-  pub desk_begins : (capacity : ℕ) (v : Known J) → v ≡ new_desk → IsDeskOf 0 0 capacity v
+  pub desk_begins : (capacity : ℕ) (v : Known J) → v ≡ new_desk → IsDeskOf 0 0 capacity [] v
   desk_begins capacity v e = record {
     role = ap (λ (v : Known J). v.role) e;
     undrained = ap (λ (v : Known J). v.end.jobs) e;
@@ -22,8 +23,8 @@ module _ {J : Type 0} where
     outs = ap (λ (v : Known J). v.outs) e;
   }
 
-  pub desk_makes_intake : (intakes outlets capacity : ℕ) (v w : Known J) → IsDeskOf intakes outlets capacity v → w ≡ with_intake capacity v → IsDeskOf (intakes + 1) outlets capacity w
-  desk_makes_intake intakes outlets capacity v w h e = record {
+  pub desk_makes_intake : (intakes outlets capacity : ℕ) (came : List (End J)) (v w : Known J) → IsDeskOf intakes outlets capacity came v → w ≡ with_intake capacity v → IsDeskOf (intakes + 1) outlets capacity came w
+  desk_makes_intake intakes outlets capacity came v w h e = record {
     role = ap (λ (v : Known J). v.role) e ∙ h.role;
     undrained = ap (λ (v : Known J). v.end.jobs) e ∙ h.undrained;
     room = let room = ap (λ (v : Known J). v.room) e in let was = h.room in omega arith;
@@ -31,11 +32,20 @@ module _ {J : Type 0} where
     outs = ap (λ (v : Known J). v.outs) e ∙ h.outs;
   }
 
-  pub desk_makes_outlet : (intakes outlets capacity : ℕ) (v w : Known J) → IsDeskOf intakes outlets capacity v → w ≡ with_outlet v → IsDeskOf intakes (outlets + 1) capacity w
-  desk_makes_outlet intakes outlets capacity v w h e = record {
+  pub desk_makes_outlet : (intakes outlets capacity : ℕ) (came : List (End J)) (v w : Known J) → IsDeskOf intakes outlets capacity came v → w ≡ with_outlet v → IsDeskOf intakes (outlets + 1) capacity came w
+  desk_makes_outlet intakes outlets capacity came v w h e = record {
     role = ap (λ (v : Known J). v.role) e ∙ h.role;
     undrained = ap (λ (v : Known J). v.end.jobs) e ∙ h.undrained;
     room = let room = ap (λ (v : Known J). v.room) e in let was = h.room in omega arith;
     ins = ap (λ (v : Known J). v.ins) e ∙ h.ins;
     outs = ap (λ (v : Known J). v.outs) e ∙ ap one_made h.outs;
+  }
+
+  pub desk_takes_intake : (intakes outlets capacity : ℕ) (came : List (End J)) (e : End J) (v w : Known J) → IsDeskOf intakes outlets capacity came v → w ≡ with_intake_home v e → IsDeskOf intakes outlets capacity (came ++ e ∷ []) w
+  desk_takes_intake intakes outlets capacity came e v w h is = record {
+    role = ap (λ (v : Known J). v.role) is ∙ h.role;
+    undrained = ap (λ (v : Known J). v.end.jobs) is ∙ h.undrained;
+    room = let room = ap (λ (v : Known J). v.room) is in let was = h.room in omega arith;
+    ins = ap (λ (v : Known J). v.ins) is ∙ ap (λ g. one_home g e) h.ins;
+    outs = ap (λ (v : Known J). v.outs) is ∙ h.outs;
   }

@@ -1,11 +1,12 @@
 -- A drained desk settles its stage.
-use Rattle.std.proofs.Common.{◌≡◌, ℕ, List, [], ◌++◌, length, sym, ap, ◌∙◌, append-nil, subst}
-use Rattle.std.specs.Prelude.{sum_by}
+use Rattle.std.proofs.Common.{◌≡◌, ◌↔◌, ◌<◌, ◌^◌, ℕ, Bool, List, [], ◌++◌, length, nat_eq, sym, ap, ◌∙◌, append-nil, subst, arith, eq-eqb}
+use Rattle.std.specs.Prelude.{IsTrue, sum_by}
+use Rattle.std.proofs.lemmas.Bool.Decides.{Decides-eqb}
 use mathlib.Core.Option.{none}
-use Rattle.gn_stage.specs.Ends.{End, AreAllHome}
-use Rattle.gn_stage.specs.Lessons.{IsDraining}
-use Rattle.gn_stage.specs.Rule.{of_desk, Known, Gathered, FitsSide, IsDeskOf, AreHome, jobs_of, with_drained, with_intakes_home, with_outlets_home}
-use Rattle.gn_stage.specs.Settled.{IsSettled, capped}
+use Rattle.gn_stage.specs.Ends.{End, Layout, AreAllHome}
+use Rattle.gn_stage.specs.Lessons.{AreCounted, IsDraining}
+use Rattle.gn_stage.specs.Rule.{of_desk, Known, Gathered, FitsSide, IsDeskOf, AreHome, jobs_of, with_drained, with_outlets_home}
+use Rattle.gn_stage.specs.Settled.{AreWhole, IsSettled, capped}
 use Rattle.gn_stage.proofs.Interleavings.{interleaves, counts}
 
 module _ {J : Type 0} where
@@ -13,19 +14,38 @@ module _ {J : Type 0} where
   abbrev pub home_desk : ℕ → ℕ → Known J → List (End J) → List (End J) → Type 0
   home_desk intakes outlets v ins outs = (v.ins ≡ record { made = intakes; home = ins }) × (v.outs ≡ record { made = outlets; home = outs })
 
-  pub gathers : (intakes outlets capacity : ℕ) (v w z : Known J) (ins outs : List (End J)) → IsDeskOf intakes outlets capacity v → w ≡ with_intakes_home v ins → z ≡ with_outlets_home w outs → home_desk intakes outlets z ins outs × (z.role ≡ of_desk) × (z.end.jobs ≡ []) × (z.room ≡ v.room)
-  gathers intakes outlets capacity v w z ins outs h first second = (
+  pub gathers : (intakes outlets capacity : ℕ) (came outs : List (End J)) (v w : Known J) → IsDeskOf intakes outlets capacity came v → w ≡ with_outlets_home v outs → home_desk intakes outlets w came outs × (w.role ≡ of_desk) × (w.end.jobs ≡ []) × (w.room ≡ v.room)
+  gathers intakes outlets capacity came outs v w h is = (
     (
-      ap (λ (v : Known J). v.ins) second ∙ ap (λ (v : Known J). v.ins) first ∙ ap (λ (g : Gathered J). record g { home = g.home ++ ins }) h.ins,
-      ap (λ (v : Known J). v.outs) second ∙ ap (λ (v : Known J). record v.outs { home = v.outs.home ++ outs }) first ∙ ap (λ (g : Gathered J). record g { home = g.home ++ outs }) h.outs,
+      ap (λ (v : Known J). v.ins) is ∙ h.ins,
+      ap (λ (v : Known J). v.outs) is ∙ ap (λ (g : Gathered J). record g { home = g.home ++ outs }) h.outs,
     ),
-    ap (λ (v : Known J). v.role) second ∙ ap (λ (v : Known J). v.role) first ∙ h.role,
-    ap (λ (v : Known J). v.end.jobs) second ∙ ap (λ (v : Known J). v.end.jobs) first ∙ h.undrained,
-    ap (λ (v : Known J). v.room) second ∙ ap (λ (v : Known J). v.room) first,
+    ap (λ (v : Known J). v.role) is ∙ h.role,
+    ap (λ (v : Known J). v.end.jobs) is ∙ h.undrained,
+    ap (λ (v : Known J). v.room) is,
   )
 
   pub homes : (intakes outlets : ℕ) (v : Known J) (ins outs : List (End J)) → home_desk intakes outlets v ins outs → AreAllHome intakes ins → AreAllHome outlets outs → AreHome v.ins × AreHome v.outs
   homes intakes outlets v ins outs known all_in all_out = (subst AreHome (sym known.0) all_in, subst AreHome (sym known.1) all_out)
+
+  -- as many came home as were made just where all did
+  pub home_by_count : (home made wide outlets capacity : ℕ) (came : List (End J)) (v : Known J) → IsDeskOf made outlets capacity came v → AreCounted v → home ≡ capped (length came) → wide ≡ made → made < 2 ^ 32 → IsTrue (nat_eq home wide) ↔ AreAllHome made came
+  home_by_count home made wide outlets capacity came v h counted is same low =
+      let all = subst (λ (g : Gathered J). (length g.home ≡ g.made) ↔ AreHome g) h.ins counted in (
+        λ yes. all.0 (let equal = (Decides-eqb home wide).0 yes in omega arith),
+        λ whole. eq-eqb home wide (let many = all.1 whole in omega arith),
+      )
+
+  -- with the intakes home, all are where the outlets are
+  pub whole_by : (made : Layout) (n : ℕ) (came outs : List (End J)) (are : Bool) → n ≡ made.outlets → AreAllHome made.intakes came → IsTrue are ↔ AreAllHome n outs → IsTrue are ↔ AreWhole made came outs
+  whole_by made n came outs are same home all = (
+    λ yes. record { ins = home; outs = subst (λ n. AreAllHome n outs) same (all.0 yes) },
+    λ whole. all.1 (subst (λ n. AreAllHome n outs) (sym same) whole.outs),
+  )
+
+  -- what is settled of these intakes is settled of the same
+  pub settled_at : (came was outs : List (End J)) (put taken : ℕ) (drained : List J) → came ≡ was → IsSettled came outs put taken drained → IsSettled was outs put taken drained
+  settled_at came was outs put taken drained same is = subst (λ ins. IsSettled ins outs put taken drained) same is
 
   -- a count of these jobs is a count of the same
   pub count_at : (count : ℕ) (now was : List (End J)) → now ≡ was → count ≡ capped (sum_by (λ e. length e.jobs) now) → count ≡ capped (sum_by (λ e. length e.jobs) was)

@@ -5,7 +5,8 @@ use lib.ListN.{get_elem?}
 use Rattle.atomic_table.proofs.Lists.{at_set}
 use Rattle.crossbeam_channel.specs.Fifo.{Pushes, Pops, Forks, Merges, Learns}
 use Rattle.gn_stage.specs.Rule.{Role, of_desk, of_intake, of_outlet, joined, owned, jobs_of, Past, Fits, Invariant, Known, AreHome, new_desk, new_intake, new_outlet, spent, with_item, with_intake, with_outlet, with_intake_home, with_outlet_home}
-use Rattle.gn_stage.specs.Lessons.{IsRunning, IsDraining, Drained}
+use Rattle.gn_stage.specs.Lessons.{AreCounted, IsRunning, IsDraining, Drained}
+use Rattle.gn_stage.proofs.Numbers.{as_many}
 use Rattle.gn_stage.proofs.Owners.{owned_by-mine, owned_by-other, jobs_of-push}
 use Rattle.gn_stage.proofs.Sides.{seat_set, seat_here, seat_else, free_apart, seats_apart, still_held, side_more, side_made, side_home, side_begins, side_free, all_free}
 
@@ -154,6 +155,11 @@ module _ {J : Type 0} where
         ins = side_free _ p.in_seat p.put mine.ins;
         outs = side_free _ p.out_seat p.taken mine.outs;
       }
+
+  pub numbers : (port : ℕ) (v : Known J) → v.role ≡ of_desk → Learns Invariant port v (λ items. AreCounted v)
+  numbers port v is items views h at =
+      let side = ((h.fits port v at).as_desk is).ins in
+      as_many v.ins.made v.ins.home (λ k d lt. (side.home k d lt).below) side.apart
 
   alone : (j : ℕ) (u : Known J) → j ≢ 0 → get_elem? (new_desk ∷ []) j ≡ some u → ⊥
   alone zero u n e = n refl

@@ -4,6 +4,7 @@ pub mod Bound
 pub mod Ends
 pub mod Interleaving
 pub mod Settled
+pub mod Reception
 pub mod Rule
 pub mod Lessons
 -- Words of the proofs.

@@ -95,10 +95,6 @@ with_intake_home v e = record v { ins = one_home v.ins e }
 abbrev pub with_outlet_home : {J : Type 0} → Known J → End J → Known J
 with_outlet_home v e = record v { outs = one_home v.outs e }
 
--- the desk after these intakes came home
-abbrev pub with_intakes_home : {J : Type 0} → Known J → List (End J) → Known J
-with_intakes_home v ends = record v { ins = record v.ins { home = v.ins.home ++ ends } }
-
 -- the desk after these outlets came home
 abbrev pub with_outlets_home : {J : Type 0} → Known J → List (End J) → Known J
 with_outlets_home v ends = record v { outs = record v.outs { home = v.outs.home ++ ends } }
@@ -111,12 +107,12 @@ with_drained v jobs = record v { end = record v.end { jobs = jobs } }
 abbrev pub AreHome : {J : Type 0} → Gathered J → Type 0
 AreHome g = AreAllHome g.made g.home
 
--- what a desk with so many ends, all of them out, knows
-pub record IsDeskOf {J : Type 0} (intakes outlets capacity : ℕ) (v : Known J) : Type 0 where
+-- what a desk knows that made so many ends, of which these intakes are home, and no outlet is
+pub record IsDeskOf {J : Type 0} (intakes outlets capacity : ℕ) (came : List (End J)) (v : Known J) : Type 0 where
   pub role : v.role ≡ of_desk
   pub undrained : v.end.jobs ≡ []
   pub room : v.room ≤ capacity
-  pub ins : v.ins ≡ record { made = intakes; home = [] }
+  pub ins : v.ins ≡ record { made = intakes; home = came }
   pub outs : v.outs ≡ record { made = outlets; home = [] }
 
 -- all that was put, all that outlets took, what the desk drained, the pass of each intake and outlet that is out, and the

@@ -1,147 +1,94 @@
-//! The desk of a stage: it makes the ends, and they come home to it.
+//! The desk of a stage whose ends are all made at once: they come home to it.
 
-ghost use Rattle.std.specs.Prelude.{◌≡◌, ◌+◌, ◌-◌, ◌^◌, ◌<◌, IfOk};
-ghost use Rattle.crossbeam_channel.specs.Ends.{receives_on, sends_on};
-ghost use Rattle.gn_stage.specs.Ends.{AreNew, new_end};
-ghost use Rattle.gn_stage.specs.Opened.{IsLineOf, IsPassOf, knows};
-ghost use Rattle.gn_stage.specs.Rule.{new_desk};
+ghost use Rattle.std.specs.Prelude.{◌≡◌, ◌≤◌, ◌↔◌, [], IsTrue, IfErr, IfOk, vec_len};
+ghost use Rattle.gn_stage.specs.Settled.{AreWhole, FaultComes, IsSettled};
 
-use crate::home::Home;
-use crate::intake::Intake;
-use crate::job::Job;
-use crate::outlet::Outlet;
-use crate::rule::{Intakes, Law, Outlets, View};
+use crate::home::{IntakeHome, OutletHome};
+use crate::reception::Reception;
+use crate::settle::{Settled, StageFault, are_all_home};
 use crate::site::Site;
-use crate::stage::Tokens;
-use crossbeam_channel::{Pass, RuledReceiver, RuledSender};
-use std::alloc::{AllocError, Allocator, Global};
-use std::marker::{Model, PhantomData};
+use std::alloc::{Allocator, Global};
+use std::marker::Model;
+use std::sync::Wait;
 
 /// Holds what is left of a stage while its ends are out.
 #[derive(Drop)]
 pub struct Desk<S: Site, A: Allocator = Global> {
-    pub(crate) sender: RuledSender<Job<A>, View, Law, A>,
-    pub(crate) receiver: RuledReceiver<Job<A>, View, Law, A>,
-    pub(crate) pass: Pass<Job<A>, View>,
-    pub(crate) intakes: u32,
-    pub(crate) outlets: u32,
-    pub(crate) capacity: usize,
-    of: PhantomData<S>,
+    pub(crate) reception: Reception<S, A>,
+}
+
+/// The fault, and all that was handed in.
+#[derive(Drop)]
+pub struct Unsettled<S: Site, A: Allocator = Global> {
+    pub fault: StageFault,
+    pub desk: Desk<S, A>,
+    pub intakes: Vec<IntakeHome<S, A>, A>,
+    pub outlets: Vec<OutletHome<S, A>, A>,
 }
 
 impl<S: Site, A: Allocator> Model for Desk<S, A> {
-    ghost use Rattle.std.specs.Prelude.{◌≡◌};
-    ghost use Rattle.crossbeam_channel.specs.Ends.{receives_on, sends_on};
+    ghost use Rattle.std.specs.Prelude.{◌≡◌, []};
     ghost use Rattle.gn_stage.specs.Ends.{Layout};
-    ghost use Rattle.gn_stage.specs.Opened.{IsLineOf, IsPassOf, knows};
-    ghost use Rattle.gn_stage.specs.Rule.{IsDeskOf};
 
     ghost Value = { Layout };
 
-    ghost view = { λ d. record { intakes = d.intakes; outlets = d.outlets; capacity = d.capacity } };
+    ghost view = { λ d. d.reception.made };
 
-    ghost invariant = { λ d. IsLineOf S.stage (sends_on d.sender)
-        × IsLineOf S.stage (receives_on d.receiver)
-        × IsPassOf S.stage d.pass
-        × (d.capacity ≡ S.stage.capacity)
-        × IsDeskOf d.intakes d.outlets d.capacity (knows d.pass) };
+    ghost invariant = { λ d. d.reception.came ≡ [] };
+}
+
+impl<S: Site, A: Allocator> Desk<S, A> {
+    /// The desk of a stage whose ends are all made, and out.
+    pub(crate) fn new(reception: Reception<S, A>) -> Self
+        requires { reception.came ≡ [] }
+        ensures { result ≡ reception.made }
+    {
+        Desk { reception }
+    }
 }
 
 impl<S: Site, A: Allocator + Copy> Desk<S, A> {
-    /// The desk of a new stage, which has no ends.
-    pub(crate) fn new(
-        sender: RuledSender<Job<A>, View, Law, A>,
-        receiver: RuledReceiver<Job<A>, View, Law, A>,
-        pass: Pass<Job<A>, View>,
-        capacity: usize,
-    ) -> Self
-        requires line { IsLineOf S.stage (sends_on sender) × IsLineOf S.stage (receives_on receiver) }
-        requires here { IsPassOf S.stage pass × (knows pass ≡ new_desk) }
-        requires capacity { capacity ≡ S.stage.capacity }
-        ensures { result ≡ record { intakes = 0; outlets = 0; capacity = capacity } }
-    {
-        Desk {
-            sender,
-            receiver,
-            pass,
-            intakes: 0,
-            outlets: 0,
-            capacity,
-            of: PhantomData,
-        }
-    }
-
-    /// One more intake, under the next number. The desk keeps what it knows of it until it comes home.
-    fn make_intake(
-        &mut self,
-        room: &Tokens<A>,
-        ready: &Tokens<A>,
-    ) -> Result<Intake<S, A>, AllocError>
-        requires { self.old.intakes < 2 ^ 32 - 1 }
-        ensures { IfOk result (λ i. (i ≡ new_end self.old.intakes)
-            × (self.new ≡ record self.old { intakes = self.old.intakes + 1 })) }
-    {
-        let sender = self.sender.try_clone()?;
-        let room = room.to.clone()?;
-        let ready = ready.to.clone()?;
-        let pass = sender.another::<Intakes<S>>(&mut self.pass);
-        let home = Home::new(self.intakes, pass);
-        self.intakes += 1;
-        Ok(Intake::new(sender, room, ready, home))
-    }
-
-    /// One more outlet, under the next number.
-    fn make_outlet(
-        &mut self,
-        room: &Tokens<A>,
-        ready: &Tokens<A>,
-    ) -> Result<Outlet<S, A>, AllocError>
-        requires { self.old.outlets < 2 ^ 32 - 1 }
-        ensures { IfOk result (λ o. (o ≡ new_end self.old.outlets)
-            × (self.new ≡ record self.old { outlets = self.old.outlets + 1 })) }
-    {
-        let receiver = self.receiver.try_clone()?;
-        let room = room.from.clone()?;
-        let ready = ready.from.clone()?;
-        let pass = self.sender.another::<Outlets<S>>(&mut self.pass);
-        let home = Home::new(self.outlets, pass);
-        self.outlets += 1;
-        Ok(Outlet::new(receiver, room, ready, home))
-    }
-
-    /// The intakes 0 to `count - 1`, in order. Where memory is refused some may have been made: the stage is lost then.
-    pub(crate) fn make_intakes(
-        &mut self,
+    /// Takes the ends home, in any order, and drains the queue. A refusal hands all back, with nothing drained; an end that
+    /// came late settles it then. It takes memory for as many jobs as the queue may hold.
+    pub fn settle<R: Wait>(
+        self,
+        rt: &R,
         alloc: A,
-        count: u32,
-        room: &Tokens<A>,
-        ready: &Tokens<A>,
-    ) -> Result<Vec<Intake<S, A>, A>, AllocError>
-        requires { self.old.intakes ≡ 0 }
-        ensures { IfOk result (λ v. AreNew count v.items × (self.new ≡ record self.old { intakes = count })) }
+        intakes: Vec<IntakeHome<S, A>, A>,
+        outlets: Vec<OutletHome<S, A>, A>,
+    ) -> Result<Settled<A>, Unsettled<S, A>>
+        ensures settled { IfOk result (λ s. IsSettled intakes.items outlets.items s.put s.taken s.drained.items) }
+        ensures whole { IfOk result (λ s. AreWhole self intakes.items outlets.items
+            × (vec_len s.drained ≤ self.capacity)) }
+        ensures back { IfErr result (λ u. (u.desk ≡ self) × (u.intakes ≡ intakes) × (u.outlets ≡ outlets)) }
+        ensures fault { IfErr result (λ u. FaultComes u.fault self intakes.items outlets.items) }
     {
-        let mut intakes = Vec::new(alloc);
-        for _ in 0..count {
-            intakes.push(self.make_intake(room, ready)?)?;
+        if !self.are_whole(intakes.as_slice(), outlets.as_slice()) {
+            return Err(Unsettled {
+                fault: StageFault::Missing,
+                desk: self,
+                intakes,
+                outlets,
+            });
         }
-        Ok(intakes)
+        let Ok(drained) = Vec::with_capacity(alloc, self.reception.capacity) else {
+            return Err(Unsettled {
+                fault: StageFault::NoMemory,
+                desk: self,
+                intakes,
+                outlets,
+            });
+        };
+        let Desk { mut reception } = self;
+        reception.take_all_home(intakes);
+        Ok(reception.drain_into(rt, outlets, drained))
     }
 
-    /// The outlets 0 to `count - 1`, in order, as `make_intakes` makes the intakes.
-    pub(crate) fn make_outlets(
-        &mut self,
-        alloc: A,
-        count: u32,
-        room: &Tokens<A>,
-        ready: &Tokens<A>,
-    ) -> Result<Vec<Outlet<S, A>, A>, AllocError>
-        requires { self.old.outlets ≡ 0 }
-        ensures { IfOk result (λ v. AreNew count v.items × (self.new ≡ record self.old { outlets = count })) }
+    /// Whether every end of its stage is among these.
+    fn are_whole(&self, intakes: &[IntakeHome<S, A>], outlets: &[OutletHome<S, A>]) -> bool
+        ensures { IsTrue result ↔ AreWhole self.now intakes.now outlets.now }
     {
-        let mut outlets = Vec::new(alloc);
-        for _ in 0..count {
-            outlets.push(self.make_outlet(room, ready)?)?;
-        }
-        Ok(outlets)
+        are_all_home(intakes, self.reception.intakes)
+            && are_all_home(outlets, self.reception.outlets)
     }
 }

@@ -62,6 +62,15 @@ impl<A: Allocator> Lesson<Job<A>, View> for Taking {
     ghost fact = { λ v items. IsRunning v.end items };
 }
 
+/// The desk counts who is home.
+pub struct Counting;
+
+impl<A: Allocator> Lesson<Job<A>, View> for Counting {
+    ghost use Rattle.gn_stage.specs.Lessons.{AreCounted};
+
+    ghost fact = { λ v items. AreCounted v };
+}
+
 /// The desk, with all ends home, takes what is left.
 pub struct Draining;
 

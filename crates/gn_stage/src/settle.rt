@@ -1,17 +1,17 @@
-//! How a stage is settled: the ends come home, the queue is drained, and every job is accounted for.
+//! How a stage is settled: its ends are home, the queue is drained, and every job is accounted for.
 
 ghost use Rattle.std.specs.Prelude.{◌≡◌, ◌≤◌, ◌↔◌, [], Any, IsTrue, IfErr, IfOk, length, sum_by, vec_capacity, vec_len};
 ghost use Rattle.crossbeam_channel.specs.Ends.{receives_on, sends_on};
 ghost use Rattle.gn_stage.specs.Ends.{AreAllHome};
 ghost use Rattle.gn_stage.specs.Opened.{IsLineOf, IsPassOf, knows};
-ghost use Rattle.gn_stage.specs.Rule.{AreHome, of_desk, with_drained, with_intakes_home, with_outlets_home};
+ghost use Rattle.gn_stage.specs.Rule.{AreHome, of_desk, with_drained, with_outlets_home};
 ghost use Rattle.gn_stage.specs.Lessons.{IsDraining};
 ghost use Rattle.gn_stage.specs.Settled.{AreWhole, FaultComes, IsSettled, capped};
 
-use crate::desk::Desk;
-use crate::home::{Direction, Home, IntakeHome, OutletHome};
+use crate::home::{Direction, Home, OutletHome};
 use crate::job::Job;
-use crate::rule::{Draining, Intakes, Law, Outlets, View};
+use crate::reception::Reception;
+use crate::rule::{Counting, Draining, Law, Outlets, View};
 use crate::site::Site;
 use crossbeam_channel::{Pass, RuledReceiver, RuledSender};
 use std::alloc::{Allocator, Global};
@@ -36,10 +36,9 @@ pub struct Settled<A: Allocator = Global> {
 
 /// The fault, and all that was handed in.
 #[derive(Drop)]
-pub struct Unsettled<S: Site, A: Allocator = Global> {
+pub struct Undrained<S: Site, A: Allocator = Global> {
     pub fault: StageFault,
-    pub desk: Desk<S, A>,
-    pub intakes: Vec<IntakeHome<S, A>, A>,
+    pub reception: Reception<S, A>,
     pub outlets: Vec<OutletHome<S, A>, A>,
 }
 
@@ -56,7 +55,10 @@ fn is_home<D: Direction, S: Site, A: Allocator>(homes: &[Home<D, S, A>], number:
 }
 
 /// Whether the ends 0 to `made - 1` are all among them.
-fn are_all_home<D: Direction, S: Site, A: Allocator>(homes: &[Home<D, S, A>], made: u32) -> bool
+pub(crate) fn are_all_home<D: Direction, S: Site, A: Allocator>(
+    homes: &[Home<D, S, A>],
+    made: u32,
+) -> bool
     ensures { IsTrue result ↔ AreAllHome made homes.now }
 {
     for number in 0..made {
@@ -78,22 +80,6 @@ fn count_of<D: Direction, S: Site, A: Allocator>(homes: &[Home<D, S, A>]) -> u64
     count
 }
 
-/// Takes what each intake knows into the desk's own pass.
-fn gather_intakes<S: Site, A: Allocator>(
-    sender: &RuledSender<Job<A>, View, Law, A>,
-    pass: &mut Pass<Job<A>, View>,
-    homes: Vec<IntakeHome<S, A>, A>,
-)
-    requires line { IsLineOf S.stage (sends_on sender.now) }
-    requires here { IsPassOf S.stage pass.old × ((knows pass.old).role ≡ of_desk) }
-    ensures here { IsPassOf S.stage pass.new }
-    ensures known { knows pass.new ≡ with_intakes_home (knows pass.old) homes.items }
-{
-    for home in homes {
-        sender.absorb::<Intakes<S>>(pass, home.into_pass());
-    }
-}
-
 /// Takes what each outlet knows into the desk's own pass.
 fn gather_outlets<S: Site, A: Allocator>(
     sender: &RuledSender<Job<A>, View, Law, A>,
@@ -111,7 +97,7 @@ fn gather_outlets<S: Site, A: Allocator>(
 }
 
 /// Takes what is left of the queue, in order. The vector has room for as many jobs as the queue.
-fn drain<S: Site, A: Allocator, R: Wait>(
+fn drain_queue<S: Site, A: Allocator, R: Wait>(
     rt: &R,
     receiver: &RuledReceiver<Job<A>, View, Law, A>,
     pass: &mut Pass<Job<A>, View>,
@@ -135,72 +121,79 @@ fn drain<S: Site, A: Allocator, R: Wait>(
     unreachable!()
 }
 
-impl<S: Site, A: Allocator + Copy> Desk<S, A> {
-    /// Takes the ends home, in any order, and drains the queue. A refusal hands all back, with nothing drained; an end that
-    /// came late settles it then. It takes memory for as many jobs as the queue may hold.
-    pub fn settle<R: Wait>(
-        self,
+impl<S: Site, A: Allocator + Copy> Reception<S, A> {
+    /// Takes the outlets home, in any order, and drains the queue, where every intake is home. A refusal hands all back, with
+    /// nothing drained; it is drained then once an intake that came late is home. It takes memory for as many jobs as the queue
+    /// may hold.
+    pub fn drain<R: Wait>(
+        mut self,
         rt: &R,
         alloc: A,
-        intakes: Vec<IntakeHome<S, A>, A>,
         outlets: Vec<OutletHome<S, A>, A>,
-    ) -> Result<Settled<A>, Unsettled<S, A>>
-        ensures settled { IfOk result (λ s. IsSettled intakes.items outlets.items s.put s.taken s.drained.items) }
-        ensures whole { IfOk result (λ s. AreWhole self intakes.items outlets.items
-            × (vec_len s.drained ≤ self.capacity)) }
-        ensures back { IfErr result (λ u. (u.desk ≡ self) × (u.intakes ≡ intakes) × (u.outlets ≡ outlets)) }
-        ensures fault { IfErr result (λ u. FaultComes u.fault self intakes.items outlets.items) }
+    ) -> Result<Settled<A>, Undrained<S, A>>
+        ensures settled { IfOk result (λ s. IsSettled self.came outlets.items s.put s.taken s.drained.items) }
+        ensures whole { IfOk result (λ s. AreWhole self.made self.came outlets.items
+            × (vec_len s.drained ≤ self.made.capacity)) }
+        ensures back { IfErr result (λ u. (u.reception ≡ self) × (u.outlets ≡ outlets)) }
+        ensures fault { IfErr result (λ u. FaultComes u.fault self.made self.came outlets.items) }
     {
-        if !self.are_whole(intakes.as_slice(), outlets.as_slice()) {
-            return Err(Unsettled {
+        if !self.is_whole(outlets.as_slice()) {
+            return Err(Undrained {
                 fault: StageFault::Missing,
-                desk: self,
-                intakes,
+                reception: self,
                 outlets,
             });
         }
         let Ok(drained) = Vec::with_capacity(alloc, self.capacity) else {
-            return Err(Unsettled {
+            return Err(Undrained {
                 fault: StageFault::NoMemory,
-                desk: self,
-                intakes,
+                reception: self,
                 outlets,
             });
         };
-        Ok(self.settle_whole(rt, intakes, outlets, drained))
+        Ok(self.drain_into(rt, outlets, drained))
     }
 
-    /// Whether every end of its stage is among these.
-    fn are_whole(&self, intakes: &[IntakeHome<S, A>], outlets: &[OutletHome<S, A>]) -> bool
-        ensures { IsTrue result ↔ AreWhole self.now intakes.now outlets.now }
+    /// Whether every end of its stage is home or among these.
+    fn is_whole(&mut self, outlets: &[OutletHome<S, A>]) -> bool
+        ensures same { self.new ≡ self.old }
+        ensures whole { IsTrue result ↔ AreWhole self.old.made self.old.came outlets.now }
     {
-        are_all_home(intakes, self.intakes) && are_all_home(outlets, self.outlets)
+        let made = self.outlets;
+        self.are_intakes_home() && are_all_home(outlets, made)
     }
 
-    /// Settles a stage whose ends are all there, into a vector that has room: so it can't fail.
-    fn settle_whole<R: Wait>(
+    /// Whether every intake that was made is home: no two have one number, so they are where as many are home as were made.
+    fn are_intakes_home(&mut self) -> bool
+        ensures same { self.new ≡ self.old }
+        ensures home { IsTrue result ↔ AreAllHome self.old.made.intakes self.old.came }
+    {
+        self.sender.learn_as::<Counting>(&mut self.pass);
+        self.home == u64::from(self.intakes)
+    }
+
+    /// Drains a stage whose ends are all there, into a vector that has room: so it can't fail.
+    pub(crate) fn drain_into<R: Wait>(
         self,
         rt: &R,
-        intakes: Vec<IntakeHome<S, A>, A>,
         outlets: Vec<OutletHome<S, A>, A>,
         mut drained: Vec<Job<A>, A>,
     ) -> Settled<A>
-        requires whole { AreWhole self intakes.items outlets.items }
-        requires room { (drained.items ≡ []) × (self.capacity ≤ vec_capacity drained) }
-        ensures settled { IsSettled intakes.items outlets.items result.put result.taken result.drained.items }
-        ensures few { vec_len result.drained ≤ self.capacity }
+        requires whole { AreWhole self.made self.came outlets.items }
+        requires room { (drained.items ≡ []) × (self.made.capacity ≤ vec_capacity drained) }
+        ensures settled { IsSettled self.came outlets.items result.put result.taken result.drained.items }
+        ensures few { vec_len result.drained ≤ self.made.capacity }
     {
-        let put = count_of(intakes.as_slice());
         let taken = count_of(outlets.as_slice());
-        let Desk {
+        let Reception {
             sender,
             receiver,
             mut pass,
+            put,
             ..
         } = self;
-        gather_intakes::<S, A>(&sender, &mut pass, intakes);
         gather_outlets::<S, A>(&sender, &mut pass, outlets);
-        drain::<S, A, R>(rt, &receiver, &mut pass, &mut drained);
+        drain_queue::<S, A, R>(rt, &receiver, &mut pass, &mut drained);
         Settled {
             put,
             taken,

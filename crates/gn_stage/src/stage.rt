@@ -2,25 +2,18 @@
 
 ghost use Rattle.std.specs.Prelude.{◌≡◌, ◌<◌, ◌≤◌, IfOk};
 ghost use Rattle.gn_stage.specs.Ends.{AreNew};
+ghost use Rattle.gn_stage.specs.Reception.{new_reception};
 
 use crate::desk::Desk;
 use crate::intake::Intake;
 use crate::job::Job;
 use crate::outlet::Outlet;
+use crate::reception::{PutTokens, Reception, TakeTokens};
 use crate::rule::{Law, View};
 use crate::site::Site;
-use crossbeam_channel::{
-    Pass, Receiver, RuledReceiver, RuledSender, Sender, bounded, bounded_with,
-};
+use crossbeam_channel::{Pass, RuledReceiver, RuledSender, bounded, bounded_with};
 use std::alloc::{AllocError, Allocator, Global};
 use std::marker::Model;
-
-/// Both ends of a channel that counts.
-#[derive(Drop)]
-pub(crate) struct Tokens<A: Allocator> {
-    pub(crate) to: Sender<(), A>,
-    pub(crate) from: Receiver<(), A>,
-}
 
 /// A stage that was opened and has no ends yet.
 #[derive(Drop)]
@@ -28,8 +21,8 @@ pub struct Stage<A: Allocator = Global> {
     sender: RuledSender<Job<A>, View, Law, A>,
     receiver: RuledReceiver<Job<A>, View, Law, A>,
     pass: Pass<Job<A>, View>,
-    room: Tokens<A>,
-    ready: Tokens<A>,
+    put: PutTokens<A>,
+    take: TakeTokens<A>,
     capacity: usize,
 }
 
@@ -54,14 +47,6 @@ impl<A: Allocator> Model for Stage<A> {
         × (knows s.pass ≡ new_desk) };
 }
 
-impl<A: Allocator + Copy> Tokens<A> {
-    /// A channel for at most so many tokens.
-    fn new(alloc: A, most: usize) -> Result<Self, AllocError> {
-        let (to, from) = bounded(alloc, most)?;
-        Ok(Tokens { to, from })
-    }
-}
-
 impl<A: Allocator + Copy> Stage<A> {
     /// A stage whose queue has room for so many jobs, 1 to 4,096.
     pub fn new(alloc: A, capacity: usize) -> Result<Self, AllocError>
@@ -69,16 +54,44 @@ impl<A: Allocator + Copy> Stage<A> {
         ensures { IfOk result (λ s. s.capacity ≡ capacity) }
     {
         let (sender, receiver, pass) = bounded_with::<Job<A>, View, Law, A>(alloc, capacity)?;
-        let room = Tokens::new(alloc, capacity)?;
-        let ready = Tokens::new(alloc, capacity)?;
+        let (put_room, take_room) = bounded(alloc, capacity)?;
+        let (put_ready, take_ready) = bounded(alloc, capacity)?;
         Ok(Stage {
             sender,
             receiver,
             pass,
-            room,
-            ready,
+            put: PutTokens {
+                room: put_room,
+                ready: put_ready,
+            },
+            take: TakeTokens {
+                room: take_room,
+                ready: take_ready,
+            },
             capacity,
         })
+    }
+
+    /// The outlets of the stage, as many as asked, maybe none, and the reception that makes its intakes.
+    pub fn open<S: Site>(
+        self,
+        alloc: A,
+        outlets: u32,
+    ) -> Result<(Vec<Outlet<S, A>, A>, Reception<S, A>), AllocError>
+        requires { self ≡ S.stage }
+        ensures { IfOk result (λ r. AreNew outlets r.0.items × (r.1 ≡ new_reception outlets self.capacity)) }
+    {
+        let Stage {
+            sender,
+            receiver,
+            pass,
+            put,
+            take,
+            capacity,
+        } = self;
+        let mut reception = Reception::new(sender, receiver, pass, put, capacity);
+        let outs = reception.make_outlets(alloc, outlets, &take)?;
+        Ok((outs, reception))
     }
 
     /// The ends of the stage, as many as asked, maybe none.
@@ -93,20 +106,9 @@ impl<A: Allocator + Copy> Stage<A> {
         ensures desk { IfOk result (λ r.
             r.2 ≡ record { intakes = intakes; outlets = outlets; capacity = self.capacity }) }
     {
-        let Stage {
-            sender,
-            receiver,
-            pass,
-            room,
-            ready,
-            capacity,
-        } = self;
-        let mut desk = Desk::new(sender, receiver, pass, capacity);
-        let ins = desk.make_intakes(alloc, intakes, &room, &ready)?;
-        let outs = desk.make_outlets(alloc, outlets, &room, &ready);
-        drop(room);
-        drop(ready);
-        let outs = outs?;
-        Ok((ins, outs, desk))
+        let (outs, mut reception) = self.open::<S>(alloc, outlets)?;
+        let ins = reception.make_intakes(alloc, intakes)?;
+        reception.shut();
+        Ok((ins, outs, Desk::new(reception)))
     }
 }

@@ -6,5 +6,6 @@ pub use Rattle.gn_stage.specs.Interleaving
 pub use Rattle.gn_stage.specs.Jobs
 pub use Rattle.gn_stage.specs.Lessons
 pub use Rattle.gn_stage.specs.Opened
+pub use Rattle.gn_stage.specs.Reception
 pub use Rattle.gn_stage.specs.Rule
 pub use Rattle.gn_stage.specs.Settled

@@ -85,8 +85,8 @@ pub mod tables {
 /// The stage queue between readers and workers.
 pub mod stage {
     pub use gn_stage::{
-        Desk, Intake, IntakeHome, Job, Outlet, OutletHome, Settled, Site, Stage, StageFault,
-        Unsettled, queue_is_bounded,
+        Desk, Intake, IntakeHome, Job, Outlet, OutletHome, Reception, Settled, Site, Stage,
+        StageFault, Undrained, Unsettled, queue_is_bounded,
     };
 }
 

@@ -1,7 +1,7 @@
 use Rattle.std.proofs.Common.{◌≡◌, ◌≤◌, vec_items, vec_len, vec_capacity}
 use Rattle.gn_stage.specs.Opened.{IsPassOf, knows}
 use Rattle.gn_stage.specs.Rule.{with_drained}
-use Rattle.gn_stage.proofs.settle.drain.Given as goal
+use Rattle.gn_stage.proofs.settle.drain_queue.Given as goal
 
 abbrev pub invariant-loop : goal.invariant-loop
 invariant-loop g l = record {

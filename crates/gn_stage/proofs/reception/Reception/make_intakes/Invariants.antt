@@ -1,9 +1,9 @@
 use Rattle.std.proofs.Common.{◌≡◌, vec_items}
 use Rattle.gn_stage.specs.Ends.{AreNew}
-use Rattle.gn_stage.proofs.desk.Desk.make_intakes.Given as goal
+use Rattle.gn_stage.proofs.reception.Reception.make_intakes.Given as goal
 
 abbrev pub invariant-loop : goal.invariant-loop
 invariant-loop g l = record {
-  desk : l.self ≡ record l.initial.self { intakes = l.counter };
+  desk : l.self ≡ record l.initial.self { made = record l.initial.self.made { intakes = l.counter } };
   new : AreNew l.counter (vec_items l.intakes);
 }

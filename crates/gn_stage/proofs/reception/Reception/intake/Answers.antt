@@ -1,5 +1,5 @@
 use Rattle.gn_stage.proofs.Steps.{makes_intake}
-use Rattle.gn_stage.proofs.desk.Desk.make_intake.Goals as goal
+use Rattle.gn_stage.proofs.reception.Reception.intake.Goals as goal
 
 pub another-pass-requires-clause-rule : goal.another-pass-requires-clause-rule
 another-pass-requires-clause-rule g c = let desk = c.self.invariant.4 in makes_intake _ _ _ desk.role desk.undrained

@@ -1,7 +1,7 @@
 use Rattle.std.proofs.Common.{◌∙◌, ap, sym, subst}
 use Rattle.gn_stage.specs.Rule.{Known, AreHome}
 use Rattle.gn_stage.proofs.Steps.{drains, learns}
-use Rattle.gn_stage.proofs.settle.drain.Goals as goal
+use Rattle.gn_stage.proofs.settle.drain_queue.Goals as goal
 
 pub try_recv_as-requires-clause-rule : goal.try_recv_as-requires-clause-rule
 try_recv_as-requires-clause-rule g c =
