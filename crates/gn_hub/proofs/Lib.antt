@@ -1,5 +1,6 @@
 pub mod ActorLemmas
 pub mod BatchLemmas
+pub mod CountLemmas
 pub mod IdleLemmas
 pub mod KeptLemmas
 pub mod ProgressLemmas

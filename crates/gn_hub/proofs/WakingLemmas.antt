@@ -1,5 +1,5 @@
 -- A step that wakes nobody leaves everybody waiting who had to wait.
-use Rattle.std.proofs.Common.{◌≡◌, ◌==◌, ℕ, Bool, true, false, ◌&&◌, ◌||◌, cond, if◌then◌else◌, not, List, [], ◌∷◌, ◌++◌, length, drop, filter, map, reverse, Result, Ok, refl, sym, subst, ap, ◌∙◌, arith}
+use Rattle.std.proofs.Common.{◌≡◌, ◌==◌, ℕ, zero, suc, Bool, true, false, ◌&&◌, ◌||◌, cond, if◌then◌else◌, not, List, [], ◌∷◌, ◌++◌, length, drop, filter, map, reverse, set, Result, Ok, refl, sym, subst, ap, ◌∙◌, arith}
 use Rattle.std.specs.List.{slice_get}
 use Rattle.std.proofs.lemmas.Bool.Decides.{nat_tests}
 use Rattle.std.proofs.lemmas.List.{reverse-append}
@@ -12,12 +12,16 @@ use Rattle.gn_rules.specs.declared.reply.Reply.{Reply}
 use Rattle.gn_rules.specs.declared.reply.Reply.TheVariants as kind
 use Rattle.gn_rules.specs.Fits.{AnswersFit, is_fit, replies}
 use Rattle.gn_rules.specs.declared.sends.Sending.{Sending}
+use Rattle.gn_rules.specs.Flight.{flying}
 use Rattle.gn_rules.specs.History.{connected_of, is_at, is_close, is_take, sends_of, live}
 use Rattle.gn_rules.specs.Output.{out, queued_to, waiting}
+use Rattle.gn_shake.specs.declared.role.Role.{Role}
 use Rattle.gn_hub.specs.ActorState.{ActorState, receipt}
 use Rattle.gn_hub.specs.Calls.{HasConnected, HasStepped, answer_now, over, take, close, later}
-use Rattle.gn_hub.specs.HubState.{HubState, door_of, past_of, is_closing}
+use Rattle.gn_hub.specs.HubState.{HubState, are_read, door_of, is_closing, mark_at, may_take, new_mark, past_of, with_slot}
 use Rattle.gn_hub.specs.Waking.{LeavesOthers, LeavesWaiting, are_doors_woken, concerned, is_queued_to, is_woken, wakes_of}
+use Rattle.gn_hub.specs.declared.mark.Door.TheVariants.{Unmet}
+use Rattle.gn_hub.specs.declared.mark.Mark.{Mark}
 use Rattle.gn_hub.specs.declared.wakes.Wakes.{Wakes}
 use Rattle.gn_hub.specs.declared.wakes.Wakes.TheVariants.{Nobody, Writer, Doors, Everybody}
 use Rattle.gn_hub.proofs.StepLemmas.{closed_reply, taken_reply}
@@ -174,3 +178,30 @@ connect_leaves {A} link before after me us wakes fit (reply, is, made, got) e =
 -- nothing changed
 pub unchanged : {A : Type 0} (wakes : Wakes) (sends : List (Sending A)) (before after : HubState A) → after ≡ before → LeavesWaiting wakes sends before after
 unchanged wakes sends before after same = rw same (record { at_door = λ none link h. h; for_next = λ c none h. h })
+
+-- a run to which links may come doesn't close
+open_goes_on : {A : Type 0} (h : HubState A) → h.is_open ≡ true → is_closing h ≡ false
+open_goes_on h comes = ap (λ b. not b && (length (flying (past_of h)) == 0) && are_read h.all_call h.links) comes
+
+and_first : (a b : Bool) → (a && b) ≡ true → a ≡ true
+and_first true b both = refl
+and_first false b both = absurd (cc)
+
+-- an unmet door is unmet still where a link comes
+still_unmet : (links : List Mark) (slot link : ℕ) (role : Role) → door_of (slice_get links link) ≡ Unmet → door_of (slice_get (set links slot (new_mark role)) link) ≡ Unmet
+still_unmet [] slot link role unmet = unmet
+still_unmet (mark ∷ links) zero zero role unmet = refl
+still_unmet (mark ∷ links) zero (suc link) role unmet = unmet
+still_unmet (mark ∷ links) (suc slot) zero role unmet = unmet
+still_unmet (mark ∷ links) (suc slot) (suc link) role unmet = still_unmet links slot link role unmet
+
+-- a link that comes wakes nobody
+pub coming_leaves : {A : Type 0} (slot : ℕ) (role : Role) (before after : HubState A) → may_take before slot ≡ true → after ≡ with_slot before slot role → LeavesWaiting Nobody [] before after
+coming_leaves {A} slot role before after may is =
+    let comes = and_first before.is_open (mark_at before slot).is_done may in
+    rw is (record {
+      at_door = λ woken link unmet. (still_unmet before.links slot link role unmet.0, unmet.1);
+      for_next = λ c woken waits.
+          let was = later_is (not (live (past_of before) c) || before.failed) (waiting (past_of before) c == 0) (is_closing before) waits in
+          is_later (not (live (past_of before) c) || before.failed) (waiting (past_of before) c == 0) (is_closing (with_slot before slot role)) was.0 was.1 (open_goes_on (with_slot before slot role) comes);
+    })

@@ -4,4 +4,5 @@ pub mod Calls
 pub mod HubState
 pub mod Receipts
 -- Words of the proofs.
+pub mod Counts
 pub mod Waking

@@ -5,7 +5,7 @@ ghost use Rattle.gn_rules.specs.declared.event.Event.TheVariants.{Connect, Route
 ghost use Rattle.gn_rules.specs.declared.reply.Reply.{Reply};
 ghost use Rattle.gn_rules.specs.Fits.{refuses};
 ghost use Rattle.gn_rules.specs.History.{live};
-ghost use Rattle.gn_hub.specs.HubState.{is_closing, past_of};
+ghost use Rattle.gn_hub.specs.HubState.{is_closing, may_take, past_of, with_slot};
 ghost use Rattle.gn_hub.specs.ActorState.{receipt, with_receipt};
 ghost use Rattle.gn_hub.specs.Receipts.{AreKept, HasClosed, HasDrained, HasReceipt, HasTaken, HasTakenMore, HasTakenSome, HasThis, IsDrainedAt, is_stop};
 ghost use Rattle.gn_hub.specs.Waking.{LeavesOthers, LeavesWaiting, wakes_of};
@@ -24,6 +24,7 @@ use gn_room::Room;
 use gn_rules::{
     ConnId, Event, Excerpt, Receipt, Refusal, RouterCore, Ticket, answers_fit, checked_answers_fit,
 };
+use gn_shake::Role;
 use std::alloc::Allocator;
 use std::sync::ledger::Ledger;
 
@@ -133,7 +134,6 @@ impl<C: RouterCore<A>, L: Ledger + Named, A: Allocator + Copy> Hub<C, L, A> {
         me: &mut Actor<L, A>,
         link: u32,
     ) -> Answered<Receipt<A>>
-        requires { me.old.number ≡ link }
         ensures answer { MatchResult result.answer
             (λ _. HasReceipt Connect me.old me.new)
             (λ refusal. (refuses {A = A} Connect refusal ≡ true) × (me.new ≡ me.old)) }
@@ -285,6 +285,20 @@ impl<C: RouterCore<A>, L: Ledger + Named, A: Allocator + Copy> Hub<C, L, A> {
             },
             Err(refusal) => Answered::refused(refusal),
         }
+    }
+
+    /// `take_slot`, for the lock, where a link may take that slot. Whether it did. Nobody waits for this.
+    #[tactic(auto, using(crate::proofs::WakingLemmas::coming_leaves, crate::proofs::WakingLemmas::unchanged))]
+    pub(crate) fn slot_answered(&mut self, slot: u32, role: Role) -> bool
+        ensures may { result ≡ may_take self.old slot }
+        ensures taken { self.new ≡ (if may_take self.old slot then with_slot self.old slot role else self.old) }
+        ensures quiet { LeavesWaiting Nobody [] self.old self.new }
+    {
+        if !self.may_take(slot) {
+            return false;
+        }
+        self.take_slot(slot, role);
+        true
     }
 
     /// Whom an event's step, the last one, may have brought what they wait for.

@@ -1,14 +1,14 @@
 //! What lies under the lock: the router, the annals of its steps, and what is known of the links.
 
 ghost use Rattle.std.specs.Prelude.{◌≡◌, ◌≤◌, ◌==◌, ◌∷◌, ◌++◌, [], true, false, length, reverse, take, Some, Ok, IfOk, MatchResult};
-ghost use Rattle.std.specs.List.{list_all, slice_get};
+ghost use Rattle.std.specs.List.{slice_get};
 ghost use Rattle.gn_rules.specs.Answer.{checked_answer};
 ghost use Rattle.gn_rules.specs.Flight.{flying};
 ghost use Rattle.gn_rules.specs.declared.event.Event.TheVariants.{Connect, Route};
 ghost use Rattle.gn_rules.specs.declared.reply.Reply.{Reply};
 ghost use Rattle.gn_hub.specs.declared.mark.Door.TheVariants.{Shut};
 ghost use Rattle.gn_hub.specs.declared.next.Outgoing.TheVariants.{Drained};
-ghost use Rattle.gn_hub.specs.HubState.{are_read, do_all_call, door_by, door_of, is_awaited_no_more, is_closing, past_of, with_door, with_reader_done};
+ghost use Rattle.gn_hub.specs.HubState.{are_read, door_by, door_of, is_closing, may_take, past_of, with_door, with_reader_done, with_slot};
 ghost use Rattle.gn_actors.specs.Home.{AreNumbered, AreWhole};
 ghost use Rattle.gn_hub.specs.Calls.{HasConnected, HasGot, HasStepped, IsNext, IsOutgoing, IsRefusal, IsStop, answer_now, due, is_step};
 ghost use Rattle.gn_hub.specs.Receipts.{AreKept, IsDrainedAt};
@@ -16,23 +16,27 @@ ghost use Rattle.gn_hub.specs.Receipts.{AreKept, IsDrainedAt};
 use crate::idle::Idle;
 use crate::mark::{Door, Mark};
 use crate::next::{Next, Outgoing, next_of};
+use crate::slots::Slots;
 use gn_actors::{Actor, Annals, Home, Named};
 use gn_payload::Checked;
 use gn_rules::{
     ConnId, Event, Excerpt, Receipt, Refusal, Reply, RouterCore, Ticket, checked_answers_fit,
 };
+use gn_shake::Role;
 use gn_trail::Trail;
 use std::alloc::{Allocator, Global};
 use std::marker::Model;
 use std::sync::ledger::Ledger;
 
-/// The router that the threads of a run share, the annals of its steps, what is known of each link, and whether the run has
-/// failed. The annals are the router's history.
+/// The router that the threads of a run share, the annals of its steps, what is known of the links, each at its slot, whether more
+/// links may come, whether all that came call, and whether the run has failed. The annals are the router's history.
 #[derive(Drop)]
 pub struct Hub<C: RouterCore<A>, L: Ledger + Named, A: Allocator + Copy = Global> {
     core: C,
     annals: Annals<L, A>,
-    links: Vec<Mark, A>,
+    slots: Slots<A>,
+    is_open: bool,
+    all_call: bool,
     failed: bool,
 }
 
@@ -45,7 +49,9 @@ impl<C: RouterCore<A>, L: Ledger + Named, A: Allocator + Copy> Model for Hub<C, 
     ghost view = { λ h. record {
       settings = C.settings h.core;
       steps = C.steps h.core;
-      links = h.links.items;
+      links = h.slots;
+      is_open = h.is_open;
+      all_call = h.all_call;
       failed = h.failed;
     } };
 
@@ -53,15 +59,46 @@ impl<C: RouterCore<A>, L: Ledger + Named, A: Allocator + Copy> Model for Hub<C, 
 }
 
 impl<C: RouterCore<A>, L: Ledger + Named, A: Allocator + Copy> Hub<C, L, A> {
-    /// A hub with no steps, of a run that hasn't failed.
-    pub(crate) fn new(core: C, annals: Annals<L, A>, links: Vec<Mark, A>) -> Self
+    /// A hub with no steps, of a run that hasn't failed, whose links are all there.
+    pub(crate) fn new(core: C, annals: Annals<L, A>, slots: Slots<A>, all_call: bool) -> Self
         requires { (annals ≡ []) × (C.steps core ≡ []) }
-        ensures { result ≡ record { settings = C.settings core; steps = []; links = links.items; failed = false } }
+        ensures { result ≡ record {
+          settings = C.settings core;
+          steps = [];
+          links = slots;
+          is_open = false;
+          all_call = all_call;
+          failed = false;
+        } }
     {
         Hub {
             core,
             annals,
-            links,
+            slots,
+            is_open: false,
+            all_call,
+            failed: false,
+        }
+    }
+
+    /// The same of a run whose links are still to come.
+    pub(crate) fn open(core: C, annals: Annals<L, A>, slots: Slots<A>) -> Self
+        requires { (annals ≡ []) × (C.steps core ≡ []) }
+        ensures { result ≡ record {
+          settings = C.settings core;
+          steps = [];
+          links = slots;
+          is_open = true;
+          all_call = true;
+          failed = false;
+        } }
+    {
+        Hub {
+            core,
+            annals,
+            slots,
+            is_open: true,
+            all_call: true,
             failed: false,
         }
     }
@@ -177,7 +214,6 @@ impl<C: RouterCore<A>, L: Ledger + Named, A: Allocator + Copy> Hub<C, L, A> {
 
     /// The Connect of the reader of a link. Its reply opens the link's door, or shuts it. A refusal changes nothing.
     pub fn connect(&mut self, me: &mut Actor<L, A>, link: u32) -> Result<Receipt<A>, Refusal>
-        requires { me.old.number ≡ link }
         ensures made { MatchResult result
             (λ _. HasConnected link self.old me.old self.new me.new)
             (λ refusal. IsRefusal refusal (answer_now self.old Connect) × (self.new ≡ self.old) × (me.new ≡ me.old)) }
@@ -255,28 +291,49 @@ impl<C: RouterCore<A>, L: Ledger + Named, A: Allocator + Copy> Hub<C, L, A> {
     pub fn reader_done(&mut self, link: u32)
         ensures { self.new ≡ with_reader_done self.old link }
     {
-        let i = link as usize;
-        if i < self.links.len() {
-            self.links[i].is_done = true;
-        }
+        let mut mark = self.slots.mark(link);
+        mark.is_done = true;
+        self.slots.put(link, mark);
     }
 
     /// Sets the door of a link of the run.
     fn set_door(&mut self, link: u32, door: Door)
         ensures { self.new ≡ with_door self.old link door }
     {
-        let i = link as usize;
-        if i < self.links.len() {
-            self.links[i].door = door;
-        }
+        let mut mark = self.slots.mark(link);
+        mark.door = door;
+        self.slots.put(link, mark);
     }
 
-    /// Whether the run is closing: nothing is in flight, and the reader of each link that doesn't call is done, or of each
-    /// link, where all of them call.
+    /// Whether a link that comes may take this slot: more links may come, and the slot is free.
+    pub fn may_take(&self, slot: u32) -> bool
+        ensures { result ≡ may_take self.now slot }
+    {
+        self.is_open && self.slots.mark(slot).is_done
+    }
+
+    /// A link of this role comes, and takes the slot.
+    pub fn take_slot(&mut self, slot: u32, role: Role)
+        requires { may_take self.old slot ≡ true }
+        ensures { self.new ≡ with_slot self.old slot role }
+    {
+        self.slots.put(slot, Mark::new(role));
+        self.all_call = self.all_call && role.is_calling();
+    }
+
+    /// No more links come.
+    pub fn no_more(&mut self)
+        ensures { self.new ≡ record self.old { is_open = false } }
+    {
+        self.is_open = false;
+    }
+
+    /// Whether the run is closing: no more links may come, nothing is in flight, and the reader of each link that doesn't call is done,
+    /// or of each link, where all that came call.
     pub fn closing(&self) -> bool
         ensures { result ≡ is_closing self.now }
     {
-        self.is_idle() && self.is_read()
+        !self.is_open && self.is_idle() && self.is_read()
     }
 
     /// Whether nothing is in flight.
@@ -299,9 +356,9 @@ impl<C: RouterCore<A>, L: Ledger + Named, A: Allocator + Copy> Hub<C, L, A> {
 
     /// Whether the run waits for no reader any more.
     fn is_read(&self) -> bool
-        ensures { result ≡ are_read self.now.links }
+        ensures { result ≡ are_read self.now.all_call self.now.links }
     {
-        are_read(self.links.as_slice())
+        self.slots.are_read(self.all_call)
     }
 
     /// Whether the run has failed.
@@ -322,7 +379,7 @@ impl<C: RouterCore<A>, L: Ledger + Named, A: Allocator + Copy> Hub<C, L, A> {
     pub fn door(&self, link: u32) -> Door
         ensures { result ≡ door_of (slice_get self.now.links link) }
     {
-        match self.links.get(link as usize) {
+        match self.slots.get(link) {
             Some(mark) => mark.door,
             None => Door::Shut,
         }
@@ -391,25 +448,4 @@ fn door_after<A: Allocator>(reply: &Reply<A>) -> Door
         Reply::Connected(c) => Door::Met(*c),
         _ => Door::Shut,
     }
-}
-
-/// Whether all links call.
-fn do_all_call(links: &[Mark]) -> bool
-    ensures { result ≡ do_all_call links.now }
-{
-    links.iter().all(|m| m.role.is_calling())
-}
-
-/// Whether a run waits for no reader of these links any more.
-fn are_read(links: &[Mark]) -> bool
-    ensures { result ≡ are_read links.now }
-{
-    are_awaited_no_more(links, do_all_call(links))
-}
-
-/// Whether a run waits for none of these readers, where all links call or not.
-fn are_awaited_no_more(links: &[Mark], all_call: bool) -> bool
-    ensures { result ≡ list_all (is_awaited_no_more all_call) links.now }
-{
-    links.iter().all(|m| m.is_awaited_no_more(all_call))
 }

@@ -13,6 +13,7 @@ mod next;
 mod opening;
 mod progress;
 mod service;
+mod slots;
 mod waiters;
 mod wakes;
 

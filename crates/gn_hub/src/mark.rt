@@ -25,7 +25,8 @@ pub struct Mark {
 
 impl Mark {
     ghost use Rattle.std.specs.Prelude.{◌≡◌};
-    ghost use Rattle.gn_hub.specs.HubState.{is_awaited_no_more, new_mark};
+    ghost use Rattle.gn_hub.specs.Counts.{one_if, reads_called, reads_uncalled};
+    ghost use Rattle.gn_hub.specs.HubState.{free_mark, new_mark};
 
     /// A link whose reader has neither connected nor ended.
     pub fn new(role: Role) -> Mark
@@ -38,10 +39,28 @@ impl Mark {
         }
     }
 
-    /// Whether a run waits for the link's reader no more, where all links call or not.
-    pub fn is_awaited_no_more(&self, all_call: bool) -> bool
-        ensures { result ≡ is_awaited_no_more all_call self.now }
+    /// A slot without a link.
+    pub fn free() -> Mark
+        ensures { result ≡ free_mark }
     {
-        self.is_done || !self.role.is_awaited(all_call)
+        Mark {
+            role: Role::Calling,
+            door: Door::Shut,
+            is_done: true,
+        }
+    }
+
+    /// How many readers it has that aren't done, of a link that doesn't call: one or none.
+    pub(crate) fn uncalled(&self) -> usize
+        ensures { result ≡ one_if (reads_uncalled self.now) }
+    {
+        usize::from(!self.is_done && !self.role.is_calling())
+    }
+
+    /// The same of a link that calls.
+    pub(crate) fn called(&self) -> usize
+        ensures { result ≡ one_if (reads_called self.now) }
+    {
+        usize::from(!self.is_done && self.role.is_calling())
     }
 }

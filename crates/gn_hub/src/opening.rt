@@ -1,14 +1,16 @@
 //! How the service of a run is made, and its actors.
 
-ghost use Rattle.std.specs.Prelude.{◌≡◌, ◌+◌, ◌*◌, ◌<◌, ◌≤◌, ◌↔◌, [], length, map, IfErr, IfOk};
+ghost use Rattle.std.specs.Prelude.{◌≡◌, ◌+◌, ◌*◌, ◌<◌, ◌≤◌, ◌↔◌, [], length, IfErr, IfOk};
+ghost use Rattle.std.specs.List.{list_all};
+ghost use Rattle.gn_shake.specs.Greeting.{is_calling};
 ghost use Rattle.gn_rules.specs.Limits.{IsCrew, most_links};
 ghost use Rattle.gn_hub.specs.ActorState.{AreNew};
-ghost use Rattle.gn_hub.specs.HubState.{new_mark, opening};
+ghost use Rattle.gn_hub.specs.HubState.{opening, opening_for};
 ghost use Rattle.gn_hub.specs.declared.opening.ServiceFault.TheVariants.{BadWorkers};
 
 use crate::hub::Hub;
-use crate::mark::Mark;
 use crate::service::Service;
+use crate::slots::Slots;
 use gn_actors::{Actor, Annals, Beginning, Named, Unopened};
 use gn_room::Room;
 use gn_rules::{Config, FreshRouter, MOST_WORKERS, RouterCore, Step};
@@ -87,6 +89,25 @@ impl<C: RouterCore<A> + Drop, L: Ledger + Named, A: Allocator + Copy> Service<C,
         let (hub, actors) = open(alloc, unopened, core, roles, workers)?;
         Ok((Service::over(hub, room), actors))
     }
+
+    /// The service of a run whose links come one after another, at most so many at once, over a router of no steps, whose steps somebody
+    /// takes to make room for others. All parts of the ledger, and a beginning of the steps, for its actors.
+    pub fn open(
+        alloc: A,
+        unopened: Unopened<A>,
+        core: C,
+        room: Room,
+        slots: u32,
+    ) -> Result<(Self, Share<L>, Beginning<Step<A>, L>), AllocError>
+        requires empty { C.steps core ≡ [] }
+        requires name { (unopened.blank.name ≡ L.name) × (unopened.steps.name ≡ L.growing) }
+        requires parts { unopened.blank.parts ≡ L.parts }
+        ensures whole { IfOk result
+            (λ made. (made.1.parts ≡ L.parts) × (made.1.amount ≡ 0) × (made.2.items ≡ [])) }
+    {
+        let (hub, all, seen) = open_for(alloc, unopened, core, slots)?;
+        Ok((Service::over(hub, room), all, seen))
+    }
 }
 
 /// The hub of a run that begins, over a router of no steps, and the actors.
@@ -105,21 +126,37 @@ fn open<C: RouterCore<A> + Drop, L: Ledger + Named, A: Allocator + Copy>(
     ensures hub { IfOk result (λ made. made.0 ≡ opening (C.settings core) roles.now) }
     ensures actors { IfOk result (λ made. AreNew (2 * length roles.now + workers + 1) made.1.items) }
 {
-    let links = marks_of(alloc, roles)?;
+    let slots = Slots::of(alloc, roles)?;
     let (annals, all, seen) = Annals::open(unopened);
     let actors = make_actors(alloc, all, seen, 2 * roles.len() as u32 + workers + 1)?;
-    Ok((Hub::new(core, annals, links), actors))
+    let hub = Hub::new(core, annals, slots, do_all_call(roles));
+    Ok((hub, actors))
 }
 
-/// Links whose readers have neither connected nor ended.
-fn marks_of<A: Allocator>(alloc: A, roles: &[Role]) -> Result<Vec<Mark, A>, AllocError>
-    ensures { IfOk result (λ marks. marks.items ≡ map new_mark roles.now) }
+/// Whether all links call.
+fn do_all_call(roles: &[Role]) -> bool
+    ensures { result ≡ list_all is_calling roles.now }
 {
-    let mut marks = Vec::new(alloc);
-    for role in roles {
-        marks.push(Mark::new(*role))?;
-    }
-    Ok(marks)
+    roles.iter().all(|role| role.is_calling())
+}
+
+/// The hub of a run whose links come one after another, at most so many at once, over a router of no steps. All parts of the
+/// ledger, and a beginning of the steps, for its actors.
+fn open_for<C: RouterCore<A> + Drop, L: Ledger + Named, A: Allocator + Copy>(
+    alloc: A,
+    unopened: Unopened<A>,
+    core: C,
+    slots: u32,
+) -> Result<(Hub<C, L, A>, Share<L>, Beginning<Step<A>, L>), AllocError>
+    requires empty { C.steps core ≡ [] }
+    requires name { (unopened.blank.name ≡ L.name) × (unopened.steps.name ≡ L.growing) }
+    requires parts { unopened.blank.parts ≡ L.parts }
+    ensures hub { IfOk result (λ made. made.0 ≡ opening_for (C.settings core) slots) }
+    ensures whole { IfOk result (λ made. (made.1.parts ≡ L.parts) × (made.1.amount ≡ 0) × (made.2.items ≡ [])) }
+{
+    let slots = Slots::free(alloc, slots)?;
+    let (annals, all, seen) = Annals::open(unopened);
+    Ok((Hub::open(core, annals, slots), all, seen))
 }
 
 /// Actors in order, with a part of the ledger each.

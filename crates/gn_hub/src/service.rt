@@ -23,6 +23,7 @@ use gn_actors::{Actor, Named};
 use gn_payload::Checked;
 use gn_room::Room;
 use gn_rules::{ConnId, Event, Receipt, Refusal, RouterCore, Sending, Ticket};
+use gn_shake::Role;
 use std::alloc::{AllocError, Allocator, Global};
 use std::hint::spin_loop;
 use std::sync::ledger::Ledger;
@@ -224,7 +225,6 @@ impl<C: RouterCore<A> + Drop, L: Ledger + Named, A: Allocator + Copy> Service<C,
         me: &mut Actor<L, A>,
         link: u32,
     ) -> Result<Receipt<A>, Refusal>
-        requires { me.old.number ≡ link }
         ensures answer { MatchResult result
             (λ _. HasReceipt Connect me.old me.new)
             (λ refusal. (refuses {A = A} Connect refusal ≡ true) × (me.new ≡ me.old)) }
@@ -324,6 +324,19 @@ impl<C: RouterCore<A> + Drop, L: Ledger + Named, A: Allocator + Copy> Service<C,
     pub fn reader_done<R: Wait>(&self, rt: &R, link: u32) {
         let mut held = self.lock(rt);
         held.hub.reader_done(link);
+        self.release_all(held);
+    }
+
+    /// A link of this role comes, and takes the slot. Whether it did: more links may come, and the slot is free.
+    pub fn take_slot<R: Wait>(&self, rt: &R, slot: u32, role: Role) -> bool {
+        let mut held = self.lock(rt);
+        held.hub.slot_answered(slot, role)
+    }
+
+    /// No more links come.
+    pub fn no_more<R: Wait>(&self, rt: &R) {
+        let mut held = self.lock(rt);
+        held.hub.no_more();
         self.release_all(held);
     }
 
