@@ -3,3 +3,4 @@ pub mod HomeLemmas
 pub mod LastLemmas
 pub mod Steps
 pub mod TallyLemmas
+pub mod WhoLemmas

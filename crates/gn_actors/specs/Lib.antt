@@ -4,3 +4,4 @@ pub mod Annals
 pub mod Growing
 pub mod Home
 pub mod Tallies
+pub mod Who

@@ -16,9 +16,7 @@ use std::sync::ledger::{Ledger, Share};
 /// One of the callers of a router. Contracts see the receipts of its calls, of which it keeps none: they stand in the beginning
 /// of the history that it has seen, and its share of the ledger is their number. It knows where the last of them stands, and what
 /// they count.
-///
-/// With L links and V workers the reader of link i is actor i, its writer actor L + i, worker j is actor 2L + j, and the
-/// house, which is the caller of a run, is actor 2L + V.
+/// `Numbering` says which number it has.
 #[derive(Drop)]
 pub struct Actor<L: Ledger + Named, A: Allocator = Global> {
     pub(crate) number: u32,

@@ -6,9 +6,11 @@ mod annals;
 mod growing;
 mod home;
 mod tally;
+mod who;
 
 pub use actor::Actor;
 pub use annals::{Annals, Unopened};
 pub use growing::{Beginning, Growing, Lists, Named, Unnamed};
 pub use home::Home;
 pub use tally::Tally;
+pub use who::{Numbering, Who, numbers_are_apart};
