@@ -14,7 +14,8 @@ use Rattle.gn_rules.specs.Limits.{most_reads}
 use Rattle.gn_laws.specs.Owners.{LinkAgrees, packets_of}
 use Rattle.gn_report.specs.declared.report.LinkReport.{LinkReport}
 use Rattle.gn_report.specs.declared.report.Report.{Report}
-use Rattle.gn_report.specs.Actors.{writer_of}
+use Rattle.gn_actors.specs.declared.who.Who.TheVariants.{Writer}
+use Rattle.gn_report.specs.Actors.{number_in}
 use Rattle.gn_report.proofs.ConfirmedLemmas.{reader_own, writer_own}
 use Rattle.gn_threads.specs.Headline.{Holds, LinkHolds}
 use Rattle.gn_threads.proofs.EndLemmas.{link_read, link_written}
@@ -31,8 +32,8 @@ record Placed {Rd W A : Type 0} (reads : Rd → ReadHalf) (writes : W → Writte
   k : ℕ
   holds : LinkHolds reads writes turns batch roles report k role link
   reads_own : link.reader_receipts.items ≡ mine report.history.items k
-  writes_own : link.writer_receipts.items ≡ mine report.history.items (writer_of report k)
-  agrees : (c : ℕ) → link.conn ≡ Some c → LinkAgrees report.history.items k (writer_of report k) c
+  writes_own : link.writer_receipts.items ≡ mine report.history.items (number_in report (Writer k))
+  agrees : (c : ℕ) → link.conn ≡ Some c → LinkAgrees report.history.items k (number_in report (Writer k)) c
 
 placed : {Rd W A : Type 0} (batch : ℕ) (reads : Rd → ReadHalf) (writes : W → WrittenHalf) (s : Config) (roles : List Role) (workers : ℕ) (report : Report Rd W A) (role : Role) (link : LinkReport Rd W A) (c : ℕ)
     → Holds batch reads writes s roles workers report → IsLinkOf roles report role link c → Placed reads writes (most_reads s.numbers.steps) batch roles report role link
@@ -41,7 +42,7 @@ placed {Rd} {W} {A} batch reads writes s roles workers report role link c holds 
   holds = subst (λ r. LinkHolds reads writes (most_reads s.numbers.steps) batch roles report is.index r link) is.has_role
       (subst (λ l. LinkHolds reads writes (most_reads s.numbers.steps) batch roles report is.index (get_or roles is.index role) l) is.stands (holds.links is.index role link is.within));
   reads_own = subst (λ (l : LinkReport Rd W A). l.reader_receipts.items ≡ mine report.history.items is.index) is.stands (reader_own report holds.own.0 is.index link is.within);
-  writes_own = subst (λ (l : LinkReport Rd W A). l.writer_receipts.items ≡ mine report.history.items (writer_of report is.index)) is.stands (writer_own report holds.own.0 is.index link is.within);
+  writes_own = subst (λ (l : LinkReport Rd W A). l.writer_receipts.items ≡ mine report.history.items (number_in report (Writer is.index))) is.stands (writer_own report holds.own.0 is.index link is.within);
   agrees = λ d conn. (runs_add_up Rd W A batch reads writes s roles workers report holds).agrees is.index d link is.within (subst (λ (l : LinkReport Rd W A). l.conn ≡ Some d) (sym is.stands) conn);
 }
 

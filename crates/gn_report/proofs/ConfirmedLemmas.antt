@@ -18,7 +18,8 @@ use Rattle.gn_laws.proofs.FittingLemmas.{strangers_have_none}
 use Rattle.gn_laws.proofs.OwnerLemmas.{links_agree}
 use Rattle.gn_report.specs.declared.report.LinkReport.{LinkReport}
 use Rattle.gn_report.specs.declared.report.Report.{Report}
-use Rattle.gn_report.specs.Actors.{AreOwn, actors, first_worker, receipts_of, writer_of}
+use Rattle.gn_actors.specs.declared.who.Who.TheVariants.{House, Worker, Writer}
+use Rattle.gn_report.specs.Actors.{AreOwn, number_in, receipts_of}
 use Rattle.gn_report.specs.BodyEnds.{is_writer_end}
 use Rattle.gn_report.proofs.ComparedLemmas.{is_last_close}
 use Rattle.gn_report.proofs.ConnLemmas.{conn_is_known}
@@ -35,7 +36,7 @@ match_false P false e h = h
 
 -- all actors are confirmed
 abbrev AllConfirmed : {Rd W A : Type 0} → (ℕ → Bool) → List Role → Report Rd W A → Type 0
-AllConfirmed settled roles report = (a : ℕ) → a < actors report → IsConfirmed settled roles report a
+AllConfirmed settled roles report = (a : ℕ) → a < number_in report House + 1 → IsConfirmed settled roles report a
 
 reader_at : {Rd W A : Type 0} (settled : ℕ → Bool) (roles : List Role) (report : Report Rd W A) → AllConfirmed settled roles report
     → (k : ℕ) (r : Role) (d : LinkReport Rd W A) → k < length report.links.items
@@ -73,7 +74,7 @@ some_of (x ∷ xs) below = x
 
 -- an actor that is neither a reader nor a writer routed alone, where workers and the house did
 pub others_routed : {Rd W A : Type 0} (report : Report Rd W A) → ((j : ℕ) (d : Vec (Receipt A) A) → j < length report.workers.items → AreRoutes (get_or report.workers.items j d).items) → AreRoutes report.house.items
-    → (a : ℕ) → first_worker report ≤ a → a < actors report → AreRoutes (get_or (receipts_of report) a [])
+    → (a : ℕ) → number_in report (Worker 0) ≤ a → a < number_in report House + 1 → AreRoutes (get_or (receipts_of report) a [])
 others_routed {Rd} {W} {A} report workers house a past below =
     let n = length report.links.items in
     let v = length report.workers.items in
@@ -92,12 +93,12 @@ others_routed {Rd} {W} {A} report workers house a past below =
 -- what a report without a flaw says of its actors
 pub record Confirmed {Rd W A : Type 0} (settled : ℕ → Bool) (roles : List Role) (report : Report Rd W A) : Type 0 where
   pub own : AreOwn report
-  pub only : list_all (λ step. nat_lt step.actor (actors report)) report.history.items ≡ true
+  pub only : list_all (λ step. nat_lt step.actor (number_in report House + 1)) report.history.items ≡ true
   pub reader : (k : ℕ) (r : Role) (d : LinkReport Rd W A) → k < length report.links.items
-      → ReaderConfirmed report.history.items (list_all is_calling roles) (writer_of report k) (get_or roles k r) (get_or report.links.items k d)
+      → ReaderConfirmed report.history.items (list_all is_calling roles) (number_in report (Writer k)) (get_or roles k r) (get_or report.links.items k d)
   pub writer : (k : ℕ) (r : Role) (d : LinkReport Rd W A) → k < length report.links.items
-      → WriterConfirmed settled roles report.history.items (writer_of report k) (get_or roles k r) (get_or report.links.items k d)
-  pub routes : (a : ℕ) → first_worker report ≤ a → a < actors report → AreRoutes (get_or (receipts_of report) a [])
+      → WriterConfirmed settled roles report.history.items (number_in report (Writer k)) (get_or roles k r) (get_or report.links.items k d)
+  pub routes : (a : ℕ) → number_in report (Worker 0) ≤ a → a < number_in report House + 1 → AreRoutes (get_or (receipts_of report) a [])
 
 pub confirmed : {Rd W A : Type 0} (settled : ℕ → Bool) (roles : List Role) (report : Report Rd W A) → AllConfirmed settled roles report → Confirmed settled roles report
 confirmed settled roles report all = record {
@@ -114,17 +115,17 @@ pub reader_own : {Rd W A : Type 0} (report : Report Rd W A) → AreOwn report �
 reader_own report own k d below = sym (at_reader report k d below) ∙ own k (omega (arith, below))
 
 pub writer_own : {Rd W A : Type 0} (report : Report Rd W A) → AreOwn report → (k : ℕ) (d : LinkReport Rd W A) → k < length report.links.items
-    → (get_or report.links.items k d).writer_receipts.items ≡ mine report.history.items (writer_of report k)
-writer_own report own k d below = sym (at_writer report k (writer_of report k) d below refl) ∙ own (writer_of report k) (omega (arith, below))
+    → (get_or report.links.items k d).writer_receipts.items ≡ mine report.history.items (number_in report (Writer k))
+writer_own report own k d below = sym (at_writer report k (number_in report (Writer k)) d below refl) ∙ own (number_in report (Writer k)) (omega (arith, below))
 
 -- the events of actors that are neither a reader nor a writer are routes
-routes_only : {Rd W A : Type 0} (report : Report Rd W A) → AreOwn report → list_all (λ step. nat_lt step.actor (actors report)) report.history.items ≡ true
-    → ((a : ℕ) → first_worker report ≤ a → a < actors report → AreRoutes (get_or (receipts_of report) a []))
-    → (a : ℕ) → first_worker report ≤ a → AreRoutes (mine report.history.items a)
+routes_only : {Rd W A : Type 0} (report : Report Rd W A) → AreOwn report → list_all (λ step. nat_lt step.actor (number_in report House + 1)) report.history.items ≡ true
+    → ((a : ℕ) → number_in report (Worker 0) ≤ a → a < number_in report House + 1 → AreRoutes (get_or (receipts_of report) a []))
+    → (a : ℕ) → number_in report (Worker 0) ≤ a → AreRoutes (mine report.history.items a)
 routes_only {Rd} {W} {A} report own only routes a past =
-    elim (cases_lt a (actors report)) as (λ x. AreRoutes (mine report.history.items a)) [
+    elim (cases_lt a (number_in report House + 1)) as (λ x. AreRoutes (mine report.history.items a)) [
       | inl low ↦ subst (λ rs. AreRoutes rs) (own a low) (routes a past low)
-      | inr high ↦ ap (λ rs. list_all (λ (r : Receipt A). is_some (ticket_of r.event)) rs) (strangers_have_none A report.history.items (actors report) a only high)
+      | inr high ↦ ap (λ rs. list_all (λ (r : Receipt A). is_some (ticket_of r.event)) rs) (strangers_have_none A report.history.items (number_in report House + 1) a only high)
     ]
 
 -- what is said of a link's bodies: its connection is the one that its reader was given, and their events are on it
@@ -134,9 +135,9 @@ pub record IsOnLink {Rd W A : Type 0} (link : LinkReport Rd W A) : Type 0 where
   pub written : list_all (λ r. is_writers link.conn r.event) link.writer_receipts.items ≡ true
 
 -- where that is so of each link, and all others routed, actors are compared as the laws of owners ask it
-pub compared_by : {Rd W A : Type 0} (report : Report Rd W A) → AreOwn report → list_all (λ step. nat_lt step.actor (actors report)) report.history.items ≡ true
+pub compared_by : {Rd W A : Type 0} (report : Report Rd W A) → AreOwn report → list_all (λ step. nat_lt step.actor (number_in report House + 1)) report.history.items ≡ true
     → ((k : ℕ) (d : LinkReport Rd W A) → k < length report.links.items → IsOnLink (get_or report.links.items k d))
-    → ((a : ℕ) → first_worker report ≤ a → a < actors report → AreRoutes (get_or (receipts_of report) a []))
+    → ((a : ℕ) → number_in report (Worker 0) ≤ a → a < number_in report House + 1 → AreRoutes (get_or (receipts_of report) a []))
     → AreCompared report.history.items (map (λ link. link.conn) report.links.items)
 compared_by {Rd} {W} {A} report owned only on routes =
     let links = report.links.items in

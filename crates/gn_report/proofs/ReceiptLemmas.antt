@@ -9,7 +9,8 @@ use Rattle.gn_laws.specs.Owners.{AreFitting}
 use Rattle.gn_laws.proofs.FittingLemmas.{fitting_are_mine}
 use Rattle.gn_report.specs.declared.report.LinkReport.{LinkReport}
 use Rattle.gn_report.specs.declared.report.Report.{Report}
-use Rattle.gn_report.specs.Actors.{actors, receipts_of, AreOwn}
+use Rattle.gn_actors.specs.declared.who.Who.TheVariants.{House}
+use Rattle.gn_report.specs.Actors.{AreOwn, number_in, receipts_of}
 
 -- the receipts of the readers, of the writers, and of the workers and the house
 abbrev read : {Rd W A : Type 0} → Report Rd W A → List (List (Receipt A))
@@ -33,7 +34,7 @@ writers report = length-map report.links.items (λ link. link.writer_receipts.it
 workers : {Rd W A : Type 0} (report : Report Rd W A) → length (worked report) ≡ length report.workers.items
 workers report = length-map report.workers.items (λ worker. worker.items)
 
-pub as_many_as_actors : {Rd W A : Type 0} (report : Report Rd W A) → length (receipts_of report) ≡ actors report
+pub as_many_as_actors : {Rd W A : Type 0} (report : Report Rd W A) → length (receipts_of report) ≡ number_in report House + 1
 as_many_as_actors report =
     omega (arith, readers report, writers report, workers report, length-append (read report) (written report ++ others report), length-append (written report) (others report), length-append (worked report) (report.house.items ∷ []))
 
@@ -79,7 +80,7 @@ at_house report a is =
     ∙ ap (λ i. get_or (report.house.items ∷ []) i []) place
 
 -- the receipts of one actor more
-pub sum_on : {Rd W A : Type 0} (report : Report Rd W A) (a left more : ℕ) → a < actors report → more + length (get_or (receipts_of report) a []) ≡ left
+pub sum_on : {Rd W A : Type 0} (report : Report Rd W A) (a left more : ℕ) → a < number_in report House + 1 → more + length (get_or (receipts_of report) a []) ≡ left
     → left + sum_by (λ receipts. length receipts) (take a (receipts_of report)) ≡ length report.history.items
     → more + sum_by (λ receipts. length receipts) (take (a + 1) (receipts_of report)) ≡ length report.history.items
 sum_on {Rd} {W} {A} report a left more below fewer total =
@@ -87,7 +88,7 @@ sum_on {Rd} {W} {A} report a left more below fewer total =
     omega (arith, next, fewer, total)
 
 -- where each actor's receipts fit and all are as many as the steps, they are the actors' own
-pub all_own : {Rd W A : Type 0} (report : Report Rd W A) (n : ℕ) → n ≡ actors report → ((a : ℕ) → a < n → AreFitting report.history.items a (get_or (receipts_of report) a []))
+pub all_own : {Rd W A : Type 0} (report : Report Rd W A) (n : ℕ) → n ≡ number_in report House + 1 → ((a : ℕ) → a < n → AreFitting report.history.items a (get_or (receipts_of report) a []))
     → sum_by (λ receipts. length receipts) (take n (receipts_of report)) ≡ length report.history.items
     → AreOwn report
 all_own {Rd} {W} {A} report n count fits total =

@@ -19,7 +19,8 @@ use Rattle.gn_bodies.specs.ReaderRows.{ReaderDid}
 use Rattle.gn_report.proofs.DidLemmas.{closed_nothing, readers_alone}
 use Rattle.gn_report.specs.declared.report.LinkReport.{LinkReport}
 use Rattle.gn_report.specs.declared.report.Report.{Report}
-use Rattle.gn_report.specs.Actors.{actors, writer_of}
+use Rattle.gn_actors.specs.declared.who.Who.TheVariants.{House, Writer}
+use Rattle.gn_report.specs.Actors.{number_in}
 use Rattle.gn_report.specs.BodyEnds.{is_settled, may_close_first}
 use Rattle.gn_report.specs.Flaw.{IsFitting, ReaderConfirmed, WriterConfirmed}
 use Rattle.gn_report.specs.Seen.{AreSeen, SeenIsConfirmed, must_be_gone}
@@ -65,7 +66,7 @@ seen_closed roles report seen k r d below must c is =
 -- by its writer, where its reader closed nothing
 seen_by_writer : {Rd W A : Type 0} (s : Config) (roles : List Role) (report : Report Rd W A) → IsLegal s (reverse report.history.items) → AreSeen roles report → (k : ℕ) (d : LinkReport Rd W A) → k < length report.links.items → (c : ℕ)
     → (get_or report.links.items k d).conn ≡ Some c → (get_or report.links.items k d).reader_end ≡ NotLive
-    → list_any (λ step. (step.actor == writer_of report k) && is_close c step.event) report.history.items ≡ true
+    → list_any (λ step. (step.actor == number_in report (Writer k)) && is_close c step.event) report.history.items ≡ true
 seen_by_writer {Rd} {W} {A} s roles report legal seen k d below c is not_live =
     let links = report.links.items in
     let steps = report.history.items in
@@ -93,9 +94,9 @@ seen_reader {Rd} {W} {A} s roles report legal seen k below r d =
       conn = link.known ∙ sym (conn_is_known s steps k own legal (reader_own report seen.own k d below));
       events = readers_alone at.reader_end at.conn own link.did;
       once = connected_once at.reader_end at.conn own link.did;
-      end = reader_end_is steps (writer_of report k) first own at.reader_end link.written at.conn link.did (seen_closed roles report seen k r d below)
+      end = reader_end_is steps (number_in report (Writer k)) first own at.reader_end link.written at.conn link.did (seen_closed roles report seen k r d below)
           (λ c is not_live.
-          ap (λ b. b && list_any (λ (step : Step A). (step.actor == writer_of report k) && is_close c step.event) steps) (link.first not_live)
+          ap (λ b. b && list_any (λ (step : Step A). (step.actor == number_in report (Writer k)) && is_close c step.event) steps) (link.first not_live)
           ∙ seen_by_writer s roles report legal seen k d below c is not_live);
     }
 
@@ -108,10 +109,10 @@ seen_writer {Rd} {W} {A} roles report seen k below r d =
     let at = get_or report.links.items k d in
     let own = at.writer_receipts.items in
     let role = get_or roles k r in
-    let mine_is : own ≡ mine steps (writer_of report k) = writer_own report seen.own k d below in
+    let mine_is : own ≡ mine steps (number_in report (Writer k)) = writer_own report seen.own k d below in
     record {
       events = writers_alone role at.writer_end link.written at.conn own link.wrote.0 link.wrote.1;
-      end = writer_end_is (is_settled steps) roles steps (writer_of report k) role own at.writer_end link.written at.conn mine_is link.wrote.0 link.wrote.1
+      end = writer_end_is (is_settled steps) roles steps (number_in report (Writer k)) role own at.writer_end link.written at.conn mine_is link.wrote.0 link.wrote.1
           (λ c on is. seen_closed roles report seen k r d below (ap (must_be_gone at.reader_end) on ∙ gone_written at.reader_end c) c is)
           (λ drained c index before is. drained_close (is_settled steps) roles steps c index before own is (link.settled drained) (link.later drained));
     }
@@ -125,7 +126,7 @@ by_lt {P} {Q} a n low high =
     ]
 
 -- each actor is confirmed, but that its receipts are its own
-seen_fits : {Rd W A : Type 0} (s : Config) (roles : List Role) (report : Report Rd W A) → IsLegal s (reverse report.history.items) → AreSeen roles report → (a : ℕ) → a < actors report
+seen_fits : {Rd W A : Type 0} (s : Config) (roles : List Role) (report : Report Rd W A) → IsLegal s (reverse report.history.items) → AreSeen roles report → (a : ℕ) → a < number_in report House + 1
     → IsFitting (is_settled report.history.items) roles report a
 seen_fits {Rd} {W} {A} s roles report legal seen a below =
     let n = length report.links.items in
@@ -138,7 +139,7 @@ seen_fits {Rd} {W} {A} s roles report legal seen a below =
     subst (λ i. WriterConfirmed (is_settled steps) roles steps i (get_or roles (a - n) r) (get_or report.links.items (a - n) d)) same (seen_writer roles report seen (a - n) (omega (arith, high, low)) r d))
     (λ past. by_lt a (n + n + v) (λ low d. seen.workers (a - (n + n)) d (omega (arith, past, low)))
     (λ last.
-    let is : actors report ≡ a + 1 = omega (arith, last, below) in
+    let is : number_in report House + 1 ≡ a + 1 = omega (arith, last, below) in
     record {
       routes = seen.house;
       only = subst (λ m. list_all (λ (step : Step A). nat_lt step.actor m) steps ≡ true) is seen.only;

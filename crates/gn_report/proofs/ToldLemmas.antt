@@ -8,7 +8,8 @@ use Rattle.gn_rules.specs.declared.receipt.Step.{Step}
 use Rattle.gn_rules.specs.History.{mine}
 use Rattle.gn_receipts.specs.Made.{AreMade, receipt_list}
 use Rattle.gn_report.specs.Accounts.{link_of, report_of}
-use Rattle.gn_report.specs.Actors.{AreOwn, actors, receipts_of}
+use Rattle.gn_actors.specs.declared.who.Who.TheVariants.{House}
+use Rattle.gn_report.specs.Actors.{AreOwn, number_in, receipts_of}
 use Rattle.gn_report.specs.Told.{LinkEnds, Tells, account_ends, ends_of, lists_of}
 use Rattle.gn_report.specs.declared.account.Account.{Account}
 use Rattle.gn_report.specs.Vectors.{vec_of}
@@ -47,10 +48,10 @@ module _ {Rd W A : Type 0} where
 
   -- and are those of the account
   pub same_receipts : (account : Account Rd W A) (report : Report Rd W A) → AreOwn (report_of account) → report.history.items ≡ account.history.items
-      → AreMade (actors (report_of account)) report.history.items (receipts_of report) → receipts_of report ≡ receipts_of (report_of account)
+      → AreMade (number_in (report_of account) House + 1) report.history.items (receipts_of report) → receipts_of report ≡ receipts_of (report_of account)
   same_receipts account report own same made =
       ext_get_or [] (receipts_of report) (receipts_of (report_of account)) (made.long ∙ sym (as_many_as_actors (report_of account))) (λ a below.
-      let within : a < actors (report_of account) = subst (λ n. a < n) made.long below in
+      let within : a < number_in (report_of account) House + 1 = subst (λ n. a < n) made.long below in
       made.each a within ∙ (ap (λ (steps : List (Step A)). mine steps a) same ∙ sym (own a within)))
 
   -- so it has what the account tells
@@ -60,7 +61,7 @@ module _ {Rd W A : Type 0} where
       → AreMade (length account.links.items + length account.links.items + length account.workers.items + 1) report.history.items (receipts_of report) → report.stats ≡ account.stats
       → Tells account report
   told_of account report own same many ends made stats =
-      let count : length account.links.items + length account.links.items + length account.workers.items + 1 ≡ actors (report_of account) =
+      let count : length account.links.items + length account.links.items + length account.workers.items + 1 ≡ number_in (report_of account) House + 1 =
       omega (arith, length-map account.links.items (link_of account.links.alloc), length-map account.workers.items (vec_of account.links.alloc)) in
       record {
         history = same;

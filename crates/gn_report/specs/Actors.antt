@@ -1,5 +1,4 @@
--- The actors of a run of n links and V workers: actor k below n reads link k, actor n + k writes it, actor 2n + j is worker j, and actor
--- 2n + V is the house, which started the run.
+-- The actors of a run, by their numbers.
 use Rattle.std.specs.Prelude.{◌≡◌, ◌<◌, ◌+◌, ℕ, Bool, false, List, [], ◌∷◌, ◌++◌, length, map, slice_index_or}
 use Rattle.std.specs.List.{list_all, slice_get}
 use Rattle.std.specs.Option.{option_map_or}
@@ -8,19 +7,15 @@ use Rattle.gn_rules.specs.declared.receipt.Step.{Step}
 use Rattle.gn_shake.specs.declared.role.Role.{Role}
 use Rattle.gn_shake.specs.Greeting as greeting
 use Rattle.gn_rules.specs.History.{mine, step_of}
+use Rattle.gn_actors.specs.declared.who.Numbering.TheVariants.{Known}
+use Rattle.gn_actors.specs.declared.who.Who.{Who}
+use Rattle.gn_actors.specs.declared.who.Who.TheVariants.{House}
+use Rattle.gn_actors.specs.Who.{number_of}
 use Rattle.gn_report.specs.declared.report.Report.{Report}
 
--- the number of the actor who writes link k
-abbrev pub writer_of : {Rd W A : Type 0} → Report Rd W A → ℕ → ℕ
-writer_of report k = length report.links.items + k
-
--- the number of the first actor who is neither a reader nor a writer
-abbrev pub first_worker : {Rd W A : Type 0} → Report Rd W A → ℕ
-first_worker report = length report.links.items + length report.links.items
-
--- how many actors a run has
-abbrev pub actors : {Rd W A : Type 0} → Report Rd W A → ℕ
-actors report = first_worker report + length report.workers.items + 1
+-- the number of an actor in a run that has as many links and workers as the report. The house has the greatest
+abbrev pub number_in : {Rd W A : Type 0} → Report Rd W A → Who → ℕ
+number_in report who = number_of (Known (length report.links.items) (length report.workers.items)) who
 
 -- the receipts of each actor, in the order of the actors' numbers
 abbrev pub receipts_of : {Rd W A : Type 0} → Report Rd W A → List (List (Receipt A))
@@ -33,13 +28,9 @@ pub record Stands {A : Type 0} (steps : List (Step A)) (a : ℕ) (r : Receipt A)
   pub within : r.index < length steps
   pub is : (d : Step A) → slice_index_or steps r.index d ≡ step_of a r
 
--- actor a's receipts are its own steps, each once and in order
-abbrev pub IsOwn : {Rd W A : Type 0} → Report Rd W A → ℕ → Type 0
-IsOwn report a = slice_index_or (receipts_of report) a [] ≡ mine report.history.items a
-
--- each actor's receipts are its own steps
+-- each actor's receipts are its own steps, each once and in order
 abbrev pub AreOwn : {Rd W A : Type 0} → Report Rd W A → Type 0
-AreOwn report = (a : ℕ) → a < actors report → IsOwn report a
+AreOwn report = (a : ℕ) → a < number_in report House + 1 → slice_index_or (receipts_of report) a [] ≡ mine report.history.items a
 
 -- whether actor a is an awaited reader
 abbrev pub is_awaited_reader : List Role → ℕ → Bool

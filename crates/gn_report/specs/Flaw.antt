@@ -1,9 +1,9 @@
 -- What a report is compared with, actor by actor, and what is answered.
-use Rattle.std.specs.Prelude.{◌≡◌, ◌≤◌, ◌<◌, ◌+◌, ◌-◌, ℕ, Bool, true, if◌then◌else◌, nat_lt, List, length, reverse, slice_index_or, Option, Some, None, Vec, MatchBool, is_some}
+use Rattle.std.specs.Prelude.{◌≡◌, ◌≤◌, ◌<◌, ◌+◌, ◌-◌, ℕ, Bool, true, if◌then◌else◌, nat_lt, List, [], length, reverse, slice_index_or, Option, Some, None, Vec, MatchBool, is_some}
 use Rattle.std.specs.List.{count_by, filter_map, list_all, slice_get}
 use Rattle.gn_rules.specs.declared.receipt.Receipt.{Receipt}
 use Rattle.gn_rules.specs.declared.receipt.Step.{Step}
-use Rattle.gn_rules.specs.History.{connected_of, ticket_of}
+use Rattle.gn_rules.specs.History.{connected_of, mine, ticket_of}
 use Rattle.gn_rules.specs.Output.{queued}
 use Rattle.gn_shake.specs.declared.role.Role.{Role}
 use Rattle.gn_shake.specs.Greeting.{is_calling}
@@ -11,7 +11,8 @@ use Rattle.gn_bodies.specs.declared.ends.WriterEnd.TheVariants.{Drained}
 use Rattle.gn_laws.specs.Owners.{is_readers, is_writers, packets_of}
 use Rattle.gn_report.specs.declared.report.LinkReport.{LinkReport}
 use Rattle.gn_report.specs.declared.report.Report.{Report}
-use Rattle.gn_report.specs.Actors.{IsOwn, actors}
+use Rattle.gn_actors.specs.declared.who.Who.TheVariants.{House, Writer}
+use Rattle.gn_report.specs.Actors.{number_in, receipts_of}
 use Rattle.gn_report.specs.BodyEnds.{is_connect, is_reader_end, is_writer_end, may_close_first}
 
 -- what the history confirms of the reader of a link, whose writer is actor `writer`
@@ -55,7 +56,7 @@ IsFitting {Rd} {W} {A} settled roles report a =
     let workers = report.workers.items in
     let n = length links in
     MatchBool (nat_lt a n)
-    ((r : Role) (d : LinkReport Rd W A) → ReaderConfirmed steps (list_all is_calling roles) (n + a) (slice_index_or roles a r) (slice_index_or links a d))
+    ((r : Role) (d : LinkReport Rd W A) → ReaderConfirmed steps (list_all is_calling roles) (number_in report (Writer a)) (slice_index_or roles a r) (slice_index_or links a d))
     (MatchBool (nat_lt a (n + n))
     ((r : Role) (d : LinkReport Rd W A) → WriterConfirmed settled roles steps a (slice_index_or roles (a - n) r) (slice_index_or links (a - n) d))
     (MatchBool (nat_lt a (n + n + length workers))
@@ -64,13 +65,14 @@ IsFitting {Rd} {W} {A} settled roles report a =
 
 -- all that the history confirms of actor a
 abbrev pub IsConfirmed : {Rd W A : Type 0} → (ℕ → Bool) → List Role → Report Rd W A → ℕ → Type 0
-IsConfirmed settled roles report a = IsOwn report a × IsFitting settled roles report a
+IsConfirmed settled roles report a =
+    (slice_index_or (receipts_of report) a [] ≡ mine report.history.items a) × IsFitting settled roles report a
 
 -- the answer to a report: none where all actors are confirmed, else the least one that isn't
 abbrev pub IsFlaw : {Rd W A : Type 0} → (ℕ → Bool) → List Role → Report Rd W A → Option ℕ → Type 0
-IsFlaw settled roles report None = (a : ℕ) → a < actors report → IsConfirmed settled roles report a
+IsFlaw settled roles report None = (a : ℕ) → a < number_in report House + 1 → IsConfirmed settled roles report a
 IsFlaw settled roles report (Some a) =
-    (a < actors report) × (¬ (IsConfirmed settled roles report a)) × ((k : ℕ) → k < a → IsConfirmed settled roles report k)
+    (a < number_in report House + 1) × (¬ (IsConfirmed settled roles report a)) × ((k : ℕ) → k < a → IsConfirmed settled roles report k)
 
 -- where the writer of link k ended Drained, it took all packets that were ever queued to the link's connection
 abbrev pub TookAll : {Rd W A : Type 0} → Report Rd W A → ℕ → Type 0

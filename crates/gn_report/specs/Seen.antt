@@ -1,6 +1,6 @@
 -- What is seen of a run that is over, so that its report needs no comparison with its history: what the bodies promise of their own
 -- receipts, and a few looks at the router and at each link.
-use Rattle.std.specs.Prelude.{◌≡◌, ◌<◌, ◌-◌, ℕ, Bool, true, false, nat_lt, List, length, reverse, slice_index_or, Option, Some, None, Vec, ⊤}
+use Rattle.std.specs.Prelude.{◌≡◌, ◌<◌, ◌+◌, ◌-◌, ℕ, Bool, true, false, nat_lt, List, length, reverse, slice_index_or, Option, Some, None, Vec, ⊤}
 use Rattle.std.specs.List.{list_all}
 use Rattle.gn_rules.specs.declared.config.Config.{Config}
 use Rattle.gn_rules.specs.declared.receipt.Receipt.{Receipt}
@@ -19,7 +19,8 @@ use Rattle.gn_bodies.specs.ReaderRows.{ReaderDid}
 use Rattle.gn_bodies.specs.Written.{WriterDid}
 use Rattle.gn_report.specs.declared.report.LinkReport.{LinkReport}
 use Rattle.gn_report.specs.declared.report.Report.{Report}
-use Rattle.gn_report.specs.Actors.{AreOwn, actors, is_awaited_reader}
+use Rattle.gn_actors.specs.declared.who.Who.TheVariants.{House}
+use Rattle.gn_report.specs.Actors.{AreOwn, is_awaited_reader, number_in}
 use Rattle.gn_report.specs.BodyEnds.{is_settled, may_close_first}
 use Rattle.gn_report.specs.Flaw.{AreRoutes, IsFlaw}
 
@@ -56,7 +57,7 @@ pub record IsLinkSeen {Rd W A : Type 0} (roles : List Role) (steps : List (Step 
 pub record AreSeen {Rd W A : Type 0} (roles : List Role) (report : Report Rd W A) : Type 0 where
   -- each actor's receipts are its own steps, and no step is of an actor that the run doesn't have
   pub own : AreOwn report
-  pub only : list_all (λ step. nat_lt step.actor (actors report)) report.history.items ≡ true
+  pub only : list_all (λ step. nat_lt step.actor (number_in report House + 1)) report.history.items ≡ true
   -- each link
   pub links : (k : ℕ) (r : Role) (d : LinkReport Rd W A) → k < length report.links.items
       → IsLinkSeen roles report.history.items (slice_index_or roles k r) (slice_index_or report.links.items k d)

@@ -5,6 +5,7 @@ ghost use Rattle.std.specs.List.{list_all};
 ghost use Rattle.gn_rules.specs.declared.config.Config.{Config};
 ghost use Rattle.gn_rules.specs.Answer.{IsLegal};
 ghost use Rattle.gn_rules.specs.History.{mine};
+ghost use Rattle.gn_actors.specs.declared.who.Who.TheVariants.{House};
 ghost use Rattle.gn_report.specs.Actors as actors;
 ghost use Rattle.gn_report.specs.BodyEnds as ends;
 ghost use Rattle.gn_report.specs.Flaw.{HouseConfirmed, IsConfirmed, IsFitting, IsFlaw, ReaderConfirmed, TookAll, WriterConfirmed};
@@ -101,7 +102,7 @@ impl<Rd, W, A: Allocator> Report<Rd, W, A> {
     fn is_fitting(&self, roles: &[Role], survey: &Survey, actor: u32) -> bool
         requires roles { length roles.now ≡ length self.now.links.items }
         requires survey { IsSurvey roles.now self.now survey.now }
-        requires actor { actor < actors.actors self.now }
+        requires actor { actor < actors.number_in self.now House + 1 }
         ensures { IsTrue result ↔ IsFitting (ends.is_settled self.now.history.items) roles.now self.now actor }
     {
         let n = self.links.len();
@@ -135,7 +136,7 @@ impl<Rd, W, A: Allocator> Report<Rd, W, A> {
     fn is_confirmed(&self, roles: &[Role], survey: &Survey, actor: u32) -> bool
         requires roles { length roles.now ≡ length self.now.links.items }
         requires survey { IsSurvey roles.now self.now survey.now }
-        requires actor { actor < actors.actors self.now }
+        requires actor { actor < actors.number_in self.now House + 1 }
         ensures { IsTrue result ↔ IsConfirmed (ends.is_settled self.now.history.items) roles.now self.now actor }
     {
         is_own(

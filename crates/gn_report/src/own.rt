@@ -1,10 +1,11 @@
 //! Whether receipts are an actor's own steps.
 
-ghost use Rattle.std.specs.Prelude.{◌≡◌, ◌==◌, ◌<◌, ◌↔◌, IsTrue, [], true, slice_index_or};
+ghost use Rattle.std.specs.Prelude.{◌≡◌, ◌==◌, ◌+◌, ◌<◌, ◌↔◌, IsTrue, [], true, slice_index_or};
 ghost use Rattle.std.specs.List.{count_by};
 ghost use Rattle.gn_rules.specs.declared.receipt.Step.{Step};
 ghost use Rattle.gn_rules.specs.History.{mine};
 ghost use Rattle.gn_laws.specs.Owners.{AreFitting};
+ghost use Rattle.gn_actors.specs.declared.who.Who.TheVariants.{House};
 ghost use Rattle.gn_report.specs.Actors as actors;
 ghost use Rattle.gn_report.specs.Actors.{AreOwn, Stands};
 
@@ -54,14 +55,14 @@ pub fn are_own<A: Allocator>(steps: &[Step<A>], actor: u32, receipts: &[Receipt<
 impl<Rd, W, A: Allocator> Report<Rd, W, A> {
     /// How many actors the run had.
     pub fn actors(&self) -> u32
-        ensures { result ≡ actors.actors self.now }
+        ensures { result ≡ actors.number_in self.now House + 1 }
     {
         (self.links.len() + self.links.len() + self.workers.len() + 1) as u32
     }
 
     /// The receipts of an actor.
     pub(crate) fn receipts_of(&self, actor: u32) -> &[Receipt<A>]
-        requires { actor < actors.actors self.now }
+        requires { actor < actors.number_in self.now House + 1 }
         ensures { result.now ≡ slice_index_or (actors.receipts_of self.now) actor [] }
     {
         let n = self.links.len();

@@ -23,7 +23,8 @@ use Rattle.gn_report.specs.declared.account.Account.{Account}
 use Rattle.gn_report.specs.declared.account.LinkAccount.{LinkAccount}
 use Rattle.gn_report.specs.declared.report.LinkReport.{LinkReport}
 use Rattle.gn_report.specs.Accounts.{link_of, report_of}
-use Rattle.gn_report.specs.Actors.{AreOwn, actors, is_awaited_reader, receipts_of}
+use Rattle.gn_actors.specs.declared.who.Who.TheVariants.{House}
+use Rattle.gn_report.specs.Actors.{AreOwn, is_awaited_reader, number_in, receipts_of}
 use Rattle.gn_report.specs.BodyEnds.{is_settled}
 use Rattle.gn_report.specs.Flaw.{AreRoutes}
 use Rattle.gn_report.specs.Looks.{AreReadBefore, IsDrainedLast, is_idle_at, is_idle_link}
@@ -69,7 +70,7 @@ module _ {Rd W A : Type 0} where
       ∙ (ap (λ (w : List (List (Receipt A))). map reader_receipts links ++ (w ++ last)) (map-map (λ (l : LinkReport Rd W A). l.writer_receipts.items) (link_of heap) links)
       ∙ ap (λ (v : List (List (Receipt A))). map reader_receipts links ++ (map writer_receipts links ++ (v ++ account.house.items ∷ []))) (map-map (λ (worker : Vec (Receipt A) A). worker.items) (vec_of heap) account.workers.items))
 
-  accounted_many : (account : Account Rd W A) → length (all_receipts account.links.items account.workers.items account.house) ≡ actors (report_of account)
+  accounted_many : (account : Account Rd W A) → length (all_receipts account.links.items account.workers.items account.house) ≡ number_in (report_of account) House + 1
   accounted_many account = ap length (sym (accounted_receipts account)) ∙ as_many_as_actors (report_of account)
 
   -- each actor's are its own

@@ -23,7 +23,8 @@ use Rattle.gn_bodies.specs.ReaderRows.{ReaderRow}
 use Rattle.gn_bodies.specs.Written.{WriterRow}
 use Rattle.gn_report.specs.declared.report.LinkReport.{LinkReport}
 use Rattle.gn_report.specs.declared.report.Report.{Report}
-use Rattle.gn_report.specs.Actors.{writer_of}
+use Rattle.gn_actors.specs.declared.who.Who.TheVariants.{Writer}
+use Rattle.gn_report.specs.Actors.{number_in}
 use Rattle.gn_report.specs.BodyEnds.{is_reader_end, is_settled, is_turned_away, is_writer_end, may_close_first}
 use Rattle.gn_report.proofs.ConnLemmas.{conn_made, made_by}
 use Rattle.gn_threads.specs.Ends.{ReaderEnds, WriterEnds, texts_of}
@@ -142,14 +143,14 @@ writer_back batch steps roles writer role own half NeverOpened (Some c) row = ab
 pub link_read : {Rd W A : Type 0} (reads : Rd → ReadHalf) (writes : W → WrittenHalf) (turns batch : ℕ) (roles : List Role) (report : Report Rd W A) (k : ℕ) (role : Role) (link : LinkReport Rd W A)
     → LinkHolds reads writes turns batch roles report k role link
     → ((reads link.reader).is_known ≡ true → ReaderRow role link.reader_end link.conn (link_events_in link.reader_receipts.items) (reads link.reader).bytes)
-    × (is_reader_end report.history.items (writer_of report k) (may_close_first (list_all is_calling roles) role link.writer_end) link.reader_receipts.items link.reader_end link.conn ≡ true)
+    × (is_reader_end report.history.items (number_in report (Writer k)) (may_close_first (list_all is_calling roles) role link.writer_end) link.reader_receipts.items link.reader_end link.conn ≡ true)
 link_read reads writes turns batch roles report k role link holds =
-    reader_back turns report.history.items (writer_of report k) (may_close_first (list_all is_calling roles) role link.writer_end) role link.reader_receipts.items (reads link.reader) link.reader_end link.conn holds.read
+    reader_back turns report.history.items (number_in report (Writer k)) (may_close_first (list_all is_calling roles) role link.writer_end) role link.reader_receipts.items (reads link.reader) link.reader_end link.conn holds.read
 
 -- the same of its writer
 pub link_written : {Rd W A : Type 0} (reads : Rd → ReadHalf) (writes : W → WrittenHalf) (turns batch : ℕ) (roles : List Role) (report : Report Rd W A) (k : ℕ) (role : Role) (link : LinkReport Rd W A)
     → LinkHolds reads writes turns batch roles report k role link
     → ((writes link.writer).is_known ≡ true → WriterRow batch link.writer_end role (texts_of role link.writer_receipts.items) (writes link.writer).bytes)
-    × (is_writer_end (is_settled report.history.items) roles report.history.items (writer_of report k) role link.writer_receipts.items link.writer_end link.conn ≡ true)
+    × (is_writer_end (is_settled report.history.items) roles report.history.items (number_in report (Writer k)) role link.writer_receipts.items link.writer_end link.conn ≡ true)
 link_written reads writes turns batch roles report k role link holds =
-    writer_back batch report.history.items roles (writer_of report k) role link.writer_receipts.items (writes link.writer) link.writer_end link.conn holds.written
+    writer_back batch report.history.items roles (number_in report (Writer k)) role link.writer_receipts.items (writes link.writer) link.writer_end link.conn holds.written

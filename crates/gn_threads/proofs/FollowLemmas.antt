@@ -19,7 +19,8 @@ use Rattle.gn_laws.proofs.OwnerLemmas.{links_agree, receipts_add_up}
 use Rattle.gn_laws.proofs.RunLemmas.{settled_routes_all}
 use Rattle.gn_report.specs.declared.report.LinkReport.{LinkReport}
 use Rattle.gn_report.specs.declared.report.Report.{Report}
-use Rattle.gn_report.specs.Actors.{AreOwn, actors, receipts_of, writer_of}
+use Rattle.gn_actors.specs.declared.who.Who.TheVariants.{House, Writer}
+use Rattle.gn_report.specs.Actors.{AreOwn, number_in, receipts_of}
 use Rattle.gn_report.specs.BodyEnds.{is_settled}
 use Rattle.gn_report.proofs.ConfirmedLemmas.{Confirmed, compared, took_all}
 use Rattle.gn_report.proofs.ReceiptLemmas.{as_many_as_actors}
@@ -42,7 +43,7 @@ confirmed_of batch reads writes s roles workers report holds = record {
 }
 
 -- the first a actors have as many receipts as they made steps
-counted_below : {Rd W A : Type 0} (report : Report Rd W A) → AreOwn report → (a : ℕ) → a ≤ actors report
+counted_below : {Rd W A : Type 0} (report : Report Rd W A) → AreOwn report → (a : ℕ) → a ≤ number_in report House + 1
     → sum_by (λ receipts. length receipts) (take a (receipts_of report)) ≡ receipts_below report.history.items a
 counted_below report own zero low = refl
 counted_below {Rd} {W} {A} report own (suc a) low =
@@ -58,9 +59,9 @@ adds_up : {Rd W A : Type 0} (settled : ℕ → Bool) (roles : List Role) (report
     → sum_by (λ receipts. length receipts) (receipts_of report) ≡ length report.history.items
 adds_up {Rd} {W} {A} settled roles report all =
     let receipts = receipts_of report in
-    let whole : take (actors report) receipts ≡ receipts = ap (λ n. take n receipts) (sym (as_many_as_actors report)) ∙ take-length receipts in
-    ap (λ rs. sum_by (λ (r : List (Receipt A)). length r) rs) (sym whole) ∙ counted_below report all.own (actors report) (omega arith)
-    ∙ (receipts_add_up A report.history.items (actors report)).1 all.only
+    let whole : take (number_in report House + 1) receipts ≡ receipts = ap (λ n. take n receipts) (sym (as_many_as_actors report)) ∙ take-length receipts in
+    ap (λ rs. sum_by (λ (r : List (Receipt A)). length r) rs) (sym whole) ∙ counted_below report all.own (number_in report House + 1) (omega arith)
+    ∙ (receipts_add_up A report.history.items (number_in report House + 1)).1 all.only
 
 -- each admitted ticket is routed once
 routes_each_once : {A : Type 0} (s : Config) (steps : List (Step A)) → IsLegal s (reverse steps) → is_settled steps (length steps) ≡ true → RoutesAll steps
@@ -71,7 +72,7 @@ routes_each_once {A} s steps legal settled =
 -- a link's two bodies have receipts of all that the history says of its connection
 link_agrees : {Rd W A : Type 0} (s : Config) (settled : ℕ → Bool) (roles : List Role) (report : Report Rd W A) → IsLegal s (reverse report.history.items) → Confirmed settled roles report
     → (k c : ℕ) (link : LinkReport Rd W A) → k < length report.links.items → (get_or report.links.items k link).conn ≡ Some c
-    → LinkAgrees report.history.items k (writer_of report k) c
+    → LinkAgrees report.history.items k (number_in report (Writer k)) c
 link_agrees {Rd} {W} {A} s settled roles report legal all k c link below is =
     let links = report.links.items in
     let conns : List (Option ℕ) = map (λ (l : LinkReport Rd W A). l.conn) links in

@@ -17,7 +17,8 @@ use Rattle.gn_laws.specs.Owners.{known_conn}
 use Rattle.gn_report.specs.declared.account.Account.{Account}
 use Rattle.gn_report.specs.declared.account.LinkAccount.{LinkAccount}
 use Rattle.gn_report.specs.declared.report.LinkReport.{LinkReport}
-use Rattle.gn_report.specs.Actors.{writer_of}
+use Rattle.gn_actors.specs.declared.who.Who.TheVariants.{Writer}
+use Rattle.gn_report.specs.Actors.{number_in}
 use Rattle.gn_report.specs.Accounts.{link_of, report_of}
 use Rattle.gn_report.specs.BodyEnds.{is_settled, may_close_first}
 use Rattle.gn_report.specs.Flaw.{ReaderConfirmed, WriterConfirmed}
@@ -62,17 +63,17 @@ links_hold {Rd} {W} {A} s reads writes turns batch roles account legal all ends 
     let told = link_of account.links.alloc it in
     let is : get_or report.links.items k link ≡ told = get_or-map (link_of account.links.alloc) links k some link below in
     let at = get_or roles k role in
-    let reader = subst (λ (l : LinkReport Rd W A). ReaderConfirmed steps (list_all is_calling roles) (writer_of report k) at l) is (all.reader k role link within) in
-    let writer = subst (λ (l : LinkReport Rd W A). WriterConfirmed (is_settled steps) roles steps (writer_of report k) at l) is (all.writer k role link within) in
+    let reader = subst (λ (l : LinkReport Rd W A). ReaderConfirmed steps (list_all is_calling roles) (number_in report (Writer k)) at l) is (all.reader k role link within) in
+    let writer = subst (λ (l : LinkReport Rd W A). WriterConfirmed (is_settled steps) roles steps (number_in report (Writer k)) at l) is (all.writer k role link within) in
     let read = read_kept reads turns roles links ends.readers k role some below in
     let written = written_kept writes batch roles links ends.writers k role some below in
     let holds : LinkHolds reads writes turns batch roles report k at told = record {
       conn = reader.conn;
       reader = (reader.events, reader.once);
-      read = reader_row turns steps (writer_of report k) (may_close_first (list_all is_calling roles) at it.writer_end) at it.reader_receipts.items (reads it.reader) it.reader_end it.conn
+      read = reader_row turns steps (number_in report (Writer k)) (may_close_first (list_all is_calling roles) at it.writer_end) at it.reader_receipts.items (reads it.reader) it.reader_end it.conn
           reader.conn read.0 reader.end;
       writer = writer.events;
-      written = writer_row batch steps roles (writer_of report k) at it.writer_receipts.items (writes it.writer) it.writer_end it.conn written.0.0 writer.end;
+      written = writer_row batch steps roles (number_in report (Writer k)) at it.writer_receipts.items (writes it.writer) it.writer_end it.conn written.0.0 writer.end;
       finished = written.1;
     } in
     subst (λ (l : LinkReport Rd W A). LinkHolds reads writes turns batch roles report k at l) (sym is) holds

@@ -15,7 +15,8 @@ use Rattle.gn_links.specs.Halves.{ReadHalf, Source, WrittenHalf}
 use Rattle.gn_shake.specs.declared.role.Role.{Role}
 use Rattle.gn_bodies.specs.declared.ends.ReaderEnd.{ReaderEnd}
 use Rattle.gn_report.specs.Accounts.{report_of}
-use Rattle.gn_report.specs.Actors.{actors, first_worker, writer_of}
+use Rattle.gn_actors.specs.declared.who.Who.TheVariants.{House, Worker, Writer}
+use Rattle.gn_report.specs.Actors.{number_in}
 use Rattle.gn_report.specs.BodyEnds.{is_settled}
 use Rattle.gn_report.specs.Flaw.{AreRoutes}
 use Rattle.gn_report.specs.Told.{LinkEnds, Tells, ends_of}
@@ -29,7 +30,7 @@ use Rattle.gn_threads.specs.Headline.{AreMadeOf, AreOfOne, Holds, LinkHolds, Lin
 -- a link that is the same but for its vectors
 link_holds : {Rd W A : Type 0} (reads : Rd → ReadHalf) (writes : W → WrittenHalf) (turns batch : ℕ) (roles : List Role) (r q : Report Rd W A) (k : ℕ) (role : Role) (l m : LinkReport Rd W A)
     → ends_of l ≡ ends_of m → l.reader_receipts.items ≡ m.reader_receipts.items → l.writer_receipts.items ≡ m.writer_receipts.items → r.history.items ≡ q.history.items
-    → writer_of r k ≡ writer_of q k → LinkHolds reads writes turns batch roles q k role m → LinkHolds reads writes turns batch roles r k role l
+    → number_in r (Writer k) ≡ number_in q (Writer k) → LinkHolds reads writes turns batch roles q k role m → LinkHolds reads writes turns batch roles r k role l
 link_holds {Rd} {W} {A} reads writes turns batch roles r q k role l m ends reading writing steps writer h =
     let conn : l.conn ≡ m.conn = ap (λ (e : LinkEnds Rd W). e.conn) ends in
     let reader_end : l.reader_end ≡ m.reader_end = ap (λ (e : LinkEnds Rd W). e.reader_end) ends in
@@ -49,10 +50,10 @@ module _ {Rd W A : Type 0} (account : Account Rd W A) (report : Report Rd W A) (
   same_workers : length report.workers.items ≡ length (report_of account).workers.items
   same_workers = told.many.1 ∙ sym (length-map account.workers.items (vec_of account.links.alloc))
 
-  same_first : first_worker report ≡ first_worker (report_of account)
+  same_first : number_in report (Worker 0) ≡ number_in (report_of account) (Worker 0)
   same_first = omega (arith, same_many account report told)
 
-  same_actors : actors report ≡ actors (report_of account)
+  same_actors : number_in report House + 1 ≡ number_in (report_of account) House + 1
   same_actors = omega (arith, same_many account report told, same_workers)
 
   pub holds_told : (batch : ℕ) (reads : Rd → ReadHalf) (writes : W → WrittenHalf) (s : Config) (roles : List Role) (workers : ℕ) → Holds batch reads writes s roles workers (report_of account)
@@ -64,7 +65,7 @@ module _ {Rd W A : Type 0} (account : Account Rd W A) (report : Report Rd W A) (
       λ a below.
           ap (λ (lists : List (List (Receipt A))). get_or lists a []) told.receipts
           ∙ (h.own.0 a (subst (λ n. a < n) same_actors below) ∙ ap (λ (steps : List (Step A)). mine steps a) (sym told.history)),
-      subst (λ (steps : List (Step A)). list_all (λ step. nat_lt step.actor (actors report)) steps ≡ true) (sym told.history)
+      subst (λ (steps : List (Step A)). list_all (λ step. nat_lt step.actor (number_in report House + 1)) steps ≡ true) (sym told.history)
           (subst (λ n. list_all (λ (step : Step A). nat_lt step.actor n) account.history.items ≡ true) (sym same_actors) h.own.1),
     );
     links = λ k role link below.

@@ -5,6 +5,9 @@ use Rattle.gn_links.specs.declared.split.SplitFault.{SplitFault}
 use Rattle.gn_links.specs.declared.split.SplitFault.TheVariants as split
 use Rattle.gn_bodies.specs.declared.ends.BodyFault.{BodyFault}
 use Rattle.gn_bodies.specs.declared.ends.BodyFault.TheVariants as body
+use Rattle.gn_actors.specs.declared.who.Numbering.TheVariants.{Known}
+use Rattle.gn_actors.specs.declared.who.Who.TheVariants.{House}
+use Rattle.gn_actors.specs.Who.{number_of}
 use Rattle.gn_threads.specs.declared.fault.RunFault.{RunFault}
 use Rattle.gn_threads.specs.declared.fault.RunFault.TheVariants.{BadWorkers, Listen, Call, Link, HistoryFull, NoMemory, Stage, Audit}
 
@@ -18,7 +21,7 @@ IsFaultOf links workers (Link k) = ⊥
 IsFaultOf links workers HistoryFull = ⊤
 IsFaultOf links workers NoMemory = ⊤
 IsFaultOf links workers (Stage fault) = ⊤
-IsFaultOf links workers (Audit a) = a < links + links + workers + 1
+IsFaultOf links workers (Audit a) = a < number_of (Known links workers) House + 1
 
 -- the faults of a run whose links come one after another: those of `IsFaultOf`, and, where neighbours are called and accepted,
 -- Listen, Call and Link

@@ -1,8 +1,7 @@
 -- The headline: what an answered run says of its history, of its actors, of each link and of each admitted ticket.
 --
--- Of n links and V workers actor k below n reads link k, actor n + k writes it, actor 2n + j is worker j, and actor 2n + V
--- is the house. `turns` reads of a link may give bytes, and a writer takes at most `batch` packets at once.
-use Rattle.std.specs.Prelude.{◌≡◌, ◌<◌, ◌≤◌, ℕ, true, nat_lt, if◌then◌else◌, List, [], length, map, reverse, slice_index_or, Some, None}
+-- `turns` reads of a link may give bytes, and a writer takes at most `batch` packets at once.
+use Rattle.std.specs.Prelude.{◌≡◌, ◌<◌, ◌≤◌, ◌+◌, ℕ, true, nat_lt, if◌then◌else◌, List, [], length, map, reverse, slice_index_or, Some, None}
 use Rattle.std.specs.List.{count_by, filter_map, list_all, slice_get, sum_by}
 use Rattle.gn_rules.specs.declared.config.Config.{Config}
 use Rattle.gn_rules.specs.Answer.{IsLegal}
@@ -18,7 +17,8 @@ use Rattle.gn_laws.specs.Owners.{LinkAgrees, is_readers, is_writers}
 use Rattle.gn_laws.specs.Runs.{RoutesAll}
 use Rattle.gn_report.specs.declared.report.LinkReport.{LinkReport}
 use Rattle.gn_report.specs.declared.report.Report.{Report}
-use Rattle.gn_report.specs.Actors.{AreOwn, actors, first_worker, receipts_of, writer_of}
+use Rattle.gn_actors.specs.declared.who.Who.TheVariants.{House, Worker, Writer}
+use Rattle.gn_report.specs.Actors.{AreOwn, number_in, receipts_of}
 use Rattle.gn_report.specs.BodyEnds.{is_connect, is_settled, may_close_first}
 use Rattle.gn_report.specs.Flaw.{AreRoutes, TookAll}
 use Rattle.gn_threads.specs.Ends.{ReaderEnds, WriterEnds}
@@ -33,12 +33,12 @@ pub record LinkHolds {Rd W A : Type 0} (reads : Rd → ReadHalf) (writes : W →
   pub reader : (list_all (λ r. is_readers link.conn r.event) link.reader_receipts.items ≡ true)
       × (count_by (λ r. is_connect r.event) link.reader_receipts.items ≤ 1)
   -- the reader is as the table of ends says
-  pub read : ReaderEnds turns report.history.items (writer_of report k) (may_close_first (list_all is_calling roles) role link.writer_end)
+  pub read : ReaderEnds turns report.history.items (number_in report (Writer k)) (may_close_first (list_all is_calling roles) role link.writer_end)
       role link.reader_receipts.items (reads link.reader) link.reader_end link.conn
   -- the writer's events are Take and Close of the connection
   pub writer : list_all (λ r. is_writers link.conn r.event) link.writer_receipts.items ≡ true
   -- the writer is as the table of ends says
-  pub written : WriterEnds batch report.history.items roles (writer_of report k) role link.writer_receipts.items (writes link.writer)
+  pub written : WriterEnds batch report.history.items roles (number_in report (Writer k)) role link.writer_receipts.items (writes link.writer)
       link.writer_end link.conn
   -- nobody can write to the link any more
   pub finished : (writes link.writer).is_finished ≡ true
@@ -79,12 +79,12 @@ pub record Holds {Rd W A : Type 0} (batch : ℕ) (reads : Rd → ReadHalf) (writ
   -- there is a report of each link, in their order, and a list of receipts for each worker
   pub each : (length report.links.items ≡ length roles) × (length report.workers.items ≡ workers)
   -- each actor's receipts are its own steps, each once and in order; no step is of anybody else
-  pub own : AreOwn report × (list_all (λ step. nat_lt step.actor (actors report)) report.history.items ≡ true)
+  pub own : AreOwn report × (list_all (λ step. nat_lt step.actor (number_in report House + 1)) report.history.items ≡ true)
   -- each link's reader and writer did what their ends say
   pub links : (k : ℕ) (role : Role) (link : LinkReport Rd W A) → k < length report.links.items
       → LinkHolds reads writes (most_reads s.numbers.steps) batch roles report k (slice_index_or roles k role) (slice_index_or report.links.items k link)
   -- the workers and the house made no event but Route; at the end nothing is in flight
-  pub routes : ((a : ℕ) → first_worker report ≤ a → a < actors report → AreRoutes (slice_index_or (receipts_of report) a []))
+  pub routes : ((a : ℕ) → number_in report (Worker 0) ≤ a → a < number_in report House + 1 → AreRoutes (slice_index_or (receipts_of report) a []))
       × (is_settled report.history.items (length report.history.items) ≡ true)
   -- the report's statistics are those of the history
   pub stats : report.stats ≡ stats_of (reverse report.history.items)
@@ -98,7 +98,7 @@ pub record Follows {Rd W A : Type 0} (report : Report Rd W A) : Type 0 where
   -- reader and writer of a link have receipts of all that the history says of its connection: of each descriptor that was
   -- offered on it, and of each packet that was taken from it
   pub agrees : (k c : ℕ) (link : LinkReport Rd W A) → k < length report.links.items
-      → (slice_index_or report.links.items k link).conn ≡ Some c → LinkAgrees report.history.items k (writer_of report k) c
+      → (slice_index_or report.links.items k link).conn ≡ Some c → LinkAgrees report.history.items k (number_in report (Writer k)) c
   -- a writer that ended Drained took all packets that were ever queued to its connection
   pub took : (k : ℕ) → k < length report.links.items → TookAll report k
 

@@ -3,6 +3,7 @@
 pub use Rattle.gn_actors.specs.Annals
 pub use Rattle.gn_actors.specs.Home
 pub use Rattle.gn_actors.specs.Tallies
+pub use Rattle.gn_actors.specs.Who
 pub use Rattle.gn_hub.specs.ActorState
 pub use Rattle.gn_hub.specs.Calls
 pub use Rattle.gn_hub.specs.HubState

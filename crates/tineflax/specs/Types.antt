@@ -23,6 +23,8 @@ pub use Rattle.gn_rules.specs.declared.statistics.Stats
 pub use Rattle.gn_tables.specs.declared.flights.Flight
 pub use Rattle.gn_stage.specs.declared.settle.StageFault
 pub use Rattle.gn_actors.specs.declared.tally.Tally
+pub use Rattle.gn_actors.specs.declared.who.Numbering
+pub use Rattle.gn_actors.specs.declared.who.Who
 pub use Rattle.gn_hub.specs.declared.mark.Door
 pub use Rattle.gn_hub.specs.declared.next.Next
 pub use Rattle.gn_hub.specs.declared.next.Outgoing

@@ -92,7 +92,10 @@ pub mod stage {
 
 /// The router under its lock, and the actors that call it.
 pub mod hub {
-    pub use gn_actors::{Beginning, Growing, Home, Lists, Named, Tally, Unnamed, Unopened};
+    pub use gn_actors::{
+        Beginning, Growing, Home, Lists, Named, Numbering, Tally, Unnamed, Unopened, Who,
+        numbers_are_apart,
+    };
     pub use gn_hub::{
         Actor, Batch, Door, FoundClosed, Hub, Idle, Mark, Next, Outgoing, Progress, Service,
         ServiceFault,

@@ -1,6 +1,7 @@
-use Rattle.std.proofs.Common.{◌≡◌, [], get_or, rules, below_more}
+use Rattle.std.proofs.Common.{◌≡◌, ◌+◌, [], get_or, rules, below_more}
 use Rattle.gn_laws.specs.Owners.{AreFitting}
-use Rattle.gn_report.specs.Actors.{actors, receipts_of}
+use Rattle.gn_actors.specs.declared.who.Who.TheVariants.{House}
+use Rattle.gn_report.specs.Actors.{number_in, receipts_of}
 use Rattle.gn_report.proofs.ReceiptLemmas.{all_own, sum_on}
 use Rattle.gn_report.proofs.report.Report.are_all_own.Goals as goal
 
@@ -13,5 +14,5 @@ loop-actor-preserved g c = record {
 
 pub returns : goal.returns
 returns g c = λ e.
-    let at : c.loop-actor.actor ≡ actors c.args.self.now = search rules in
+    let at : c.loop-actor.actor ≡ number_in c.args.self.now House + 1 = search rules in
     all_own c.args.self.now c.loop-actor.actor at c.loop-actor.invariant.fits (search rules)
