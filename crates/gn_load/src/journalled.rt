@@ -12,24 +12,20 @@ ghost use Rattle.gn_load.specs.Journalled.{HasStoppedWriting, IsJournalled, of_p
 
 use crate::serve_fault::ServeFault;
 use crate::serve_halted::ServeHalted;
-use crate::writing::{Begun, PLACES, Writing, write_stopped};
-use gn_io::{Block, Sink};
+use crate::writing::{Begun, Fresh, PLACES, Writing, write_stopped};
+use gn_io::Sink;
 use gn_journal::{Journal, Naming};
 use gn_replay::history_heading;
-use gn_rules::{Config, MOST_WORKERS, Step};
+use gn_rules::MOST_WORKERS;
 use gn_scribe::{PrintFault, Scribe, Waiting, finish_history};
 use gn_service::{
-    Account, Batch, Halted, Ran, RunFault, Serving, TcpReader, TcpWriter, Watch, serve_by,
+    Account, Halted, Host, Ran, Routing, RunFault, Serve, TcpReader, TcpWriter, Watch, serve_by,
     tallies_of,
 };
 use gn_table_router::{Configuring, TableRouter};
-use rtrb::{Consumer, Producer, RingBuffer};
+use rtrb::RingBuffer;
 use std::alloc::{Allocator, Global};
 use std::marker::{Brand, PhantomData};
-use std::net::{Net, SocketAddr, TcpListener, TcpStream};
-use std::sync::Wait;
-use std::thread::Threads;
-use std::time::Clock;
 
 /// A run that hasn't begun.
 fn unbegun<A: Allocator>(fault: RunFault) -> ServeHalted<A>
@@ -117,104 +113,82 @@ fn unwritten<'s, A: Allocator + Copy>(
 }
 
 /// Runs a router as `serve_on` does, and writes its history, which `audit` reads, while the run goes on: a step that was made is written
-/// once nobody makes another, or a block is full. Up to `batch` packets are written to a neighbour at once. Nobody keeps the steps: the
+/// once nobody makes another, or a block is full. Nobody keeps the steps: the
 /// account comes back with what is remembered of the run. At a fault what was written is a prefix of the history; all of it, where that
 /// stands, unless a write failed (no clause says so).
-pub fn serve_journalled<
-    's,
-    R: Threads
-        + Wait
-        + Net<Listener = TcpListener, Stream = TcpStream>
-        + Clock
-        + AllocGlobal
-        + Sync,
-    G: Watch + Sync,
-    W: Sink + Send,
->(
+pub fn serve_journalled<'s, R: Host, G: Watch + Sync, W: Sink + Send>(
     rt: &R,
     alloc: Global,
-    listener: &TcpListener,
-    config: &Config,
-    accept: u32,
-    peers: &[SocketAddr],
-    serving: &Serving<'s>,
-    workers: u32,
-    watch: &G,
-    batch: Batch,
+    serve: &Serve<'_, 's, G>,
     sink: &mut W,
 ) -> Result<(Account<TcpReader<'s>, TcpWriter>, Ran), ServeHalted>
-    requires few { accept + length peers.now ≤ most_links }
-    ensures { IsJournalled batch config.now peers.now accept workers (W.state sink.old) (W.state sink.new) result }
+    requires few { serve.now.accept + length serve.now.peers.now ≤ most_links }
+    ensures { let s = serve.now in
+        IsJournalled s.batch s.config.now s.peers.now s.accept s.workers (W.state sink.old) (W.state sink.new) result }
 {
-    if workers == 0 || workers > MOST_WORKERS {
+    if serve.workers == 0 || serve.workers > MOST_WORKERS {
         return Err(unbegun(RunFault::BadWorkers));
     }
-    let Ok(heading) = history_heading(alloc, config) else {
+    let Ok(heading) = history_heading(alloc, serve.config) else {
         return Err(unbegun(RunFault::NoMemory));
     };
     let Ok((producer, consumer)) = RingBuffer::new(alloc, PLACES) else {
         return Err(unbegun(RunFault::NoMemory));
     };
-    serve_named::<Brand, R, G, W>(
-        rt, alloc, listener, config, accept, peers, serving, workers, watch, batch, heading,
-        producer, consumer, sink,
-    )
+    let fresh = Fresh {
+        heading,
+        producer,
+        consumer,
+    };
+    serve_named::<Brand, R, G, W>(rt, alloc, serve, fresh, sink)
 }
 
 /// The same over the ring that `N` names.
 fn serve_named<
     's,
     N: Naming<Global> + Configuring + Send,
-    R: Threads
-        + Wait
-        + Net<Listener = TcpListener, Stream = TcpStream>
-        + Clock
-        + AllocGlobal
-        + Sync,
+    R: Host,
     G: Watch + Sync,
     W: Sink + Send,
 >(
     rt: &R,
     alloc: Global,
-    listener: &TcpListener,
-    config: &Config,
-    accept: u32,
-    peers: &[SocketAddr],
-    serving: &Serving<'s>,
-    workers: u32,
-    watch: &G,
-    batch: Batch,
-    heading: Block,
-    producer: Producer<Step>,
-    consumer: Consumer<Step>,
+    serve: &Serve<'_, 's, G>,
+    fresh: Fresh,
     sink: &mut W,
 ) -> Result<(Account<TcpReader<'s>, TcpWriter>, Ran), ServeHalted>
-    requires named { (N.ring ≡ Some (name_of producer.end)) × (N.config ≡ Some config.now) }
-    requires ring { IsPair producer consumer × (sent producer ≡ []) × (received consumer ≡ []) }
-    requires heading { heading ≡ header_text History config.now }
-    requires few { (accept + length peers.now ≤ most_links) × IsCrew workers }
-    ensures { IsJournalled batch config.now peers.now accept workers (W.state sink.old) (W.state sink.new) result }
+    requires named { (N.ring ≡ Some (name_of fresh.producer.end)) × (N.config ≡ Some serve.now.config.now) }
+    requires ring { IsPair fresh.producer fresh.consumer
+        × (sent fresh.producer ≡ []) × (received fresh.consumer ≡ []) }
+    requires heading { fresh.heading ≡ header_text History serve.now.config.now }
+    requires few { (serve.now.accept + length serve.now.peers.now ≤ most_links) × IsCrew serve.now.workers }
+    ensures { let s = serve.now in
+        IsJournalled s.batch s.config.now s.peers.now s.accept s.workers (W.state sink.old) (W.state sink.new) result }
 {
+    let Fresh {
+        heading,
+        producer,
+        consumer,
+    } = fresh;
     let journal = Journal::<N>::new(producer);
-    let Ok(router) = TableRouter::over(alloc, config, journal) else {
+    let Ok(router) = TableRouter::over(alloc, serve.config, journal) else {
         return Err(unbegun(RunFault::NoMemory));
     };
     let core = router.named::<N>();
-    let writing = Writing::<W, N> {
+    let course = Writing::<W, N> {
         scribe: Scribe::new(alloc, consumer, heading),
         sink,
         of: PhantomData,
     };
+    let routing = Routing { core, course };
     let (answer, begun) = serve_by::<
         TableRouter<Global, Journal<N>, N>,
         Writing<W, N>,
         G,
         Global,
         R,
-    >(
-        rt, alloc, listener, config, accept, peers, serving, workers, watch, batch, core, writing,
-    );
-    watch.end();
+    >(rt, alloc, serve, routing);
+    serve.watch.end();
     let Begun { sink, waiting } = begun;
     match answer {
         Ok((account, ran)) => match finish_history(waiting, sink) {

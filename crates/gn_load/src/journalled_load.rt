@@ -16,19 +16,34 @@ ghost use Rattle.gn_load.specs.Loads.{AppendsLoad, load_of};
 
 use crate::fault::LoadFault;
 use crate::loads::read_load;
-use crate::writing::{Begun, PLACES, Writing, write_stopped};
-use gn_io::{Block, Sink, Source, read_input};
+use crate::writing::{Begun, Fresh, PLACES, Writing, write_stopped};
+use gn_io::{Sink, Source, read_input};
 use gn_journal::{Journal, Naming};
 use gn_replay::history_heading;
-use gn_rules::{Config, MOST_WORKERS, Step};
+use gn_rules::MOST_WORKERS;
 use gn_scribe::{PrintFault, Scribe, Waiting, finish_history};
 use gn_service::{Asked, Batch, MemoryLink, Routing, RunFault, Watch, run_by};
 use gn_table_router::{Configuring, TableRouter};
-use rtrb::{Consumer, Producer, RingBuffer};
+use rtrb::RingBuffer;
 use std::alloc::Global;
 use std::marker::{Brand, PhantomData};
 use std::sync::Wait;
 use std::thread::Threads;
+
+/// How many workers run the links of a capture, who watches them, and how many packets are written to a link at once at most.
+#[derive(Drop)]
+pub struct Loading<'a, G> {
+    pub workers: u32,
+    pub watch: &'a G,
+    pub batch: Batch,
+}
+
+/// A run, and its links.
+#[derive(Drop)]
+struct Load<'a, G> {
+    asked: Asked<'a, G>,
+    links: Vec<MemoryLink>,
+}
 
 /// The fault of a load whose run stopped at this one, by what waits of its text.
 fn fault_of(fault: RunFault, waiting: &Result<Waiting, PrintFault>) -> LoadFault
@@ -41,14 +56,12 @@ fn fault_of(fault: RunFault, waiting: &Result<Waiting, PrintFault>) -> LoadFault
 }
 
 /// Does what `load_watched` does, and writes the history while the run goes on: a step that was made is written once nobody makes
-/// another, or a block is full. Up to `batch` packets are written to a link at once. At a fault of the run what stands of the history is
+/// another, or a block is full. At a fault of the run what stands of the history is
 /// written to its end, unless a write fails or memory is wanting.
 pub fn load_journalled<R: Threads + Wait + Sync, G: Watch + Sync, S: Source, W: Sink + Send>(
     rt: &R,
     alloc: Global,
-    workers: u32,
-    watch: &G,
-    batch: Batch,
+    loading: &Loading<'_, G>,
     source: &mut S,
     sink: &mut W,
 ) -> Result<(), LoadFault>
@@ -57,42 +70,50 @@ pub fn load_journalled<R: Threads + Wait + Sync, G: Watch + Sync, S: Source, W: 
     ensures valid { OnOk result (
         IfSome (text_between (S.state source.old) (S.state source.new)) (λ text. IsOk (load_of Heap text))) }
     ensures written { OnOk result (IfSome (text_between (S.state source.old) (S.state source.new)) (λ text.
-        AppendsLoad Heap batch workers text (W.state sink.old).written (W.state sink.new).written)) }
+        AppendsLoad Heap loading.now.batch loading.now.workers text
+        (W.state sink.old).written (W.state sink.new).written)) }
     ensures unfailed { OnOk result (NoneFailed
         (streams (S.state source.old) (S.state source.new) (W.state sink.old) (W.state sink.new))) }
     ensures stopped { IfErr result (λ fault.
         HasStoppedAt fault (text_between (S.state source.old) (S.state source.new))
         (W.state sink.old).written (W.state sink.new).written) }
-    ensures fault { IfErr result (λ fault. IsLoadFault workers fault (load_of Heap)
+    ensures fault { IfErr result (λ fault. IsLoadFault loading.now.workers fault (load_of Heap)
         (streams (S.state source.old) (S.state source.new) (W.state sink.old) (W.state sink.new))) }
 {
     let text = read_input(alloc, source)?;
     let (config, links) = read_load(alloc, text)?;
-    write_load(rt, alloc, workers, watch, batch, &config, links, sink)
+    let asked = Asked {
+        config: &config,
+        workers: loading.workers,
+        gate: loading.watch,
+        batch: loading.batch,
+    };
+    write_load(rt, alloc, Load { asked, links }, sink)
 }
 
 /// Runs these links, and writes the history.
 fn write_load<R: Threads + Wait + Sync, G: Watch + Sync, W: Sink + Send>(
     rt: &R,
     alloc: Global,
-    workers: u32,
-    watch: &G,
-    batch: Batch,
-    config: &Config,
-    links: Vec<MemoryLink>,
+    load: Load<'_, G>,
     sink: &mut W,
 ) -> Result<(), LoadFault>
-    requires few { length links.items ≤ most_links }
-    ensures { IsJournalledLoad batch config.now links.items workers (W.state sink.old) (W.state sink.new) result }
+    requires few { length load.links.items ≤ most_links }
+    ensures { let asked = load.entry.asked in IsJournalledLoad asked.batch asked.config.now load.entry.links.items
+        asked.workers (W.state sink.old) (W.state sink.new) result }
 {
+    let (config, workers) = (load.asked.config, load.asked.workers);
     if workers == 0 || workers > MOST_WORKERS {
         return Err(LoadFault::Run(RunFault::BadWorkers));
     }
     let heading = history_heading(alloc, config)?;
     let (producer, consumer) = RingBuffer::new(alloc, PLACES)?;
-    load_named::<Brand, R, G, W>(
-        rt, alloc, workers, watch, batch, config, links, heading, producer, consumer, sink,
-    )
+    let fresh = Fresh {
+        heading,
+        producer,
+        consumer,
+    };
+    load_named::<Brand, R, G, W>(rt, alloc, load, fresh, sink)
 }
 
 /// The same over the ring that `N` names.
@@ -101,49 +122,33 @@ fn load_named<
     R: Threads + Wait + Sync,
     G: Watch + Sync,
     W: Sink + Send,
->(
-    rt: &R,
-    alloc: Global,
-    workers: u32,
-    watch: &G,
-    batch: Batch,
-    config: &Config,
-    links: Vec<MemoryLink>,
-    heading: Block,
-    producer: Producer<Step>,
-    consumer: Consumer<Step>,
-    sink: &mut W,
-) -> Result<(), LoadFault>
-    requires named { (N.ring ≡ Some (name_of producer.end)) × (N.config ≡ Some config.now) }
-    requires ring { IsPair producer consumer × (sent producer ≡ []) × (received consumer ≡ []) }
-    requires heading { heading ≡ header_text History config.now }
-    requires few { (length links.items ≤ most_links) × IsCrew workers }
-    ensures { IsJournalledLoad batch config.now links.items workers (W.state sink.old) (W.state sink.new) result }
+>(rt: &R, alloc: Global, load: Load<'_, G>, fresh: Fresh, sink: &mut W) -> Result<(), LoadFault>
+    requires named { (N.ring ≡ Some (name_of fresh.producer.end)) × (N.config ≡ Some load.asked.config.now) }
+    requires ring { IsPair fresh.producer fresh.consumer
+        × (sent fresh.producer ≡ []) × (received fresh.consumer ≡ []) }
+    requires heading { fresh.heading ≡ header_text History load.asked.config.now }
+    requires few { (length load.links.items ≤ most_links) × IsCrew load.asked.workers }
+    ensures { let asked = load.entry.asked in IsJournalledLoad asked.batch asked.config.now load.entry.links.items
+        asked.workers (W.state sink.old) (W.state sink.new) result }
 {
+    let Load { asked, links } = load;
+    let Fresh {
+        heading,
+        producer,
+        consumer,
+    } = fresh;
     let journal = Journal::<N>::new(producer);
-    let router = TableRouter::over(alloc, config, journal)?;
+    let router = TableRouter::over(alloc, asked.config, journal)?;
     let core = router.named::<N>();
     let course = Writing::<W, N> {
         scribe: Scribe::new(alloc, consumer, heading),
         sink,
         of: PhantomData,
     };
-    let asked = Asked {
-        config,
-        workers,
-        gate: watch,
-        batch,
-    };
     let routing = Routing { core, course };
+    let watch = asked.gate;
     watch.begin(links.len());
-    let (answer, begun) = run_by::<
-        TableRouter<Global, Journal<N>, N>,
-        Writing<W, N>,
-        _,
-        _,
-        Global,
-        R,
-    >(rt, alloc, &asked, links, routing);
+    let (answer, begun) = run_by::<_, Writing<W, N>, _, _, _, R>(rt, alloc, &asked, links, routing);
     watch.end();
     let Begun { sink, waiting } = begun;
     match answer {

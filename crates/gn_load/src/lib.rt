@@ -17,7 +17,7 @@ mod writing;
 pub use fault::LoadFault;
 pub use gn_scribe::PrintFault;
 pub use journalled::serve_journalled;
-pub use journalled_load::load_journalled;
+pub use journalled_load::{Loading, load_journalled};
 pub use links::links_of;
 pub use loads::{load, load_watched};
 pub use printed::print_history;

@@ -25,11 +25,12 @@ use clap::Error;
 use clap::error::ErrorKind;
 use gn_io::{Sink, Source, write_all};
 use gn_links::{NoGate, Watch};
-use gn_load::{LoadFault, ServeFault, load_journalled};
+use gn_load::{LoadFault, Loading, ServeFault, load_journalled};
 use gn_replay::{
     Exit, ReplayFault, audit, audit_explained, audit_unfinished, replay, replay_history,
 };
 use gn_rules::{FreshRouter, Legality};
+use gn_service::Host;
 use gn_show::show;
 use gn_table_router::TableRouter;
 use gn_tables::Forgetful;
@@ -39,11 +40,9 @@ use std::alloc::Global;
 use std::convert::AsStr;
 use std::io;
 use std::io::StdinLock;
-use std::net::{Net, TcpListener, TcpStream};
 use std::random::RandomSource;
 use std::sync::Wait;
 use std::thread::Threads;
-use std::time::Clock;
 
 /// Done, or legal.
 const DONE: u8 = 0;
@@ -133,20 +132,18 @@ fn load<R: Threads + Wait + Sync, G: Watch + Sync, S: Source, W: Sink + Send, F:
     ensures { Loads workers
         (streams (S.state reader.old) (S.state reader.new) (W.state writer.old) (W.state writer.new)) result }
 {
-    let batch = batch_of(LOAD_BATCH);
-    let answer = load_journalled(rt, alloc, workers, watch, batch, reader, writer);
+    let loading = Loading {
+        workers,
+        watch,
+        batch: batch_of(LOAD_BATCH),
+    };
+    let answer = load_journalled(rt, alloc, &loading, reader, writer);
     end_load(faults, answer)
 }
 
 /// Serves under this watch, and says how that ended.
 fn serve_watched<
-    R: Threads
-        + Wait
-        + Net<Listener = TcpListener, Stream = TcpStream>
-        + Clock
-        + Input<Reader = StdinLock<'static>>
-        + AllocGlobal
-        + Sync,
+    R: Host + Input<Reader = StdinLock<'static>>,
     G: Watch + Sync,
     W: Sink + Send,
     F: Sink,
@@ -175,14 +172,7 @@ fn serve_watched<
 
 /// Serves, says how that ended, and how far it is where that is asked for.
 fn serve_asked<
-    R: Threads
-        + Wait
-        + Net<Listener = TcpListener, Stream = TcpStream>
-        + Clock
-        + Input<Reader = StdinLock<'static>>
-        + RandomSource
-        + AllocGlobal
-        + Sync,
+    R: Host + Input<Reader = StdinLock<'static>> + RandomSource,
     G: Watch + Sync,
     W: Sink + Send,
     F: Sink,
@@ -220,14 +210,7 @@ fn print_config<W: Sink, F: Sink>(
 /// Does what is asked for.
 fn obey<
     C: FreshRouter<Global> + Drop,
-    R: Threads
-        + Wait
-        + Net<Listener = TcpListener, Stream = TcpStream>
-        + Clock
-        + Input<Reader = StdinLock<'static>>
-        + RandomSource
-        + AllocGlobal
-        + Sync,
+    R: Host + Input<Reader = StdinLock<'static>> + RandomSource,
     G: Watch + Sync,
     S: Source,
     W: Sink + Send,
@@ -309,14 +292,7 @@ fn turn_away<W: Sink, F: Sink>(error: Error, writer: &mut W, faults: &mut F) -> 
 /// `listening PORT` on a line of `faults` once it can be called. With `--until-eof` it reads the standard input of `rt`, by a
 /// thread that goes on where that hasn't ended; with `--servent random` it takes random bytes of the system.
 pub fn command<
-    R: Threads
-        + Wait
-        + Net<Listener = TcpListener, Stream = TcpStream>
-        + Clock
-        + Input<Reader = StdinLock<'static>>
-        + RandomSource
-        + AllocGlobal
-        + Sync,
+    R: Host + Input<Reader = StdinLock<'static>> + RandomSource,
     T: AsStr,
     S: Source,
     W: Sink + Send,
@@ -349,14 +325,7 @@ pub fn command<
 /// input, as a `Kept` reader leaves them there, a fault of the first three lines has a second line, which says more.
 pub fn command_with<
     C: FreshRouter<Global> + Drop,
-    R: Threads
-        + Wait
-        + Net<Listener = TcpListener, Stream = TcpStream>
-        + Clock
-        + Input<Reader = StdinLock<'static>>
-        + RandomSource
-        + AllocGlobal
-        + Sync,
+    R: Host + Input<Reader = StdinLock<'static>> + RandomSource,
     G: Watch + Sync,
     T: AsStr,
     S: Source,

@@ -25,7 +25,7 @@ use gn_links::{LinkFault, Watch};
 use gn_load::{ServeFault, ServeHalted, serve_journalled};
 use gn_report::{Account, LinkTally};
 use gn_rules::{Config, Own};
-use gn_service::{Batch, Ran, Serving, Stop, TcpReader, TcpWriter};
+use gn_service::{Batch, Host, Ran, Serve, Serving, Stop, TcpReader, TcpWriter};
 use gn_tcp::Unmet;
 use gn_threads::RunFault;
 use gn_wire::Guid;
@@ -37,9 +37,9 @@ use std::io::StdinLock;
 use std::marker::Brand;
 use std::net::{Ipv4Addr, Net, SocketAddr, SocketAddrV4, TcpListener, TcpStream};
 use std::random::RandomSource;
-use std::sync::{Arc, Wait};
+use std::sync::Arc;
 use std::thread::Threads;
-use std::time::{Clock, Duration};
+use std::time::Duration;
 
 /// The line that says that the router listens on this port.
 #[derive(Clone, Copy, Debug)]
@@ -229,27 +229,11 @@ fn has_comments(serving: &ServeOptions) -> bool
 }
 
 /// Runs the router, and writes its history while it runs, with comments.
-fn run_commented<
-    's,
-    'w,
-    B: Naming + Send,
-    R: Threads
-        + Wait
-        + Net<Listener = TcpListener, Stream = TcpStream>
-        + Clock
-        + AllocGlobal
-        + Sync,
-    G: Watch + Sync,
-    W: Sink + Send,
->(
+fn run_commented<'s, 'w, B: Naming + Send, R: Host, G: Watch + Sync, W: Sink + Send>(
     rt: &R,
     alloc: Global,
-    listener: &TcpListener,
-    config: &Config,
-    peers: &[SocketAddr],
-    limits: &Serving<'s>,
+    serve: &Serve<'_, 's, Calls<'_, G>>,
     serving: &ServeOptions,
-    calls: &Calls<'_, G>,
     lent: Lent<'w, W>,
 ) -> (
     Result<(Account<TcpReader<'s>, TcpWriter>, Ran), ServeHalted>,
@@ -257,91 +241,47 @@ fn run_commented<
 )
     requires named { lent.sink.ghost_name ≡ B.sink }
     requires begun { W.state lent.sink.now ≡ B.begun }
-    requires few { serving.now.accept + length peers.now ≤ most_links }
+    requires few { serve.now.accept + length serve.now.peers.now ≤ most_links }
     ensures here { result.1.sink.ghost_name ≡ lent.entry.sink.ghost_name }
-    ensures ran { (text : List ℕ) × HasWrittenBoth (W.state lent.entry.sink.now) (W.state result.1.sink.now) text
-        × IsJournalled serving.now.batch config.now peers.now serving.now.accept serving.now.workers
-        (W.state lent.entry.sink.now)
+    ensures ran { let s = serve.now in (text : List ℕ)
+        × HasWrittenBoth (W.state lent.entry.sink.now) (W.state result.1.sink.now) text
+        × IsJournalled s.batch s.config.now s.peers.now s.accept s.workers (W.state lent.entry.sink.now)
         (without_comments (W.state lent.entry.sink.now) (W.state result.1.sink.now) text) result.0 }
 {
-    let remarks = Remarks::new(rt, alloc, calls, serving);
+    let remarks = Remarks::new(rt, alloc, serve.watch, serving);
     let mut commented = Commented::<B, W, Remarks<'_, '_, R, G>>::new(alloc, lent, remarks);
-    let answer = serve_journalled::<_, _, _>(
-        rt,
-        alloc,
-        listener,
-        config,
-        serving.accept,
-        peers,
-        limits,
-        serving.workers,
-        calls,
-        batch_of(serving.batch),
-        &mut commented,
-    );
+    let answer = serve_journalled::<_, _, _>(rt, alloc, serve, &mut commented);
     (answer, commented.into_inner())
 }
 
 /// Runs the router, and writes its history while it runs, with comments where they are asked for.
-fn run<
-    's,
-    R: Threads
-        + Wait
-        + Net<Listener = TcpListener, Stream = TcpStream>
-        + Clock
-        + AllocGlobal
-        + Sync,
-    G: Watch + Sync,
-    W: Sink + Send,
->(
+fn run<'s, R: Host, G: Watch + Sync, W: Sink + Send>(
     rt: &R,
     alloc: Global,
-    listener: &TcpListener,
-    config: &Config,
-    peers: &[SocketAddr],
-    limits: &Serving<'s>,
+    serve: &Serve<'_, 's, Calls<'_, G>>,
     serving: &ServeOptions,
-    calls: &Calls<'_, G>,
     writer: &mut W,
 ) -> Result<(Account<TcpReader<'s>, TcpWriter>, Ran), ServeHalted>
-    requires few { serving.now.accept + length peers.now ≤ most_links }
-    ensures { (bare : SinkState) × IsBeside (has_comments serving.now) (W.state writer.old) bare (W.state writer.new)
-        × IsJournalled serving.now.batch config.now peers.now serving.now.accept serving.now.workers
-        (W.state writer.old) bare result }
+    requires few { serve.now.accept + length serve.now.peers.now ≤ most_links }
+    ensures { let s = serve.now in (bare : SinkState)
+        × IsBeside (has_comments serving.now) (W.state writer.old) bare (W.state writer.new)
+        × IsJournalled s.batch s.config.now s.peers.now s.accept s.workers (W.state writer.old) bare result }
 {
     if has_comments(serving) {
         let lent = Lent { sink: writer };
         let (answer, Lent { sink: _sink }) = run_commented::<Brand, R, G, W>(
-            rt, alloc, listener, config, peers, limits, serving, calls, lent,
+            rt, alloc, serve, serving, lent,
         );
         return answer;
     }
-    serve_journalled::<_, _, _>(
-        rt,
-        alloc,
-        listener,
-        config,
-        serving.accept,
-        peers,
-        limits,
-        serving.workers,
-        calls,
-        batch_of(serving.batch),
-        writer,
-    )
+    serve_journalled::<_, _, _>(rt, alloc, serve, writer)
 }
 
 /// Listens, says so with the faults, runs the router, writes its history while it runs, and then what became of its links with the faults,
 /// where that is asked for. It is watched as it runs, by `calls`. What the system said of the port stays in `told`, and what is remembered of the
 /// run in `remembered`.
 pub(crate) fn serve<
-    R: Threads
-        + Wait
-        + Net<Listener = TcpListener, Stream = TcpStream>
-        + Clock
-        + Input<Reader = StdinLock<'static>>
-        + AllocGlobal
-        + Sync,
+    R: Host + Input<Reader = StdinLock<'static>>,
     G: Watch + Sync,
     W: Sink + Send,
     F: Sink,
@@ -368,9 +308,17 @@ pub(crate) fn serve<
     };
     let _ = write_text(faults, Listening(serving.port));
     let limits = limits(serving, &stop);
-    let answer = run(
-        rt, alloc, &listener, &config, &peers, &limits, serving, calls, writer,
-    );
+    let asked = Serve {
+        listener: &listener,
+        config: &config,
+        peers: &peers,
+        accept: serving.accept,
+        workers: serving.workers,
+        limits,
+        watch: calls,
+        batch: batch_of(serving.batch),
+    };
+    let answer = run(rt, alloc, &asked, serving, writer);
     match answer {
         Ok((account, ran)) => {
             *remembered = Some(ran);

@@ -10,7 +10,7 @@ use gn_io::{Sink, WriterSink};
 use gn_load::serve_journalled;
 use gn_rules::{Config, Counter, Stats, Step};
 use gn_run_fixtures::{Meeting, have_met, pings};
-use gn_service::Serving;
+use gn_service::{Serve, Serving};
 use std::alloc::Global;
 use std::net::{Net, Shutdown, SocketAddr, TcpListener, TcpStream};
 use std::sync::Wait;
@@ -72,20 +72,17 @@ fn serve_six<
     sink: &mut W,
 ) -> Result<usize, Fail> {
     let config = Config::new(8, 1024, 64, 1024, 1024, 100_000, 0, 0, OWN)?;
-    let serving = Serving::UNLIMITED;
-    let served = serve_journalled::<R, Meeting, W>(
-        rt,
-        alloc,
+    let serve = Serve {
         listener,
-        &config,
-        6,
-        &[],
-        &serving,
-        2,
-        meeting,
-        usual_batch(),
-        sink,
-    );
+        config: &config,
+        peers: &[],
+        accept: 6,
+        workers: 2,
+        limits: Serving::UNLIMITED,
+        watch: meeting,
+        batch: usual_batch(),
+    };
+    let served = serve_journalled::<R, Meeting, W>(rt, alloc, &serve, sink);
     match served {
         Ok((account, _ran)) => {
             let steps = steps_of(&account.stats);

@@ -4,7 +4,7 @@ use crate::batch::usual_batch;
 use crate::journal::{Full, Narrow, ONE_PING};
 use gn_io::{ReaderSource, WriterSink};
 use gn_links::NoGate;
-use gn_load::{LoadFault, load_journalled};
+use gn_load::{LoadFault, Loading, load_journalled};
 use gn_replay::ReplayFault;
 use std::alloc::Global;
 use std::sync::Wait;
@@ -33,8 +33,12 @@ fn loaded_at_most<R: Threads + Wait + Sync>(
         left: most,
         full,
     });
-    let batch = usual_batch();
-    let loaded = load_journalled(rt, alloc, 1, &NoGate, batch, &mut source, &mut sink);
+    let loading = Loading {
+        workers: 1,
+        watch: &NoGate,
+        batch: usual_batch(),
+    };
+    let loaded = load_journalled(rt, alloc, &loading, &mut source, &mut sink);
     drop(source);
     let Narrow { taken, .. } = sink.into_inner();
     let is_begun = taken.len() == most && ONE_PING.as_bytes().starts_with(&taken);

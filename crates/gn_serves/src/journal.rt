@@ -8,7 +8,7 @@ use gn_io::{Sink, WriterSink};
 use gn_links::NoGate;
 use gn_load::{ServeFault, serve_journalled};
 use gn_rules::Config;
-use gn_service::Serving;
+use gn_service::{Serve, Serving};
 use std::alloc::Global;
 use std::io::{self, ErrorKind, Write};
 use std::net::{Net, Shutdown, SocketAddr, TcpListener, TcpStream};
@@ -82,19 +82,17 @@ fn serve_one<
     config: &Config,
     sink: &mut W,
 ) -> Option<ServeFault> {
-    let served = serve_journalled::<R, NoGate, W>(
-        rt,
-        alloc,
+    let serve = Serve {
         listener,
         config,
-        1,
-        &[],
-        &Serving::UNLIMITED,
-        1,
-        &NoGate,
-        usual_batch(),
-        sink,
-    );
+        peers: &[],
+        accept: 1,
+        workers: 1,
+        limits: Serving::UNLIMITED,
+        watch: &NoGate,
+        batch: usual_batch(),
+    };
+    let served = serve_journalled::<R, NoGate, W>(rt, alloc, &serve, sink);
     match served {
         Ok(_) => None,
         Err(stopped) => Some(stopped.fault),

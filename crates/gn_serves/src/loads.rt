@@ -6,7 +6,7 @@ use crate::batch::usual_batch;
 use gn_capture::read_history;
 use gn_io::{ReaderSource, Sink, Source, WriterSink};
 use gn_links::NoGate;
-use gn_load::{LoadFault, load, load_journalled};
+use gn_load::{LoadFault, Loading, load, load_journalled};
 use gn_replay::{ReplayFault, audit};
 use gn_rules::{Event, Legality, Reply, Step};
 use gn_table_router::TableRouter;
@@ -114,7 +114,12 @@ fn load_so<R: Threads + Wait + Sync, S: Source, W: Sink + Send>(
     sink: &mut W,
 ) -> Result<(), LoadFault> {
     if is_journalled {
-        load_journalled(rt, alloc, workers, &NoGate, usual_batch(), source, sink)
+        let loading = Loading {
+            workers,
+            watch: &NoGate,
+            batch: usual_batch(),
+        };
+        load_journalled(rt, alloc, &loading, source, sink)
     } else {
         load_with_tables(rt, alloc, workers, source, sink)
     }

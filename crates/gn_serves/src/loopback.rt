@@ -12,7 +12,7 @@ use gn_load::{ServeFault, serve_history};
 use gn_report::Report;
 use gn_rules::Config;
 use gn_run_fixtures::a_report;
-use gn_service::{Serving, serve_on};
+use gn_service::{Batch, Serve, Serving, serve_on};
 use gn_table_router::TableRouter;
 use gn_tcp::{TcpReader, TcpWriter};
 use gn_threads::RunFault;
@@ -114,19 +114,17 @@ fn serve_to<
     watch: &G,
     sink: &mut W,
 ) -> Result<(), ServeFault> {
-    let accept = accept.min(128);
-    let served = serve_history::<TableRouter<A>, A, R, G, W>(
-        rt,
-        alloc,
+    let serve = Serve {
         listener,
         config,
-        accept,
-        &[],
-        serving,
-        1,
+        peers: &[],
+        accept: accept.min(128),
+        workers: 1,
+        limits: *serving,
         watch,
-        sink,
-    );
+        batch: Batch::one(),
+    };
+    let served = serve_history::<TableRouter<A>, A, R, G, W>(rt, alloc, &serve, sink);
     match served {
         Ok(report) => {
             drop(report);

@@ -7,7 +7,7 @@ use crate::wanted::a_listener;
 use gn_fixtures::PING;
 use gn_io::{ReaderSource, Sink, Source, WriterSink};
 use gn_links::{Gate, Watch};
-use gn_load::{LoadFault, ServeFault, load_journalled, load_watched};
+use gn_load::{LoadFault, Loading, ServeFault, load_journalled, load_watched};
 use gn_service::{Serving, Stop};
 use gn_table_router::TableRouter;
 use std::alloc::{Allocator, Global};
@@ -137,9 +137,13 @@ fn learned_of_a_load<R: Threads + Wait + Sync>(
     let recorder = Recorder::new();
     let mut source = ReaderSource::new(TWO_LINKS.as_bytes());
     let mut sink = WriterSink::new(Vec::new(alloc));
-    let batch = usual_batch();
+    let loading = Loading {
+        workers: 1,
+        watch: &recorder,
+        batch: usual_batch(),
+    };
     let loaded = if is_journalled {
-        load_journalled(rt, alloc, 1, &recorder, batch, &mut source, &mut sink)
+        load_journalled(rt, alloc, &loading, &mut source, &mut sink)
     } else {
         load_for(rt, alloc, &recorder, &mut source, &mut sink)
     };

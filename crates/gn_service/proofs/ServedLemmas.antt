@@ -96,9 +96,9 @@ failed_too batch s peers accept workers halted after fault served either same cr
     ]
 
 -- what is answered with a report of the run, where an account of it is
-pub served_told : {A : Type 0} (s : Config) (peers : List SocketAddr) (accept workers : ℕ) (account : Account TcpReading TcpWriting A) (ran : Remembered A) (report : Report TcpReading TcpWriting A) (also : Remembered A)
-    → Tells account report → IsServed {F = Halted A} 1 s peers accept workers served_account halted_views (Ok (account, ran)) → IsServed {F = Stopped A} 1 s peers accept workers served_report stopped_views (Ok (report, also))
-served_told s peers accept workers account ran report also tells h =
+pub served_told : {A : Type 0} (batch : ℕ) (s : Config) (peers : List SocketAddr) (accept workers : ℕ) (account : Account TcpReading TcpWriting A) (ran : Remembered A) (report : Report TcpReading TcpWriting A) (also : Remembered A)
+    → Tells account report → IsServed {F = Halted A} batch s peers accept workers served_account halted_views (Ok (account, ran)) → IsServed {F = Stopped A} batch s peers accept workers served_report stopped_views (Ok (report, also))
+served_told batch s peers accept workers account ran report also tells h =
     let run = h.answered.run in
     record {
       answered = record {
@@ -116,9 +116,9 @@ served_told s peers accept workers account ran report also tells h =
     }
 
 -- where there is no memory for the report
-pub untold : {A : Type 0} (s : Config) (peers : List SocketAddr) (accept workers : ℕ) (account : Account TcpReading TcpWriting A) (ran : Remembered A) (stopped : Stopped A) → IsStoppedOf (Ok account) stopped
-    → IsServed {F = Halted A} 1 s peers accept workers served_account halted_views (Ok (account, ran)) → IsServed {Q = Report TcpReading TcpWriting A × Remembered A} 1 s peers accept workers served_report stopped_views (Err stopped)
-untold {A} s peers accept workers account ran stopped same h =
+pub untold : {A : Type 0} (batch : ℕ) (s : Config) (peers : List SocketAddr) (accept workers : ℕ) (account : Account TcpReading TcpWriting A) (ran : Remembered A) (stopped : Stopped A) → IsStoppedOf (Ok account) stopped
+    → IsServed {F = Halted A} batch s peers accept workers served_account halted_views (Ok (account, ran)) → IsServed {Q = Report TcpReading TcpWriting A × Remembered A} batch s peers accept workers served_report stopped_views (Err stopped)
+untold {A} batch s peers accept workers account ran stopped same h =
     let run = h.answered.run in
     let answer : Result (Account TcpReading TcpWriting A) (Halted A) = Ok account in
     record {
@@ -137,10 +137,10 @@ untold {A} s peers accept workers account ran stopped same h =
     }
 
 -- where it stopped
-pub served_stopped : {A : Type 0} (s : Config) (peers : List SocketAddr) (accept workers : ℕ) (halted : Halted A) (stopped : Stopped A) → IsStoppedOf {Rd = TcpReading} {W = TcpWriting} (Err halted) stopped
-    → IsServed {Q = Account TcpReading TcpWriting A × Remembered A} 1 s peers accept workers served_account halted_views (Err halted)
-    → IsServed {Q = Report TcpReading TcpWriting A × Remembered A} 1 s peers accept workers served_report stopped_views (Err stopped)
-served_stopped {A} s peers accept workers halted stopped same h =
+pub served_stopped : {A : Type 0} (batch : ℕ) (s : Config) (peers : List SocketAddr) (accept workers : ℕ) (halted : Halted A) (stopped : Stopped A) → IsStoppedOf {Rd = TcpReading} {W = TcpWriting} (Err halted) stopped
+    → IsServed {Q = Account TcpReading TcpWriting A × Remembered A} batch s peers accept workers served_account halted_views (Err halted)
+    → IsServed {Q = Report TcpReading TcpWriting A × Remembered A} batch s peers accept workers served_report stopped_views (Err stopped)
+served_stopped {A} batch s peers accept workers halted stopped same h =
     let run = h.answered.run in
     let answer : Result (Account TcpReading TcpWriting A) (Halted A) = Err halted in
     record {

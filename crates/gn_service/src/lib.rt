@@ -6,6 +6,7 @@ mod asked;
 mod calling;
 mod counted;
 mod failing;
+mod host;
 mod live;
 mod owed;
 mod peers;
@@ -34,8 +35,9 @@ pub use gn_threads::{
     Arrivals, Asked, Coming, Course, Halted, InMemory, Routing, RunFault, Stopped, run,
     run_arriving, run_arriving_by, run_arriving_kept, run_by, stopped_by, tell,
 };
+pub use host::Host;
 pub use ran::Ran;
 pub use serve::{serve_by, serve_kept, serve_on};
-pub use serving::Serving;
+pub use serving::{Serve, Serving};
 pub use stop::Stop;
 pub use tallies::tallies_of;

@@ -8,18 +8,18 @@ ghost use Rattle.gn_service.specs.Serves.{IsTallied};
 use crate::calling::Callers;
 use crate::counted::Counted;
 use crate::failing::{call_fault, failed_at, failed_too};
+use crate::host::Host;
 use crate::peers::{Peers, roles_of};
-use crate::serving::Serving;
+use crate::serving::{Serve, Serving};
 use crate::stop::Stop;
 use crate::stops::Stops;
-use gn_hub::Batch;
 use gn_links::Watch;
 use gn_report::Account;
-use gn_rules::{Config, Numbers, RouterCore};
+use gn_rules::{Numbers, RouterCore};
 use gn_tcp::{TcpReader, TcpWriter};
 use gn_threads::{Asked, Coming, Course, Halted, Routing, run_arriving_by};
 use std::alloc::{Allocator, Global};
-use std::net::{Net, SocketAddr, TcpListener, TcpStream};
+use std::net::{Net, TcpListener, TcpStream};
 use std::sync::Wait;
 use std::thread;
 use std::thread::Threads;
@@ -30,18 +30,10 @@ use std::time::Clock;
 pub(crate) struct Running<'a, 's, C: RouterCore<A>, W, G, R, A: Allocator + Copy = Global> {
     pub rt: &'a R,
     pub alloc: A,
-    pub listener: &'a TcpListener,
-    pub config: &'a Config,
-    pub accept: u32,
-    pub peers: &'a [SocketAddr],
-    pub serving: &'a Serving<'s>,
-    pub workers: u32,
-    pub watch: &'a G,
-    pub batch: Batch,
-    pub core: C,
-    pub course: W,
-    pub ghost few: { accept + length peers.now ≤ most_links },
-    pub ghost empty: { C.steps core ≡ [] },
+    pub serve: &'a Serve<'a, 's, G>,
+    pub routing: Routing<C, W>,
+    pub ghost few: { serve.now.accept + length serve.now.peers.now ≤ most_links },
+    pub ghost empty: { C.steps routing.core ≡ [] },
 }
 
 impl<
@@ -50,12 +42,7 @@ impl<
     C: RouterCore<A> + Drop + Send,
     W: Course<C, A> + Send + Drop,
     G: Watch + Sync,
-    R: Threads
-        + Wait
-        + Net<Listener = TcpListener, Stream = TcpStream>
-        + Clock
-        + AllocGlobal
-        + Sync,
+    R: Host,
     A: Allocator + Copy + Send + Sync,
 > Running<'a, 's, C, W, G, R, A>
 where
@@ -68,27 +55,27 @@ where
         Result<Account<TcpReader<'s>, TcpWriter, A>, Halted<A>>,
         W::Rest,
     )
-        ensures served { IsTallied self.entry.batch self.entry.config.now self.entry.peers.now self.entry.accept
-            self.entry.workers result.0 }
-        ensures rest { IsLeft (W.follows self.entry.course) W.leaves result.1 (AreStepsOf result.0) }
+        ensures served { let s = self.entry.serve.now in
+            IsTallied s.batch s.config.now s.peers.now s.accept s.workers result.0 }
+        ensures rest { IsLeft (W.follows self.entry.routing.course) W.leaves result.1 (AreStepsOf result.0) }
     {
         let rt = self.rt;
-        let serving = self.serving;
-        let watch = self.watch;
+        let serving = &self.serve.limits;
+        let watch = self.serve.watch;
         let own = Stop::new(None, false);
         let stop = match serving.stop {
             Some(stop) => stop,
             None => &own,
         };
-        let stops = Stops::new(rt, self.alloc, stop, serving.grace(), self.listener);
+        let stops = Stops::new(rt, self.alloc, stop, serving.grace(), self.serve.listener);
         let stops = &stops;
         let ((), answer) = thread::join(
             rt,
             || watch_and_call(rt, serving, stops, watch),
             move ||
-                ensures served { IsTallied self.entry.batch self.entry.config.now self.entry.peers.now self.entry.accept
-                    self.entry.workers result.0 }
-                ensures rest { IsLeft (W.follows self.entry.course) W.leaves result.1 (AreStepsOf result.0) }
+                ensures served { let s = self.entry.serve.now in
+                    IsTallied s.batch s.config.now s.peers.now s.accept s.workers result.0 }
+                ensures rest { IsLeft (W.follows self.entry.routing.course) W.leaves result.1 (AreStepsOf result.0) }
             { self.run(stops) },
         );
         answer
@@ -102,11 +89,11 @@ where
         Result<Account<TcpReader<'s>, TcpWriter, A>, Halted<A>>,
         W::Rest,
     )
-        ensures served { IsTallied self.entry.batch self.entry.config.now self.entry.peers.now self.entry.accept
-            self.entry.workers result.0 }
-        ensures rest { IsLeft (W.follows self.entry.course) W.leaves result.1 (AreStepsOf result.0) }
+        ensures served { let s = self.entry.serve.now in
+            IsTallied s.batch s.config.now s.peers.now s.accept s.workers result.0 }
+        ensures rest { IsLeft (W.follows self.entry.routing.course) W.leaves result.1 (AreStepsOf result.0) }
     {
-        let (alloc, calls) = (self.alloc, self.peers.len());
+        let (alloc, calls) = (self.alloc, self.serve.peers.len());
         let (answer, rest) = self.over_links(stops);
         match (answer, call_fault(stops, calls)) {
             (answer, None) => (answer, rest),
@@ -123,49 +110,41 @@ where
         Result<Account<TcpReader<'s>, TcpWriter, A>, Halted<A>>,
         W::Rest,
     )
-        ensures served { IsTallied self.entry.batch self.entry.config.now self.entry.peers.now self.entry.accept
-            self.entry.workers result.0 }
-        ensures rest { IsLeft (W.follows self.entry.course) W.leaves result.1 (AreStepsOf result.0) }
+        ensures served { let s = self.entry.serve.now in
+            IsTallied s.batch s.config.now s.peers.now s.accept s.workers result.0 }
+        ensures rest { IsLeft (W.follows self.entry.routing.course) W.leaves result.1 (AreStepsOf result.0) }
     {
         let Running {
             rt,
             alloc,
-            listener,
-            config,
-            accept,
-            peers,
-            serving,
-            workers,
-            watch,
-            batch,
-            core,
-            course,
+            serve,
+            routing,
         } = self;
-        let links = peers.len() + accept as usize;
+        let (peers, watch) = (serve.peers, serve.watch);
+        let links = peers.len() + serve.accept as usize;
         let all = roles_of(peers.len(), links);
         let roles = &all[..links];
-        let numbers = &config.numbers;
-        begin(watch, numbers, accept, stops);
+        let numbers = &serve.config.numbers;
+        begin(watch, numbers, serve.accept, stops);
         let gate = Counted::new(rt, watch, stops, numbers, links as u32);
         let arrivals = Peers {
             net: rt,
             cells: rt.alloc(),
-            listener,
+            listener: serve.listener,
             called: peers,
             next: 0,
             left: links as u32,
-            serving: *serving,
+            serving: serve.limits,
             stops,
             watch,
         };
         let asked = Asked {
-            config,
-            workers,
+            config: serve.config,
+            workers: serve.workers,
             gate: &gate,
-            batch,
+            batch: serve.batch,
         };
         let coming = Coming { roles, arrivals };
-        let routing = Routing { core, course };
         run_arriving_by::<C, W, _, _, _, _>(rt, alloc, &asked, coming, routing)
     }
 }

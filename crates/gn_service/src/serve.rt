@@ -12,20 +12,18 @@ ghost use Rattle.gn_sockets.specs.TcpHalves.{half_read, half_written};
 ghost use Rattle.gn_service.specs.Ran.{ran_of};
 ghost use Rattle.gn_service.specs.Serves.{IsServed, served_account, served_report};
 
+use crate::host::Host;
 use crate::ran::Ran;
 use crate::running::Running;
-use crate::serving::Serving;
+use crate::serving::{Serve, Serving};
 use gn_hub::Batch;
 use gn_links::Watch;
 use gn_report::{Account, Report};
 use gn_rules::{Config, Historian, MOST_WORKERS, RouterCore};
 use gn_tcp::{TcpReader, TcpWriter};
-use gn_threads::{Course, Halted, InMemory, RunFault, Stopped, stopped_by, tell};
+use gn_threads::{Course, Halted, InMemory, Routing, RunFault, Stopped, stopped_by, tell};
 use std::alloc::Allocator;
-use std::net::{Net, SocketAddr, TcpListener, TcpStream};
-use std::sync::Wait;
-use std::thread::Threads;
-use std::time::Clock;
+use std::net::{SocketAddr, TcpListener};
 
 /// Runs a router over links to these peers, which it calls, and to so many others that call the listener. Peers are called all at
 /// once and beside the others: nobody waits for one that isn't there yet. The bodies of each link start as soon as it has come, those
@@ -44,12 +42,7 @@ pub fn serve_on<
     C: Historian<A> + Drop + Send,
     G: Watch + Sync,
     A: Allocator + Copy + Send + Sync,
-    R: Threads
-        + Wait
-        + Net<Listener = TcpListener, Stream = TcpStream>
-        + Clock
-        + AllocGlobal
-        + Sync,
+    R: Host,
 >(
     rt: &R,
     alloc: A,
@@ -68,9 +61,17 @@ pub fn serve_on<
         (λ report. report) (λ fault. fault) result }
     ensures one_socket { IfOk result (λ report. AreOfOne (λ half. half.socket) (λ half. half.socket) report) }
 {
-    match serve_kept::<C, G, A, R>(
-        rt, alloc, listener, config, accept, peers, serving, workers, watch,
-    ) {
+    let serve = Serve {
+        listener,
+        config,
+        peers,
+        accept,
+        workers,
+        limits: *serving,
+        watch,
+        batch: Batch::one(),
+    };
+    match serve_kept::<C, G, A, R>(rt, alloc, &serve) {
         Ok((report, _)) => Ok(report),
         Err(stopped) => Err(stopped.fault),
     }
@@ -83,47 +84,28 @@ pub fn serve_kept<
     C: Historian<A> + Drop + Send,
     G: Watch + Sync,
     A: Allocator + Copy + Send + Sync,
-    R: Threads
-        + Wait
-        + Net<Listener = TcpListener, Stream = TcpStream>
-        + Clock
-        + AllocGlobal
-        + Sync,
+    R: Host,
 >(
     rt: &R,
     alloc: A,
-    listener: &TcpListener,
-    config: &Config,
-    accept: u32,
-    peers: &[SocketAddr],
-    serving: &Serving<'s>,
-    workers: u32,
-    watch: &G,
+    serve: &Serve<'_, 's, G>,
 ) -> Result<(Report<TcpReader<'s>, TcpWriter, A>, Ran<A>), Stopped<A>>
-    requires few { accept + length peers.now ≤ most_links }
-    ensures served { IsServed 1 config.now peers.now accept workers served_report stopped_views result }
+    requires few { serve.now.accept + length serve.now.peers.now ≤ most_links }
+    ensures served { let s = serve.now in
+        IsServed s.batch s.config.now s.peers.now s.accept s.workers served_report stopped_views result }
     ensures ran { IfOk result (λ done. done.1 ≡ ran_of done.0) }
 {
-    if workers == 0 || workers > MOST_WORKERS {
+    if serve.workers == 0 || serve.workers > MOST_WORKERS {
         return Err(Stopped::before(RunFault::BadWorkers));
     }
-    let Ok(core) = C::make(alloc, config) else {
+    let Ok(core) = C::make(alloc, serve.config) else {
         return Err(Stopped::before(RunFault::NoMemory));
     };
-    let (answer, core) = serve_by::<C, InMemory, G, A, R>(
-        rt,
-        alloc,
-        listener,
-        config,
-        accept,
-        peers,
-        serving,
-        workers,
-        watch,
-        Batch::one(),
+    let routing = Routing {
         core,
-        InMemory,
-    );
+        course: InMemory,
+    };
+    let (answer, core) = serve_by::<C, InMemory, G, A, R>(rt, alloc, serve, routing);
     match answer {
         Ok((account, ran)) => match tell(alloc, account, core) {
             Ok(report) => Ok((report, ran)),
@@ -134,61 +116,41 @@ pub fn serve_kept<
 }
 
 /// Does the same with a router of no steps, whose steps may go to somebody who runs beside it. Nobody keeps them: the account tells its
-/// report. What is left of who ran beside it comes back, who had all of them. A writer writes up to `batch` packets at once.
+/// report. What is left of who ran beside it comes back, who had all of them.
 pub fn serve_by<
     's,
     C: RouterCore<A> + Drop + Send,
     W: Course<C, A> + Send + Drop,
     G: Watch + Sync,
     A: Allocator + Copy + Send + Sync,
-    R: Threads
-        + Wait
-        + Net<Listener = TcpListener, Stream = TcpStream>
-        + Clock
-        + AllocGlobal
-        + Sync,
+    R: Host,
 >(
     rt: &R,
     alloc: A,
-    listener: &TcpListener,
-    config: &Config,
-    accept: u32,
-    peers: &[SocketAddr],
-    serving: &Serving<'s>,
-    workers: u32,
-    watch: &G,
-    batch: Batch,
-    core: C,
-    course: W,
+    serve: &Serve<'_, 's, G>,
+    routing: Routing<C, W>,
 ) -> (
     Result<(Account<TcpReader<'s>, TcpWriter, A>, Ran<A>), Halted<A>>,
     W::Rest,
 )
 where
     W::Followed: Send + Drop,
-    requires few { accept + length peers.now ≤ most_links }
-    requires empty { C.steps core ≡ [] }
-    ensures served { IsServed batch config.now peers.now accept workers served_account halted_views result.0 }
+    requires few { serve.now.accept + length serve.now.peers.now ≤ most_links }
+    requires empty { C.steps routing.core ≡ [] }
+    ensures served { let s = serve.now in
+        IsServed s.batch s.config.now s.peers.now s.accept s.workers served_account halted_views result.0 }
     ensures tallied { IfErr result.0 (λ halted. IfSome halted.history (λ history. IfSome halted.links (λ tallies.
-        AreTallies history.items (length peers.now + accept) tallies.items))) }
+        AreTallies history.items (length serve.now.peers.now + serve.now.accept) tallies.items))) }
     ensures ran { IfOk result.0 (λ done. done.1 ≡ ran_of (report_of done.0)) }
-    ensures rest { IsLeft (W.follows course) W.leaves result.1 (λ steps. MatchResult result.0
+    ensures rest { IsLeft (W.follows routing.course) W.leaves result.1 (λ steps. MatchResult result.0
         (λ done. done.0.history.items ≡ steps)
         (λ halted. IfSome halted.history (λ history. history.items ≡ steps))) }
 {
     let run = Running {
         rt,
         alloc,
-        listener,
-        config,
-        accept,
-        peers,
-        serving,
-        workers,
-        watch,
-        batch,
-        core,
-        course,
+        serve,
+        routing,
     };
     let (answer, rest) = run.watched();
     match answer {

@@ -1,7 +1,10 @@
-//! How long a run over TCP goes on, and waits for its peers.
+//! What a run over TCP is asked for, and how long it goes on and waits for its peers.
 
 use crate::stop::Stop;
+use gn_hub::Batch;
+use gn_rules::Config;
 use gn_tcp::Brake;
+use std::net::{SocketAddr, TcpListener};
 use std::sync::atomic::AtomicBool;
 use std::time::Duration;
 
@@ -18,6 +21,21 @@ pub struct Serving<'s> {
     pub stop: Option<&'s Stop>,
     /// Whether what stands of the history of a run that stops at a fault is written.
     pub is_kept: bool,
+}
+
+/// What a run over TCP is asked for, whatever its router: where it is called, by which configuration it routes, the peers that it calls
+/// and how many more call it, how many workers route, how long it goes on and waits, who watches it, and how many packets a writer
+/// takes at once at most.
+#[derive(Drop)]
+pub struct Serve<'a, 's, G> {
+    pub listener: &'a TcpListener,
+    pub config: &'a Config,
+    pub peers: &'a [SocketAddr],
+    pub accept: u32,
+    pub workers: u32,
+    pub limits: Serving<'s>,
+    pub watch: &'a G,
+    pub batch: Batch,
 }
 
 /// The seconds of grace that a run gives that is told nothing else.

@@ -128,7 +128,7 @@ pub mod bodies {
 pub mod run {
     pub use gn_receipts::receipts_by_actor;
     pub use gn_report::{Account, LinkAccount, LinkReport, LinkTally, Report, Unkept};
-    pub use gn_service::{Ran, Serving, Stop, serve_by, serve_kept, serve_on};
+    pub use gn_service::{Host, Ran, Serve, Serving, Stop, serve_by, serve_kept, serve_on};
     pub use gn_threads::{
         Arrivals, Asked, Coming, Course, Halted, InMemory, Routing, RunFault, Stopped, run,
         run_arriving, run_arriving_by, run_arriving_kept, run_by, stopped_by, tell,
@@ -168,7 +168,7 @@ pub mod show {
 pub mod load {
     pub use gn_links::Watch;
     pub use gn_load::{
-        LoadFault, PrintFault, ServeFault, ServeHalted, ServeStopped, links_of, load,
+        LoadFault, Loading, PrintFault, ServeFault, ServeHalted, ServeStopped, links_of, load,
         load_journalled, load_watched, print_history, serve_history, serve_history_kept,
         serve_journalled,
     };

@@ -3,14 +3,14 @@ use Rattle.gn_threads.specs.declared.fault.RunFault.TheVariants.{BadWorkers, NoM
 use Rattle.gn_load.proofs.JournalLemmas.{unbegun}
 use Rattle.gn_load.proofs.journalled.serve_journalled.Goals as goal
 
-pub returns-then-workers-eq0 : goal.returns-then-workers-eq0
-returns-then-workers-eq0 g c =
-    unbegun c.args.batch c.args.config.now c.args.peers.now c.args.accept c.args.workers (g.W.Sink.state c.args.sink.now) c.unbegun.result BadWorkers c.unbegun.ensures (search rules) (search rules)
+pub returns-then-serve-eq0 : goal.returns-then-serve-eq0
+returns-then-serve-eq0 g c =
+    unbegun c.args.serve.now.batch c.args.serve.now.config.now c.args.serve.now.peers.now c.args.serve.now.accept c.args.serve.now.workers (g.W.Sink.state c.args.sink.now) c.unbegun.result BadWorkers c.unbegun.ensures (search rules) (search rules)
 
 pub returns-in_default : goal.returns-in_default
 returns-in_default g c =
-    unbegun c.args.batch c.args.config.now c.args.peers.now c.args.accept c.args.workers (g.W.Sink.state c.args.sink.now) c.unbegun-in_default.result NoMemory c.unbegun-in_default.ensures (search rules) (search rules)
+    unbegun c.args.serve.now.batch c.args.serve.now.config.now c.args.serve.now.peers.now c.args.serve.now.accept c.args.serve.now.workers (g.W.Sink.state c.args.sink.now) c.unbegun-in_default.result NoMemory c.unbegun-in_default.ensures (search rules) (search rules)
 
 pub returns-in_default-new : goal.returns-in_default-new
 returns-in_default-new g c =
-    unbegun c.args.batch c.args.config.now c.args.peers.now c.args.accept c.args.workers (g.W.Sink.state c.args.sink.now) c.unbegun-in_default-new.result NoMemory c.unbegun-in_default-new.ensures (search rules) (search rules)
+    unbegun c.args.serve.now.batch c.args.serve.now.config.now c.args.serve.now.peers.now c.args.serve.now.accept c.args.serve.now.workers (g.W.Sink.state c.args.sink.now) c.unbegun-in_default-new.result NoMemory c.unbegun-in_default-new.ensures (search rules) (search rules)

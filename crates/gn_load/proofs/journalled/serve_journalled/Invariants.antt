@@ -3,7 +3,7 @@ use Rattle.gn_journal.specs.Rings.{name_of}
 use Rattle.gn_load.proofs.journalled.serve_journalled.Given as goal
 
 abbrev pub ghosts-serve_named-N-Naming : goal.ghosts-serve_named-N-Naming
-ghosts-serve_named-N-Naming g a = record { ring = Some (name_of a.producer.end) }
+ghosts-serve_named-N-Naming g a = record { ring = Some (name_of a.fresh.producer.end) }
 
 abbrev pub ghosts-serve_named-N-Configuring : goal.ghosts-serve_named-N-Configuring
-ghosts-serve_named-N-Configuring g a = record { config = Some a.config.now }
+ghosts-serve_named-N-Configuring g a = record { config = Some a.serve.now.config.now }

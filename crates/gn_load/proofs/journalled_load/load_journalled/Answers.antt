@@ -15,7 +15,7 @@ returns-in_err-text-clause-stopped g c =
 pub returns-in_err-text-clause-fault : goal.returns-in_err-text-clause-fault
 returns-in_err-text-clause-fault g c =
     on_err c.from_residual.result (Text (of_input c.in_err-text.field-0.0)) _ c.from_residual.ensures.1
-    (unread c.args.workers c.in_err-text.field-0.0 (load_of Global) _ c.in_err-text.ensures.fault)
+    (unread c.args.loading.now.workers c.in_err-text.field-0.0 (load_of Global) _ c.in_err-text.ensures.fault)
 
 pub returns-in_err-config-clause-stopped : goal.returns-in_err-config-clause-stopped
 returns-in_err-config-clause-stopped g c =
@@ -25,41 +25,41 @@ returns-in_err-config-clause-stopped g c =
 pub returns-in_err-config-clause-fault : goal.returns-in_err-config-clause-fault
 returns-in_err-config-clause-fault g c =
     on_err c.from_residual-in_err-config.result (Text (of_refusal c.in_err-config.field-0.0)) _ c.from_residual-in_err-config.ensures.1
-    (unloaded c.args.workers (Text (of_refusal c.in_err-config.field-0.0)) c.in_ok-text.text.items (load_of Global) _ c.in_ok-text.ensures.all c.in_ok-text.ensures.short
-    (refused_text c.args.workers c.in_err-config.field-0.0 (load_of Global c.in_ok-text.text.items) c.in_err-config.ensures.read))
+    (unloaded c.args.loading.now.workers (Text (of_refusal c.in_err-config.field-0.0)) c.in_ok-text.text.items (load_of Global) _ c.in_ok-text.ensures.all c.in_ok-text.ensures.short
+    (refused_text c.args.loading.now.workers c.in_err-config.field-0.0 (load_of Global c.in_ok-text.text.items) c.in_err-config.ensures.read))
 
 pub returns-clause-short : goal.returns-clause-short
 returns-clause-short g c =
     let k = streams (g.S.Source.state c.args.source.now) (g.S.Source.state c.read_input.new.source) (g.W.Sink.state c.args.sink.now) (g.W.Sink.state c.write_load.new.sink) in
-    known_short c.args.batch c.in_ok-config.config c.in_ok-config.links.items c.args.workers k c.in_ok-text.text.items c.in_ok-config.ensures.read c.in_ok-text.ensures.all c.in_ok-text.ensures.short
+    known_short c.args.loading.now.batch c.in_ok-config.config c.in_ok-config.links.items c.args.loading.now.workers k c.in_ok-text.text.items c.in_ok-config.ensures.read c.in_ok-text.ensures.all c.in_ok-text.ensures.short
     c.write_load.result c.write_load.ensures
 
 pub returns-clause-valid : goal.returns-clause-valid
 returns-clause-valid g c =
     let k = streams (g.S.Source.state c.args.source.now) (g.S.Source.state c.read_input.new.source) (g.W.Sink.state c.args.sink.now) (g.W.Sink.state c.write_load.new.sink) in
-    known_valid c.args.batch c.in_ok-config.config c.in_ok-config.links.items c.args.workers k c.in_ok-text.text.items c.in_ok-config.ensures.read c.in_ok-text.ensures.all c.in_ok-text.ensures.short
+    known_valid c.args.loading.now.batch c.in_ok-config.config c.in_ok-config.links.items c.args.loading.now.workers k c.in_ok-text.text.items c.in_ok-config.ensures.read c.in_ok-text.ensures.all c.in_ok-text.ensures.short
     c.write_load.result c.write_load.ensures
 
 pub returns-clause-written : goal.returns-clause-written
 returns-clause-written g c =
     let k = streams (g.S.Source.state c.args.source.now) (g.S.Source.state c.read_input.new.source) (g.W.Sink.state c.args.sink.now) (g.W.Sink.state c.write_load.new.sink) in
-    known_written c.args.batch c.in_ok-config.config c.in_ok-config.links.items c.args.workers k c.in_ok-text.text.items c.in_ok-config.ensures.read c.in_ok-text.ensures.all c.in_ok-text.ensures.short
+    known_written c.args.loading.now.batch c.in_ok-config.config c.in_ok-config.links.items c.args.loading.now.workers k c.in_ok-text.text.items c.in_ok-config.ensures.read c.in_ok-text.ensures.all c.in_ok-text.ensures.short
     c.write_load.result c.write_load.ensures
 
 pub returns-clause-unfailed : goal.returns-clause-unfailed
 returns-clause-unfailed g c =
     let k = streams (g.S.Source.state c.args.source.now) (g.S.Source.state c.read_input.new.source) (g.W.Sink.state c.args.sink.now) (g.W.Sink.state c.write_load.new.sink) in
-    known_unfailed c.args.batch c.in_ok-config.config c.in_ok-config.links.items c.args.workers k c.in_ok-text.text.items c.in_ok-config.ensures.read c.in_ok-text.ensures.all c.in_ok-text.ensures.short
+    known_unfailed c.args.loading.now.batch c.in_ok-config.config c.in_ok-config.links.items c.args.loading.now.workers k c.in_ok-text.text.items c.in_ok-config.ensures.read c.in_ok-text.ensures.all c.in_ok-text.ensures.short
     c.write_load.result c.write_load.ensures c.in_ok-text.ensures.unfailed
 
 pub returns-clause-stopped : goal.returns-clause-stopped
 returns-clause-stopped g c =
     let k = streams (g.S.Source.state c.args.source.now) (g.S.Source.state c.read_input.new.source) (g.W.Sink.state c.args.sink.now) (g.W.Sink.state c.write_load.new.sink) in
-    known_stopped c.args.batch c.in_ok-config.config c.in_ok-config.links.items c.args.workers k c.in_ok-text.text.items c.in_ok-config.ensures.read c.in_ok-text.ensures.all c.in_ok-text.ensures.short
+    known_stopped c.args.loading.now.batch c.in_ok-config.config c.in_ok-config.links.items c.args.loading.now.workers k c.in_ok-text.text.items c.in_ok-config.ensures.read c.in_ok-text.ensures.all c.in_ok-text.ensures.short
     c.write_load.result c.write_load.ensures
 
 pub returns-clause-fault : goal.returns-clause-fault
 returns-clause-fault g c =
     let k = streams (g.S.Source.state c.args.source.now) (g.S.Source.state c.read_input.new.source) (g.W.Sink.state c.args.sink.now) (g.W.Sink.state c.write_load.new.sink) in
-    known_fault c.args.batch c.in_ok-config.config c.in_ok-config.links.items c.args.workers k c.in_ok-text.text.items c.in_ok-config.ensures.read c.in_ok-text.ensures.all c.in_ok-text.ensures.short
+    known_fault c.args.loading.now.batch c.in_ok-config.config c.in_ok-config.links.items c.args.loading.now.workers k c.in_ok-text.text.items c.in_ok-config.ensures.read c.in_ok-text.ensures.all c.in_ok-text.ensures.short
     c.write_load.result c.write_load.ensures

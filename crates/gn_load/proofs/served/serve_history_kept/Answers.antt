@@ -9,12 +9,12 @@ use Rattle.gn_load.proofs.served.serve_history_kept.Goals as goal
 pub returns-in-Ok-print_history-clause-written : goal.returns-in-Ok-print_history-clause-written
 returns-in-Ok-print_history-clause-written g c =
     let ran = c.in-Ok.ensures in
-    written 1 c.args.config.now c.args.peers.now c.args.accept c.args.workers c.in-Ok.done.0 c.in-Ok.done.1 ran.ran ran.served.answered.run.holds ran.served.answered.run.made ran.served.one_socket c.deref.result.now
+    written c.args.serve.now.batch c.args.serve.now.config.now c.args.serve.now.peers.now c.args.serve.now.accept c.args.serve.now.workers c.in-Ok.done.0 c.in-Ok.done.1 ran.ran ran.served.answered.run.holds ran.served.answered.run.made ran.served.one_socket c.deref.result.now
     (g.W.Sink.state c.args.sink.now).written (g.W.Sink.state c.print_history.new.sink).written c.deref.ensures.value c.in-Ok-print_history.ensures.ok
 
 pub returns-in-Err-clause-stopped : goal.returns-in-Err-clause-stopped
 returns-in-Err-clause-stopped g c =
-    kept_written g.row.A.Denot (AppendsServedPart g.row.A.Denot 1 c.args.config.now c.args.peers.now c.args.accept c.args.workers None) c.args.serving.now.is_kept c.args.config.now c.in-Err.field-0.fault
+    kept_written g.row.A.Denot (AppendsServedPart g.row.A.Denot c.args.serve.now.batch c.args.serve.now.config.now c.args.serve.now.peers.now c.args.serve.now.accept c.args.serve.now.workers None) c.args.serve.now.limits.is_kept c.args.serve.now.config.now c.in-Err.stopped.fault
     (g.W.Sink.state c.args.sink.now).written (g.W.Sink.state c.print_kept.new.sink).written c.print_kept.ensures.kept
 
 pub returns-in-Err-Write-clause-fault : goal.returns-in-Err-Write-clause-fault
@@ -24,17 +24,17 @@ returns-in-Err-Write-clause-fault g c = λ crew.
 pub returns-in-Err-Write-clause-stopped : goal.returns-in-Err-Write-clause-stopped
 returns-in-Err-Write-clause-stopped g c =
     let ran = c.in-Ok.ensures in
-    written_part 1 c.args.config.now c.args.peers.now c.args.accept c.args.workers c.in-Ok.done.0 c.in-Ok.done.1 ran.ran ran.served.answered.run.holds ran.served.answered.run.made ran.served.one_socket c.deref.result.now
+    written_part c.args.serve.now.batch c.args.serve.now.config.now c.args.serve.now.peers.now c.args.serve.now.accept c.args.serve.now.workers c.in-Ok.done.0 c.in-Ok.done.1 ran.ran ran.served.answered.run.holds ran.served.answered.run.made ran.served.one_socket c.deref.result.now
     (g.W.Sink.state c.args.sink.now).written (g.W.Sink.state c.print_history.new.sink).written c.deref.ensures.value c.in-Err-Write.ensures.err
 
 pub returns-clause-stopped : goal.returns-clause-stopped
 returns-clause-stopped g c =
     let ran = c.in-Ok.ensures in
-    inr (written_part 1 c.args.config.now c.args.peers.now c.args.accept c.args.workers c.in-Ok.done.0 c.in-Ok.done.1 ran.ran ran.served.answered.run.holds ran.served.answered.run.made ran.served.one_socket c.deref.result.now
+    inr (written_part c.args.serve.now.batch c.args.serve.now.config.now c.args.serve.now.peers.now c.args.serve.now.accept c.args.serve.now.workers c.in-Ok.done.0 c.in-Ok.done.1 ran.ran ran.served.answered.run.holds ran.served.answered.run.made ran.served.one_socket c.deref.result.now
     (g.W.Sink.state c.args.sink.now).written (g.W.Sink.state c.print_history.new.sink).written c.deref.ensures.value c.in-Err-NoMemory.ensures.err)
 
 pub returns-in-Err-clause-bad_workers : goal.returns-in-Err-clause-bad_workers
-returns-in-Err-clause-bad_workers g c = run_is c.in-Err.field-0.fault _ c.in-Err.ensures.served.answered.run.bad_workers
+returns-in-Err-clause-bad_workers g c = run_is c.in-Err.stopped.fault _ c.in-Err.ensures.served.answered.run.bad_workers
 
 pub returns-in-Err-clause-fault : goal.returns-in-Err-clause-fault
 returns-in-Err-clause-fault g c = c.in-Err.ensures.served.answered.run.fault
@@ -44,17 +44,17 @@ returns-in-Ok-print_history-clause-workers g c = c.in-Ok.ensures.served.answered
 
 pub returns-in-Ok-print_history-clause-report : goal.returns-in-Ok-print_history-clause-report
 returns-in-Ok-print_history-clause-report g c =
-    subst (λ steps. Appends (g.W.Sink.state c.args.sink.now).written (g.W.Sink.state c.print_history.new.sink).written (history_text c.args.config.now steps)) c.deref.ensures.value
+    subst (λ steps. Appends (g.W.Sink.state c.args.sink.now).written (g.W.Sink.state c.print_history.new.sink).written (history_text c.args.serve.now.config.now steps)) c.deref.ensures.value
     c.in-Ok-print_history.ensures.ok
 
 pub returns-in-Ok-print_history-clause-unfailed : goal.returns-in-Ok-print_history-clause-unfailed
 returns-in-Ok-print_history-clause-unfailed g c = c.in-Ok-print_history.ensures.unfailed
 
 pub returns-in-Err-Write-clause-bad_workers : goal.returns-in-Err-Write-clause-bad_workers
-returns-in-Err-Write-clause-bad_workers g c = write_is_other c.args.workers c.in-Ok.ensures.served.answered.run.crew
+returns-in-Err-Write-clause-bad_workers g c = write_is_other c.args.serve.now.workers c.in-Ok.ensures.served.answered.run.crew
 
 pub returns-clause-bad_workers : goal.returns-clause-bad_workers
-returns-clause-bad_workers g c = memory_is_other c.args.workers c.in-Ok.ensures.served.answered.run.crew
+returns-clause-bad_workers g c = memory_is_other c.args.serve.now.workers c.in-Ok.ensures.served.answered.run.crew
 
 pub returns-in-Ok-print_history-clause-holds : goal.returns-in-Ok-print_history-clause-holds
 returns-in-Ok-print_history-clause-holds g c = c.in-Ok.ensures.served.answered.run.holds

@@ -7,10 +7,11 @@ use Rattle.gn_program.proofs.serves.run.Goals as goal
 
 pub returns-then-has_comments : goal.returns-then-has_comments
 returns-then-has_comments g c =
+    let s = c.args.serve.now in
     let old = g.W.Sink.state c.args.writer.now in
     let answer = c.run_commented-answer.result.0 in
     let value = ap (λ (k : g.row.W.Denot). g.W.Sink.state k) (sym (c.writer-1.given.1 (sym c.run_commented-answer.ensures.here))) in
     subst (λ (new : SinkState). (bare : SinkState) × IsBeside (has_comments c.args.serving.now) old bare new
-    × IsJournalled {A = Global} c.args.serving.now.batch c.args.config.now c.args.peers.now c.args.serving.now.accept c.args.serving.now.workers old bare answer) value
-    (is_beside (λ old new. IsJournalled {A = Global} c.args.serving.now.batch c.args.config.now c.args.peers.now c.args.serving.now.accept c.args.serving.now.workers old new answer)
+    × IsJournalled {A = Global} s.batch s.config.now s.peers.now s.accept s.workers old bare answer) value
+    (is_beside (λ old new. IsJournalled {A = Global} s.batch s.config.now s.peers.now s.accept s.workers old new answer)
     (has_comments c.args.serving.now) old (g.W.Sink.state c.run_commented-answer.result.1.sink.now) (sym c.has_comments.ensures ∙ c.if-has_comments.true) c.run_commented-answer.ensures.ran)

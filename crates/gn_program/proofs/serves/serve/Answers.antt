@@ -1,4 +1,5 @@
-use Rattle.std.proofs.Common.{◌≡◌, ◌∙◌, ap, refl, length, subst, sym, Ok, Err}
+use Rattle.std.proofs.Common.{◌≡◌, ◌∙◌, ℕ, ap, refl, length, subst, sym, Ok, Err, Global}
+use Rattle.gn_load.specs.Journalled.{IsJournalled}
 use Rattle.gn_program.specs.Peers.{AreAt}
 use Rattle.gn_rules.specs.Limits.{IsCrew}
 use Rattle.gn_threads.specs.declared.fault.RunFault.TheVariants.{Listen, NoMemory}
@@ -33,30 +34,40 @@ pub returns : goal.returns
 returns g c =
     let ran = c.in-Err.ensures in
     let inside = c.serving.inside in
-    let many : length c.deref-3.result.now ≡ length inside.peers.items =
+    let config = c.settings-config.result in
+    let called = c.deref-3.result.now in
+    let old = g.W.Sink.state c.args.writer.now in
+    let told = subst (λ (s : AskedServe). IsJournalled {A = Global} s.batch config called s.accept s.workers old ran.0 (Err c.in-Err.field-0)) c.serving.view_is
+    (subst (λ (n : ℕ). IsJournalled {A = Global} n config called inside.accept inside.workers old ran.0 (Err c.in-Err.field-0)) c.batch_of.ensures ran.2) in
+    let many : length called ≡ length inside.peers.items =
     ap (λ xs. length xs) c.deref-3.ensures.value ∙ c.in_ok-peers.ensures.many ∙ ap (λ xs. length xs) c.deref.ensures.value in
-    let at : AreAt inside.peers.items c.deref-3.result.now =
-    subst (λ peers. AreAt peers c.deref-3.result.now) c.deref.ensures.value (subst (λ called. AreAt c.deref.result.now called) (sym c.deref-3.ensures.value) c.in_ok-peers.ensures.each) in (
+    let at : AreAt inside.peers.items called =
+    subst (λ peers. AreAt peers called) c.deref.ensures.value (subst (λ called. AreAt c.deref.result.now called) (sym c.deref-3.ensures.value) c.in_ok-peers.ensures.each) in (
       ran.0,
       ran.1,
-      failed c.args.serving.now c.settings-config.result c.deref-3.result.now c.in-Err.field-0.ran (g.W.Sink.state c.args.writer.now) ran.0 (Err c.in-Err.field-0.fault) c.in-Err.field-0.fault
-          c.settings-config.ensures (subst (λ (s : AskedServe). AreAt s.peers c.deref-3.result.now) c.serving.view_is at)
-          (subst (λ (s : AskedServe). length c.deref-3.result.now ≡ length s.peers) c.serving.view_is many) (subst (λ (s : AskedServe). IsCrew s.workers) c.serving.view_is c.serving.invariant.0) refl
-          (c.in-Err.field-0.history, ran.2.part) ran.2.remembered ran.2.fault,
+      failed c.args.serving.now config called c.in-Err.field-0.ran old ran.0 (Err c.in-Err.field-0.fault) c.in-Err.field-0.fault
+          c.settings-config.ensures (subst (λ (s : AskedServe). AreAt s.peers called) c.serving.view_is at)
+          (subst (λ (s : AskedServe). length called ≡ length s.peers) c.serving.view_is many) (subst (λ (s : AskedServe). IsCrew s.workers) c.serving.view_is c.serving.invariant.0) refl
+          (c.in-Err.field-0.history, told.part) told.remembered told.fault,
     )
 
 pub returns-in-Ok-answer : goal.returns-in-Ok-answer
 returns-in-Ok-answer g c =
     let ran = c.in-Ok-answer.ensures in
     let inside = c.serving.inside in
-    let many : length c.deref-3.result.now ≡ length inside.peers.items =
+    let config = c.settings-config.result in
+    let called = c.deref-3.result.now in
+    let old = g.W.Sink.state c.args.writer.now in
+    let told = subst (λ (s : AskedServe). IsJournalled {A = Global} s.batch config called s.accept s.workers old ran.0 (Ok (c.in-Ok-answer.account, c.in-Ok-answer.ran))) c.serving.view_is
+    (subst (λ (n : ℕ). IsJournalled {A = Global} n config called inside.accept inside.workers old ran.0 (Ok (c.in-Ok-answer.account, c.in-Ok-answer.ran))) c.batch_of.ensures ran.2) in
+    let many : length called ≡ length inside.peers.items =
     ap (λ xs. length xs) c.deref-3.ensures.value ∙ c.in_ok-peers.ensures.many ∙ ap (λ xs. length xs) c.deref.ensures.value in
-    let at : AreAt inside.peers.items c.deref-3.result.now =
-    subst (λ peers. AreAt peers c.deref-3.result.now) c.deref.ensures.value (subst (λ called. AreAt c.deref.result.now called) (sym c.deref-3.ensures.value) c.in_ok-peers.ensures.each) in
-    let at_all = subst (λ (s : AskedServe). AreAt s.peers c.deref-3.result.now) c.serving.view_is at in (
+    let at : AreAt inside.peers.items called =
+    subst (λ peers. AreAt peers called) c.deref.ensures.value (subst (λ called. AreAt c.deref.result.now called) (sym c.deref-3.ensures.value) c.in_ok-peers.ensures.each) in
+    let at_all = subst (λ (s : AskedServe). AreAt s.peers called) c.serving.view_is at in (
       ran.0,
       ran.1,
-      answered c.args.serving.now c.settings-config.result c.deref-3.result.now _ (g.W.Sink.state c.args.writer.now) ran.0 (Ok tt) c.settings-config.ensures at_all
-          (subst (λ (s : AskedServe). length c.deref-3.result.now ≡ length s.peers) c.serving.view_is many) (subst (λ (s : AskedServe). IsCrew s.workers) c.serving.view_is c.serving.invariant.0) ran.2.unfailed
-          (asked c.args.serving.now c.settings-config.result c.deref-3.result.now _ (g.W.Sink.state c.args.writer.now).written ran.0.written at_all ran.2.written) tt tt tt,
+      answered c.args.serving.now config called _ old ran.0 (Ok tt) c.settings-config.ensures at_all
+          (subst (λ (s : AskedServe). length called ≡ length s.peers) c.serving.view_is many) (subst (λ (s : AskedServe). IsCrew s.workers) c.serving.view_is c.serving.invariant.0) told.unfailed
+          (asked c.args.serving.now config called _ old.written ran.0.written at_all told.written) tt tt tt,
     )

@@ -23,15 +23,17 @@ stopped_by-requires g c =
 
 pub returns-in-Ok-tell-clause-served : goal.returns-in-Ok-tell-clause-served
 returns-in-Ok-tell-clause-served g c =
-    let s = c.args.config.now in
-    let peers = c.args.peers.now in
-    let accept = c.args.accept in
-    let workers = c.args.workers in
+    let serve = c.args.serve.now in
+    let batch = serve.batch in
+    let s = serve.config.now in
+    let peers = serve.peers.now in
+    let accept = serve.accept in
+    let workers = serve.workers in
     let answer = c.serve_by-answer.result.0 in
-    let served = subst (λ batch. IsServed batch s peers accept workers served_account halted_views answer) c.one.ensures c.serve_by-answer.ensures.served in
+    let served = c.serve_by-answer.ensures.served in
     let account = c.in-Ok-answer.account in
-    served_told s peers accept workers account c.in-Ok-answer.ran c.in-Ok-tell.report c.in-Ok-answer.ran (ok_of c.tell.result c.in-Ok-tell.report _ c.in-Ok-tell.is c.tell.ensures.told)
-    (subst (λ answer. IsServed 1 s peers accept workers served_account halted_views answer) c.in-Ok-answer.is served)
+    served_told batch s peers accept workers account c.in-Ok-answer.ran c.in-Ok-tell.report c.in-Ok-answer.ran (ok_of c.tell.result c.in-Ok-tell.report _ c.in-Ok-tell.is c.tell.ensures.told)
+    (subst (λ answer. IsServed batch s peers accept workers served_account halted_views answer) c.in-Ok-answer.is served)
 
 pub returns-in-Ok-tell-clause-ran : goal.returns-in-Ok-tell-clause-ran
 returns-in-Ok-tell-clause-ran g c =
@@ -40,22 +42,26 @@ returns-in-Ok-tell-clause-ran g c =
 
 pub returns-in-Err-tell-clause-served : goal.returns-in-Err-tell-clause-served
 returns-in-Err-tell-clause-served g c =
-    let s = c.args.config.now in
-    let peers = c.args.peers.now in
-    let accept = c.args.accept in
-    let workers = c.args.workers in
+    let serve = c.args.serve.now in
+    let batch = serve.batch in
+    let s = serve.config.now in
+    let peers = serve.peers.now in
+    let accept = serve.accept in
+    let workers = serve.workers in
     let answer = c.serve_by-answer.result.0 in
-    let served = subst (λ batch. IsServed batch s peers accept workers served_account halted_views answer) c.one.ensures c.serve_by-answer.ensures.served in
-    untold s peers accept workers c.in-Ok-answer.account c.in-Ok-answer.ran c.in-Err-tell.stopped (err_of c.tell.result c.in-Err-tell.stopped _ c.in-Err-tell.is c.tell.ensures.fault)
-    (subst (λ answer. IsServed 1 s peers accept workers served_account halted_views answer) c.in-Ok-answer.is served)
+    let served = c.serve_by-answer.ensures.served in
+    untold batch s peers accept workers c.in-Ok-answer.account c.in-Ok-answer.ran c.in-Err-tell.stopped (err_of c.tell.result c.in-Err-tell.stopped _ c.in-Err-tell.is c.tell.ensures.fault)
+    (subst (λ answer. IsServed batch s peers accept workers served_account halted_views answer) c.in-Ok-answer.is served)
 
 pub returns-in-Err-clause-served : goal.returns-in-Err-clause-served
 returns-in-Err-clause-served g c =
-    let s = c.args.config.now in
-    let peers = c.args.peers.now in
-    let accept = c.args.accept in
-    let workers = c.args.workers in
+    let serve = c.args.serve.now in
+    let batch = serve.batch in
+    let s = serve.config.now in
+    let peers = serve.peers.now in
+    let accept = serve.accept in
+    let workers = serve.workers in
     let answer = c.serve_by-answer.result.0 in
-    let served = subst (λ batch. IsServed batch s peers accept workers served_account halted_views answer) c.one.ensures c.serve_by-answer.ensures.served in
-    served_stopped s peers accept workers c.in-Err.halted c.stopped_by.result (c.stopped_by.ensures.fault, c.stopped_by.ensures.history)
-    (subst (λ answer. IsServed 1 s peers accept workers served_account halted_views answer) c.in-Err.is served)
+    let served = c.serve_by-answer.ensures.served in
+    served_stopped batch s peers accept workers c.in-Err.halted c.stopped_by.result (c.stopped_by.ensures.fault, c.stopped_by.ensures.history)
+    (subst (λ answer. IsServed batch s peers accept workers served_account halted_views answer) c.in-Err.is served)

@@ -13,7 +13,7 @@ use Rattle.gn_service.proofs.running.Running.over_links.Goals as goal
 
 pub returns-clause-served : goal.returns-clause-served
 returns-clause-served g c =
-    let me = c.args.self in
+    let me = c.args.self.serve.now in
     let links = length me.peers.now + me.accept in
     let answer = c.run_arriving_by.result.0 in
     let given = c.run_arriving_by.ensures.answer in
