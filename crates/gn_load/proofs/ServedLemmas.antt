@@ -14,7 +14,9 @@ use Rattle.gn_threads.specs.declared.fault.RunFault.{RunFault}
 use Rattle.gn_threads.specs.declared.fault.RunFault.TheVariants.{Audit, BadWorkers, Call, HistoryFull, Link, Listen, NoMemory, Stage}
 use Rattle.std.specs.Io.KnownBytes.{Appends, Keeps}
 use Rattle.std.specs.declared.net.socket_addr.SocketAddr.{SocketAddr}
-use Rattle.gn_load.specs.Served.{AppendsServed, AppendsServedPart, HasKept, HasServeStopped, IsServedText}
+use Rattle.gn_io.specs.Streams.{SinkState}
+use Rattle.gn_load.specs.Served.{AppendsServed, AppendsServedPart, AppendsSomePart, HasKept, HasServeStopped, IsHistoryKept, IsHistoryServed, IsServedText}
+use Rattle.gn_load.specs.declared.serve_stopped.ServeStopped.{ServeStopped}
 use Rattle.gn_load.specs.declared.serve_fault.ServeFault.{ServeFault}
 use Rattle.gn_load.specs.declared.serve_fault.ServeFault.TheVariants.{Run, Write}
 use Rattle.gn_service.specs.Links.{origins_of, roles_of}
@@ -101,3 +103,40 @@ write_is_other workers within = ((λ is. absurd (cc)), (λ none. absurd (none wi
 -- nor is memory that ran out
 pub memory_is_other : (workers : ℕ) → IsCrew workers → (Run NoMemory ≡ Run BadWorkers) ↔ (¬ IsCrew workers)
 memory_is_other workers within = ((λ is. absurd (cc)), (λ none. absurd (none within)))
+
+module _ {A : Type 0} (batch : ℕ) (s : Config) (peers : List SocketAddr) (accept workers : ℕ) (is_kept : Bool) (old new : SinkState) where
+  -- what is answered of a run that is remembered, without what is
+  pub unremembered : (report : Report TcpReading TcpWriting A) (ran : Remembered A) → IsHistoryKept batch s peers accept workers is_kept old new (Ok (report, ran))
+      → IsHistoryServed batch s peers accept workers is_kept old new (Ok report)
+  unremembered report ran h =
+      record {
+        crew = h.crew;
+        bad_workers = tt;
+        fault = tt;
+        written = subst (λ r. AppendsServed A batch s peers accept workers r old.written new.written) h.ran h.written;
+        report = h.report;
+        unfailed = h.unfailed;
+        holds = h.holds;
+        made = h.made;
+        one_socket = h.one_socket;
+        stopped = tt;
+      }
+
+  -- the same where it stopped
+  pub unremembered_fault : (stopped : ServeStopped A) → IsHistoryKept batch s peers accept workers is_kept old new (Err stopped)
+      → IsHistoryServed {A = A} batch s peers accept workers is_kept old new (Err stopped.fault)
+  unremembered_fault stopped h =
+      record {
+        crew = tt;
+        bad_workers = h.bad_workers;
+        fault = h.fault;
+        written = tt;
+        report = tt;
+        unfailed = tt;
+        holds = tt;
+        made = tt;
+        one_socket = tt;
+        stopped =
+            stopped_less A (AppendsServedPart A batch s peers accept workers stopped.ran) (AppendsSomePart A batch s peers accept workers) is_kept s stopped.fault
+            old.written new.written (λ part. (stopped.ran, part)) h.stopped;
+      }

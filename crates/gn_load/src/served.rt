@@ -1,18 +1,12 @@
 //! A run over TCP, and the history of it, written.
 
-ghost use Rattle.std.specs.Prelude.{◌≡◌, ◌≢◌, ◌+◌, ◌≤◌, ◌↔◌, [], true, length, reverse, IfErr, IfOk, IfSome, OnOk};
+ghost use Rattle.std.specs.Prelude.{◌≡◌, ◌≢◌, ◌+◌, ◌≤◌, [], true, length, reverse, IfSome, OnOk};
 ghost use Rattle.gn_rules.specs.Answer.{IsLegal};
 ghost use Rattle.std.specs.Io.KnownBytes.{Appends};
 ghost use Rattle.gn_capture.specs.Histories.{history_text};
-ghost use Rattle.gn_io.specs.Streams.{NoWriteFailed};
-ghost use Rattle.gn_rules.specs.Limits.{IsCrew, most_links};
-ghost use Rattle.gn_threads.specs.declared.fault.RunFault.TheVariants.{BadWorkers, HistoryFull};
-ghost use Rattle.gn_threads.specs.Headline.{AreMadeOf, AreOfOne, Holds};
-ghost use Rattle.gn_service.specs.Links.{origins_of, roles_of};
-ghost use Rattle.gn_service.specs.Ran.{ran_of};
-ghost use Rattle.gn_sockets.specs.TcpHalves.{half_read, half_written};
-ghost use Rattle.gn_load.specs.declared.serve_fault.ServeFault.TheVariants.{Run};
-ghost use Rattle.gn_load.specs.Served.{AppendsServed, AppendsServedPart, AppendsSomePart, HasKept, HasServeStopped, IsServeFault};
+ghost use Rattle.gn_rules.specs.Limits.{most_links};
+ghost use Rattle.gn_threads.specs.declared.fault.RunFault.TheVariants.{HistoryFull};
+ghost use Rattle.gn_load.specs.Served.{HasKept, IsHistoryKept, IsHistoryServed};
 
 use crate::printed::print_history;
 use crate::serve_fault::ServeFault;
@@ -65,24 +59,8 @@ pub fn serve_history<
     sink: &mut W,
 ) -> Result<Report<TcpReader<'s>, TcpWriter, A>, ServeFault>
     requires few { serve.now.accept + length serve.now.peers.now ≤ most_links }
-    ensures workers { OnOk result (IsCrew serve.now.workers) }
-    ensures bad_workers { IfErr result (λ fault. (fault ≡ Run BadWorkers) ↔ (¬ IsCrew serve.now.workers)) }
-    ensures fault { let s = serve.now in IfErr result (λ fault. IsCrew s.workers
-        → IsServeFault (length s.peers.now + s.accept) s.workers fault (W.state sink.old) (W.state sink.new)) }
-    ensures written { let s = serve.now in IfOk result (λ report.
-        AppendsServed A s.batch s.config.now s.peers.now s.accept s.workers (ran_of report)
-        (W.state sink.old).written (W.state sink.new).written) }
-    ensures report { IfOk result (λ report. Appends (W.state sink.old).written (W.state sink.new).written
-        (history_text serve.now.config.now report.history.items)) }
-    ensures unfailed { OnOk result (NoWriteFailed (W.state sink.old) (W.state sink.new)) }
-    ensures holds { let s = serve.now in IfOk result (λ report. Holds s.batch half_read half_written s.config.now
-        (roles_of (length s.peers.now) (length s.peers.now + s.accept)) s.workers report) }
-    ensures made { let s = serve.now in IfOk result (λ report. AreMadeOf (λ half. half.origin) (λ half. half.origin)
-        (origins_of s.peers.now (length s.peers.now + s.accept)) report) }
-    ensures one_socket { IfOk result (λ report. AreOfOne (λ half. half.socket) (λ half. half.socket) report) }
-    ensures stopped { let s = serve.now in IfErr result (λ fault.
-        HasServeStopped A (AppendsSomePart A s.batch s.config.now s.peers.now s.accept s.workers)
-        s.limits.is_kept s.config.now fault (W.state sink.old).written (W.state sink.new).written) }
+    ensures { let s = serve.now in IsHistoryServed s.batch s.config.now s.peers.now s.accept s.workers
+        s.limits.is_kept (W.state sink.old) (W.state sink.new) result }
 {
     match serve_history_kept::<C, A, R, G, W>(rt, alloc, serve, sink) {
         Ok((report, _)) => Ok(report),
@@ -106,29 +84,8 @@ pub fn serve_history_kept<
     sink: &mut W,
 ) -> Result<(Report<TcpReader<'s>, TcpWriter, A>, Ran<A>), ServeStopped<A>>
     requires few { serve.now.accept + length serve.now.peers.now ≤ most_links }
-    ensures workers { OnOk result (IsCrew serve.now.workers) }
-    ensures bad_workers { IfErr result (λ stopped. (stopped.fault ≡ Run BadWorkers) ↔ (¬ IsCrew serve.now.workers)) }
-    ensures fault { let s = serve.now in IfErr result (λ stopped. IsCrew s.workers
-        → IsServeFault (length s.peers.now + s.accept) s.workers stopped.fault (W.state sink.old) (W.state sink.new)) }
-    ensures ran { IfOk result (λ done. done.1 ≡ ran_of done.0) }
-    ensures written { let s = serve.now in IfOk result (λ done.
-        AppendsServed A s.batch s.config.now s.peers.now s.accept s.workers done.1
-        (W.state sink.old).written (W.state sink.new).written) }
-    ensures report { IfOk result (λ done. Appends (W.state sink.old).written (W.state sink.new).written
-        (history_text serve.now.config.now done.0.history.items)) }
-    ensures unfailed { OnOk result (NoWriteFailed (W.state sink.old) (W.state sink.new)) }
-    ensures holds { let s = serve.now in IfOk result (λ done. Holds s.batch half_read half_written s.config.now
-        (roles_of (length s.peers.now) (length s.peers.now + s.accept)) s.workers done.0) }
-    ensures made { let s = serve.now in IfOk result (λ done. AreMadeOf (λ half. half.origin) (λ half. half.origin)
-        (origins_of s.peers.now (length s.peers.now + s.accept)) done.0) }
-    ensures one_socket { IfOk result (λ done. AreOfOne (λ half. half.socket) (λ half. half.socket) done.0) }
-    ensures stopped { let s = serve.now in IfErr result (λ stopped.
-        HasServeStopped A (AppendsServedPart A s.batch s.config.now s.peers.now s.accept s.workers stopped.ran)
-        s.limits.is_kept s.config.now stopped.fault (W.state sink.old).written (W.state sink.new).written) }
-    ensures kept { IfErr result (λ stopped. IfSome stopped.history (λ history.
-        IsLegal serve.now.config.now (reverse history.items))) }
-    ensures full { IfErr result (λ stopped. stopped.fault ≡ Run HistoryFull → IfSome stopped.history (λ history.
-        length history.items ≡ serve.now.config.now.numbers.steps)) }
+    ensures { let s = serve.now in IsHistoryKept s.batch s.config.now s.peers.now s.accept s.workers
+        s.limits.is_kept (W.state sink.old) (W.state sink.new) result }
 {
     let answer = serve_kept::<C, G, A, R>(rt, alloc, serve);
     serve.watch.end();

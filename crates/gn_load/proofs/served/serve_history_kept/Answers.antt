@@ -6,79 +6,94 @@ use Rattle.gn_load.specs.Served.{AppendsServedPart}
 use Rattle.gn_load.proofs.ServedLemmas.{is_full, kept_written, memory_is_other, run_is, write_is_other, written, written_part}
 use Rattle.gn_load.proofs.served.serve_history_kept.Goals as goal
 
-pub returns-in-Ok-print_history-clause-written : goal.returns-in-Ok-print_history-clause-written
-returns-in-Ok-print_history-clause-written g c =
+pub returns-in-Ok-print_history : goal.returns-in-Ok-print_history
+returns-in-Ok-print_history g c =
+    let serve = c.args.serve.now in
     let ran = c.in-Ok.ensures in
-    written c.args.serve.now.batch c.args.serve.now.config.now c.args.serve.now.peers.now c.args.serve.now.accept c.args.serve.now.workers c.in-Ok.done.0 c.in-Ok.done.1 ran.ran ran.served.answered.run.holds ran.served.answered.run.made ran.served.one_socket c.deref.result.now
-    (g.W.Sink.state c.args.sink.now).written (g.W.Sink.state c.print_history.new.sink).written c.deref.ensures.value c.in-Ok-print_history.ensures.ok
+    let run = ran.served.answered.run in
+    let old = (g.W.Sink.state c.args.sink.now).written in
+    let new = (g.W.Sink.state c.print_history.new.sink).written in
+    record {
+      crew = run.crew;
+      bad_workers = tt;
+      fault = tt;
+      ran = ran.ran;
+      written = written serve.batch serve.config.now serve.peers.now serve.accept serve.workers c.in-Ok.done.0 c.in-Ok.done.1 ran.ran run.holds run.made ran.served.one_socket c.deref.result.now old new c.deref.ensures.value c.in-Ok-print_history.ensures.ok;
+      report = subst (λ steps. Appends old new (history_text serve.config.now steps)) c.deref.ensures.value c.in-Ok-print_history.ensures.ok;
+      unfailed = c.in-Ok-print_history.ensures.unfailed;
+      holds = run.holds;
+      made = run.made;
+      one_socket = ran.served.one_socket;
+      stopped = tt;
+      kept = tt;
+      full = tt;
+    }
 
-pub returns-in-Err-clause-stopped : goal.returns-in-Err-clause-stopped
-returns-in-Err-clause-stopped g c =
-    kept_written g.row.A.Denot (AppendsServedPart g.row.A.Denot c.args.serve.now.batch c.args.serve.now.config.now c.args.serve.now.peers.now c.args.serve.now.accept c.args.serve.now.workers None) c.args.serve.now.limits.is_kept c.args.serve.now.config.now c.in-Err.stopped.fault
-    (g.W.Sink.state c.args.sink.now).written (g.W.Sink.state c.print_kept.new.sink).written c.print_kept.ensures.kept
+pub returns-in-Err : goal.returns-in-Err
+returns-in-Err g c =
+    let serve = c.args.serve.now in
+    let answered = c.in-Err.ensures.served.answered in
+    record {
+      crew = tt;
+      bad_workers = run_is c.in-Err.stopped.fault _ answered.run.bad_workers;
+      fault = answered.run.fault;
+      ran = tt;
+      written = tt;
+      report = tt;
+      unfailed = tt;
+      holds = tt;
+      made = tt;
+      one_socket = tt;
+      stopped =
+          kept_written g.row.A.Denot (AppendsServedPart g.row.A.Denot serve.batch serve.config.now serve.peers.now serve.accept serve.workers None) serve.limits.is_kept serve.config.now c.in-Err.stopped.fault
+          (g.W.Sink.state c.args.sink.now).written (g.W.Sink.state c.print_kept.new.sink).written c.print_kept.ensures.kept;
+      kept = answered.kept;
+      full = λ is. answered.full (is_full is);
+    }
 
-pub returns-in-Err-Write-clause-fault : goal.returns-in-Err-Write-clause-fault
-returns-in-Err-Write-clause-fault g c = λ crew.
-    subst (λ fault. IsPrintFault fault (g.W.Sink.state c.args.sink.now) (g.W.Sink.state c.print_history.new.sink)) c.in-Err-Write.field-0-is c.in-Err-Write.ensures.cause
-
-pub returns-in-Err-Write-clause-stopped : goal.returns-in-Err-Write-clause-stopped
-returns-in-Err-Write-clause-stopped g c =
+pub returns-in-Err-Write : goal.returns-in-Err-Write
+returns-in-Err-Write g c =
+    let serve = c.args.serve.now in
     let ran = c.in-Ok.ensures in
-    written_part c.args.serve.now.batch c.args.serve.now.config.now c.args.serve.now.peers.now c.args.serve.now.accept c.args.serve.now.workers c.in-Ok.done.0 c.in-Ok.done.1 ran.ran ran.served.answered.run.holds ran.served.answered.run.made ran.served.one_socket c.deref.result.now
-    (g.W.Sink.state c.args.sink.now).written (g.W.Sink.state c.print_history.new.sink).written c.deref.ensures.value c.in-Err-Write.ensures.err
+    let run = ran.served.answered.run in
+    let old = g.W.Sink.state c.args.sink.now in
+    let new = g.W.Sink.state c.print_history.new.sink in
+    record {
+      crew = tt;
+      bad_workers = write_is_other serve.workers run.crew;
+      fault = λ crew. subst (λ fault. IsPrintFault fault old new) c.in-Err-Write.field-0-is c.in-Err-Write.ensures.cause;
+      ran = tt;
+      written = tt;
+      report = tt;
+      unfailed = tt;
+      holds = tt;
+      made = tt;
+      one_socket = tt;
+      stopped =
+          written_part serve.batch serve.config.now serve.peers.now serve.accept serve.workers c.in-Ok.done.0 c.in-Ok.done.1 ran.ran run.holds run.made ran.served.one_socket c.deref.result.now old.written new.written c.deref.ensures.value c.in-Err-Write.ensures.err;
+      kept = run.holds.legal;
+      full = λ is. absurd (cc);
+    }
 
-pub returns-clause-stopped : goal.returns-clause-stopped
-returns-clause-stopped g c =
+pub returns : goal.returns
+returns g c =
+    let serve = c.args.serve.now in
     let ran = c.in-Ok.ensures in
-    inr (written_part c.args.serve.now.batch c.args.serve.now.config.now c.args.serve.now.peers.now c.args.serve.now.accept c.args.serve.now.workers c.in-Ok.done.0 c.in-Ok.done.1 ran.ran ran.served.answered.run.holds ran.served.answered.run.made ran.served.one_socket c.deref.result.now
-    (g.W.Sink.state c.args.sink.now).written (g.W.Sink.state c.print_history.new.sink).written c.deref.ensures.value c.in-Err-NoMemory.ensures.err)
-
-pub returns-in-Err-clause-bad_workers : goal.returns-in-Err-clause-bad_workers
-returns-in-Err-clause-bad_workers g c = run_is c.in-Err.stopped.fault _ c.in-Err.ensures.served.answered.run.bad_workers
-
-pub returns-in-Err-clause-fault : goal.returns-in-Err-clause-fault
-returns-in-Err-clause-fault g c = c.in-Err.ensures.served.answered.run.fault
-
-pub returns-in-Ok-print_history-clause-workers : goal.returns-in-Ok-print_history-clause-workers
-returns-in-Ok-print_history-clause-workers g c = c.in-Ok.ensures.served.answered.run.crew
-
-pub returns-in-Ok-print_history-clause-report : goal.returns-in-Ok-print_history-clause-report
-returns-in-Ok-print_history-clause-report g c =
-    subst (λ steps. Appends (g.W.Sink.state c.args.sink.now).written (g.W.Sink.state c.print_history.new.sink).written (history_text c.args.serve.now.config.now steps)) c.deref.ensures.value
-    c.in-Ok-print_history.ensures.ok
-
-pub returns-in-Ok-print_history-clause-unfailed : goal.returns-in-Ok-print_history-clause-unfailed
-returns-in-Ok-print_history-clause-unfailed g c = c.in-Ok-print_history.ensures.unfailed
-
-pub returns-in-Err-Write-clause-bad_workers : goal.returns-in-Err-Write-clause-bad_workers
-returns-in-Err-Write-clause-bad_workers g c = write_is_other c.args.serve.now.workers c.in-Ok.ensures.served.answered.run.crew
-
-pub returns-clause-bad_workers : goal.returns-clause-bad_workers
-returns-clause-bad_workers g c = memory_is_other c.args.serve.now.workers c.in-Ok.ensures.served.answered.run.crew
-
-pub returns-in-Ok-print_history-clause-holds : goal.returns-in-Ok-print_history-clause-holds
-returns-in-Ok-print_history-clause-holds g c = c.in-Ok.ensures.served.answered.run.holds
-
-pub returns-in-Ok-print_history-clause-made : goal.returns-in-Ok-print_history-clause-made
-returns-in-Ok-print_history-clause-made g c = c.in-Ok.ensures.served.answered.run.made
-
-pub returns-in-Ok-print_history-clause-one_socket : goal.returns-in-Ok-print_history-clause-one_socket
-returns-in-Ok-print_history-clause-one_socket g c = c.in-Ok.ensures.served.one_socket
-
-pub returns-in-Err-clause-full : goal.returns-in-Err-clause-full
-returns-in-Err-clause-full g c = λ is. c.in-Err.ensures.served.answered.full (is_full is)
-
-pub returns-in-Err-Write-clause-kept : goal.returns-in-Err-Write-clause-kept
-returns-in-Err-Write-clause-kept g c = c.in-Ok.ensures.served.answered.run.holds.legal
-
-pub returns-clause-kept : goal.returns-clause-kept
-returns-clause-kept g c = c.in-Ok.ensures.served.answered.run.holds.legal
-
-pub returns-in-Err-Write-clause-full : goal.returns-in-Err-Write-clause-full
-returns-in-Err-Write-clause-full g c = λ is. absurd (cc)
-
-pub returns-clause-full : goal.returns-clause-full
-returns-clause-full g c = λ is. absurd (cc)
-
-pub returns-in-Ok-print_history-clause-ran : goal.returns-in-Ok-print_history-clause-ran
-returns-in-Ok-print_history-clause-ran g c = c.in-Ok.ensures.ran
+    let run = ran.served.answered.run in
+    let old = (g.W.Sink.state c.args.sink.now).written in
+    let new = (g.W.Sink.state c.print_history.new.sink).written in
+    record {
+      crew = tt;
+      bad_workers = memory_is_other serve.workers run.crew;
+      fault = λ crew. tt;
+      ran = tt;
+      written = tt;
+      report = tt;
+      unfailed = tt;
+      holds = tt;
+      made = tt;
+      one_socket = tt;
+      stopped = inr (written_part serve.batch serve.config.now serve.peers.now serve.accept serve.workers c.in-Ok.done.0 c.in-Ok.done.1 ran.ran run.holds run.made ran.served.one_socket c.deref.result.now old new c.deref.ensures.value c.in-Err-NoMemory.ensures.err);
+      kept = run.holds.legal;
+      full = λ is. absurd (cc);
+    }
