@@ -7,9 +7,9 @@ ghost use Rattle.gn_rules.specs.declared.reply.Reply.{Reply};
 ghost use Rattle.gn_actors.specs.Annals.{IsRouted, IsStepped, last_receipt};
 
 use crate::actor::Actor;
-use crate::growing::{Beginning, Growing, Lists, Named, Unnamed};
+use crate::growing::{Beginning, Growing, Named, Unnamed};
 use gn_rules::{Receipt, RouterCore, Step};
-use gn_trail::Tells;
+use gn_trail::{Lists, Tells};
 use std::alloc::{Allocator, Global};
 use std::marker::Model;
 use std::sync::ledger::{Blank, Book, Ledger, Share};

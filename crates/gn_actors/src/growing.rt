@@ -6,6 +6,7 @@ ghost use mathlib.Core.List.{IsPrefix};
 ghost use base.Stored.{coded_list};
 ghost use Rattle.gn_actors.specs.Growing.{growing_owns, beginning_owns};
 
+use gn_trail::Lists;
 use std::marker::{Brand, Model, PhantomData};
 
 /// Which list it is. Each call of a program picks it.
@@ -15,11 +16,6 @@ pub trait Named {
 
 impl Named for Brand {
     ghost growing = { 0 };
-}
-
-/// The list of a value.
-pub trait Lists<X, T> {
-    ghost list: { X → List T };
 }
 
 /// A list that only grows, which no type stands for yet. It is empty.

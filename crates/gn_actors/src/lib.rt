@@ -10,7 +10,7 @@ mod who;
 
 pub use actor::Actor;
 pub use annals::{Annals, Unopened};
-pub use growing::{Beginning, Growing, Lists, Named, Unnamed};
+pub use growing::{Beginning, Growing, Named, Unnamed};
 pub use home::Home;
 pub use tally::Tally;
 pub use who::{Numbering, Who, numbers_are_apart};

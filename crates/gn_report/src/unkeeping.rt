@@ -3,9 +3,8 @@
 ghost use Rattle.std.specs.Prelude.{◌≡◌, ◌<◌, ◌^◌, length};
 
 use crate::unkept::Unkept;
-use gn_actors::Lists;
 use gn_rules::{RouterCore, Step};
-use gn_trail::Trail;
+use gn_trail::{Lists, Trail};
 use std::alloc::Allocator;
 
 /// The list of a router is its steps.

@@ -3,7 +3,7 @@
 ghost use Rattle.std.specs.Prelude.{◌≡◌, ◌<◌, ◌^◌, List, length};
 ghost use Rattle.std.specs.Borrow.{ftrue};
 
-use gn_actors::Lists;
+use gn_trail::Lists;
 use std::marker::{Model, PhantomData};
 
 /// A list that only proofs read, no longer than a vector may be. It takes no memory.

@@ -2,10 +2,12 @@
 #![tactic(auto)]
 
 mod heard;
+mod lists;
 mod streams;
 mod told;
 mod trail;
 
+pub use lists::Lists;
 pub use streams::{read_told, write_told};
 pub use told::Told;
 pub use trail::{Tells, Trail};

@@ -93,7 +93,7 @@ pub mod stage {
 /// The router under its lock, and the actors that call it.
 pub mod hub {
     pub use gn_actors::{
-        Beginning, Growing, Home, Lists, Named, Numbering, Tally, Unnamed, Unopened, Who,
+        Beginning, Growing, Home, Named, Numbering, Tally, Unnamed, Unopened, Who,
         numbers_are_apart,
     };
     pub use gn_hub::{
@@ -101,7 +101,7 @@ pub mod hub {
         ServiceFault,
     };
     pub use gn_room::{Following, Room, run_beside};
-    pub use gn_trail::{Tells, Trail};
+    pub use gn_trail::{Lists, Tells, Trail};
 }
 
 /// Links over memory and over TCP.

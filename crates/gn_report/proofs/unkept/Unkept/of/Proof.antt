@@ -32,7 +32,7 @@ use denote.Triple.Table.{entered}
 use denote.Triple.Walked.{says, Stays, stay_dropped, walk_of, ends_at, walk_Meets, Goes-dropped}
 use Rattle.std.specs.contracts.marker.PhantomData as Mark
 use Rattle.bytes.proofs.Walks.{none, one, one_made}
-use Rattle.gn_actors.specs.declared.growing.Lists as Lists
+use Rattle.gn_trail.specs.declared.lists.Lists as Lists
 use Rattle.gn_report.specs.contracts.unkept.Unkept as Unkept
 use Rattle.gn_report.specs.contracts.unkept.Unkept.of as F
 use Rattle.gn_report.specs.contracts.unkept.Unkept.of.Key.{name as #self}
