@@ -1,6 +1,6 @@
 //! Runs of whole stages.
 
-ghost use Rattle.std.specs.Prelude.{◌≡◌, ◌<◌, ◌≤◌};
+ghost use Rattle.std.specs.Prelude.{◌≡◌, ◌+◌, ◌-◌, ◌^◌, ◌<◌, ◌≤◌, true, IfOk};
 
 use gn_fixtures::ping;
 use gn_stage::*;
@@ -403,5 +403,170 @@ fn left<R: Threads + Wait + Sync + Clock>(
 #[test]
 fn a_put_that_waits_gets_its_job_back(rt: HostRuntime) -> Result<(), Fail> {
     assert_eq!(rt; left(&rt, rt.alloc())?, Some(1));
+    Ok(())
+}
+
+/// An intake comes, puts two jobs from this ticket on, and goes home.
+fn come_and_go<S: Site, R: Wait>(
+    rt: &R,
+    reception: &mut Reception<S>,
+    first: u32,
+) -> Result<(), AllocError>
+    requires { (reception.old.is_open ≡ true) × (reception.old.made.intakes < 2 ^ 32 - 1) }
+    ensures { IfOk result (λ _. (reception.new.is_open ≡ true)
+        × (reception.new.made.intakes ≡ reception.old.made.intakes + 1)) }
+{
+    let mut intake = reception.intake()?;
+    put_some(rt, &mut intake, first, 2);
+    reception.take_home(intake.finish());
+    Ok(())
+}
+
+/// Drains a stage again, with an intake that has come home.
+fn drained_again<S: Site, R: Wait>(
+    rt: &R,
+    alloc: Global,
+    back: Undrained<S>,
+    late: IntakeHome<S>,
+) -> Option<(StageFault, Settled)> {
+    let Undrained {
+        fault,
+        mut reception,
+        outlets,
+    } = back;
+    reception.take_home(late);
+    Some((fault, reception.drain(rt, alloc, outlets).ok()?))
+}
+
+/// The fault of a stage that isn't drained by this outlet, and what is drained of it once another intake has come home.
+fn drained_late<S: Site, R: Wait>(
+    rt: &R,
+    alloc: Global,
+    reception: Reception<S>,
+    outlet: OutletHome<S>,
+    late: IntakeHome<S>,
+) -> Option<(StageFault, Settled)> {
+    let Ok(outlets) = vec![in alloc; outlet] else {
+        drop(reception);
+        drop(late);
+        return None;
+    };
+    match reception.drain(rt, alloc, outlets) {
+        Ok(settled) => {
+            drop(settled);
+            drop(late);
+            None
+        }
+        Err(back) => drained_again(rt, alloc, back, late),
+    }
+}
+
+/// Two intakes come one after the other, and a third comes home late: what the outlet takes first, the fault, and what is drained.
+fn open_stage<S: Site, R: Wait>(
+    rt: &R,
+    alloc: Global,
+    stage: Stage,
+) -> Result<(Option<u32>, StageFault, Settled), AllocError>
+    requires { stage ≡ S.stage }
+{
+    let (mut outs, mut reception) = stage.open::<S>(alloc, 1)?;
+    let outlet = outs.pop();
+    drop(outs);
+    let Some(mut outlet) = outlet else {
+        drop(reception);
+        return Err(AllocError);
+    };
+    come_and_go(rt, &mut reception, 0)?;
+    let first = ticket_of(outlet.take(rt));
+    come_and_go(rt, &mut reception, 2)?;
+    let late = reception.intake()?;
+    reception.shut();
+    match drained_late(rt, alloc, reception, outlet.finish(), late.finish()) {
+        Some((fault, settled)) => Ok((first, fault, settled)),
+        None => Err(AllocError),
+    }
+}
+
+/// Whether that run takes the first job, misses the third intake, and leaves the other jobs.
+fn is_drained<R: Wait>(rt: &R, alloc: Global) -> Result<bool, AllocError> {
+    let (first, fault, settled) = open_stage::<Brand, R>(rt, alloc, Stage::new(alloc, 8)?)?;
+    let mut tickets = Vec::new(alloc);
+    let added = add_tickets(&mut tickets, settled.drained.as_slice());
+    let counts = (settled.put, settled.taken);
+    drop(settled);
+    added?;
+    let is_left = tickets.as_slice() == [1, 2, 3].as_slice();
+    drop(tickets);
+    Ok(first == Some(0) && fault == StageFault::Missing && counts == (4, 1) && is_left)
+}
+
+#[test]
+fn a_reception_is_drained(rt: HostRuntime) -> Result<(), Fail> {
+    assert!(rt; is_drained(&rt, rt.alloc())?);
+    Ok(())
+}
+
+/// So many intakes come and go, and the outlet takes what each put: whether in order.
+fn are_taken_in_order<S: Site, R: Wait>(
+    rt: &R,
+    reception: &mut Reception<S>,
+    outlet: &mut Outlet<S>,
+    count: u32,
+) -> Result<bool, AllocError>
+    requires { (reception.old.is_open ≡ true) × (reception.old.made.intakes ≡ 0) }
+{
+    let mut first = 0u32;
+    for _ in 0..count {
+        come_and_go(rt, reception, first)?;
+        let taken = (
+            ticket_of(outlet.try_take(rt)),
+            ticket_of(outlet.try_take(rt)),
+        );
+        if taken != (Some(first), Some(first.wrapping_add(1))) {
+            return Ok(false);
+        }
+        first = first.wrapping_add(2);
+    }
+    Ok(true)
+}
+
+/// So many intakes come and go: how many jobs were put and taken, where each was taken in order, and the outlet found that no more come.
+fn many_come_and_go<S: Site, R: Wait>(
+    rt: &R,
+    alloc: Global,
+    stage: Stage,
+    count: u32,
+) -> Result<Option<(u64, u64)>, AllocError>
+    requires { stage ≡ S.stage }
+{
+    let (mut outs, mut reception) = stage.open::<S>(alloc, 1)?;
+    let outlet = outs.pop();
+    drop(outs);
+    let Some(mut outlet) = outlet else {
+        drop(reception);
+        return Err(AllocError);
+    };
+    let are_in_order = are_taken_in_order(rt, &mut reception, &mut outlet, count)?;
+    reception.shut();
+    let is_over = ticket_of(outlet.take(rt)).is_none();
+    let outlets = vec![in alloc; outlet.finish()]?;
+    match reception.drain(rt, alloc, outlets) {
+        Ok(settled) if are_in_order && is_over => Ok(Some((settled.put, settled.taken))),
+        _ => Ok(None),
+    }
+}
+
+/// That run, with the stage's mark made here.
+fn came_and_went<R: Wait>(
+    rt: &R,
+    alloc: Global,
+    count: u32,
+) -> Result<Option<(u64, u64)>, AllocError> {
+    many_come_and_go::<Brand, R>(rt, alloc, Stage::new(alloc, 2)?, count)
+}
+
+#[test]
+fn intakes_come_and_go(rt: HostRuntime) -> Result<(), Fail> {
+    assert_eq!(rt; came_and_went(&rt, rt.alloc(), 500)?, Some((1000, 1000)));
     Ok(())
 }
