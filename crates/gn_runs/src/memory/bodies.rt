@@ -85,9 +85,10 @@ impl<'a, A: Allocator + Copy, B: Allocator + Copy, R: Wait> Turns<A> for Bodies<
 }
 
 /// The reader connects, which takes two, cuts the Ping out of its piece, three, and admits it, eight. The worker makes room for
-/// the jobs and the receipts of a batch, and its route takes nine, as at the router alone. The writer makes room for the receipts
-/// of a batch, encodes the Pong, which takes one, and its Close is the fifth step of the history.
-const GROWTHS: u64 = 13 + 11 + 3;
+/// the jobs of a batch, and its route takes eight, one fewer than at the router alone, since no receipt copies the list of its
+/// packets. The writer makes room for the receipts of a batch, encodes the Pong, which takes one, and its Close is the fifth step
+/// of the history.
+const GROWTHS: u64 = 13 + 9 + 3;
 
 #[test]
 fn bodies_of_one_link(rt: HostRuntime) -> Result<(), Fail> {
