@@ -10,5 +10,6 @@ pub(crate) mod hub;
 mod report;
 pub(crate) mod runs;
 mod service;
+mod slots;
 pub(crate) mod stage;
 mod told;
