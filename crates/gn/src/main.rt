@@ -3,14 +3,21 @@
 
 mod streams;
 
-use gn_io::{ReaderSource, Sink, WriterSink, write_all};
+use gn_io::{ReaderSource, Sink, Source, WriterSink, write_all};
+use gn_links::Watch;
 use gn_program::{Head, Kept, command_with, refuse_words};
 use gn_progress::Progress;
 use gn_router::Unfreed;
 use gn_table_router::TableRouter;
 use gn_tables::Forgetful;
 use std::env::Env;
+use std::io::StdinLock;
+use std::net::{Net, TcpListener, TcpStream};
 use std::process::ExitCode;
+use std::random::RandomSource;
+use std::sync::Wait;
+use std::thread::Threads;
+use std::time::Clock;
 use std::{env, io};
 use streams::{Noted, Unbroken, Why, is_broken, open_all};
 
@@ -31,6 +38,42 @@ fn say_why<R: AllocGlobal, F: Sink>(rt: &R, faults: &mut F, stream: &str, why: &
     }
 }
 
+/// Does what the words say over these streams, and gives the status to end with.
+fn obey<
+    R: Threads
+        + Wait
+        + Net<Listener = TcpListener, Stream = TcpStream>
+        + Clock
+        + Input<Reader = StdinLock<'static>>
+        + RandomSource
+        + AllocGlobal
+        + Sync,
+    G: Watch + Sync,
+    S: Source,
+    W: Sink + Send,
+    F: Sink,
+>(
+    rt: &R,
+    words: &[String],
+    watch: &G,
+    head: &Head,
+    reader: &mut S,
+    writer: &mut W,
+    faults: &mut F,
+) -> u8 {
+    let ended = command_with::<Unfreed<TableRouter<_, Forgetful>>, _, _, _, _, _, _>(
+        rt,
+        rt.alloc(),
+        words,
+        watch,
+        head,
+        reader,
+        writer,
+        faults,
+    );
+    ended.status
+}
+
 /// Does what the words say, and ends with its status.
 fn main(rt: HostRuntime) -> ExitCode {
     open_all(&rt);
@@ -42,17 +85,15 @@ fn main(rt: HostRuntime) -> ExitCode {
     let mut faults = WriterSink::new(Unbroken::new(rt.stderr(), &output));
     let progress = Progress::new(&rt, rt.stderr());
     let status = match words_of(&rt) {
-        Ok(words) => command_with::<Unfreed<TableRouter<_, Forgetful>>, _, _, _, _, _, _>(
+        Ok(words) => obey(
             &rt,
-            rt.alloc(),
             words.as_slice(),
             &progress,
             &head,
             &mut reader,
             &mut writer,
             &mut faults,
-        )
-        .status,
+        ),
         Err(error) => refuse_words(&error, &mut faults),
     };
     if is_broken(&output) {
