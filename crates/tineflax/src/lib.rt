@@ -111,8 +111,8 @@ pub mod links {
         MemoryWriter, NoGate, Place, SplitFault, SplitLink, SplitLinks, split_all,
     };
     pub use gn_tcp::{
-        Brake, Call, ListenerStopper, Socket, Sockets, TcpCall, TcpLink, TcpOrigin, TcpReader,
-        TcpStopper, TcpWriter, Unmet, listen,
+        Brake, Call, ListenerStopper, Socket, TcpCall, TcpLink, TcpOrigin, TcpReader, TcpStopper,
+        TcpWriter, Unmet, listen,
     };
 }
 
