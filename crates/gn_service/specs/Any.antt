@@ -39,8 +39,8 @@ origin_at peers k = record { link = k; called = slice_get peers k }
 abbrev pub ran_of_any : {A : Type 0} → OpenAccount TcpReading TcpWriting A → Remembered A
 ran_of_any account = record { steps = account.history.items; sockets = account_sockets account.links.items }
 
--- the account of a run over links to these peers and to all that call, whose writers write at most so many packets at once: it is one of
--- links that come one after another, of which the first are those of the peers
+-- the account of a run whose first links go to these peers, in order, as far as there are links, and whose others called, and whose writers
+-- write at most so many packets at once
 abbrev pub IsAnyAccount : {A : Type 0} → ℕ → Config → List SocketAddr → ℕ → OpenAccount TcpReading TcpWriting A → Type 0
 IsAnyAccount batch s peers workers account =
     IsOpenAnswer tcp_views (λ origin. origin.0) batch s workers (λ k. Some (role_at peers k)) (λ k. Some (origin_at peers k)) account

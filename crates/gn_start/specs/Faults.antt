@@ -1,10 +1,8 @@
 -- What a fault of a run says.
-use Rattle.std.specs.Prelude.{◌≡◌, ℕ, ◌+◌, ◌<◌, ⊤, Bool, true, false, List, length, Option, Some, None, Result, Err}
+use Rattle.std.specs.Prelude.{◌≡◌, ℕ, ◌+◌, ◌<◌, ⊤, Bool, true, List, length, Some}
 use Rattle.std.specs.List.{slice_get}
 use Rattle.gn_links.specs.declared.split.SplitFault.{SplitFault}
 use Rattle.gn_links.specs.declared.split.SplitFault.TheVariants as split
-use Rattle.gn_bodies.specs.declared.ends.BodyFault.{BodyFault}
-use Rattle.gn_bodies.specs.declared.ends.BodyFault.TheVariants as body
 use Rattle.gn_actors.specs.declared.who.Numbering.TheVariants.{Known}
 use Rattle.gn_actors.specs.declared.who.Who.TheVariants.{House}
 use Rattle.gn_actors.specs.Who.{number_of}
@@ -36,19 +34,6 @@ IsArrivingFault has_peers links workers fault = IsFaultOf links workers fault
 abbrev pub IsWholeFault : List Bool → ℕ → RunFault → Type 0
 IsWholeFault may_not_split workers (Link k) = slice_get may_not_split k ≡ Some true
 IsWholeFault may_not_split workers fault = IsFaultOf (length may_not_split) workers fault
-
--- whether a body ended with this fault
-abbrev pub is_ended_with : {E : Type 0} → BodyFault → Result E BodyFault → Bool
-is_ended_with body.HistoryFull (Err body.HistoryFull) = true
-is_ended_with body.NoMemory (Err body.NoMemory) = true
-is_ended_with body.Refused (Err body.Refused) = true
-is_ended_with fault end = false
-
--- the fault of a run in which a body ended with a full history, or not, and a body ended out of memory, or not
-abbrev pub stop_of : Bool → Bool → Option RunFault
-stop_of true out_of_memory = Some HistoryFull
-stop_of false true = Some NoMemory
-stop_of false false = None
 
 -- the fault of a run whose links couldn't be taken apart
 abbrev pub of_split : SplitFault → RunFault

@@ -12,6 +12,7 @@ pub record Foretold (F : Type 0) : Type 0 where
   pub coming : ℕ → Option F
   pub roles : ℕ → Option Role
 
+-- the same of these two
 abbrev pub foretold : {F : Type 0} → (ℕ → Option F) → (ℕ → Option Role) → Foretold F
 foretold coming roles = record { coming = coming; roles = roles }
 

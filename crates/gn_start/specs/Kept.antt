@@ -18,11 +18,12 @@ use Rattle.gn_start.specs.declared.incoming.NewLink.{NewLink}
 use Rattle.gn_start.specs.declared.states.LinkState.{LinkState}
 use Rattle.gn_start.specs.declared.trouble.Trouble.{Trouble}
 
--- what is kept of a link that came so and has ended so: what its end says, and that it is this link's
+-- an end that is kept whole is of the link that came so
 abbrev pub IsOf : {Rd W A O : Type 0} → LinkViews Rd W O → NewLink Rd W → LinkEnd Rd W A → Type 0
 IsOf views came (Whole link) = (link.role ≡ came.role) × (views.reader_of link.reader ≡ views.reader_of came.reader)
 IsOf views came (Cut tally) = ⊤
 
+-- a link that came so has ended so, and in these receipts of its reader and its writer
 abbrev pub IsKept : {Rd W A O : Type 0} → ℕ → ℕ → LinkViews Rd W O → List (Step A) → NewLink Rd W → LinkEnd Rd W A → List (Receipt A) → List (Receipt A) → Type 0
 IsKept turns batch views seen came end reads writes = EndsAs turns batch views seen reads writes end × IsOf views came end
 

@@ -32,7 +32,7 @@ abbrev pub HasEnded : {Rd W A O : Type 0} → ℕ → ℕ → LinkViews Rd W O �
 HasEnded turns batch views seen lists reader writer end =
     EndsAs turns batch views seen (slice_index_or lists reader []) (slice_index_or lists writer []) end
 
--- what is seen of the halves of links that say this
+-- these views of the halves of links, as one value
 abbrev pub views_of : {Rd W O : Type 0} → (Rd → ReadHalf) → (W → WrittenHalf) → (O → Source) → (Rd → O) → (W → O) → LinkViews Rd W O
 views_of reads writes gives reader_of writer_of =
     record { reads = reads; writes = writes; gives = gives; reader_of = reader_of; writer_of = writer_of }

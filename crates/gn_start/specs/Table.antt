@@ -98,7 +98,7 @@ pub record AreFirst {Rd W O F : Type 0} (read_of : Rd → O) (foreknown : O → 
 abbrev pub AreComing : {Rd W O F : Type 0} → (Rd → O) → (O → F) → Foretold F → Foretold F → List (NewLink Rd W) → Type 0
 AreComing read_of foreknown all rest links = AreFirst read_of foreknown all links × IsSameFrom (length links) all rest
 
--- where this run is known to have all its links, no more come than it has actors for
+-- no link comes beyond those of a run whose links are known beforehand; of an open run nothing is said
 abbrev pub EndsBy : {F : Type 0} → Numbering → Foretold F → Type 0
 EndsBy (Known n v) all = all.roles n ≡ None
 EndsBy (Open v) all = ⊥

@@ -22,8 +22,8 @@ pub enum RunFault {
     NoMemory,
     /// The house couldn't close the queue of tickets at the end: a thread hadn't given it up, or out of memory.
     Stage(StageFault),
-    /// This actor was refused a Route or hasn't its place's number, or reads a link whose ends don't fit the run; or it is
-    /// the house, and something is in flight, or the router's configuration isn't the run's.
+    /// This actor was refused a Route, or reads a link whose ends don't fit; or it is the house: an actor isn't home, a ticket is in
+    /// flight, a writer drained too early, or the router has another configuration.
     Audit(u32),
 }
 

@@ -12,7 +12,7 @@ pub(crate) struct Trouble {
     pub fault: Option<RunFault>,
 }
 
-/// Which of two faults a run tells of, the lesser: that a link doesn't come, then a full history, then memory.
+/// Which of two faults a run tells of, the lesser: that a link doesn't come, then a full history, then memory, then an audit.
 fn rank(fault: RunFault) -> u8 {
     match fault {
         RunFault::HistoryFull => 1,

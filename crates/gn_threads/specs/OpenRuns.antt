@@ -28,7 +28,7 @@ use Rattle.gn_threads.specs.declared.open_ending.OpenGathered.{OpenGathered}
 abbrev pub known_steps : {Rd W A : Type 0} → OpenAccount Rd W A → List (Step A)
 known_steps account = renumbered (length account.links.items) (length account.workers.items) account.history.items
 
--- the account, with its steps in those numbers
+-- the account, with its steps in those numbers: as many steps, so that they still fit
 abbrev pub known_account : {Rd W A : Type 0} → OpenAccount Rd W A → Account Rd W A
 known_account {Rd} {W} {A} account = record {
   history = record account.history {
@@ -67,7 +67,7 @@ pub record IsOpenAnswer {Rd W A O F : Type 0} (views : LinkViews Rd W O) (forekn
   pub were_to_come : (k : ℕ) (link : LinkAccount Rd W A) → slice_get account.links.items k ≡ Some link
       → coming k ≡ Some (foreknown (views.reader_of link.reader))
 
--- the faults of a run in which as many links came as may
+-- a fault of a run over some number of links
 abbrev pub IsOpenFault : Bool → ℕ → RunFault → Type 0
 IsOpenFault has_peers workers fault = (came : ℕ) × IsArrivingFault has_peers came workers fault
 

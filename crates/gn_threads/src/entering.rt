@@ -29,8 +29,8 @@ use std::sync::Wait;
 use std::sync::ledger::Ledger;
 use std::thread::Threads;
 
-/// Where the links of such a run come from, who is lent what each did, how many may be there at once, and by what a thread that has
-/// something for who waits for links says so.
+/// Where the links of such a run come from, who is lent what each did, how many may be there at once, and the signal by which whoever
+/// has a link for the run wakes it.
 #[derive(Drop)]
 pub struct Entering<'a, V, K> {
     pub incoming: V,

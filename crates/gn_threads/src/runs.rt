@@ -26,7 +26,7 @@ use std::thread::Threads;
 /// Runs a router over these links, each with a reader and a writer, and with this many workers, until all these threads
 /// have ended.
 ///
-/// Of several faults it answers the one that it finds first, but a full history before memory where bodies ran into both; no
+/// Of several faults it answers a link that can't be split before a full history, that before memory, and an audit last; no
 /// clause says so. Whatever the fault, no thread runs on.
 pub fn run<
     C: Historian<A> + Drop + Send,
