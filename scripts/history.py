@@ -2,7 +2,7 @@
 
 It takes and refuses what docs/FORMATS.md says; `scripts/check_scripts` compares its forms with the tables there. Memory stays flat:
 a step is handed on as it is read. Comments of two forms are read too: `# t SECONDS.MICROS` is the time of the steps behind it, and
-`# link N ADDRESS:PORT called` or `accepted` names the neighbour of link N, whose reader is actor N.
+`# link N ADDRESS:PORT called` or `accepted` names the neighbour of the link whose reader is actor N.
 """
 import re
 import sys

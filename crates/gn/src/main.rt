@@ -51,7 +51,7 @@ fn obey<
     G: Watch + Sync,
     S: Source,
     W: Sink + Send,
-    F: Sink,
+    F: Sink + Send,
 >(
     rt: &R,
     words: &[String],

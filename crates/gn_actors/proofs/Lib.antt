@@ -1,6 +1,6 @@
 pub mod FitLemmas
-pub mod HomeLemmas
 pub mod LastLemmas
+pub mod RegistryLemmas
 pub mod Steps
 pub mod TallyLemmas
 pub mod WhoLemmas

@@ -2,6 +2,6 @@
 pub mod ActorState
 pub mod Annals
 pub mod Growing
-pub mod Home
+pub mod Registry
 pub mod Tallies
 pub mod Who

@@ -1,6 +1,6 @@
 //! Who calls the router.
 
-ghost use Rattle.std.specs.Prelude.{◌≡◌, [], length};
+ghost use Rattle.std.specs.Prelude.{◌≡◌, length};
 ghost use Rattle.gn_actors.specs.ActorState.{new_actor};
 ghost use Rattle.gn_actors.specs.Annals.{Fits};
 ghost use Rattle.gn_actors.specs.Tallies.{last_place, tally_of};
@@ -43,10 +43,9 @@ impl<L: Ledger + Named, A: Allocator> Model for Actor<L, A> {
 }
 
 impl<L: Ledger + Named, A: Allocator> Actor<L, A> {
-    /// An actor that has no receipts, and has seen nothing.
+    /// An actor that has no receipts, and has seen this beginning of the history.
     pub fn new(number: u32, seen: Beginning<Step<A>, L>, share: Share<L>) -> Self
-        requires share { (share.parts ≡ 1) × (share.amount ≡ 0) }
-        requires seen { seen.items ≡ [] }
+        requires { (share.parts ≡ 1) × (share.amount ≡ 0) }
         ensures { result ≡ new_actor number }
     {
         Actor {

@@ -15,7 +15,7 @@ use std::marker::Model;
 use std::sync::ledger::{Blank, Book, Ledger, Share};
 
 /// The list of a router are its steps.
-pub(crate) struct StepsOf;
+struct StepsOf;
 
 impl<C: RouterCore<A>, A: Allocator + Copy> Lists<C, Step<A>> for StepsOf {
     ghost list = { λ core. C.steps core };
@@ -143,6 +143,16 @@ impl<L: Ledger + Named, A: Allocator + Copy> Annals<L, A> {
     {
         let mut seen = seen;
         self.look(&mut seen, core);
+    }
+
+    /// What was seen is a beginning of the steps, and all of them are seen.
+    pub(crate) fn look<C: RouterCore<A>>(&mut self, seen: &mut Beginning<Step<A>, L>, core: &C)
+        requires { C.steps core.now ≡ self.old }
+        ensures same { self.new ≡ self.old }
+        ensures began { IsPrefix seen.old.items self.new }
+        ensures seen { seen.new.items ≡ self.new }
+    {
+        self.steps.record::<C, StepsOf>(seen, core);
     }
 
     /// All shares together are as many as the steps.

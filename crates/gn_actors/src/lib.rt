@@ -4,13 +4,13 @@
 mod actor;
 mod annals;
 mod growing;
-mod home;
+mod registry;
 mod tally;
 mod who;
 
 pub use actor::Actor;
 pub use annals::{Annals, Unopened};
 pub use growing::{Beginning, Growing, Named, Unnamed};
-pub use home::Home;
+pub use registry::Registry;
 pub use tally::Tally;
 pub use who::{Numbering, Who, numbers_are_apart};

@@ -11,7 +11,7 @@ use crate::ends::BodyFault;
 use crate::piece::Halt;
 use gn_actors::Named;
 use gn_hub::{Actor, Batch, FoundClosed, Idle, Outgoing, Progress, Service};
-use gn_links::{Gate, Half, Made};
+use gn_links::{Gate, Half, Made, Place};
 use gn_payload::Checked;
 use gn_rules::{ConnId, Event, Receipt, Refusal, RouterCore, Ticket};
 use gn_stage::Job;
@@ -35,8 +35,8 @@ pub struct Caller<
     pub alloc: A,
     pub service: &'s Service<C, B, A>,
     pub gate: &'s G,
-    /// The number by which the gate knows it: its link's, or its worker's.
-    pub place: u32,
+    /// The place of its link; of a worker, that of its number.
+    pub place: Place,
     pub actor: Actor<B, A>,
 }
 
@@ -128,8 +128,8 @@ impl<'s, G: Gate, B: Ledger + Named, C: RouterCore<A> + Drop, R: Wait, A: Alloca
         ensures connected { IfOk result (λ made. HasOnlyConnected made self.new) }
         ensures err { OnErr result (self.new ≡ self.old) }
     {
-        let link = self.actor.number();
-        match self.service.connect(self.rt, &mut self.actor, link) {
+        let slot = self.place.slot;
+        match self.service.connect(self.rt, &mut self.actor, slot) {
             Ok(receipt) => {
                 let connection = receipt.reply.connected();
                 self.tell(made_by(connection));
@@ -176,22 +176,22 @@ impl<'s, G: Gate, B: Ledger + Named, C: RouterCore<A> + Drop, R: Wait, A: Alloca
 
     /// Passes the gate with the job of this ticket.
     pub(crate) fn enter(&self, ticket: Ticket) {
-        self.gate.enter(self.rt, self.place, ticket);
+        self.gate.enter(self.rt, self.place.slot, ticket);
     }
 
     /// The link that it stands at won't connect.
     pub(crate) fn shut(&self) {
-        self.service.shut(self.rt, self.place);
+        self.service.shut(self.rt, self.place.slot);
     }
 
     /// The reader of the link that it stands at is done.
     pub(crate) fn reader_done(&self) {
-        self.service.reader_done(self.rt, self.place);
+        self.service.reader_done(self.rt, self.place.slot);
     }
 
     /// Waits until the link that it stands at has connected, or won't.
     pub(crate) fn meet(&self) -> Option<ConnId> {
-        self.service.meet(self.rt, self.place)
+        self.service.meet(self.rt, self.place.slot)
     }
 
     /// Where a body stopped, the run has failed, and the gate learns of it.

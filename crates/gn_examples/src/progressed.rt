@@ -1,6 +1,6 @@
 //! The lines of a run's progress, by a clock that stands still.
 
-use gn_links::{Gate, Half, Made, Watch};
+use gn_links::{Gate, Half, Made, Place, Watch};
 use gn_progress::{Progress, Screen};
 use std::alloc::Global;
 use std::cell::Cell;
@@ -62,22 +62,22 @@ fn admit<W: Watch>(watch: &W, now: &Cell<u64>) {
         if ticket == 64 {
             now.set(1);
         }
-        watch.made(0, Made::Admitted(ticket));
+        watch.made(Place::of(0), Made::Admitted(ticket));
     }
 }
 
 /// Makes the run of `SERVE`.
-fn serve<W: Watch>(watch: &W, now: &Cell<u64>) {
+fn serve<W: Watch, R: Wait>(rt: &R, watch: &W, now: &Cell<u64>) {
     watch.open(u32::MAX);
-    watch.came(0, SocketAddr::from((Ipv4Addr::LOCALHOST, 5_000)));
+    watch.came(rt, 0, SocketAddr::from((Ipv4Addr::LOCALHOST, 5_000)));
     admit(watch, now);
     for _ in 0..7 {
-        watch.made(0, Made::Busy);
+        watch.made(Place::of(0), Made::Busy);
     }
     rest(watch, now);
     now.set(4);
-    watch.ended(0, Half::Reader);
-    watch.made(0, Made::Admitted(1_005));
+    watch.ended(Place::of(0), Half::Reader);
+    watch.made(Place::of(0), Made::Admitted(1_005));
     watch.end();
 }
 
@@ -90,9 +90,9 @@ nine tenths of the steps: link 3 offered most, 18 at 12:34:56
 /// Makes the run of `FULL`. The clock stands still.
 fn fill<W: Watch>(watch: &W, _now: &Cell<u64>) {
     watch.open(20);
-    watch.made(1, Made::Admitted(0));
+    watch.made(Place::of(1), Made::Admitted(0));
     for ticket in 1..20 {
-        watch.made(3, Made::Admitted(ticket));
+        watch.made(Place::of(3), Made::Admitted(ticket));
     }
     watch.end();
 }
@@ -107,7 +107,7 @@ routed 70 of 70 admitted, 6 links at 12:34:57
 fn load<W: Watch, R: Wait>(rt: &R, watch: &W, now: &Cell<u64>) {
     watch.begin(6);
     for ticket in 0..70 {
-        watch.made(0, Made::Admitted(ticket));
+        watch.made(Place::of(0), Made::Admitted(ticket));
     }
     for ticket in 0..70 {
         if ticket == 64 {
@@ -127,7 +127,7 @@ pub(crate) fn are_shown<R: Wait + AllocGlobal>(rt: &R) -> bool {
         let clock: (Still<'_>, Global) = (Still(&now), rt.alloc());
         let progress = Progress::new(&clock, Expecting(&expected));
         match row {
-            0 => serve(&progress, &now),
+            0 => serve(rt, &progress, &now),
             1 => fill(&progress, &now),
             _ => load(rt, &progress, &now),
         }

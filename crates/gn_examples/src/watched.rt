@@ -34,7 +34,7 @@ impl Watch for Told {
         self.steps.store(steps, Ordering::SeqCst);
     }
 
-    fn came(&self, _link: u32, _peer: SocketAddr) {
+    fn came<W: Wait>(&self, _rt: &W, _link: u32, _peer: SocketAddr) {
         self.came.fetch_add(1, Ordering::SeqCst);
     }
 

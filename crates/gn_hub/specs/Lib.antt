@@ -3,6 +3,7 @@ pub mod ActorState
 pub mod Calls
 pub mod HubState
 pub mod Receipts
+pub mod Retired
 -- Words of the proofs.
 pub mod Counts
 pub mod Waking

@@ -1,23 +1,28 @@
 //! What lies under the lock: the router, the annals of its steps, and what is known of the links.
 
-ghost use Rattle.std.specs.Prelude.{◌≡◌, ◌≤◌, ◌==◌, ◌∷◌, ◌++◌, [], true, false, length, reverse, take, Some, Ok, IfOk, MatchResult};
+ghost use Rattle.std.specs.Prelude.{◌≡◌, ◌≢◌, ◌≤◌, ◌<◌, ◌+◌, ◌^◌, ◌==◌, ◌∷◌, ◌++◌, [], ℕ, true, false, length, reverse, take, Some, Ok, IfOk, MatchResult};
+ghost use mathlib.Core.List.{IsPrefix};
 ghost use Rattle.std.specs.List.{slice_get};
 ghost use Rattle.gn_rules.specs.Answer.{checked_answer};
 ghost use Rattle.gn_rules.specs.Flight.{flying};
+ghost use Rattle.gn_rules.specs.History.{live};
 ghost use Rattle.gn_rules.specs.declared.event.Event.TheVariants.{Connect, Route};
 ghost use Rattle.gn_rules.specs.declared.reply.Reply.{Reply};
 ghost use Rattle.gn_hub.specs.declared.mark.Door.TheVariants.{Shut};
 ghost use Rattle.gn_hub.specs.declared.next.Outgoing.TheVariants.{Drained};
 ghost use Rattle.gn_hub.specs.HubState.{are_read, door_by, door_of, is_closing, may_take, past_of, with_door, with_reader_done, with_slot};
-ghost use Rattle.gn_actors.specs.Home.{AreNumbered, AreWhole};
+ghost use Rattle.gn_actors.specs.Annals.{Fits};
+ghost use Rattle.gn_actors.specs.Registry.{AreWhole, IsOut, with_home};
 ghost use Rattle.gn_hub.specs.Calls.{HasConnected, HasGot, HasStepped, IsNext, IsOutgoing, IsRefusal, IsStop, answer_now, due, is_step};
 ghost use Rattle.gn_hub.specs.Receipts.{AreKept, IsDrainedAt};
+ghost use Rattle.gn_hub.specs.Retired.{IsRetired};
 
 use crate::idle::Idle;
 use crate::mark::{Door, Mark};
 use crate::next::{Next, Outgoing, next_of};
+use crate::retiring::{Retired, Retiring};
 use crate::slots::Slots;
-use gn_actors::{Actor, Annals, Home, Named};
+use gn_actors::{Actor, Annals, Named, Registry};
 use gn_payload::Checked;
 use gn_rules::{
     ConnId, Event, Excerpt, Receipt, Refusal, Reply, RouterCore, Ticket, checked_answers_fit,
@@ -25,6 +30,7 @@ use gn_rules::{
 use gn_shake::Role;
 use gn_trail::Trail;
 use std::alloc::{Allocator, Global};
+use std::collections::LinkedList;
 use std::marker::Model;
 use std::sync::ledger::Ledger;
 
@@ -418,25 +424,82 @@ impl<C: RouterCore<A>, L: Ledger + Named, A: Allocator + Copy> Hub<C, L, A> {
         annals.recall(idle.into_seen(), core);
     }
 
-    /// An actor comes home. Its receipts.
-    pub fn welcome(&mut self, home: &mut Home<L, A>, me: Actor<L, A>) -> Trail<Receipt<A>>
+    /// The same, where it was told. After how many of the steps.
+    fn recall_told(&mut self, idle: Option<Idle<L, A>>) -> Option<u64>
         ensures same { self.new ≡ self.old }
-        ensures home { home.new ≡ home.old ++ me ∷ [] }
-        ensures receipts { result.items ≡ me.receipts }
+        ensures at { result ≡ idle }
+        ensures idle { (at : ℕ) → idle ≡ Some at → (at ≤ length self.new.steps)
+            × ((length (flying (reverse (take at self.new.steps))) == 0) ≡ true) }
     {
-        let Hub { core, annals, .. } = self;
-        annals.welcome(home, me, core)
+        let idle = idle?;
+        let at = idle.at();
+        self.recall_idle(idle);
+        Some(at)
     }
 
-    /// All actors of the run are home: the receipts of each are its own steps, and no step is of anybody else.
-    pub fn all_home(&mut self, home: Home<L, A>)
-        requires all { length home ≡ L.parts }
-        requires numbered { AreNumbered home }
+    /// Whether a connection, where there is one, isn't live.
+    fn is_gone(&self, conn: Option<ConnId>) -> bool
+        ensures { result ≡ true → (c : ℕ) → conn ≡ Some c → live (past_of self.now) c ≡ false }
+    {
+        match conn {
+            Some(c) => !self.core.is_live(c),
+            None => true,
+        }
+    }
+
+    /// An actor comes home. Its receipts.
+    pub fn take_home(&mut self, registry: &mut Registry<L, A>, me: Actor<L, A>) -> Trail<Receipt<A>>
+        requires { IsOut registry.old me.number }
         ensures same { self.new ≡ self.old }
-        ensures whole { AreWhole self.new.steps home }
+        ensures registry { registry.new ≡ with_home registry.old me self.new.steps }
+        ensures out { registry.new.out + 1 ≡ registry.old.out }
+        ensures began { IsPrefix registry.old.seen self.new.steps }
+        ensures receipts { result.items ≡ me.receipts }
+        ensures fits { Fits self.new.steps me }
+        ensures few { length me.receipts < 2 ^ 32 }
     {
         let Hub { core, annals, .. } = self;
-        annals.close(home, core);
+        annals.welcome(registry, me, core)
+    }
+
+    /// A link that has ended goes: both its actors come home.
+    pub fn retire(&mut self, registry: &mut Registry<L, A>, link: Retiring<L, A>) -> Retired<A>
+        requires reader { IsOut registry.old link.reader.number }
+        requires writer { IsOut registry.old link.writer.number }
+        requires apart { link.reader.number ≢ link.writer.number }
+        ensures same { self.new ≡ self.old }
+        ensures registry { registry.new
+            ≡ with_home (with_home registry.old link.reader self.new.steps) link.writer self.new.steps }
+        ensures out { registry.new.out + 2 ≡ registry.old.out }
+        ensures began { IsPrefix registry.old.seen self.new.steps }
+        ensures retired { IsRetired self.new.steps link.reader link.writer link.conn link.idle result }
+    {
+        let Retiring {
+            reader,
+            writer,
+            conn,
+            idle,
+        } = link;
+        let read = self.take_home(registry, reader);
+        let written = self.take_home(registry, writer);
+        Retired {
+            read,
+            written,
+            is_gone: self.is_gone(conn),
+            idle: self.recall_told(idle),
+        }
+    }
+
+    /// All actors of the run are home: the receipts of each, by number, are its own steps, and no step is of anybody else.
+    pub fn close(&mut self, registry: Registry<L, A>) -> Trail<LinkedList<Receipt<A>>>
+        requires { registry.out ≡ 0 }
+        ensures same { self.new ≡ self.old }
+        ensures began { IsPrefix registry.seen self.new.steps }
+        ensures whole { AreWhole self.new.steps registry.lists }
+        ensures lists { result.items ≡ registry.lists }
+    {
+        let Hub { core, annals, .. } = self;
+        annals.close(registry, core)
     }
 }
 

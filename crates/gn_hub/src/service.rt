@@ -1,10 +1,13 @@
 //! The lock that the threads of a run take.
 
-ghost use Rattle.std.specs.Prelude.{◌≡◌, ◌<◌, [], true, false, length, map, IfOk, IfErr, MatchResult};
+ghost use Rattle.std.specs.Prelude.{◌≡◌, ◌≢◌, ◌<◌, ◌+◌, [], true, false, length, map, IfOk, IfErr, MatchResult};
+ghost use mathlib.Core.List.{IsPrefix};
 ghost use Rattle.gn_rules.specs.declared.event.Event.TheVariants.{Connect, Route};
 ghost use Rattle.gn_rules.specs.Fits.{refuses};
+ghost use Rattle.gn_actors.specs.Registry.{IsOut, with_home};
 ghost use Rattle.gn_hub.specs.declared.next.Outgoing.TheVariants.{Packet, Drained, Closed};
 ghost use Rattle.gn_hub.specs.Receipts.{HasClosed, HasDrained, HasProgressed, HasReceipt, HasTakenSome, HasThis, IsDrainedAt, is_stop, with_receipts};
+ghost use Rattle.gn_hub.specs.Retired.{IsRetired};
 
 use crate::answered::Answered;
 use crate::asleep::Asleep;
@@ -16,10 +19,11 @@ use crate::idle::Idle;
 use crate::mark::Door;
 use crate::next::Outgoing;
 use crate::progress::Progress;
+use crate::retiring::{Retired, Retiring};
 use crate::waiters::Waiters;
 use crate::wakes::Wakes;
 use crossbeam_utils::CachePadded;
-use gn_actors::{Actor, Named};
+use gn_actors::{Actor, Named, Registry};
 use gn_payload::Checked;
 use gn_room::Room;
 use gn_rules::{ConnId, Event, Receipt, Refusal, RouterCore, Sending, Ticket};
@@ -350,6 +354,26 @@ impl<C: RouterCore<A> + Drop, L: Ledger + Named, A: Allocator + Copy> Service<C,
         let mut held = self.lock(rt);
         held.hub.fail();
         self.release_all(held);
+    }
+
+    /// A link that has ended goes: both its actors come home, with one hold of the lock.
+    pub fn retire<R: Wait>(
+        &self,
+        rt: &R,
+        registry: &mut Registry<L, A>,
+        link: Retiring<L, A>,
+    ) -> Retired<A>
+        requires reader { IsOut registry.old link.reader.number }
+        requires writer { IsOut registry.old link.writer.number }
+        requires apart { link.reader.number ≢ link.writer.number }
+        ensures registry { registry.new
+            ≡ with_home (with_home registry.old link.reader registry.new.seen) link.writer registry.new.seen }
+        ensures out { registry.new.out + 2 ≡ registry.old.out }
+        ensures began { IsPrefix registry.old.seen registry.new.seen }
+        ensures retired { IsRetired registry.new.seen link.reader link.writer link.conn link.idle result }
+    {
+        let mut held = self.lock(rt);
+        held.hub.retire(registry, link)
     }
 
     /// The hub, without its lock.

@@ -1,5 +1,6 @@
 //! What a worker passes before it routes, and what learns what the threads of a run do.
 
+use crate::place::Place;
 use std::sync::Wait;
 
 /// A step of a run that the thread of a link made.
@@ -36,10 +37,10 @@ pub trait Gate {
 
     /// Learns of a step of this link's threads once it was made, and of an admission before its job can be taken. With the
     /// routes of the workers these are all steps that the threads of a run make.
-    fn made(&self, _link: u32, _step: Made) {}
+    fn made(&self, _place: Place, _step: Made) {}
 
     /// Learns that a thread of this link is at its end.
-    fn ended(&self, _link: u32, _half: Half) {}
+    fn ended(&self, _place: Place, _half: Half) {}
 
     /// Learns that a thread found that the run has failed: its history is full, or it is out of memory.
     fn failed(&self) {}

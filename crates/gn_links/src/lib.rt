@@ -6,6 +6,7 @@ mod link;
 mod memory;
 mod memory_reader;
 mod memory_writer;
+mod place;
 mod split;
 mod watch;
 
@@ -14,5 +15,6 @@ pub use link::{Link, LinkFault, LinkReader, LinkWriter};
 pub use memory::MemoryLink;
 pub use memory_reader::MemoryReader;
 pub use memory_writer::MemoryWriter;
+pub use place::Place;
 pub use split::{SplitFault, SplitLink, SplitLinks, split_all};
 pub use watch::Watch;

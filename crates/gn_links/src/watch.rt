@@ -3,6 +3,7 @@
 use crate::gate::{Gate, NoGate};
 use std::io::ErrorKind;
 use std::net::SocketAddr;
+use std::sync::Wait;
 use std::time::Duration;
 
 /// A gate that learns when the run of a load begins, or that of a serve, and when it has ended; it is left what a load made.
@@ -14,7 +15,7 @@ pub trait Watch: Gate {
     fn open(&self, _steps: u32) {}
 
     /// A link of a serve has come: the peer at this address called, or was called.
-    fn came(&self, _link: u32, _peer: SocketAddr) {}
+    fn came<R: Wait>(&self, _rt: &R, _link: u32, _peer: SocketAddr) {}
 
     /// The peer at this address can't be called, over this link: what the system said. The run ends for that.
     fn not_called(&self, _link: u32, _peer: SocketAddr, _why: ErrorKind) {}

@@ -22,9 +22,9 @@ use Rattle.gn_scribe.specs.declared.scribe.Scribe.{Scribe}
 use Rattle.gn_scribe.proofs.EndLemmas.{journalled}
 use Rattle.gn_scribe.proofs.PrintLemmas.{all_written, cause_after, more_cut, none_written, part_of}
 use Rattle.gn_threads.specs.Courses.{AreTallies}
-use Rattle.gn_threads.specs.Faults.{IsArrivingFault}
-use Rattle.gn_threads.specs.declared.fault.RunFault.{RunFault}
-use Rattle.gn_threads.specs.declared.fault.RunFault.TheVariants.{BadWorkers, HistoryFull}
+use Rattle.gn_start.specs.Faults.{IsArrivingFault}
+use Rattle.gn_start.specs.declared.fault.RunFault.{RunFault}
+use Rattle.gn_start.specs.declared.fault.RunFault.TheVariants.{BadWorkers, HistoryFull}
 use Rattle.gn_threads.specs.declared.halted.Halted.{Halted}
 use Rattle.gn_threads.specs.Headline.{AreMadeOf, AreOfOne, Holds}
 use Rattle.gn_report.specs.Accounts.{report_of}
@@ -92,17 +92,17 @@ module _ {A : Type 0} where
   )
 
 -- the fault of a text that wasn't written whole is none of the workers
-other_than_workers : (workers : ℕ) (why : PrintFault) → IsCrew workers → (of_print why ≡ Run BadWorkers) ↔ (¬ IsCrew workers)
+pub other_than_workers : (workers : ℕ) (why : PrintFault) → IsCrew workers → (of_print why ≡ Run BadWorkers) ↔ (¬ IsCrew workers)
 other_than_workers workers Write crew = write_is_other workers crew
 other_than_workers workers NoMemory crew = memory_is_other workers crew
 
 -- nor of a full history
-never_full : (why : PrintFault) → ¬ (of_print why ≡ Run HistoryFull)
+pub never_full : (why : PrintFault) → ¬ (of_print why ≡ Run HistoryFull)
 never_full Write is = cc
 never_full NoMemory is = cc
 
 -- it is one that a serve may have
-fault_of_print : (links workers : ℕ) (why : PrintFault) (old new : SinkState) → IsPrintFault why old new → IsServeFault links workers (of_print why) old new
+pub fault_of_print : (links workers : ℕ) (why : PrintFault) (old new : SinkState) → IsPrintFault why old new → IsServeFault links workers (of_print why) old new
 fault_of_print links workers Write old new cause = cause
 fault_of_print links workers NoMemory old new cause = tt
 

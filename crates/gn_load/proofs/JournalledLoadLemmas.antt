@@ -34,10 +34,10 @@ use Rattle.gn_scribe.specs.declared.ending.Waiting.{Waiting}
 use Rattle.gn_scribe.specs.declared.printed.PrintFault.{PrintFault}
 use Rattle.gn_scribe.specs.declared.printed.PrintFault.TheVariants as print
 use Rattle.gn_threads.specs.Courses.{AreStepsOf}
-use Rattle.gn_threads.specs.Faults.{IsFaultOf}
+use Rattle.gn_start.specs.Faults.{IsFaultOf}
 use Rattle.gn_threads.specs.Headline.{AreMadeOf, Holds, LinksReadOwn}
-use Rattle.gn_threads.specs.declared.fault.RunFault.{RunFault}
-use Rattle.gn_threads.specs.declared.fault.RunFault.TheVariants.{BadWorkers, Listen, Call, Link, HistoryFull, NoMemory, Stage, Audit}
+use Rattle.gn_start.specs.declared.fault.RunFault.{RunFault}
+use Rattle.gn_start.specs.declared.fault.RunFault.TheVariants.{BadWorkers, Listen, Call, Link, HistoryFull, NoMemory, Stage, Audit}
 use Rattle.gn_threads.specs.declared.halted.Halted.{Halted}
 use Rattle.gn_load.specs.declared.fault.LoadFault.{LoadFault}
 use Rattle.gn_load.specs.declared.fault.LoadFault.TheVariants.{Run, Text}

@@ -7,3 +7,5 @@ pub mod ServedLemmas
 pub mod WritingLemmas
 pub mod JournalLemmas
 pub mod JournalledLoadLemmas
+mod AnyLemmas
+mod TakenLemmas

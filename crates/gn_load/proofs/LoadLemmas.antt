@@ -27,9 +27,9 @@ use Rattle.gn_capture.specs.Histories.{history_text, map_result}
 use Rattle.gn_replay.specs.Faults.{of_input, of_refusal}
 use Rattle.gn_replay.specs.declared.fault.ReplayFault.TheVariants as replay
 use Rattle.gn_report.specs.declared.report.Report.{Report}
-use Rattle.gn_threads.specs.declared.fault.RunFault.{RunFault}
-use Rattle.gn_threads.specs.declared.fault.RunFault.TheVariants.{BadWorkers, Listen, Call, Link, HistoryFull, NoMemory, Stage, Audit}
-use Rattle.gn_threads.specs.Faults.{IsFaultOf, IsWholeFault}
+use Rattle.gn_start.specs.declared.fault.RunFault.{RunFault}
+use Rattle.gn_start.specs.declared.fault.RunFault.TheVariants.{BadWorkers, Listen, Call, Link, HistoryFull, NoMemory, Stage, Audit}
+use Rattle.gn_start.specs.Faults.{IsFaultOf, IsWholeFault}
 use Rattle.gn_threads.specs.Headline.{AreMadeOf, Holds, LinksReadOwn}
 use Rattle.gn_load.specs.declared.fault.LoadFault.{LoadFault}
 use Rattle.gn_load.specs.declared.fault.LoadFault.TheVariants.{Run, Text}

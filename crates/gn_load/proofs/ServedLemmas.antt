@@ -10,8 +10,8 @@ use Rattle.gn_sockets.specs.TcpHalves.{TcpReading, TcpWriting, half_read, half_w
 use Rattle.gn_report.specs.declared.report.Report.{Report}
 use Rattle.gn_capture.specs.Histories.{history_text}
 use Rattle.gn_threads.specs.Headline.{AreMadeOf, AreOfOne, Holds}
-use Rattle.gn_threads.specs.declared.fault.RunFault.{RunFault}
-use Rattle.gn_threads.specs.declared.fault.RunFault.TheVariants.{Audit, BadWorkers, Call, HistoryFull, Link, Listen, NoMemory, Stage}
+use Rattle.gn_start.specs.declared.fault.RunFault.{RunFault}
+use Rattle.gn_start.specs.declared.fault.RunFault.TheVariants.{Audit, BadWorkers, Call, HistoryFull, Link, Listen, NoMemory, Stage}
 use Rattle.std.specs.Io.KnownBytes.{Appends, Keeps}
 use Rattle.std.specs.declared.net.socket_addr.SocketAddr.{SocketAddr}
 use Rattle.gn_io.specs.Streams.{SinkState}

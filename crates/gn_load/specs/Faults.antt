@@ -3,9 +3,9 @@ use Rattle.std.specs.Prelude.{◌≡◌, ◌↔◌, ℕ, List, length, IsOkAnd, 
 use Rattle.gn_io.specs.Streams.{Streams}
 use Rattle.gn_rules.specs.Limits.{IsCrew}
 use Rattle.gn_text.specs.declared.fault.CaptureFault.{CaptureFault}
-use Rattle.gn_threads.specs.declared.fault.RunFault.{RunFault}
-use Rattle.gn_threads.specs.declared.fault.RunFault.TheVariants.{BadWorkers}
-use Rattle.gn_threads.specs.Faults.{IsFaultOf}
+use Rattle.gn_start.specs.declared.fault.RunFault.{RunFault}
+use Rattle.gn_start.specs.declared.fault.RunFault.TheVariants.{BadWorkers}
+use Rattle.gn_start.specs.Faults.{IsFaultOf}
 use Rattle.gn_replay.specs.declared.fault.ReplayFault.TheVariants.{Capture, NoMemory}
 use Rattle.gn_replay.specs.Faults.{IsInputThat, IsReplayFault}
 use Rattle.gn_load.specs.declared.fault.LoadFault.{LoadFault}

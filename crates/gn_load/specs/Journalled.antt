@@ -23,7 +23,7 @@ use Rattle.gn_service.specs.Ran.{Remembered, ran_of}
 use Rattle.gn_sockets.specs.TcpHalves.{TcpReading, TcpWriting, half_read, half_written}
 use Rattle.gn_threads.specs.Courses.{AreTallies}
 use Rattle.gn_threads.specs.Headline.{AreMadeOf, AreOfOne, Holds}
-use Rattle.gn_threads.specs.declared.fault.RunFault.TheVariants.{BadWorkers, HistoryFull, NoMemory}
+use Rattle.gn_start.specs.declared.fault.RunFault.TheVariants.{BadWorkers, HistoryFull, NoMemory}
 use Rattle.gn_load.specs.declared.serve_fault.ServeFault.{ServeFault}
 use Rattle.gn_load.specs.declared.serve_fault.ServeFault.TheVariants.{Run, Write}
 use Rattle.gn_load.specs.declared.serve_halted.ServeHalted.{ServeHalted}

@@ -12,8 +12,8 @@ use Rattle.gn_replay.specs.declared.fault.ReplayFault.TheVariants as replay
 use Rattle.gn_scribe.specs.declared.printed.PrintFault.{PrintFault}
 use Rattle.gn_scribe.specs.declared.printed.PrintFault.TheVariants as print
 use Rattle.gn_text.specs.Settings.{settings_of}
-use Rattle.gn_threads.specs.declared.fault.RunFault.{RunFault}
-use Rattle.gn_threads.specs.declared.fault.RunFault.TheVariants.{BadWorkers, HistoryFull}
+use Rattle.gn_start.specs.declared.fault.RunFault.{RunFault}
+use Rattle.gn_start.specs.declared.fault.RunFault.TheVariants.{BadWorkers, HistoryFull}
 use Rattle.gn_load.specs.declared.fault.LoadFault.{LoadFault}
 use Rattle.gn_load.specs.declared.fault.LoadFault.TheVariants.{Run, Text}
 use Rattle.gn_load.specs.Faults.{IsRunFault}

@@ -8,9 +8,9 @@ use Rattle.gn_rules.specs.Answer.{IsLegal}
 use Rattle.gn_rules.specs.Limits.{IsCrew}
 use Rattle.gn_report.specs.declared.report.Report.{Report}
 use Rattle.gn_sockets.specs.TcpHalves.{TcpReading, TcpWriting, half_read, half_written}
-use Rattle.gn_threads.specs.Faults.{IsArrivingFault}
-use Rattle.gn_threads.specs.declared.fault.RunFault.{RunFault}
-use Rattle.gn_threads.specs.declared.fault.RunFault.TheVariants.{BadWorkers, HistoryFull, NoMemory}
+use Rattle.gn_start.specs.Faults.{IsArrivingFault}
+use Rattle.gn_start.specs.declared.fault.RunFault.{RunFault}
+use Rattle.gn_start.specs.declared.fault.RunFault.TheVariants.{BadWorkers, HistoryFull, NoMemory}
 use Rattle.gn_threads.specs.Headline.{AreMadeOf, AreOfOne, Holds}
 use Rattle.gn_capture.specs.Histories.{history_text}
 use Rattle.gn_io.specs.Parts.{AppendsPart}

@@ -28,7 +28,7 @@ use std::alloc::{Allocator, Global};
 use std::marker::{Brand, PhantomData};
 
 /// A run that hasn't begun.
-fn unbegun<A: Allocator>(fault: RunFault) -> ServeHalted<A>
+pub(crate) fn unbegun<A: Allocator>(fault: RunFault) -> ServeHalted<A>
     ensures { (result.fault ≡ Run fault) × (result.history ≡ None) × (result.ran ≡ None) }
 {
     ServeHalted {
@@ -40,7 +40,7 @@ fn unbegun<A: Allocator>(fault: RunFault) -> ServeHalted<A>
 }
 
 /// The fault of a serve whose text couldn't be written for this.
-fn of_print(fault: PrintFault) -> ServeFault
+pub(crate) fn of_print(fault: PrintFault) -> ServeFault
     ensures { result ≡ of_print fault }
 {
     match fault {
@@ -61,7 +61,7 @@ fn fault_of<A: Allocator>(fault: RunFault, waiting: &Result<Waiting<A>, PrintFau
 
 /// Writes what is left of the text of a run that stopped, where its history stands and has a step. Its fault is that of the run, unless
 /// its text couldn't be written while it went on.
-fn finish_halted<A: Allocator, W: Sink>(
+pub(crate) fn finish_halted<A: Allocator, W: Sink>(
     halted: Halted<A>,
     waiting: Result<Waiting<A>, PrintFault>,
     sink: &mut W,

@@ -3,6 +3,7 @@
 
 mod fault;
 mod journalled;
+mod journalled_any;
 mod journalled_load;
 mod link_input;
 mod links;
@@ -12,11 +13,13 @@ mod serve_fault;
 mod serve_halted;
 mod serve_stopped;
 mod served;
+mod taken;
 mod writing;
 
 pub use fault::LoadFault;
 pub use gn_scribe::PrintFault;
 pub use journalled::serve_journalled;
+pub use journalled_any::serve_any_journalled;
 pub use journalled_load::{Loading, load_journalled};
 pub use links::links_of;
 pub use loads::{load, load_watched};
@@ -25,3 +28,4 @@ pub use serve_fault::ServeFault;
 pub use serve_halted::ServeHalted;
 pub use serve_stopped::ServeStopped;
 pub use served::{serve_history, serve_history_kept};
+pub use taken::{Taken, Taking, serve_taken};

@@ -2,7 +2,7 @@
 
 ghost use Rattle.std.specs.Prelude.{◌≡◌};
 ghost use Rattle.gn_load.specs.declared.serve_fault.ServeFault.TheVariants.{Run, Write};
-ghost use Rattle.gn_threads.specs.declared.fault.RunFault.TheVariants.{NoMemory};
+ghost use Rattle.gn_start.specs.declared.fault.RunFault.TheVariants.{NoMemory};
 
 use gn_io::IoFault;
 use gn_service::RunFault;

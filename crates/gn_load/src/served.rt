@@ -5,7 +5,7 @@ ghost use Rattle.gn_rules.specs.Answer.{IsLegal};
 ghost use Rattle.std.specs.Io.KnownBytes.{Appends};
 ghost use Rattle.gn_capture.specs.Histories.{history_text};
 ghost use Rattle.gn_rules.specs.Limits.{most_links};
-ghost use Rattle.gn_threads.specs.declared.fault.RunFault.TheVariants.{HistoryFull};
+ghost use Rattle.gn_start.specs.declared.fault.RunFault.TheVariants.{HistoryFull};
 ghost use Rattle.gn_load.specs.Served.{HasKept, IsHistoryKept, IsHistoryServed};
 
 use crate::printed::print_history;

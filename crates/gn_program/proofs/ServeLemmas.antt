@@ -12,11 +12,11 @@ use Rattle.gn_rules.specs.Limits.{IsCrew}
 use Rattle.gn_rules.specs.declared.config.Config.{Config}
 use Rattle.gn_load.proofs.JournalLemmas.{nothing_yet}
 use Rattle.gn_load.specs.Journalled.{AppendsSomeLegalPart}
-use Rattle.gn_load.specs.Served.{AppendsServed, AppendsServedPart, IsServeFault}
+use Rattle.gn_load.specs.Any.{AppendsTaken, AppendsTakenPart, IsTakenFault}
 use Rattle.gn_load.specs.declared.serve_fault.ServeFault.{ServeFault}
 use Rattle.gn_load.specs.declared.serve_fault.ServeFault.TheVariants.{Run}
-use Rattle.gn_threads.specs.Faults.{IsArrivingFault}
-use Rattle.gn_threads.specs.declared.fault.RunFault.{RunFault}
+use Rattle.gn_start.specs.Faults.{IsArrivingFault}
+use Rattle.gn_start.specs.declared.fault.RunFault.{RunFault}
 use Rattle.gn_program.specs.Commands.{AppendsAsked, AppendsAskedPart, IsBeside, IsServeAnswer, IsServing}
 use Rattle.gn_program.specs.Peers.{AreAt}
 use Rattle.gn_service.specs.Ran.{Remembered}
@@ -44,19 +44,19 @@ module _ (J : SinkState → SinkState → Type 0) where
   is_beside false old new is ran = cc
 
 -- a fault where the number of workers is one that a run may have
-known : (links workers : ℕ) (sink sink_new : SinkState) (answer : Result (Unit {0}) ServeFault) → IsCrew workers
-    → IfErr answer (λ fault. IsCrew workers → IsServeFault links workers fault sink sink_new) → IfErr answer (λ fault. IsServeFault links workers fault sink sink_new)
-known links workers sink sink_new (Ok done) within fault = tt
-known links workers sink sink_new (Err e) within fault = fault within
+known : (peers : ℕ) (accept : Option ℕ) (workers : ℕ) (sink sink_new : SinkState) (answer : Result (Unit {0}) ServeFault) → IsCrew workers
+    → IfErr answer (λ fault. IsCrew workers → IsTakenFault peers accept workers fault sink sink_new) → IfErr answer (λ fault. IsTakenFault peers accept workers fault sink sink_new)
+known peers accept workers sink sink_new (Ok done) within fault = tt
+known peers accept workers sink sink_new (Err e) within fault = fault within
 
 -- the text of a run that is remembered was written, over links that are called at the peers' addresses
 pub asked : (serving : AskedServe) (settings : Config) (called : List SocketAddr) (ran : Remembered Global) (old new : Option (List ℕ))
-    → AreAt serving.peers called → AppendsServed Global serving.batch settings called serving.accept serving.workers ran old new → AppendsAsked serving settings (Some ran) old new
+    → AreAt serving.peers called → AppendsTaken Global serving.batch settings called serving.accept serving.workers ran old new → AppendsAsked serving settings (Some ran) old new
 asked serving settings called ran old new at has = (called, at, ran, refl, has)
 
 -- so was a prefix of it
 asked_part : (serving : AskedServe) (settings : Config) (called : List SocketAddr) (remembered : Option (Remembered Global)) (old new : Option (List ℕ)) → AreAt serving.peers called
-    → IfSome remembered (λ _. AppendsServedPart Global serving.batch settings called serving.accept serving.workers remembered old new) → IfSome remembered (λ _. AppendsAskedPart serving settings remembered old new)
+    → IfSome remembered (λ _. AppendsTakenPart Global serving.batch settings called serving.accept serving.workers remembered old new) → IfSome remembered (λ _. AppendsAskedPart serving settings remembered old new)
 asked_part serving settings called None old new at has = tt
 asked_part serving settings called (Some ran) old new at has = (called, at, has)
 
@@ -65,8 +65,8 @@ pub answered : (serving : AskedServe) (settings : Config) (called : List SocketA
     → IsServing serving settings → AreAt serving.peers called → length called ≡ length serving.peers → IsCrew serving.workers → OnOk answer (NoWriteFailed sink sink_new)
     → OnOk answer (AppendsAsked serving settings remembered sink.written sink_new.written)
     → IfErr answer (λ _. AppendsSomeLegalPart Global settings sink.written sink_new.written)
-    → IfErr answer (λ _. IfSome remembered (λ _. AppendsServedPart Global serving.batch settings called serving.accept serving.workers remembered sink.written sink_new.written))
-    → IfErr answer (λ fault. IsCrew serving.workers → IsServeFault (length called + serving.accept) serving.workers fault sink sink_new)
+    → IfErr answer (λ _. IfSome remembered (λ _. AppendsTakenPart Global serving.batch settings called serving.accept serving.workers remembered sink.written sink_new.written))
+    → IfErr answer (λ fault. IsCrew serving.workers → IsTakenFault (length called) serving.accept serving.workers fault sink sink_new)
     → IsServeAnswer serving sink sink_new answer remembered
 answered serving settings called remembered sink sink_new answer configured at many within unfailed written stopped part fault =
     record {
@@ -76,25 +76,31 @@ answered serving settings called remembered sink sink_new answer configured at m
       written = written;
       stopped = stopped;
       part = IfErr-weaker _ _ _ (λ fault has. asked_part serving settings called remembered sink.written sink_new.written at has) part;
-      fault = known (length serving.peers + serving.accept) serving.workers sink sink_new answer within
-          (subst (λ n. IfErr answer (λ fault. IsCrew serving.workers → IsServeFault (n + serving.accept) serving.workers fault sink sink_new)) many fault);
+      fault = known (length serving.peers) serving.accept serving.workers sink sink_new answer within
+          (subst (λ n. IfErr answer (λ fault. IsCrew serving.workers → IsTakenFault n serving.accept serving.workers fault sink sink_new)) many fault);
     }
 
 -- all that is answered where the run has no report, or its history wasn't written
 pub failed : (serving : AskedServe) (settings : Config) (called : List SocketAddr) (remembered : Option (Remembered Global)) (sink sink_new : SinkState) (answer : Result (Unit {0}) ServeFault) (fault : ServeFault)
     → IsServing serving settings → AreAt serving.peers called → length called ≡ length serving.peers → IsCrew serving.workers → IsErrAnd answer (λ e. e ≡ fault)
     → AppendsSomeLegalPart Global settings sink.written sink_new.written
-    → IfSome remembered (λ _. AppendsServedPart Global serving.batch settings called serving.accept serving.workers remembered sink.written sink_new.written)
-    → (IsCrew serving.workers → IsServeFault (length called + serving.accept) serving.workers fault sink sink_new)
+    → IfSome remembered (λ _. AppendsTakenPart Global serving.batch settings called serving.accept serving.workers remembered sink.written sink_new.written)
+    → (IsCrew serving.workers → IsTakenFault (length called) serving.accept serving.workers fault sink sink_new)
     → IsServeAnswer serving sink sink_new answer remembered
 failed serving settings called remembered sink sink_new (Ok done) fault configured at many within is stopped part one = absurd is
 failed serving settings called remembered sink sink_new (Err e) fault configured at many within is stopped part one =
     answered serving settings called remembered sink sink_new (Err e) configured at many within tt tt stopped part
-    (subst (λ f. IsCrew serving.workers → IsServeFault (length called + serving.accept) serving.workers f sink sink_new) (sym is) one)
+    (subst (λ f. IsCrew serving.workers → IsTakenFault (length called) serving.accept serving.workers f sink sink_new) (sym is) one)
+
+-- a fault that any run may have is one of this run
+of_any_run : (peers : ℕ) (accept : Option ℕ) (workers : ℕ) (fault : RunFault) (sink : SinkState) → ((links : ℕ) → IsArrivingFault true links workers fault)
+    → IsTakenFault peers accept workers (Run fault) sink sink
+of_any_run peers None workers fault sink may = (0, may 0)
+of_any_run peers (Some accept) workers fault sink may = may (peers + accept)
 
 -- all that is answered where there was no run
 pub unserved : (serving : AskedServe) (settings : Config) (remembered : Option (Remembered Global)) → remembered ≡ None → (sink : SinkState) (answer : Result (Unit {0}) ServeFault) (fault : RunFault)
-    → IsServing serving settings → IsErrAnd answer (λ e. e ≡ Run fault) → IsArrivingFault true (length serving.peers + serving.accept) serving.workers fault
+    → IsServing serving settings → IsErrAnd answer (λ e. e ≡ Run fault) → ((links : ℕ) → IsArrivingFault true links serving.workers fault)
     → IsServeAnswer serving sink sink answer remembered
 unserved serving settings remembered none sink (Ok done) fault configured is one = absurd is
 unserved serving settings remembered none sink (Err e) fault configured is one =
@@ -105,5 +111,5 @@ unserved serving settings remembered none sink (Err e) fault configured is one =
       written = tt;
       stopped = (None, nothing_yet Global settings sink.written);
       part = subst (λ r. IfSome r (λ _. AppendsAskedPart serving settings r sink.written sink.written)) (sym none) tt;
-      fault = subst (λ f. IsServeFault (length serving.peers + serving.accept) serving.workers f sink sink) (sym is) one;
+      fault = subst (λ f. IsTakenFault (length serving.peers) serving.accept serving.workers f sink sink) (sym is) (of_any_run (length serving.peers) serving.accept serving.workers fault sink one);
     }

@@ -1,18 +1,17 @@
 -- How long a serve goes on and waits, as its options say it.
-use Rattle.std.specs.Prelude.{◌≡◌, ◌≢◌, ◌*◌, ◌==◌, ◌||◌, ℕ, Bool, Option, MatchOption, not}
+use Rattle.std.specs.Prelude.{◌≡◌, ◌*◌, ◌||◌, ℕ, Bool, Option, is_some, option_map}
 use Rattle.std.specs.Duration.{as_nanos}
 use Rattle.std.specs.declared.time.Duration.{Duration}
 use Rattle.gn_service.specs.Stopping.{Stopping}
 use Rattle.gn_words.specs.ServeOptions.{AskedServe}
 
--- a time limit is one of so many seconds; none, where there are none
-abbrev pub IsLimit : ℕ → Option Duration → Type 0
-IsLimit seconds limit =
-    MatchOption limit (seconds ≡ 0) (λ time. (seconds ≢ 0) × (as_nanos time ≡ seconds * 1_000_000_000))
+-- a time limit is one of so many seconds, where there is one
+abbrev pub IsLimit : Option ℕ → Option Duration → Type 0
+IsLimit seconds limit = option_map as_nanos limit ≡ option_map (λ s. s * 1_000_000_000) seconds
 
 -- whether anything but its peers stops a serve: its time, its steps, or the end of standard input
 abbrev pub may_stop : AskedServe → Bool
-may_stop serving = not (serving.seconds == 0) || (serving.early || serving.until_eof)
+may_stop serving = is_some serving.seconds || (serving.early || serving.until_eof)
 
 -- by what a serve is stopped before its peers end it, beside the end of standard input: by its time, which `--for` limits, and
 -- where `--stop-early` says so by its steps

@@ -1,43 +1,64 @@
 //! The watch of a serve, which keeps who came, and why a peer can't be called.
 
 use crate::told::Told;
-use gn_links::{Gate, Half, Made, Watch};
+use gn_links::{Gate, Half, Made, Place, Watch};
 use gn_load::ServeFault;
 use gn_threads::RunFault;
+use std::alloc::Global;
 use std::array;
+use std::collections::VecDeque;
 use std::io::ErrorKind;
 use std::net::SocketAddr;
-use std::sync::{OnceLock, Wait};
+use std::sync::{Mutex, OnceLock, Wait};
 use std::time::Duration;
 
 /// As many peers as a command line names at most.
 const PEERS: usize = 64;
 
-/// As many links as a serve has at most: its peers, and as many callers as it may take.
-pub(crate) const LINKS: usize = PEERS + 128;
+/// As many links wait to be said at most: as many as there are at once.
+pub(crate) const UNSAID: usize = 256;
 
-/// Passes all on to who watches the run, and keeps the address of each peer that came, and what the system said of each that can't be
-/// called.
+/// Passes all on to who watches the run, and keeps the address of each peer that came until it is said, where it is to be, and what the
+/// system said of each that can't be called.
 #[derive(Drop)]
 pub(crate) struct Calls<'w, G> {
     watch: &'w G,
-    came: [OnceLock<SocketAddr>; LINKS],
+    /// The links whose peers came and weren't said, the earliest first; `None`, where nobody says them.
+    came: Option<Mutex<VecDeque<(u32, SocketAddr)>>>,
     whys: [OnceLock<(SocketAddr, ErrorKind)>; PEERS],
 }
 
 impl<'w, G> Calls<'w, G> {
-    /// No peer has come, and each may be called.
-    pub(crate) fn new(watch: &'w G) -> Self {
+    /// No peer has come, and each may be called. Whether those that come are said is known.
+    pub(crate) fn new(alloc: Global, watch: &'w G, are_said: bool) -> Self {
+        let came = if are_said {
+            Some(Mutex::new(VecDeque::new(alloc)))
+        } else {
+            None
+        };
         Calls {
             watch,
-            came: array::from_fn(|_| OnceLock::new()),
+            came,
             whys: array::from_fn(|_| OnceLock::new()),
         }
     }
 
-    /// The address of the peer of this link, once it has come.
-    pub(crate) fn peer_of(&self, link: usize) -> Option<SocketAddr> {
-        self.came.get(link)?.get().copied()
+    /// Keeps a link whose peer has come. Of more than may wait to be said the earliest is left out, and this one where there is no memory.
+    fn keep<R: Wait>(&self, rt: &R, link: u32, peer: SocketAddr) {
+        let Some(came) = &self.came else {
+            return;
+        };
+        let mut came = came.lock(rt);
+        if came.len() >= UNSAID {
+            let _ = came.pop_front();
+        }
+        let _ = came.push_back((link, peer));
+    }
+
+    /// The earliest link whose peer came and that wasn't said, and the address of its peer. Who asks says it.
+    pub(crate) fn next_came<R: Wait>(&self, rt: &R) -> Option<(u32, SocketAddr)> {
+        let came = self.came.as_ref()?;
+        came.lock(rt).pop_front()
     }
 
     /// What the system said where the run came to this: of a peer that can't be called, or else this.
@@ -60,12 +81,12 @@ impl<'w, G: Gate> Gate for Calls<'w, G> {
         self.watch.enter(rt, worker, ticket);
     }
 
-    fn made(&self, link: u32, step: Made) {
-        self.watch.made(link, step);
+    fn made(&self, place: Place, step: Made) {
+        self.watch.made(place, step);
     }
 
-    fn ended(&self, link: u32, half: Half) {
-        self.watch.ended(link, half);
+    fn ended(&self, place: Place, half: Half) {
+        self.watch.ended(place, half);
     }
 
     fn failed(&self) {
@@ -82,11 +103,9 @@ impl<'w, G: Watch> Watch for Calls<'w, G> {
         self.watch.open(steps);
     }
 
-    fn came(&self, link: u32, peer: SocketAddr) {
-        if let Some(slot) = self.came.get(link as usize) {
-            let _ = slot.try_set(peer);
-        }
-        self.watch.came(link, peer);
+    fn came<R: Wait>(&self, rt: &R, link: u32, peer: SocketAddr) {
+        self.keep(rt, link, peer);
+        self.watch.came(rt, link, peer);
     }
 
     fn not_called(&self, link: u32, peer: SocketAddr, why: ErrorKind) {

@@ -146,7 +146,7 @@ fn serve_watched<
     R: Host + Input<Reader = StdinLock<'static>>,
     G: Watch + Sync,
     W: Sink + Send,
-    F: Sink,
+    F: Sink + Send,
 >(
     rt: &R,
     alloc: Global,
@@ -159,7 +159,7 @@ fn serve_watched<
     requires { IsIdOf serving.now.servent id }
     ensures { ServesTo serving.now result.ran (W.state writer.old) (W.state writer.new) result.status }
 {
-    let calls = Calls::new(watch);
+    let calls = Calls::new(alloc, watch, serving.links);
     let mut told = Told::Nothing;
     let mut ran = None;
     let answer = serve(
@@ -175,7 +175,7 @@ fn serve_asked<
     R: Host + Input<Reader = StdinLock<'static>> + RandomSource,
     G: Watch + Sync,
     W: Sink + Send,
-    F: Sink,
+    F: Sink + Send,
 >(rt: &R, alloc: Global, serving: &ServeOptions, watch: &G, writer: &mut W, faults: &mut F) -> Ended
     ensures { EndsServe serving.now result.ran (W.state writer.old) (W.state writer.new) result.status }
 {
@@ -214,7 +214,7 @@ fn obey<
     G: Watch + Sync,
     S: Source,
     W: Sink + Send,
-    F: Sink,
+    F: Sink + Send,
 >(
     rt: &R,
     alloc: Global,
@@ -296,7 +296,7 @@ pub fn command<
     T: AsStr,
     S: Source,
     W: Sink + Send,
-    F: Sink,
+    F: Sink + Send,
 >(rt: &R, alloc: Global, words: &[T], reader: &mut S, writer: &mut W, faults: &mut F) -> u8
     ensures asked { (request : Asked) → request_of (map T.text words.now) ≡ Some request
         → IsUnread reader.old reader.new writer.old writer.new result ⊎ HasDone request
@@ -330,7 +330,7 @@ pub fn command_with<
     T: AsStr,
     S: Source,
     W: Sink + Send,
-    F: Sink,
+    F: Sink + Send,
 >(
     rt: &R,
     alloc: Global,

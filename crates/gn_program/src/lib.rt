@@ -8,6 +8,7 @@ mod ended;
 mod eof;
 mod fault;
 mod head;
+mod leavings;
 mod remarks;
 mod reports;
 mod serves;

@@ -1,12 +1,13 @@
 //! What a serve says beside its history, as comments: when it was written, and who its neighbours are.
 
-use crate::calls::{Calls, LINKS};
+use crate::calls::{Calls, UNSAID};
 use gn_comments::{Commenter, Comments};
 use gn_words::ServeOptions;
 use std::alloc::{AllocError, Global};
 use std::fmt;
 use std::fmt::{Display, Formatter, Write};
 use std::net::SocketAddr;
+use std::sync::Wait;
 use std::time::{Clock, Duration};
 
 /// The least microseconds between two times that are said.
@@ -22,10 +23,10 @@ impl Display for Moment {
     }
 }
 
-/// A link, and the peer that came. Its text is that of its comment.
+/// A link, by the actor that reads it, and the peer that came. Its text is that of its comment.
 #[derive(Clone, Copy, Debug)]
 struct Neighbour {
-    link: usize,
+    reader: u64,
     peer: SocketAddr,
     is_called: bool,
 }
@@ -33,7 +34,7 @@ struct Neighbour {
 impl Display for Neighbour {
     fn fmt<W: Write>(&self, f: &mut Formatter<W>) -> fmt::Result {
         let how = if self.is_called { "called" } else { "accepted" };
-        write!(f, "link {} {} {how}", self.link, self.peer)
+        write!(f, "link {} {} {how}", self.reader, self.peer)
     }
 }
 
@@ -45,15 +46,17 @@ pub(crate) struct Remarks<'a, 'w, R, G> {
     calls: &'a Calls<'w, G>,
     /// How many of its first links are called.
     called: usize,
+    /// How many workers it has, where any number of callers is taken.
+    workers: Option<u32>,
     times: bool,
     links: bool,
     /// The last time that was said.
     last: Duration,
-    /// Whose links were said.
-    said: [bool; LINKS],
+    /// The link that is said next, where it is known.
+    next: Option<(u32, SocketAddr)>,
 }
 
-impl<'a, 'w, R: Clock, G> Remarks<'a, 'w, R, G> {
+impl<'a, 'w, R: Clock + Wait, G> Remarks<'a, 'w, R, G> {
     /// Nothing was said yet.
     pub(crate) fn new(
         rt: &'a R,
@@ -66,31 +69,50 @@ impl<'a, 'w, R: Clock, G> Remarks<'a, 'w, R, G> {
             alloc,
             calls,
             called: serving.peers.len(),
+            workers: serving.accept.is_none().then_some(serving.workers),
             times: serving.times,
             links: serving.links,
             last: Duration::ZERO,
-            said: [false; LINKS],
+            next: None,
         }
+    }
+
+    /// The number of the actor that reads this link.
+    fn reader_of(&self, link: u32) -> u64 {
+        match self.workers {
+            None => u64::from(link),
+            Some(workers) => 1 + u64::from(workers) + 2 * u64::from(link),
+        }
+    }
+
+    /// Says a link whose peer has come.
+    fn say_link(
+        &self,
+        link: u32,
+        peer: SocketAddr,
+        comments: &mut Comments,
+    ) -> Result<(), AllocError> {
+        let is_called = (link as usize) < self.called;
+        let neighbour = Neighbour {
+            reader: self.reader_of(link),
+            peer,
+            is_called,
+        };
+        let text = format!(in self.alloc; "{}", neighbour)?;
+        comments.add(text.as_bytes())
     }
 
     /// Says each link whose peer has come by now, once.
     fn say_links(&mut self, comments: &mut Comments) -> Result<(), AllocError> {
-        for link in 0..LINKS {
-            if !self.said[link]
-                && let Some(peer) = self.calls.peer_of(link)
-            {
-                let is_called = link < self.called;
-                let text = format!(in self.alloc;
-                    "{}",
-                    Neighbour {
-                        link,
-                        peer,
-                        is_called
-                    }
-                )?;
-                comments.add(text.as_bytes())?;
-                self.said[link] = true;
+        for _ in 0..UNSAID {
+            if self.next.is_none() {
+                self.next = self.calls.next_came(self.rt);
             }
+            let Some((link, peer)) = self.next else {
+                return Ok(());
+            };
+            self.say_link(link, peer, comments)?;
+            self.next = None;
         }
         Ok(())
     }
@@ -110,7 +132,7 @@ impl<'a, 'w, R: Clock, G> Remarks<'a, 'w, R, G> {
     }
 }
 
-impl<'a, 'w, R: Clock, G> Commenter for Remarks<'a, 'w, R, G> {
+impl<'a, 'w, R: Clock + Wait, G> Commenter for Remarks<'a, 'w, R, G> {
     /// Where memory is wanting for one it is left out, and said later.
     fn comment(&mut self, comments: &mut Comments) {
         if self.times {

@@ -182,7 +182,7 @@ impl Display for LinkLine {
 }
 
 /// The line of this link: what its reader brought, and what its writer took.
-fn line_of(link: usize, done: &LinkAccount<TcpReader<'_>, TcpWriter>) -> LinkLine
+pub(crate) fn line_of(link: usize, done: &LinkAccount<TcpReader<'_>, TcpWriter>) -> LinkLine
     ensures link { result.named.link ≡ link }
     ensures conn { result.named.conn ≡ done.now.conn }
     ensures reader { result.ends.reader ≡ Some done.now.reader_end }
@@ -204,7 +204,7 @@ fn line_of(link: usize, done: &LinkAccount<TcpReader<'_>, TcpWriter>) -> LinkLin
 }
 
 /// Writes the line of the counters, where there is memory for it.
-fn write_stats<F: Sink>(alloc: Global, faults: &mut F, stats: &Stats) {
+pub(crate) fn write_stats<F: Sink>(alloc: Global, faults: &mut F, stats: &Stats) {
     let mut line = Vec::new(alloc);
     if push_stats(&mut line, stats).is_ok() {
         let _ = write_all(faults, &line);

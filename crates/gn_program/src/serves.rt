@@ -1,12 +1,12 @@
 //! A router that serves, as a command line asks for it.
 
-ghost use Rattle.std.specs.Prelude.{◌≡◌, ◌*◌, ◌+◌, ◌<◌, ◌≤◌, ℕ, List, None, length, IfNone, IfOk, IfSome};
+ghost use Rattle.std.specs.Prelude.{◌≡◌, ◌*◌, ◌+◌, ◌<◌, ◌≤◌, ℕ, List, None, length, unwrap_or, IfNone, IfOk, IfSome};
 ghost use Rattle.std.specs.Option.{IsSomeAnd};
 ghost use Rattle.std.specs.Bool.{then_some};
 ghost use Rattle.std.specs.Duration.{as_nanos};
 ghost use Rattle.gn_comments.specs.Sinks.{HasWrittenBoth, without_comments};
 ghost use Rattle.gn_io.specs.Streams.{SinkState};
-ghost use Rattle.gn_load.specs.Journalled.{IsJournalled};
+ghost use Rattle.gn_load.specs.Any.{IsJournalledTaken};
 ghost use Rattle.gn_program.specs.Commands.{HasServed, IsBeside, IsIdOf, IsServing, has_comments};
 ghost use Rattle.gn_program.specs.Limits.{IsLimit, IsStopOf, may_stop};
 ghost use Rattle.gn_program.specs.Peers.{AreAt};
@@ -15,17 +15,18 @@ ghost use Rattle.gn_words.specs.declared.request.Servent.TheVariants.{Random};
 
 use crate::calls::Calls;
 use crate::eof::stop_at_eof;
+use crate::leavings::Leavings;
 use crate::remarks::Remarks;
-use crate::reports::{write_account, write_stopped};
+use crate::reports::{write_account, write_stats, write_stopped};
 use crate::text::write_text;
 use crate::told::Told;
 use gn_comments::{Commented, Lent, Naming};
 use gn_io::Sink;
 use gn_links::{LinkFault, Watch};
-use gn_load::{ServeFault, ServeHalted, serve_journalled};
-use gn_report::{Account, LinkTally};
+use gn_load::{ServeFault, ServeHalted, Taken, Taking, serve_taken};
+use gn_report::LinkTally;
 use gn_rules::{Config, Own};
-use gn_service::{Batch, Host, Ran, Serve, Serving, Stop, TcpReader, TcpWriter};
+use gn_service::{Batch, Host, Parting, Ran, Serve, Serving, Stop, TcpReader, TcpWriter};
 use gn_tcp::Unmet;
 use gn_threads::RunFault;
 use gn_wire::Guid;
@@ -99,22 +100,18 @@ fn addresses(alloc: Global, peers: &[Peer]) -> Result<Vec<SocketAddr>, AllocErro
     Ok(addresses)
 }
 
-/// The time limit of so many seconds; none, where there are none.
-fn limit(seconds: u32) -> Option<Duration>
+/// The time limit of so many seconds, where there is one.
+fn limit(seconds: Option<u32>) -> Option<Duration>
     ensures { IsLimit seconds result }
 {
-    if seconds == 0 {
-        None
-    } else {
-        Some(Duration::from_secs(seconds as u64))
-    }
+    Some(Duration::from_secs(u64::from(seconds?)))
 }
 
 /// Whether anything but its peers stops the router.
 fn may_stop(serving: &ServeOptions) -> bool
     ensures { result ≡ may_stop serving.now }
 {
-    serving.seconds != 0 || serving.early || serving.until_eof
+    serving.seconds.is_some() || serving.early || serving.until_eof
 }
 
 /// How long the router goes on and waits for its peers, and whether its history is kept.
@@ -191,18 +188,21 @@ fn listen<N: Net<Listener = TcpListener, Stream = TcpStream>>(
     }
 }
 
-/// Writes what became of the links of a run, where that is asked for, and lets go of its account.
+/// Writes what became of the links of a run, where that is asked for and wasn't said as they ended, and lets go of its account.
 fn report_ended<G: Watch, F: Sink>(
     alloc: Global,
     serving: &ServeOptions,
     watch: &G,
-    account: Account<TcpReader<'_>, TcpWriter>,
+    taken: Taken<'_>,
     faults: &mut F,
 ) {
     if serving.report {
-        write_account(alloc, faults, &account);
+        match &taken {
+            Taken::All(account) => write_account(alloc, faults, account),
+            Taken::Any(account) => write_stats(alloc, faults, &account.stats),
+        }
     }
-    watch.leave(account);
+    watch.leave(taken);
 }
 
 /// Writes what became of the links of a run that stopped, where that is asked for and known, and lets go of it.
@@ -221,6 +221,16 @@ fn report_stopped<G: Watch, F: Sink>(
     watch.leave(links);
 }
 
+/// How many call the router, and who learns of each link as it ends where any number does.
+fn taking<'a, T>(serving: &ServeOptions, leaving: &'a T) -> Taking<'a, T>
+    ensures { result.accept ≡ serving.now.accept }
+{
+    Taking {
+        accept: serving.accept,
+        leaving,
+    }
+}
+
 /// Whether comments stand in the history: times, or links.
 fn has_comments(serving: &ServeOptions) -> bool
     ensures { result ≡ has_comments serving.now }
@@ -229,52 +239,59 @@ fn has_comments(serving: &ServeOptions) -> bool
 }
 
 /// Runs the router, and writes its history while it runs, with comments.
-fn run_commented<'s, 'w, B: Naming + Send, R: Host, G: Watch + Sync, W: Sink + Send>(
+fn run_commented<
+    's,
+    'w,
+    B: Naming + Send,
+    R: Host,
+    G: Watch + Sync,
+    T: Parting<Global> + Sync,
+    W: Sink + Send,
+>(
     rt: &R,
     alloc: Global,
-    serve: &Serve<'_, 's, Calls<'_, G>>,
+    serve: &Serve<'_, 's, Calls<'_, G>, Taking<'_, T>>,
     serving: &ServeOptions,
     lent: Lent<'w, W>,
-) -> (
-    Result<(Account<TcpReader<'s>, TcpWriter>, Ran), ServeHalted>,
-    Lent<'w, W>,
-)
+) -> (Result<(Taken<'s>, Ran), ServeHalted>, Lent<'w, W>)
     requires named { lent.sink.ghost_name ≡ B.sink }
     requires begun { W.state lent.sink.now ≡ B.begun }
-    requires few { serve.now.accept + length serve.now.peers.now ≤ most_links }
+    requires few { unwrap_or serve.now.accept.accept 0 + length serve.now.peers.now ≤ most_links }
     ensures here { result.1.sink.ghost_name ≡ lent.entry.sink.ghost_name }
     ensures ran { let s = serve.now in (text : List ℕ)
         × HasWrittenBoth (W.state lent.entry.sink.now) (W.state result.1.sink.now) text
-        × IsJournalled s.batch s.config.now s.peers.now s.accept s.workers (W.state lent.entry.sink.now)
+        × IsJournalledTaken s.batch s.config.now s.peers.now s.accept.accept s.workers
+        (W.state lent.entry.sink.now)
         (without_comments (W.state lent.entry.sink.now) (W.state result.1.sink.now) text) result.0 }
 {
     let remarks = Remarks::new(rt, alloc, serve.watch, serving);
     let mut commented = Commented::<B, W, Remarks<'_, '_, R, G>>::new(alloc, lent, remarks);
-    let answer = serve_journalled::<_, _, _>(rt, alloc, serve, &mut commented);
+    let answer = serve_taken::<_, _, _, _>(rt, alloc, serve, &mut commented);
     (answer, commented.into_inner())
 }
 
 /// Runs the router, and writes its history while it runs, with comments where they are asked for.
-fn run<'s, R: Host, G: Watch + Sync, W: Sink + Send>(
+fn run<'s, R: Host, G: Watch + Sync, T: Parting<Global> + Sync, W: Sink + Send>(
     rt: &R,
     alloc: Global,
-    serve: &Serve<'_, 's, Calls<'_, G>>,
+    serve: &Serve<'_, 's, Calls<'_, G>, Taking<'_, T>>,
     serving: &ServeOptions,
     writer: &mut W,
-) -> Result<(Account<TcpReader<'s>, TcpWriter>, Ran), ServeHalted>
-    requires few { serve.now.accept + length serve.now.peers.now ≤ most_links }
+) -> Result<(Taken<'s>, Ran), ServeHalted>
+    requires few { unwrap_or serve.now.accept.accept 0 + length serve.now.peers.now ≤ most_links }
     ensures { let s = serve.now in (bare : SinkState)
         × IsBeside (has_comments serving.now) (W.state writer.old) bare (W.state writer.new)
-        × IsJournalled s.batch s.config.now s.peers.now s.accept s.workers (W.state writer.old) bare result }
+        × IsJournalledTaken s.batch s.config.now s.peers.now s.accept.accept s.workers
+        (W.state writer.old) bare result }
 {
     if has_comments(serving) {
         let lent = Lent { sink: writer };
-        let (answer, Lent { sink: _sink }) = run_commented::<Brand, R, G, W>(
+        let (answer, Lent { sink: _sink }) = run_commented::<Brand, R, G, T, W>(
             rt, alloc, serve, serving, lent,
         );
         return answer;
     }
-    serve_journalled::<_, _, _>(rt, alloc, serve, writer)
+    serve_taken::<_, _, _, _>(rt, alloc, serve, writer)
 }
 
 /// Listens, says so with the faults, runs the router, writes its history while it runs, and then what became of its links with the faults,
@@ -284,7 +301,7 @@ pub(crate) fn serve<
     R: Host + Input<Reader = StdinLock<'static>>,
     G: Watch + Sync,
     W: Sink + Send,
-    F: Sink,
+    F: Sink + Send,
 >(
     rt: &R,
     alloc: Global,
@@ -307,22 +324,23 @@ pub(crate) fn serve<
         return Err(ServeFault::Run(RunFault::Listen));
     };
     let _ = write_text(faults, Listening(serving.port));
-    let limits = limits(serving, &stop);
+    let leavings = Leavings::new(rt, &mut *faults, serving.report);
     let asked = Serve {
         listener: &listener,
         config: &config,
         peers: &peers,
-        accept: serving.accept,
+        accept: taking(serving, &leavings),
         workers: serving.workers,
-        limits,
+        limits: limits(serving, &stop),
         watch: calls,
         batch: batch_of(serving.batch),
     };
     let answer = run(rt, alloc, &asked, serving, writer);
+    drop(leavings);
     match answer {
-        Ok((account, ran)) => {
+        Ok((taken, ran)) => {
             *remembered = Some(ran);
-            report_ended(alloc, serving, calls, account, faults);
+            report_ended(alloc, serving, calls, taken, faults);
             Ok(())
         }
         Err(

@@ -1,10 +1,36 @@
 //! What a run has done by now.
 
+use gn_links::Place;
 use std::array;
 use std::sync::atomic::{AtomicU32, AtomicU64, Ordering};
 
-/// As many links as a run has at most.
-const LINKS: usize = 256;
+/// As many slots as a run has at most.
+const SLOTS: usize = 256;
+
+/// How many descriptors the last link in a slot has offered, admitted or refused. The link's reader alone changes it.
+#[derive(Drop)]
+struct Offered {
+    link: AtomicU32,
+    count: AtomicU32,
+}
+
+impl Offered {
+    /// No link was in the slot.
+    fn new() -> Self {
+        Offered {
+            link: AtomicU32::new(0),
+            count: AtomicU32::new(0),
+        }
+    }
+
+    /// This link, which is in the slot now, has offered one more.
+    fn add(&self, link: u32) {
+        if self.link.swap(link, Ordering::SeqCst) != link {
+            self.count.store(0, Ordering::SeqCst);
+        }
+        self.count.fetch_add(1, Ordering::SeqCst);
+    }
+}
 
 /// What a run has done by now.
 #[derive(Drop)]
@@ -18,8 +44,8 @@ pub(crate) struct Counts {
     /// Descriptors that were refused at a threshold.
     busy: AtomicU32,
     steps: AtomicU32,
-    /// The descriptors of each link, admitted or refused.
-    offered: [AtomicU32; LINKS],
+    /// The descriptors of the last link in each slot.
+    offered: [Offered; SLOTS],
 }
 
 /// What a run had done at a look.
@@ -50,7 +76,7 @@ impl Counts {
             admitted: AtomicU32::new(0),
             busy: AtomicU32::new(0),
             steps: AtomicU32::new(0),
-            offered: array::from_fn(|_| AtomicU32::new(0)),
+            offered: array::from_fn(|_| Offered::new()),
         }
     }
 
@@ -95,20 +121,20 @@ impl Counts {
         self.steps.fetch_add(1, Ordering::SeqCst)
     }
 
-    /// The link has offered one more descriptor.
-    pub(crate) fn add_offer(&self, link: u32) {
-        if let Some(offered) = self.offered.get(link as usize) {
-            offered.fetch_add(1, Ordering::SeqCst);
+    /// The link in this place has offered one more descriptor.
+    pub(crate) fn add_offer(&self, place: Place) {
+        if let Some(offered) = self.offered.get(place.slot as usize) {
+            offered.add(place.link);
         }
     }
 
-    /// The link that offered most, the first of several, and how many descriptors.
-    pub(crate) fn loudest(&self) -> (usize, u32) {
+    /// The link that offered most of those that were the last in their slots, the first of several, and how many descriptors.
+    pub(crate) fn loudest(&self) -> (u32, u32) {
         let mut loudest = (0, 0);
-        for (link, offered) in self.offered.iter().enumerate() {
-            let offered = offered.load(Ordering::SeqCst);
-            if offered > loudest.1 {
-                loudest = (link, offered);
+        for offered in &self.offered {
+            let count = offered.count.load(Ordering::SeqCst);
+            if count > loudest.1 {
+                loudest = (offered.link.load(Ordering::SeqCst), count);
             }
         }
         loudest

@@ -2,7 +2,7 @@
 
 use crate::counts::{Counts, Seen};
 use crate::screen::Screen;
-use gn_links::{Gate, Half, Made, Watch};
+use gn_links::{Gate, Half, Made, Place, Watch};
 use std::alloc::{AllocError, Allocator};
 use std::mem::ManuallyDrop;
 use std::net::SocketAddr;
@@ -226,9 +226,9 @@ impl<'r, R: Clock + AllocGlobal, O: Screen> Progress<'r, R, O> {
     }
 
     /// A link of a serve offered a descriptor.
-    fn offer(&self, link: u32, most: u32) {
+    fn offer(&self, place: Place, most: u32) {
         if most != 0 {
-            self.counts.add_offer(link);
+            self.counts.add_offer(place);
         }
     }
 }
@@ -243,16 +243,16 @@ impl<'r, R: Clock + AllocGlobal, O: Screen> Gate for Progress<'r, R, O> {
         }
     }
 
-    fn made(&self, link: u32, step: Made) {
+    fn made(&self, place: Place, step: Made) {
         let most = self.most.load(Ordering::SeqCst);
         match step {
             Made::Admitted(_) => {
                 self.counts.add_admitted();
-                self.offer(link, most);
+                self.offer(place, most);
             }
             Made::Busy => {
                 self.counts.add_busy();
-                self.offer(link, most);
+                self.offer(place, most);
             }
             Made::Routed => {
                 self.counts.add_routed();
@@ -264,9 +264,9 @@ impl<'r, R: Clock + AllocGlobal, O: Screen> Gate for Progress<'r, R, O> {
         }
     }
 
-    fn ended(&self, link: u32, half: Half) {
+    fn ended(&self, place: Place, half: Half) {
         if self.most.load(Ordering::SeqCst) != 0 {
-            self.write_text(self.ended_line(link, half));
+            self.write_text(self.ended_line(place.link, half));
         }
     }
 }
@@ -281,7 +281,7 @@ impl<'r, R: Clock + AllocGlobal, O: Screen> Watch for Progress<'r, R, O> {
         self.most.store(steps, Ordering::SeqCst);
     }
 
-    fn came(&self, link: u32, peer: SocketAddr) {
+    fn came<W: Wait>(&self, _rt: &W, link: u32, peer: SocketAddr) {
         self.counts.add_link();
         self.write_text(self.came_line(link, peer));
     }

@@ -15,7 +15,6 @@ use Rattle.gn_rules.specs.History.{connected_of, is_at, is_close, live, mine, mi
 use Rattle.gn_laws.specs.Owners.{AreCompared, AreFitting, is_readers, is_writers, known_conn}
 use Rattle.gn_laws.proofs.CountLemmas.{any_from_count, count-reverse, count_some}
 use Rattle.gn_laws.proofs.OwnerLemmas.{connected_to_one}
-use Rattle.gn_laws.proofs.ReceiptLemmas.{receipts_in_order}
 
 any_reverse : {X : Type 0} (p : X → Bool) (xs : List X) → list_any p xs ≡ true → list_any p (reverse xs) ≡ true
 any_reverse p xs any = any_from_count p (reverse xs) (omega (arith, count_some p xs any, count-reverse p xs))
@@ -70,11 +69,11 @@ made_then_closed {A} (step ∷ earlier) c gone made = by_cases (is_at c (connect
     by_cases false true l gone' made' earlier' = refl
     by_cases false false l gone' made' earlier' = earlier' gone' made'
 
--- where a connection that an actor was given isn't live at the end, somebody closed it
-pub gone_closed : {A : Type 0} (steps : List (Step A)) (a c : ℕ) → known_conn (mine steps a) ≡ Some c → live (reverse steps) c ≡ false → list_any (λ step. is_close c step.event) steps ≡ true
-gone_closed {A} steps a c given gone =
+-- where a connection that an actor was given, by receipts that fit, isn't live any more, somebody closed it
+pub gone_is_closed : {A : Type 0} (steps : List (Step A)) (a c : ℕ) (own : List (Receipt A)) → AreFitting steps a own → known_conn own ≡ Some c → live (reverse steps) c ≡ false → list_any (λ step. is_close c step.event) steps ≡ true
+gone_is_closed {A} steps a c own fits given gone =
     let gives : Step A → Bool = λ step. is_at c (connected_of step.reply) in
-    let made : list_any gives steps ≡ true = fits_some gives steps a (mine steps a) (receipts_in_order A steps a) (known_some (mine steps a) c given) in
+    let made : list_any gives steps ≡ true = fits_some gives steps a own fits (known_some own c given) in
     any_back (λ (step : Step A). is_close c step.event) steps (made_then_closed (reverse steps) c gone (any_reverse gives steps made))
 
 -- a test that all receipts of an actor pass, said of the steps

@@ -16,7 +16,7 @@ use Rattle.gn_actors.specs.Tallies.{last_place}
 use Rattle.gn_report.proofs.ComparedLemmas.{is_last_close}
 
 -- one receipt more is the last
-last_of : {A : Type 0} (before : List (Receipt A)) (r : Receipt A) → last_place (before ++ r ∷ []) ≡ r.index + 1
+pub last_of : {A : Type 0} (before : List (Receipt A)) (r : Receipt A) → last_place (before ++ r ∷ []) ≡ r.index + 1
 last_of [] r = refl
 last_of (x ∷ []) r = refl
 last_of (x ∷ y ∷ before) r = last_of (y ∷ before) r

@@ -12,4 +12,7 @@ pub mod LaterLemmas
 pub mod RowLemmas
 pub mod SeenLemmas
 pub mod ToldLemmas
-pub mod LookLemmas
+pub mod EndedLemmas
+pub mod CountsLemmas
+pub mod AccountLemmas
+pub mod KeptLemmas

@@ -12,7 +12,7 @@ use Rattle.gn_rules.specs.History.{is_close, mine}
 use Rattle.gn_shake.specs.declared.role.Role.{Role}
 use Rattle.gn_shake.specs.declared.role.Role.TheVariants.{Plain}
 use Rattle.gn_shake.specs.Greeting.{is_calling}
-use Rattle.gn_laws.specs.Owners.{AreCompared, known_conn}
+use Rattle.gn_laws.specs.Owners.{AreCompared}
 use Rattle.gn_bodies.specs.declared.ends.ReaderEnd.{ReaderEnd}
 use Rattle.gn_bodies.specs.declared.ends.ReaderEnd.TheVariants.{Bytes, Fault, ReadFailed, Turns, GreetingRefused, GreetingCut, TooMany, NotLive}
 use Rattle.gn_bodies.specs.ReaderRows.{ReaderDid}
@@ -24,7 +24,7 @@ use Rattle.gn_report.specs.Actors.{number_in}
 use Rattle.gn_report.specs.BodyEnds.{is_settled, may_close_first}
 use Rattle.gn_report.specs.Flaw.{IsFitting, ReaderConfirmed, WriterConfirmed}
 use Rattle.gn_report.specs.Seen.{AreSeen, SeenIsConfirmed, must_be_gone}
-use Rattle.gn_report.proofs.ClosedLemmas.{closed_by_writer, gone_closed}
+use Rattle.gn_report.proofs.ClosedLemmas.{closed_by_writer}
 use Rattle.gn_report.proofs.ConfirmedLemmas.{compared_by, others_routed, reader_own, writer_own}
 use Rattle.gn_report.proofs.ConnLemmas.{conn_is_known}
 use Rattle.gn_report.proofs.LaterLemmas.{drained_close}
@@ -55,15 +55,7 @@ gone_written GreetingCut c = refl
 gone_written TooMany c = refl
 gone_written NotLive c = refl
 
--- the connection of a link was closed, where it must be
-seen_closed : {Rd W A : Type 0} (roles : List Role) (report : Report Rd W A) (seen : AreSeen roles report) (k : ℕ) (r : Role) (d : LinkReport Rd W A) (below : k < length report.links.items)
-    → must_be_gone (get_or report.links.items k d).reader_end (seen.links k r d below).written ≡ true → (c : ℕ) → (get_or report.links.items k d).conn ≡ Some c
-    → list_any (λ step. is_close c step.event) report.history.items ≡ true
-seen_closed roles report seen k r d below must c is =
-    let link = seen.links k r d below in
-    gone_closed report.history.items k c (ap known_conn (sym (reader_own report seen.own k d below)) ∙ sym link.known ∙ is) (link.gone must c is)
-
--- by its writer, where its reader closed nothing
+-- the connection of a link was closed by its writer, where its reader closed nothing
 seen_by_writer : {Rd W A : Type 0} (s : Config) (roles : List Role) (report : Report Rd W A) → IsLegal s (reverse report.history.items) → AreSeen roles report → (k : ℕ) (d : LinkReport Rd W A) → k < length report.links.items → (c : ℕ)
     → (get_or report.links.items k d).conn ≡ Some c → (get_or report.links.items k d).reader_end ≡ NotLive
     → list_any (λ step. (step.actor == number_in report (Writer k)) && is_close c step.event) report.history.items ≡ true
@@ -78,7 +70,7 @@ seen_by_writer {Rd} {W} {A} s roles report legal seen k d below c is not_live =
     let did : ReaderDid NotLive (Some c) at.reader_receipts.items =
     subst (λ o. ReaderDid NotLive o at.reader_receipts.items) is (subst (λ e. ReaderDid e at.conn at.reader_receipts.items) not_live link.did) in
     let none = subst (λ (rs : List (Receipt A)). list_all (λ r. not (is_close c r.event)) rs ≡ true) (reader_own report seen.own k d below) (closed_nothing NotLive c at.reader_receipts.items refl did) in
-    let by = closed_by_writer s steps conns k c legal (seen_compared roles report seen) (omega (arith, many, below)) conn none (seen_closed roles report seen k Plain d below (ap (λ e. must_be_gone e link.written) not_live) c is) in
+    let by = closed_by_writer s steps conns k c legal (seen_compared roles report seen) (omega (arith, many, below)) conn none (link.closed (ap (λ e. must_be_gone e link.written) not_live) c is) in
     subst (λ n. list_any (λ (step : Step A). (step.actor == n + k) && is_close c step.event) steps ≡ true) many by
 
 -- a link's reader is confirmed
@@ -94,7 +86,7 @@ seen_reader {Rd} {W} {A} s roles report legal seen k below r d =
       conn = link.known ∙ sym (conn_is_known s steps k own legal (reader_own report seen.own k d below));
       events = readers_alone at.reader_end at.conn own link.did;
       once = connected_once at.reader_end at.conn own link.did;
-      end = reader_end_is steps (number_in report (Writer k)) first own at.reader_end link.written at.conn link.did (seen_closed roles report seen k r d below)
+      end = reader_end_is steps (number_in report (Writer k)) first own at.reader_end link.written at.conn link.did link.closed
           (λ c is not_live.
           ap (λ b. b && list_any (λ (step : Step A). (step.actor == number_in report (Writer k)) && is_close c step.event) steps) (link.first not_live)
           ∙ seen_by_writer s roles report legal seen k d below c is not_live);
@@ -113,7 +105,7 @@ seen_writer {Rd} {W} {A} roles report seen k below r d =
     record {
       events = writers_alone role at.writer_end link.written at.conn own link.wrote.0 link.wrote.1;
       end = writer_end_is (is_settled steps) roles steps (number_in report (Writer k)) role own at.writer_end link.written at.conn mine_is link.wrote.0 link.wrote.1
-          (λ c on is. seen_closed roles report seen k r d below (ap (must_be_gone at.reader_end) on ∙ gone_written at.reader_end c) c is)
+          (λ c on is. link.closed (ap (must_be_gone at.reader_end) on ∙ gone_written at.reader_end c) c is)
           (λ drained c index before is. drained_close (is_settled steps) roles steps c index before own is (link.settled drained) (link.later drained));
     }
 

@@ -32,6 +32,10 @@ is_closer (Except b) a = not (a == b)
 abbrev pub has_close : {A : Type 0} → Closer → List (Step A) → ℕ → Bool
 has_close closer steps c = list_any (λ step. is_closer closer step.actor && is_close c step.event) steps
 
+-- whether somebody closed this connection
+abbrev pub is_closed : {A : Type 0} → List (Step A) → ℕ → Bool
+is_closed steps c = list_any (λ step. is_close c step.event) steps
+
 -- whether nothing is in flight after the first k steps
 abbrev pub is_settled : {A : Type 0} → List (Step A) → ℕ → Bool
 is_settled steps k = length (flying (reverse (take k steps))) == 0

@@ -4,6 +4,7 @@ pub mod Vectors
 pub mod Actors
 pub mod BodyEnds
 pub mod Flaw
+pub mod Ended
 pub mod Looks
 pub mod Seen
 pub mod Survey

@@ -1,50 +1,62 @@
--- What is looked at when a run is over.
-use Rattle.std.specs.Prelude.{◌≡◌, ◌<◌, ◌+◌, ℕ, Bool, true, false, List, length, reverse, slice_index_or, Option, Some, None}
-use Rattle.std.specs.List.{list_all}
-use Rattle.gn_rules.specs.declared.receipt.Step.{Step}
-use Rattle.gn_rules.specs.History.{live}
-use Rattle.gn_shake.specs.declared.role.Role.{Role}
+-- What is counted of the links of a run as their bodies have ended.
+use Rattle.std.specs.Prelude.{◌≡◌, ◌≤◌, ◌<◌, ℕ, Bool, true, false, List, length, map, slice_index_or, Option, Some, None, ⊤}
+use Rattle.std.specs.List.{list_all, slice_get}
 use Rattle.gn_shake.specs.Greeting.{is_awaited, is_calling}
 use Rattle.gn_bodies.specs.declared.ends.ReaderEnd.TheVariants.{NotLive}
 use Rattle.gn_bodies.specs.declared.ends.WriterEnd.TheVariants.{Drained}
 use Rattle.gn_report.specs.declared.account.LinkAccount.{LinkAccount}
-use Rattle.gn_report.specs.BodyEnds.{is_settled, may_close_first}
-use Rattle.gn_report.specs.Seen.{IsSameLink, must_be_gone}
+use Rattle.gn_report.specs.declared.account.LinkEnd.{LinkEnd}
+use Rattle.gn_report.specs.declared.account.LinkEnd.TheVariants.{Whole}
+use Rattle.gn_report.specs.declared.looks.Looks.{Looks}
+use Rattle.gn_report.specs.BodyEnds.{may_close_first}
 
--- nothing was in flight after all steps before the last one of an actor, which stands before this place
-abbrev pub IsDrainedLast : Option ℕ → ℕ → Type 0
-IsDrainedLast (Some at) last = at + 1 ≡ last
-IsDrainedLast None last = ⊥
+-- a place is this one or a later one, of which there is one
+abbrev pub IsFrom : Option ℕ → ℕ → Type 0
+IsFrom None place = ⊥
+IsFrom (Some from) place = from ≤ place
 
--- each awaited reader made its last step before this place
-abbrev pub AreReadBefore : {Rd W A : Type 0} → Bool → List Role → List (LinkAccount Rd W A) → ℕ → Type 0
-AreReadBefore {Rd} {W} {A} all_call roles links last =
-    (k : ℕ) (role : Role) (link : LinkAccount Rd W A) → k < length roles → is_awaited all_call (slice_index_or roles k role) ≡ true
-    → (slice_index_or links k link).last_read < last
+-- a place is before this one, where there is one
+abbrev pub IsBefore : ℕ → Option ℕ → Type 0
+IsBefore place None = ⊤
+IsBefore place (Some from) = place < from
 
--- what is looked at of a link of this role
-pub record IsLooked {Rd W A : Type 0} (all_call : Bool) (steps : List (Step A)) (roles : List Role) (links : List (LinkAccount Rd W A))
-    (role : Role) (link : LinkAccount Rd W A) : Type 0 where
-  -- its writer wrote on its connection, which isn't live any more where it must be closed
-  pub same : IsSameLink link.writer_end link.written_on link.conn
-  pub gone : must_be_gone link.reader_end link.written_on ≡ true → (c : ℕ) → link.conn ≡ Some c → live (reverse steps) c ≡ false
-  -- where its reader found the connection closed, the writer may close first
-  pub first : link.reader_end ≡ NotLive → may_close_first all_call role link.writer_end ≡ true
-  -- where its writer drained the connection, nothing was in flight before its last step, and all awaited readers had made theirs
-  pub last : link.writer_end ≡ Drained → IsDrainedLast link.idle link.last_written
-  pub later : link.writer_end ≡ Drained → AreReadBefore all_call roles links link.last_written
+-- looks count a link that has ended
+pub record IsCounted {Rd W A : Type 0} (looks : Looks) (link : LinkAccount Rd W A) : Type 0 where
+  -- its reader's last step
+  pub read : is_calling link.role ≡ false → link.last_read ≤ looks.read_until
+  pub called : is_calling link.role ≡ true → link.last_read ≤ looks.called_until
+  -- that of its writer, where it drained its connection; and whether the reader found that closed
+  pub drained : link.writer_end ≡ Drained → IsFrom looks.drained_from link.last_written
+  pub needs : link.reader_end ≡ NotLive → link.writer_end ≡ Drained → looks.needs_caller ≡ true
 
--- what is looked at of each link
-abbrev pub AreLooked : {Rd W A : Type 0} → List (Step A) → List Role → List (LinkAccount Rd W A) → Type 0
-AreLooked {Rd} {W} {A} steps roles links =
-    (k : ℕ) (role : Role) (link : LinkAccount Rd W A) → k < length links
-    → IsLooked (list_all is_calling roles) steps roles links (slice_index_or roles k role) (slice_index_or links k link)
+-- whether a link calls, where both its bodies have an end
+abbrev pub calls_so_far : {Rd W A : Type 0} → Option (LinkEnd Rd W A) → Bool
+calls_so_far (Some (Whole link)) = is_calling link.role
+calls_so_far end = true
 
--- whether nothing was in flight after so many steps, where this says how many
-abbrev pub is_idle_at : {A : Type 0} → List (Step A) → Option ℕ → Bool
-is_idle_at steps None = true
-is_idle_at steps (Some at) = is_settled steps at
+-- looks count each link of those that came both of whose bodies have an end, and know whether all of these call
+pub record AreCounted {Rd W A : Type 0} (looks : Looks) (links : List (Option (LinkEnd Rd W A))) : Type 0 where
+  pub each : (k : ℕ) (link : LinkAccount Rd W A) → slice_get links k ≡ Some (Some (Whole link)) → IsCounted looks link
+  pub calls : looks.all_call ≡ list_all calls_so_far links
 
--- whether nothing was in flight after so many steps as an account says
-abbrev pub is_idle_link : {Rd W A : Type 0} → List (Step A) → LinkAccount Rd W A → Bool
-is_idle_link steps link = is_idle_at steps link.idle
+-- by these looks all that is awaited came before the last step of each writer that drained its connection, and no such writer closed
+-- first where all links call
+pub record AreRight (looks : Looks) : Type 0 where
+  pub read : IsBefore looks.read_until looks.drained_from
+  pub called : looks.all_call ≡ true → IsBefore looks.called_until looks.drained_from
+  pub first : looks.all_call ≡ true → looks.needs_caller ≡ false
+
+-- a reader that is awaited made its last step before that of each writer that drained its connection; and who may close first where not
+-- all links call may do so here
+pub record IsInOrder {Rd W A : Type 0} (all_call : Bool) (links : List (LinkAccount Rd W A)) : Type 0 where
+  pub later : (j k : ℕ) (d : LinkAccount Rd W A) → j < length links → k < length links → is_awaited all_call (slice_index_or links j d).role ≡ true
+      → (slice_index_or links k d).writer_end ≡ Drained → (slice_index_or links j d).last_read < (slice_index_or links k d).last_written
+  pub first : (k : ℕ) (d : LinkAccount Rd W A) → k < length links → (slice_index_or links k d).reader_end ≡ NotLive
+      → may_close_first false (slice_index_or links k d).role (slice_index_or links k d).writer_end ≡ true
+      → may_close_first all_call (slice_index_or links k d).role (slice_index_or links k d).writer_end ≡ true
+
+-- links that are counted are in order where the looks are right
+abbrev pub CountsSay : Type 0 → Type 0 → Type 0 → Type 0
+CountsSay Rd W A =
+    (looks : Looks) (links : List (LinkAccount Rd W A)) → AreCounted looks (map (λ link. Some (Whole link)) links) → AreRight looks
+    → IsInOrder (list_all (λ link. is_calling link.role) links) links

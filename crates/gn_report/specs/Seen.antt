@@ -6,7 +6,7 @@ use Rattle.gn_rules.specs.declared.config.Config.{Config}
 use Rattle.gn_rules.specs.declared.receipt.Receipt.{Receipt}
 use Rattle.gn_rules.specs.declared.receipt.Step.{Step}
 use Rattle.gn_rules.specs.Answer.{IsLegal}
-use Rattle.gn_rules.specs.History.{live, mine}
+use Rattle.gn_rules.specs.History.{mine}
 use Rattle.gn_shake.specs.declared.role.Role.{Role}
 use Rattle.gn_shake.specs.Greeting.{is_calling}
 use Rattle.gn_laws.specs.Owners.{known_conn}
@@ -21,7 +21,7 @@ use Rattle.gn_report.specs.declared.report.LinkReport.{LinkReport}
 use Rattle.gn_report.specs.declared.report.Report.{Report}
 use Rattle.gn_actors.specs.declared.who.Who.TheVariants.{House}
 use Rattle.gn_report.specs.Actors.{AreOwn, is_awaited_reader, number_in}
-use Rattle.gn_report.specs.BodyEnds.{is_settled, may_close_first}
+use Rattle.gn_report.specs.BodyEnds.{is_closed, is_settled, may_close_first}
 use Rattle.gn_report.specs.Flaw.{AreRoutes, IsFlaw}
 
 -- the connection that a writer wrote on is the link's: one whose request couldn't be written had none yet, whatever the link's is; and
@@ -45,8 +45,8 @@ pub record IsLinkSeen {Rd W A : Type 0} (roles : List Role) (steps : List (Step 
   -- the writer wrote on this connection, which is the link's, and its receipts are as its end says
   pub written : Option ℕ
   pub wrote : WriterDid role link.writer_end written link.writer_receipts.items × IsSameLink link.writer_end written link.conn
-  -- the connection isn't live when the run is over, where it must be closed
-  pub gone : must_be_gone link.reader_end written ≡ true → (c : ℕ) → link.conn ≡ Some c → live (reverse steps) c ≡ false
+  -- somebody closed the connection, where it must be closed
+  pub closed : must_be_gone link.reader_end written ≡ true → (c : ℕ) → link.conn ≡ Some c → is_closed steps c ≡ true
   -- where the reader found its connection closed, the writer's end is one that may close first
   pub first : link.reader_end ≡ NotLive → may_close_first (list_all is_calling roles) role link.writer_end ≡ true
   -- where the writer drained the connection, nothing was in flight just before its last step, and no awaited reader made a later step

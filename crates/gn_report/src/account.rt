@@ -7,11 +7,14 @@ use crate::unkept::Unkept;
 use gn_actors::Tally;
 use gn_bodies::{ReaderEnd, WriterEnd};
 use gn_rules::{ConnId, Receipt, Stats, Step};
+use gn_shake::Role;
 use std::alloc::{Allocator, Global};
 
 /// What the two bodies of a link did, and the halves of the link.
 #[derive(Drop)]
 pub struct LinkAccount<Rd, W, A: Allocator = Global> {
+    /// How the link begins.
+    pub role: Role,
     /// The link's connection, where its reader got one.
     pub conn: Option<ConnId>,
     /// How the reader ended.
@@ -52,6 +55,15 @@ pub struct LinkTally {
     pub read: Tally,
     /// Those of its writer.
     pub written: Tally,
+}
+
+/// How a link ended of a run whose steps nobody keeps.
+#[derive(Drop)]
+pub enum LinkEnd<Rd, W, A: Allocator = Global> {
+    /// Both bodies have an end.
+    Whole(LinkAccount<Rd, W, A>),
+    /// The run stopped, and this is what they counted.
+    Cut(LinkTally),
 }
 
 /// What a run did whose steps nobody keeps: a `Report` whose lists only proofs read. The actors have the numbers that they have there.

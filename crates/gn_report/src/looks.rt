@@ -1,9 +1,9 @@
-//! Looks at a run that is over: a few for each link, so that its steps needn't be looked at.
+//! Looks at a link as its bodies have ended, and what is counted of the links of a run, so that its steps needn't be looked at.
 
-ghost use Rattle.std.specs.Prelude.{◌≡◌, ◌<◌, ◌^◌, None, Some, ℕ, false, true, length, reverse, IfSome};
-ghost use Rattle.gn_rules.specs.History.{live};
-ghost use Rattle.gn_shake.specs.Greeting.{is_awaited};
-ghost use Rattle.gn_report.specs.Looks.{AreLooked, AreReadBefore, IsDrainedLast, IsLooked};
+ghost use Rattle.std.specs.Prelude.{◌≡◌, ◌≤◌, ◌<◌, [], List, None, Option, Some, ℕ, false, true, slice_get, slice_set};
+ghost use Rattle.gn_report.specs.declared.account.LinkEnd.{LinkEnd};
+ghost use Rattle.gn_report.specs.declared.account.LinkEnd.TheVariants.{Whole};
+ghost use Rattle.gn_report.specs.Looks.{AreCounted, AreRight, IsBefore, IsFrom};
 ghost use Rattle.gn_report.specs.Seen as seen;
 ghost use Rattle.gn_report.specs.BodyEnds as ends;
 ghost use Rattle.gn_bodies.specs.declared.ends.ReaderEnd.TheVariants.{NotLive};
@@ -11,10 +11,8 @@ ghost use Rattle.gn_bodies.specs.declared.ends.WriterEnd.TheVariants.{Drained};
 
 use crate::account::LinkAccount;
 use crate::ends::may_close_first;
-use crate::survey::do_all_call;
 use gn_bodies::{ReaderEnd, WriterEnd};
-use gn_rules::{ConnId, RouterCore};
-use gn_shake::Role;
+use gn_rules::ConnId;
 use std::alloc::Allocator;
 
 /// Whether two connections are the same, or both are none.
@@ -39,154 +37,131 @@ fn is_same_link(end: WriterEnd, written: Option<ConnId>, conn: Option<ConnId>) -
     }
 }
 
-/// Whether a link's connection must be closed when the run is over.
-fn must_be_gone(end: ReaderEnd, written: Option<ConnId>) -> bool
-    ensures { result ≡ seen.must_be_gone end written }
+/// Whether the writer of a link may close first, where the reader found its connection closed.
+fn is_first<Rd, W, A: Allocator>(link: &LinkAccount<Rd, W, A>) -> bool
+    ensures { result ≡ true → link.now.reader_end ≡ NotLive
+        → ends.may_close_first false link.now.role link.now.writer_end ≡ true }
 {
-    match (end, written) {
-        (ReaderEnd::Bytes, None) => false,
+    match link.reader_end {
+        ReaderEnd::NotLive => may_close_first(false, link.role, link.writer_end),
         _ => true,
     }
 }
 
-/// Whether a connection, where there is one, isn't live.
-fn is_gone<C: RouterCore<A>, A: Allocator + Copy>(core: &C, conn: Option<ConnId>) -> bool
-    ensures { result ≡ true → (c : ℕ) → conn ≡ Some c → live (reverse (C.steps core.now)) c ≡ false }
+/// Whether the ends of a link's two bodies go with each other: its writer wrote on its connection, and may close first where its reader
+/// found it closed.
+pub fn is_link_right<Rd, W, A: Allocator>(link: &LinkAccount<Rd, W, A>) -> bool
+    ensures same { result ≡ true → seen.IsSameLink link.now.writer_end link.now.written_on link.now.conn }
+    ensures first { result ≡ true → link.now.reader_end ≡ NotLive
+        → ends.may_close_first false link.now.role link.now.writer_end ≡ true }
 {
-    match conn {
-        Some(c) => !core.is_live(c),
+    is_same_link(link.writer_end, link.written_on, link.conn) && is_first(link)
+}
+
+/// What is counted of the links of a run as each ends: in which order the last steps came of readers and of writers that drained
+/// their connection.
+#[derive(Clone, Copy)]
+pub struct Looks {
+    /// The last place of the readers of links that don't call.
+    read_until: u64,
+    /// That of the readers of links that call.
+    called_until: u64,
+    /// The least of the last places of writers that drained their connection.
+    drained_from: Option<u64>,
+    /// All links call.
+    all_call: bool,
+    /// A reader found its connection closed, and its writer drained it.
+    needs_caller: bool,
+}
+
+/// The greater of two places, where the second counts.
+fn later(counts: bool, so_far: u64, place: u64) -> u64
+    ensures { (so_far ≤ result) × (counts ≡ true → place ≤ result) }
+{
+    if counts && so_far < place {
+        place
+    } else {
+        so_far
+    }
+}
+
+/// The lesser of two places, where the second counts.
+fn earlier(counts: bool, so_far: Option<u64>, place: u64) -> Option<u64>
+    ensures old { (last : ℕ) → IsFrom so_far last → IsFrom result last }
+    ensures new { counts ≡ true → IsFrom result place }
+{
+    match so_far {
+        None if counts => Some(place),
+        Some(least) if counts && place < least => Some(place),
+        _ => so_far,
+    }
+}
+
+/// Whether a place is before this one, where there is one.
+fn is_before(place: u64, from: Option<u64>) -> bool
+    ensures { result ≡ true → IsBefore place from }
+{
+    match from {
+        Some(from) => place < from,
         None => true,
     }
 }
 
-/// Whether nothing was in flight before the step that is the last before this place.
-fn is_drained_last(idle: Option<u64>, last: u64) -> bool
-    ensures { result ≡ true → IsDrainedLast idle last }
+/// Whether a writer drained its connection.
+fn has_drained(end: WriterEnd) -> bool
+    ensures { end ≡ Drained → result ≡ true }
 {
-    match idle {
-        Some(at) => at < last && last - at == 1,
-        None => false,
-    }
+    matches!(end, WriterEnd::Drained)
 }
 
-/// Whether the reader of a link, where it is awaited, made its last step before this place.
-fn is_read_before<Rd, W, A: Allocator>(
-    all_call: bool,
-    role: Role,
-    link: &LinkAccount<Rd, W, A>,
-    last: u64,
-) -> bool
-    ensures { result ≡ true → is_awaited all_call role ≡ true → link.now.last_read < last }
+/// Whether a reader found its connection closed.
+fn has_found_closed(end: ReaderEnd) -> bool
+    ensures { end ≡ NotLive → result ≡ true }
 {
-    !role.is_awaited(all_call) || link.last_read < last
+    matches!(end, ReaderEnd::NotLive)
 }
 
-/// Whether each awaited reader of these links made its last step before this place.
-fn are_read_before<Rd, W, A: Allocator>(
-    all_call: bool,
-    roles: &[Role],
-    links: &[LinkAccount<Rd, W, A>],
-    last: u64,
-) -> bool
-    requires { length links.now ≡ length roles.now }
-    ensures { result ≡ true → AreReadBefore all_call roles.now links.now last }
-{
-    for k in 0..links.len() {
-        if !is_read_before(all_call, roles[k], &links[k], last) {
-            return false;
+impl Looks {
+    /// Of no link.
+    pub fn none<Rd, W, A: Allocator>() -> Looks
+        ensures { AreCounted {Rd = Rd} {W = W} {A = A} result [] }
+    {
+        Looks {
+            read_until: 0,
+            called_until: 0,
+            drained_from: None,
+            all_call: true,
+            needs_caller: false,
         }
     }
-    true
-}
 
-/// Whether a link's connection isn't live, where it must be closed.
-fn is_closed<C: RouterCore<A>, Rd, W, A: Allocator + Copy>(
-    core: &C,
-    link: &LinkAccount<Rd, W, A>,
-) -> bool
-    ensures { result ≡ true → seen.must_be_gone link.now.reader_end link.now.written_on ≡ true
-        → (c : ℕ) → link.now.conn ≡ Some c → live (reverse (C.steps core.now)) c ≡ false }
-{
-    if must_be_gone(link.reader_end, link.written_on) {
-        is_gone(core, link.conn)
-    } else {
-        true
+    /// Both bodies of a link have ended.
+    pub fn count<Rd, W, A: Allocator>(&mut self, link: &LinkAccount<Rd, W, A>)
+        ensures { (links : List (Option (LinkEnd Rd W A))) (k : ℕ) → slice_get links k ≡ Some None
+            → AreCounted self.old links → AreCounted self.new (slice_set links k (Some (Whole link.now))) }
+    {
+        let calls = link.role.is_calling();
+        let drained = has_drained(link.writer_end);
+        let found = has_found_closed(link.reader_end);
+        let read_until = later(!calls, self.read_until, link.last_read);
+        let called_until = later(calls, self.called_until, link.last_read);
+        let drained_from = earlier(drained, self.drained_from, link.last_written);
+        *self = Looks {
+            read_until,
+            called_until,
+            drained_from,
+            all_call: self.all_call & calls,
+            needs_caller: self.needs_caller | (found & drained),
+        };
     }
-}
 
-/// Whether the writer of a link may close first, where the reader found its connection closed.
-fn is_first<Rd, W, A: Allocator>(all_call: bool, role: Role, link: &LinkAccount<Rd, W, A>) -> bool
-    ensures { result ≡ true → link.now.reader_end ≡ NotLive
-        → ends.may_close_first all_call role link.now.writer_end ≡ true }
-{
-    match link.reader_end {
-        ReaderEnd::NotLive => may_close_first(all_call, role, link.writer_end),
-        _ => true,
+    /// Whether each writer that drained its connection made its last step after those of all readers that are awaited, and closed first
+    /// only where it may.
+    pub fn are_right(&self) -> bool
+        ensures { result ≡ true → AreRight self.now }
+    {
+        let read = is_before(self.read_until, self.drained_from);
+        let called = is_before(self.called_until, self.drained_from);
+        read & (!self.all_call | (called & !self.needs_caller))
     }
-}
-
-/// Whether nothing was in flight before the last step of a link's writer, where that drained the connection.
-fn is_drained<Rd, W, A: Allocator>(link: &LinkAccount<Rd, W, A>) -> bool
-    ensures { result ≡ true → link.now.writer_end ≡ Drained → IsDrainedLast link.now.idle link.now.last_written }
-{
-    match link.writer_end {
-        WriterEnd::Drained => is_drained_last(link.idle, link.last_written),
-        _ => true,
-    }
-}
-
-/// Whether all awaited readers made their last step before that of a link's writer, where that drained the connection.
-fn is_later<Rd, W, A: Allocator>(
-    all_call: bool,
-    roles: &[Role],
-    links: &[LinkAccount<Rd, W, A>],
-    link: &LinkAccount<Rd, W, A>,
-) -> bool
-    requires { length links.now ≡ length roles.now }
-    ensures { result ≡ true → link.now.writer_end ≡ Drained
-        → AreReadBefore all_call roles.now links.now link.now.last_written }
-{
-    match link.writer_end {
-        WriterEnd::Drained => are_read_before(all_call, roles, links, link.last_written),
-        _ => true,
-    }
-}
-
-/// Whether a link is as it must be when the run is over.
-fn is_right<C: RouterCore<A>, Rd, W, A: Allocator + Copy>(
-    core: &C,
-    all_call: bool,
-    roles: &[Role],
-    links: &[LinkAccount<Rd, W, A>],
-    role: Role,
-    link: &LinkAccount<Rd, W, A>,
-) -> bool
-    requires { length links.now ≡ length roles.now }
-    ensures { result ≡ true → IsLooked all_call (C.steps core.now) roles.now links.now role link.now }
-{
-    let is_same = is_same_link(link.writer_end, link.written_on, link.conn);
-    let is_closed = is_closed(core, link);
-    let is_first = is_first(all_call, role, link);
-    let is_drained = is_drained(link);
-    let is_later = is_later(all_call, roles, links, link);
-    is_same & is_closed & is_first & is_drained & is_later
-}
-
-/// The first link that isn't as it must be when the run is over.
-pub fn first_wrong<C: RouterCore<A>, Rd, W, A: Allocator + Copy>(
-    core: &C,
-    roles: &[Role],
-    links: &[LinkAccount<Rd, W, A>],
-) -> Option<u32>
-    requires { (length links.now ≡ length roles.now) × (length links.now < 2 ^ 32) }
-    ensures none { result ≡ None → AreLooked (C.steps core.now) roles.now links.now }
-    ensures some { IfSome result (λ k. k < length links.now) }
-{
-    let all_call = do_all_call(roles);
-    for k in 0..links.len() {
-        if !is_right(core, all_call, roles, links, roles[k], &links[k]) {
-            return Some(k as u32);
-        }
-    }
-    None
 }

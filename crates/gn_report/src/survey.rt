@@ -32,7 +32,7 @@ pub struct Survey {
 }
 
 /// Whether all links call.
-pub(crate) fn do_all_call(roles: &[Role]) -> bool
+fn do_all_call(roles: &[Role]) -> bool
     ensures { result ≡ list_all is_calling roles.now }
 {
     roles.iter().all(|role| role.is_calling())

@@ -3,6 +3,8 @@
 
 mod beside;
 mod room;
+mod signal;
 
 pub use beside::{Following, run_beside};
 pub use room::Room;
+pub use signal::{Signal, Waiting};

@@ -76,7 +76,7 @@ impl Watch for Recorder {
         self.size.store(steps, Ordering::SeqCst);
     }
 
-    fn came(&self, link: u32, peer: SocketAddr) {
+    fn came<R: Wait>(&self, _rt: &R, link: u32, peer: SocketAddr) {
         self.learn(3);
         let port = if link == 0 { &self.first } else { &self.second };
         port.store(u32::from(peer.port()), Ordering::SeqCst);

@@ -1,7 +1,7 @@
 -- The faults of a run over TCP.
 use Rattle.std.proofs.Common.{◌≡◌, ◌<◌, ℕ, true, sym, subst, IfErr, Result, Ok, Err}
-use Rattle.gn_threads.specs.Faults.{IsArrivingFault}
-use Rattle.gn_threads.specs.declared.fault.RunFault.{RunFault}
+use Rattle.gn_start.specs.Faults.{IsArrivingFault}
+use Rattle.gn_start.specs.declared.fault.RunFault.{RunFault}
 use Rattle.std.specs.Result.{IsErrAnd}
 
 -- a fault that may come of any run may come of one with this link

@@ -8,7 +8,7 @@ use Rattle.gn_report.specs.declared.report.Report.{Report}
 use Rattle.gn_sockets.specs.TcpHalves.{TcpReading, TcpWriting, half_read, half_written}
 use Rattle.gn_threads.specs.Answers.{FaultViews, IsKeptAnswer, halted_views}
 use Rattle.gn_threads.specs.Courses.{AreTallies}
-use Rattle.gn_threads.specs.Faults.{IsArrivingFault}
+use Rattle.gn_start.specs.Faults.{IsArrivingFault}
 use Rattle.gn_threads.specs.Headline.{AreMadeOf, AreOfOne, Holds}
 use Rattle.gn_threads.specs.declared.halted.Halted.{Halted}
 use Rattle.gn_service.specs.Links.{origins_of, roles_of}

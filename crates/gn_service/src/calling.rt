@@ -1,5 +1,6 @@
 //! How a peer of a run over TCP is called, beside the run's other links.
 
+use crate::accepting::Accepter;
 use crate::asked::Asked;
 use crate::registering::{pause, registered};
 use crate::serving::Serving;
@@ -68,7 +69,7 @@ impl<
         match registered(self.net, self.stops, self.link, found) {
             Ok(found) => {
                 if !found.is_missing() {
-                    self.watch.came(self.link, self.peer);
+                    self.watch.came(self.net, self.link, self.peer);
                 }
                 let found = found
                     .with_idle(self.serving.idle)
@@ -116,7 +117,7 @@ fn call_next<
     }
 }
 
-/// What the threads are started with that call the peers of a run.
+/// What the threads are started with that call the peers of a run, and accept its callers.
 #[derive(Drop)]
 pub(crate) struct Callers<'a, 's, E, N, G, A: Allocator = Global> {
     pub net: &'a N,
@@ -124,6 +125,8 @@ pub(crate) struct Callers<'a, 's, E, N, G, A: Allocator = Global> {
     pub serving: Serving<'s>,
     pub stops: &'a Stops<'a, A>,
     pub watch: &'a G,
+    /// Who accepts callers beside the run, where it takes any number of them.
+    pub accepter: Option<&'a Accepter<'a, N, A>>,
 }
 
 impl<
@@ -157,15 +160,36 @@ impl<
         asked
     }
 
-    /// Starts who calls a peer of the run, as that asks for it; stops the run where its time is over, shuts each link whose peer
+    /// Starts who accepts callers. Where no thread can be made for it the run has failed.
+    fn start_accepter(&self) {
+        if let Some(accepter) = self.accepter {
+            let started = self.scope.spawn(move || accepter.run());
+            if started.is_err() {
+                self.stops.lack_memory();
+            }
+        }
+    }
+
+    /// Where the run is stopped, who accepts callers and who waits for them look again.
+    fn wake_others(&self) {
+        if let Some(accepter) = self.accepter
+            && self.stops.is_stopped()
+        {
+            accepter.doorstep.wake(self.net);
+        }
+    }
+
+    /// Starts who accepts callers, and who calls a peer of the run, as that asks for it; stops the run where its time is over, shuts each link whose peer
     /// has had its grace, and tells who watches that the run goes on. It returns once the run is over.
     pub(crate) fn watch(&self) {
+        self.start_accepter();
         let mut started = 0;
         for _ in self.net.forever() {
             if self.stops.is_over() {
                 return;
             }
             started = self.start_new(started);
+            self.wake_others();
             let tick = self.watch.tick();
             self.stops.turn(self.net, tick);
         }

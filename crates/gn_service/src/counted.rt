@@ -2,7 +2,7 @@
 
 use crate::owed::{Nearness, Owed};
 use crate::stops::Stops;
-use gn_links::{Gate, Half, Made};
+use gn_links::{Gate, Half, Made, Place};
 use gn_rules::Numbers;
 use std::alloc::{Allocator, Global};
 use std::sync::Wait;
@@ -67,21 +67,24 @@ impl<'a, G: Gate, R: Wait + Clock, A: Allocator> Gate for Counted<'a, G, R, A> {
         }
     }
 
-    fn made(&self, link: u32, step: Made) {
-        self.watch.made(link, step);
+    fn made(&self, place: Place, step: Made) {
+        self.watch.made(place, step);
         if let Some(owed) = &self.owed {
             owed.made(step);
             if let Made::Admitted(_) | Made::Busy = step {
-                self.stops.stop.brake().offered(link);
+                self.stops.stop.brake().offered(place.slot);
             }
             self.look(owed);
         }
     }
 
     /// Who watches learns of the links that came.
-    fn ended(&self, link: u32, half: Half) {
-        if self.stops.ended(self.rt, link, half) {
-            self.watch.ended(link, half);
+    fn ended(&self, place: Place, half: Half) {
+        if let Half::Reader = half {
+            self.stops.stop.brake().ended(place.slot);
+        }
+        if self.stops.ended(self.rt, place.link, half) {
+            self.watch.ended(place, half);
         }
     }
 

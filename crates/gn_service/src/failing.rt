@@ -2,14 +2,14 @@
 
 ghost use Rattle.std.specs.Prelude.{◌≡◌, ◌≢◌, ◌⊎◌, ◌≤◌, ℕ, true, IfSome, Some};
 ghost use Rattle.gn_service.specs.Tallies.{tallies_of};
-ghost use Rattle.gn_threads.specs.declared.fault.RunFault.TheVariants.{BadWorkers, HistoryFull};
-ghost use Rattle.gn_threads.specs.Faults.{IsArrivingFault};
+ghost use Rattle.gn_start.specs.declared.fault.RunFault.TheVariants.{BadWorkers, HistoryFull};
+ghost use Rattle.gn_start.specs.Faults.{IsArrivingFault};
 
 use crate::stops::Stops;
 use crate::tallies::tallies_of;
 use gn_report::Account;
 use gn_tcp::{TcpReader, TcpWriter};
-use gn_threads::{Halted, RunFault};
+use gn_threads::{Halted, OpenAccount, RunFault};
 use std::alloc::Allocator;
 
 /// Why the threads that call so many peers end the run, if they do.
@@ -48,6 +48,27 @@ pub(crate) fn failed_at<'s, A: Allocator + Copy>(
         fault,
         history: Some(history),
         links: tallies,
+    }
+}
+
+/// The run of this account of links that came one after another, which has failed.
+pub(crate) fn cut_at<'s, A: Allocator + Copy>(
+    account: OpenAccount<TcpReader<'s>, TcpWriter, A>,
+    fault: RunFault,
+) -> Halted<A>
+    ensures { (result.fault ≡ fault) × (result.history ≡ Some account.entry.history) }
+{
+    let OpenAccount {
+        history,
+        links: _,
+        workers: _,
+        house: _,
+        stats: _,
+    } = account;
+    Halted {
+        fault,
+        history: Some(history),
+        links: None,
     }
 }
 

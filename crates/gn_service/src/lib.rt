@@ -2,13 +2,19 @@
 //! links, gates, actors, bodies and reports.
 #![tactic(auto)]
 
+mod accepting;
+mod any;
 mod asked;
 mod calling;
 mod counted;
+mod doorstep;
+mod entrance;
 mod failing;
 mod host;
 mod live;
+mod newcomers;
 mod owed;
+mod parting;
 mod peers;
 mod ran;
 mod registering;
@@ -19,6 +25,7 @@ mod stop;
 mod stops;
 mod tallies;
 
+pub use any::serve_any;
 pub use gn_bodies::{
     BodyFault, Caller, ReaderDone, ReaderEnd, ReaderTask, WorkerDone, WorkerTask, WriterDone,
     WriterEnd, WriterTask, reader_body, worker_body, writer_body,
@@ -26,18 +33,19 @@ pub use gn_bodies::{
 pub use gn_hub::{Actor, Batch, Door, Hub, Mark, Next, Outgoing, Service, ServiceFault};
 pub use gn_links::{
     Gate, Half, Link, LinkFault, LinkReader, LinkWriter, Made, MemoryLink, MemoryReader,
-    MemoryWriter, NoGate, Watch,
+    MemoryWriter, NoGate, Place, Watch,
 };
 pub use gn_report::{Account, LinkAccount, LinkReport, LinkTally, Report};
 pub use gn_shake::Role;
 pub use gn_tcp::{TcpLink, TcpOrigin, TcpReader, TcpWriter, listen};
 pub use gn_threads::{
-    Arrivals, Asked, Coming, Course, Halted, InMemory, Routing, RunFault, Stopped, run,
-    run_arriving, run_arriving_by, run_arriving_kept, run_by, stopped_by, tell,
+    Arrivals, Asked, Coming, Course, Halted, InMemory, OpenAccount, Routing, RunFault, Stopped,
+    run, run_arriving, run_arriving_by, run_arriving_kept, run_by, stopped_by, tell,
 };
 pub use host::Host;
+pub use parting::Parting;
 pub use ran::Ran;
 pub use serve::{serve_by, serve_kept, serve_on};
-pub use serving::{Serve, Serving};
+pub use serving::{Any, Serve, Serving};
 pub use stop::Stop;
 pub use tallies::tallies_of;

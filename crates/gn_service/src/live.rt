@@ -59,7 +59,7 @@ fn has_come(at: Duration, now: Option<Duration>) -> bool {
     }
 }
 
-/// The links of a run that have come and not ended, and when all of them are shut.
+/// The links of a run that have come and not ended, and when all of them are shut. It has as many slots as there were such links at once.
 #[derive(Drop)]
 pub(crate) struct LiveLinks<A: Allocator = Global> {
     links: Vec<Option<Live>, A>,
@@ -75,7 +75,7 @@ impl<A: Allocator> LiveLinks<A> {
         }
     }
 
-    /// A link has come.
+    /// A link has come. It takes the slot of one that has ended, where there is such a one.
     pub(crate) fn add(&mut self, link: u32, stopper: TcpStopper) -> Result<(), AllocError> {
         let live = Live {
             link,
@@ -85,6 +85,12 @@ impl<A: Allocator> LiveLinks<A> {
             due: None,
             is_shut: false,
         };
+        for slot in &mut self.links {
+            if slot.is_none() {
+                *slot = Some(live);
+                return Ok(());
+            }
+        }
         self.links.push(Some(live))?;
         Ok(())
     }

@@ -1,7 +1,7 @@
 //! How a link that has come is registered, so that it ends with its run.
 
 ghost use Rattle.std.specs.Prelude.{◌≡◌, ℕ, true, IfErr, IfOk};
-ghost use Rattle.gn_threads.specs.Faults.{IsArrivingFault};
+ghost use Rattle.gn_start.specs.Faults.{IsArrivingFault};
 
 use crate::stops::Stops;
 use gn_tcp::{TcpLink, TcpStopper};
@@ -20,7 +20,7 @@ pub(crate) fn pause<N: Clock>(net: &N) {
 }
 
 /// Waits until the link has all handles that it needs, and takes the one that ends it. None where the run is stopped meanwhile.
-fn stopper_of<N: Clock, A: Allocator>(
+pub(crate) fn stopper_of<N: Clock, A: Allocator>(
     net: &N,
     stops: &Stops<'_, A>,
     found: &mut TcpLink<'static>,

@@ -5,8 +5,10 @@ ghost use Rattle.gn_rules.specs.Limits.{most_links};
 ghost use Rattle.gn_threads.specs.Courses.{AreStepsOf, IsLeft};
 ghost use Rattle.gn_service.specs.Serves.{IsTallied};
 
+use crate::accepting::Accepter;
 use crate::calling::Callers;
 use crate::counted::Counted;
+use crate::entrance::Entrance;
 use crate::failing::{call_fault, failed_at, failed_too};
 use crate::host::Host;
 use crate::peers::{Peers, roles_of};
@@ -71,7 +73,7 @@ where
         let stops = &stops;
         let ((), answer) = thread::join(
             rt,
-            || watch_and_call(rt, serving, stops, watch),
+            || watch_and_call(rt, serving, stops, watch, None),
             move ||
                 ensures served { let s = self.entry.serve.now in
                     IsTallied s.batch s.config.now s.peers.now s.accept s.workers result.0 }
@@ -128,14 +130,16 @@ where
         begin(watch, numbers, serve.accept, stops);
         let gate = Counted::new(rt, watch, stops, numbers, links as u32);
         let arrivals = Peers {
-            net: rt,
-            cells: rt.alloc(),
-            listener: serve.listener,
+            entrance: Entrance {
+                net: rt,
+                cells: rt.alloc(),
+                listener: serve.listener,
+                stops,
+            },
             called: peers,
             next: 0,
             left: links as u32,
             serving: serve.limits,
-            stops,
             watch,
         };
         let asked = Asked {
@@ -157,12 +161,19 @@ fn begin<G: Watch, A: Allocator>(watch: &G, numbers: &Numbers, accept: u32, stop
     }
 }
 
-/// Watches a run, and calls its peers, until it is over.
-fn watch_and_call<
+/// Watches a run, and calls its peers, until it is over; so long somebody accepts its callers, where it takes any number of them.
+pub(crate) fn watch_and_call<
+    'x,
     G: Watch + Sync,
     A: Allocator + Copy + Send + Sync,
     R: Threads + Wait + Net<Listener = TcpListener, Stream = TcpStream> + Clock + Sync,
->(rt: &R, serving: &Serving<'_>, stops: &Stops<'_, A>, watch: &G) {
+>(
+    rt: &'x R,
+    serving: &Serving<'_>,
+    stops: &'x Stops<'x, A>,
+    watch: &'x G,
+    accepter: Option<&'x Accepter<'x, R, A>>,
+) {
     let serving = *serving;
     thread::scope(thread::scope_env(), rt, |scope| {
         let callers = Callers {
@@ -171,6 +182,7 @@ fn watch_and_call<
             serving,
             stops,
             watch,
+            accepter,
         };
         callers.watch();
     });

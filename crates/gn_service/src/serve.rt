@@ -5,7 +5,7 @@ ghost use Rattle.gn_rules.specs.Limits.{most_links};
 ghost use Rattle.gn_report.specs.Accounts.{report_of};
 ghost use Rattle.gn_threads.specs.Answers.{IsRunAnswer, halted_views, stopped_views};
 ghost use Rattle.gn_threads.specs.Courses.{AreTallies, IsLeft};
-ghost use Rattle.gn_threads.specs.Faults.{IsArrivingFault};
+ghost use Rattle.gn_start.specs.Faults.{IsArrivingFault};
 ghost use Rattle.gn_threads.specs.Headline.{AreMadeOf, AreOfOne, Holds};
 ghost use Rattle.gn_service.specs.Links.{origins_of, roles_of};
 ghost use Rattle.gn_sockets.specs.TcpHalves.{half_read, half_written};

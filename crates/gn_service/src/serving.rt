@@ -1,5 +1,7 @@
 //! What a run over TCP is asked for, and how long it goes on and waits for its peers.
 
+ghost use Rattle.std.specs.Prelude.{◌≡◌};
+
 use crate::stop::Stop;
 use gn_hub::Batch;
 use gn_rules::Config;
@@ -24,18 +26,51 @@ pub struct Serving<'s> {
 }
 
 /// What a run over TCP is asked for, whatever its router: where it is called, by which configuration it routes, the peers that it calls
-/// and how many more call it, how many workers route, how long it goes on and waits, who watches it, and how many packets a writer
-/// takes at once at most.
+/// and how many more call it, or `Any`, how many workers route, how long it goes on and waits, who watches it, and how many packets a
+/// writer takes at once at most.
 #[derive(Drop)]
-pub struct Serve<'a, 's, G> {
+pub struct Serve<'a, 's, G, M = u32> {
     pub listener: &'a TcpListener,
     pub config: &'a Config,
     pub peers: &'a [SocketAddr],
-    pub accept: u32,
+    pub accept: M,
     pub workers: u32,
     pub limits: Serving<'s>,
     pub watch: &'a G,
     pub batch: Batch,
+}
+
+impl<'a, 's, G, M> Serve<'a, 's, G, M> {
+    /// The same, with this in the place of how many call.
+    pub fn with<M2>(&self, accept: M2) -> Serve<'a, 's, G, M2>
+        ensures { result ≡ record {
+          listener = self.now.listener;
+          config = self.now.config;
+          peers = self.now.peers;
+          accept = accept;
+          workers = self.now.workers;
+          limits = self.now.limits;
+          watch = self.now.watch;
+          batch = self.now.batch;
+        } }
+    {
+        Serve {
+            listener: self.listener,
+            config: self.config,
+            peers: self.peers,
+            accept,
+            workers: self.workers,
+            limits: self.limits,
+            watch: self.watch,
+            batch: self.batch,
+        }
+    }
+}
+
+/// Any number of callers, one after another. Nothing is kept of a link that has ended, but what this one learns of it.
+#[derive(Drop)]
+pub struct Any<'a, T> {
+    pub leaving: &'a T,
 }
 
 /// The seconds of grace that a run gives that is told nothing else.

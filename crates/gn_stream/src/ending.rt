@@ -6,7 +6,7 @@ ghost use Rattle.gn_stream.specs.Unfinished.{ending_after};
 use gn_text::is_word;
 
 /// How the lines of a text end that are read.
-#[derive(Clone, Copy, Debug, PartialEq, Eq)]
+#[derive(Clone, Copy)]
 pub(crate) enum Ending {
     /// As they stand.
     Own,

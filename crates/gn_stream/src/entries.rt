@@ -16,7 +16,7 @@ use gn_text::{
 use std::alloc::{Allocator, Global};
 
 /// Which line of a history comes next, of those that aren't skipped.
-#[derive(Clone, Copy, Debug, PartialEq, Eq)]
+#[derive(Clone, Copy)]
 pub enum Due {
     /// The title.
     Title,
@@ -31,7 +31,7 @@ pub enum Due {
 }
 
 /// What a line of a history says.
-#[derive(Debug, Drop)]
+#[derive(Drop)]
 pub enum Entry<A: Allocator = Global> {
     /// Nothing: it is empty or a comment.
     Skipped,

@@ -2,14 +2,11 @@
 #![tactic(auto)]
 
 mod link;
-mod seen;
-mod sockets;
 mod stopper;
 mod unmet;
 
 pub use gn_sockets::{Socket, TcpOrigin, TcpReader, TcpWriter};
 pub use gn_waits::{Brake, Call, TcpCall};
 pub use link::{TcpLink, listen};
-pub use sockets::Sockets;
 pub use stopper::{ListenerStopper, TcpStopper};
 pub use unmet::Unmet;

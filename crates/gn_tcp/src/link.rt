@@ -231,12 +231,16 @@ impl<'s> TcpLink<'s> {
         self
     }
 
-    /// The link, whose reads complete one descriptor at most once this is set, which learns what they gave; `None`: they give what
-    /// there is room for.
-    pub fn with_brake(mut self, brake: Option<&'s Brake>) -> Self
+    /// The link, whose reads complete one descriptor at most once this is set, which learns what those of the link in this slot gave;
+    /// `None`: they give what there is room for.
+    pub fn with_brake(mut self, brake: Option<&'s Brake>, slot: u32) -> Self
         ensures { result ≡ self.entry }
     {
-        self.ways = Ways { brake, ..self.ways };
+        self.ways = Ways {
+            brake,
+            slot,
+            ..self.ways
+        };
         self
     }
 
@@ -305,10 +309,6 @@ impl<'s> Link for TcpLink<'s> {
             origin,
             ways,
         } = self;
-        let ways = Ways {
-            link: origin.link,
-            ..ways
-        };
         halves(socket, other, peer, role, origin, ways)
     }
 }

@@ -10,8 +10,8 @@ use Rattle.gn_report.specs.declared.account.Account.{Account}
 use Rattle.gn_report.specs.declared.report.Report.{Report}
 use Rattle.gn_report.specs.Accounts.{report_of}
 use Rattle.gn_report.specs.Told.{Tells}
-use Rattle.gn_threads.specs.declared.fault.RunFault.{RunFault}
-use Rattle.gn_threads.specs.declared.fault.RunFault.TheVariants.{BadWorkers, NoMemory}
+use Rattle.gn_start.specs.declared.fault.RunFault.{RunFault}
+use Rattle.gn_start.specs.declared.fault.RunFault.TheVariants.{BadWorkers, NoMemory}
 use Rattle.gn_threads.specs.declared.halted.Halted.{Halted}
 use Rattle.gn_threads.specs.declared.stopped.Stopped.{Stopped}
 use Rattle.gn_threads.specs.Answers.{AreArrived, FaultViews, IsKeptAnswer, IsRunAnswer, halted_views, stopped_views}

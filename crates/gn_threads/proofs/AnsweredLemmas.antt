@@ -14,8 +14,8 @@ use Rattle.gn_report.specs.declared.unkept.Unkept.{Unkept}
 use Rattle.gn_report.specs.Accounts.{report_of}
 use Rattle.gn_report.specs.Actors.{AreOwn}
 use Rattle.gn_report.specs.Told.{Tells}
-use Rattle.gn_threads.specs.declared.fault.RunFault.{RunFault}
-use Rattle.gn_threads.specs.declared.fault.RunFault.TheVariants.{BadWorkers, HistoryFull, NoMemory}
+use Rattle.gn_start.specs.declared.fault.RunFault.{RunFault}
+use Rattle.gn_start.specs.declared.fault.RunFault.TheVariants.{BadWorkers, HistoryFull, NoMemory}
 use Rattle.gn_threads.specs.declared.halted.Halted.{Halted}
 use Rattle.gn_threads.specs.declared.stopped.Stopped.{Stopped}
 use Rattle.gn_threads.specs.Courses.{AreStepsOf, IsLeft}

@@ -1,87 +1,179 @@
--- Actors who are home have the receipts of their own steps.
-use Rattle.std.proofs.Common.{◌≡◌, ◌<◌, ◌≤◌, ◌+◌, ◌^◌, ◌++◌, ◌∷◌, ◌&&◌, ◌==◌, ℕ, suc, Bool, true, false, cond, List, [], length, map, get_or, refl, sym, ap, ◌∙◌, subst, arith}
-use Rattle.std.specs.List.{list_all}
-use Rattle.std.proofs.lemmas.Bool.{lt-ltb}
-use Rattle.std.proofs.lemmas.List.{get_or-append-add, get_or-map, get_or_append_left, length-append}
-use Rattle.gn_rules.specs.declared.receipt.Receipt.{Receipt}
-use Rattle.gn_rules.specs.declared.receipt.Step.{Step}
-use Rattle.gn_rules.specs.History.{mine, mine_from}
-use Rattle.gn_actors.specs.ActorState.{ActorState, new_actor}
-use Rattle.gn_actors.specs.Home.{AreWhole}
-use Rattle.gn_actors.specs.Tallies.{tally_of}
-use Rattle.gn_actors.specs.declared.tally.Tally.{Tally}
-use Rattle.gn_report.specs.declared.account.LinkTally.{LinkTally}
-use Rattle.gn_threads.specs.Courses.{AreTallies}
-use Rattle.gn_threads.specs.Reported.{came_list, is_short, receipts_in}
-use Rattle.gn_threads.specs.Tallied.{tally_read, tally_written}
-use Rattle.gn_threads.specs.declared.came.Came.{Came}
-use Rattle.gn_threads.proofs.HomecomingLemmas.{as_long}
+-- The links of a run that came in order are those that were to come.
+use Rattle.std.proofs.Common.{◌≡◌, ◌+◌, ◌<◌, ◌≤◌, ◌^◌, ◌∙◌, ◌∷◌, ℕ, Bool, true, false, zero, suc, List, [], length, map, take, Option, Some, None, Result, Ok, Err, vec_len, refl, sym, ap, subst, arith}
+use Rattle.std.specs.List.{slice_get}
+use Rattle.std.specs.Prelude.{IfOk, IfSome}
+use Rattle.std.proofs.lemmas.List.{length-map}
+use Rattle.gn_shake.specs.declared.role.Role.{Role}
+use Rattle.gn_report.specs.Ended.{LinkViews}
+use Rattle.gn_report.specs.declared.account.LinkAccount.{LinkAccount}
+use Rattle.gn_report.specs.declared.account.LinkEnd.{LinkEnd}
+use Rattle.gn_report.specs.declared.account.LinkEnd.TheVariants.{Whole}
+use Rattle.gn_report.specs.Accounts.{report_of}
+use Rattle.gn_report.specs.declared.account.Account.{Account}
+use Rattle.gn_report.specs.declared.kept.Kept.{Kept}
+use Rattle.gn_rules.specs.declared.config.Config.{Config}
+use Rattle.gn_rules.specs.Limits.{IsCrew, most_links}
+use Rattle.gn_actors.specs.Registry.{registry_state, with_one_out}
+use Rattle.gn_actors.specs.Who.{most_beside}
+use Rattle.gn_actors.specs.declared.who.Numbering.{Numbering}
+use Rattle.gn_actors.specs.declared.who.Numbering.TheVariants.{Known, Open}
+use Rattle.gn_actors.specs.declared.who.Who.TheVariants.{House}
+use Rattle.gn_start.specs.Numbers.{workers_of}
+use Rattle.gn_start.specs.Over.{AllEnded, HaveCome}
+use Rattle.gn_start.specs.declared.fault.RunFault.{RunFault}
+use Rattle.gn_start.specs.declared.opening.Opened.{Opened}
+use Rattle.gn_threads.specs.Answers.{AreArrived}
+use Rattle.gn_threads.specs.Headline.{AreMadeOf, Holds}
+use Rattle.gn_start.specs.Faults.{IsArrivingFault}
+use Rattle.gn_threads.specs.OpenRuns.{IsOpenAnswer, IsOpenEnded, IsOpenFault}
+use Rattle.gn_threads.specs.declared.open_account.OpenAccount.{OpenAccount}
+use Rattle.std.proofs.lemmas.Simd.{map-map}
+use Rattle.gn_threads.specs.Left.{IsFaultAt, IsOpenedFor}
+use Rattle.gn_threads.proofs.HoldsLemmas.{are_arrived, are_made}
+use Rattle.gn_start.specs.declared.over.Over.{Over}
+use Rattle.gn_threads.proofs.ListLemmas.{all_of, first_of}
 
--- an actor has no more receipts than there are steps
-mine_few : {A : Type 0} (a i : ℕ) (steps : List (Step A)) → length (mine_from a i steps) ≤ length steps
-mine_few a i [] = omega arith
-mine_few {A} a i (step ∷ steps) =
-    let rest = mine_few a (i + 1) steps in
-    elim (step.actor == a) as (λ b. length (cond b (record { index = i; event = step.event; reply = step.reply } ∷ mine_from a (i + 1) steps) (mine_from a (i + 1) steps)) ≤ suc (length steps)) [
-      | true ↦ omega (arith, rest)
-      | false ↦ omega (arith, rest)
-    ]
+-- nothing stands past the end
+pub get_past : {X : Type 0} (xs : List X) → slice_get xs (length xs) ≡ None
+get_past [] = refl
+get_past (x ∷ xs) = get_past xs
 
-short_as : {A : Type 0} (all : List (Came A)) (actors : List (ActorState A)) → map came_list all ≡ map receipts_in actors
-    → ((k : ℕ) (d : ActorState A) → k < length actors → length (receipts_in (get_or actors k d)) < 2 ^ 63) → list_all is_short all ≡ true
-short_as [] actors same few = refl
-short_as (came ∷ all) [] same few = absurd (omega (arith, ap length same))
-short_as {A} (came ∷ all) (me ∷ actors) same few =
-    let both : came_list came ∷ map came_list all ≡ receipts_in me ∷ map receipts_in actors = same in
-    let first : came_list came ≡ receipts_in me = cc in
-    let rest : map came_list all ≡ map receipts_in actors = cc in
-    let low : length (came_list came) < 2 ^ 63 = subst (λ (xs : List (Receipt A)). length xs < 2 ^ 63) (sym first) (few 0 me (omega arith)) in
-    ap (λ (b : Bool). b && list_all is_short all) (lt-ltb (length (came_list came)) (2 ^ 63) low) ∙ short_as all actors rest (λ k d below. few (suc k) d (omega (arith, below)))
+-- what stands in a list of images is the image of what stands there
+from_map : {X Y : Type 0} (f : X → Y) (xs : List X) (k : ℕ) (y : Y) → slice_get (map f xs) k ≡ Some y → (x : X) × (slice_get xs k ≡ Some x) × (f x ≡ y)
+from_map f [] k y is = absurd (cc)
+from_map f (x ∷ xs) zero y is = (x, refl, cc)
+from_map f (x ∷ xs) (suc k) y is = from_map f xs k y is
 
--- so vectors could hold the receipts of each who is home
-pub all_short : {A : Type 0} (steps : List (Step A)) (actors : List (ActorState A)) (all : List (Came A)) → AreWhole steps actors → map came_list all ≡ map receipts_in actors
-    → length steps < 2 ^ 32 → list_all is_short all ≡ true
-all_short {A} steps actors all whole same few =
-    short_as all actors same (λ k d below. subst (λ (xs : List (Receipt A)). length xs < 2 ^ 63) (sym (whole.own k d below)) (omega (arith, mine_few k 0 steps, few)))
+to_map : {X Y : Type 0} (f : X → Y) (xs : List X) (k : ℕ) (x : X) → slice_get xs k ≡ Some x → slice_get (map f xs) k ≡ Some (f x)
+to_map f [] k x is = absurd (cc)
+to_map f (x ∷ xs) zero y is = let same : x ≡ y = cc in ap (λ z. Some (f z)) same
+to_map f (x ∷ xs) (suc k) y is = to_map f xs k y is
 
--- each who is home has the receipts of the place's own steps
-came_own : {A : Type 0} (steps : List (Step A)) (actors : List (ActorState A)) (all : List (Came A)) → AreWhole steps actors → map came_list all ≡ map receipts_in actors
-    → (k : ℕ) (d : Came A) → k < length all → came_list (get_or all k d) ≡ mine steps k
-came_own {A} steps actors all whole same k d below =
-    let none : List (Receipt A) = [] in
-    let first : ActorState A = new_actor 0 in
-    let low : k < length actors = omega (arith, below, as_long came_list receipts_in all actors same) in
-    sym (get_or-map came_list all k d none below) ∙ ap (λ xs. get_or xs k none) same ∙ get_or-map receipts_in actors k first none low ∙ whole.own k first low
+module _ {Rd W K B A O F : Type 0} (views : LinkViews Rd W O) (foreknown : O → F) (roles : List Role) (coming : List F) (over : Over Rd W K B A)
+    (came : HaveCome views foreknown true (λ k. slice_get roles k) (λ k. slice_get coming k) over) (here : over.is_lost ≡ false) (well : over.fault ≡ None) (accounts : List (LinkAccount Rd W A))
+    (are : over.links.items ≡ map (λ link. Whole link) accounts) where
+  -- the end of a link that has an account
+  abbrev ended_whole : LinkAccount Rd W A → LinkEnd Rd W A
+  ended_whole link = Whole link
 
--- what is told of each of these is what its receipts count
-told_at : {A : Type 0} (f : LinkTally → Tally) (tallies : List LinkTally) (all : List (Came A)) → map f tallies ≡ map (λ came. tally_of (came_list came)) all
-    → (k : ℕ) (d : LinkTally) (e : Came A) → k < length all → f (get_or tallies k d) ≡ tally_of (came_list (get_or all k e))
-told_at {A} f tallies all same k d e below =
-    let count : Came A → Tally = λ came. tally_of (came_list came) in
-    let low : k < length tallies = omega (arith, below, as_long f count tallies all same) in
-    sym (get_or-map f tallies k d (f d) low) ∙ ap (λ xs. get_or xs k (f d)) same ∙ get_or-map count all k e (f d) below
+  -- the account of a link
+  ended_so : (k : ℕ) (link : LinkAccount Rd W A) → slice_get accounts k ≡ Some link → slice_get over.links.items k ≡ Some (Whole link)
+  ended_so k link is =
+      let whole : LinkAccount Rd W A → LinkEnd Rd W A = λ a. Whole a in
+      ap (λ (es : List (LinkEnd Rd W A)). slice_get es k) are ∙ to_map whole accounts k link is
 
--- the tallies of links are those of their readers and writers, who came first
-pub tallied_of : {A : Type 0} (steps : List (Step A)) (actors : List (ActorState A)) (all readers writers workers : List (Came A)) (house : Came A) (links : ℕ) (tallies : List LinkTally)
-    → all ≡ readers ++ (writers ++ (workers ++ house ∷ [])) → map came_list all ≡ map receipts_in actors → AreWhole steps actors → length readers ≡ links → length writers ≡ links
-    → map tally_read tallies ≡ map (λ came. tally_of (came_list came)) readers → map tally_written tallies ≡ map (λ came. tally_of (came_list came)) writers
-    → AreTallies steps links tallies
-tallied_of {A} steps actors all readers writers workers house links tallies is same whole reading writing read written =
-    let rest : List (Came A) = writers ++ (workers ++ house ∷ []) in
-    let long : length all ≡ length readers + length rest = ap length is ∙ length-append readers rest in
-    let more : length rest ≡ length writers + length (workers ++ house ∷ []) = length-append writers (workers ++ house ∷ []) in
-    let own = came_own steps actors all whole same in
-    let count : Came A → Tally = λ came. tally_of (came_list came) in
-    record {
-      many = as_long tally_read count tallies readers read ∙ reading;
-      read = λ k d below.
-          let low : k < length readers = omega (arith, below, reading) in
-          let here : get_or all k house ≡ get_or readers k house = ap (λ xs. get_or xs k house) is ∙ get_or_append_left readers rest house k low in
-          told_at tally_read tallies readers read k d house low ∙ ap count (sym here) ∙ ap (λ own. tally_of own) (own k house (omega (arith, low, long)));
-      written = λ k d below.
-          let low : k < length writers = omega (arith, below, writing) in
-          let there : get_or rest k house ≡ get_or writers k house = get_or_append_left writers (workers ++ house ∷ []) house k low in
-          let here : get_or all (length readers + k) house ≡ get_or writers k house = ap (λ xs. get_or xs (length readers + k) house) is ∙ get_or-append-add readers rest k house ∙ there in
-          let at : get_or all (links + k) house ≡ get_or writers k house = ap (λ n. get_or all (n + k) house) (sym reading) ∙ here in
-          told_at tally_written tallies writers written k d house low ∙ ap count (sym at) ∙ ap (λ own. tally_of own) (own (links + k) house (omega (arith, low, long, more, reading)));
-    }
+  -- they came in these roles, all of them
+  pub roles_came : map (λ (link : LinkAccount Rd W A). link.role) accounts ≡ roles
+  roles_came =
+      let role : LinkAccount Rd W A → Role = λ link. link.role in
+      let whole : LinkAccount Rd W A → LinkEnd Rd W A = λ a. Whole a in
+      let many : length over.links.items ≡ length (map role accounts) = omega (arith, ap length are, length-map accounts whole, length-map accounts role) in
+      all_of (map role accounts) roles
+      (λ k r there.
+      let one = from_map role accounts k r there in
+      came.roles_are here k one.0 (ended_so k one.0 one.1) ∙ ap (λ x. Some x) one.2)
+      (ap (λ n. slice_get roles n) (sym many) ∙ came.no_more well refl)
+
+  pub many_came : length over.links.items ≡ length roles
+  many_came = omega (arith, ap length are, length-map accounts ended_whole, length-map accounts (λ (link : LinkAccount Rd W A). link.role), ap length roles_came)
+
+  -- and of the links that were to come
+  pub made_came : map (λ (link : LinkAccount Rd W A). foreknown (views.reader_of link.reader)) accounts ≡ take (length roles) coming
+  made_came =
+      let known : LinkAccount Rd W A → F = λ link. foreknown (views.reader_of link.reader) in
+      let many : length (map known accounts) ≡ length roles = omega (arith, length-map accounts known, length-map accounts (λ (link : LinkAccount Rd W A). link.role), ap length roles_came) in
+      first_of (map known accounts) coming
+      (λ k f there.
+      let one = from_map known accounts k f there in
+      came.were_to_come here k one.0 (ended_so k one.0 one.1) ∙ ap (λ x. Some x) one.2)
+      ∙ ap (λ n. take n coming) many
+
+-- a run of so many links, which come in these roles, is opened for them
+pub opened_for : {B A : Type 0} (roles : List Role) (n workers : ℕ) (opened : Opened B A) → opened.registry ≡ registry_state [] 0 [] → (opened.reception.made.intakes ≡ 0) × (opened.reception.is_open ≡ true)
+    → vec_len opened.outlets ≡ workers → opened.numbering ≡ Known n workers → n ≡ length roles → IsCrew workers → length roles ≤ most_links → IsOpenedFor true (λ k. slice_get roles k) opened
+opened_for roles n workers opened registry reception working numbering many crew few = record {
+  registry = registry;
+  reception = reception;
+  crew = (working ∙ ap workers_of (sym numbering), subst (λ w. IsCrew w) (sym working) crew);
+  known = λ links w is.
+      let same : Known n workers ≡ Known links w = sym numbering ∙ is in
+      let here : n ≡ links = cc in
+      (omega (arith, few, many, here), ap (λ k. slice_get roles k) (sym here ∙ many) ∙ get_past roles);
+  unknown = λ w is. let no : Known n workers ≡ Open w = sym numbering ∙ is in absurd (cc);
+}
+
+-- the house of an opened run has a number
+few_numbers : (m : Numbering) (out : ℕ) → ((links workers : ℕ) → m ≡ Known links workers → links ≤ most_links) → out ≡ workers_of m → IsCrew out → most_beside m House < 2 ^ 32
+few_numbers (Known n v) out known working crew = omega (arith, known n v refl, working, crew.greatest)
+few_numbers (Open v) out known working crew = omega arith
+
+pub house_numbered : {B A : Type 0} (is_known : Bool) (roles : ℕ → Option Role) (opened : Opened B A) → IsOpenedFor is_known roles opened → most_beside opened.numbering House < 2 ^ 32
+house_numbered is_known roles opened ready = few_numbers opened.numbering (vec_len opened.outlets) (λ links workers is. (ready.known links workers is).0) ready.crew.0 ready.crew.1
+
+module _ {Rd W B A O F : Type 0} (turns batch : ℕ) (views : LinkViews Rd W O) (foreknown : O → F) (s : Config) (roles : List Role) (coming : List F) (workers : ℕ) (over : Over Rd W (Kept Rd W A) B A)
+    (came : HaveCome views foreknown true (λ k. slice_get roles k) (λ k. slice_get coming k) over) (fault : Option RunFault) (stopped : fault ≡ None → over.fault ≡ None) (lost : over.fault ≡ None → over.is_lost ≡ false) where
+  -- the headline holds of these roles
+  pub holds_came : {E : Type 0} (answer : Result (Account Rd W A) E) → IfOk answer (λ account. (fault ≡ None) × (over.links.items ≡ map (λ link. Whole link) account.links.items))
+      → IfOk answer (λ account. Holds batch views.reads views.writes s (map (λ link. link.role) account.links.items) workers (report_of account))
+      → IfOk answer (λ account. Holds batch views.reads views.writes s roles workers (report_of account))
+  holds_came (Ok account) links holds =
+      subst (λ rs. Holds batch views.reads views.writes s rs workers (report_of account)) (roles_came views foreknown roles coming over came (lost (stopped links.0)) (stopped links.0) account.links.items links.1) holds
+  holds_came (Err e) links holds = tt
+
+  -- its links were made of those that were to come
+  pub made_of_came : {E : Type 0} (answer : Result (Account Rd W A) E) → IfOk answer (λ account. (fault ≡ None) × (over.links.items ≡ map (λ link. Whole link) account.links.items))
+      → IfOk answer (λ account. AllEnded turns batch views account.history.items account.links.items)
+      → IfOk answer (λ account. AreMadeOf (λ reader. foreknown (views.reader_of reader)) (λ writer. foreknown (views.writer_of writer)) (take (length roles) coming) (report_of account))
+  made_of_came (Ok account) links ended =
+      are_made turns batch views account ended foreknown (take (length roles) coming) (made_came views foreknown roles coming over came (lost (stopped links.0)) (stopped links.0) account.links.items links.1)
+  made_of_came (Err e) links ended = tt
+
+  -- and each of its readers read its own
+  pub arrived_came : {E : Type 0} (answer : Result (Account Rd W A) E) → IfOk answer (λ account. AllEnded turns batch views account.history.items account.links.items)
+      → IfOk answer (λ account. AreArrived views.reads views.gives views.reader_of views.writer_of (report_of account))
+  arrived_came (Ok account) ended = are_arrived turns batch views account ended
+  arrived_came (Err e) ended = tt
+
+-- the fault of a run of which nobody knew how many links come
+some_fault : (has_peers : Bool) (came workers : ℕ) (fault : Option RunFault) → IfSome fault (λ f. IsArrivingFault has_peers (came + 1) workers f) → IfSome fault (λ f. IsOpenFault has_peers workers f)
+some_fault has_peers came workers None may = tt
+some_fault has_peers came workers (Some f) may = (came + 1, may)
+
+pub open_fault : {Rd W K B A : Type 0} (has_peers : Bool) (m : Numbering) (over : Over Rd W K B A) (workers : ℕ) (fault : Option RunFault) → m ≡ Open workers → IsFaultAt has_peers m over fault
+    → IfSome fault (λ f. IsOpenFault has_peers workers f)
+open_fault has_peers m over workers fault is at = some_fault has_peers over.came workers fault (subst (λ n. IsFaultAt has_peers n over fault) is at).may
+
+-- and of one of so many links that are known
+pub known_fault : {Rd W K B A : Type 0} (has_peers : Bool) (m : Numbering) (over : Over Rd W K B A) (links workers : ℕ) (fault : Option RunFault) → m ≡ Known links workers → IsFaultAt has_peers m over fault
+    → IfSome fault (λ f. IsArrivingFault has_peers links workers f)
+known_fault has_peers m over links workers fault is at = (subst (λ n. IsFaultAt has_peers n over fault) is at).may
+
+module _ {Rd W K B A O F : Type 0} (turns batch : ℕ) (views : LinkViews Rd W O) (foreknown : O → F) (s : Config) (workers : ℕ) (over : Over Rd W K B A) (is_known : Bool) (roles : ℕ → Option Role) (coming : ℕ → Option F)
+    (came : HaveCome views foreknown is_known roles coming over) (fault : Option RunFault) (stopped : fault ≡ None → over.fault ≡ None) (lost : over.fault ≡ None → over.is_lost ≡ false) where
+  -- its links are the first of those that were to come
+  pub open_answered : {E : Type 0} (answer : Result (OpenAccount Rd W A) E) → IfOk answer (λ account. (fault ≡ None) × (over.links.items ≡ map (λ link. Whole link) account.links.items))
+      → IfOk answer (λ account. IsOpenEnded views batch s workers account) → IfOk answer (λ account. IsOpenAnswer views foreknown batch s workers roles coming account)
+  open_answered (Ok account) links ended =
+      let whole : LinkAccount Rd W A → LinkEnd Rd W A = λ a. Whole a in
+      let here = lost (stopped links.0) in
+      let at : (k : ℕ) (link : LinkAccount Rd W A) → slice_get account.links.items k ≡ Some link → slice_get over.links.items k ≡ Some (whole link) = λ k link is.
+      ap (λ (es : List (LinkEnd Rd W A)). slice_get es k) links.1 ∙ to_map whole account.links.items k link is in
+      record { ended = ended; roles_are = λ k link is. came.roles_are here k link (at k link is); were_to_come = λ k link is. came.were_to_come here k link (at k link is) }
+  open_answered (Err e) links ended = tt
+
+  -- who keeps what its links did keeps the accounts of all of them
+  pub open_kept : {E : Type 0} (keeps : K → List (Option (LinkEnd Rd W A)) → Type 0) (keeper : K) (answer : Result (OpenAccount Rd W A) E) → keeper ≡ over.keeper
+      → (over.is_lost ≡ false → keeps over.keeper (map (λ end. Some end) over.links.items)) → IfOk answer (λ account. (fault ≡ None) × (over.links.items ≡ map (λ link. Whole link) account.links.items))
+      → IfOk answer (λ account. keeps keeper (map (λ link. Some (Whole link)) account.links.items))
+  open_kept keeps keeper (Ok account) same kept links =
+      let some : LinkEnd Rd W A → Option (LinkEnd Rd W A) = λ end. Some end in
+      let whole : LinkAccount Rd W A → LinkEnd Rd W A = λ a. Whole a in
+      let all = ap (map some) links.1 ∙ map-map some whole account.links.items in
+      subst (λ k. keeps k (map (λ link. Some (Whole link)) account.links.items)) (sym same) (subst (λ ends. keeps over.keeper ends) all (kept (lost (stopped links.0))))
+  open_kept keeps keeper (Err e) same kept links = tt
+
+-- what is known of the links of a run is known of them with its house out
+pub still_come : {Rd W K B A O F : Type 0} (views : LinkViews Rd W O) (foreknown : O → F) (is_known : Bool) (roles : ℕ → Option Role) (coming : ℕ → Option F) (was now : Over Rd W K B A)
+    → now ≡ record was { registry = with_one_out was.registry } → HaveCome views foreknown is_known roles coming was → HaveCome views foreknown is_known roles coming now
+still_come views foreknown is_known roles coming was now is came =
+    subst (λ o. HaveCome views foreknown is_known roles coming o) (sym is) (record { roles_are = came.roles_are; were_to_come = came.were_to_come; no_more = came.no_more })

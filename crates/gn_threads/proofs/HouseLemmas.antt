@@ -9,7 +9,7 @@ use Rattle.gn_rules.specs.declared.receipt.Receipt.{Receipt}
 use Rattle.gn_rules.specs.History.{ticket_of}
 use Rattle.gn_hub.specs.ActorState.{ActorState, with_receipt}
 use Rattle.gn_bodies.specs.Events.{events_of, link_events}
-use Rattle.gn_threads.specs.Joined.{is_router}
+use Rattle.gn_report.specs.Accounts.{is_routing}
 
 one_out : {X : Type 0} (p : X → Bool) (x : X) → p x ≡ false → filter p (x ∷ []) ≡ []
 one_out p x e = rw e refl
@@ -35,6 +35,6 @@ no_event_more {A} me us r routes is =
     ap (filter is_link) (one_event_more me us r is) ∙ filter-append is_link all (r.event ∷ []) ∙ ap (λ es. filter is_link all ++ es) none ∙ append-nil (filter is_link all)
 
 -- who has no event but routes has receipts of routes alone
-pub routes_alone : {A : Type 0} (me : ActorState A) → link_events me ≡ [] → is_router me ≡ true
+pub routes_alone : {A : Type 0} (me : ActorState A) → link_events me ≡ [] → is_routing me.receipts ≡ true
 routes_alone {A} me none =
     sym (list_all-map (λ (e : Event A). is_some (ticket_of e)) (λ (r : Receipt A). r.event) me.receipts) ∙ all_but (λ (e : Event A). is_some (ticket_of e)) (map (λ (r : Receipt A). r.event) me.receipts) none

@@ -2,30 +2,31 @@
 use Rattle.std.proofs.Common.{◌≡◌, ◌++◌, ◌∷◌, List, [], length, map, ap, sym, ◌∙◌}
 use Rattle.std.proofs.lemmas.List.{append-nil, append_assoc, map-append, nil_from_length}
 
--- nothing is made yet
-pub none_made : {H X : Type 0} (f : H → X) (hs : List H) → hs ≡ [] → map f hs ≡ []
-none_made f hs none = ap (λ xs. map f xs) none
-
 -- nothing is made, and nothing is taken
 pub none_taken : {H S X : Type 0} (f : H → X) (k : S → X) (hs : List H) (rest all : List S) → hs ≡ [] → rest ≡ all → map f hs ++ map k rest ≡ map k all
 none_taken f k hs rest all none whole = ap (λ xs. map f xs ++ map k rest) none ∙ ap (λ xs. map k xs) whole
-
--- nothing is put there, and nothing is taken
-pub none_moved : {S X : Type 0} (k : S → X) (xs : List X) (rest all : List S) → xs ≡ [] → rest ≡ all → xs ++ map k rest ≡ map k all
-none_moved k xs rest all none whole = ap (λ w. w ++ map k rest) none ∙ ap (λ w. map k w) whole
 
 -- one more is made
 pub one_made : {H X : Type 0} (f : H → X) (before after : List H) (h : H) → after ≡ before ++ h ∷ [] → map f after ≡ map f before ++ f h ∷ []
 one_made f before after h is = ap (λ xs. map f xs) is ∙ map-append f before (h ∷ [])
 
--- what is to come is all
-pub none_before : {H X : Type 0} (f : H → X) (hs : List H) (coming : List X) → hs ≡ [] → map f hs ++ coming ≡ coming
-none_before f hs coming none = ap (λ xs. map f xs ++ coming) none
+-- one more is made, which says this
+pub one_as : {H X : Type 0} (f : H → X) (before after : List H) (h : H) (x : X) → after ≡ before ++ h ∷ [] → f h ≡ x → map f after ≡ map f before ++ x ∷ []
+one_as f before after h x is same = one_made f before after h is ∙ ap (λ y. map f before ++ y ∷ []) same
 
--- one more of what is left was put behind the others
-pub one_put : {X : Type 0} (xs more rest left all : List X) (x : X) → more ≡ xs ++ x ∷ [] → rest ≡ x ∷ left → xs ++ rest ≡ all → more ++ left ≡ all
-one_put xs more rest left all x one next before = ap (λ v. v ++ left) one ∙ append_assoc xs (x ∷ []) left ∙ ap (λ r. xs ++ r) (sym next) ∙ before
+-- one more was taken from what is left, and its image stands after the others
+pub one_moved : {S X : Type 0} (k : S → X) (xs more : List X) (rest left : List S) (x : S) (all : List X) → more ≡ xs ++ k x ∷ [] → rest ≡ x ∷ left → xs ++ map k rest ≡ all → more ++ map k left ≡ all
+one_moved k xs more rest left x all one next before =
+    ap (λ v. v ++ map k left) one ∙ append_assoc xs (k x ∷ []) (map k left) ∙ ap (λ r. xs ++ map k r) (sym next) ∙ before
 
--- nothing is left
-pub all_put : {X : Type 0} (xs rest all : List X) → length rest ≡ 0 → xs ++ rest ≡ all → xs ≡ all
-all_put xs rest all none before = sym (append-nil xs) ∙ ap (λ r. xs ++ r) (sym (nil_from_length rest none)) ∙ before
+-- none is left
+pub all_moved : {S X : Type 0} (k : S → X) (xs : List X) (rest : List S) (all : List X) → length rest ≡ 0 → xs ++ map k rest ≡ all → xs ≡ all
+all_moved k xs rest all none before = sym (append-nil xs) ∙ ap (λ r. xs ++ map k r) (sym (nil_from_length rest none)) ∙ before
+
+-- the same where the others are images, too
+pub one_started : {H S X : Type 0} (f : H → X) (k : S → X) (hs more : List H) (rest left : List S) (x : S) (all : List X) → map f more ≡ map f hs ++ k x ∷ [] → rest ≡ x ∷ left
+    → map f hs ++ map k rest ≡ all → map f more ++ map k left ≡ all
+one_started f k hs more rest left x all one next before = one_moved k (map f hs) (map f more) rest left x all one next before
+
+pub all_started : {H S X : Type 0} (f : H → X) (k : S → X) (hs : List H) (rest : List S) (all : List X) → length rest ≡ 0 → map f hs ++ map k rest ≡ all → map f hs ≡ all
+all_started f k hs rest all none before = all_moved k (map f hs) rest all none before

@@ -8,8 +8,8 @@ use Rattle.gn_links.specs.Halves.{ReadHalf, Source}
 use Rattle.gn_report.specs.declared.report.Report.{Report}
 use Rattle.gn_report.specs.declared.unkept.Unkept.{Unkept}
 use Rattle.gn_threads.specs.Headline.{AreOfOne, LinksReadOwn}
-use Rattle.gn_threads.specs.declared.fault.RunFault.{RunFault}
-use Rattle.gn_threads.specs.declared.fault.RunFault.TheVariants.{BadWorkers, HistoryFull}
+use Rattle.gn_start.specs.declared.fault.RunFault.{RunFault}
+use Rattle.gn_start.specs.declared.fault.RunFault.TheVariants.{BadWorkers, HistoryFull}
 use Rattle.gn_threads.specs.declared.halted.Halted.{Halted}
 use Rattle.gn_threads.specs.declared.stopped.Stopped.{Stopped}
 

@@ -4,7 +4,7 @@ use Rattle.std.specs.Option.{IsSomeAnd}
 use Rattle.gn_report.specs.declared.account.Account.{Account}
 use Rattle.gn_report.specs.declared.report.Report.{Report}
 use Rattle.gn_report.specs.Told.{Tells}
-use Rattle.gn_threads.specs.declared.fault.RunFault.TheVariants.{NoMemory}
+use Rattle.gn_start.specs.declared.fault.RunFault.TheVariants.{NoMemory}
 use Rattle.gn_threads.specs.declared.halted.Halted.{Halted}
 use Rattle.gn_threads.specs.declared.stopped.Stopped.{Stopped}
 

@@ -2,11 +2,11 @@
 
 ghost use Rattle.std.specs.Prelude.{◌≡◌, ◌<◌, ◌∷◌, ℕ, Bool, List, map, IfErr, IfOk};
 ghost use Rattle.gn_links.specs.Halves.{IsNewReader, IsNewWriter};
-ghost use Rattle.gn_threads.specs.Faults.{IsArrivingFault};
+ghost use Rattle.gn_start.specs.Faults.{IsArrivingFault};
 
-use crate::fault::RunFault;
 use gn_links::{Link, LinkReader, LinkWriter, SplitLink};
 use gn_shake::Role;
+use gn_start::RunFault;
 use std::alloc::{Allocator, Global};
 use std::vec::IntoIter;
 

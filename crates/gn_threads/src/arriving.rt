@@ -1,42 +1,46 @@
 //! A run whose links come one after another.
 
-ghost use Rattle.std.specs.Prelude.{◌≡◌, ◌+◌, ◌*◌, ◌≤◌, [], true, length, map, take, vec_len, IfErr, IfOk, IfSome};
-ghost use Rattle.gn_bodies.specs.Done.{IsReaderDone, IsWriterDone, writer_ended};
+ghost use Rattle.std.specs.Prelude.{◌≡◌, ◌<◌, ◌≤◌, ◌^◌, [], None, length, take, true, vec_len, IfErr, IfOk, IfSome};
 ghost use Rattle.gn_rules.specs.Limits.{IsCrew, most_links, most_reads};
+ghost use Rattle.gn_actors.specs.Who.{number_of};
+ghost use Rattle.gn_actors.specs.declared.who.Who.TheVariants.{House};
+ghost use Rattle.gn_report.specs.Accounts.{is_routing, report_of};
+ghost use Rattle.gn_start.specs.Faults.{IsArrivingFault};
+ghost use Rattle.gn_start.specs.Numbers.{workers_of};
+ghost use Rattle.gn_start.specs.Over.{HaveCome, IsOver, views_of};
 ghost use Rattle.gn_threads.specs.Answers.{AreArrived, IsKeptAnswer, IsRunAnswer, halted_views, stopped_views};
 ghost use Rattle.gn_threads.specs.Courses.{AreStepsOf, AreTallies, IsLeft};
-ghost use Rattle.gn_report.specs.Accounts.{report_of};
-ghost use Rattle.gn_threads.specs.Faults.{IsArrivingFault};
 ghost use Rattle.gn_threads.specs.Headline.{AreMadeOf, Holds};
-ghost use Rattle.gn_threads.specs.Reported.{reader_result};
-ghost use Rattle.gn_threads.specs.Settled.{AreSized};
-ghost use Rattle.gn_threads.specs.Joined.{AreJoinedOf, is_router};
+ghost use Rattle.gn_threads.specs.Left.{IsFaultAt};
 
 use crate::arrivals::Arrivals;
 use crate::asked::{Asked, Coming, Routing};
-use crate::bodies::{Bodies, Cut};
 use crate::course::{Course, InMemory};
-use crate::ending::{Opened, run_to_end};
-use crate::fault::RunFault;
+use crate::ending::{Begun, run_to_end};
 use crate::finishing::conclude;
 use crate::halted::Halted;
-use crate::limits::{Limited, Limits};
+use crate::in_order::InOrder;
 use crate::opening::{Opening, open_run};
 use crate::reporting::told_by;
+use crate::settling::Left;
 use crate::stopped::Stopped;
-use gn_actors::{Named, Unopened};
-use gn_hub::{Batch, Service};
+use gn_actors::{Named, Numbering, Unopened};
+use gn_hub::Batch;
 use gn_links::Gate;
-use gn_report::{Account, Report};
-use gn_room::run_beside;
+use gn_report::{Account, Keeping, Kept, Report};
+use gn_room::{Signal, run_beside};
 use gn_rules::{Config, Historian, MOST_WORKERS, RouterCore};
 use gn_shake::Role;
 use gn_stage::{Site, Stage};
+use gn_start::{Floor, Incoming, Limited, Limits, RunFault};
 use std::alloc::Allocator;
 use std::marker::Brand;
 use std::sync::Wait;
 use std::sync::ledger::Ledger;
 use std::thread::Threads;
+
+/// The parts of a run's ledger: more than there are numbers of actors.
+pub(crate) const PARTS: u64 = 1 << 33;
 
 /// As `run`, over links of these roles that come one after another: the bodies of each start as soon as it has come. Where
 /// one doesn't come, what has started is ended, and that fault is answered.
@@ -172,8 +176,7 @@ where
             routing.course.give_up(),
         );
     };
-    let parts = 2 * roles.len() as u64 + workers as u64 + 1;
-    let unopened = Unopened::new(parts);
+    let unopened = Unopened::new(PARTS);
     let links = Coming { roles, arrivals };
     run_arriving_in::<Brand, C, W, V, G, A, R>(rt, alloc, unopened, stage, asked, links, routing)
 }
@@ -201,8 +204,7 @@ where
     V::Writer: Send,
     W::Followed: Send + Drop,
     requires names { (unopened.blank.name ≡ B.name) × (unopened.steps.name ≡ B.growing) × (stage ≡ B.stage) }
-    requires parts { (unopened.blank.parts ≡ B.parts)
-        × (unopened.blank.parts ≡ 2 * length coming.roles.now + asked.now.workers + 1) }
+    requires parts { (unopened.blank.parts ≡ B.parts) × (2 ^ 33 ≤ B.parts) }
     requires turns { B.turns ≡ most_reads asked.now.config.now.numbers.steps }
     requires batch { B.batch ≡ asked.now.batch }
     requires few { (length coming.roles.now ≤ most_links) × IsCrew asked.now.workers }
@@ -221,75 +223,65 @@ where
     let (config, workers) = (asked.config, asked.workers);
     let Coming { roles, arrivals } = coming;
     let Routing { core, course } = routing;
+    let links = roles.len() as u32;
+    let numbering = Numbering::Known { links, workers };
     let room = course.room();
-    let Ok(opening) = open_run::<B, C, A>(alloc, unopened, stage, core, room, roles, workers) else {
+    let Ok(opening) = open_run::<B, C, A>(
+        alloc, unopened, stage, core, room, numbering, workers, links,
+    ) else {
         return (Err(Halted::before(RunFault::NoMemory)), course.give_up());
     };
-    let Opening {
-        service,
-        unstarted,
-        house,
-        desk,
-    } = opening;
-    let opened = Opened {
-        unstarted,
-        house,
-        desk,
-    };
+    let Opening { service, opened } = opening;
     let limits = Limits::of(config, asked.batch);
-    let (over, ran) = run_bodies(
-        rt, alloc, &service, asked.gate, &limits, arrivals, opened, course,
-    );
+    let signal = Signal::new();
+    let floor = Floor {
+        rt,
+        alloc,
+        service: &service,
+        gate: asked.gate,
+        limits: &limits,
+        signal: &signal,
+    };
+    let begun = Begun::new(opened, InOrder { arrivals, roles }, Kept::new(alloc));
+    let (left, ran) = run_bodies(&floor, begun, course);
     let mut hub = service.into_hub();
-    let answer = conclude(alloc, config, roles, &mut hub, workers, over);
+    let answer = conclude::<InOrder<'_, V>, B, C, A>(alloc, config, &mut hub, left, links, workers);
     let rest = W::end(ran, hub.into_router());
     (answer, rest)
 }
 
 /// Runs all bodies to their ends, and who takes their steps beside them.
-fn run_bodies<
-    'r,
+pub(crate) fn run_bodies<
+    V: Incoming,
+    K: Keeping<V::Reader, V::Writer, A>,
     B: Site + Ledger + Limited + Named + Send + Sync,
     C: RouterCore<A> + Drop + Send,
     W: Course<C, A> + Send + Drop,
-    V: Arrivals,
     G: Gate + Sync,
     A: Allocator + Copy + Send + Sync,
     R: Threads + Wait + Sync,
 >(
-    rt: &R,
-    alloc: A,
-    service: &Service<C, B, A>,
-    gate: &G,
-    limits: &Limits<B>,
-    arrivals: V,
-    opened: Opened<'r, B, A>,
+    floor: &Floor<'_, C, B, G, A, R>,
+    begun: Begun<V, K, B, A>,
     course: W,
-) -> (
-    Result<Bodies<V::Reader, V::Writer, B, A>, Cut<V::Reader, V::Writer, B, A>>,
-    W::Followed,
-)
+) -> (Left<V::Reader, V::Writer, K, B, A>, W::Followed)
 where
     V::Reader: Send,
     V::Writer: Send,
     W::Followed: Send + Drop,
-    ensures joined { IfOk result.0 (λ bodies. AreJoinedOf
-        (IsReaderDone V.Reader.state V.Reader.made_of V.Reader.gives B.turns)
-        (IsWriterDone V.Writer.state V.Writer.made_of B.batch)
-        V.Reader.made_of V.Writer.made_of V.foreknown opened.entry.unstarted.roles.now (V.coming arrivals)
-        (vec_len opened.entry.unstarted.outlets)
-        (map reader_result bodies.readers.items) (map writer_ended bodies.writers.items) bodies.workers.items) }
-    ensures house { IfOk result.0 (λ bodies. is_router bodies.house ≡ true) }
-    ensures cut { IfErr result.0 (λ cut. IfSome cut.bodies (λ bodies.
-        AreSized (length opened.entry.unstarted.roles.now) (vec_len opened.entry.unstarted.outlets) bodies)) }
-    ensures fault { IfErr result.0 (λ cut. IsArrivingFault V.has_peers (length opened.entry.unstarted.roles.now)
-        (vec_len opened.entry.unstarted.outlets) cut.fault) }
+    ensures over { IsOver (views_of V.Reader.state V.Writer.state V.Reader.gives V.Reader.made_of V.Writer.made_of)
+        K.keeps B.turns B.batch begun.opened.numbering (workers_of begun.opened.numbering) result.0.over }
+    ensures came { HaveCome (views_of V.Reader.state V.Writer.state V.Reader.gives V.Reader.made_of V.Writer.made_of)
+        V.foreknown V.is_known (V.roles begun.incoming) (V.coming begun.incoming) result.0.over }
+    ensures house { (result.0.house.number ≡ number_of begun.opened.numbering House)
+        × (is_routing result.0.house.receipts ≡ true) }
+    ensures fault { IsFaultAt V.has_peers begun.opened.numbering result.0.over result.0.fault }
     ensures follows { W.follows course result.1 }
 {
-    let bodies = move || run_to_end(rt, alloc, service, gate, limits, arrivals, opened);
+    let bodies = move || run_to_end(floor, begun);
     if W::IS_BESIDE {
-        return run_beside(rt, service.room(), course, bodies);
+        return run_beside(floor.rt, floor.service.room(), course, bodies);
     }
-    let over = bodies();
-    (over, course.follow(rt, service.room()))
+    let left = bodies();
+    (left, course.follow(floor.rt, floor.service.room()))
 }

@@ -1,79 +1,106 @@
-//! A run from the start of its bodies until the house is done.
+//! A run from its first link until the house is done.
 
-ghost use Rattle.std.specs.Prelude.{◌≡◌, ◌≤◌, [], length, map, true, vec_len, IfErr, IfOk, IfSome};
-ghost use Rattle.gn_rules.specs.Limits.{most_links};
-ghost use Rattle.gn_bodies.specs.Done.{IsReaderDone, IsWriterDone, writer_ended};
-ghost use Rattle.gn_threads.specs.Faults.{IsArrivingFault};
-ghost use Rattle.gn_threads.specs.Joined.{AreJoinedOf, is_router};
-ghost use Rattle.gn_threads.specs.Reported.{reader_result};
-ghost use Rattle.gn_threads.specs.Settled.{AreSized};
+ghost use Rattle.std.specs.Prelude.{◌≡◌, [], None, true, IfSome};
+ghost use Rattle.gn_actors.specs.Who.{number_of};
+ghost use Rattle.gn_actors.specs.declared.who.Who.TheVariants as who;
+ghost use Rattle.gn_report.specs.Accounts.{is_routing};
+ghost use Rattle.gn_start.specs.Numbers.{workers_of};
+ghost use Rattle.gn_start.specs.Over.{HaveCome, IsOver, views_of};
+ghost use Rattle.gn_threads.specs.Left.{IsFaultAt, IsOpenedFor};
 
-use crate::arrivals::Arrivals;
-use crate::bodies::{Bodies, Cut};
-use crate::limits::{Limited, Limits};
-use crate::settling::wind_up;
-use crate::starting::start_and_join;
-use crate::unstarted::Unstarted;
-use gn_actors::Named;
-use gn_hub::{Actor, Service};
+use crate::settling::{Left, wind_up};
+use gn_actors::{Named, Who};
 use gn_links::Gate;
+use gn_report::Keeping;
 use gn_rules::RouterCore;
-use gn_stage::{Desk, Site};
+use gn_stage::Site;
+use gn_start::{Floor, Incoming, Limited, Opened, run_links};
 use std::alloc::{Allocator, Global};
+use std::marker::Model;
 use std::sync::Wait;
 use std::sync::ledger::Ledger;
 use std::thread::Threads;
 
-/// An open run: what its bodies start from, the house, which has done nothing yet, and the desk of its stage.
+/// A run that begins: what its threads start from, where its links come from, and who keeps what they do, who has nothing yet. Contracts see
+/// the first two.
 #[derive(Drop)]
-pub(crate) struct Opened<'r, B: Site + Ledger + Named, A: Allocator + Copy = Global> {
-    pub unstarted: Unstarted<'r, B, A>,
-    pub house: Actor<B, A>,
-    pub desk: Desk<B, A>,
-    pub ghost none: { house.receipts ≡ [] },
-    pub ghost few: { length unstarted.roles.now ≤ most_links },
+pub(crate) struct Begun<
+    V: Incoming,
+    K: Keeping<V::Reader, V::Writer, A>,
+    B: Site + Ledger + Named,
+    A: Allocator = Global,
+> {
+    opened: Opened<B, A>,
+    incoming: V,
+    keeper: K,
 }
 
-/// Runs all bodies to their ends, and the house, which routes what they left.
+impl<V: Incoming, K: Keeping<V::Reader, V::Writer, A>, B: Site + Ledger + Named, A: Allocator> Model
+    for Begun<V, K, B, A> {
+    ghost use Rattle.std.specs.Prelude.{[]};
+    ghost use Rattle.gn_threads.specs.Left.{BegunState, IsOpenedFor};
+
+    ghost Value = { BegunState V B A };
+
+    ghost view = { λ b. record { opened = b.opened; incoming = b.incoming } };
+
+    ghost invariant = { λ b. IsOpenedFor V.is_known (V.roles b.incoming) b.opened × K.keeps b.keeper [] };
+}
+
+impl<
+    V: Incoming,
+    K: Keeping<V::Reader, V::Writer, A>,
+    B: Site + Ledger + Named,
+    A: Allocator,
+> Begun<V, K, B, A> {
+    /// Of these links, with who has kept nothing.
+    pub(crate) fn new(opened: Opened<B, A>, incoming: V, keeper: K) -> Self
+        requires opened { IsOpenedFor V.is_known (V.roles incoming) opened }
+        requires keeper { K.keeps keeper [] }
+        ensures { (result.opened ≡ opened) × (result.incoming ≡ incoming) }
+    {
+        Begun {
+            opened,
+            incoming,
+            keeper,
+        }
+    }
+}
+
+/// Runs all links that come to their ends, and the house, which routes what they left.
 pub(crate) fn run_to_end<
-    'r,
-    V: Arrivals,
+    V: Incoming,
+    K: Keeping<V::Reader, V::Writer, A>,
     B: Site + Ledger + Limited + Named + Send + Sync,
     C: RouterCore<A> + Drop + Send,
     G: Gate + Sync,
     A: Allocator + Copy + Send + Sync,
     R: Threads + Wait + Sync,
->(
-    rt: &R,
-    alloc: A,
-    service: &Service<C, B, A>,
-    gate: &G,
-    limits: &Limits<B>,
-    arrivals: V,
-    opened: Opened<'r, B, A>,
-) -> Result<Bodies<V::Reader, V::Writer, B, A>, Cut<V::Reader, V::Writer, B, A>>
+>(floor: &Floor<'_, C, B, G, A, R>, begun: Begun<V, K, B, A>) -> Left<V::Reader, V::Writer, K, B, A>
 where
     V::Reader: Send,
     V::Writer: Send,
-    ensures joined { IfOk result (λ bodies. AreJoinedOf
-        (IsReaderDone V.Reader.state V.Reader.made_of V.Reader.gives B.turns)
-        (IsWriterDone V.Writer.state V.Writer.made_of B.batch)
-        V.Reader.made_of V.Writer.made_of V.foreknown opened.entry.unstarted.roles.now (V.coming arrivals)
-        (vec_len opened.entry.unstarted.outlets)
-        (map reader_result bodies.readers.items) (map writer_ended bodies.writers.items) bodies.workers.items) }
-    ensures house { IfOk result (λ bodies. is_router bodies.house ≡ true) }
-    ensures cut { IfErr result (λ cut. IfSome cut.bodies (λ bodies.
-        AreSized (length opened.entry.unstarted.roles.now) (vec_len opened.entry.unstarted.outlets) bodies)) }
-    ensures fault { IfErr result (λ cut. IsArrivingFault V.has_peers (length opened.entry.unstarted.roles.now)
-        (vec_len opened.entry.unstarted.outlets) cut.fault) }
+    ensures over { IsOver (views_of V.Reader.state V.Writer.state V.Reader.gives V.Reader.made_of V.Writer.made_of)
+        K.keeps B.turns B.batch begun.opened.numbering (workers_of begun.opened.numbering) result.over }
+    ensures came { HaveCome (views_of V.Reader.state V.Writer.state V.Reader.gives V.Reader.made_of V.Writer.made_of)
+        V.foreknown V.is_known (V.roles begun.incoming) (V.coming begun.incoming) result.over }
+    ensures house { (result.house.number ≡ number_of begun.opened.numbering who.House)
+        × (is_routing result.house.receipts ≡ true) }
+    ensures fault { IsFaultAt V.has_peers begun.opened.numbering result.over result.fault }
 {
-    let Opened {
-        unstarted,
-        house,
-        desk,
-    } = opened;
-    match start_and_join(rt, alloc, service, gate, limits, arrivals, unstarted) {
-        Ok(done) => wind_up(rt, alloc, service, done, house, desk),
-        Err(fault) => Err(Cut::lost(fault)),
-    }
+    let Begun {
+        opened,
+        incoming,
+        keeper,
+    } = begun;
+    let number = opened.numbering.number_of(Who::House);
+    let (over, stagework) = run_links(floor, opened, incoming, keeper);
+    wind_up(
+        floor.rt,
+        floor.alloc,
+        floor.service,
+        over,
+        stagework,
+        number,
+    )
 }

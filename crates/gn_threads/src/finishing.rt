@@ -1,35 +1,29 @@
-//! The account of a run whose bodies have ended.
+//! The account of a run that is over.
 
-ghost use Rattle.std.specs.List.{list_all};
-ghost use Rattle.std.specs.Prelude.{◌≡◌, ◌+◌, ◌≤◌, ◌<◌, Bool, None, length, map, reverse, true, vec_len, IfErr, IfOk, IfSome, IsOk};
+ghost use Rattle.std.specs.Prelude.{◌≡◌, ◌+◌, ◌<◌, ◌≤◌, Bool, false, None, ℕ, length, map, reverse, true, vec_len, IfErr, IfOk, IfSome};
 ghost use Rattle.gn_rules.specs.Answer.{IsLegal};
 ghost use Rattle.gn_rules.specs.Limits.{most_links, most_reads, most_workers};
-ghost use Rattle.gn_bodies.specs.Done.{halved, writer_ended};
 ghost use Rattle.gn_report.specs.Accounts.{report_of};
-ghost use Rattle.gn_report.specs.Looks.{is_idle_link};
+ghost use Rattle.gn_report.specs.declared.account.LinkEnd.TheVariants.{Whole};
+ghost use Rattle.gn_start.specs.Faults.{IsArrivingFault, IsFaultOf};
+ghost use Rattle.gn_start.specs.Over.{AllEnded, views_of};
+ghost use Rattle.gn_start.specs.declared.fault.RunFault.TheVariants.{HistoryFull};
 ghost use Rattle.gn_threads.specs.Courses.{AreStepsOf, AreTallies};
-ghost use Rattle.gn_threads.specs.Faults.{IsArrivingFault, IsFaultOf};
-ghost use Rattle.gn_threads.specs.declared.fault.RunFault.TheVariants.{HistoryFull};
 ghost use Rattle.gn_threads.specs.Headline.{Holds};
-ghost use Rattle.gn_threads.specs.Joined.{AllRoute, KeepEnds, is_router};
-ghost use Rattle.gn_threads.specs.Reported.{AreAllOf, HaveBodies, all_receipts, is_routing, reader_accounted, reader_result, unkept_list, writer_accounted};
-ghost use Rattle.gn_threads.specs.Confirmed.{AreConfirmed};
-ghost use Rattle.gn_threads.specs.Settled.{AreSized};
-ghost use Rattle.gn_threads.specs.Shares.{AreCounted};
+ghost use Rattle.gn_threads.specs.Left.{IsCalm, IsGathered, IsOverWith};
 
-use crate::bodies::{Bodies, Cut};
-use crate::fault::RunFault;
 use crate::halted::Halted;
-use crate::limits::Limited;
-use crate::reported::{Reported, report_bodies};
-use crate::tallied::tallies_of;
+use crate::homecoming::{Homed, come_home};
+use crate::settling::Left;
 use gn_actors::Named;
-use gn_hub::Hub;
-use gn_links::{LinkReader, LinkWriter};
-use gn_report::{Account, LinkTally, Unkept, first_wrong, seen_is_confirmed, unkept_steps};
-use gn_rules::{Config, RouterCore, Step, is_same_config};
-use gn_shake::Role;
-use std::alloc::Allocator;
+use gn_hub::{Actor, Hub};
+use gn_report::{
+    Account, Kept, LinkAccount, LinkTally, Looks, Unkept, ended_is_seen, seen_is_confirmed,
+    unkept_steps,
+};
+use gn_rules::{Config, Receipt, RouterCore, Step, is_same_config};
+use gn_start::{Incoming, Limited, Over, RunFault};
+use std::alloc::{Allocator, Global};
 use std::sync::ledger::Ledger;
 
 /// Whether the history of a run that stopped at this fault stands: where its router has the configuration of the call, nothing of it is
@@ -68,203 +62,258 @@ fn standing<C: RouterCore<A>, A: Allocator + Copy>(
     Some(unkept_steps(core))
 }
 
-/// The first actor of a run that is over of whom something isn't as it must be: the house, where the router hasn't the configuration of
-/// the call, or a ticket is in flight.
-fn unconfirmed<C: RouterCore<A>, Rd, W, A: Allocator + Copy>(
-    config: &Config,
-    roles: &[Role],
-    core: &C,
-    reported: &Reported<Rd, W, A>,
-) -> Option<u32>
-    requires roles { length reported.now.links.items ≡ length roles.now }
-    requires few { (length roles.now ≤ most_links) × (vec_len reported.now.workers ≤ most_workers) }
-    ensures none { result ≡ None → AreConfirmed config.now (C.settings core.now) (C.steps core.now) roles.now
-        reported.now.links.items }
-    ensures some { IfSome result (λ a. a < length roles.now + length roles.now + vec_len reported.now.workers + 1) }
-{
-    let links = reported.links.as_slice();
-    if let Some(link) = first_wrong(core, roles, links) {
-        return Some(link);
-    }
-    if core.flights() == 0 && is_same_config(core.config(), config) {
-        return None;
-    }
-    Some(2 * links.len() as u32 + reported.workers.len() as u32)
+/// The accounts of all links of a run that had no fault, and the receipts of its workers and its house.
+#[derive(Drop)]
+pub(crate) struct Gathered<Rd, W, A: Allocator = Global> {
+    pub links: Vec<LinkAccount<Rd, W, A>, A>,
+    pub workers: Vec<Unkept<Receipt<A>>, A>,
+    pub house: Unkept<Receipt<A>>,
+    pub looks: Looks,
 }
 
-/// The account of a run whose bodies have ended so, and whose actors are home, if it is as it must be.
-fn confirm<Rd: LinkReader, W: LinkWriter, L: Limited, C: RouterCore<A>, A: Allocator + Copy>(
-    config: &Config,
-    roles: &[Role],
-    core: &C,
-    reported: Reported<Rd, W, A>,
-) -> Result<Account<Rd, W, A>, RunFault>
-    requires roles { length reported.links.items ≡ length roles.now }
-    requires few { (length roles.now ≤ most_links) × (vec_len reported.workers ≤ most_workers) }
-    requires own { AreAllOf (C.steps core.now)
-        (all_receipts reported.links.items reported.workers.items reported.house) }
-    requires idle { list_all (is_idle_link (C.steps core.now)) reported.links.items ≡ true }
-    requires ends { KeepEnds (most_reads config.now.numbers.steps) L.batch roles.now
-        (map (λ l. halved Rd.state (reader_accounted l)) reported.links.items)
-        (map (λ l. halved W.state (writer_accounted l)) reported.links.items) }
-    requires routes { (list_all is_routing (map unkept_list reported.workers.items) ≡ true)
-        × (is_routing reported.house.items ≡ true) }
-    ensures fault { IfErr result (λ fault. IsFaultOf (length roles.now) (vec_len reported.workers) fault) }
-    ensures holds { IfOk result (λ account. Holds L.batch Rd.state W.state config.now roles.now
-        (vec_len reported.workers) (report_of account)) }
-    ensures links { IfOk result (λ account. account.links ≡ reported.links) }
-    ensures steps { IfOk result (λ account. account.history.items ≡ C.steps core.now) }
+/// All that is left of a run that had no fault, once its actors are home.
+fn gather<V: Incoming, L: Ledger + Limited + Named, C: RouterCore<A>, A: Allocator + Copy>(
+    alloc: A,
+    hub: &mut Hub<C, L, A>,
+    over: Over<V::Reader, V::Writer, Kept<V::Reader, V::Writer, A>, L, A>,
+    house: Actor<L, A>,
+) -> Result<Gathered<V::Reader, V::Writer, A>, RunFault>
+    requires left { IsOverWith (views_of V.Reader.state V.Writer.state V.Reader.gives V.Reader.made_of V.Writer.made_of)
+        L.turns L.batch (length over.links.items) (vec_len over.workers) over house }
+    requires well { over.fault ≡ None }
+    ensures fault { IfErr result (λ fault. (links workers : ℕ)
+        → house.number < links + links + workers + 1 → IsFaultOf links workers fault) }
+    ensures same { hub.new ≡ hub.old }
+    ensures gathered { IfOk result (λ all. IsGathered
+        (views_of V.Reader.state V.Writer.state V.Reader.gives V.Reader.made_of V.Writer.made_of)
+        L.turns L.batch hub.new.steps all.links.items all.workers.items all.house all.looks) }
+    ensures links { IfOk result (λ all. over.links.items ≡ map (λ link. Whole link) all.links.items) }
+    ensures workers { IfOk result (λ all. vec_len all.workers ≡ vec_len over.workers) }
 {
-    if let Some(actor) = unconfirmed(config, roles, core, &reported) {
-        return Err(RunFault::Audit(actor));
-    }
-    core.is_legal();
-    seen_is_confirmed::<Rd, W, A>();
-    let Reported {
+    let Over {
+        keeper,
+        registry,
+        workers,
+        looks,
+        ..
+    } = over;
+    let Homed { workers, house, .. } = come_home(alloc, hub, registry, house, workers)?;
+    let links = keeper.into_accounts(alloc)?;
+    Ok(Gathered {
         links,
         workers,
         house,
-    } = reported;
-    Ok(Account {
+        looks,
+    })
+}
+
+/// Whether a run is as it must be all of whose actors are home: nothing is in flight, its router has the configuration of the call, and what
+/// was counted of its links is right.
+pub(crate) fn is_calm<C: RouterCore<A>, A: Allocator + Copy>(
+    config: &Config,
+    core: &C,
+    looks: &Looks,
+) -> bool
+    ensures { result ≡ true → IsCalm config.now (C.settings core.now) (C.steps core.now) looks.now }
+{
+    if core.flights() == 0 && is_same_config(core.config(), config) {
+        return looks.are_right();
+    }
+    false
+}
+
+/// The account of a run that is as it must be.
+fn account_of<V: Incoming, L: Limited, C: RouterCore<A>, A: Allocator + Copy>(
+    config: &Config,
+    core: &C,
+    all: Gathered<V::Reader, V::Writer, A>,
+) -> Account<V::Reader, V::Writer, A>
+    requires gathered { IsGathered
+        (views_of V.Reader.state V.Writer.state V.Reader.gives V.Reader.made_of V.Writer.made_of)
+        (most_reads config.now.numbers.steps) L.batch (C.steps core.now) all.links.items all.workers.items all.house
+        all.looks }
+    requires calm { IsCalm config.now (C.settings core.now) (C.steps core.now) all.looks }
+    requires few { (vec_len all.links ≤ most_links) × (vec_len all.workers ≤ most_workers) }
+    ensures holds { Holds L.batch V.Reader.state V.Writer.state config.now
+        (map (λ link. link.role) all.links.items) (vec_len all.workers) (report_of result) }
+    ensures links { result.links ≡ all.links }
+    ensures steps { result.history.items ≡ C.steps core.now }
+{
+    core.is_legal();
+    seen_is_confirmed::<V::Reader, V::Writer, A>();
+    ended_is_seen::<V::Reader, V::Writer, A, V::Origin>();
+    let Gathered {
+        links,
+        workers,
+        house,
+        ..
+    } = all;
+    Account {
         history: unkept_steps(core),
         links,
         workers,
         house,
         stats: core.stats(),
-    })
+    }
 }
 
-/// The account of a run of which this is left.
-fn account_of<
-    Rd: LinkReader,
-    W: LinkWriter,
-    L: Ledger + Limited + Named,
-    C: RouterCore<A>,
-    A: Allocator + Copy,
->(
+/// The account of a run that had no fault, if it is as it must be.
+fn confirm<V: Incoming, L: Ledger + Limited + Named, C: RouterCore<A>, A: Allocator + Copy>(
     alloc: A,
     config: &Config,
-    roles: &[Role],
     hub: &mut Hub<C, L, A>,
-    bodies: Bodies<Rd, W, L, A>,
-) -> Result<Account<Rd, W, A>, RunFault>
-    requires sized { AreSized (length roles.now) (vec_len bodies.workers) bodies }
-    requires few { (length roles.now ≤ most_links) × (vec_len bodies.workers ≤ most_workers) }
-    requires parts { L.parts ≡ length roles.now + length roles.now + vec_len bodies.workers + 1 }
-    requires ends { KeepEnds (most_reads config.now.numbers.steps) L.batch roles.now
-        (map (λ d. halved Rd.state (reader_result d)) bodies.readers.items)
-        (map (λ d. halved W.state (writer_ended d)) bodies.writers.items) }
-    requires routes { AllRoute bodies.workers.items × (is_router bodies.house ≡ true) }
-    ensures fault { IfErr result (λ fault. IsFaultOf (length roles.now) (vec_len bodies.workers) fault) }
+    over: Over<V::Reader, V::Writer, Kept<V::Reader, V::Writer, A>, L, A>,
+    house: Actor<L, A>,
+) -> Result<Account<V::Reader, V::Writer, A>, RunFault>
+    requires left { IsOverWith (views_of V.Reader.state V.Writer.state V.Reader.gives V.Reader.made_of V.Writer.made_of)
+        L.turns L.batch (length over.links.items) (vec_len over.workers) over house }
+    requires well { over.fault ≡ None }
+    requires turns { L.turns ≡ most_reads config.now.numbers.steps }
+    requires few { (length over.links.items ≤ most_links) × (vec_len over.workers ≤ most_workers) }
+    ensures fault { IfErr result (λ fault. (links workers : ℕ)
+        → house.number < links + links + workers + 1 → IsFaultOf links workers fault) }
     ensures same { hub.new ≡ hub.old }
-    ensures holds { IfOk result (λ account. Holds L.batch Rd.state W.state config.now roles.now
-        (vec_len bodies.workers) (report_of account)) }
-    ensures bodies { IfOk result (λ account. HaveBodies (map reader_result bodies.readers.items)
-        (map writer_ended bodies.writers.items) account.links.items) }
+    ensures holds { IfOk result (λ account. Holds L.batch V.Reader.state V.Writer.state config.now
+        (map (λ link. link.role) account.links.items) (vec_len over.workers) (report_of account)) }
+    ensures ended { IfOk result (λ account. AllEnded L.turns L.batch
+        (views_of V.Reader.state V.Writer.state V.Reader.gives V.Reader.made_of V.Writer.made_of)
+        account.history.items account.links.items) }
+    ensures links { IfOk result (λ account. over.links.items ≡ map (λ link. Whole link) account.links.items) }
     ensures steps { IfOk result (λ account. account.history.items ≡ hub.new.steps) }
 {
-    let reported = report_bodies(alloc, hub, bodies)?;
-    confirm::<Rd, W, L, C, A>(config, roles, hub.router(), reported)
+    let number = house.number();
+    let all = gather::<V, L, C, A>(alloc, hub, over, house)?;
+    if !is_calm(config, hub.router(), &all.looks) {
+        return Err(RunFault::Audit(number));
+    }
+    Ok(account_of::<V, L, C, A>(config, hub.router(), all))
 }
 
-/// What the links of a run did whose bodies may be at hand.
-fn tallies_left<
-    Rd: LinkReader,
-    W: LinkWriter,
-    L: Ledger + Named,
-    C: RouterCore<A>,
-    A: Allocator + Copy,
->(
+/// What the links of a run did that had a fault. `None` is out of memory, an actor that isn't home, or where not all links came.
+fn tallies_of<V: Incoming, L: Ledger + Limited + Named, C: RouterCore<A>, A: Allocator + Copy>(
     alloc: A,
     hub: &mut Hub<C, L, A>,
-    bodies: Option<Bodies<Rd, W, L, A>>,
+    over: Over<V::Reader, V::Writer, Kept<V::Reader, V::Writer, A>, L, A>,
+    house: Actor<L, A>,
+    links: u32,
+    crew: u32,
 ) -> Option<Vec<LinkTally, A>>
-    requires counted { IfSome bodies (λ bodies. AreCounted L.parts (vec_len bodies.readers)
-        (vec_len bodies.readers) (vec_len bodies.writers) (vec_len bodies.workers)) }
+    requires left { IsOverWith (views_of V.Reader.state V.Writer.state V.Reader.gives V.Reader.made_of V.Writer.made_of)
+        L.turns L.batch links crew over house }
     ensures same { hub.new ≡ hub.old }
-    ensures tallied { IfSome bodies (λ bodies. IfSome result (λ links.
-        AreTallies hub.new.steps (vec_len bodies.readers) links.items)) }
-    ensures none { bodies ≡ None → result ≡ None }
+    ensures tallied { IfSome result (λ tallies. AreTallies hub.new.steps links tallies.items) }
 {
-    match bodies {
-        Some(bodies) => tallies_of(alloc, hub, bodies),
-        None => None,
+    if over.is_lost {
+        return None;
+    }
+    let Over {
+        keeper,
+        registry,
+        workers,
+        ..
+    } = over;
+    let Ok(homed) = come_home(alloc, hub, registry, house, workers) else {
+        return None;
+    };
+    drop(homed);
+    match keeper.tallies(alloc) {
+        Ok(tallies) if tallies.len() == links as usize => Some(tallies),
+        _ => None,
     }
 }
 
 /// What is known of a run that stopped at this fault, of which this is left.
-fn halt<Rd: LinkReader, W: LinkWriter, L: Ledger + Named, C: RouterCore<A>, A: Allocator + Copy>(
+fn halt<V: Incoming, L: Ledger + Limited + Named, C: RouterCore<A>, A: Allocator + Copy>(
     alloc: A,
     config: &Config,
     hub: &mut Hub<C, L, A>,
-    cut: Cut<Rd, W, L, A>,
+    left: Left<V::Reader, V::Writer, Kept<V::Reader, V::Writer, A>, L, A>,
+    fault: RunFault,
+    links: u32,
+    workers: u32,
 ) -> Halted<A>
-    requires counted { IfSome cut.bodies (λ bodies. AreCounted L.parts (vec_len bodies.readers)
-        (vec_len bodies.readers) (vec_len bodies.writers) (vec_len bodies.workers)) }
-    ensures fault { result.fault ≡ cut.fault }
+    requires left { IsOverWith (views_of V.Reader.state V.Writer.state V.Reader.gives V.Reader.made_of V.Writer.made_of)
+        L.turns L.batch links workers left.over left.house }
+    ensures fault { result.fault ≡ fault }
     ensures same { hub.new ≡ hub.old }
     ensures kept { IfSome result.history (λ history. IsLegal config.now (reverse history.items)) }
     ensures own { IfSome result.history (λ history. history.items ≡ hub.new.steps) }
-    ensures full { cut.fault ≡ HistoryFull → IfSome result.history (λ history.
+    ensures full { fault ≡ HistoryFull → IfSome result.history (λ history.
         length history.items ≡ config.now.numbers.steps) }
-    ensures tallied { IfSome cut.bodies (λ bodies. IfSome result.links (λ links.
-        AreTallies hub.new.steps (vec_len bodies.readers) links.items)) }
-    ensures none { cut.bodies ≡ None → result.links ≡ None }
+    ensures tallied { IfSome result.links (λ tallies. AreTallies hub.new.steps links tallies.items) }
 {
-    let Cut { fault, bodies } = cut;
-    let links = tallies_left(alloc, hub, bodies);
+    let Left { over, house, .. } = left;
+    let tallies = tallies_of::<V, L, C, A>(alloc, hub, over, house, links, workers);
     Halted {
         fault,
         history: standing(config, fault, hub.router()),
-        links,
+        links: tallies,
     }
 }
 
-/// The account of a run that is over, of which this is left, or what is known of it where it stopped.
+/// What is known of a run that stopped at this fault, of which nothing else is left.
+pub(crate) fn halt_alone<L: Ledger + Named, C: RouterCore<A>, A: Allocator + Copy>(
+    config: &Config,
+    hub: &Hub<C, L, A>,
+    fault: RunFault,
+) -> Halted<A>
+    ensures fault { (result.fault ≡ fault) × (result.links ≡ None) }
+    ensures kept { IfSome result.history (λ history. IsLegal config.now (reverse history.items)) }
+    ensures own { IfSome result.history (λ history. history.items ≡ hub.now.steps) }
+    ensures full { fault ≡ HistoryFull → IfSome result.history (λ history.
+        length history.items ≡ config.now.numbers.steps) }
+{
+    Halted {
+        fault,
+        history: standing(config, fault, hub.router()),
+        links: None,
+    }
+}
+
+/// The account of a run of so many links and workers that is over, of which this is left, or what is known of it where it stopped.
 pub(crate) fn conclude<
-    Rd: LinkReader,
-    W: LinkWriter,
+    V: Incoming,
     L: Ledger + Limited + Named,
     C: RouterCore<A>,
     A: Allocator + Copy,
 >(
     alloc: A,
     config: &Config,
-    roles: &[Role],
     hub: &mut Hub<C, L, A>,
+    left: Left<V::Reader, V::Writer, Kept<V::Reader, V::Writer, A>, L, A>,
+    links: u32,
     workers: u32,
-    over: Result<Bodies<Rd, W, L, A>, Cut<Rd, W, L, A>>,
-) -> Result<Account<Rd, W, A>, Halted<A>>
-    requires few { (length roles.now ≤ most_links) × (workers ≤ most_workers) }
-    requires parts { L.parts ≡ length roles.now + length roles.now + workers + 1 }
-    requires sized { IfOk over (λ bodies. AreSized (length roles.now) workers bodies) }
-    requires cut { IfErr over (λ cut. IfSome cut.bodies (λ bodies. AreSized (length roles.now) workers bodies)) }
-    requires ends { IfOk over (λ bodies. KeepEnds (most_reads config.now.numbers.steps) L.batch roles.now
-        (map (λ d. halved Rd.state (reader_result d)) bodies.readers.items)
-        (map (λ d. halved W.state (writer_ended d)) bodies.writers.items)) }
-    requires routes { IfOk over (λ bodies. AllRoute bodies.workers.items × (is_router bodies.house ≡ true)) }
+) -> Result<Account<V::Reader, V::Writer, A>, Halted<A>>
+    requires left { IsOverWith (views_of V.Reader.state V.Writer.state V.Reader.gives V.Reader.made_of V.Writer.made_of)
+        L.turns L.batch links workers left.over left.house }
+    requires well { left.fault ≡ None → (left.over.fault ≡ None) × (length left.over.links.items ≡ links) }
+    requires turns { L.turns ≡ most_reads config.now.numbers.steps }
+    requires few { (links ≤ most_links) × (workers ≤ most_workers) }
     ensures same { hub.new ≡ hub.old }
     ensures fault { IfErr result (λ halted. (has_peers : Bool)
-        → IfErr over (λ cut. IsArrivingFault has_peers (length roles.now) workers cut.fault)
-        → IsArrivingFault has_peers (length roles.now) workers halted.fault) }
+        → IfSome left.fault (λ fault. IsArrivingFault has_peers links workers fault)
+        → IsArrivingFault has_peers links workers halted.fault) }
     ensures kept { IfErr result (λ halted. IfSome halted.history (λ history.
         IsLegal config.now (reverse history.items))) }
     ensures full { IfErr result (λ halted. halted.fault ≡ HistoryFull → IfSome halted.history (λ history.
         length history.items ≡ config.now.numbers.steps)) }
-    ensures tallied { IfErr result (λ halted. IfSome halted.links (λ links.
-        AreTallies hub.new.steps (length roles.now) links.items)) }
-    ensures holds { IfOk result (λ account. Holds L.batch Rd.state W.state config.now roles.now workers
-        (report_of account)) }
-    ensures bodies { IfOk result (λ account. IfOk over (λ bodies. HaveBodies (map reader_result bodies.readers.items)
-        (map writer_ended bodies.writers.items) account.links.items)) }
-    ensures ended { IfOk result (λ _. IsOk over) }
+    ensures tallied { IfErr result (λ halted. IfSome halted.links (λ tallies.
+        AreTallies hub.new.steps links tallies.items)) }
+    ensures holds { IfOk result (λ account. Holds L.batch V.Reader.state V.Writer.state config.now
+        (map (λ link. link.role) account.links.items) workers (report_of account)) }
+    ensures ended { IfOk result (λ account. AllEnded L.turns L.batch
+        (views_of V.Reader.state V.Writer.state V.Reader.gives V.Reader.made_of V.Writer.made_of)
+        account.history.items account.links.items) }
+    ensures links { IfOk result (λ account. (left.fault ≡ None)
+        × (left.over.links.items ≡ map (λ link. Whole link) account.links.items)) }
     ensures steps { AreStepsOf result hub.new.steps }
 {
-    match over {
-        Ok(bodies) => match account_of(alloc, config, roles, hub, bodies) {
-            Ok(account) => Ok(account),
-            Err(fault) => Err(halt::<Rd, W, L, C, A>(alloc, config, hub, Cut::lost(fault))),
-        },
-        Err(cut) => Err(halt(alloc, config, hub, cut)),
+    if let Some(fault) = left.fault {
+        return Err(halt::<V, L, C, A>(alloc, config, hub, left, fault, links, workers));
+    }
+    let Left { over, house, .. } = left;
+    match confirm::<V, L, C, A>(alloc, config, hub, over, house) {
+        Ok(account) => Ok(account),
+        Err(fault) => Err(halt_alone(config, hub, fault)),
     }
 }

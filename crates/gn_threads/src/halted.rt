@@ -2,9 +2,9 @@
 
 ghost use Rattle.std.specs.Prelude.{◌≡◌, None};
 
-use crate::fault::RunFault;
 use gn_report::{LinkTally, Unkept};
 use gn_rules::Step;
+use gn_start::RunFault;
 use std::alloc::{Allocator, Global};
 
 /// A run that stopped at a fault, and whose steps nobody keeps.

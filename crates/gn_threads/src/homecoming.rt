@@ -1,115 +1,95 @@
-//! All actors of a run come home: the receipts of each are its own steps.
+//! The actors of a run that have no link come home: the house, and the workers.
 
-ghost use Rattle.gn_actors.specs.Home.{AreNumbered, AreWhole};
-ghost use Rattle.gn_threads.specs.Faults.{IsFaultOf};
-ghost use Rattle.gn_threads.specs.Reported.{came_list, is_short, receipts_in};
-ghost use Rattle.std.specs.List.{list_all};
-ghost use Rattle.std.specs.Prelude.{◌≡◌, ◌+◌, ◌++◌, ◌∷◌, ◌<◌, ◌^◌, [], ℕ, None, length, map, true, vec_len, IfErr, IfOk, IfSome};
+ghost use Rattle.gn_actors.specs.Registry.{AreWhole, IsOut};
+ghost use Rattle.gn_report.specs.Accounts.{unkept_list};
+ghost use Rattle.gn_threads.specs.Homecoming.{AreAllOut, receipts_in, with_all_home};
+ghost use Rattle.std.specs.Prelude.{◌≡◌, ◌+◌, ◌<◌, ◌∷◌, ℕ, map, slice_set, IfErr, IfOk};
+ghost use Rattle.gn_start.specs.Faults.{IsFaultOf};
+ghost use mathlib.Core.List.{IsPrefix};
 
-use crate::came::Came;
-use crate::fault::RunFault;
-use gn_actors::{Home, Named};
+use gn_actors::{Named, Registry};
 use gn_hub::{Actor, Hub};
-use gn_rules::RouterCore;
-use std::alloc::{AllocError, Allocator};
+use gn_report::{Unkept, unkept_trail};
+use gn_rules::{Receipt, RouterCore};
+use gn_start::RunFault;
+use gn_trail::Trail;
+use std::alloc::{AllocError, Allocator, Global};
+use std::collections::LinkedList;
 use std::sync::ledger::Ledger;
 
-/// The first place of an actor that hasn't the place's number.
-fn misplaced<L: Ledger + Named, A: Allocator>(actors: &[Actor<L, A>]) -> Option<u32>
-    requires few { length actors.now < 2 ^ 32 }
-    ensures none { result ≡ None → AreNumbered actors.now }
-    ensures some { IfSome result (λ k. k < length actors.now) }
-{
-    let mut number = 0u32;
-    for actor in actors {
-        if actor.number() != number {
-            return Some(number);
-        }
-        number += 1;
-    }
-    None
+/// The receipts of the workers and of the house of a run all of whose actors are home, and those of all, by number.
+#[derive(Drop)]
+pub(crate) struct Homed<A: Allocator = Global> {
+    pub workers: Vec<Unkept<Receipt<A>>, A>,
+    pub house: Unkept<Receipt<A>>,
+    pub lists: Trail<LinkedList<Receipt<A>>>,
 }
 
-/// The first actor comes home.
-fn first_home<L: Ledger + Named, A: Allocator>(me: Actor<L, A>) -> (Home<L, A>, Came<A>)
-    ensures home { result.0 ≡ me ∷ [] }
-    ensures came { came_list result.1 ≡ receipts_in me }
-{
-    let tally = me.tally();
-    let last = me.last();
-    let (home, receipts) = Home::of(me);
-    let came = Came {
-        receipts,
-        tally,
-        last,
-    };
-    (home, came)
-}
-
-/// An actor comes home.
+/// An actor comes home. Its receipts.
 fn welcome<L: Ledger + Named, C: RouterCore<A>, A: Allocator + Copy>(
     hub: &mut Hub<C, L, A>,
-    home: &mut Home<L, A>,
+    registry: &mut Registry<L, A>,
     me: Actor<L, A>,
-) -> Came<A>
+) -> Unkept<Receipt<A>>
+    requires { IsOut registry.old me.number }
     ensures same { hub.new ≡ hub.old }
-    ensures home { home.new ≡ home.old ++ me ∷ [] }
-    ensures came { came_list result ≡ receipts_in me }
+    ensures began { IsPrefix registry.old.seen hub.new.steps }
+    ensures lists { registry.new.lists ≡ slice_set registry.old.lists me.number me.receipts }
+    ensures receipts { result.items ≡ me.receipts }
 {
-    let tally = me.tally();
-    let last = me.last();
-    let receipts = hub.welcome(home, me);
-    Came {
-        receipts,
-        tally,
-        last,
-    }
+    let receipts = hub.take_home(registry, me);
+    unkept_trail(&receipts)
 }
 
-/// All actors of a run come home. An `Err` is out of memory.
-fn bring_home<L: Ledger + Named, C: RouterCore<A>, A: Allocator + Copy>(
+/// The workers of a run come home. The receipts of each. An `Err` is out of memory.
+fn welcome_all<L: Ledger + Named, C: RouterCore<A>, A: Allocator + Copy>(
     alloc: A,
     hub: &mut Hub<C, L, A>,
-    actors: Vec<Actor<L, A>, A>,
-) -> Result<Vec<Came<A>, A>, AllocError>
-    requires all { (vec_len actors ≡ L.parts) × (0 < vec_len actors) }
-    requires numbered { AreNumbered actors.items }
+    registry: &mut Registry<L, A>,
+    workers: Vec<Actor<L, A>, A>,
+) -> Result<Vec<Unkept<Receipt<A>>, A>, AllocError>
+    requires { AreAllOut registry.old.lists workers.items }
     ensures same { hub.new ≡ hub.old }
-    ensures whole { IfOk result (λ _. AreWhole hub.new.steps actors.items) }
-    ensures came { IfOk result (λ all. map came_list all.items ≡ map receipts_in actors.items) }
+    ensures lists { IfOk result (λ _. registry.new.lists ≡ with_all_home registry.old.lists workers.items) }
+    ensures receipts { IfOk result (λ made. map unkept_list made.items ≡ map receipts_in workers.items) }
 {
-    let mut all = Vec::with_capacity(alloc, actors.len())?;
-    let mut rest = actors.into_iter();
-    let Some(first) = rest.next() else {
-        unreachable!()
-    };
-    let (mut home, came) = first_home(first);
-    all.push_reserved(came);
-    for actor in rest {
-        all.push_reserved(welcome(hub, &mut home, actor));
+    let mut made = Vec::with_capacity(alloc, workers.len())?;
+    for worker in workers {
+        made.push_reserved(welcome(hub, registry, worker));
     }
-    hub.all_home(home);
-    Ok(all)
+    Ok(made)
 }
 
-/// All actors of a run, who come home. The fault names a place where an actor hasn't the place's number.
+/// The house and the workers of a run come home, who are the last. The fault is out of memory, or names the house, where somebody isn't
+/// home.
 pub(crate) fn come_home<L: Ledger + Named, C: RouterCore<A>, A: Allocator + Copy>(
     alloc: A,
     hub: &mut Hub<C, L, A>,
-    actors: Vec<Actor<L, A>, A>,
-) -> Result<Vec<Came<A>, A>, RunFault>
-    requires { (vec_len actors ≡ L.parts) × (0 < vec_len actors) × (vec_len actors < 2 ^ 32) }
+    registry: Registry<L, A>,
+    house: Actor<L, A>,
+    workers: Vec<Actor<L, A>, A>,
+) -> Result<Homed<A>, RunFault>
+    requires { AreAllOut registry.lists (house ∷ workers.items) }
     ensures fault { IfErr result (λ fault. (links workers : ℕ)
-        → vec_len actors ≡ links + links + workers + 1 → IsFaultOf links workers fault) }
+        → house.number < links + links + workers + 1 → IsFaultOf links workers fault) }
     ensures same { hub.new ≡ hub.old }
-    ensures whole { IfOk result (λ _. AreWhole hub.new.steps actors.items) }
-    ensures came { IfOk result (λ all. map came_list all.items ≡ map receipts_in actors.items) }
-    ensures few { IfOk result (λ all. list_all is_short all.items ≡ true) }
+    ensures began { IsPrefix registry.seen hub.new.steps }
+    ensures whole { IfOk result (λ homed. AreWhole hub.new.steps homed.lists.items) }
+    ensures lists { IfOk result (λ homed. homed.lists.items ≡ with_all_home registry.lists (house ∷ workers.items)) }
+    ensures workers { IfOk result (λ homed. map unkept_list homed.workers.items ≡ map receipts_in workers.items) }
+    ensures house { IfOk result (λ homed. homed.house.items ≡ house.receipts) }
 {
-    if let Some(place) = misplaced(actors.as_slice()) {
-        return Err(RunFault::Audit(place));
+    let mut registry = registry;
+    let number = house.number();
+    let house = welcome(hub, &mut registry, house);
+    let workers = welcome_all(alloc, hub, &mut registry, workers)?;
+    if registry.out() != 0 {
+        return Err(RunFault::Audit(number));
     }
-    // Its contract says that the history has no more steps, and so each actor no more receipts, than a vector may hold.
-    let _count = hub.router().step_count();
-    Ok(bring_home(alloc, hub, actors)?)
+    let lists = hub.close(registry);
+    Ok(Homed {
+        workers,
+        house,
+        lists,
+    })
 }

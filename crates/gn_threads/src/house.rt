@@ -22,7 +22,7 @@ fn route_left_job<C: RouterCore<A> + Drop, L: Ledger + Named, A: Allocator + Cop
     job: Job<A>,
 ) -> Result<(), BodyFault>
     ensures routed { OnOk result (HasRouted (job ∷ []) me.old me.new) }
-    ensures alone { link_events me.new ≡ link_events me.old }
+    ensures alone { (me.new.number ≡ me.old.number) × (link_events me.new ≡ link_events me.old) }
 {
     let Job { ticket, descriptor } = job;
     let checked = Checked::new(descriptor);
@@ -46,7 +46,7 @@ pub(crate) fn route_left<C: RouterCore<A> + Drop, L: Ledger + Named, A: Allocato
     jobs: Vec<Job<A>, A>,
 ) -> Result<(), BodyFault>
     ensures routed { OnOk result (HasRouted jobs.items me.old me.new) }
-    ensures alone { link_events me.new ≡ link_events me.old }
+    ensures alone { (me.new.number ≡ me.old.number) × (link_events me.new ≡ link_events me.old) }
 {
     let mut is_refused = false;
     for job in jobs {

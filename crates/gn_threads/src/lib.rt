@@ -2,40 +2,33 @@
 //! or account.
 #![tactic(auto)]
 
-mod actors;
 mod arrivals;
 mod arriving;
 mod asked;
-mod bodies;
-mod came;
 mod course;
-mod done;
-mod ended;
 mod ending;
-mod fault;
+mod entering;
 mod finishing;
 mod halted;
 mod homecoming;
 mod house;
-mod joins;
-mod limits;
+mod in_order;
+mod open_account;
+mod open_ending;
 mod opening;
-mod reported;
 mod reporting;
 mod runs;
 mod settling;
-mod start;
-mod starting;
 mod stopped;
-mod tallied;
-mod unstarted;
 
 pub use arrivals::Arrivals;
 pub use arriving::{run_arriving, run_arriving_by, run_arriving_kept};
 pub use asked::{Asked, Coming, Routing};
 pub use course::{Course, InMemory};
-pub use fault::RunFault;
+pub use entering::{Entering, run_open};
+pub use gn_start::RunFault;
 pub use halted::Halted;
+pub use open_account::OpenAccount;
 pub use reporting::{stopped_by, tell};
 pub use runs::{run, run_by, runs_add_up};
 pub use stopped::Stopped;

@@ -7,13 +7,13 @@ ghost use Rattle.gn_report.specs.Actors.{AreOwn};
 ghost use Rattle.gn_report.specs.Told.{Tells};
 ghost use Rattle.gn_threads.specs.Courses.{AreStepsOf, steps_left};
 ghost use Rattle.gn_threads.specs.Told.{IsStoppedOf, IsToldOf};
-ghost use Rattle.gn_threads.specs.declared.fault.RunFault.TheVariants.{NoMemory};
+ghost use Rattle.gn_start.specs.declared.fault.RunFault.TheVariants.{NoMemory};
 
-use crate::fault::RunFault;
 use crate::halted::Halted;
 use crate::stopped::Stopped;
 use gn_report::{Account, Report};
 use gn_rules::{Historian, Step};
+use gn_start::RunFault;
 use std::alloc::Allocator;
 
 /// The steps that a router keeps: none, where there is no router.

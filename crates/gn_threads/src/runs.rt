@@ -5,20 +5,20 @@ ghost use Rattle.gn_rules.specs.Limits.{most_links};
 ghost use Rattle.gn_threads.specs.Answers.{IsKeptAnswer, IsRunAnswer, halted_views};
 ghost use Rattle.gn_threads.specs.Courses.{AreStepsOf, AreTallies, IsLeft};
 ghost use Rattle.gn_report.specs.Accounts.{report_of};
-ghost use Rattle.gn_threads.specs.Faults.{IsWholeFault};
+ghost use Rattle.gn_start.specs.Faults.{IsWholeFault};
 ghost use Rattle.gn_threads.specs.Headline.{AreMadeOf, Holds, LinksReadOwn, RunsAddUp};
 
 use crate::arrivals::Arrived;
 use crate::arriving::run_arriving_by;
 use crate::asked::{Asked, Coming, Routing};
 use crate::course::{Course, InMemory};
-use crate::fault::RunFault;
 use crate::halted::Halted;
 use crate::reporting::told_by;
 use gn_hub::Batch;
 use gn_links::{Gate, Link, SplitLinks, split_all};
 use gn_report::{Account, Report};
 use gn_rules::{Config, Historian, MOST_WORKERS, RouterCore};
+use gn_start::RunFault;
 use std::alloc::Allocator;
 use std::sync::Wait;
 use std::thread::Threads;
@@ -26,7 +26,7 @@ use std::thread::Threads;
 /// Runs a router over these links, each with a reader and a writer, and with this many workers, until all these threads
 /// have ended.
 ///
-/// Of several faults it answers the one that it finds first, but a full history before memory where bodies ran into both; no
+/// Of several faults it answers a link that can't be split before a full history, that before memory, and an audit last; no
 /// clause says so. Whatever the fault, no thread runs on.
 pub fn run<
     C: Historian<A> + Drop + Send,

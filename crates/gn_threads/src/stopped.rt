@@ -2,8 +2,8 @@
 
 ghost use Rattle.std.specs.Prelude.{◌≡◌, None};
 
-use crate::fault::RunFault;
 use gn_rules::Step;
+use gn_start::RunFault;
 use std::alloc::{Allocator, Global};
 
 /// A run that stopped at a fault.

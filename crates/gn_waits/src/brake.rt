@@ -3,8 +3,8 @@
 use std::array;
 use std::sync::atomic::{AtomicBool, AtomicI64, AtomicU32, Ordering};
 
-/// As many links as a run has at most.
-const LINKS: usize = 256;
+/// As many slots as a run has at most.
+const SLOTS: usize = 256;
 
 /// The bytes of the least descriptor.
 const LEAST: usize = 23;
@@ -14,10 +14,10 @@ const LEAST: usize = 23;
 #[derive(Debug, Drop)]
 pub struct Brake {
     is_set: AtomicBool,
-    /// The sum of those of all links; below 0 for a moment at most.
+    /// The sum of those of all slots; below 0 for a moment at most.
     in_hand: AtomicI64,
-    /// Those of each link. The link's reader alone changes them.
-    held: [AtomicU32; LINKS],
+    /// Those of the link in each slot. The link's reader alone changes them.
+    held: [AtomicU32; SLOTS],
 }
 
 impl Brake {
@@ -40,9 +40,9 @@ impl Brake {
         u64::try_from(self.in_hand.load(Ordering::SeqCst)).unwrap_or(0)
     }
 
-    /// The reader of this link has offered one of them.
-    pub fn offered(&self, link: u32) {
-        if let Some(held) = self.held.get(link as usize)
+    /// The reader of the link in this slot has offered one of them.
+    pub fn offered(&self, slot: u32) {
+        if let Some(held) = self.held.get(slot as usize)
             && held.load(Ordering::SeqCst) > 0
         {
             held.fetch_sub(1, Ordering::SeqCst);
@@ -55,10 +55,15 @@ impl Brake {
         self.is_set.load(Ordering::SeqCst)
     }
 
-    /// The reader of this link has got so many bytes, or may get so many, and has offered all that it had before.
-    pub(crate) fn got(&self, link: u32, bytes: usize) {
+    /// The reader of the link in this slot is at its end: it offers nothing any more.
+    pub fn ended(&self, slot: u32) {
+        self.got(slot, 0);
+    }
+
+    /// The reader of the link in this slot has got so many bytes, or may get so many, and has offered all that it had before.
+    pub(crate) fn got(&self, slot: u32, bytes: usize) {
         let most = u32::try_from(bytes.div_ceil(LEAST)).unwrap_or(u32::MAX);
-        if let Some(held) = self.held.get(link as usize) {
+        if let Some(held) = self.held.get(slot as usize) {
             let before = held.swap(most, Ordering::SeqCst);
             let more = i64::from(most) - i64::from(before);
             self.in_hand.fetch_add(more, Ordering::SeqCst);

@@ -18,8 +18,8 @@ pub struct Ways<'s> {
     pub stop: Option<&'s AtomicBool>,
     /// Once it is set, a read gives a few bytes at most. It learns what each read gave.
     pub brake: Option<&'s Brake>,
-    /// The number of the link in its run, by which the brake knows it.
-    pub link: u32,
+    /// The slot of the link in its run, by which the brake knows it.
+    pub slot: u32,
     /// Whether what the peer still sends at the end is read and dropped.
     pub lingers: bool,
 }
@@ -30,7 +30,7 @@ impl Ways<'static> {
         idle: None,
         stop: None,
         brake: None,
-        link: 0,
+        slot: 0,
         lingers: false,
     };
 }
@@ -39,7 +39,7 @@ impl<'s> Ways<'s> {
     /// The brake learns that the link's reader has so many bytes, or may get so many, and has offered all that it had before.
     pub fn tell_brake(&self, bytes: usize) {
         if let Some(brake) = self.brake {
-            brake.got(self.link, bytes);
+            brake.got(self.slot, bytes);
         }
     }
 
@@ -52,13 +52,13 @@ impl<'s> Ways<'s> {
             return room;
         };
         // it is said before the brake is looked at: who sets that sees what may come still
-        brake.got(self.link, room);
+        brake.got(self.slot, room);
         let room = if room > FEW && brake.is_set() {
             FEW
         } else {
             room
         };
-        brake.got(self.link, room);
+        brake.got(self.slot, room);
         room
     }
 

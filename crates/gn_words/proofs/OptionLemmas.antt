@@ -1,10 +1,14 @@
 -- A number that is asked for is within its limits.
-use Rattle.std.proofs.Common.{◌≡◌, ◌≤◌, ◌+◌, ◌&&◌, ℕ, List, Option, Some, None, arith}
+use Rattle.std.proofs.Common.{◌≡◌, ◌≤◌, ◌+◌, ◌&&◌, ℕ, Bool, true, false, List, Option, Some, None, Err, ◌∙◌, ap, arith, refl, subst}
 use Rattle.std.proofs.lemmas.Bool.Decides.{nat_tests}
-use Rattle.std.specs.Prelude.{nat_le, if◌then◌else◌}
+use Rattle.std.specs.Prelude.{codes, nat_le, option_map, unwrap_or, if◌then◌else◌}
+use Rattle.std.specs.Option.{option_map_or}
+use Rattle.std.specs.Str.{bytes_eq}
 use Rattle.clap.specs.Words.{Row, Text, first_of}
 use Rattle.gn_numbers.specs.Numbers.{number_of, ◌>>=◌}
-use Rattle.gn_words.specs.Options.{number_asked, number_between}
+use Rattle.gn_words.specs.Options.{IsReadAs, accept_of, number_asked, number_between}
+use Rattle.gn_words.specs.declared.unread.Unread.{Unread}
+use Rattle.gn_words.specs.declared.unread.Unread.TheVariants.{Mistake, NoMemory}
 
 kept : (least most m n : ℕ) → (if nat_le least m && nat_le m most then Some m else None) ≡ Some n → (least ≤ n) × (n ≤ most)
 kept least most m n is = grind (arith, nat_tests)
@@ -19,6 +23,33 @@ text_within least most n (Some text) is = read_within least most n (number_of te
 
 pub asked_within : (option : Text) (least most n : ℕ) (rows : List Row) → number_asked option least most rows ≡ Some n → (least ≤ n) × (n ≤ most)
 asked_within option least most n rows is = text_within least most n (first_of option rows) is
+
+no_more : (any : Bool) (asked accept : Option ℕ) → ((n : ℕ) → asked ≡ Some n → n ≤ 128) → (if any then Some None else option_map Some asked) ≡ Some accept → unwrap_or accept 0 ≤ 128
+no_more true asked accept few is = let none : None ≡ accept = cc in subst (λ a. unwrap_or a 0 ≤ 128) none (omega arith)
+no_more false None accept few is = absurd (cc)
+no_more false (Some n) accept few is = let some : Some n ≡ accept = cc in subst (λ a. unwrap_or a 0 ≤ 128) some (few n refl)
+
+-- whether any number of callers is asked for
+abbrev pub is_any : List Row → Bool
+is_any rows = option_map_or (λ text. bytes_eq text (codes "any")) (first_of (codes "accept") rows) false
+
+pub any_asked : (rows : List Row) → is_any rows ≡ true → accept_of rows ≡ Some None
+any_asked rows is = ap (λ (b : Bool). if b then Some None else option_map Some (number_asked (codes "accept") 0 128 rows)) is
+
+-- otherwise as many as the number says
+pub many_asked : (rows : List Row) (asked : Option ℕ) → is_any rows ≡ false → number_asked (codes "accept") 0 128 rows ≡ asked → accept_of rows ≡ option_map Some asked
+many_asked rows asked not_any is =
+    ap (λ (b : Bool). if b then Some None else option_map Some (number_asked (codes "accept") 0 128 rows)) not_any ∙ ap (option_map Some) is
+
+-- where that can't be read, the callers aren't known
+pub unread_too : (rows : List Row) (unread : Unread) → is_any rows ≡ false → IsReadAs {T = ℕ} (λ n. n) (number_asked (codes "accept") 0 128 rows) (Err unread)
+    → IsReadAs {T = Option ℕ} (λ accept. accept) (accept_of rows) (Err unread)
+unread_too rows (Mistake text) not_any none = many_asked rows None not_any none
+unread_too rows NoMemory not_any none = tt
+
+-- where the callers are limited that are asked for, they are few
+pub accept_within : (accept : Option ℕ) (rows : List Row) → accept_of rows ≡ Some accept → unwrap_or accept 0 ≤ 128
+accept_within accept rows is = no_more _ _ accept (λ n asked. (asked_within (codes "accept") 0 128 n rows asked).1) is
 
 pub few_links : (accept peers : ℕ) → accept ≤ 128 → peers ≤ 64 → accept + peers ≤ 256
 few_links accept peers may called = omega arith

@@ -59,6 +59,7 @@ plain_words = record {
   config = λ program. refl;
   written = λ program. refl;
   full = λ program. refl;
+  any = λ program. refl;
   no_port = λ program. refl;
   accepts = λ program. refl;
   workers = λ program. refl;
@@ -78,11 +79,16 @@ subcommand_made old app sub (Ok c) (Ok both) is known more =
 subcommand_made old app sub (Err e) (Ok both) is known more = absurd more
 subcommand_made old app sub made (Err e) is known more = tt
 
+-- whether the first value of an option, as it is got, is a word, is whether that of its row is
+pub word_read : (o : Option (Bor Text)) (f : Found) (id word : Text) → option_map (λ s. s.now) o ≡ first_value f id
+    → option_map_or (λ s. bytes_eq s.now word) o false ≡ option_map_or (λ t. bytes_eq t word) (first_of id (rows_of f)) false
+word_read None f id word e = ap (λ (v : Option Text). option_map_or (λ t. bytes_eq t word) v false) (e ∙ first_value-rows f id)
+word_read (Some s) f id word e = ap (λ (v : Option Text). option_map_or (λ t. bytes_eq t word) v false) (e ∙ first_value-rows f id)
+
 -- a flag's value, as it is got, says whether the flag is set
 pub flag_read : (o : Option (Bor Text)) (f : Found) (id : Text) → option_map (λ s. s.now) o ≡ first_value f id
     → option_map_or (λ s. bytes_eq s.now (codes "true")) o false ≡ is_set id (rows_of f)
-flag_read None f id e = ap (λ (v : Option Text). option_map_or (λ t. bytes_eq t (codes "true")) v false) (e ∙ first_value-rows f id)
-flag_read (Some s) f id e = ap (λ (v : Option Text). option_map_or (λ t. bytes_eq t (codes "true")) v false) (e ∙ first_value-rows f id)
+flag_read o f id e = word_read o f id (codes "true") e
 
 -- the first value of an option, as it is got, is the one of its row
 pub value_read : {X : Type 0} (o : Option (Bor Text)) (f : Found) (id : Text) (read : Text → Option X) → option_map (λ s. s.now) o ≡ first_value f id

@@ -1,5 +1,5 @@
 -- The words of a serve, as they are printed: an option a line, each with its value.
-use Rattle.std.specs.Prelude.{◌∷◌, ◌++◌, ℕ, Bool, false, true, List, [], codes, decimal}
+use Rattle.std.specs.Prelude.{◌∷◌, ◌++◌, ℕ, Bool, false, true, List, [], Option, Some, None, codes, decimal, unwrap_or}
 use Rattle.clap.specs.Words.{Text}
 use Rattle.gn_rules.specs.declared.limits.Numbers.{Numbers}
 use Rattle.gn_text.specs.Addresses.{ip_text}
@@ -46,19 +46,29 @@ abbrev pub peers_lines : List Peer → Text
 peers_lines [] = []
 peers_lines (peer ∷ more) = option_line (codes "peer") (peer_text peer) ++ peers_lines more
 
+-- how many callers are taken
+abbrev pub callers_text : Option ℕ → Text
+callers_text None = codes "any"
+callers_text (Some accept) = decimal accept
+
 -- what has to be given
 abbrev pub given_lines : AskedServe → Text
-given_lines serving = numbers_lines
-    ((codes "port", serving.port) ∷ (codes "accept", serving.accept) ∷ (codes "workers", serving.workers) ∷ [])
+given_lines serving =
+    numbers_lines ((codes "port", serving.port) ∷ []) ++ option_line (codes "accept") (callers_text serving.accept)
+    ++ numbers_lines ((codes "workers", serving.workers) ∷ [])
 
 -- what the own Pongs say that the router shares
 abbrev pub shared_lines : AskedServe → Text
 shared_lines serving = numbers_lines ((codes "files", serving.files) ∷ (codes "kilobytes", serving.kilobytes) ∷ [])
 
+-- the number that says a limit in seconds: 0 where there is none
+abbrev pub seconds_of : Option ℕ → ℕ
+seconds_of limit = unwrap_or limit 0
+
 -- when a peer is given up, and how much is done at once
 abbrev pub patience_lines : AskedServe → Text
-patience_lines serving =
-    numbers_lines ((codes "idle", serving.idle) ∷ (codes "retry", serving.retry) ∷ (codes "batch", serving.batch) ∷ [])
+patience_lines serving = numbers_lines
+    ((codes "idle", seconds_of serving.idle) ∷ (codes "retry", seconds_of serving.retry) ∷ (codes "batch", serving.batch) ∷ [])
 
 -- the numbers of the rules
 abbrev pub rules_lines : Numbers → Text
@@ -75,7 +85,7 @@ rules_lines numbers = numbers_lines
 
 -- what stops the router, and how long it then has
 abbrev pub end_lines : AskedServe → Text
-end_lines serving = numbers_lines ((codes "for", serving.seconds) ∷ (codes "grace", serving.grace) ∷ [])
+end_lines serving = numbers_lines ((codes "for", seconds_of serving.seconds) ∷ (codes "grace", serving.grace) ∷ [])
 
 -- the flags that are set
 abbrev pub set_lines : AskedServe → Text

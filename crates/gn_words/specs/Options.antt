@@ -109,6 +109,16 @@ numbers_of rows = do
 abbrev pub batch_of : List Row → Option ℕ
 batch_of rows = number_asked (codes "batch") 1 1024 rows
 
+-- how many callers are asked for, 0 to 128; none, where that is any number of them
+abbrev pub accept_of : List Row → Option (Option ℕ)
+accept_of rows =
+    if option_map_or (λ text. bytes_eq text (codes "any")) (first_of (codes "accept") rows) false then Some None
+    else option_map Some (number_asked (codes "accept") 0 128 rows)
+
+-- the limit that a number of seconds says: none, where there are none
+abbrev pub limit_of : ℕ → Option ℕ
+limit_of seconds = if seconds == 0 then None else Some seconds
+
 -- the seconds of a serve's limits, where each is within its own: for a silent peer, a peer that doesn't listen, the run, its end
 abbrev pub times_of : List Row → Option Times
 times_of rows = do
@@ -116,13 +126,13 @@ times_of rows = do
   retry ← number_asked (codes "retry") 0 86400 rows
   seconds ← number_asked (codes "for") 0 86400 rows
   grace ← number_asked (codes "grace") 0 3600 rows
-  Some (record { idle = idle; retry = retry; seconds = seconds; grace = grace })
+  Some (record { idle = limit_of idle; retry = limit_of retry; seconds = limit_of seconds; grace = grace })
 
 -- what the options of a serve ask for, where each is within its limits
 abbrev pub serving_of : List Row → Option AskedServe
 serving_of rows = do
   port ← number_asked (codes "port") 1 65535 rows
-  accept ← number_asked (codes "accept") 0 128 rows
+  accept ← accept_of rows
   workers ← workers_of rows
   servent ← servent_of rows
   files ← word_of (codes "files") rows

@@ -214,14 +214,14 @@ abbrev pub usual_serve : AskedServe
 usual_serve =
     record {
       port = 6346;
-      accept = 128;
+      accept = Some 128;
       workers = 64;
       servent = Given (record { 0 = 71 ∷ 71 ∷ 71 ∷ 71 ∷ 71 ∷ 71 ∷ 71 ∷ 71 ∷ 71 ∷ 71 ∷ 71 ∷ 71 ∷ 71 ∷ 71 ∷ 71 ∷ 71 ∷ [] });
       files = 0;
       kilobytes = 0;
       peers = [];
-      idle = 0;
-      retry = 0;
+      idle = None;
+      retry = None;
       batch = 64;
       numbers = record {
         neighbours = 64;
@@ -233,7 +233,7 @@ usual_serve =
         life = 0;
         crowd = 0;
       };
-      seconds = 0;
+      seconds = None;
       grace = 5;
       early = false;
       until_eof = false;
@@ -249,15 +249,15 @@ abbrev pub full_serve : AskedServe
 full_serve =
     record {
       port = 65535;
-      accept = 0;
+      accept = None;
       workers = 1;
       servent = Random;
       files = 4294967295;
       kilobytes = 70;
       peers =
           record { ip = 127 ∷ 0 ∷ 0 ∷ 1 ∷ []; port = 6347 } ∷ record { ip = 127 ∷ 255 ∷ 0 ∷ 13 ∷ []; port = 1 } ∷ [];
-      idle = 86400;
-      retry = 7;
+      idle = Some 86400;
+      retry = Some 7;
       batch = 1024;
       numbers = record {
         neighbours = 2;
@@ -269,7 +269,7 @@ full_serve =
         life = 255;
         crowd = 3;
       };
-      seconds = 10;
+      seconds = Some 10;
       grace = 3600;
       early = true;
       until_eof = true;
@@ -312,6 +312,8 @@ pub record PlainWordsAreRead : Type 0 where
   -- what is then written is read as that very serve, and so is what is written of one with each option
   pub written : (program : Text) → request_of (written_words program usual_serve) ≡ Some (Serve usual_serve)
   pub full : (program : Text) → request_of (written_words program full_serve) ≡ Some (Serve full_serve)
+  pub any : (program : Text) → request_of (serve_words program (codes "6346") (codes "any") (codes "64") [])
+      ≡ Some (Serve (record usual_serve { accept = None }))
   pub no_port : (program : Text)
       → kinds_of (serve_words program (codes "0") (codes "1") (codes "1") []) ≡ ValueValidation ∷ []
   pub accepts : (program : Text)

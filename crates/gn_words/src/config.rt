@@ -1,8 +1,9 @@
 //! The words of a serve, as they are printed.
 
 ghost use Rattle.std.specs.Prelude.{◌≡◌, ◌++◌, IfOk, OnOk, codes, decimal, map};
-ghost use Rattle.gn_words.specs.ConfigTexts.{config_text, end_lines, flag_line, flags_lines, given_lines, numbers_lines, option_line, patience_lines, peer_text, peers_lines, rules_lines, servent_line, servent_text, set_lines, shared_lines};
+ghost use Rattle.gn_words.specs.ConfigTexts.{config_text, end_lines, flag_line, flags_lines, given_lines, numbers_lines, option_line, patience_lines, peer_text, peers_lines, rules_lines, seconds_of, servent_line, servent_text, set_lines, shared_lines};
 
+use crate::callers::callers_said;
 use crate::request::{Peer, ServeOptions, Servent};
 use gn_text::{push_hex, push_ip, push_number};
 use std::alloc::{AllocError, Global};
@@ -25,6 +26,13 @@ fn number_said(alloc: Global, number: u32) -> Result<Vec<u8>, AllocError>
     let mut value = Vec::new(alloc);
     push_number(&mut value, number)?;
     Ok(value)
+}
+
+/// The number that says a limit in seconds: 0 where there is none.
+fn seconds_of(limit: Option<u32>) -> u32
+    ensures { result ≡ seconds_of limit }
+{
+    limit.unwrap_or(0)
 }
 
 /// Appends options that take a number, with theirs. An `Err` is out of memory.
@@ -131,15 +139,9 @@ fn push_rules(alloc: Global, out: &mut Vec<u8>, serving: &ServeOptions) -> Resul
 fn push_given(alloc: Global, out: &mut Vec<u8>, serving: &ServeOptions) -> Result<(), AllocError>
     ensures { OnOk result (out.new.items ≡ out.old.items ++ given_lines serving.now) }
 {
-    push_numbers(
-        alloc,
-        out,
-        &[
-            ("port", serving.port as u32),
-            ("accept", serving.accept),
-            ("workers", serving.workers),
-        ],
-    )
+    push_numbers(alloc, out, &[("port", serving.port as u32)])?;
+    push_option(out, "accept", &callers_said(alloc, serving.accept)?)?;
+    push_numbers(alloc, out, &[("workers", serving.workers)])
 }
 
 /// Appends what the own Pongs say that the router shares. An `Err` is out of memory.
@@ -161,8 +163,8 @@ fn push_patience(alloc: Global, out: &mut Vec<u8>, serving: &ServeOptions) -> Re
         alloc,
         out,
         &[
-            ("idle", serving.idle),
-            ("retry", serving.retry),
+            ("idle", seconds_of(serving.idle)),
+            ("retry", seconds_of(serving.retry)),
             ("batch", serving.batch),
         ],
     )
@@ -175,7 +177,10 @@ fn push_end(alloc: Global, out: &mut Vec<u8>, serving: &ServeOptions) -> Result<
     push_numbers(
         alloc,
         out,
-        &[("for", serving.seconds), ("grace", serving.grace)],
+        &[
+            ("for", seconds_of(serving.seconds)),
+            ("grace", serving.grace),
+        ],
     )
 }
 

@@ -2,6 +2,7 @@
 #![tactic(auto)]
 
 mod audit;
+mod callers;
 mod config;
 mod help;
 mod load;

@@ -52,8 +52,8 @@ pub enum Servent {
 pub struct ServeOptions {
     /// The port that the router listens on.
     pub port: u16,
-    /// How many peers may call.
-    pub accept: u32,
+    /// How many peers may call; `None`: any number of them.
+    pub accept: Option<u32>,
     /// How many threads route.
     pub workers: u32,
     /// Who the router is.
@@ -64,16 +64,16 @@ pub struct ServeOptions {
     pub kilobytes: u32,
     /// The peers that are called, in this order.
     pub peers: Vec<Peer>,
-    /// The seconds after which a silent peer is given up; 0: it never is.
-    pub idle: u32,
-    /// The seconds for which a peer that doesn't listen is called again; 0: it is called once.
-    pub retry: u32,
+    /// The seconds after which a silent peer is given up; `None`: it never is.
+    pub idle: Option<u32>,
+    /// The seconds for which a peer that doesn't listen is called again; `None`: it is called once.
+    pub retry: Option<u32>,
     /// How many packets are written to a neighbour at once at most.
     pub batch: u32,
     /// The numbers of the router's rules.
     pub numbers: Numbers,
-    /// The seconds after which the run is stopped; 0: no time stops it.
-    pub seconds: u32,
+    /// The seconds after which the run is stopped; `None`: no time stops it.
+    pub seconds: Option<u32>,
     /// The seconds that a run which is stopped has to end.
     pub grace: u32,
     /// Whether the run is stopped once it has made nine tenths of its steps.
@@ -93,7 +93,7 @@ pub struct ServeOptions {
 }
 
 impl Model for ServeOptions {
-    ghost use Rattle.std.specs.Prelude.{◌+◌, ◌<◌, ◌≤◌, length};
+    ghost use Rattle.std.specs.Prelude.{◌+◌, ◌<◌, ◌≤◌, length, unwrap_or};
     ghost use Rattle.gn_rules.specs.Limits.{AreWithin, IsCrew, most_links};
     ghost use Rattle.gn_words.specs.ServeOptions.{AskedServe};
 
@@ -122,6 +122,6 @@ impl Model for ServeOptions {
       progress = s.progress;
     } };
 
-    ghost invariant = { λ s. (IsCrew s.workers) × (s.accept + length s.peers.items ≤ most_links)
+    ghost invariant = { λ s. (IsCrew s.workers) × (unwrap_or s.accept 0 + length s.peers.items ≤ most_links)
         × (0 < s.batch) × AreWithin s.numbers };
 }

@@ -4,9 +4,10 @@ ghost use Rattle.std.specs.Prelude.{◌≡◌, IfOk, codes, false, option_and_th
 ghost use Rattle.clap.specs.Words.{app_of, found_of, rows_of};
 ghost use Rattle.clap.specs.declared.builder.command.Command.TheViews.{out-Command as fields_of};
 ghost use Rattle.gn_rules.specs.Limits.{AreWithin, most};
-ghost use Rattle.gn_words.specs.Options.{IsReadAs, number_asked, numbers_of, servent_in, servent_of, serving_of, times_of};
+ghost use Rattle.gn_words.specs.Options.{IsReadAs, limit_of, number_asked, numbers_of, servent_in, servent_of, serving_of, times_of};
 ghost use Rattle.gn_words.specs.Words.{quiet_app, serve_app, serve_of};
 
+use crate::callers::accept_of;
 use crate::numbers::{NumberOption, WORKERS, WORKERS_ROW, asked};
 use crate::peers::peers_of;
 use crate::request::{Request, ServeOptions, Servent};
@@ -79,7 +80,9 @@ const OPTIONS: [OptionRow; 6] = [
         name: "accept",
         letter: None,
         takes: Takes::Value("A"),
-        help: "How many callers are taken in all, 0 to 128, whatever becomes of them",
+        help: "\
+How many callers are taken in all, 0 to 128, whatever becomes of them; or any:
+as many as come for as long as it runs, as --neighbours says at once",
     },
     WORKERS_ROW,
     OptionRow {
@@ -316,14 +319,6 @@ const PORT: NumberOption = NumberOption {
     mistake: "--port takes a number of 1 to 65535",
 };
 
-/// What `--accept` takes.
-const ACCEPT: NumberOption = NumberOption {
-    name: "accept",
-    least: 0,
-    most: 128,
-    mistake: "--accept takes a number of 0 to 128",
-};
-
 /// What `--files` takes: what four bytes hold.
 const FILES: NumberOption = NumberOption {
     name: "files",
@@ -519,10 +514,17 @@ fn numbers_of(options: &ArgMatches<'_>) -> Result<Numbers, Unread>
 /// How long a serve waits and goes on, in seconds.
 #[derive(Clone, Copy, Debug)]
 struct Times {
-    idle: u32,
-    retry: u32,
-    seconds: u32,
+    idle: Option<u32>,
+    retry: Option<u32>,
+    seconds: Option<u32>,
     grace: u32,
+}
+
+/// The limit that a number of seconds says: none, where there are none.
+fn limit_of(seconds: u32) -> Option<u32>
+    ensures { result ≡ limit_of seconds }
+{
+    if seconds == 0 { None } else { Some(seconds) }
 }
 
 /// How long a serve waits and goes on, where each time is within its limits.
@@ -534,9 +536,9 @@ fn times_of(options: &ArgMatches<'_>) -> Result<Times, Unread>
     let seconds = asked(options, &SECONDS)?;
     let grace = asked(options, &GRACE)?;
     Ok(Times {
-        idle,
-        retry,
-        seconds,
+        idle: limit_of(idle),
+        retry: limit_of(retry),
+        seconds: limit_of(seconds),
         grace,
     })
 }
@@ -546,7 +548,7 @@ fn serving_of(alloc: Global, options: &ArgMatches<'_>) -> Result<ServeOptions, U
     ensures { IsReadAs (λ s. s) (serving_of (rows_of (found_of options.now))) result }
 {
     let port = port_of(options)?;
-    let accept = asked(options, &ACCEPT)?;
+    let accept = accept_of(options)?;
     let workers = asked(options, &WORKERS)?;
     let servent = servent_of(options)?;
     let files = asked(options, &FILES)?;

@@ -31,7 +31,7 @@ pub use Rattle.gn_hub.specs.declared.next.Outgoing
 pub use Rattle.gn_bodies.specs.declared.ends.ReaderEnd
 pub use Rattle.gn_bodies.specs.declared.ends.WriterEnd
 pub use Rattle.gn_bodies.specs.declared.ends.BodyFault
-pub use Rattle.gn_threads.specs.declared.fault.RunFault
+pub use Rattle.gn_start.specs.declared.fault.RunFault
 pub use Rattle.gn_load.specs.declared.serve_fault.ServeFault
 pub use Rattle.gn_text.specs.declared.fault.CaptureFault
 pub use Rattle.gn_text.specs.declared.fault.CaptureRefusal

@@ -93,12 +93,12 @@ pub mod stage {
 /// The router under its lock, and the actors that call it.
 pub mod hub {
     pub use gn_actors::{
-        Beginning, Growing, Home, Named, Numbering, Tally, Unnamed, Unopened, Who,
+        Beginning, Growing, Named, Numbering, Registry, Tally, Unnamed, Unopened, Who,
         numbers_are_apart,
     };
     pub use gn_hub::{
-        Actor, Batch, Door, FoundClosed, Hub, Idle, Mark, Next, Outgoing, Progress, Service,
-        ServiceFault,
+        Actor, Batch, Door, FoundClosed, Hub, Idle, Mark, Next, Outgoing, Progress, Retired,
+        Retiring, Service, ServiceFault,
     };
     pub use gn_room::{Following, Room, run_beside};
     pub use gn_trail::{Lists, Tells, Trail};
@@ -108,11 +108,11 @@ pub mod hub {
 pub mod links {
     pub use gn_links::{
         Gate, Half, Link, LinkFault, LinkReader, LinkWriter, Made, MemoryLink, MemoryReader,
-        MemoryWriter, NoGate, SplitFault, SplitLink, SplitLinks, split_all,
+        MemoryWriter, NoGate, Place, SplitFault, SplitLink, SplitLinks, split_all,
     };
     pub use gn_tcp::{
-        Brake, Call, ListenerStopper, Socket, Sockets, TcpCall, TcpLink, TcpOrigin, TcpReader,
-        TcpStopper, TcpWriter, Unmet, listen,
+        Brake, Call, ListenerStopper, Socket, TcpCall, TcpLink, TcpOrigin, TcpReader, TcpStopper,
+        TcpWriter, Unmet, listen,
     };
 }
 
@@ -128,10 +128,12 @@ pub mod bodies {
 pub mod run {
     pub use gn_receipts::receipts_by_actor;
     pub use gn_report::{Account, LinkAccount, LinkReport, LinkTally, Report, Unkept};
-    pub use gn_service::{Host, Ran, Serve, Serving, Stop, serve_by, serve_kept, serve_on};
+    pub use gn_service::{
+        Any, Host, Parting, Ran, Serve, Serving, Stop, serve_any, serve_by, serve_kept, serve_on,
+    };
     pub use gn_threads::{
-        Arrivals, Asked, Coming, Course, Halted, InMemory, Routing, RunFault, Stopped, run,
-        run_arriving, run_arriving_by, run_arriving_kept, run_by, stopped_by, tell,
+        Arrivals, Asked, Coming, Course, Halted, InMemory, OpenAccount, Routing, RunFault, Stopped,
+        run, run_arriving, run_arriving_by, run_arriving_kept, run_by, stopped_by, tell,
     };
 }
 
@@ -168,9 +170,9 @@ pub mod show {
 pub mod load {
     pub use gn_links::Watch;
     pub use gn_load::{
-        LoadFault, Loading, PrintFault, ServeFault, ServeHalted, ServeStopped, links_of, load,
-        load_journalled, load_watched, print_history, serve_history, serve_history_kept,
-        serve_journalled,
+        LoadFault, Loading, PrintFault, ServeFault, ServeHalted, ServeStopped, Taken, Taking,
+        links_of, load, load_journalled, load_watched, print_history, serve_any_journalled,
+        serve_history, serve_history_kept, serve_journalled, serve_taken,
     };
 }
 

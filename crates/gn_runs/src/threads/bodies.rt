@@ -18,7 +18,7 @@ use gn_bodies::{
 };
 use gn_fixtures::{Heap, Refused, ping};
 use gn_hub::{Actor, Batch, Door, Hub, Service};
-use gn_links::{Link, LinkReader, LinkWriter, MemoryLink, MemoryWriter};
+use gn_links::{Link, LinkReader, LinkWriter, MemoryLink, MemoryWriter, Place};
 use gn_rules::{Event, Historian, RouterCore, Step};
 use gn_shake::Role;
 use gn_stage::{Intake, Job, Outlet, Site, Stage};
@@ -224,7 +224,7 @@ where
         alloc,
         service,
         gate,
-        place: 0,
+        place: Place::of(0),
         actor,
     }
 }
@@ -253,7 +253,7 @@ where
         alloc,
         service,
         gate,
-        place: WORKER,
+        place: Place::of(WORKER),
         actor: worker,
     };
     worker_body(caller, WorkerTask { batch, outlet }).end

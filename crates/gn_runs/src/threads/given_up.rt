@@ -2,7 +2,7 @@
 
 use gn_fixtures::{PING, usual};
 use gn_hub::Batch;
-use gn_links::{Gate, Link, Made, MemoryLink, MemoryReader, MemoryWriter};
+use gn_links::{Gate, Link, Made, MemoryLink, MemoryReader, MemoryWriter, Place};
 use gn_rules::FreshRouter;
 use gn_shake::Role;
 use gn_table_router::TableRouter;
@@ -33,7 +33,7 @@ impl Gate for News {
     fn enter<R: Wait>(&self, _rt: &R, _worker: u32, _ticket: u32) {}
 
     /// The first link's reader goes on from its only step once the second link is waited for.
-    fn made(&self, _link: u32, _step: Made) {
+    fn made(&self, _place: Place, _step: Made) {
         for _ in 0..MOST_LOOKS {
             if self.asked.load(Ordering::SeqCst) > 1 {
                 return;

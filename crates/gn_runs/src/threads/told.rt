@@ -3,7 +3,7 @@
 use crate::threads::runs::table_run;
 use gn_bodies::{ReaderEnd, WriterEnd};
 use gn_fixtures::PING;
-use gn_links::{Gate, Made, MemoryLink};
+use gn_links::{Gate, Made, MemoryLink, Place};
 use gn_report::Report;
 use gn_run_fixtures::a_report;
 use gn_shake::{Role, request};
@@ -27,7 +27,7 @@ struct Holder {
 impl Gate for Holder {
     fn enter<R: Wait>(&self, _rt: &R, _worker: u32, _ticket: u32) {}
 
-    fn made(&self, _link: u32, step: Made) {
+    fn made(&self, _place: Place, step: Made) {
         match step {
             Made::Closed => {
                 self.closed.fetch_add(1, Ordering::SeqCst);

@@ -1,5 +1,5 @@
 use Rattle.std.proofs.Common.{rules}
-use Rattle.gn_threads.specs.declared.fault.RunFault.TheVariants.{BadWorkers, NoMemory}
+use Rattle.gn_start.specs.declared.fault.RunFault.TheVariants.{BadWorkers, NoMemory}
 use Rattle.gn_load.proofs.JournalLemmas.{unbegun}
 use Rattle.gn_load.proofs.journalled.serve_journalled.Goals as goal
 

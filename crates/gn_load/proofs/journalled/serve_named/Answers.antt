@@ -3,7 +3,7 @@ use Rattle.rtrb.specs.Ring.{received}
 use Rattle.gn_scribe.specs.Written.{HasFinished}
 use Rattle.gn_service.proofs.KeptLemmas.{held_err, held_ok}
 use Rattle.gn_threads.proofs.CourseLemmas.{err_of, ok_of}
-use Rattle.gn_threads.specs.declared.fault.RunFault.TheVariants.{NoMemory}
+use Rattle.gn_start.specs.declared.fault.RunFault.TheVariants.{NoMemory}
 use Rattle.gn_load.specs.Journalled.{IsJournalled}
 use Rattle.gn_load.proofs.JournalLemmas.{all_written_of, journalled_from, stopped_as, unbegun, unwritten}
 use Rattle.gn_load.proofs.journalled.serve_named.Goals as goal

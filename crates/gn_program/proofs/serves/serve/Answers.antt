@@ -1,8 +1,9 @@
-use Rattle.std.proofs.Common.{◌≡◌, ◌∙◌, ℕ, ap, refl, length, subst, sym, Ok, Err, Global}
-use Rattle.gn_load.specs.Journalled.{IsJournalled}
+use Rattle.std.proofs.Common.{◌≡◌, ◌∙◌, ℕ, Option, ap, refl, length, subst, sym, Ok, Err, Global}
+use Rattle.gn_load.specs.Any.{IsJournalledTaken}
+use Rattle.gn_load.specs.declared.taken.Taken.{Taken}
 use Rattle.gn_program.specs.Peers.{AreAt}
 use Rattle.gn_rules.specs.Limits.{IsCrew}
-use Rattle.gn_threads.specs.declared.fault.RunFault.TheVariants.{Listen, NoMemory}
+use Rattle.gn_start.specs.declared.fault.RunFault.TheVariants.{Listen, NoMemory}
 use Rattle.gn_words.specs.ServeOptions.{AskedServe}
 use Rattle.gn_program.proofs.ServeLemmas.{answered, asked, beside_itself, failed, unserved}
 use Rattle.gn_program.proofs.serves.serve.Goals as goal
@@ -12,7 +13,7 @@ returns-in_err-peers g c = (
   g.W.Sink.state c.args.writer.now,
   beside_itself _ (g.W.Sink.state c.args.writer.now),
   unserved c.args.serving.now c.settings-config.result c.args.remembered.now c.requires.none (g.W.Sink.state c.args.writer.now) c.from_residual.result NoMemory c.settings-config.ensures
-      c.from_residual.ensures.1 tt,
+      c.from_residual.ensures.1 (λ _. tt),
 )
 
 pub returns-in_err-stop : goal.returns-in_err-stop
@@ -20,14 +21,14 @@ returns-in_err-stop g c = (
   g.W.Sink.state c.args.writer.now,
   beside_itself _ (g.W.Sink.state c.args.writer.now),
   unserved c.args.serving.now c.settings-config.result c.args.remembered.now c.requires.none (g.W.Sink.state c.args.writer.now) c.from_residual-in_err-stop.result NoMemory c.settings-config.ensures
-      c.from_residual-in_err-stop.ensures.1 tt,
+      c.from_residual-in_err-stop.ensures.1 (λ _. tt),
 )
 
 pub returns-in_default : goal.returns-in_default
 returns-in_default g c = (
   g.W.Sink.state c.args.writer.now,
   beside_itself _ (g.W.Sink.state c.args.writer.now),
-  unserved c.args.serving.now c.settings-config.result c.args.remembered.now c.requires.none (g.W.Sink.state c.args.writer.now) _ Listen c.settings-config.ensures refl refl,
+  unserved c.args.serving.now c.settings-config.result c.args.remembered.now c.requires.none (g.W.Sink.state c.args.writer.now) _ Listen c.settings-config.ensures refl (λ _. refl),
 )
 
 pub returns : goal.returns
@@ -35,14 +36,15 @@ returns g c =
     let ran = c.in-Err.ensures in
     let inside = c.serving.inside in
     let config = c.settings-config.result in
-    let called = c.deref-3.result.now in
+    let called = c.deref-2.result.now in
     let old = g.W.Sink.state c.args.writer.now in
-    let told = subst (λ (s : AskedServe). IsJournalled {A = Global} s.batch config called s.accept s.workers old ran.0 (Err c.in-Err.field-0)) c.serving.view_is
-    (subst (λ (n : ℕ). IsJournalled {A = Global} n config called inside.accept inside.workers old ran.0 (Err c.in-Err.field-0)) c.batch_of.ensures ran.2) in
+    let told = subst (λ (accept : Option ℕ). IsJournalledTaken {A = Global} {Q = Taken Global} c.args.serving.now.batch config called accept c.args.serving.now.workers old ran.0 (Err c.in-Err.field-0)) c.taking.ensures
+    (subst (λ (s : AskedServe). IsJournalledTaken {A = Global} {Q = Taken Global} s.batch config called c.taking.result.accept s.workers old ran.0 (Err c.in-Err.field-0)) c.serving.view_is
+    (subst (λ (n : ℕ). IsJournalledTaken {A = Global} {Q = Taken Global} n config called c.taking.result.accept inside.workers old ran.0 (Err c.in-Err.field-0)) c.batch_of.ensures ran.2)) in
     let many : length called ≡ length inside.peers.items =
-    ap (λ xs. length xs) c.deref-3.ensures.value ∙ c.in_ok-peers.ensures.many ∙ ap (λ xs. length xs) c.deref.ensures.value in
+    ap (λ xs. length xs) c.deref-2.ensures.value ∙ c.in_ok-peers.ensures.many ∙ ap (λ xs. length xs) c.deref.ensures.value in
     let at : AreAt inside.peers.items called =
-    subst (λ peers. AreAt peers called) c.deref.ensures.value (subst (λ called. AreAt c.deref.result.now called) (sym c.deref-3.ensures.value) c.in_ok-peers.ensures.each) in (
+    subst (λ peers. AreAt peers called) c.deref.ensures.value (subst (λ called. AreAt c.deref.result.now called) (sym c.deref-2.ensures.value) c.in_ok-peers.ensures.each) in (
       ran.0,
       ran.1,
       failed c.args.serving.now config called c.in-Err.field-0.ran old ran.0 (Err c.in-Err.field-0.fault) c.in-Err.field-0.fault
@@ -56,14 +58,15 @@ returns-in-Ok-answer g c =
     let ran = c.in-Ok-answer.ensures in
     let inside = c.serving.inside in
     let config = c.settings-config.result in
-    let called = c.deref-3.result.now in
+    let called = c.deref-2.result.now in
     let old = g.W.Sink.state c.args.writer.now in
-    let told = subst (λ (s : AskedServe). IsJournalled {A = Global} s.batch config called s.accept s.workers old ran.0 (Ok (c.in-Ok-answer.account, c.in-Ok-answer.ran))) c.serving.view_is
-    (subst (λ (n : ℕ). IsJournalled {A = Global} n config called inside.accept inside.workers old ran.0 (Ok (c.in-Ok-answer.account, c.in-Ok-answer.ran))) c.batch_of.ensures ran.2) in
+    let told = subst (λ (accept : Option ℕ). IsJournalledTaken {A = Global} c.args.serving.now.batch config called accept c.args.serving.now.workers old ran.0 (Ok (c.in-Ok-answer.taken, c.in-Ok-answer.ran))) c.taking.ensures
+    (subst (λ (s : AskedServe). IsJournalledTaken {A = Global} s.batch config called c.taking.result.accept s.workers old ran.0 (Ok (c.in-Ok-answer.taken, c.in-Ok-answer.ran))) c.serving.view_is
+    (subst (λ (n : ℕ). IsJournalledTaken {A = Global} n config called c.taking.result.accept inside.workers old ran.0 (Ok (c.in-Ok-answer.taken, c.in-Ok-answer.ran))) c.batch_of.ensures ran.2)) in
     let many : length called ≡ length inside.peers.items =
-    ap (λ xs. length xs) c.deref-3.ensures.value ∙ c.in_ok-peers.ensures.many ∙ ap (λ xs. length xs) c.deref.ensures.value in
+    ap (λ xs. length xs) c.deref-2.ensures.value ∙ c.in_ok-peers.ensures.many ∙ ap (λ xs. length xs) c.deref.ensures.value in
     let at : AreAt inside.peers.items called =
-    subst (λ peers. AreAt peers called) c.deref.ensures.value (subst (λ called. AreAt c.deref.result.now called) (sym c.deref-3.ensures.value) c.in_ok-peers.ensures.each) in
+    subst (λ peers. AreAt peers called) c.deref.ensures.value (subst (λ called. AreAt c.deref.result.now called) (sym c.deref-2.ensures.value) c.in_ok-peers.ensures.each) in
     let at_all = subst (λ (s : AskedServe). AreAt s.peers called) c.serving.view_is at in (
       ran.0,
       ran.1,

@@ -1,6 +1,6 @@
 //! A gate that knows who passed, and of which steps it was told.
 
-use gn_links::{Gate, Half, Made};
+use gn_links::{Gate, Half, Made, Place};
 use std::cell::Cell;
 use std::sync::Wait;
 
@@ -45,8 +45,8 @@ impl Doorman {
     fn tell(&self, word: &'static str) {
         let count = self.count.get();
         let mut told = self.told.get();
-        if let Some(place) = told.get_mut(count) {
-            *place = word;
+        if let Some(next) = told.get_mut(count) {
+            *next = word;
         }
         self.told.set(told);
         self.count.set(count.wrapping_add(1));
@@ -59,11 +59,11 @@ impl Gate for Doorman {
         self.tell("passed");
     }
 
-    fn made(&self, _link: u32, step: Made) {
+    fn made(&self, _place: Place, step: Made) {
         self.tell(word_of(step));
     }
 
-    fn ended(&self, _link: u32, half: Half) {
+    fn ended(&self, _place: Place, half: Half) {
         let (reader, writer) = self.ended.get();
         self.ended.set(match half {
             Half::Reader => (true, writer),

@@ -1,4 +1,4 @@
-use Rattle.gn_threads.proofs.OverLemmas.{left_unopened}
+use Rattle.gn_threads.proofs.CourseLemmas.{left_unopened}
 use Rattle.gn_threads.proofs.arriving.run_arriving_by.Goals as goal
 
 pub returns-then-workers-eq0-clause-rest : goal.returns-then-workers-eq0-clause-rest

@@ -3,7 +3,7 @@ use Rattle.std.proofs.lemmas.Result.{IfOk-weaker}
 use Rattle.gn_report.specs.Accounts.{report_of}
 use Rattle.gn_threads.specs.Courses.{steps_left}
 use Rattle.gn_threads.specs.Answers.{IsKeptAnswer, halted_views}
-use Rattle.gn_threads.specs.Faults.{IsArrivingFault}
+use Rattle.gn_start.specs.Faults.{IsArrivingFault}
 use Rattle.gn_threads.specs.Headline.{AreMadeOf, Holds}
 use Rattle.gn_threads.proofs.AnswerLemmas.{arrived_told, told_answer}
 use Rattle.gn_threads.proofs.AnsweredLemmas.{own_held, steps_had, told_has}

@@ -8,7 +8,11 @@ pub returns-in-Ok-clause-routed : goal.returns-in-Ok-clause-routed
 returns-in-Ok-clause-routed g c = rw (← c.job.view_is) (one_event_more c.args.me.now c.route-answer.new.me _ c.in-Ok.ensures.answer.3)
 
 pub returns-in-Ok-clause-alone : goal.returns-in-Ok-clause-alone
-returns-in-Ok-clause-alone g c = no_event_more c.args.me.now c.route-answer.new.me _ refl c.in-Ok.ensures.answer.3
+returns-in-Ok-clause-alone g c =
+    let more = c.in-Ok.ensures.answer.3 in
+    (ap (λ (me : ActorState _). me.number) more, no_event_more c.args.me.now c.route-answer.new.me _ refl more)
 
 pub returns-in-Err-clause-alone : goal.returns-in-Err-clause-alone
-returns-in-Err-clause-alone g c = ap (λ (me : ActorState _). link_events me) c.in-Err.ensures.answer.1
+returns-in-Err-clause-alone g c =
+    let same = c.in-Err.ensures.answer.1 in
+    (ap (λ (me : ActorState _). me.number) same, ap (λ (me : ActorState _). link_events me) same)

@@ -2,7 +2,7 @@ use Rattle.std.proofs.Common.{map, subst}
 use Rattle.gn_report.specs.Accounts.{report_of}
 use Rattle.gn_threads.specs.Courses.{steps_left}
 use Rattle.gn_threads.specs.Answers.{IsKeptAnswer, halted_views}
-use Rattle.gn_threads.specs.Faults.{IsWholeFault}
+use Rattle.gn_start.specs.Faults.{IsWholeFault}
 use Rattle.gn_threads.specs.Headline.{AreMadeOf, Holds}
 use Rattle.gn_threads.proofs.AnswerLemmas.{fault_alone, report_alone, told_report, told_stopped}
 use Rattle.gn_threads.proofs.AnsweredLemmas.{own_held, steps_had, told_has}

@@ -7,13 +7,13 @@ use Rattle.gn_rules.specs.Limits.{IsCrew}
 use Rattle.gn_report.specs.Accounts.{report_of}
 use Rattle.gn_threads.specs.Answers.{halted_views}
 use Rattle.gn_threads.specs.Courses.{AreTallies}
-use Rattle.gn_threads.specs.Faults.{IsWholeFault}
+use Rattle.gn_start.specs.Faults.{IsWholeFault}
 use Rattle.gn_threads.specs.Headline.{AreMadeOf, Holds, LinksReadOwn}
 use Rattle.gn_threads.proofs.AnswerLemmas.{at_fault, none_kept}
 use Rattle.gn_threads.proofs.FaultLemmas.{err_without_peers, split_is_fault}
 use Rattle.gn_threads.proofs.HoldsLemmas.{own_of_known}
-use Rattle.gn_threads.proofs.JoinedLemmas.{all_come}
-use Rattle.gn_threads.proofs.OverLemmas.{left_unopened}
+use Rattle.gn_threads.proofs.ListLemmas.{all_come}
+use Rattle.gn_threads.proofs.CourseLemmas.{left_unopened}
 use Rattle.gn_threads.proofs.runs.run_by.Goals as goal
 
 pub returns-clause-answer : goal.returns-clause-answer

@@ -5,7 +5,7 @@ use Rattle.gn_rules.specs.Limits.{IsCrew}
 use Rattle.gn_report.specs.Accounts.{report_of}
 use Rattle.gn_sockets.specs.TcpHalves.{half_read, half_written}
 use Rattle.gn_threads.specs.Courses.{AreTallies}
-use Rattle.gn_threads.specs.Faults.{IsArrivingFault}
+use Rattle.gn_start.specs.Faults.{IsArrivingFault}
 use Rattle.gn_threads.specs.Headline.{AreMadeOf, Holds}
 use Rattle.gn_service.proofs.RoleLemmas.{all_of, socket_of_one}
 use Rattle.gn_service.proofs.TallyLemmas.{many_roles}

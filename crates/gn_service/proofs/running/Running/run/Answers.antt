@@ -2,8 +2,8 @@ use Rattle.std.proofs.Common.{◌≡◌, ◌≤◌, ℕ, true, length, subst, sy
 use Rattle.std.specs.Prelude.{IfSome}
 use Rattle.gn_threads.specs.Courses.{AreStepsOf}
 use Rattle.gn_threads.proofs.CourseLemmas.{left_on}
-use Rattle.gn_threads.specs.Faults.{IsArrivingFault}
-use Rattle.gn_threads.specs.declared.fault.RunFault.TheVariants.{BadWorkers, HistoryFull}
+use Rattle.gn_start.specs.Faults.{IsArrivingFault}
+use Rattle.gn_start.specs.declared.fault.RunFault.TheVariants.{BadWorkers, HistoryFull}
 use Rattle.gn_service.specs.Serves.{IsTallied}
 use Rattle.gn_service.proofs.ServedLemmas.{failed_at, failed_too}
 use Rattle.gn_service.proofs.running.Running.run.Goals as goal

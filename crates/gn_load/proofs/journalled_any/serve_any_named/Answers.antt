@@ -1,0 +1,81 @@
+use Rattle.std.proofs.Common.{◌∙◌, Err, Ok, ap, rules, subst, sym}
+use Rattle.rtrb.specs.Ring.{received}
+use Rattle.gn_scribe.specs.Written.{HasFinished}
+use Rattle.gn_service.proofs.KeptLemmas.{held_err, held_ok}
+use Rattle.gn_threads.proofs.CourseLemmas.{err_of, ok_of}
+use Rattle.gn_start.specs.declared.fault.RunFault.TheVariants.{NoMemory}
+use Rattle.gn_load.specs.Any.{IsJournalledAny}
+use Rattle.gn_load.proofs.AnyLemmas.{all_written, stopped_as, unbegun, unwritten}
+use Rattle.gn_load.proofs.JournalLemmas.{journalled_from}
+use Rattle.gn_load.proofs.journalled_any.serve_any_named.Goals as goal
+
+pub returns-in_default : goal.returns-in_default
+returns-in_default g c =
+    unbegun c.args.serve.now.batch c.args.serve.now.config.now c.args.serve.now.peers.now c.args.serve.now.workers (g.W.Sink.state c.args.sink.now) c.unbegun.result NoMemory c.unbegun.ensures (search rules) (search rules)
+
+pub returns-in-Err : goal.returns-in-Err
+returns-in-Err g c =
+    let s = c.args.serve.now in
+    let rest = c.serve_any-answer.ensures.rest in
+    let old = g.W.Sink.state c.args.sink.now in
+    let mid = g.W.Sink.state c.serve_any-answer.result.1.sink.now in
+    let has = journalled_from s.config.now c.new.result rest.ran.scribe old (g.W.Sink.state rest.ran.sink.now) mid rest.steps rest.ran.written c.serve_any-answer.result.1.waiting
+    (c.new.ensures.block ∙ c.requires.heading) (ap received c.new.ensures.steps ∙ c.requires.ring.2) rest.became.1 rest.left.0.1 in
+    let answer = c.serve_any-answer.result.0 in
+    let named = sym (rest.left.0.0 ∙ rest.became.0) in
+    let halted = c.in-Err.halted in
+    let new = g.W.Sink.state c.finish_halted.new.sink in
+    subst (λ (k : g.row.W.Denot). IsJournalledAny s.batch s.config.now s.peers.now s.workers old (g.W.Sink.state k) (Err c.finish_halted.result)) (sym (c.sink-in-Err-1.given.1 named))
+    (stopped_as s.batch s.config.now s.peers.now s.workers rest.steps old mid new halted c.finish_halted.result
+    (record {
+      crew = c.requires.few;
+      bad_workers = err_of answer halted _ c.in-Err.is c.serve_any-answer.ensures.served.answered.run.bad_workers;
+      fault = err_of answer halted _ c.in-Err.is c.serve_any-answer.ensures.served.answered.run.fault;
+      full = err_of answer halted _ c.in-Err.is c.serve_any-answer.ensures.served.answered.full;
+      has = held_err answer halted _ _ c.in-Err.is rest.held;
+      legal = rest.left.1 s.config.now c.requires.named.1;
+    })
+    c.finish_halted.ensures.same.0 c.finish_halted.ensures.same.2 c.serve_any-answer.result.1.waiting has c.finish_halted.ensures.fault c.finish_halted.ensures.written)
+
+pub returns-in-Ok-finish_history : goal.returns-in-Ok-finish_history
+returns-in-Ok-finish_history g c =
+    let s = c.args.serve.now in
+    let rest = c.serve_any-answer.ensures.rest in
+    let old = g.W.Sink.state c.args.sink.now in
+    let mid = g.W.Sink.state c.serve_any-answer.result.1.sink.now in
+    let has = journalled_from s.config.now c.new.result rest.ran.scribe old (g.W.Sink.state rest.ran.sink.now) mid rest.steps rest.ran.written c.serve_any-answer.result.1.waiting
+    (c.new.ensures.block ∙ c.requires.heading) (ap received c.new.ensures.steps ∙ c.requires.ring.2) rest.became.1 rest.left.0.1 in
+    let answer = c.serve_any-answer.result.0 in
+    let named = sym (rest.left.0.0 ∙ rest.became.0) in
+    let account = c.in-Ok-answer.account in
+    let ran = c.in-Ok-answer.ran in
+    let new = g.W.Sink.state c.finish_history.new.sink in
+    subst (λ (k : g.row.W.Denot). IsJournalledAny s.batch s.config.now s.peers.now s.workers old (g.W.Sink.state k) (Ok (account, ran))) (sym (c.sink-1.given.1 named))
+    (all_written s.batch s.config.now s.peers.now s.workers rest.steps old mid new account ran c.requires.few
+    (ok_of answer (account, ran) _ c.in-Ok-answer.is c.serve_any-answer.ensures.ran)
+    (ok_of answer (account, ran) _ c.in-Ok-answer.is c.serve_any-answer.ensures.served.account)
+    (held_ok answer (account, ran) _ _ c.in-Ok-answer.is rest.held)
+    c.serve_any-answer.result.1.waiting c.in-Ok-finish_history.field-0 has
+    (subst (λ r. HasFinished mid new c.serve_any-answer.result.1.waiting r) c.in-Ok-finish_history.is c.finish_history.ensures))
+
+pub returns-in-Err-finish_history : goal.returns-in-Err-finish_history
+returns-in-Err-finish_history g c =
+    let s = c.args.serve.now in
+    let rest = c.serve_any-answer.ensures.rest in
+    let old = g.W.Sink.state c.args.sink.now in
+    let mid = g.W.Sink.state c.serve_any-answer.result.1.sink.now in
+    let has = journalled_from s.config.now c.new.result rest.ran.scribe old (g.W.Sink.state rest.ran.sink.now) mid rest.steps rest.ran.written c.serve_any-answer.result.1.waiting
+    (c.new.ensures.block ∙ c.requires.heading) (ap received c.new.ensures.steps ∙ c.requires.ring.2) rest.became.1 rest.left.0.1 in
+    let answer = c.serve_any-answer.result.0 in
+    let named = sym (rest.left.0.0 ∙ rest.became.0) in
+    let account = c.in-Ok-answer.account in
+    let ran = c.in-Ok-answer.ran in
+    let new = g.W.Sink.state c.finish_history.new.sink in
+    subst (λ (k : g.row.W.Denot). IsJournalledAny s.batch s.config.now s.peers.now s.workers old (g.W.Sink.state k) (Err c.unwritten.result)) (sym (c.sink-1.given.1 named))
+    (unwritten s.batch s.config.now s.peers.now s.workers rest.steps old mid new account ran c.requires.few
+    (ok_of answer (account, ran) _ c.in-Ok-answer.is c.serve_any-answer.ensures.ran)
+    (ok_of answer (account, ran) _ c.in-Ok-answer.is c.serve_any-answer.ensures.served.account)
+    (held_ok answer (account, ran) _ _ c.in-Ok-answer.is rest.held)
+    c.unwritten.result c.serve_any-answer.result.1.waiting c.in-Err-finish_history.why has
+    (subst (λ r. HasFinished mid new c.serve_any-answer.result.1.waiting r) c.in-Err-finish_history.is c.finish_history.ensures)
+    c.unwritten.ensures.fault c.unwritten.ensures.same)

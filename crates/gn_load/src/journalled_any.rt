@@ -1,0 +1,142 @@
+//! A run over TCP that takes any number of callers, whose history is written while it goes on.
+
+ghost use Rattle.std.specs.Prelude.{◌≡◌, [], Some};
+ghost use Rattle.rtrb.specs.Ring.{IsPair, received, sent};
+ghost use Rattle.gn_rules.specs.Limits.{IsCrew};
+ghost use Rattle.gn_journal.specs.Rings.{name_of};
+ghost use Rattle.gn_text.specs.Header.{header_text};
+ghost use Rattle.gn_text.specs.declared.title.Text.TheVariants.{History};
+ghost use Rattle.gn_load.specs.Any.{IsJournalledAny};
+ghost use Rattle.gn_load.specs.Journalled.{of_print};
+
+use crate::journalled::{finish_halted, of_print, unbegun};
+use crate::serve_halted::ServeHalted;
+use crate::writing::{Begun, Fresh, PLACES, Writing};
+use gn_io::Sink;
+use gn_journal::{Journal, Naming};
+use gn_replay::history_heading;
+use gn_rules::MOST_WORKERS;
+use gn_scribe::{PrintFault, Scribe, finish_history};
+use gn_service::{
+    Any, Host, OpenAccount, Parting, Ran, Routing, RunFault, Serve, TcpReader, TcpWriter, Watch,
+    serve_any,
+};
+use gn_table_router::{Configuring, TableRouter};
+use rtrb::RingBuffer;
+use std::alloc::{Allocator, Global};
+use std::marker::{Brand, PhantomData};
+
+/// The run of this account, whose text couldn't be written whole for this.
+fn unwritten<'s, A: Allocator>(
+    account: OpenAccount<TcpReader<'s>, TcpWriter, A>,
+    ran: Ran<A>,
+    why: PrintFault,
+) -> ServeHalted<A>
+    ensures fault { result.fault ≡ of_print why }
+    ensures same { (result.history ≡ Some account.entry.history) × (result.ran ≡ Some ran) }
+{
+    let OpenAccount {
+        history,
+        links: _,
+        workers: _,
+        house: _,
+        stats: _,
+    } = account;
+    ServeHalted {
+        fault: of_print(why),
+        history: Some(history),
+        links: None,
+        ran: Some(ran),
+    }
+}
+
+/// Runs a router as `serve_any` does, and writes its history as `serve_journalled` does.
+pub fn serve_any_journalled<
+    's,
+    R: Host,
+    G: Watch + Sync,
+    T: Parting<Global> + Sync,
+    W: Sink + Send,
+>(
+    rt: &R,
+    alloc: Global,
+    serve: &Serve<'_, 's, G, Any<'_, T>>,
+    sink: &mut W,
+) -> Result<(OpenAccount<TcpReader<'s>, TcpWriter>, Ran), ServeHalted>
+    ensures { let s = serve.now in
+        IsJournalledAny s.batch s.config.now s.peers.now s.workers (W.state sink.old) (W.state sink.new) result }
+{
+    if serve.workers == 0 || serve.workers > MOST_WORKERS {
+        return Err(unbegun(RunFault::BadWorkers));
+    }
+    let Ok(heading) = history_heading(alloc, serve.config) else {
+        return Err(unbegun(RunFault::NoMemory));
+    };
+    let Ok((producer, consumer)) = RingBuffer::new(alloc, PLACES) else {
+        return Err(unbegun(RunFault::NoMemory));
+    };
+    let fresh = Fresh {
+        heading,
+        producer,
+        consumer,
+    };
+    serve_any_named::<Brand, R, G, T, W>(rt, alloc, serve, fresh, sink)
+}
+
+/// The same over the ring that `N` names.
+fn serve_any_named<
+    's,
+    N: Naming<Global> + Configuring + Send,
+    R: Host,
+    G: Watch + Sync,
+    T: Parting<Global> + Sync,
+    W: Sink + Send,
+>(
+    rt: &R,
+    alloc: Global,
+    serve: &Serve<'_, 's, G, Any<'_, T>>,
+    fresh: Fresh,
+    sink: &mut W,
+) -> Result<(OpenAccount<TcpReader<'s>, TcpWriter>, Ran), ServeHalted>
+    requires named { (N.ring ≡ Some (name_of fresh.producer.end)) × (N.config ≡ Some serve.now.config.now) }
+    requires ring { IsPair fresh.producer fresh.consumer
+        × (sent fresh.producer ≡ []) × (received fresh.consumer ≡ []) }
+    requires heading { fresh.heading ≡ header_text History serve.now.config.now }
+    requires few { IsCrew serve.now.workers }
+    ensures { let s = serve.now in
+        IsJournalledAny s.batch s.config.now s.peers.now s.workers (W.state sink.old) (W.state sink.new) result }
+{
+    let Fresh {
+        heading,
+        producer,
+        consumer,
+    } = fresh;
+    let journal = Journal::<N>::new(producer);
+    let Ok(router) = TableRouter::over(alloc, serve.config, journal) else {
+        return Err(unbegun(RunFault::NoMemory));
+    };
+    let core = router.named::<N>();
+    let course = Writing::<W, N> {
+        scribe: Scribe::new(alloc, consumer, heading),
+        sink,
+        of: PhantomData,
+    };
+    let routing = Routing { core, course };
+    let (answer, begun) = serve_any::<
+        TableRouter<Global, Journal<N>, N>,
+        Writing<W, N>,
+        G,
+        T,
+        Global,
+        R,
+    >(rt, alloc, serve, routing);
+    serve.watch.end();
+    let Begun { sink, waiting } = begun;
+    match answer {
+        Ok((account, ran)) => match finish_history(waiting, sink) {
+            Ok(()) => Ok((account, ran)),
+            Err(why) => Err(unwritten(account, ran, why)),
+        },
+        Err(halted) => Err(finish_halted(halted, waiting, sink)),
+    }
+}

@@ -1,0 +1,84 @@
+//! A run over TCP to which so many call, or any number, whose history is written while it goes on.
+
+ghost use Rattle.std.specs.Prelude.{◌+◌, ◌≤◌, length, None, Some, unwrap_or};
+ghost use Rattle.gn_rules.specs.Limits.{most_links};
+ghost use Rattle.gn_load.specs.Any.{IsJournalledTaken};
+
+use crate::journalled::serve_journalled;
+use crate::journalled_any::serve_any_journalled;
+use crate::serve_halted::ServeHalted;
+use gn_io::Sink;
+use gn_service::{
+    Account, Any, Host, OpenAccount, Parting, Ran, Serve, TcpReader, TcpWriter, Watch,
+};
+use std::alloc::{Allocator, Global};
+
+/// How many call a run over TCP: so many in all; `None`: any number, one after another. In that run this one learns of each link as it
+/// ends.
+#[derive(Drop)]
+pub struct Taking<'a, T> {
+    pub accept: Option<u32>,
+    pub leaving: &'a T,
+}
+
+/// The account of such a run: with all of its links, or without those that have ended.
+#[derive(Drop)]
+pub enum Taken<'s, A: Allocator = Global> {
+    /// All were known.
+    All(Account<TcpReader<'s>, TcpWriter, A>),
+    /// They came and went.
+    Any(OpenAccount<TcpReader<'s>, TcpWriter, A>),
+}
+
+/// Runs a router as `serve_journalled` does, or as `serve_any_journalled` does, where any number may call.
+pub fn serve_taken<'s, R: Host, G: Watch + Sync, T: Parting<Global> + Sync, W: Sink + Send>(
+    rt: &R,
+    alloc: Global,
+    serve: &Serve<'_, 's, G, Taking<'_, T>>,
+    sink: &mut W,
+) -> Result<(Taken<'s>, Ran), ServeHalted>
+    requires few { unwrap_or serve.now.accept.accept 0 + length serve.now.peers.now ≤ most_links }
+    ensures { let s = serve.now in IsJournalledTaken s.batch s.config.now s.peers.now s.accept.accept s.workers
+        (W.state sink.old) (W.state sink.new) result }
+{
+    match serve.accept.accept {
+        Some(accept) => serve_all_taken(rt, alloc, &serve.with(accept), sink),
+        None => {
+            let leaving = serve.accept.leaving;
+            serve_any_taken(rt, alloc, &serve.with(Any { leaving }), sink)
+        }
+    }
+}
+
+/// So of a run to which so many call.
+fn serve_all_taken<'s, R: Host, G: Watch + Sync, W: Sink + Send>(
+    rt: &R,
+    alloc: Global,
+    serve: &Serve<'_, 's, G>,
+    sink: &mut W,
+) -> Result<(Taken<'s>, Ran), ServeHalted>
+    requires few { serve.now.accept + length serve.now.peers.now ≤ most_links }
+    ensures { let s = serve.now in IsJournalledTaken s.batch s.config.now s.peers.now (Some s.accept) s.workers
+        (W.state sink.old) (W.state sink.new) result }
+{
+    match serve_journalled(rt, alloc, serve, sink) {
+        Ok((account, ran)) => Ok((Taken::All(account), ran)),
+        Err(halted) => Err(halted),
+    }
+}
+
+/// So of one to which any number calls.
+fn serve_any_taken<'s, R: Host, G: Watch + Sync, T: Parting<Global> + Sync, W: Sink + Send>(
+    rt: &R,
+    alloc: Global,
+    serve: &Serve<'_, 's, G, Any<'_, T>>,
+    sink: &mut W,
+) -> Result<(Taken<'s>, Ran), ServeHalted>
+    ensures { let s = serve.now in IsJournalledTaken s.batch s.config.now s.peers.now None s.workers
+        (W.state sink.old) (W.state sink.new) result }
+{
+    match serve_any_journalled(rt, alloc, serve, sink) {
+        Ok((account, ran)) => Ok((Taken::Any(account), ran)),
+        Err(halted) => Err(halted),
+    }
+}

@@ -1,0 +1,4 @@
+pub mod AlikeLemmas
+pub mod AnswerLemmas
+pub mod MovedLemmas
+pub mod NumberLemmas

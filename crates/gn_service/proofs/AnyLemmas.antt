@@ -1,0 +1,86 @@
+-- What a run over TCP answers that takes any number of callers.
+use Rattle.std.proofs.Common.{◌≡◌, ◌⊎◌, ◌≤◌, ◌+◌, ◌∙◌, ℕ, true, List, length, reverse, Some, Result, Ok, Err, ap, sym, subst, inl, inr, arith}
+use Rattle.std.specs.Prelude.{IfSome}
+use Rattle.std.specs.declared.net.socket_addr.SocketAddr.{SocketAddr}
+use Rattle.gn_rules.specs.Answer.{IsLegal}
+use Rattle.gn_rules.specs.declared.config.Config.{Config}
+use Rattle.gn_sockets.specs.TcpHalves.{TcpReading, TcpWriting}
+use Rattle.gn_start.specs.Faults.{IsArrivingFault}
+use Rattle.gn_start.specs.declared.fault.RunFault.{RunFault}
+use Rattle.gn_start.specs.declared.fault.RunFault.TheVariants.{BadWorkers, HistoryFull}
+use Rattle.gn_threads.specs.OpenRuns.{IsOpenAnswer, IsOpenFault}
+use Rattle.gn_threads.specs.declared.halted.Halted.{Halted}
+use Rattle.gn_threads.specs.declared.open_account.OpenAccount.{OpenAccount}
+use Rattle.gn_service.specs.Any.{IsAnyAccount, IsServedToAny, open_account, origin_at, role_at, tcp_views}
+
+-- the links are numbered from 0 on
+pub from_first : {A : Type 0} (batch : ℕ) (s : Config) (peers : List SocketAddr) (workers : ℕ) (account : OpenAccount TcpReading TcpWriting A)
+    → IsOpenAnswer tcp_views (λ origin. origin.0) batch s workers (λ k. Some (role_at peers (0 + k))) (λ k. Some (origin_at peers (0 + k))) account
+    → IsAnyAccount batch s peers workers account
+from_first batch s peers workers account h =
+    record {
+      ended = h.ended;
+      roles_are = λ k link at. let first : k ≡ 0 + k = omega arith in ap (λ n. Some (role_at peers n)) first ∙ h.roles_are k link at;
+      were_to_come = λ k link at. let first : k ≡ 0 + k = omega arith in ap (λ n. Some (origin_at peers n)) first ∙ h.were_to_come k link at;
+    }
+
+-- a run with an account that has failed
+pub failed_at : {A : Type 0} (batch : ℕ) (s : Config) (peers : List SocketAddr) (workers : ℕ) (account : OpenAccount TcpReading TcpWriting A) (after : Halted A) (fault : RunFault)
+    → IsServedToAny batch s peers workers open_account (Ok account) → (after.fault ≡ fault) × (after.history ≡ Some account.history) → ¬ (fault ≡ BadWorkers) → ¬ (fault ≡ HistoryFull)
+    → ((links workers : ℕ) → length peers ≤ links → IsArrivingFault true links workers fault) → IsServedToAny batch s peers workers open_account (Err after)
+failed_at batch s peers workers account after fault served is crew space may =
+    let at = is.0 in
+    let run = served.answered.run in
+    record {
+      answered = record {
+        run = record {
+          crew = tt;
+          bad_workers = (λ bad. absurd (crew (sym at ∙ bad)), λ none. absurd (none run.crew));
+          fault = λ _. subst (λ (f : RunFault). IsOpenFault true workers f) (sym at) (length peers, may (length peers) workers (omega arith));
+          holds = tt;
+          made = tt;
+        };
+        kept = subst (λ h. IfSome h (λ history. IsLegal s (reverse history.items))) (sym is.1) served.account.ended.legal;
+        full = λ full. absurd (space (sym at ∙ full));
+      };
+      account = tt;
+    }
+
+-- a run that stopped and has failed for a call, too
+pub failed_too : {A : Type 0} (batch : ℕ) (s : Config) (peers : List SocketAddr) (workers : ℕ) (halted after : Halted A) (fault : RunFault)
+    → IsServedToAny batch s peers workers open_account (Err halted) → (after.fault ≡ halted.fault) ⊎ ((after.fault ≡ fault) × (¬ (halted.fault ≡ BadWorkers)))
+    → after.history ≡ halted.history → ¬ (fault ≡ BadWorkers) → ¬ (fault ≡ HistoryFull)
+    → ((links workers : ℕ) → length peers ≤ links → IsArrivingFault true links workers fault) → IsServedToAny batch s peers workers open_account (Err after)
+failed_too batch s peers workers halted after fault served either same crew space may =
+    let answered = served.answered in
+    let kept = subst (λ h. IfSome h (λ history. IsLegal s (reverse history.items))) (sym same) answered.kept in
+    elim either as (λ _. IsServedToAny batch s peers workers open_account (Err after)) [
+      | inl is ↦ record {
+        answered = record {
+          run = record {
+            crew = tt;
+            bad_workers = (λ bad. answered.run.bad_workers.0 (sym is ∙ bad), λ none. is ∙ answered.run.bad_workers.1 none);
+            fault = λ few. subst (λ (f : RunFault). IsOpenFault true workers f) (sym is) (answered.run.fault few);
+            holds = tt;
+            made = tt;
+          };
+          kept = kept;
+          full = λ all. subst (λ h. IfSome h (λ history. length history.items ≡ s.numbers.steps)) (sym same) (answered.full (sym is ∙ all));
+        };
+        account = tt;
+      }
+      | inr later ↦ record {
+        answered = record {
+          run = record {
+            crew = tt;
+            bad_workers = (λ bad. absurd (crew (sym later.0 ∙ bad)), λ none. absurd (later.1 (answered.run.bad_workers.1 none)));
+            fault = λ _. subst (λ (f : RunFault). IsOpenFault true workers f) (sym later.0) (length peers, may (length peers) workers (omega arith));
+            holds = tt;
+            made = tt;
+          };
+          kept = kept;
+          full = λ all. absurd (space (sym later.0 ∙ all));
+        };
+        account = tt;
+      }
+    ]

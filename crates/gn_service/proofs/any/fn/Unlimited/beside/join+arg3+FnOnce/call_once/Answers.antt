@@ -1,0 +1,31 @@
+use denote.Exit.{yes}
+use denote.Param.Send.{arg_send, arg_sync, copied_send, copied_sync, param_send, param_sync}
+use Rattle.gn_service.proofs.any.fn.Unlimited.beside.join+arg3+FnOnce.call_once.Goals as goal
+
+pub join+arg3-requires : goal.join+arg3-requires
+join+arg3-requires g c =
+    let bounds = c.requires.1.1.1.1.1.1.1.1 in (
+      param_send _ _ (arg_send _ yes _ bounds.0),
+      (
+        param_send _ _ (arg_send _ yes _ bounds.1),
+        (
+          copied_send _ _ (arg_send _ yes _ bounds.2),
+          (
+            param_send _ _ (arg_send _ yes _ bounds.3),
+            (
+              param_sync _ _ (arg_sync _ yes _ bounds.4),
+              (
+                param_sync _ _ (arg_sync _ yes _ bounds.5),
+                (
+                  param_sync _ _ (arg_sync _ yes _ bounds.6),
+                  (
+                    copied_sync _ _ (arg_sync _ yes _ bounds.7),
+                    bounds.8,
+                  ),
+                ),
+              ),
+            ),
+          ),
+        ),
+      ),
+    )

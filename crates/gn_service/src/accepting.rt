@@ -1,0 +1,51 @@
+//! How callers are accepted beside the links of a run that takes any number of them.
+
+use crate::doorstep::{Doorstep, Guest};
+use crate::entrance::Entrance;
+use crate::registering::stopper_of;
+use std::alloc::{Allocator, Global};
+use std::net::{Net, TcpListener, TcpStream};
+use std::sync::Wait;
+use std::time::Clock;
+
+/// Who accepts callers, one at a time, as the run wants one.
+#[derive(Drop)]
+pub(crate) struct Accepter<'a, N, A: Allocator = Global> {
+    pub entrance: Entrance<'a, N, A>,
+    pub doorstep: &'a Doorstep<'a>,
+}
+
+impl<'a, N: Wait + Net<Listener = TcpListener, Stream = TcpStream> + Clock, A: Allocator> Accepter<
+    'a,
+    N,
+    A,
+> {
+    /// Waits for a caller, and puts it on the doorstep once it has all handles that it needs. Where the run is stopped meanwhile it is
+    /// let go.
+    fn accept(&self) {
+        let (net, stops) = (self.entrance.net, self.entrance.stops);
+        let Ok(mut found) = self.entrance.accept() else {
+            self.doorstep.fail(net);
+            return;
+        };
+        if found.is_missing() {
+            return;
+        }
+        if let Some(stopper) = stopper_of(net, stops, &mut found) {
+            self.doorstep.put(net, Guest::new(found, stopper));
+        }
+    }
+
+    /// Accepts callers until the run is stopped, or over, or nobody can be accepted any more.
+    pub(crate) fn run(&self) {
+        let (net, stops) = (self.entrance.net, self.entrance.stops);
+        for _ in net.forever() {
+            if stops.is_stopped() || stops.is_over() || self.doorstep.has_failed() {
+                return;
+            }
+            if self.doorstep.wait(net) {
+                self.accept();
+            }
+        }
+    }
+}

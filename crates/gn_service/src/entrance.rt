@@ -1,0 +1,98 @@
+//! Where the links of a run over TCP come in: peers are called, and others call.
+
+ghost use Rattle.std.specs.Prelude.{◌≡◌, ℕ, true, IfErr, IfOk, None, Some};
+ghost use Rattle.gn_shake.specs.declared.role.Role.TheVariants.{Accepting, Calling};
+ghost use Rattle.gn_start.specs.Faults.{IsArrivingFault};
+
+use crate::asked::Asked;
+use crate::registering::{pause, registered};
+use crate::stops::Stops;
+use gn_links::LinkFault;
+use gn_shake::Role;
+use gn_tcp::{TcpLink, Unmet};
+use gn_threads::RunFault;
+use std::alloc::{Allocator, Global};
+use std::io::ErrorKind;
+use std::net::{Net, SocketAddr, TcpListener, TcpStream};
+use std::sync::Wait;
+use std::time::Clock;
+
+/// Where the links of a run come in.
+#[derive(Drop)]
+pub(crate) struct Entrance<'a, N, A: Allocator = Global> {
+    pub net: &'a N,
+    /// Where the cells come from that the halves of a called link share with who calls its peer.
+    pub cells: Global,
+    pub listener: &'a TcpListener,
+    pub stops: &'a Stops<'a, A>,
+}
+
+impl<'a, N: Wait + Net<Listener = TcpListener, Stream = TcpStream> + Clock, A: Allocator> Entrance<
+    'a,
+    N,
+    A,
+> {
+    /// This fault, for which the links that have come are let go at once.
+    pub(crate) fn failing(&self, fault: RunFault) -> RunFault
+        ensures { result ≡ fault }
+    {
+        self.stops.fail();
+        fault
+    }
+
+    /// The link of this number to this peer, which is called from now on. Where the run has failed nobody is, and none comes.
+    pub(crate) fn called(&self, link: u32, peer: SocketAddr) -> Result<TcpLink<'static>, RunFault>
+        ensures found { IfOk result (λ found. (found.role ≡ Calling)
+            × (found.origin ≡ record { link = 0; called = Some peer })) }
+        ensures fault { IfErr result (λ fault. (links workers : ℕ) → IsArrivingFault true links workers fault) }
+    {
+        if self.stops.has_failed() {
+            return Ok(TcpLink::missing(Role::Calling, Some(peer)));
+        }
+        let Ok((found, call)) = TcpLink::called(self.cells, peer) else {
+            return Err(self.failing(RunFault::NoMemory));
+        };
+        match self.stops.ask(self.net, Asked { link, peer, call }) {
+            Ok(()) => Ok(found),
+            Err(_) => Err(self.failing(RunFault::NoMemory)),
+        }
+    }
+
+    /// Whether nobody can be accepted, for this reason, but may be later: the system has no handle, or the caller has gone.
+    fn waits_on(unmet: Unmet) -> bool {
+        unmet.wants_handle || unmet.why == ErrorKind::ConnectionAborted
+    }
+
+    /// Waits for a caller. Where the run is stopped nobody comes.
+    pub(crate) fn accept(&self) -> Result<TcpLink<'static>, LinkFault>
+        ensures { IfOk result (λ found. (found.role ≡ Accepting)
+            × (found.origin ≡ record { link = 0; called = None })) }
+    {
+        if !self.stops.has_listener() {
+            return Err(LinkFault);
+        }
+        for _ in 0..u64::MAX {
+            if self.stops.is_stopped() {
+                return Ok(TcpLink::missing(Role::Accepting, None));
+            }
+            match TcpLink::try_accept(self.listener) {
+                Ok(found) => return Ok(found),
+                Err(unmet) if Self::waits_on(unmet) || self.stops.is_stopped() => pause(self.net),
+                Err(_) => break,
+            }
+        }
+        Err(LinkFault)
+    }
+
+    /// The next caller, as this link, which ends with the run.
+    pub(crate) fn accepted(&self, link: u32) -> Result<TcpLink<'static>, RunFault>
+        ensures found { IfOk result (λ found. (found.role ≡ Accepting)
+            × (found.origin ≡ record { link = 0; called = None })) }
+        ensures fault { IfErr result (λ fault. (links workers : ℕ) → IsArrivingFault true links workers fault) }
+    {
+        match self.accept() {
+            Ok(found) => registered(self.net, self.stops, link, found),
+            Err(_) => Err(self.failing(RunFault::Listen)),
+        }
+    }
+}

@@ -1,0 +1,11 @@
+pub mod CrewLemmas
+pub mod EndLemmas
+pub mod FinishLemmas
+pub mod HomeLemmas
+pub mod KeptLemmas
+pub mod ListLemmas
+pub mod LoopLemmas
+pub mod NumberLemmas
+pub mod OpeningLemmas
+pub mod RouteLemmas
+pub mod TableLemmas

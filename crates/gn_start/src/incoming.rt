@@ -1,0 +1,78 @@
+//! Where the links of a run come from.
+
+ghost use Rattle.std.specs.Prelude.{◌≡◌, ◌<◌, ℕ, Bool, Option, IfErr, IfOk, IfSome};
+ghost use Rattle.gn_shake.specs.declared.role.Role.{Role};
+ghost use Rattle.gn_start.specs.Faults.{IsArrivingFault};
+ghost use Rattle.gn_start.specs.Incoming.{IsComing, foretold};
+
+use crate::fault::RunFault;
+use gn_links::{LinkReader, LinkWriter, Place};
+use gn_room::Waiting;
+use gn_shake::Role;
+use std::sync::Wait;
+
+/// A link that has come: how it begins, and its two halves.
+#[derive(Drop)]
+pub struct NewLink<Rd, W> {
+    pub role: Role,
+    pub reader: Rd,
+    pub writer: W,
+}
+
+/// What becomes of a wait for the next link.
+#[derive(Drop)]
+pub enum Coming<Rd, W> {
+    /// It has come.
+    Link(NewLink<Rd, W>),
+    /// It hasn't: it is time to look whether others have ended.
+    Nobody,
+    /// No more come.
+    Over,
+}
+
+/// Where the links of a run come from, one after another, whether or not it is known how many.
+pub trait Incoming: Drop {
+    /// What the halves of a link say of it.
+    type Origin;
+
+    /// What of that is known before the link comes.
+    type Foreknown;
+
+    /// The half of a link that is read.
+    type Reader: LinkReader<Origin = Self::Origin>;
+
+    /// The half of a link that is written.
+    type Writer: LinkWriter<Origin = Self::Origin>;
+
+    /// Whether peers are called and accepted, either of which may fail.
+    ghost has_peers: { Bool };
+
+    /// Whether it is over only once all links have come.
+    ghost is_known: { Bool };
+
+    /// What was known of a link before it came.
+    ghost foreknown: { Self.Origin → Self.Foreknown };
+
+    /// What is known of the k-th link that is still to come, if anything is.
+    ghost coming: { Self → ℕ → Option Self.Foreknown };
+
+    /// How that begins, if there is one.
+    ghost roles: { Self → ℕ → Option Role };
+
+    /// Waits for the next link, which gets this number and this place; without a place, as all are taken, none comes. Who waits for
+    /// long waits by what is lent, too, so that those that have ended are joined meanwhile. A run that has failed asks on for its links:
+    /// once the gate knows of it (`Gate::failed`) nobody is waited for.
+    fn next<R: Wait>(
+        &mut self,
+        rt: &R,
+        link: u32,
+        place: Option<Place>,
+        waiting: &Waiting<'_>,
+    ) -> Result<Coming<Self::Reader, Self::Writer>, RunFault>
+        ensures coming { IfOk result (λ c. IsComing is_known place c Self.Reader.state Self.Writer.state
+            Self.Reader.made_of Self.Writer.made_of foreknown
+            (foretold (coming self.old) (roles self.old))
+            (foretold (coming self.new) (roles self.new))) }
+        ensures fault { IfErr result (λ fault. (links workers : ℕ) → link < links
+            → IsArrivingFault has_peers links workers fault) };
+}

@@ -1,0 +1,84 @@
+-- What a run answers whose links come one after another.
+use Rattle.std.specs.Prelude.{◌≡◌, ◌<◌, ◌+◌, ◌^◌, ℕ, Bool, true, nat_lt, List, length, map, reverse, IfSome, Option, Some, Result, Ok, Err}
+use Rattle.std.specs.List.{list_all, slice_get}
+use Rattle.std.proofs.Math.Path.{subst, sym}
+use Rattle.std.proofs.lemmas.List.{length-map}
+use Rattle.gn_rules.specs.declared.config.Config.{Config}
+use Rattle.gn_rules.specs.declared.receipt.Step.{Step}
+use Rattle.gn_rules.specs.Answer.{IsLegal}
+use Rattle.gn_shake.specs.declared.role.Role.{Role}
+use Rattle.gn_report.specs.declared.account.Account.{Account}
+use Rattle.gn_report.specs.declared.account.LinkAccount.{LinkAccount}
+use Rattle.gn_report.specs.declared.report.Report.{Report}
+use Rattle.gn_report.specs.Accounts.{report_of}
+use Rattle.gn_report.specs.Ended.{LinkViews}
+use Rattle.gn_report.specs.Vectors.{vec_of}
+use Rattle.gn_renumber.specs.Renumbered.{known_number, renumbered}
+use Rattle.gn_start.specs.Faults.{IsArrivingFault}
+use Rattle.gn_start.specs.declared.fault.RunFault.{RunFault}
+use Rattle.gn_threads.specs.Answers.{AreArrived}
+use Rattle.gn_threads.specs.Headline.{Holds}
+use Rattle.gn_report.specs.declared.looks.Looks.{Looks}
+use Rattle.gn_threads.specs.Left.{IsGathered}
+use Rattle.gn_threads.specs.declared.halted.Halted.{Halted}
+use Rattle.gn_threads.specs.declared.open_account.OpenAccount.{OpenAccount}
+use Rattle.gn_threads.specs.declared.open_ending.OpenGathered.{OpenGathered}
+
+-- the steps of an account, in the numbers of a run whose links are all known beforehand
+abbrev pub known_steps : {Rd W A : Type 0} → OpenAccount Rd W A → List (Step A)
+known_steps account = renumbered (length account.links.items) (length account.workers.items) account.history.items
+
+-- the account, with its steps in those numbers: as many steps, so that they still fit
+abbrev pub known_account : {Rd W A : Type 0} → OpenAccount Rd W A → Account Rd W A
+known_account {Rd} {W} {A} account = record {
+  history = record account.history {
+    items = known_steps account;
+    few = subst (λ n. n < 2 ^ 63)
+        (sym (length-map account.history.items (λ (step : Step A). record step { actor = known_number (length account.links.items) (length account.workers.items) step.actor })))
+        account.history.few;
+  };
+  links = vec_of account.workers.alloc account.links;
+  workers = account.workers;
+  house = account.house;
+  stats = account.stats;
+  numbered = account.numbered;
+}
+
+-- its report, in those numbers
+abbrev pub known_report : {Rd W A : Type 0} → OpenAccount Rd W A → Report Rd W A
+known_report account = report_of (known_account account)
+
+-- what holds of the account of an open run of this configuration and of so many workers
+pub record IsOpenEnded {Rd W A O : Type 0} (views : LinkViews Rd W O) (batch : ℕ) (s : Config) (workers : ℕ) (account : OpenAccount Rd W A) : Type 0 where
+  -- its history is legal, and no step is of anybody but its actors
+  pub legal : IsLegal s (reverse account.history.items)
+  pub only : list_all (λ step. nat_lt step.actor (1 + workers + (length account.links.items + length account.links.items))) account.history.items ≡ true
+  -- the headline holds of its report in the numbers of known links, which are these
+  pub holds : Holds batch views.reads views.writes s (map (λ link. link.role) account.links.items) workers (known_report account)
+  -- each reader read what the link that it was made of gives, and both halves of a link were made of one
+  pub arrived : AreArrived views.reads views.gives views.reader_of views.writer_of (known_report account)
+
+-- what such a run answers whose links were to come in these roles, and of which this was known before they came
+pub record IsOpenAnswer {Rd W A O F : Type 0} (views : LinkViews Rd W O) (foreknown : O → F) (batch : ℕ) (s : Config) (workers : ℕ)
+    (roles : ℕ → Option Role) (coming : ℕ → Option F) (account : OpenAccount Rd W A) : Type 0 where
+  pub ended : IsOpenEnded views batch s workers account
+  -- the links are the first of those that were to come
+  pub roles_are : (k : ℕ) (link : LinkAccount Rd W A) → slice_get account.links.items k ≡ Some link → roles k ≡ Some link.role
+  pub were_to_come : (k : ℕ) (link : LinkAccount Rd W A) → slice_get account.links.items k ≡ Some link
+      → coming k ≡ Some (foreknown (views.reader_of link.reader))
+
+-- a fault of a run over some number of links
+abbrev pub IsOpenFault : Bool → ℕ → RunFault → Type 0
+IsOpenFault has_peers workers fault = (came : ℕ) × IsArrivingFault has_peers came workers fault
+
+-- these are the steps of such a run that was answered, or what stands of those of one that stopped
+abbrev pub AreOpenStepsOf : {Rd W A : Type 0} → Result (OpenAccount Rd W A) (Halted A) → List (Step A) → Type 0
+AreOpenStepsOf (Ok account) steps = account.history.items ≡ steps
+AreOpenStepsOf (Err halted) steps = IfSome halted.history (λ history. history.items ≡ steps)
+
+-- what was gathered of such a run without a fault that has these steps
+pub record IsOpenGathered {Rd W A O : Type 0} (views : LinkViews Rd W O) (turns batch : ℕ) (steps : List (Step A)) (all : OpenGathered Rd W A)
+    (looks : Looks) : Type 0 where
+  pub only : list_all (λ step. nat_lt step.actor (1 + length all.workers.items + (length all.links.items + length all.links.items))) steps ≡ true
+  pub gathered : IsGathered views turns batch (renumbered (length all.links.items) (length all.workers.items) steps) all.links.items
+      all.workers.items all.house looks
