@@ -1,5 +1,5 @@
 -- A history that was written while a run went on that takes any number of callers.
-use Rattle.std.proofs.Common.{◌≡◌, ◌∙◌, ◌↔◌, ℕ, true, List, length, reverse, Option, None, Some, Result, Ok, Err, refl, subst, sym}
+use Rattle.std.proofs.Common.{◌≡◌, ◌∙◌, ◌↔◌, ℕ, Bool, true, List, length, reverse, Option, None, Some, Result, Ok, Err, refl, subst, sym}
 use Rattle.std.specs.Prelude.{⊤, IfSome, MatchResult}
 use Rattle.std.specs.Io.KnownBytes.{Appends}
 use Rattle.std.specs.declared.net.socket_addr.SocketAddr.{SocketAddr}
@@ -35,10 +35,10 @@ use Rattle.gn_load.proofs.JournalLemmas.{all_finished, fault_of_print, never_ful
 use Rattle.gn_load.proofs.ServedLemmas.{is_full, run_is}
 
 -- what is answered where no run began
-pub unbegun : {A : Type 0} (batch : ℕ) (s : Config) (peers : List SocketAddr) (workers : ℕ) (sink : SinkState) (halted : ServeHalted A) (fault : RunFault)
+pub unbegun : {A : Type 0} (again pings : Bool) (batch : ℕ) (s : Config) (peers : List SocketAddr) (workers : ℕ) (sink : SinkState) (halted : ServeHalted A) (fault : RunFault)
     → (halted.fault ≡ Run fault) × (halted.history ≡ None) × (halted.ran ≡ None) → (fault ≡ BadWorkers) ↔ (¬ IsCrew workers)
-    → (IsCrew workers → IsArrivingFault true 0 workers fault) → IsJournalledAny batch s peers workers sink sink (Err halted)
-unbegun {A} batch s peers workers sink halted fault is crew may =
+    → (IsCrew workers → IsArrivingFault true 0 workers fault) → IsJournalledAny again pings batch s peers workers sink sink (Err halted)
+unbegun {A} again pings batch s peers workers sink halted fault is crew may =
     record {
       crew = tt;
       bad_workers = subst (λ f. (f ≡ Run BadWorkers) ↔ (¬ IsCrew workers)) (sym is.0) (run_is fault _ crew);
@@ -50,7 +50,7 @@ unbegun {A} batch s peers workers sink halted fault is crew may =
       account = tt;
       part = subst (λ h. AppendsLegalPart A s h sink.written sink.written) (sym is.1) (nothing_yet A s sink.written);
       full = λ all. subst (λ (h : Option (Unkept (Step A))). IfSome h (λ history. length history.items ≡ s.numbers.steps)) (sym is.1) tt;
-      remembered = subst (λ r. IfSome r (λ _. AppendsAnyPart A batch s peers workers r sink.written sink.written)) (sym is.2) tt;
+      remembered = subst (λ r. IfSome r (λ _. AppendsAnyPart A again pings batch s peers workers r sink.written sink.written)) (sym is.2) tt;
     }
 
 -- what a run answered that stopped, as far as that is known
@@ -62,12 +62,12 @@ pub record HasStopped {A : Type 0} (s : Config) (workers : ℕ) (steps : List (S
   pub has : IfSome halted.history (λ history. history.items ≡ steps)
   pub legal : IsLegal s (reverse steps)
 
-module _ {A : Type 0} (batch : ℕ) (s : Config) (peers : List SocketAddr) (workers : ℕ) (steps : List (Step A)) (old mid new : SinkState) (halted : Halted A) (after : ServeHalted A)
+module _ {A : Type 0} (again pings : Bool) (batch : ℕ) (s : Config) (peers : List SocketAddr) (workers : ℕ) (steps : List (Step A)) (old mid new : SinkState) (halted : Halted A) (after : ServeHalted A)
     (run : HasStopped s workers steps halted) (history : after.history ≡ halted.history) (none : after.ran ≡ None) where
   -- what is answered, by its fault and by what was written
   stopped_so : (fault : ServeFault) → after.fault ≡ fault → (fault ≡ Run BadWorkers) ↔ (¬ IsCrew workers) → (came : ℕ) × IsServeFault came workers fault old new
       → (fault ≡ Run HistoryFull → halted.fault ≡ HistoryFull) → AppendsLegalPart A s halted.history old.written new.written
-      → IsJournalledAny batch s peers workers old new (Err after)
+      → IsJournalledAny again pings batch s peers workers old new (Err after)
   stopped_so fault is bad may all part =
       record {
         crew = tt;
@@ -80,13 +80,13 @@ module _ {A : Type 0} (batch : ℕ) (s : Config) (peers : List SocketAddr) (work
         account = tt;
         part = subst (λ h. AppendsLegalPart A s h old.written new.written) (sym history) part;
         full = λ full. subst (λ (h : Option (Unkept (Step A))). IfSome h (λ history. length history.items ≡ s.numbers.steps)) (sym history) (run.full (all (sym is ∙ full)));
-        remembered = subst (λ r. IfSome r (λ _. AppendsAnyPart A batch s peers workers r old.written new.written)) (sym none) tt;
+        remembered = subst (λ r. IfSome r (λ _. AppendsAnyPart A again pings batch s peers workers r old.written new.written)) (sym none) tt;
       }
 
   -- by what waited
   pub stopped_as : (waiting : Result (Waiting A) PrintFault) → HasJournalled (header_text History s) steps old mid waiting
       → MatchResult waiting (λ _. after.fault ≡ Run halted.fault) (λ why. after.fault ≡ of_print why) → HasStoppedWriting halted.history mid new waiting
-      → IsJournalledAny batch s peers workers old new (Err after)
+      → IsJournalledAny again pings batch s peers workers old new (Err after)
   stopped_as (Ok waiting) has is wrote =
       stopped_so (Run halted.fault) is (run_is halted.fault _ run.bad_workers) (run.fault run.crew) (λ full. is_full full)
       (stopped_part s steps old mid new waiting run.legal has halted.history run.has wrote)
@@ -94,10 +94,10 @@ module _ {A : Type 0} (batch : ℕ) (s : Config) (peers : List SocketAddr) (work
       let short = stopped_short s steps old mid new why run.legal has halted.history run.has still in
       stopped_so (of_print why) is (other_than_workers workers why run.crew) (0, fault_of_print 0 workers why old new short.1) (λ full. absurd (never_full why full)) short.0
 
-module _ {A : Type 0} (batch : ℕ) (s : Config) (peers : List SocketAddr) (workers : ℕ) (steps : List (Step A)) (old mid new : SinkState) (account : OpenAccount TcpReading TcpWriting A) (ran : Remembered A)
-    (crew : IsCrew workers) (remembered : ran ≡ ran_of_any account) (answered : IsAnyAccount batch s peers workers account) (is : account.history.items ≡ steps) where
+module _ {A : Type 0} (again pings : Bool) (batch : ℕ) (s : Config) (peers : List SocketAddr) (workers : ℕ) (steps : List (Step A)) (old mid new : SinkState) (account : OpenAccount TcpReading TcpWriting A) (ran : Remembered A)
+    (crew : IsCrew workers) (remembered : ran ≡ ran_of_any account) (answered : IsAnyAccount again pings batch s peers workers account) (is : account.history.items ≡ steps) where
   -- the text is that of the account's history
-  text_of : (text : List ℕ) → text ≡ history_text s steps → IsAnyText A batch s peers workers ran text
+  text_of : (text : List ℕ) → text ≡ history_text s steps → IsAnyText A again pings batch s peers workers ran text
   text_of text printed = record {
     account = account;
     remembered = remembered;
@@ -107,7 +107,7 @@ module _ {A : Type 0} (batch : ℕ) (s : Config) (peers : List SocketAddr) (work
 
   -- what is answered where it was written
   pub all_written : (waiting : Result (Waiting A) PrintFault) (done : ⊤) → HasJournalled (header_text History s) steps old mid waiting → HasFinished mid new waiting (Ok done)
-      → IsJournalledAny batch s peers workers old new (Ok (account, ran))
+      → IsJournalledAny again pings batch s peers workers old new (Ok (account, ran))
   all_written waiting done has finished =
       let whole = all_finished s steps old mid new waiting done has finished in
       record {
@@ -127,7 +127,7 @@ module _ {A : Type 0} (batch : ℕ) (s : Config) (peers : List SocketAddr) (work
   -- what is answered where it wasn't written whole
   pub unwritten : (after : ServeHalted A) (waiting : Result (Waiting A) PrintFault) (why : PrintFault) → HasJournalled (header_text History s) steps old mid waiting
       → HasFinished mid new waiting (Err why) → after.fault ≡ of_print why → (after.history ≡ Some account.history) × (after.ran ≡ Some ran)
-      → IsJournalledAny batch s peers workers old new (Err after)
+      → IsJournalledAny again pings batch s peers workers old new (Err after)
   unwritten after waiting why has finished fault same =
       let cut = part_finished s steps old mid new waiting why has finished in
       let part : AppendsPart old.written new.written (history_text s account.history.items) =
@@ -143,6 +143,6 @@ module _ {A : Type 0} (batch : ℕ) (s : Config) (peers : List SocketAddr) (work
         account = tt;
         part = subst (λ h. AppendsLegalPart A s h old.written new.written) (sym same.0) (answered.ended.legal, part);
         full = λ all. absurd (never_full why (sym fault ∙ all));
-        remembered = subst (λ r. IfSome r (λ _. AppendsAnyPart A batch s peers workers r old.written new.written)) (sym same.1)
+        remembered = subst (λ r. IfSome r (λ _. AppendsAnyPart A again pings batch s peers workers r old.written new.written)) (sym same.1)
             (ran, refl, history_text s steps, text_of (history_text s steps) refl, cut.0);
       }

@@ -49,10 +49,10 @@ nothing_yet A s old = ([], tt, none_written old (header_text History s ++ steps_
 module _ {A : Type 0} where
   -- a scribe that began with the heading and before any step, followed the run and ended
   pub journalled_from : (s : Config) (s0 s1 : Scribe A) (k0 k1 k2 : SinkState) (steps : List (Step A)) (written : Result ⊤ PrintFault) (waiting : Result (Waiting A) PrintFault)
-      → s0.block ≡ header_text History s → received s0.steps ≡ [] → HasFollowed s0 s1 k0 k1 written → HasEnded s1 steps k1 k2 written waiting
+      → (received s0.steps ≡ []) × (s0.block ≡ header_text History s) → HasFollowed s0 s1 k0 k1 written → HasEnded s1 steps k1 k2 written waiting
       → HasJournalled (header_text History s) steps k0 k2 waiting
-  journalled_from s s0 s1 k0 k1 k2 steps written waiting heading none followed ended =
-      subst (λ (text : List ℕ). HasJournalled text steps k0 k2 waiting) heading (journalled s0 s1 k0 k1 k2 steps none written waiting followed ended)
+  journalled_from s s0 s1 k0 k1 k2 steps written waiting begun followed ended =
+      subst (λ (text : List ℕ). HasJournalled text steps k0 k2 waiting) begun.1 (journalled s0 s1 k0 k1 k2 steps begun.0 written waiting followed ended)
 
   -- while the run went on a prefix of the text of its steps was written
   pub so_far : (s : Config) (steps : List (Step A)) (old mid : SinkState) (waiting : Result (Waiting A) PrintFault) → HasJournalled (header_text History s) steps old mid waiting

@@ -1,5 +1,5 @@
 -- A run to which so many call is one to which so many call, or any number; and so is one to which any number calls.
-use Rattle.std.proofs.Common.{ℕ, List, None, Some, Ok, Err}
+use Rattle.std.proofs.Common.{ℕ, Bool, List, None, Some, Ok, Err, refl}
 use Rattle.std.specs.declared.net.socket_addr.SocketAddr.{SocketAddr}
 use Rattle.gn_io.specs.Streams.{SinkState}
 use Rattle.gn_report.specs.declared.account.Account.{Account}
@@ -10,23 +10,69 @@ use Rattle.gn_threads.specs.declared.open_account.OpenAccount.{OpenAccount}
 use Rattle.gn_load.specs.Any.{IsJournalledAny, IsJournalledTaken}
 use Rattle.gn_load.specs.Journalled.{IsJournalled}
 use Rattle.gn_load.specs.declared.serve_halted.ServeHalted.{ServeHalted}
+use Rattle.gn_load.specs.declared.taken.Taken.TheVariants.{All, Any}
 
-module _ {A Q : Type 0} (batch : ℕ) (s : Config) (peers : List SocketAddr) (workers : ℕ) (old new : SinkState) where
-  pub all_taken : (accept : ℕ) (account : Account TcpReading TcpWriting A) (ran : Remembered A) (taken : Q) → IsJournalled batch s peers accept workers old new (Ok (account, ran))
-      → IsJournalledTaken {Q = Q} batch s peers (Some accept) workers old new (Ok (taken, ran))
-  all_taken accept account ran taken h =
-      record { crew = h.crew; bad_workers = tt; fault = tt; written = h.written; unfailed = h.unfailed; part = tt; full = tt; remembered = tt }
+module _ {A : Type 0} (again pings : Bool) (batch : ℕ) (s : Config) (peers : List SocketAddr) (workers : ℕ) (old new : SinkState) where
+  pub all_taken : (accept : ℕ) (account : Account TcpReading TcpWriting A) (ran : Remembered A) → IsJournalled batch s peers accept workers old new (Ok (account, ran))
+      → IsJournalledTaken again pings batch s peers (Some accept) workers old new (Ok (All account, ran))
+  all_taken accept account ran h =
+      record {
+        crew = h.crew;
+        bad_workers = tt;
+        fault = tt;
+        account = (h.ran, h.holds, h.made, h.one_socket);
+        written = h.written;
+        unfailed = h.unfailed;
+        part = tt;
+        full = tt;
+        tallied = tt;
+        remembered = tt;
+      }
 
   pub all_halted : (accept : ℕ) (halted : ServeHalted A) → IsJournalled batch s peers accept workers old new (Err halted)
-      → IsJournalledTaken {Q = Q} batch s peers (Some accept) workers old new (Err halted)
+      → IsJournalledTaken again pings batch s peers (Some accept) workers old new (Err halted)
   all_halted accept halted h =
-      record { crew = tt; bad_workers = h.bad_workers; fault = h.fault; written = tt; unfailed = tt; part = h.part; full = h.full; remembered = h.remembered }
+      record {
+        crew = tt;
+        bad_workers = h.bad_workers;
+        fault = h.fault;
+        account = tt;
+        written = tt;
+        unfailed = tt;
+        part = h.part;
+        full = h.full;
+        tallied = h.tallied;
+        remembered = h.remembered;
+      }
 
-  pub any_taken : (account : OpenAccount TcpReading TcpWriting A) (ran : Remembered A) (taken : Q) → IsJournalledAny batch s peers workers old new (Ok (account, ran))
-      → IsJournalledTaken {Q = Q} batch s peers None workers old new (Ok (taken, ran))
-  any_taken account ran taken h =
-      record { crew = h.crew; bad_workers = tt; fault = tt; written = h.written; unfailed = h.unfailed; part = tt; full = tt; remembered = tt }
+  pub any_taken : (account : OpenAccount TcpReading TcpWriting A) (ran : Remembered A) → IsJournalledAny again pings batch s peers workers old new (Ok (account, ran))
+      → IsJournalledTaken again pings batch s peers None workers old new (Ok (Any account, ran))
+  any_taken account ran h =
+      record {
+        crew = h.crew;
+        bad_workers = tt;
+        fault = tt;
+        account = (h.ran, h.account);
+        written = h.written;
+        unfailed = h.unfailed;
+        part = tt;
+        full = tt;
+        tallied = tt;
+        remembered = tt;
+      }
 
-  pub any_halted : (halted : ServeHalted A) → IsJournalledAny batch s peers workers old new (Err halted) → IsJournalledTaken {Q = Q} batch s peers None workers old new (Err halted)
+  pub any_halted : (halted : ServeHalted A) → IsJournalledAny again pings batch s peers workers old new (Err halted)
+      → IsJournalledTaken again pings batch s peers None workers old new (Err (record halted { links = None }))
   any_halted halted h =
-      record { crew = tt; bad_workers = h.bad_workers; fault = h.fault; written = tt; unfailed = tt; part = h.part; full = h.full; remembered = h.remembered }
+      record {
+        crew = tt;
+        bad_workers = h.bad_workers;
+        fault = h.fault;
+        account = tt;
+        written = tt;
+        unfailed = tt;
+        part = h.part;
+        full = h.full;
+        tallied = refl;
+        remembered = h.remembered;
+      }

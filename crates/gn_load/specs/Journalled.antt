@@ -1,7 +1,8 @@
 -- A run over TCP whose history is written while it goes on.
-use Rattle.std.specs.Prelude.{◌≡◌, ◌↔◌, ◌⊎◌, ◌+◌, ℕ, ⊤, List, ◌++◌, length, reverse, IfErr, IfOk, IfSome, OnOk, IsSome, Option, None, Some, Result, Ok, Err}
+use Rattle.std.specs.Prelude.{◌≡◌, ◌↔◌, ◌⊎◌, ◌+◌, ℕ, ⊤, List, [], ◌++◌, length, reverse, IfErr, IfOk, IfSome, OnOk, IsSome, Option, None, Some, Result, Ok, Err}
 use Rattle.std.specs.declared.net.socket_addr.SocketAddr.{SocketAddr}
 use Rattle.std.specs.Io.KnownBytes.{Appends}
+use Rattle.rtrb.specs.Ring.{IsPair, received, sent}
 use Rattle.gn_rules.specs.Answer.{IsLegal}
 use Rattle.gn_rules.specs.Limits.{IsCrew}
 use Rattle.gn_rules.specs.declared.config.Config.{Config}
@@ -24,10 +25,16 @@ use Rattle.gn_sockets.specs.TcpHalves.{TcpReading, TcpWriting, half_read, half_w
 use Rattle.gn_threads.specs.Courses.{AreTallies}
 use Rattle.gn_threads.specs.Headline.{AreMadeOf, AreOfOne, Holds}
 use Rattle.gn_start.specs.declared.fault.RunFault.TheVariants.{BadWorkers, HistoryFull, NoMemory}
+use Rattle.gn_load.specs.declared.fresh.Fresh.{Fresh}
 use Rattle.gn_load.specs.declared.serve_fault.ServeFault.{ServeFault}
 use Rattle.gn_load.specs.declared.serve_fault.ServeFault.TheVariants.{Run, Write}
 use Rattle.gn_load.specs.declared.serve_halted.ServeHalted.{ServeHalted}
 use Rattle.gn_load.specs.Served.{AppendsServed, AppendsServedPart, IsServeFault}
+
+-- the two ends of a ring that nothing went through yet, and the heading of a history by this configuration
+abbrev pub IsFresh : Config → Fresh → Type 0
+IsFresh s fresh =
+    IsPair fresh.producer fresh.consumer × (sent fresh.producer ≡ []) × (received fresh.consumer ≡ []) × (fresh.heading ≡ header_text History s)
 
 -- known bytes grew by a prefix of the text of a history that is legal by this configuration: of the one that is known; where none
 -- is, of one without its line `end`

@@ -1,29 +1,25 @@
 //! A run over TCP whose history is written while it goes on.
 
-ghost use Rattle.std.specs.Prelude.{◌≡◌, ◌+◌, ◌≤◌, [], None, Some, length, IfSome, MatchResult};
-ghost use Rattle.rtrb.specs.Ring.{IsPair, received, sent};
+ghost use Rattle.std.specs.Prelude.{◌≡◌, ◌+◌, ◌≤◌, None, Some, length, IfSome, MatchResult};
 ghost use Rattle.gn_rules.specs.Limits.{IsCrew, most_links};
 ghost use Rattle.gn_journal.specs.Rings.{name_of};
-ghost use Rattle.gn_text.specs.Header.{header_text};
-ghost use Rattle.gn_text.specs.declared.title.Text.TheVariants.{History};
 ghost use Rattle.gn_service.specs.Tallies.{tallies_of};
 ghost use Rattle.gn_load.specs.declared.serve_fault.ServeFault.TheVariants.{Run};
-ghost use Rattle.gn_load.specs.Journalled.{HasStoppedWriting, IsJournalled, of_print};
+ghost use Rattle.gn_load.specs.Journalled.{HasStoppedWriting, IsFresh, IsJournalled, of_print};
 
+use crate::fresh::Fresh;
 use crate::serve_fault::ServeFault;
 use crate::serve_halted::ServeHalted;
-use crate::writing::{Begun, Fresh, PLACES, Writing, write_stopped};
+use crate::writing::{Begun, Writing, write_stopped};
 use gn_io::Sink;
 use gn_journal::{Journal, Naming};
-use gn_replay::history_heading;
 use gn_rules::MOST_WORKERS;
-use gn_scribe::{PrintFault, Scribe, Waiting, finish_history};
+use gn_scribe::{PrintFault, Waiting, finish_history};
 use gn_service::{
     Account, Halted, Host, Ran, Routing, RunFault, Serve, TcpReader, TcpWriter, Watch, serve_by,
     tallies_of,
 };
 use gn_table_router::{Configuring, TableRouter};
-use rtrb::RingBuffer;
 use std::alloc::{Allocator, Global};
 use std::marker::{Brand, PhantomData};
 
@@ -129,16 +125,8 @@ pub fn serve_journalled<'s, R: Host, G: Watch + Sync, W: Sink + Send>(
     if serve.workers == 0 || serve.workers > MOST_WORKERS {
         return Err(unbegun(RunFault::BadWorkers));
     }
-    let Ok(heading) = history_heading(alloc, serve.config) else {
+    let Ok(fresh) = Fresh::of(alloc, serve.config) else {
         return Err(unbegun(RunFault::NoMemory));
-    };
-    let Ok((producer, consumer)) = RingBuffer::new(alloc, PLACES) else {
-        return Err(unbegun(RunFault::NoMemory));
-    };
-    let fresh = Fresh {
-        heading,
-        producer,
-        consumer,
     };
     serve_named::<Brand, R, G, W>(rt, alloc, serve, fresh, sink)
 }
@@ -158,25 +146,16 @@ fn serve_named<
     sink: &mut W,
 ) -> Result<(Account<TcpReader<'s>, TcpWriter>, Ran), ServeHalted>
     requires named { (N.ring ≡ Some (name_of fresh.producer.end)) × (N.config ≡ Some serve.now.config.now) }
-    requires ring { IsPair fresh.producer fresh.consumer
-        × (sent fresh.producer ≡ []) × (received fresh.consumer ≡ []) }
-    requires heading { fresh.heading ≡ header_text History serve.now.config.now }
+    requires fresh { IsFresh serve.now.config.now fresh }
     requires few { (serve.now.accept + length serve.now.peers.now ≤ most_links) × IsCrew serve.now.workers }
     ensures { let s = serve.now in
         IsJournalled s.batch s.config.now s.peers.now s.accept s.workers (W.state sink.old) (W.state sink.new) result }
 {
-    let Fresh {
-        heading,
-        producer,
-        consumer,
-    } = fresh;
-    let journal = Journal::<N>::new(producer);
-    let Ok(router) = TableRouter::over(alloc, serve.config, journal) else {
+    let Ok((core, scribe)) = fresh.over::<N>(alloc, serve.config) else {
         return Err(unbegun(RunFault::NoMemory));
     };
-    let core = router.named::<N>();
     let course = Writing::<W, N> {
-        scribe: Scribe::new(alloc, consumer, heading),
+        scribe,
         sink,
         of: PhantomData,
     };

@@ -1,28 +1,24 @@
 //! A run over TCP that takes any number of callers, whose history is written while it goes on.
 
-ghost use Rattle.std.specs.Prelude.{◌≡◌, [], Some};
-ghost use Rattle.rtrb.specs.Ring.{IsPair, received, sent};
+ghost use Rattle.std.specs.Prelude.{◌≡◌, is_some, Some};
 ghost use Rattle.gn_rules.specs.Limits.{IsCrew};
 ghost use Rattle.gn_journal.specs.Rings.{name_of};
-ghost use Rattle.gn_text.specs.Header.{header_text};
-ghost use Rattle.gn_text.specs.declared.title.Text.TheVariants.{History};
 ghost use Rattle.gn_load.specs.Any.{IsJournalledAny};
-ghost use Rattle.gn_load.specs.Journalled.{of_print};
+ghost use Rattle.gn_load.specs.Journalled.{IsFresh, of_print};
 
+use crate::fresh::Fresh;
 use crate::journalled::{finish_halted, of_print, unbegun};
 use crate::serve_halted::ServeHalted;
-use crate::writing::{Begun, Fresh, PLACES, Writing};
+use crate::writing::{Begun, Writing};
 use gn_io::Sink;
 use gn_journal::{Journal, Naming};
-use gn_replay::history_heading;
 use gn_rules::MOST_WORKERS;
-use gn_scribe::{PrintFault, Scribe, finish_history};
+use gn_scribe::{PrintFault, finish_history};
 use gn_service::{
     Any, Host, OpenAccount, Parting, Ran, Routing, RunFault, Serve, TcpReader, TcpWriter, Watch,
     serve_any,
 };
 use gn_table_router::{Configuring, TableRouter};
-use rtrb::RingBuffer;
 use std::alloc::{Allocator, Global};
 use std::marker::{Brand, PhantomData};
 
@@ -64,21 +60,14 @@ pub fn serve_any_journalled<
     sink: &mut W,
 ) -> Result<(OpenAccount<TcpReader<'s>, TcpWriter>, Ran), ServeHalted>
     ensures { let s = serve.now in
-        IsJournalledAny s.batch s.config.now s.peers.now s.workers (W.state sink.old) (W.state sink.new) result }
+        IsJournalledAny s.accept.again (is_some s.accept.pings) s.batch s.config.now s.peers.now s.workers
+        (W.state sink.old) (W.state sink.new) result }
 {
     if serve.workers == 0 || serve.workers > MOST_WORKERS {
         return Err(unbegun(RunFault::BadWorkers));
     }
-    let Ok(heading) = history_heading(alloc, serve.config) else {
+    let Ok(fresh) = Fresh::of(alloc, serve.config) else {
         return Err(unbegun(RunFault::NoMemory));
-    };
-    let Ok((producer, consumer)) = RingBuffer::new(alloc, PLACES) else {
-        return Err(unbegun(RunFault::NoMemory));
-    };
-    let fresh = Fresh {
-        heading,
-        producer,
-        consumer,
     };
     serve_any_named::<Brand, R, G, T, W>(rt, alloc, serve, fresh, sink)
 }
@@ -99,25 +88,17 @@ fn serve_any_named<
     sink: &mut W,
 ) -> Result<(OpenAccount<TcpReader<'s>, TcpWriter>, Ran), ServeHalted>
     requires named { (N.ring ≡ Some (name_of fresh.producer.end)) × (N.config ≡ Some serve.now.config.now) }
-    requires ring { IsPair fresh.producer fresh.consumer
-        × (sent fresh.producer ≡ []) × (received fresh.consumer ≡ []) }
-    requires heading { fresh.heading ≡ header_text History serve.now.config.now }
+    requires fresh { IsFresh serve.now.config.now fresh }
     requires few { IsCrew serve.now.workers }
     ensures { let s = serve.now in
-        IsJournalledAny s.batch s.config.now s.peers.now s.workers (W.state sink.old) (W.state sink.new) result }
+        IsJournalledAny s.accept.again (is_some s.accept.pings) s.batch s.config.now s.peers.now s.workers
+        (W.state sink.old) (W.state sink.new) result }
 {
-    let Fresh {
-        heading,
-        producer,
-        consumer,
-    } = fresh;
-    let journal = Journal::<N>::new(producer);
-    let Ok(router) = TableRouter::over(alloc, serve.config, journal) else {
+    let Ok((core, scribe)) = fresh.over::<N>(alloc, serve.config) else {
         return Err(unbegun(RunFault::NoMemory));
     };
-    let core = router.named::<N>();
     let course = Writing::<W, N> {
-        scribe: Scribe::new(alloc, consumer, heading),
+        scribe,
         sink,
         of: PhantomData,
     };

@@ -1,30 +1,27 @@
 //! A capture, loaded: its links are run, and the history of the run is written while it goes on.
 
-ghost use Rattle.std.specs.Prelude.{◌≡◌, ◌≤◌, [], Some, length, IfErr, IfSome, IsOk, MatchResult, OnOk};
+ghost use Rattle.std.specs.Prelude.{◌≡◌, ◌≤◌, Some, length, IfErr, IfSome, IsOk, MatchResult, OnOk};
 ghost use Rattle.std.specs.declared.alloc.Global.{Global as Heap};
-ghost use Rattle.rtrb.specs.Ring.{IsPair, received, sent};
 ghost use Rattle.gn_rules.specs.Limits.{IsCrew, most_links};
 ghost use Rattle.gn_journal.specs.Rings.{name_of};
-ghost use Rattle.gn_text.specs.Header.{header_text};
-ghost use Rattle.gn_text.specs.declared.title.Text.TheVariants.{History};
 ghost use Rattle.gn_io.specs.Input.{input_limit};
 ghost use Rattle.gn_io.specs.Streams.{NoneFailed, streams, text_between};
 ghost use Rattle.gn_load.specs.declared.fault.LoadFault.TheVariants.{Run};
 ghost use Rattle.gn_load.specs.Faults.{IsLoadFault};
+ghost use Rattle.gn_load.specs.Journalled.{IsFresh};
 ghost use Rattle.gn_load.specs.JournalledLoads.{HasStoppedAt, IsJournalledLoad, of_print};
 ghost use Rattle.gn_load.specs.Loads.{AppendsLoad, load_of};
 
 use crate::fault::LoadFault;
+use crate::fresh::Fresh;
 use crate::loads::read_load;
-use crate::writing::{Begun, Fresh, PLACES, Writing, write_stopped};
+use crate::writing::{Begun, Writing, write_stopped};
 use gn_io::{Sink, Source, read_input};
-use gn_journal::{Journal, Naming};
-use gn_replay::history_heading;
+use gn_journal::Naming;
 use gn_rules::MOST_WORKERS;
-use gn_scribe::{PrintFault, Scribe, Waiting, finish_history};
+use gn_scribe::{PrintFault, Waiting, finish_history};
 use gn_service::{Asked, Batch, MemoryLink, Routing, RunFault, Watch, run_by};
-use gn_table_router::{Configuring, TableRouter};
-use rtrb::RingBuffer;
+use gn_table_router::Configuring;
 use std::alloc::Global;
 use std::marker::{Brand, PhantomData};
 use std::sync::Wait;
@@ -106,13 +103,7 @@ fn write_load<R: Threads + Wait + Sync, G: Watch + Sync, W: Sink + Send>(
     if workers == 0 || workers > MOST_WORKERS {
         return Err(LoadFault::Run(RunFault::BadWorkers));
     }
-    let heading = history_heading(alloc, config)?;
-    let (producer, consumer) = RingBuffer::new(alloc, PLACES)?;
-    let fresh = Fresh {
-        heading,
-        producer,
-        consumer,
-    };
+    let fresh = Fresh::of(alloc, config)?;
     load_named::<Brand, R, G, W>(rt, alloc, load, fresh, sink)
 }
 
@@ -124,24 +115,15 @@ fn load_named<
     W: Sink + Send,
 >(rt: &R, alloc: Global, load: Load<'_, G>, fresh: Fresh, sink: &mut W) -> Result<(), LoadFault>
     requires named { (N.ring ≡ Some (name_of fresh.producer.end)) × (N.config ≡ Some load.asked.config.now) }
-    requires ring { IsPair fresh.producer fresh.consumer
-        × (sent fresh.producer ≡ []) × (received fresh.consumer ≡ []) }
-    requires heading { fresh.heading ≡ header_text History load.asked.config.now }
+    requires fresh { IsFresh load.asked.config.now fresh }
     requires few { (length load.links.items ≤ most_links) × IsCrew load.asked.workers }
     ensures { let asked = load.entry.asked in IsJournalledLoad asked.batch asked.config.now load.entry.links.items
         asked.workers (W.state sink.old) (W.state sink.new) result }
 {
     let Load { asked, links } = load;
-    let Fresh {
-        heading,
-        producer,
-        consumer,
-    } = fresh;
-    let journal = Journal::<N>::new(producer);
-    let router = TableRouter::over(alloc, asked.config, journal)?;
-    let core = router.named::<N>();
+    let (core, scribe) = fresh.over::<N>(alloc, asked.config)?;
     let course = Writing::<W, N> {
-        scribe: Scribe::new(alloc, consumer, heading),
+        scribe,
         sink,
         of: PhantomData,
     };

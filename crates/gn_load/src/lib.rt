@@ -2,6 +2,7 @@
 #![tactic(auto)]
 
 mod fault;
+mod fresh;
 mod journalled;
 mod journalled_any;
 mod journalled_load;

@@ -1,6 +1,6 @@
 //! A run over TCP to which so many call, or any number, whose history is written while it goes on.
 
-ghost use Rattle.std.specs.Prelude.{◌+◌, ◌≤◌, length, None, Some, unwrap_or};
+ghost use Rattle.std.specs.Prelude.{◌+◌, ◌≤◌, is_some, length, None, Some, unwrap_or};
 ghost use Rattle.gn_rules.specs.Limits.{most_links};
 ghost use Rattle.gn_load.specs.Any.{IsJournalledTaken};
 
@@ -9,16 +9,18 @@ use crate::journalled_any::serve_any_journalled;
 use crate::serve_halted::ServeHalted;
 use gn_io::Sink;
 use gn_service::{
-    Account, Any, Host, OpenAccount, Parting, Ran, Serve, TcpReader, TcpWriter, Watch,
+    Account, Any, Host, OpenAccount, Parting, Pings, Ran, Serve, TcpReader, TcpWriter, Watch,
 };
 use std::alloc::{Allocator, Global};
 
 /// How many call a run over TCP: so many in all; `None`: any number, one after another. In that run this one learns of each link as it
-/// ends.
+/// ends, peers may be called again, and the own servent sends these Pings.
 #[derive(Drop)]
 pub struct Taking<'a, T> {
     pub accept: Option<u32>,
     pub leaving: &'a T,
+    pub again: bool,
+    pub pings: Option<Pings>,
 }
 
 /// The account of such a run: with all of its links, or without those that have ended.
@@ -38,30 +40,43 @@ pub fn serve_taken<'s, R: Host, G: Watch + Sync, T: Parting<Global> + Sync, W: S
     sink: &mut W,
 ) -> Result<(Taken<'s>, Ran), ServeHalted>
     requires few { unwrap_or serve.now.accept.accept 0 + length serve.now.peers.now ≤ most_links }
-    ensures { let s = serve.now in IsJournalledTaken s.batch s.config.now s.peers.now s.accept.accept s.workers
-        (W.state sink.old) (W.state sink.new) result }
+    ensures { let s = serve.now in
+        IsJournalledTaken s.accept.again (is_some s.accept.pings) s.batch s.config.now s.peers.now s.accept.accept
+        s.workers (W.state sink.old) (W.state sink.new) result }
 {
     match serve.accept.accept {
-        Some(accept) => serve_all_taken(rt, alloc, &serve.with(accept), sink),
+        Some(accept) => serve_all_taken(rt, alloc, serve, accept, sink),
         None => {
-            let leaving = serve.accept.leaving;
-            serve_any_taken(rt, alloc, &serve.with(Any { leaving }), sink)
+            let Taking {
+                leaving,
+                again,
+                pings,
+                ..
+            } = &serve.accept;
+            let any = Any {
+                leaving: *leaving,
+                again: *again,
+                pings: *pings,
+            };
+            serve_any_taken(rt, alloc, &serve.with(any), sink)
         }
     }
 }
 
 /// So of a run to which so many call.
-fn serve_all_taken<'s, R: Host, G: Watch + Sync, W: Sink + Send>(
+fn serve_all_taken<'s, R: Host, G: Watch + Sync, T, W: Sink + Send>(
     rt: &R,
     alloc: Global,
-    serve: &Serve<'_, 's, G>,
+    serve: &Serve<'_, 's, G, Taking<'_, T>>,
+    accept: u32,
     sink: &mut W,
 ) -> Result<(Taken<'s>, Ran), ServeHalted>
-    requires few { serve.now.accept + length serve.now.peers.now ≤ most_links }
-    ensures { let s = serve.now in IsJournalledTaken s.batch s.config.now s.peers.now (Some s.accept) s.workers
-        (W.state sink.old) (W.state sink.new) result }
+    requires few { accept + length serve.now.peers.now ≤ most_links }
+    ensures { let s = serve.now in
+        IsJournalledTaken s.accept.again (is_some s.accept.pings) s.batch s.config.now s.peers.now (Some accept)
+        s.workers (W.state sink.old) (W.state sink.new) result }
 {
-    match serve_journalled(rt, alloc, serve, sink) {
+    match serve_journalled(rt, alloc, &serve.with(accept), sink) {
         Ok((account, ran)) => Ok((Taken::All(account), ran)),
         Err(halted) => Err(halted),
     }
@@ -74,11 +89,15 @@ fn serve_any_taken<'s, R: Host, G: Watch + Sync, T: Parting<Global> + Sync, W: S
     serve: &Serve<'_, 's, G, Any<'_, T>>,
     sink: &mut W,
 ) -> Result<(Taken<'s>, Ran), ServeHalted>
-    ensures { let s = serve.now in IsJournalledTaken s.batch s.config.now s.peers.now None s.workers
-        (W.state sink.old) (W.state sink.new) result }
+    ensures { let s = serve.now in
+        IsJournalledTaken s.accept.again (is_some s.accept.pings) s.batch s.config.now s.peers.now None
+        s.workers (W.state sink.old) (W.state sink.new) result }
 {
     match serve_any_journalled(rt, alloc, serve, sink) {
         Ok((account, ran)) => Ok((Taken::Any(account), ran)),
-        Err(halted) => Err(halted),
+        Err(halted) => Err(ServeHalted {
+            links: None,
+            ..halted
+        }),
     }
 }

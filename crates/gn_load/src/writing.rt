@@ -8,7 +8,7 @@ ghost use Rattle.gn_rules.specs.Answer.{IsLegal};
 ghost use Rattle.gn_scribe.specs.Written.{HasEnded, HasFollowed};
 ghost use Rattle.gn_load.specs.Journalled.{HasStoppedWriting};
 
-use gn_io::{Block, Sink};
+use gn_io::Sink;
 use gn_journal::{Journal, Naming};
 use gn_report::Unkept;
 use gn_room::{Following, Room};
@@ -17,24 +17,12 @@ use gn_scribe::{PrintFault, Scribe, Waiting, finish_history};
 use gn_table_router::{Configuring, Exchange, TableRouter};
 use gn_tables::Whole;
 use gn_threads::Course;
-use rtrb::{Consumer, Producer};
 use std::alloc::{Allocator, Global};
 use std::marker::PhantomData;
 use std::sync::Wait;
 
 /// How many steps wait at most to be written before those who make more wait, too.
 const MOST_WAITING: u64 = 2048;
-
-/// How many steps a ring has places for: more than wait at most, and one more of each actor of a run of 256 links and 64 workers.
-pub(crate) const PLACES: usize = 4096;
-
-/// The ring of a run that hasn't begun, and how the text of its history begins.
-#[derive(Drop)]
-pub(crate) struct Fresh {
-    pub heading: Block,
-    pub producer: Producer<Step>,
-    pub consumer: Consumer<Step>,
-}
 
 /// A scribe of the ring that `N` names, which has taken no step yet, and where it writes.
 #[derive(Drop)]

@@ -1,5 +1,5 @@
 -- What a serve answers, from what the run answered.
-use Rattle.std.proofs.Common.{◌≡◌, ◌+◌, ℕ, Bool, false, true, List, [], length, IfErr, OnOk, Option, None, Some, Result, Ok, Err, refl, sym, subst}
+use Rattle.std.proofs.Common.{◌≡◌, ◌+◌, ℕ, Bool, false, true, List, [], length, IfErr, OnOk, Option, None, Some, Result, Ok, Err, refl, sym, subst, is_some}
 use Rattle.std.specs.Prelude.{IfSome}
 use Rattle.std.specs.Result.{IsErrAnd}
 use Rattle.std.specs.declared.alloc.Global.{Global}
@@ -18,6 +18,7 @@ use Rattle.gn_load.specs.declared.serve_fault.ServeFault.TheVariants.{Run}
 use Rattle.gn_start.specs.Faults.{IsArrivingFault}
 use Rattle.gn_start.specs.declared.fault.RunFault.{RunFault}
 use Rattle.gn_program.specs.Commands.{AppendsAsked, AppendsAskedPart, IsBeside, IsServeAnswer, IsServing}
+use Rattle.gn_program.specs.Limits.{calls_again}
 use Rattle.gn_program.specs.Peers.{AreAt}
 use Rattle.gn_service.specs.Ran.{Remembered}
 use Rattle.gn_words.specs.ServeOptions.{AskedServe}
@@ -51,12 +52,12 @@ known peers accept workers sink sink_new (Err e) within fault = fault within
 
 -- the text of a run that is remembered was written, over links that are called at the peers' addresses
 pub asked : (serving : AskedServe) (settings : Config) (called : List SocketAddr) (ran : Remembered Global) (old new : Option (List ℕ))
-    → AreAt serving.peers called → AppendsTaken Global serving.batch settings called serving.accept serving.workers ran old new → AppendsAsked serving settings (Some ran) old new
+    → AreAt serving.peers called → AppendsTaken Global (calls_again serving) (is_some serving.ping) serving.batch settings called serving.accept serving.workers ran old new → AppendsAsked serving settings (Some ran) old new
 asked serving settings called ran old new at has = (called, at, ran, refl, has)
 
 -- so was a prefix of it
 asked_part : (serving : AskedServe) (settings : Config) (called : List SocketAddr) (remembered : Option (Remembered Global)) (old new : Option (List ℕ)) → AreAt serving.peers called
-    → IfSome remembered (λ _. AppendsTakenPart Global serving.batch settings called serving.accept serving.workers remembered old new) → IfSome remembered (λ _. AppendsAskedPart serving settings remembered old new)
+    → IfSome remembered (λ _. AppendsTakenPart Global (calls_again serving) (is_some serving.ping) serving.batch settings called serving.accept serving.workers remembered old new) → IfSome remembered (λ _. AppendsAskedPart serving settings remembered old new)
 asked_part serving settings called None old new at has = tt
 asked_part serving settings called (Some ran) old new at has = (called, at, has)
 
@@ -65,7 +66,7 @@ pub answered : (serving : AskedServe) (settings : Config) (called : List SocketA
     → IsServing serving settings → AreAt serving.peers called → length called ≡ length serving.peers → IsCrew serving.workers → OnOk answer (NoWriteFailed sink sink_new)
     → OnOk answer (AppendsAsked serving settings remembered sink.written sink_new.written)
     → IfErr answer (λ _. AppendsSomeLegalPart Global settings sink.written sink_new.written)
-    → IfErr answer (λ _. IfSome remembered (λ _. AppendsTakenPart Global serving.batch settings called serving.accept serving.workers remembered sink.written sink_new.written))
+    → IfErr answer (λ _. IfSome remembered (λ _. AppendsTakenPart Global (calls_again serving) (is_some serving.ping) serving.batch settings called serving.accept serving.workers remembered sink.written sink_new.written))
     → IfErr answer (λ fault. IsCrew serving.workers → IsTakenFault (length called) serving.accept serving.workers fault sink sink_new)
     → IsServeAnswer serving sink sink_new answer remembered
 answered serving settings called remembered sink sink_new answer configured at many within unfailed written stopped part fault =
@@ -84,7 +85,7 @@ answered serving settings called remembered sink sink_new answer configured at m
 pub failed : (serving : AskedServe) (settings : Config) (called : List SocketAddr) (remembered : Option (Remembered Global)) (sink sink_new : SinkState) (answer : Result (Unit {0}) ServeFault) (fault : ServeFault)
     → IsServing serving settings → AreAt serving.peers called → length called ≡ length serving.peers → IsCrew serving.workers → IsErrAnd answer (λ e. e ≡ fault)
     → AppendsSomeLegalPart Global settings sink.written sink_new.written
-    → IfSome remembered (λ _. AppendsTakenPart Global serving.batch settings called serving.accept serving.workers remembered sink.written sink_new.written)
+    → IfSome remembered (λ _. AppendsTakenPart Global (calls_again serving) (is_some serving.ping) serving.batch settings called serving.accept serving.workers remembered sink.written sink_new.written)
     → (IsCrew serving.workers → IsTakenFault (length called) serving.accept serving.workers fault sink sink_new)
     → IsServeAnswer serving sink sink_new answer remembered
 failed serving settings called remembered sink sink_new (Ok done) fault configured at many within is stopped part one = absurd is

@@ -1,5 +1,5 @@
 -- What a command does: what replay, audit, show, load or serve answers to its input and output, and the status that stands for it.
-use Rattle.std.specs.Prelude.{◌≡◌, ◌≢◌, ◌⊎◌, ◌≤◌, ◌∷◌, ◌||◌, [], ℕ, Bool, false, true, List, Option, None, Some, length, IfSome, IsOk, Result, Ok, Err, IfOk, IfErr, OnOk}
+use Rattle.std.specs.Prelude.{◌≡◌, ◌≢◌, ◌⊎◌, ◌≤◌, ◌∷◌, ◌||◌, [], ℕ, Bool, false, true, List, Option, None, Some, is_some, length, IfSome, IsOk, Result, Ok, Err, IfOk, IfErr, OnOk}
 use Rattle.std.specs.Io.KnownBytes.{Appends}
 use Rattle.std.specs.declared.alloc.Global.{Global}
 use Rattle.std.specs.declared.net.socket_addr.SocketAddr.{SocketAddr}
@@ -27,6 +27,7 @@ use Rattle.gn_load.specs.Loads.{AppendsLoad, load_of}
 use Rattle.gn_load.specs.declared.fault.LoadFault.{LoadFault}
 use Rattle.gn_load.specs.Journalled.{AppendsSomeLegalPart}
 use Rattle.gn_load.specs.Any.{AppendsTaken, AppendsTakenPart, IsTakenFault}
+use Rattle.gn_program.specs.Limits.{calls_again}
 use Rattle.gn_program.specs.Peers.{AreAt}
 use Rattle.gn_service.specs.Ran.{Remembered}
 use Rattle.gn_load.specs.declared.serve_fault.ServeFault.{ServeFault}
@@ -130,22 +131,23 @@ abbrev pub IsServing : AskedServe → Config → Type 0
 IsServing serving settings =
     (id : Guid) × IsIdOf serving.servent id × IsMadeOf settings serving.numbers (own_served serving id)
 
--- a run with so many workers is remembered, over links to the peers of the words, which are called, and to so many that call, or to all,
--- which writes at most so many packets to one at once; and known bytes grew by the text of its history
+-- a run with so many workers is remembered, which writes at most so many packets to a link at once: over links to the peers of the words,
+-- which are called, and to so many that call; or, where any number may call, one whose first links go to those peers, in order, as far as
+-- there are links, whose others called, or go to those peers where these are called again, and whose own servent sends Pings where that is
+-- asked for. And known bytes grew by the text of its history
 abbrev pub AppendsAsked : AskedServe → Config → Option (Remembered Global) → Option (List ℕ) → Option (List ℕ) → Type 0
 AppendsAsked serving settings remembered old new =
     (called : List SocketAddr) × AreAt serving.peers called × (ran : Remembered Global) × (remembered ≡ Some ran)
-    × AppendsTaken Global serving.batch settings called serving.accept serving.workers ran old new
+    × AppendsTaken Global (calls_again serving) (is_some serving.ping) serving.batch settings called serving.accept serving.workers ran old new
 
 -- such a run is remembered, and known bytes grew by a prefix of that text
 abbrev pub AppendsAskedPart : AskedServe → Config → Option (Remembered Global) → Option (List ℕ) → Option (List ℕ) → Type 0
 AppendsAskedPart serving settings remembered old new =
     (called : List SocketAddr) × AreAt serving.peers called
-    × AppendsTakenPart Global serving.batch settings called serving.accept serving.workers remembered old new
+    × AppendsTakenPart Global (calls_again serving) (is_some serving.ping) serving.batch settings called serving.accept serving.workers remembered old new
 
--- what serve answers: no write failed, and the history of the run that is remembered was written, one with so many workers, over
--- links to the peers of the words, which are called, and to so many that call, or to all; or it stopped, and what was written then is a prefix
--- of the text of a history that is legal, and of the run that is remembered, where one is
+-- what serve answers: no write failed, and the history of the run that is remembered was written, a run as `AppendsAsked` says; or it
+-- stopped, and what was written then is a prefix of the text of a history that is legal, and of the run that is remembered, where one is
 pub record IsServeAnswer (serving : AskedServe) (sink sink_new : SinkState) (answer : Result (Unit {0}) ServeFault)
     (remembered : Option (Remembered Global)) : Type 0 where
   pub settings : Config

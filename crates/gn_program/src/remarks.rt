@@ -1,6 +1,7 @@
 //! What a serve says beside its history, as comments: when it was written, and who its neighbours are.
 
 use crate::calls::{Calls, UNSAID};
+use crate::serves::calls_again;
 use gn_comments::{Commenter, Comments};
 use gn_words::ServeOptions;
 use std::alloc::{AllocError, Global};
@@ -44,8 +45,9 @@ pub(crate) struct Remarks<'a, 'w, R, G> {
     rt: &'a R,
     alloc: Global,
     calls: &'a Calls<'w, G>,
-    /// How many of its first links are called.
-    called: usize,
+    /// The peers that it calls, and whether it calls them again.
+    peers: &'a [SocketAddr],
+    again: bool,
     /// How many workers it has, where any number of callers is taken.
     workers: Option<u32>,
     times: bool,
@@ -62,13 +64,15 @@ impl<'a, 'w, R: Clock + Wait, G> Remarks<'a, 'w, R, G> {
         rt: &'a R,
         alloc: Global,
         calls: &'a Calls<'w, G>,
+        peers: &'a [SocketAddr],
         serving: &ServeOptions,
     ) -> Self {
         Remarks {
             rt,
             alloc,
             calls,
-            called: serving.peers.len(),
+            peers,
+            again: calls_again(serving),
             workers: serving.accept.is_none().then_some(serving.workers),
             times: serving.times,
             links: serving.links,
@@ -85,6 +89,15 @@ impl<'a, 'w, R: Clock + Wait, G> Remarks<'a, 'w, R, G> {
         }
     }
 
+    /// Whether the peer of this link was called: over one of the first links, or over any, where peers are called again.
+    fn is_called(&self, link: u32, peer: SocketAddr) -> bool {
+        if self.again {
+            self.peers.contains(&peer)
+        } else {
+            (link as usize) < self.peers.len()
+        }
+    }
+
     /// Says a link whose peer has come.
     fn say_link(
         &self,
@@ -92,11 +105,10 @@ impl<'a, 'w, R: Clock + Wait, G> Remarks<'a, 'w, R, G> {
         peer: SocketAddr,
         comments: &mut Comments,
     ) -> Result<(), AllocError> {
-        let is_called = (link as usize) < self.called;
         let neighbour = Neighbour {
             reader: self.reader_of(link),
             peer,
-            is_called,
+            is_called: self.is_called(link, peer),
         };
         let text = format!(in self.alloc; "{}", neighbour)?;
         comments.add(text.as_bytes())

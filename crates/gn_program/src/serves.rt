@@ -1,6 +1,6 @@
 //! A router that serves, as a command line asks for it.
 
-ghost use Rattle.std.specs.Prelude.{◌≡◌, ◌*◌, ◌+◌, ◌<◌, ◌≤◌, ℕ, List, None, length, unwrap_or, IfNone, IfOk, IfSome};
+ghost use Rattle.std.specs.Prelude.{◌≡◌, ◌*◌, ◌+◌, ◌<◌, ◌≤◌, ℕ, List, None, is_some, length, unwrap_or, IfNone, IfOk, IfSome};
 ghost use Rattle.std.specs.Option.{IsSomeAnd};
 ghost use Rattle.std.specs.Bool.{then_some};
 ghost use Rattle.std.specs.Duration.{as_nanos};
@@ -8,7 +8,7 @@ ghost use Rattle.gn_comments.specs.Sinks.{HasWrittenBoth, without_comments};
 ghost use Rattle.gn_io.specs.Streams.{SinkState};
 ghost use Rattle.gn_load.specs.Any.{IsJournalledTaken};
 ghost use Rattle.gn_program.specs.Commands.{HasServed, IsBeside, IsIdOf, IsServing, has_comments};
-ghost use Rattle.gn_program.specs.Limits.{IsLimit, IsStopOf, may_stop};
+ghost use Rattle.gn_program.specs.Limits.{IsLimit, IsStopOf, calls_again, may_stop, seconds_of};
 ghost use Rattle.gn_program.specs.Peers.{AreAt};
 ghost use Rattle.gn_rules.specs.Limits.{most_links};
 ghost use Rattle.gn_words.specs.declared.request.Servent.TheVariants.{Random};
@@ -26,11 +26,11 @@ use gn_links::{LinkFault, Watch};
 use gn_load::{ServeFault, ServeHalted, Taken, Taking, serve_taken};
 use gn_report::LinkTally;
 use gn_rules::{Config, Own};
-use gn_service::{Batch, Host, Parting, Ran, Serve, Serving, Stop, TcpReader, TcpWriter};
+use gn_service::{Batch, Host, Parting, Pings, Ran, Serve, Serving, Stop, TcpReader, TcpWriter};
 use gn_tcp::Unmet;
 use gn_threads::RunFault;
 use gn_wire::Guid;
-use gn_words::{Peer, ServeOptions, Servent};
+use gn_words::{Peer, Retry, ServeOptions, Servent};
 use std::alloc::{AllocError, Global};
 use std::fmt;
 use std::fmt::{Display, Formatter, Write};
@@ -40,7 +40,7 @@ use std::net::{Ipv4Addr, Net, SocketAddr, SocketAddrV4, TcpListener, TcpStream};
 use std::random::RandomSource;
 use std::sync::Arc;
 use std::thread::Threads;
-use std::time::Duration;
+use std::time::{Clock, Duration, SystemTime, UNIX_EPOCH};
 
 /// The line that says that the router listens on this port.
 #[derive(Clone, Copy, Debug)]
@@ -107,6 +107,23 @@ fn limit(seconds: Option<u32>) -> Option<Duration>
     Some(Duration::from_secs(u64::from(seconds?)))
 }
 
+/// The seconds for which a peer that doesn't listen is called again, where they are limited.
+fn seconds_of(retry: Retry) -> Option<u32>
+    ensures { result ≡ seconds_of retry }
+{
+    match retry {
+        Retry::For(seconds) => Some(seconds),
+        Retry::Never | Retry::Always => None,
+    }
+}
+
+/// Whether its peers are called for as long as the router runs.
+pub(crate) fn calls_again(serving: &ServeOptions) -> bool
+    ensures { result ≡ calls_again serving.now }
+{
+    matches!(serving.retry, Retry::Always)
+}
+
 /// Whether anything but its peers stops the router.
 fn may_stop(serving: &ServeOptions) -> bool
     ensures { result ≡ may_stop serving.now }
@@ -117,14 +134,14 @@ fn may_stop(serving: &ServeOptions) -> bool
 /// How long the router goes on and waits for its peers, and whether its history is kept.
 fn limits<'s>(serving: &ServeOptions, stop: &'s Stop) -> Serving<'s>
     ensures idle { IsLimit serving.now.idle result.idle }
-    ensures retry { IsLimit serving.now.retry result.retry }
+    ensures retry { IsLimit (seconds_of serving.now.retry) result.retry }
     ensures grace { IsSomeAnd result.grace (λ time. as_nanos time ≡ serving.now.grace * 1_000_000_000) }
     ensures stop { result.stop ≡ then_some (may_stop serving.now) stop.entry }
     ensures kept { result.is_kept ≡ serving.now.keeps }
 {
     Serving {
         idle: limit(serving.idle),
-        retry: limit(serving.retry),
+        retry: limit(seconds_of(serving.retry)),
         grace: Some(Duration::from_secs(serving.grace as u64)),
         stop: may_stop(serving).then_some(stop),
         is_kept: serving.keeps,
@@ -221,13 +238,53 @@ fn report_stopped<G: Watch, F: Sink>(
     watch.leave(links);
 }
 
-/// How many call the router, and who learns of each link as it ends where any number does.
-fn taking<'a, T>(serving: &ServeOptions, leaving: &'a T) -> Taking<'a, T>
-    ensures { result.accept ≡ serving.now.accept }
+/// The ID of the first Ping of a router of this ID that starts now: others than those of its earlier runs.
+fn first_ping<R: Clock>(rt: &R, id: Guid) -> Guid {
+    let Ok(now) = SystemTime::now(rt) else {
+        return id;
+    };
+    let Ok(since) = now.duration_since(UNIX_EPOCH) else {
+        return id;
+    };
+    let Guid(mut bytes) = id;
+    let [_, _, _, _, a, b, c, d] = since.as_secs().to_be_bytes();
+    bytes[8] ^= a;
+    bytes[9] ^= b;
+    bytes[10] ^= c;
+    bytes[11] ^= d;
+    Guid(bytes)
+}
+
+/// The Pings that the own servent sends, where it is asked for any.
+fn pings<R: Clock>(rt: &R, serving: &ServeOptions, id: Guid) -> Option<Pings>
+    ensures { is_some result ≡ is_some serving.now.ping }
+{
+    match serving.ping {
+        Some(seconds) => Some(Pings {
+            every: Duration::from_secs(u64::from(seconds)),
+            first: first_ping(rt, id),
+        }),
+        None => None,
+    }
+}
+
+/// How many call the router, who learns of each link as it ends where any number does, whether its peers are called again then, and the
+/// own servent's Pings.
+fn taking<'a, R: Clock, T>(
+    rt: &R,
+    serving: &ServeOptions,
+    id: Guid,
+    leaving: &'a T,
+) -> Taking<'a, T>
+    ensures accept { result.accept ≡ serving.now.accept }
+    ensures again { result.again ≡ calls_again serving.now }
+    ensures pings { is_some result.pings ≡ is_some serving.now.ping }
 {
     Taking {
         accept: serving.accept,
         leaving,
+        again: calls_again(serving),
+        pings: pings(rt, serving, id),
     }
 }
 
@@ -260,11 +317,11 @@ fn run_commented<
     ensures here { result.1.sink.ghost_name ≡ lent.entry.sink.ghost_name }
     ensures ran { let s = serve.now in (text : List ℕ)
         × HasWrittenBoth (W.state lent.entry.sink.now) (W.state result.1.sink.now) text
-        × IsJournalledTaken s.batch s.config.now s.peers.now s.accept.accept s.workers
-        (W.state lent.entry.sink.now)
+        × IsJournalledTaken s.accept.again (is_some s.accept.pings) s.batch s.config.now s.peers.now s.accept.accept
+        s.workers (W.state lent.entry.sink.now)
         (without_comments (W.state lent.entry.sink.now) (W.state result.1.sink.now) text) result.0 }
 {
-    let remarks = Remarks::new(rt, alloc, serve.watch, serving);
+    let remarks = Remarks::new(rt, alloc, serve.watch, serve.peers, serving);
     let mut commented = Commented::<B, W, Remarks<'_, '_, R, G>>::new(alloc, lent, remarks);
     let answer = serve_taken::<_, _, _, _>(rt, alloc, serve, &mut commented);
     (answer, commented.into_inner())
@@ -281,8 +338,8 @@ fn run<'s, R: Host, G: Watch + Sync, T: Parting<Global> + Sync, W: Sink + Send>(
     requires few { unwrap_or serve.now.accept.accept 0 + length serve.now.peers.now ≤ most_links }
     ensures { let s = serve.now in (bare : SinkState)
         × IsBeside (has_comments serving.now) (W.state writer.old) bare (W.state writer.new)
-        × IsJournalledTaken s.batch s.config.now s.peers.now s.accept.accept s.workers
-        (W.state writer.old) bare result }
+        × IsJournalledTaken s.accept.again (is_some s.accept.pings) s.batch s.config.now s.peers.now s.accept.accept
+        s.workers (W.state writer.old) bare result }
 {
     if has_comments(serving) {
         let lent = Lent { sink: writer };
@@ -329,7 +386,7 @@ pub(crate) fn serve<
         listener: &listener,
         config: &config,
         peers: &peers,
-        accept: taking(serving, &leavings),
+        accept: taking(rt, serving, id, &leavings),
         workers: serving.workers,
         limits: limits(serving, &stop),
         watch: calls,

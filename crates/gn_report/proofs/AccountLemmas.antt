@@ -24,7 +24,7 @@ use Rattle.gn_report.specs.declared.account.LinkAccount.{LinkAccount}
 use Rattle.gn_report.specs.declared.report.LinkReport.{LinkReport}
 use Rattle.gn_report.specs.declared.report.Report.{Report}
 use Rattle.gn_report.specs.declared.unkept.Unkept.{Unkept}
-use Rattle.gn_report.specs.Accounts.{IsReportOf, all_receipts, is_routing, link_of, reader_receipts, unkept_list, writer_receipts}
+use Rattle.gn_report.specs.Accounts.{IsReportOf, all_receipts, are_houses, is_routing, link_of, reader_receipts, unkept_list, writer_receipts}
 use Rattle.gn_report.specs.Actors.{AreOwn, is_awaited_reader, number_in, receipts_of}
 use Rattle.gn_report.specs.BodyEnds.{is_settled}
 use Rattle.gn_report.specs.Ended.{EndedIsSeen, IsIdleAfter, IsRunEnded, LinkViews}
@@ -67,8 +67,8 @@ settled_last {A} steps role end conn found idle own drained did settled =
         let same : closing.0 ≡ last_place own - 1 = omega (arith, place) in
         subst (λ n. is_settled steps n ≡ true) same (subst (λ o. IsIdleAfter steps o) closing.1 settled).1
 
-module _ {Rd W A O : Type 0} (turns batch : ℕ) (views : LinkViews Rd W O) (roles : List Role) (heap : A) (links : List (LinkAccount Rd W A)) (workers : List (Unkept (Receipt A))) (house : Unkept (Receipt A)) (report : Report Rd W A)
-    (is_of : IsReportOf heap links workers house report) (run : IsRunEnded turns batch views roles report.history.items links workers house) where
+module _ {Rd W A O : Type 0} (originates : Bool) (turns batch : ℕ) (views : LinkViews Rd W O) (roles : List Role) (heap : A) (links : List (LinkAccount Rd W A)) (workers : List (Unkept (Receipt A))) (house : Unkept (Receipt A)) (report : Report Rd W A)
+    (is_of : IsReportOf heap links workers house report) (run : IsRunEnded originates turns batch views roles report.history.items links workers house) where
   -- the receipts of all actors
   the_receipts : receipts_of report ≡ all_receipts links workers house
   the_receipts =
@@ -155,15 +155,15 @@ module _ {Rd W A O : Type 0} (turns batch : ℕ) (views : LinkViews Rd W O) (rol
       let here : get_or report.workers.items j d ≡ vec_of heap (get_or workers j some) = ap (λ (vs : List (Vec (Receipt A) A)). get_or vs j d) is_of.workers_are ∙ get_or-map (vec_of heap) workers j some d below in
       subst (λ (v : Vec (Receipt A) A). AreRoutes v.items) (sym here) (subst (λ (rs : List (Receipt A)). is_routing rs ≡ true) there routes)
 
-  run_seen : AreSeen roles report
+  run_seen : AreSeen originates roles report
   run_seen = record {
     own = all_own;
     only = subst (λ n. list_all (λ (step : Step A). nat_lt step.actor n) report.history.items ≡ true) as_many run.all.only;
     links = link_seen;
     workers = worker_seen;
-    house = subst (λ (rs : List (Receipt A)). is_routing rs ≡ true) (sym is_of.house_is) run.routes.1;
+    house = subst (λ (rs : List (Receipt A)). are_houses originates rs ≡ true) (sym is_of.house_is) run.routes.1;
     tickets = run.tickets;
   }
 
 pub ended_is_seen : (Rd W A O : Type 0) → EndedIsSeen Rd W A O
-ended_is_seen Rd W A O turns batch views roles heap links workers house report is_of run = run_seen turns batch views roles heap links workers house report is_of run
+ended_is_seen Rd W A O originates turns batch views roles heap links workers house report is_of run = run_seen originates turns batch views roles heap links workers house report is_of run

@@ -1,5 +1,5 @@
 -- Who closed a link's connection, in a legal history whose actors' steps are as compared.
-use Rattle.std.proofs.Common.{◌≡◌, ◌<◌, ◌+◌, ◌-◌, ◌==◌, ℕ, suc, Bool, true, false, not, ◌&&◌, ◌||◌, cond, List, [], ◌∷◌, length, get_or, reverse, is_some, Option, Some, None, inl, inr, refl, sym, ap, ◌∙◌, subst, arith}
+use Rattle.std.proofs.Common.{◌≡◌, ◌≤◌, ◌<◌, ◌+◌, ◌-◌, ◌==◌, ℕ, suc, Bool, true, false, not, ◌&&◌, ◌||◌, cond, List, [], ◌∷◌, length, get_or, reverse, Option, Some, None, inl, inr, refl, sym, ap, ◌∙◌, subst, arith}
 use Rattle.std.specs.List.{list_all, list_any}
 use Rattle.std.specs.Option.{option_or}
 use Rattle.std.proofs.lemmas.Bool.{and_parts, cases_eq, cases_lt, eq-eqb, ne_eqb}
@@ -11,10 +11,18 @@ use Rattle.gn_rules.specs.declared.event.Event.TheVariants.{Connect, Close, Admi
 use Rattle.gn_rules.specs.declared.receipt.Receipt.{Receipt}
 use Rattle.gn_rules.specs.declared.receipt.Step.{Step}
 use Rattle.gn_rules.specs.Answer.{IsLegal}
-use Rattle.gn_rules.specs.History.{connected_of, is_at, is_close, live, mine, mine_from, step_of, ticket_of}
-use Rattle.gn_laws.specs.Owners.{AreCompared, AreFitting, is_readers, is_writers, known_conn}
+use Rattle.gn_rules.specs.History.{connected_of, is_at, is_close, live, mine, mine_from, step_of}
+use Rattle.gn_laws.specs.Owners.{AreFitting, is_readers, is_writers, known_conn}
 use Rattle.gn_laws.proofs.CountLemmas.{any_from_count, count-reverse, count_some}
 use Rattle.gn_laws.proofs.OwnerLemmas.{connected_to_one}
+use Rattle.gn_report.specs.Accounts.{are_houses, is_houses}
+
+-- what is compared of each actor's steps, where all but readers and writers do what the house may
+pub record AreLikewise {A : Type 0} (originates : Bool) (steps : List (Step A)) (conns : List (Option ℕ)) : Type 0 where
+  pub connected : (k : ℕ) → k < length conns → get_or conns k None ≡ known_conn (mine steps k)
+  pub readers : (k : ℕ) → k < length conns → list_all (λ r. is_readers (get_or conns k None) r.event) (mine steps k) ≡ true
+  pub writers : (k : ℕ) → k < length conns → list_all (λ r. is_writers (get_or conns k None) r.event) (mine steps (length conns + k)) ≡ true
+  pub others : (a : ℕ) → length conns + length conns ≤ a → are_houses originates (mine steps a) ≡ true
 
 any_reverse : {X : Type 0} (p : X → Bool) (xs : List X) → list_any p xs ≡ true → list_any p (reverse xs) ≡ true
 any_reverse p xs any = any_from_count p (reverse xs) (omega (arith, count_some p xs any, count-reverse p xs))
@@ -176,24 +184,25 @@ writer_keeps o c other (Route t) is = refl
 writer_keeps o c other (Take d) is = refl
 writer_keeps o c other (Originate packet) is = refl
 
-route_keeps : {A : Type 0} (c : ℕ) (event : Event A) → is_some (ticket_of event) ≡ true → is_close c event ≡ false
-route_keeps c Connect is = refl
-route_keeps c (Close d) is = absurd (cc)
-route_keeps c (Admit d packet) is = refl
-route_keeps c (Route t) is = refl
-route_keeps c (Take d) is = refl
-route_keeps c (Originate packet) is = refl
+house_keeps : {A : Type 0} (originates : Bool) (c : ℕ) (event : Event A) → is_houses originates event ≡ true → is_close c event ≡ false
+house_keeps originates c Connect is = refl
+house_keeps true c (Close d) is = absurd (cc)
+house_keeps false c (Close d) is = absurd (cc)
+house_keeps originates c (Admit d packet) is = refl
+house_keeps originates c (Route t) is = refl
+house_keeps originates c (Take d) is = refl
+house_keeps originates c (Originate packet) is = refl
 
 -- links of one connection are one
-same_link : {A : Type 0} (s : Config) (steps : List (Step A)) (conns : List (Option ℕ)) (j k c : ℕ) → IsLegal s (reverse steps) → AreCompared steps conns → j < length conns → k < length conns → get_or conns j None ≡ Some c
+same_link : {A : Type 0} {originates : Bool} (s : Config) (steps : List (Step A)) (conns : List (Option ℕ)) (j k c : ℕ) → IsLegal s (reverse steps) → AreLikewise originates steps conns → j < length conns → k < length conns → get_or conns j None ≡ Some c
     → get_or conns k None ≡ Some c → j ≡ k
 same_link {A} s steps conns j k c legal compared at inside one two =
     connected_to_one A s steps c j k legal (known_some (mine steps j) c (sym (compared.connected j at) ∙ one)) (known_some (mine steps k) c (sym (compared.connected k inside) ∙ two))
 
 -- where somebody closed the connection of link k, and its reader didn't, its writer did
-pub closed_by_writer : {A : Type 0} (s : Config) (steps : List (Step A)) (conns : List (Option ℕ)) (k c : ℕ) → IsLegal s (reverse steps) → AreCompared steps conns → k < length conns → get_or conns k None ≡ Some c
+pub closed_by_writer : {A : Type 0} {originates : Bool} (s : Config) (steps : List (Step A)) (conns : List (Option ℕ)) (k c : ℕ) → IsLegal s (reverse steps) → AreLikewise originates steps conns → k < length conns → get_or conns k None ≡ Some c
     → list_all (λ r. not (is_close c r.event)) (mine steps k) ≡ true → list_any (λ step. is_close c step.event) steps ≡ true → list_any (λ step. (step.actor == (length conns + k)) && is_close c step.event) steps ≡ true
-closed_by_writer {A} s steps conns k c legal compared inside conn none any =
+closed_by_writer {A} {originates} s steps conns k c legal compared inside conn none any =
     let n = length conns in
     closed_by c (n + k) steps any
     (λ a other.
@@ -210,6 +219,6 @@ closed_by_writer {A} s steps conns k c legal compared inside conn none any =
             let apart : j ≡ k → ⊥ = λ same. other (is ∙ ap (λ i. n + i) same) in
             subst (λ i. list_all (λ (r : Receipt A). not (is_close c r.event)) (mine steps i) ≡ true) (sym is)
             (none_closes c (is_writers (get_or conns j None)) (mine steps (n + j)) (writer_keeps (get_or conns j None) c (λ here. apart (same_link s steps conns j k c legal compared within inside here conn))) (compared.writers j within))
-        | inr beyond ↦ none_closes c (λ event. is_some (ticket_of event)) (mine steps a) (route_keeps c) (compared.others a beyond)
+        | inr beyond ↦ none_closes c (is_houses originates) (mine steps a) (house_keeps originates c) (compared.others a beyond)
       ]
     ])

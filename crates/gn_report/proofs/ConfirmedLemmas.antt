@@ -2,10 +2,11 @@
 use Rattle.std.proofs.Common.{◌≡◌, ◌≤◌, ◌<◌, ◌+◌, ◌-◌, ◌&&◌, ℕ, Bool, true, false, nat_lt, List, [], ◌∷◌, length, map, get_or, reverse, Vec, Option, Some, None, is_some, refl, sym, ap, ◌∙◌, subst, inl, inr, arith}
 use Rattle.std.specs.Bool.{MatchBool}
 use Rattle.std.specs.List.{list_all, list_any}
-use Rattle.std.proofs.lemmas.Bool.{cases_lt, le-ltb, lt-ltb}
+use Rattle.std.proofs.lemmas.Bool.{and_parts, cases_lt, le-ltb, lt-ltb}
 use Rattle.std.proofs.lemmas.List.{get_or-map, length-map}
 use Rattle.std.proofs.lemmas.Grind.{common_steps}
 use Rattle.gn_rules.specs.declared.config.Config.{Config}
+use Rattle.gn_rules.specs.declared.event.Event.{Event}
 use Rattle.gn_rules.specs.declared.receipt.Receipt.{Receipt}
 use Rattle.gn_rules.specs.History.{is_at, is_close, ticket_of, mine, closed_of}
 use Rattle.gn_rules.specs.Answer.{IsLegal}
@@ -19,8 +20,10 @@ use Rattle.gn_laws.proofs.OwnerLemmas.{links_agree}
 use Rattle.gn_report.specs.declared.report.LinkReport.{LinkReport}
 use Rattle.gn_report.specs.declared.report.Report.{Report}
 use Rattle.gn_actors.specs.declared.who.Who.TheVariants.{House, Worker, Writer}
+use Rattle.gn_report.specs.Accounts.{are_houses, is_houses}
 use Rattle.gn_report.specs.Actors.{AreOwn, number_in, receipts_of}
 use Rattle.gn_report.specs.BodyEnds.{is_writer_end}
+use Rattle.gn_report.proofs.ClosedLemmas.{AreLikewise}
 use Rattle.gn_report.proofs.ComparedLemmas.{is_last_close}
 use Rattle.gn_report.proofs.ConnLemmas.{conn_is_known}
 use Rattle.gn_report.proofs.ReceiptLemmas.{at_house, at_reader, at_worker, at_writer}
@@ -72,41 +75,64 @@ some_of : {X : Type 0} (xs : List X) → 0 < length xs → X
 some_of [] below = absurd (omega arith)
 some_of (x ∷ xs) below = x
 
--- an actor that is neither a reader nor a writer routed alone, where workers and the house did
-pub others_routed : {Rd W A : Type 0} (report : Report Rd W A) → ((j : ℕ) (d : Vec (Receipt A) A) → j < length report.workers.items → AreRoutes (get_or report.workers.items j d).items) → AreRoutes report.house.items
-    → (a : ℕ) → number_in report (Worker 0) ≤ a → a < number_in report House + 1 → AreRoutes (get_or (receipts_of report) a [])
-others_routed {Rd} {W} {A} report workers house a past below =
+-- what routes alone does what the house may
+one_own : {A : Type 0} (originates : Bool) (event : Event A) → is_some (ticket_of event) ≡ true → is_houses originates event ≡ true
+one_own false event routes = routes
+one_own true event routes = rw routes refl
+
+pub routes_own : {A : Type 0} (originates : Bool) (receipts : List (Receipt A)) → AreRoutes receipts → are_houses originates receipts ≡ true
+routes_own originates [] routes = refl
+routes_own {A} originates (r ∷ receipts) routes =
+    let parts = and_parts (is_some (ticket_of r.event)) (list_all (λ (x : Receipt A). is_some (ticket_of x.event)) receipts) routes in
+    rw (one_own originates r.event parts.0) (routes_own originates receipts parts.1)
+
+-- an actor that is neither a reader nor a writer did what the house may, where workers routed alone and the house did so
+pub others_own : {Rd W A : Type 0} (originates : Bool) (report : Report Rd W A) → ((j : ℕ) (d : Vec (Receipt A) A) → j < length report.workers.items → AreRoutes (get_or report.workers.items j d).items) → are_houses originates report.house.items ≡ true
+    → (a : ℕ) → number_in report (Worker 0) ≤ a → a < number_in report House + 1 → are_houses originates (get_or (receipts_of report) a []) ≡ true
+others_own {Rd} {W} {A} originates report workers house a past below =
     let n = length report.links.items in
     let v = length report.workers.items in
-    elim (cases_lt a (n + n + v)) as (λ x. AreRoutes (get_or (receipts_of report) a [])) [
+    elim (cases_lt a (n + n + v)) as (λ x. are_houses originates (get_or (receipts_of report) a []) ≡ true) [
       | inl low ↦
           let j = a - (n + n) in
           let within : j < v = omega (arith, past, low) in
           let is : a ≡ n + n + j = omega (arith, past) in
           let some = some_of report.workers.items (omega (arith, within)) in
-          subst (λ rs. AreRoutes rs) (sym (at_worker report j a some within is)) (workers j some within)
+          subst (λ (rs : List (Receipt A)). are_houses originates rs ≡ true) (sym (at_worker report j a some within is)) (routes_own originates (get_or report.workers.items j some).items (workers j some within))
       | inr high ↦
           let is : a ≡ n + n + v = omega (arith, high, below) in
-          subst (λ rs. AreRoutes rs) (sym (at_house report a is)) house
+          subst (λ (rs : List (Receipt A)). are_houses originates rs ≡ true) (sym (at_house report a is)) house
     ]
 
--- what a report without a flaw says of its actors
-pub record Confirmed {Rd W A : Type 0} (settled : ℕ → Bool) (roles : List Role) (report : Report Rd W A) : Type 0 where
+-- each worker's receipts are of routes alone
+pub workers_route : {Rd W A : Type 0} (report : Report Rd W A) → ((j : ℕ) (d : Vec (Receipt A) A) → j < length report.workers.items → AreRoutes (get_or report.workers.items j d).items)
+    → (a : ℕ) → number_in report (Worker 0) ≤ a → a < number_in report House → AreRoutes (get_or (receipts_of report) a [])
+workers_route {Rd} {W} {A} report workers a past below =
+    let n = length report.links.items in
+    let v = length report.workers.items in
+    let j = a - (n + n) in
+    let within : j < v = omega (arith, past, below) in
+    let is : a ≡ n + n + j = omega (arith, past) in
+    let some = some_of report.workers.items (omega (arith, within)) in
+    subst (λ rs. AreRoutes rs) (sym (at_worker report j a some within is)) (workers j some within)
+
+-- what a report without a flaw says of its actors, and what is seen of a run whose own servent sends descriptors
+pub record Confirmed {Rd W A : Type 0} (originates : Bool) (settled : ℕ → Bool) (roles : List Role) (report : Report Rd W A) : Type 0 where
   pub own : AreOwn report
   pub only : list_all (λ step. nat_lt step.actor (number_in report House + 1)) report.history.items ≡ true
   pub reader : (k : ℕ) (r : Role) (d : LinkReport Rd W A) → k < length report.links.items
       → ReaderConfirmed report.history.items (list_all is_calling roles) (number_in report (Writer k)) (get_or roles k r) (get_or report.links.items k d)
   pub writer : (k : ℕ) (r : Role) (d : LinkReport Rd W A) → k < length report.links.items
       → WriterConfirmed settled roles report.history.items (number_in report (Writer k)) (get_or roles k r) (get_or report.links.items k d)
-  pub routes : (a : ℕ) → number_in report (Worker 0) ≤ a → a < number_in report House + 1 → AreRoutes (get_or (receipts_of report) a [])
+  pub others : (a : ℕ) → number_in report (Worker 0) ≤ a → a < number_in report House + 1 → are_houses originates (get_or (receipts_of report) a []) ≡ true
 
-pub confirmed : {Rd W A : Type 0} (settled : ℕ → Bool) (roles : List Role) (report : Report Rd W A) → AllConfirmed settled roles report → Confirmed settled roles report
+pub confirmed : {Rd W A : Type 0} (settled : ℕ → Bool) (roles : List Role) (report : Report Rd W A) → AllConfirmed settled roles report → Confirmed false settled roles report
 confirmed settled roles report all = record {
   own = λ a below. (all a below).0;
   only = (house_at settled roles report all).only;
   reader = reader_at settled roles report all;
   writer = writer_at settled roles report all;
-  routes = others_routed report (worker_at settled roles report all) (house_at settled roles report all).routes;
+  others = others_own false report (worker_at settled roles report all) (house_at settled roles report all).routes;
 }
 
 -- the receipts of a link's reader and of its writer, by what all actors have
@@ -118,14 +144,14 @@ pub writer_own : {Rd W A : Type 0} (report : Report Rd W A) → AreOwn report �
     → (get_or report.links.items k d).writer_receipts.items ≡ mine report.history.items (number_in report (Writer k))
 writer_own report own k d below = sym (at_writer report k (number_in report (Writer k)) d below refl) ∙ own (number_in report (Writer k)) (omega (arith, below))
 
--- the events of actors that are neither a reader nor a writer are routes
-routes_only : {Rd W A : Type 0} (report : Report Rd W A) → AreOwn report → list_all (λ step. nat_lt step.actor (number_in report House + 1)) report.history.items ≡ true
-    → ((a : ℕ) → number_in report (Worker 0) ≤ a → a < number_in report House + 1 → AreRoutes (get_or (receipts_of report) a []))
-    → (a : ℕ) → number_in report (Worker 0) ≤ a → AreRoutes (mine report.history.items a)
-routes_only {Rd} {W} {A} report own only routes a past =
-    elim (cases_lt a (number_in report House + 1)) as (λ x. AreRoutes (mine report.history.items a)) [
-      | inl low ↦ subst (λ rs. AreRoutes rs) (own a low) (routes a past low)
-      | inr high ↦ ap (λ rs. list_all (λ (r : Receipt A). is_some (ticket_of r.event)) rs) (strangers_have_none A report.history.items (number_in report House + 1) a only high)
+-- so did each such actor by its steps
+others_only : {Rd W A : Type 0} (originates : Bool) (report : Report Rd W A) → AreOwn report → list_all (λ step. nat_lt step.actor (number_in report House + 1)) report.history.items ≡ true
+    → ((a : ℕ) → number_in report (Worker 0) ≤ a → a < number_in report House + 1 → are_houses originates (get_or (receipts_of report) a []) ≡ true)
+    → (a : ℕ) → number_in report (Worker 0) ≤ a → are_houses originates (mine report.history.items a) ≡ true
+others_only {Rd} {W} {A} originates report own only others a past =
+    elim (cases_lt a (number_in report House + 1)) as (λ x. are_houses originates (mine report.history.items a) ≡ true) [
+      | inl low ↦ subst (λ (rs : List (Receipt A)). are_houses originates rs ≡ true) (own a low) (others a past low)
+      | inr high ↦ ap (λ (rs : List (Receipt A)). are_houses originates rs) (strangers_have_none A report.history.items (number_in report House + 1) a only high)
     ]
 
 -- what is said of a link's bodies: its connection is the one that its reader was given, and their events are on it
@@ -134,12 +160,12 @@ pub record IsOnLink {Rd W A : Type 0} (link : LinkReport Rd W A) : Type 0 where
   pub read : list_all (λ r. is_readers link.conn r.event) link.reader_receipts.items ≡ true
   pub written : list_all (λ r. is_writers link.conn r.event) link.writer_receipts.items ≡ true
 
--- where that is so of each link, and all others routed, actors are compared as the laws of owners ask it
-pub compared_by : {Rd W A : Type 0} (report : Report Rd W A) → AreOwn report → list_all (λ step. nat_lt step.actor (number_in report House + 1)) report.history.items ≡ true
+-- where that is so of each link, and all others did what the house may, actors are compared
+pub compared_by : {Rd W A : Type 0} (originates : Bool) (report : Report Rd W A) → AreOwn report → list_all (λ step. nat_lt step.actor (number_in report House + 1)) report.history.items ≡ true
     → ((k : ℕ) (d : LinkReport Rd W A) → k < length report.links.items → IsOnLink (get_or report.links.items k d))
-    → ((a : ℕ) → number_in report (Worker 0) ≤ a → a < number_in report House + 1 → AreRoutes (get_or (receipts_of report) a []))
-    → AreCompared report.history.items (map (λ link. link.conn) report.links.items)
-compared_by {Rd} {W} {A} report owned only on routes =
+    → ((a : ℕ) → number_in report (Worker 0) ≤ a → a < number_in report House + 1 → are_houses originates (get_or (receipts_of report) a []) ≡ true)
+    → AreLikewise originates report.history.items (map (λ link. link.conn) report.links.items)
+compared_by {Rd} {W} {A} originates report owned only on others =
     let links = report.links.items in
     let steps = report.history.items in
     let conns : List (Option ℕ) = map (λ (link : LinkReport Rd W A). link.conn) links in
@@ -164,14 +190,14 @@ compared_by {Rd} {W} {A} report owned only on routes =
           subst (λ i. list_all (λ (r : Receipt A). is_writers (get_or conns k None) r.event) (mine steps i) ≡ true) at
           (subst (λ o. list_all (λ (r : Receipt A). is_writers o r.event) (mine steps (length links + k)) ≡ true) (sym (conn k below))
           (subst (λ rs. list_all (λ (r : Receipt A). is_writers (get_or links k (some k below)).conn r.event) rs ≡ true) own link.written));
-      others = λ a past. routes_only report owned only routes a (omega (arith, many, past));
+      others = λ a past. others_only originates report owned only others a (omega (arith, many, past));
     }
 
--- so it is in a legal history where the report has no flaw
-pub compared : {Rd W A : Type 0} (s : Config) (settled : ℕ → Bool) (roles : List Role) (report : Report Rd W A) → IsLegal s (reverse report.history.items) → Confirmed settled roles report
+-- so it is in a legal history where the report has no flaw, and as the laws of owners ask it
+pub compared : {Rd W A : Type 0} (s : Config) (settled : ℕ → Bool) (roles : List Role) (report : Report Rd W A) → IsLegal s (reverse report.history.items) → Confirmed false settled roles report
     → AreCompared report.history.items (map (λ link. link.conn) report.links.items)
 compared {Rd} {W} {A} s settled roles report legal all =
-    compared_by report all.own all.only
+    let likewise = compared_by false report all.own all.only
     (λ k d below.
     let reader = all.reader k Plain d below in
     record {
@@ -179,7 +205,8 @@ compared {Rd} {W} {A} s settled roles report legal all =
       read = reader.events;
       written = (all.writer k Plain d below).events;
     })
-    all.routes
+    all.others in
+    record { connected = likewise.connected; readers = likewise.readers; writers = likewise.writers; others = likewise.others }
 
 -- one weaker test
 any_weaker : {X : Type 0} (p q : X → Bool) → ((x : X) → p x ≡ true → q x ≡ true) → (xs : List X) → list_any p xs ≡ true → list_any q xs ≡ true
@@ -187,7 +214,7 @@ any_weaker p q weaker [] e = e
 any_weaker p q weaker (x ∷ xs) e = let h = any_weaker p q weaker xs in let w = weaker x in grind (arith, common_steps, h, w, e)
 
 -- in a legal history a link whose writer ended Drained took all that was ever queued to its connection
-pub took_all : {Rd W A : Type 0} (s : Config) (settled : ℕ → Bool) (roles : List Role) (report : Report Rd W A) → IsLegal s (reverse report.history.items) → Confirmed settled roles report
+pub took_all : {Rd W A : Type 0} (s : Config) (settled : ℕ → Bool) (roles : List Role) (report : Report Rd W A) → IsLegal s (reverse report.history.items) → Confirmed false settled roles report
     → (k : ℕ) → k < length report.links.items → TookAll report k
 took_all {Rd} {W} {A} s settled roles report legal all k below d c drained is =
     let links = report.links.items in

@@ -1,5 +1,5 @@
 -- The report of a run of which enough is seen has no flaw.
-use Rattle.std.proofs.Common.{◌≡◌, ◌≤◌, ◌<◌, ◌+◌, ◌-◌, ◌==◌, ◌&&◌, ℕ, Bool, true, not, nat_lt, List, length, map, get_or, reverse, Option, Some, None, refl, sym, ap, ◌∙◌, subst, inl, inr, arith}
+use Rattle.std.proofs.Common.{◌≡◌, ◌≤◌, ◌<◌, ◌+◌, ◌-◌, ◌==◌, ◌&&◌, ℕ, Bool, true, false, not, nat_lt, List, length, map, get_or, reverse, Option, Some, None, refl, sym, ap, ◌∙◌, subst, inl, inr, arith}
 use Rattle.std.specs.Bool.{MatchBool}
 use Rattle.std.specs.List.{list_all, list_any}
 use Rattle.std.proofs.lemmas.Bool.{cases_lt, le-ltb, lt-ltb}
@@ -12,7 +12,6 @@ use Rattle.gn_rules.specs.History.{is_close, mine}
 use Rattle.gn_shake.specs.declared.role.Role.{Role}
 use Rattle.gn_shake.specs.declared.role.Role.TheVariants.{Plain}
 use Rattle.gn_shake.specs.Greeting.{is_calling}
-use Rattle.gn_laws.specs.Owners.{AreCompared}
 use Rattle.gn_bodies.specs.declared.ends.ReaderEnd.{ReaderEnd}
 use Rattle.gn_bodies.specs.declared.ends.ReaderEnd.TheVariants.{Bytes, Fault, ReadFailed, Turns, GreetingRefused, GreetingCut, TooMany, NotLive}
 use Rattle.gn_bodies.specs.ReaderRows.{ReaderDid}
@@ -24,16 +23,16 @@ use Rattle.gn_report.specs.Actors.{number_in}
 use Rattle.gn_report.specs.BodyEnds.{is_settled, may_close_first}
 use Rattle.gn_report.specs.Flaw.{IsFitting, ReaderConfirmed, WriterConfirmed}
 use Rattle.gn_report.specs.Seen.{AreSeen, SeenIsConfirmed, must_be_gone}
-use Rattle.gn_report.proofs.ClosedLemmas.{closed_by_writer}
-use Rattle.gn_report.proofs.ConfirmedLemmas.{compared_by, others_routed, reader_own, writer_own}
+use Rattle.gn_report.proofs.ClosedLemmas.{AreLikewise, closed_by_writer}
+use Rattle.gn_report.proofs.ConfirmedLemmas.{Confirmed, compared_by, others_own, reader_own, writer_own}
 use Rattle.gn_report.proofs.ConnLemmas.{conn_is_known}
 use Rattle.gn_report.proofs.LaterLemmas.{drained_close}
 use Rattle.gn_report.proofs.RowLemmas.{connected_once, reader_end_is, writer_end_is, writers_alone}
 
--- actors are compared as the laws of owners ask it
-seen_compared : {Rd W A : Type 0} (roles : List Role) (report : Report Rd W A) → AreSeen roles report → AreCompared report.history.items (map (λ link. link.conn) report.links.items)
-seen_compared roles report seen =
-    compared_by report seen.own seen.only
+-- actors are compared
+seen_compared : {Rd W A : Type 0} {originates : Bool} (roles : List Role) (report : Report Rd W A) → AreSeen originates roles report → AreLikewise originates report.history.items (map (λ link. link.conn) report.links.items)
+seen_compared {originates = originates} roles report seen =
+    compared_by originates report seen.own seen.only
     (λ k d below.
     let link = seen.links k Plain d below in
     let at = get_or report.links.items k d in
@@ -42,7 +41,7 @@ seen_compared roles report seen =
       read = readers_alone at.reader_end at.conn at.reader_receipts.items link.did;
       written = writers_alone (get_or roles k Plain) at.writer_end link.written at.conn at.writer_receipts.items link.wrote.0 link.wrote.1;
     })
-    (others_routed report seen.workers seen.house)
+    (others_own originates report seen.workers seen.house)
 
 -- a writer's connection must be closed
 gone_written : (end : ReaderEnd) (c : ℕ) → must_be_gone end (Some c) ≡ true
@@ -56,7 +55,7 @@ gone_written TooMany c = refl
 gone_written NotLive c = refl
 
 -- the connection of a link was closed by its writer, where its reader closed nothing
-seen_by_writer : {Rd W A : Type 0} (s : Config) (roles : List Role) (report : Report Rd W A) → IsLegal s (reverse report.history.items) → AreSeen roles report → (k : ℕ) (d : LinkReport Rd W A) → k < length report.links.items → (c : ℕ)
+seen_by_writer : {Rd W A : Type 0} {originates : Bool} (s : Config) (roles : List Role) (report : Report Rd W A) → IsLegal s (reverse report.history.items) → AreSeen originates roles report → (k : ℕ) (d : LinkReport Rd W A) → k < length report.links.items → (c : ℕ)
     → (get_or report.links.items k d).conn ≡ Some c → (get_or report.links.items k d).reader_end ≡ NotLive
     → list_any (λ step. (step.actor == number_in report (Writer k)) && is_close c step.event) report.history.items ≡ true
 seen_by_writer {Rd} {W} {A} s roles report legal seen k d below c is not_live =
@@ -74,7 +73,7 @@ seen_by_writer {Rd} {W} {A} s roles report legal seen k d below c is not_live =
     subst (λ n. list_any (λ (step : Step A). (step.actor == n + k) && is_close c step.event) steps ≡ true) many by
 
 -- a link's reader is confirmed
-seen_reader : {Rd W A : Type 0} (s : Config) (roles : List Role) (report : Report Rd W A) → IsLegal s (reverse report.history.items) → AreSeen roles report → (k : ℕ) → k < length report.links.items → (r : Role) (d : LinkReport Rd W A)
+pub seen_reader : {Rd W A : Type 0} {originates : Bool} (s : Config) (roles : List Role) (report : Report Rd W A) → IsLegal s (reverse report.history.items) → AreSeen originates roles report → (k : ℕ) → k < length report.links.items → (r : Role) (d : LinkReport Rd W A)
     → ReaderConfirmed report.history.items (list_all is_calling roles) (length report.links.items + k) (get_or roles k r) (get_or report.links.items k d)
 seen_reader {Rd} {W} {A} s roles report legal seen k below r d =
     let steps = report.history.items in
@@ -93,7 +92,7 @@ seen_reader {Rd} {W} {A} s roles report legal seen k below r d =
     }
 
 -- so is its writer
-seen_writer : {Rd W A : Type 0} (roles : List Role) (report : Report Rd W A) → AreSeen roles report → (k : ℕ) → k < length report.links.items → (r : Role) (d : LinkReport Rd W A)
+pub seen_writer : {Rd W A : Type 0} {originates : Bool} (roles : List Role) (report : Report Rd W A) → AreSeen originates roles report → (k : ℕ) → k < length report.links.items → (r : Role) (d : LinkReport Rd W A)
     → WriterConfirmed (is_settled report.history.items) roles report.history.items (length report.links.items + k) (get_or roles k r) (get_or report.links.items k d)
 seen_writer {Rd} {W} {A} roles report seen k below r d =
     let steps = report.history.items in
@@ -118,7 +117,7 @@ by_lt {P} {Q} a n low high =
     ]
 
 -- each actor is confirmed, but that its receipts are its own
-seen_fits : {Rd W A : Type 0} (s : Config) (roles : List Role) (report : Report Rd W A) → IsLegal s (reverse report.history.items) → AreSeen roles report → (a : ℕ) → a < number_in report House + 1
+seen_fits : {Rd W A : Type 0} (s : Config) (roles : List Role) (report : Report Rd W A) → IsLegal s (reverse report.history.items) → AreSeen false roles report → (a : ℕ) → a < number_in report House + 1
     → IsFitting (is_settled report.history.items) roles report a
 seen_fits {Rd} {W} {A} s roles report legal seen a below =
     let n = length report.links.items in
@@ -141,3 +140,14 @@ seen_fits {Rd} {W} {A} s roles report legal seen a below =
 -- in a legal history the report of a run of which this is seen has no flaw
 pub seen_is_confirmed : (Rd W A : Type 0) → SeenIsConfirmed Rd W A
 seen_is_confirmed Rd W A s roles report legal seen a below = (seen.own a below, seen_fits s roles report legal seen a below)
+
+-- so the report of such a run says all of its actors, whether or not its own servent sends descriptors
+pub seen_confirmed : {Rd W A : Type 0} {originates : Bool} (s : Config) (roles : List Role) (report : Report Rd W A) → IsLegal s (reverse report.history.items) → AreSeen originates roles report
+    → Confirmed originates (is_settled report.history.items) roles report
+seen_confirmed {originates = originates} s roles report legal seen = record {
+  own = seen.own;
+  only = seen.only;
+  reader = λ k r d below. seen_reader s roles report legal seen k below r d;
+  writer = λ k r d below. seen_writer roles report seen k below r d;
+  others = others_own originates report seen.workers seen.house;
+}

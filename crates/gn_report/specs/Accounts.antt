@@ -1,7 +1,9 @@
 -- The report that an account tells: its lists, in vectors. And what is known of a link that has ended.
-use Rattle.std.specs.Prelude.{◌≡◌, ◌++◌, ◌∷◌, Bool, List, [], map, is_some, Option, None, Some}
+use Rattle.std.specs.Prelude.{◌≡◌, ◌++◌, ◌∷◌, ◌||◌, Bool, true, false, List, [], map, is_some, Option, None, Some}
 use Rattle.std.specs.List.{list_all}
+use Rattle.gn_rules.specs.declared.event.Event.{Event}
 use Rattle.gn_rules.specs.declared.receipt.Receipt.{Receipt}
+use Rattle.gn_rules.specs.Fits.{originates}
 use Rattle.gn_rules.specs.History.{ticket_of}
 use Rattle.gn_report.specs.declared.account.Account.{Account}
 use Rattle.gn_report.specs.declared.account.LinkAccount.{LinkAccount}
@@ -50,6 +52,15 @@ unkept_list list = list.items
 -- whether these receipts are of routes alone
 abbrev pub is_routing : {A : Type 0} → List (Receipt A) → Bool
 is_routing receipts = list_all (λ r. is_some (ticket_of r.event)) receipts
+
+-- whether the house may make an event: it routes; and, where the own servent sends descriptors, it originates them
+abbrev pub is_houses : {A : Type 0} → Bool → Event A → Bool
+is_houses false event = is_some (ticket_of event)
+is_houses true event = is_some (ticket_of event) || originates event
+
+-- whether these receipts are of such events alone
+abbrev pub are_houses : {A : Type 0} → Bool → List (Receipt A) → Bool
+are_houses own receipts = list_all (λ r. is_houses own r.event) receipts
 
 -- the receipts of a link's reader, as its account has them
 abbrev pub reader_receipts : {Rd W A : Type 0} → LinkAccount Rd W A → List (Receipt A)

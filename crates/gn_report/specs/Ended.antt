@@ -1,5 +1,5 @@
 -- What is known of a link whose two bodies have ended, by the steps that were seen by then.
-use Rattle.std.specs.Prelude.{◌≡◌, ◌≤◌, ◌<◌, ℕ, true, false, List, length, map, slice_index_or, Option, Some, None, ⊤}
+use Rattle.std.specs.Prelude.{◌≡◌, ◌≤◌, ◌<◌, ℕ, Bool, true, false, List, length, map, slice_index_or, Option, Some, None, ⊤}
 use Rattle.std.specs.List.{list_all}
 use Rattle.gn_rules.specs.declared.receipt.Receipt.{Receipt}
 use Rattle.gn_rules.specs.declared.receipt.Step.{Step}
@@ -15,7 +15,7 @@ use Rattle.gn_report.specs.declared.looks.Looks.{Looks}
 use Rattle.gn_report.specs.declared.report.Report.{Report}
 use Rattle.gn_report.specs.declared.unkept.Unkept.{Unkept}
 use Rattle.gn_actors.specs.Registry.{AreWhole}
-use Rattle.gn_report.specs.Accounts.{IsReportOf, all_receipts, is_routing, unkept_list}
+use Rattle.gn_report.specs.Accounts.{IsReportOf, all_receipts, are_houses, is_routing, unkept_list}
 use Rattle.gn_report.specs.BodyEnds.{is_closed, is_settled, may_close_first}
 use Rattle.gn_report.specs.Looks.{AreCounted, AreRight}
 use Rattle.gn_report.specs.Seen.{AreSeen, IsSameLink, must_be_gone}
@@ -59,8 +59,9 @@ pub record IsLinkEnded {Rd W A O : Type 0} (turns batch : ℕ) (views : LinkView
   -- where the reader found the connection closed, the writer may close first, in a run that awaits no link that calls
   pub first : link.reader_end ≡ NotLive → may_close_first false link.role link.writer_end ≡ true
 
--- what is known of a run that is over whose links have these accounts, and whose workers and house have these receipts
-pub record IsRunEnded {Rd W A O : Type 0} (turns batch : ℕ) (views : LinkViews Rd W O) (roles : List Role) (steps : List (Step A))
+-- what is known of a run that is over whose links have these accounts, and whose workers and house have these receipts, and whose own
+-- servent sends descriptors or not
+pub record IsRunEnded {Rd W A O : Type 0} (originates : Bool) (turns batch : ℕ) (views : LinkViews Rd W O) (roles : List Role) (steps : List (Step A))
     (links : List (LinkAccount Rd W A)) (workers : List (Unkept (Receipt A))) (house : Unkept (Receipt A)) : Type 0 where
   -- each link has ended, and began in its role
   pub each : (k : ℕ) (d : LinkAccount Rd W A) → k < length links → IsLinkEnded turns batch views steps (slice_index_or links k d)
@@ -71,13 +72,13 @@ pub record IsRunEnded {Rd W A O : Type 0} (turns batch : ℕ) (views : LinkViews
   pub right : AreRight looks
   -- each actor's receipts are its own steps, and no step is of anybody else
   pub all : AreWhole steps (all_receipts links workers house)
-  -- workers and the house only routed, and nothing is in flight
-  pub routes : (list_all is_routing (map unkept_list workers) ≡ true) × (is_routing house.items ≡ true)
+  -- workers only routed, the house did what it may, and nothing is in flight
+  pub routes : (list_all is_routing (map unkept_list workers) ≡ true) × (are_houses originates house.items ≡ true)
   pub tickets : is_settled steps (length steps) ≡ true
 
 -- enough is seen of a run of which this is known, for the report that has the same links, workers and house
 abbrev pub EndedIsSeen : Type 0 → Type 0 → Type 0 → Type 0 → Type 0
 EndedIsSeen Rd W A O =
-    (turns batch : ℕ) (views : LinkViews Rd W O) (roles : List Role) (heap : A) (links : List (LinkAccount Rd W A))
+    (originates : Bool) (turns batch : ℕ) (views : LinkViews Rd W O) (roles : List Role) (heap : A) (links : List (LinkAccount Rd W A))
     (workers : List (Unkept (Receipt A))) (house : Unkept (Receipt A)) (report : Report Rd W A) → IsReportOf heap links workers house report
-    → IsRunEnded turns batch views roles report.history.items links workers house → AreSeen roles report
+    → IsRunEnded originates turns batch views roles report.history.items links workers house → AreSeen originates roles report

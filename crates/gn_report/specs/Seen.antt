@@ -20,6 +20,7 @@ use Rattle.gn_bodies.specs.Written.{WriterDid}
 use Rattle.gn_report.specs.declared.report.LinkReport.{LinkReport}
 use Rattle.gn_report.specs.declared.report.Report.{Report}
 use Rattle.gn_actors.specs.declared.who.Who.TheVariants.{House}
+use Rattle.gn_report.specs.Accounts.{are_houses}
 use Rattle.gn_report.specs.Actors.{AreOwn, is_awaited_reader, number_in}
 use Rattle.gn_report.specs.BodyEnds.{is_closed, is_settled, may_close_first}
 use Rattle.gn_report.specs.Flaw.{AreRoutes, IsFlaw}
@@ -53,22 +54,22 @@ pub record IsLinkSeen {Rd W A : Type 0} (roles : List Role) (steps : List (Step 
   pub settled : link.writer_end ≡ Drained → is_settled steps (last_place link.writer_receipts.items - 1) ≡ true
   pub later : link.writer_end ≡ Drained → (a : ℕ) → is_awaited_reader roles a ≡ true → last_place (mine steps a) < last_place link.writer_receipts.items
 
--- what is seen of a run that is over
-pub record AreSeen {Rd W A : Type 0} (roles : List Role) (report : Report Rd W A) : Type 0 where
+-- what is seen of a run that is over, whose own servent sends descriptors or not
+pub record AreSeen {Rd W A : Type 0} (originates : Bool) (roles : List Role) (report : Report Rd W A) : Type 0 where
   -- each actor's receipts are its own steps, and no step is of an actor that the run doesn't have
   pub own : AreOwn report
   pub only : list_all (λ step. nat_lt step.actor (number_in report House + 1)) report.history.items ≡ true
   -- each link
   pub links : (k : ℕ) (r : Role) (d : LinkReport Rd W A) → k < length report.links.items
       → IsLinkSeen roles report.history.items (slice_index_or roles k r) (slice_index_or report.links.items k d)
-  -- workers and the house only routed
+  -- workers only routed, and the house did what it may
   pub workers : (j : ℕ) (d : Vec (Receipt A) A) → j < length report.workers.items → AreRoutes (slice_index_or report.workers.items j d).items
-  pub house : AreRoutes report.house.items
+  pub house : are_houses originates report.house.items ≡ true
   -- nothing is in flight
   pub tickets : is_settled report.history.items (length report.history.items) ≡ true
 
--- in a legal history the report of a run of which this is seen has no flaw
+-- in a legal history the report of a run of which this is seen, and whose own servent sends nothing, has no flaw
 abbrev pub SeenIsConfirmed : Type 0 → Type 0 → Type 0 → Type 0
 SeenIsConfirmed Rd W A =
-    (s : Config) (roles : List Role) (report : Report Rd W A) → IsLegal s (reverse report.history.items) → AreSeen roles report
+    (s : Config) (roles : List Role) (report : Report Rd W A) → IsLegal s (reverse report.history.items) → AreSeen false roles report
     → IsFlaw (is_settled report.history.items) roles report None

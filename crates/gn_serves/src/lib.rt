@@ -26,6 +26,8 @@ mod loopback;
 #[cfg(test)]
 mod memory;
 #[cfg(test)]
+mod pings;
+#[cfg(test)]
 mod prompt;
 #[cfg(test)]
 mod serves;

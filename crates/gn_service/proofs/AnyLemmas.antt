@@ -1,5 +1,5 @@
 -- What a run over TCP answers that takes any number of callers.
-use Rattle.std.proofs.Common.{◌≡◌, ◌⊎◌, ◌≤◌, ◌+◌, ◌∙◌, ℕ, true, List, length, reverse, Some, Result, Ok, Err, ap, sym, subst, inl, inr, arith}
+use Rattle.std.proofs.Common.{◌≡◌, ◌⊎◌, ◌≤◌, ◌+◌, ◌∙◌, ℕ, Bool, true, List, length, reverse, Some, Ok, Err, sym, subst, inl, inr, arith}
 use Rattle.std.specs.Prelude.{IfSome}
 use Rattle.std.specs.declared.net.socket_addr.SocketAddr.{SocketAddr}
 use Rattle.gn_rules.specs.Answer.{IsLegal}
@@ -11,24 +11,23 @@ use Rattle.gn_start.specs.declared.fault.RunFault.TheVariants.{BadWorkers, Histo
 use Rattle.gn_threads.specs.OpenRuns.{IsOpenAnswer, IsOpenFault}
 use Rattle.gn_threads.specs.declared.halted.Halted.{Halted}
 use Rattle.gn_threads.specs.declared.open_account.OpenAccount.{OpenAccount}
-use Rattle.gn_service.specs.Any.{IsAnyAccount, IsServedToAny, open_account, origin_at, role_at, tcp_views}
+use Rattle.gn_service.specs.Any.{IsAnyAccount, IsLinkOf, IsServedToAny, open_account, tcp_views}
 
 -- the links are numbered from 0 on
-pub from_first : {A : Type 0} (batch : ℕ) (s : Config) (peers : List SocketAddr) (workers : ℕ) (account : OpenAccount TcpReading TcpWriting A)
-    → IsOpenAnswer tcp_views (λ origin. origin.0) batch s workers (λ k. Some (role_at peers (0 + k))) (λ k. Some (origin_at peers (0 + k))) account
-    → IsAnyAccount batch s peers workers account
-from_first batch s peers workers account h =
+pub from_first : {A : Type 0} (again pings : Bool) (batch : ℕ) (s : Config) (peers : List SocketAddr) (workers : ℕ) (account : OpenAccount TcpReading TcpWriting A)
+    → IsOpenAnswer pings tcp_views (λ origin. origin.0) batch s workers (λ k role origin. IsLinkOf again peers (0 + k) role origin) account
+    → IsAnyAccount again pings batch s peers workers account
+from_first again pings batch s peers workers account h =
     record {
       ended = h.ended;
-      roles_are = λ k link at. let first : k ≡ 0 + k = omega arith in ap (λ n. Some (role_at peers n)) first ∙ h.roles_are k link at;
-      were_to_come = λ k link at. let first : k ≡ 0 + k = omega arith in ap (λ n. Some (origin_at peers n)) first ∙ h.were_to_come k link at;
+      may_come = λ k link at. let first : 0 + k ≡ k = omega arith in subst (λ n. IsLinkOf again peers n link.role link.reader.origin) first (h.may_come k link at);
     }
 
 -- a run with an account that has failed
-pub failed_at : {A : Type 0} (batch : ℕ) (s : Config) (peers : List SocketAddr) (workers : ℕ) (account : OpenAccount TcpReading TcpWriting A) (after : Halted A) (fault : RunFault)
-    → IsServedToAny batch s peers workers open_account (Ok account) → (after.fault ≡ fault) × (after.history ≡ Some account.history) → ¬ (fault ≡ BadWorkers) → ¬ (fault ≡ HistoryFull)
-    → ((links workers : ℕ) → length peers ≤ links → IsArrivingFault true links workers fault) → IsServedToAny batch s peers workers open_account (Err after)
-failed_at batch s peers workers account after fault served is crew space may =
+pub failed_at : {A : Type 0} (again pings : Bool) (batch : ℕ) (s : Config) (peers : List SocketAddr) (workers : ℕ) (account : OpenAccount TcpReading TcpWriting A) (after : Halted A) (fault : RunFault)
+    → IsServedToAny again pings batch s peers workers open_account (Ok account) → (after.fault ≡ fault) × (after.history ≡ Some account.history) → ¬ (fault ≡ BadWorkers) → ¬ (fault ≡ HistoryFull)
+    → ((links workers : ℕ) → length peers ≤ links → IsArrivingFault true links workers fault) → IsServedToAny again pings batch s peers workers open_account (Err after)
+failed_at again pings batch s peers workers account after fault served is crew space may =
     let at = is.0 in
     let run = served.answered.run in
     record {
@@ -47,14 +46,14 @@ failed_at batch s peers workers account after fault served is crew space may =
     }
 
 -- a run that stopped and has failed for a call, too
-pub failed_too : {A : Type 0} (batch : ℕ) (s : Config) (peers : List SocketAddr) (workers : ℕ) (halted after : Halted A) (fault : RunFault)
-    → IsServedToAny batch s peers workers open_account (Err halted) → (after.fault ≡ halted.fault) ⊎ ((after.fault ≡ fault) × (¬ (halted.fault ≡ BadWorkers)))
+pub failed_too : {A : Type 0} (again pings : Bool) (batch : ℕ) (s : Config) (peers : List SocketAddr) (workers : ℕ) (halted after : Halted A) (fault : RunFault)
+    → IsServedToAny again pings batch s peers workers open_account (Err halted) → (after.fault ≡ halted.fault) ⊎ ((after.fault ≡ fault) × (¬ (halted.fault ≡ BadWorkers)))
     → after.history ≡ halted.history → ¬ (fault ≡ BadWorkers) → ¬ (fault ≡ HistoryFull)
-    → ((links workers : ℕ) → length peers ≤ links → IsArrivingFault true links workers fault) → IsServedToAny batch s peers workers open_account (Err after)
-failed_too batch s peers workers halted after fault served either same crew space may =
+    → ((links workers : ℕ) → length peers ≤ links → IsArrivingFault true links workers fault) → IsServedToAny again pings batch s peers workers open_account (Err after)
+failed_too again pings batch s peers workers halted after fault served either same crew space may =
     let answered = served.answered in
     let kept = subst (λ h. IfSome h (λ history. IsLegal s (reverse history.items))) (sym same) answered.kept in
-    elim either as (λ _. IsServedToAny batch s peers workers open_account (Err after)) [
+    elim either as (λ _. IsServedToAny again pings batch s peers workers open_account (Err after)) [
       | inl is ↦ record {
         answered = record {
           run = record {

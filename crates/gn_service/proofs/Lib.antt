@@ -1,7 +1,6 @@
 mod RoleLemmas
 mod AnyLemmas
 mod FaultLemmas
-mod NewLemmas
 mod ServedLemmas
 pub mod TallyLemmas
 pub mod KeptLemmas

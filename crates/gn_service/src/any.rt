@@ -1,6 +1,6 @@
 //! A run over TCP that takes any number of callers, one after another.
 
-ghost use Rattle.std.specs.Prelude.{◌≡◌, ◌<◌, ◌≤◌, [], IfOk, IfSome, MatchResult};
+ghost use Rattle.std.specs.Prelude.{◌≡◌, ◌<◌, ◌≤◌, [], is_some, IfOk, IfSome, MatchResult};
 ghost use Rattle.gn_rules.specs.Limits.{most_links};
 ghost use Rattle.gn_threads.specs.Courses.{IsLeft};
 ghost use Rattle.gn_threads.specs.OpenRuns.{AreOpenStepsOf};
@@ -14,6 +14,7 @@ use crate::failing::{call_fault, cut_at, failed_too};
 use crate::host::Host;
 use crate::newcomers::Newcomers;
 use crate::parting::{Parting, Told};
+use crate::pings::{Pinging, Reminder};
 use crate::ran::Ran;
 use crate::running::watch_and_call;
 use crate::serving::{Any, Serve};
@@ -69,7 +70,8 @@ where
         W::Rest,
     )
         ensures served { let s = self.entry.serve.now in
-            IsServedToAny s.batch s.config.now s.peers.now s.workers open_account result.0 }
+            IsServedToAny s.accept.again (is_some s.accept.pings) s.batch s.config.now s.peers.now s.workers
+            open_account result.0 }
         ensures rest { IsLeft (W.follows self.entry.routing.course) W.leaves result.1 (AreOpenStepsOf result.0) }
     {
         let serving = &self.serve.limits;
@@ -78,8 +80,8 @@ where
             Some(stop) => stop,
             None => &own,
         };
-        let listener = self.serve.listener;
-        let stops = Stops::new(self.rt, self.alloc, stop, serving.grace(), listener);
+        let (listener, again) = (self.serve.listener, self.serve.accept.again);
+        let stops = Stops::new(self.rt, self.alloc, stop, serving.grace(), listener, again);
         self.beside(&stops)
     }
 
@@ -92,7 +94,8 @@ where
         W::Rest,
     )
         ensures served { let s = self.entry.serve.now in
-            IsServedToAny s.batch s.config.now s.peers.now s.workers open_account result.0 }
+            IsServedToAny s.accept.again (is_some s.accept.pings) s.batch s.config.now s.peers.now s.workers
+            open_account result.0 }
         ensures rest { IsLeft (W.follows self.entry.routing.course) W.leaves result.1 (AreOpenStepsOf result.0) }
     {
         let rt = self.rt;
@@ -100,24 +103,22 @@ where
         let watch = self.serve.watch;
         let signal = Signal::new();
         let doorstep = Doorstep::new(&signal);
+        let reminder = Reminder::new(&signal, self.serve.accept.pings);
         let signal = &signal;
         let doorstep = &doorstep;
-        let entrance = Entrance {
-            net: rt,
-            cells: rt.alloc(),
-            listener: self.serve.listener,
-            stops,
-        };
+        let reminder = &reminder;
+        let entrance = Entrance::new(rt, rt.alloc(), self.serve.listener, stops);
         let accepter = Accepter { entrance, doorstep };
         let accepter = &accepter;
         let ((), answer) = thread::join(
             rt,
-            || watch_and_call(rt, serving, stops, watch, Some(accepter)),
+            || watch_and_call(rt, serving, stops, watch, Some(accepter), Some(reminder)),
             move ||
                 ensures served { let s = self.entry.serve.now in
-                    IsServedToAny s.batch s.config.now s.peers.now s.workers open_account result.0 }
+                    IsServedToAny s.accept.again (is_some s.accept.pings) s.batch s.config.now s.peers.now s.workers
+                    open_account result.0 }
                 ensures rest { IsLeft (W.follows self.entry.routing.course) W.leaves result.1 (AreOpenStepsOf result.0) }
-            { self.run(stops, doorstep, signal) },
+            { self.run(stops, doorstep, reminder, signal) },
         );
         answer
     }
@@ -127,17 +128,20 @@ where
         self,
         stops: &Stops<'_, A>,
         doorstep: &Doorstep<'_>,
+        reminder: &Reminder<'_>,
         signal: &Signal,
     ) -> (
         Result<OpenAccount<TcpReader<'s>, TcpWriter, A>, Halted<A>>,
         W::Rest,
     )
         ensures served { let s = self.entry.serve.now in
-            IsServedToAny s.batch s.config.now s.peers.now s.workers open_account result.0 }
+            IsServedToAny s.accept.again (is_some s.accept.pings) s.batch s.config.now s.peers.now s.workers
+            open_account result.0 }
         ensures rest { IsLeft (W.follows self.entry.routing.course) W.leaves result.1 (AreOpenStepsOf result.0) }
     {
         let calls = self.serve.peers.len();
-        let (answer, rest) = self.over_links(stops, doorstep, signal);
+        self.serve.watch.open(self.serve.config.numbers.steps);
+        let (answer, rest) = self.over_links(stops, doorstep, reminder, signal);
         match (answer, call_fault(stops, calls)) {
             (answer, None) => (answer, rest),
             (Ok(account), Some(fault)) => (Err(cut_at(account, fault)), rest),
@@ -150,13 +154,15 @@ where
         self,
         stops: &Stops<'_, A>,
         doorstep: &Doorstep<'_>,
+        reminder: &Reminder<'_>,
         signal: &Signal,
     ) -> (
         Result<OpenAccount<TcpReader<'s>, TcpWriter, A>, Halted<A>>,
         W::Rest,
     )
         ensures served { let s = self.entry.serve.now in
-            IsServedToAny s.batch s.config.now s.peers.now s.workers open_account result.0 }
+            IsServedToAny s.accept.again (is_some s.accept.pings) s.batch s.config.now s.peers.now s.workers
+            open_account result.0 }
         ensures rest { IsLeft (W.follows self.entry.routing.course) W.leaves result.1 (AreOpenStepsOf result.0) }
     {
         let Unlimited {
@@ -166,20 +172,21 @@ where
             routing,
         } = self;
         let (watch, numbers) = (serve.watch, &serve.config.numbers);
-        watch.open(numbers.steps);
         let gate = Counted::new(rt, watch, stops, numbers, numbers.neighbours);
         let incoming = Newcomers {
-            entrance: Entrance {
-                net: rt,
-                cells: rt.alloc(),
-                listener: serve.listener,
-                stops,
-            },
+            entrance: Entrance::new(rt, rt.alloc(), serve.listener, stops),
             doorstep,
             called: serve.peers,
+            again: serve.accept.again,
             next: 0,
             serving: serve.limits,
             watch,
+            gate: &gate,
+            pinging: Pinging {
+                pings: serve.accept.pings,
+                reminder,
+                sent: 0,
+            },
         };
         let asked = Asked {
             config: serve.config,
@@ -187,7 +194,7 @@ where
             gate: &gate,
             batch: serve.batch,
         };
-        let told = Told(serve.accept.leaving);
+        let told = Told::new(serve.accept.leaving, rt, &stops.callees);
         let entering = Entering {
             incoming,
             keeper: Telling::new(&told),
@@ -205,6 +212,9 @@ where
 /// places for as many links as the router has neighbours, and for some more: while all are taken nobody is accepted. Each link is let go as
 /// it ends, and nobody keeps anything of it but counters. Once the run is stopped nobody comes any more, no peer that wasn't called by
 /// then either.
+///
+/// Where it calls its peers again none of them ends the run. One that isn't there is called again after 1, 2, 4 seconds and so on, at
+/// most 60; one that goes is called again so over a new link, and after 1 second where it had stood for a minute.
 pub fn serve_any<
     's,
     C: RouterCore<A> + Drop + Send,
@@ -226,7 +236,8 @@ where
     W::Followed: Send + Drop,
     requires empty { C.steps routing.core ≡ [] }
     ensures served { let s = serve.now in
-        IsServedToAny s.batch s.config.now s.peers.now s.workers served_open result.0 }
+        IsServedToAny s.accept.again (is_some s.accept.pings) s.batch s.config.now s.peers.now s.workers
+        served_open result.0 }
     ensures ran { IfOk result.0 (λ done. done.1 ≡ ran_of_any done.0) }
     ensures rest { IsLeft (W.follows routing.course) W.leaves result.1 (λ steps. MatchResult result.0
         (λ done. done.0.history.items ≡ steps)

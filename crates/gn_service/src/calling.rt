@@ -2,8 +2,10 @@
 
 use crate::accepting::Accepter;
 use crate::asked::Asked;
+use crate::pings::Reminder;
 use crate::registering::{pause, registered};
 use crate::serving::Serving;
+use crate::stop::earlier;
 use crate::stops::Stops;
 use gn_links::Watch;
 use gn_shake::Role;
@@ -64,6 +66,26 @@ impl<
         Ok(TcpLink::missing(Role::Calling, Some(self.peer)))
     }
 
+    /// Calls the peer for as long as the run goes on, until it listens: each time after a wait, which grows.
+    fn call_on(&self) -> TcpLink<'static> {
+        let callees = &self.stops.callees;
+        for _ in 0..u64::MAX {
+            callees.wait(self.net, self.link, self.stops.stop.flag());
+            if self.stops.is_stopped() {
+                break;
+            }
+            match TcpLink::try_call(self.net, self.peer, Duration::from_secs(CALL)) {
+                Ok(found) => {
+                    callees.come(self.net, self.link);
+                    return found;
+                }
+                Err(unmet) if unmet.wants_handle => pause(self.net),
+                Err(_) => callees.slow_down(self.net, self.link),
+            }
+        }
+        TcpLink::missing(Role::Calling, Some(self.peer))
+    }
+
     /// The halves of the called link go on over the socket of this one.
     fn answer(&self, found: TcpLink<'static>, call: TcpCall) {
         match registered(self.net, self.stops, self.link, found) {
@@ -74,7 +96,8 @@ impl<
                 let found = found
                     .with_idle(self.serving.idle)
                     .with_stop(self.serving.flag());
-                if found.answer(self.net, call).is_err() {
+                let answered = found.answer(self.net, call);
+                if answered.is_err() && !self.stops.callees.again {
                     self.stops.give_up_call(self.link);
                 }
             }
@@ -85,8 +108,14 @@ impl<
         }
     }
 
-    /// Calls the peer, and tells both halves of the called link how that ended. The run ends where the peer can't be called.
+    /// Calls the peer, and tells both halves of the called link how that ended. The run ends where the peer can't be called and isn't
+    /// called again.
     fn run(self, call: TcpCall) {
+        if self.stops.callees.again {
+            let found = self.call_on();
+            self.answer(found, call);
+            return;
+        }
         match self.call() {
             Ok(found) => self.answer(found, call),
             Err(unmet) => {
@@ -127,6 +156,8 @@ pub(crate) struct Callers<'a, 's, E, N, G, A: Allocator = Global> {
     pub watch: &'a G,
     /// Who accepts callers beside the run, where it takes any number of them.
     pub accepter: Option<&'a Accepter<'a, N, A>>,
+    /// By what the run learns that a Ping is due, where its own servent may send any.
+    pub reminder: Option<&'a Reminder<'a>>,
 }
 
 impl<
@@ -170,27 +201,50 @@ impl<
         }
     }
 
-    /// Where the run is stopped, who accepts callers and who waits for them look again.
+    /// Where the run is stopped, who accepts callers, who waits for them, and who waits to call a peer look again.
     fn wake_others(&self) {
         if let Some(accepter) = self.accepter
             && self.stops.is_stopped()
         {
             accepter.doorstep.wake(self.net);
+            self.stops.callees.wake(self.net);
         }
     }
 
+    /// Says that a Ping is due, where one is, as it was to be by then. When the next one is to be.
+    fn remind(&self, due: Option<Duration>) -> Option<Duration> {
+        let reminder = self.reminder?;
+        let every = reminder.every()?;
+        let now = self.stops.now(self.net)?;
+        if let Some(due) = due {
+            if now < due {
+                return Some(due);
+            }
+            reminder.remind(self.net);
+        }
+        Some(now.saturating_add(every))
+    }
+
+    /// How long it is until then.
+    fn until(&self, due: Option<Duration>) -> Option<Duration> {
+        let now = self.stops.now(self.net)?;
+        Some(due?.saturating_sub(now))
+    }
+
     /// Starts who accepts callers, and who calls a peer of the run, as that asks for it; stops the run where its time is over, shuts each link whose peer
-    /// has had its grace, and tells who watches that the run goes on. It returns once the run is over.
+    /// has had its grace, says when a Ping is due, and tells who watches that the run goes on. It returns once the run is over.
     pub(crate) fn watch(&self) {
         self.start_accepter();
         let mut started = 0;
+        let mut due = None;
         for _ in self.net.forever() {
             if self.stops.is_over() {
                 return;
             }
             started = self.start_new(started);
             self.wake_others();
-            let tick = self.watch.tick();
+            due = self.remind(due);
+            let tick = earlier(self.watch.tick(), self.until(due));
             self.stops.turn(self.net, tick);
         }
     }

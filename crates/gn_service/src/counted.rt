@@ -46,6 +46,14 @@ impl<'a, G, R, A: Allocator> Counted<'a, G, R, A> {
         gate
     }
 
+    /// The own servent sends its neighbours a Ping next.
+    pub(crate) fn pings(&self) {
+        if let Some(owed) = &self.owed {
+            owed.originated();
+            self.look(owed);
+        }
+    }
+
     /// Slows the run down where it is near to its last step, and stops it where that might be next.
     fn look(&self, owed: &Owed) {
         let brake = self.stops.stop.brake();

@@ -32,6 +32,21 @@ impl<'a, N: Wait + Net<Listener = TcpListener, Stream = TcpStream> + Clock, A: A
     N,
     A,
 > {
+    /// That of a run of this listener, which these stop.
+    pub(crate) fn new(
+        net: &'a N,
+        cells: Global,
+        listener: &'a TcpListener,
+        stops: &'a Stops<'a, A>,
+    ) -> Self {
+        Entrance {
+            net,
+            cells,
+            listener,
+            stops,
+        }
+    }
+
     /// This fault, for which the links that have come are let go at once.
     pub(crate) fn failing(&self, fault: RunFault) -> RunFault
         ensures { result ≡ fault }

@@ -5,6 +5,7 @@
 mod accepting;
 mod any;
 mod asked;
+mod callees;
 mod calling;
 mod counted;
 mod doorstep;
@@ -16,6 +17,7 @@ mod newcomers;
 mod owed;
 mod parting;
 mod peers;
+mod pings;
 mod ran;
 mod registering;
 mod running;
@@ -44,6 +46,7 @@ pub use gn_threads::{
 };
 pub use host::Host;
 pub use parting::Parting;
+pub use pings::Pings;
 pub use ran::Ran;
 pub use serve::{serve_by, serve_kept, serve_on};
 pub use serving::{Any, Serve, Serving};

@@ -1,14 +1,16 @@
 //! Where the links of a run over TCP come from that takes any number of callers.
 
-ghost use Rattle.std.specs.Prelude.{◌≡◌, ◌<◌, ℕ, None, true, IfErr, IfOk, IfSome};
+ghost use Rattle.std.specs.Prelude.{◌≡◌, ◌<◌, ℕ, None, Some, true, IfErr, IfOk, IfSome};
 ghost use Rattle.std.specs.List.{slice_get};
-ghost use Rattle.gn_shake.specs.declared.role.Role.TheVariants.{Accepting};
+ghost use Rattle.gn_shake.specs.declared.role.Role.TheVariants.{Accepting, Calling};
 ghost use Rattle.gn_start.specs.Faults.{IsArrivingFault};
-ghost use Rattle.gn_service.specs.Any.{role_at};
+ghost use Rattle.gn_service.specs.Any.{IsLinkOf};
 ghost use Rattle.gn_service.specs.Newcomers.{IsNewOf};
 
+use crate::counted::Counted;
 use crate::doorstep::{Doorstep, Guest};
 use crate::entrance::Entrance;
+use crate::pings::Pinging;
 use crate::serving::Serving;
 use gn_links::{Link, Place, Watch};
 use gn_room::Waiting;
@@ -19,15 +21,20 @@ use std::net::{Net, SocketAddr, TcpListener, TcpStream};
 use std::sync::Wait;
 use std::time::Clock;
 
-/// The peers that are called, over the first links, and the doorstep on which the others come.
+/// The peers that are called, and the doorstep on which the others come.
 pub(crate) struct Newcomers<'a, 's, N, G, A: Allocator = Global> {
     pub entrance: Entrance<'a, N, A>,
     pub doorstep: &'a Doorstep<'a>,
     pub called: &'a [SocketAddr],
+    /// Whether they are called again.
+    pub again: bool,
     /// The number of the next link.
     pub next: u32,
     pub serving: Serving<'s>,
     pub watch: &'a G,
+    /// The gate of the run, which counts its steps.
+    pub gate: &'a Counted<'a, G, N, A>,
+    pub pinging: Pinging<'a>,
 }
 
 impl<'a, 's, N, G, A: Allocator> Drop for Newcomers<'a, 's, N, G, A> {
@@ -37,9 +44,12 @@ impl<'a, 's, N, G, A: Allocator> Drop for Newcomers<'a, 's, N, G, A> {
             entrance,
             doorstep,
             called: _,
+            again: _,
             next: _,
             serving: _,
             watch: _,
+            gate: _,
+            pinging: _,
         } = self;
         entrance.stops.close_listener();
         entrance.stops.end();
@@ -67,15 +77,34 @@ impl<
         }
     }
 
-    /// Has the peer of this link called, or lets in who stands on the doorstep, if somebody does.
-    fn meet(&self, link: u32) -> Result<Option<TcpLink<'static>>, RunFault>
-        ensures found { IfOk result (λ found. IfSome found (λ l. (l.role ≡ role_at self.now.called.now link)
-            × (l.origin ≡ record { link = 0; called = slice_get self.now.called.now link }))) }
+    /// Has this peer, which stands in this place among them, called over this link.
+    fn call(&self, link: u32, place: usize, peer: SocketAddr) -> Result<TcpLink<'static>, RunFault>
+        ensures found { IfOk result (λ found. (found.role ≡ Calling)
+            × (found.origin ≡ record { link = 0; called = Some peer })) }
         ensures fault { IfErr result (λ fault. (links workers : ℕ) → IsArrivingFault true links workers fault) }
     {
-        if let Some(peer) = self.called.get(link as usize) {
-            return Ok(Some(self.entrance.called(link, *peer)?));
+        let (net, callees) = (self.entrance.net, &self.entrance.stops.callees);
+        match callees.call(net, place, link) {
+            Ok(()) => self.entrance.called(link, peer),
+            Err(_) => Err(self.entrance.failing(RunFault::NoMemory)),
         }
+    }
+
+    /// A peer that is to be called again, and its place among them.
+    fn due(&self) -> Option<(usize, SocketAddr)>
+        ensures { IfSome result (λ due. slice_get self.now.called.now due.0 ≡ Some due.1) }
+    {
+        let place = self.entrance.stops.callees.due(self.entrance.net)?;
+        let peer = self.called.get(place)?;
+        Some((place, *peer))
+    }
+
+    /// Lets in who stands on the doorstep, if somebody does.
+    fn meet_guest(&self, link: u32) -> Result<Option<TcpLink<'static>>, RunFault>
+        ensures found { IfOk result (λ found. IfSome found (λ l. (l.role ≡ Accepting)
+            × (l.origin ≡ record { link = 0; called = None }))) }
+        ensures fault { IfErr result (λ fault. (links workers : ℕ) → IsArrivingFault true links workers fault) }
+    {
         if self.doorstep.has_failed() {
             return Err(self.entrance.failing(RunFault::Listen));
         }
@@ -83,6 +112,23 @@ impl<
             Some(guest) => Ok(Some(self.registered(link, guest)?)),
             None => Ok(None),
         }
+    }
+
+    /// Has the peer of this link called, or one that is to be called again; or lets in who stands on the doorstep, if somebody does.
+    fn meet(&self, link: u32) -> Result<Option<TcpLink<'static>>, RunFault>
+        ensures found { IfOk result (λ found. IfSome found (λ l.
+            IsLinkOf self.now.again self.now.called.now link l.role (record l.origin { link = link }))) }
+        ensures fault { IfErr result (λ fault. (links workers : ℕ) → IsArrivingFault true links workers fault) }
+    {
+        if let Some(peer) = self.called.get(link as usize) {
+            return Ok(Some(self.call(link, link as usize, *peer)?));
+        }
+        if self.again
+            && let Some((place, peer)) = self.due()
+        {
+            return Ok(Some(self.call(link, place, peer)?));
+        }
+        self.meet_guest(link)
     }
 
     /// The link in this place, numbered, which reads and ends as the run's links do.
@@ -105,7 +151,7 @@ impl<
         place: Place,
         link: u32,
     ) -> Result<Option<NewLink<TcpReader<'s>, TcpWriter>>, RunFault>
-        ensures found { IfOk result (λ new. IfSome new (IsNewOf self.now.called.now place.link)) }
+        ensures found { IfOk result (λ new. IfSome new (IsNewOf self.now.again self.now.called.now place.link)) }
         ensures fault { IfErr result (λ fault. (links workers : ℕ) → link < links
             → IsArrivingFault true links workers fault) }
     {
@@ -131,8 +177,8 @@ impl<
     G: Watch,
     A: Allocator,
 > Incoming for Newcomers<'a, 's, N, G, A> {
-    ghost use Rattle.std.specs.Prelude.{◌+◌, false, true, Some};
-    ghost use Rattle.gn_service.specs.Any.{origin_at, role_at};
+    ghost use Rattle.std.specs.Prelude.{◌+◌, ⊤, false, is_some, true};
+    ghost use Rattle.gn_service.specs.Any.{IsLinkOf};
 
     type Origin = (TcpOrigin, Socket);
 
@@ -148,9 +194,11 @@ impl<
 
     ghost foreknown = { λ origin. origin.0 };
 
-    ghost coming = { λ all k. Some (origin_at all.called.now (all.next + k)) };
+    ghost may_come = { λ all k role origin. IsLinkOf all.again all.called.now (all.next + k) role origin };
 
-    ghost roles = { λ all k. Some (role_at all.called.now (all.next + k)) };
+    ghost may_end = { λ _ _. ⊤ };
+
+    ghost originates = { λ all. is_some all.pinging.pings };
 
     /// Once the run is stopped nobody comes any more.
     fn next<R: Wait>(
@@ -165,6 +213,10 @@ impl<
         };
         if self.entrance.stops.is_stopped() {
             return Ok(Coming::Over);
+        }
+        if let Some(id) = self.pinging.next() {
+            self.gate.pings();
+            return Ok(Coming::Ping(id));
         }
         let Some(place) = place else {
             waiting.wait(rt);

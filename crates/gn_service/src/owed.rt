@@ -75,6 +75,13 @@ impl Owed {
         self.in_flight.fetch_sub(1, Ordering::SeqCst);
     }
 
+    /// The own servent sends a Ping to each connection.
+    pub(crate) fn originated(&self) {
+        let connections = self.connections.load(Ordering::SeqCst);
+        self.waiting.fetch_add(connections, Ordering::SeqCst);
+        self.steps.fetch_add(1, Ordering::SeqCst);
+    }
+
     /// A step of a link's threads was made.
     pub(crate) fn made(&self, step: Made) {
         match step {

@@ -12,6 +12,7 @@ use crate::entrance::Entrance;
 use crate::failing::{call_fault, failed_at, failed_too};
 use crate::host::Host;
 use crate::peers::{Peers, roles_of};
+use crate::pings::Reminder;
 use crate::serving::{Serve, Serving};
 use crate::stop::Stop;
 use crate::stops::Stops;
@@ -69,11 +70,12 @@ where
             Some(stop) => stop,
             None => &own,
         };
-        let stops = Stops::new(rt, self.alloc, stop, serving.grace(), self.serve.listener);
+        let listener = self.serve.listener;
+        let stops = Stops::new(rt, self.alloc, stop, serving.grace(), listener, false);
         let stops = &stops;
         let ((), answer) = thread::join(
             rt,
-            || watch_and_call(rt, serving, stops, watch, None),
+            || watch_and_call(rt, serving, stops, watch, None, None),
             move ||
                 ensures served { let s = self.entry.serve.now in
                     IsTallied s.batch s.config.now s.peers.now s.accept s.workers result.0 }
@@ -161,7 +163,8 @@ fn begin<G: Watch, A: Allocator>(watch: &G, numbers: &Numbers, accept: u32, stop
     }
 }
 
-/// Watches a run, and calls its peers, until it is over; so long somebody accepts its callers, where it takes any number of them.
+/// Watches a run, and calls its peers, until it is over; so long somebody accepts its callers, where it takes any number of them, and the run
+/// learns when a Ping is due, where its own servent may send any.
 pub(crate) fn watch_and_call<
     'x,
     G: Watch + Sync,
@@ -173,6 +176,7 @@ pub(crate) fn watch_and_call<
     stops: &'x Stops<'x, A>,
     watch: &'x G,
     accepter: Option<&'x Accepter<'x, R, A>>,
+    reminder: Option<&'x Reminder<'x>>,
 ) {
     let serving = *serving;
     thread::scope(thread::scope_env(), rt, |scope| {
@@ -183,6 +187,7 @@ pub(crate) fn watch_and_call<
             stops,
             watch,
             accepter,
+            reminder,
         };
         callers.watch();
     });

@@ -2,6 +2,7 @@
 
 ghost use Rattle.std.specs.Prelude.{◌≡◌};
 
+use crate::pings::Pings;
 use crate::stop::Stop;
 use gn_hub::Batch;
 use gn_rules::Config;
@@ -67,10 +68,14 @@ impl<'a, 's, G, M> Serve<'a, 's, G, M> {
     }
 }
 
-/// Any number of callers, one after another. Nothing is kept of a link that has ended, but what this one learns of it.
+/// Any number of callers, one after another. Nothing is kept of a link that has ended, but what this one learns of it. The own servent sends
+/// its neighbours these Pings meanwhile; `None`: it sends none.
 #[derive(Drop)]
 pub struct Any<'a, T> {
     pub leaving: &'a T,
+    /// Whether each peer is called for as long as the run goes on: again, where it isn't there or goes.
+    pub again: bool,
+    pub pings: Option<Pings>,
 }
 
 /// The seconds of grace that a run gives that is told nothing else.

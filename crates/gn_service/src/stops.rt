@@ -1,6 +1,7 @@
 //! How a run over TCP is stopped before its peers end it, and how its links are let go.
 
 use crate::asked::Asked;
+use crate::callees::Callees;
 use crate::live::LiveLinks;
 use crate::stop::{Stop, earlier};
 use gn_links::Half;
@@ -22,6 +23,7 @@ pub(crate) struct Stops<'a, A: Allocator = Global> {
     /// `None`, where the system gave no handle for it.
     listener: Option<ListenerStopper>,
     links: Mutex<LiveLinks<A>>,
+    pub callees: Callees<A>,
     /// The calls that nobody has begun yet.
     calls: Mutex<Vec<Asked, A>>,
     /// How many calls were asked for.
@@ -43,13 +45,14 @@ fn later(now: Option<Duration>, tick: Option<Duration>) -> Option<Duration> {
 }
 
 impl<'a, A: Allocator> Stops<'a, A> {
-    /// Of a run that begins: no link has come yet.
+    /// Of a run that begins, and calls its peers again or not: no link has come yet.
     pub(crate) fn new<R: Clock>(
         rt: &R,
         alloc: A,
         stop: &'a Stop,
         grace: Duration,
         listener: &TcpListener,
+        again: bool,
     ) -> Self
     where
         A: Copy,
@@ -60,6 +63,7 @@ impl<'a, A: Allocator> Stops<'a, A> {
             begun: Instant::now(rt).ok(),
             listener: ListenerStopper::of(listener).ok(),
             links: Mutex::new(LiveLinks::new(alloc)),
+            callees: Callees::new(alloc, again),
             calls: Mutex::new(Vec::new(alloc)),
             asked: AtomicU64::new(0),
             has_failed: AtomicBool::new(false),
@@ -143,7 +147,7 @@ impl<'a, A: Allocator> Stops<'a, A> {
     }
 
     /// How long ago the run began; `None`, where the clock can't be read.
-    fn now<R: Clock>(&self, rt: &R) -> Option<Duration> {
+    pub(crate) fn now<R: Clock>(&self, rt: &R) -> Option<Duration> {
         self.begun?.elapsed(rt).ok()
     }
 

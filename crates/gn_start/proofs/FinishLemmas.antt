@@ -16,7 +16,6 @@ use Rattle.gn_report.specs.declared.account.LinkAccount.{LinkAccount}
 use Rattle.gn_report.specs.declared.account.LinkEnd.{LinkEnd}
 use Rattle.gn_report.specs.declared.account.LinkEnd.TheVariants.{Whole}
 use Rattle.gn_start.specs.Crews.{AreWorked, count_from}
-use Rattle.gn_start.specs.Incoming.{Foretold}
 use Rattle.gn_start.specs.Seats.{Seat}
 use Rattle.gn_start.specs.Kept.{IsKept, IsOne, IsTable}
 use Rattle.gn_start.specs.Numbers.{numbers_of, reader_of, workers_of, writer_of}
@@ -138,29 +137,25 @@ module _ {Rd W K B A O : Type 0} (turns batch : ℕ) (views : LinkViews Rd W O) 
       (over_is over came intakes t t' worked live states r is free (subst (λ n. AreWorked (number_of n (Worker 0)) (workers_of n) worked) (sym e) crew) e_came e_registry e_links e_workers e_fault e_lost troubles.0 troubles.1)
 
   -- and the links are those that were to come
-  pub came_is : {F : Type 0} (foreknown : O → F) (is_known : Bool) (all : Foretold F) (over : Over Rd W K B A) (came intakes : ℕ) (t t' : Trouble) (live : List (Option (Seat Rd W))) (states : List (LinkState Rd W A)) (r : RegistryState A)
+  pub came_is : {F : Type 0} (foreknown : O → F) (is_known : Bool) (may : ℕ → Role → F → Type 0) (ends : ℕ → Type 0) (over : Over Rd W K B A) (came intakes : ℕ) (t t' : Trouble) (live : List (Option (Seat Rd W))) (states : List (LinkState Rd W A)) (r : RegistryState A)
       → IsTable turns batch views has_peers (keeps over.keeper) m came intakes t over.looks live states r → AreFree live
       → over.links.items ≡ ends_of states → over.fault ≡ t'.fault → over.is_lost ≡ t'.is_lost
       → (t'.is_lost ≡ false → t.is_lost ≡ false) → (t'.fault ≡ None → (t.fault ≡ None) × (t'.is_lost ≡ false))
-      → AreAll views.reader_of foreknown is_known (is_some t.fault) m all (all_came states) → (is_known ≡ true → EndsBy m all)
-      → HaveCome views foreknown is_known all.roles all.coming over
-  came_is {F} foreknown is_known all over came intakes t t' live states r is free e_links e_fault e_lost well none made ends =
+      → AreAll views.reader_of foreknown is_known (is_some t.fault) m may ends (all_came states) → (is_known ≡ true → EndsBy m ends)
+      → HaveCome views foreknown is_known may ends over
+  came_is {F} foreknown is_known may ends over came intakes t t' live states r is free e_links e_fault e_lost well none made by =
       let ended : t.is_lost ≡ false → AllEnded states = λ not. all_ended (IsKept turns batch views r.seen) (IsOne views) m came (is_some t.fault) live states r (kept_table over.keeper came intakes t over live states r is not) free in
       let at : t.is_lost ≡ false → (k : ℕ) (link : LinkAccount Rd W A) → slice_get over.links.items k ≡ Some (Whole link) → (c : NewLink Rd W) × (slice_get states k ≡ Some (Ended c (Whole link))) =
       λ not k link h. ends_at states (ended not) k (Whole link) (ap (λ (xs : List (LinkEnd Rd W A)). slice_get xs k) (sym e_links) ∙ h) in
       record {
-        roles_are = λ not k link h.
+        may_come = λ not k link h.
             let here = at (well (sym e_lost ∙ not)) k link h in
             let came = get_mapped came_in states k (Ended here.0 (Whole link)) here.1 in
             let of = (is.links.ended k here.0 (Whole link) here.1).1 in
-            made.so_far.roles_are k here.0 came ∙ ap (λ (x : Role). Some x) (sym of.0);
-        were_to_come = λ not k link h.
-            let here = at (well (sym e_lost ∙ not)) k link h in
-            let came = get_mapped came_in states k (Ended here.0 (Whole link)) here.1 in
-            let of = (is.links.ended k here.0 (Whole link) here.1).1 in
-            made.so_far.made k here.0 came ∙ ap (λ (x : O). Some (foreknown x)) (sym of.1);
+            subst (λ (x : Role). may k x (foreknown (views.reader_of link.reader))) (sym of.0)
+            (subst (λ (x : O). may k here.0.role (foreknown x)) (sym of.1) (made.so_far.may_come k here.0 came));
         no_more = λ faultless known.
             let good = none (sym e_fault ∙ faultless) in
             let many : length over.links.items ≡ length (all_came states) = ap length e_links ∙ ends_long states (ended (well good.1)) ∙ sym (came_long states) in
-            ap all.roles many ∙ made.no_more known (ap is_some good.0) (ends known);
+            subst (λ n. ends n) (sym many) (made.no_more known (ap is_some good.0) (by known));
       }

@@ -1,9 +1,10 @@
 -- Which links have come, and which are still to come.
-use Rattle.std.proofs.Common.{◌≡◌, ◌+◌, Bool, true, false, List, [], ◌∷◌, ◌++◌, Some, length, refl, sym, ap, ◌∙◌, subst, arith, inl, inr}
+use Rattle.std.proofs.Common.{◌≡◌, ◌+◌, ℕ, Bool, true, false, List, [], ◌∷◌, ◌++◌, length, refl, sym, ◌∙◌, subst, arith, inl, inr}
 use Rattle.std.proofs.lemmas.List.{length-map, length_push}
 use Rattle.gn_links.specs.Halves.{ReadHalf, WrittenHalf}
 use Rattle.gn_actors.specs.declared.who.Numbering.{Numbering}
-use Rattle.gn_start.specs.Incoming.{Foretold, HasCome}
+use Rattle.gn_shake.specs.declared.role.Role.{Role}
+use Rattle.gn_start.specs.Incoming.{HasCome}
 use Rattle.gn_start.specs.Table.{AreAll, AreComing, HasBeenMade, HasMade, TableState, all_came, came_in}
 use Rattle.gn_start.specs.declared.incoming.NewLink.{NewLink}
 use Rattle.gn_start.specs.declared.states.LinkState.{LinkState}
@@ -14,59 +15,57 @@ not_so : (was now : Bool) → (was ≡ true → now ≡ true) → now ≡ false 
 not_so true now more none = let no : true ≡ false = sym (more refl) ∙ none in absurd (cc no)
 not_so false now more none = refl
 
-module _ {Rd W O F : Type 0} (read_of : Rd → O) (foreknown : O → F) where
+module _ {V Rd W O F : Type 0} (read_of : Rd → O) (foreknown : O → F) (may : V → ℕ → Role → F → Type 0) (ends : V → ℕ → Type 0) where
   -- where the next link came
-  pub coming_more : (reads : Rd → ReadHalf) (writes : W → WrittenHalf) (written_of : W → O) (all was now : Foretold F) (links links' : List (NewLink Rd W)) (c : NewLink Rd W) → links' ≡ links ++ c ∷ []
-      → HasCome c reads writes read_of written_of foreknown was now → AreComing read_of foreknown all was links → AreComing read_of foreknown all now links'
-  coming_more reads writes written_of all was now links links' c e came so_far =
+  pub coming_more : (reads : Rd → ReadHalf) (writes : W → WrittenHalf) (written_of : W → O) (first was now : V) (links links' : List (NewLink Rd W)) (c : NewLink Rd W) → links' ≡ links ++ c ∷ []
+      → HasCome c reads writes read_of written_of foreknown may ends was now → AreComing read_of foreknown may ends first was links → AreComing read_of foreknown may ends first now links'
+  coming_more reads writes written_of first was now links links' c e came so_far =
       let long : length (links ++ c ∷ []) ≡ length links + 1 = length_push links c in
-      let made : all.coming (length links) ≡ Some (foreknown (read_of c.reader)) = ap all.coming (omega arith) ∙ sym (so_far.1.same_coming 0) ∙ came.made in
-      let role : all.roles (length links) ≡ Some c.role = ap all.roles (omega arith) ∙ sym (so_far.1.same_roles 0) ∙ came.role in
-      subst (λ (l : List (NewLink Rd W)). AreComing read_of foreknown all now l) (sym e) (
+      let last : length links + 0 ≡ length links = omega arith in
+      let here : may first (length links) c.role (foreknown (read_of c.reader)) =
+      subst (λ n. may first n c.role (foreknown (read_of c.reader))) last (so_far.1.same_may 0 c.role (foreknown (read_of c.reader)) came.may_come) in
+      let at : (k : ℕ) → length links + (1 + k) ≡ length (links ++ c ∷ []) + k = λ k. omega (arith, long) in
+      subst (λ (l : List (NewLink Rd W)). AreComing read_of foreknown may ends first now l) (sym e) (
         record {
-          made = λ k w h.
-              elim (get_push_cases links c w k h) as (λ _. all.coming k ≡ Some (foreknown (read_of w.reader))) [
-                | inl old ↦ so_far.0.made k w old
-                | inr new ↦ ap all.coming new.0 ∙ made ∙ ap (λ (x : NewLink Rd W). Some (foreknown (read_of x.reader))) new.1
-              ];
-          roles_are = λ k w h.
-              elim (get_push_cases links c w k h) as (λ _. all.roles k ≡ Some w.role) [
-                | inl old ↦ so_far.0.roles_are k w old
-                | inr new ↦ ap all.roles new.0 ∙ role ∙ ap (λ (x : NewLink Rd W). Some x.role) new.1
+          may_come = λ k w h.
+              elim (get_push_cases links c w k h) as (λ _. may first k w.role (foreknown (read_of w.reader))) [
+                | inl old ↦ so_far.0.may_come k w old
+                | inr new ↦ subst (λ n. may first n w.role (foreknown (read_of w.reader))) (sym new.0)
+                    (subst (λ (x : NewLink Rd W). may first (length links) x.role (foreknown (read_of x.reader))) new.1 here)
               ];
         },
         record {
-          same_coming = λ k. came.rest.same_coming k ∙ so_far.1.same_coming (1 + k) ∙ ap all.coming (omega (arith, long));
-          same_roles = λ k. came.rest.same_roles k ∙ so_far.1.same_roles (1 + k) ∙ ap all.roles (omega (arith, long));
+          same_may = λ k role known h. subst (λ n. may first n role known) (at k) (so_far.1.same_may (1 + k) role known (came.rest.same_may k role known h));
+          same_ends = λ k h. subst (λ n. ends first n) (at k) (so_far.1.same_ends (1 + k) (came.rest.same_ends k h));
         },
       )
 
   -- as long as no more come, whatever faults come
-  pub all_later : (is_known faulty faulty' : Bool) (m m' : Numbering) (all : Foretold F) (links links' : List (NewLink Rd W)) → m' ≡ m → links' ≡ links → (faulty ≡ true → faulty' ≡ true)
-      → AreAll read_of foreknown is_known faulty m all links → AreAll read_of foreknown is_known faulty' m' all links'
-  all_later is_known faulty faulty' m m' all links links' e_m e more are =
-      subst (λ (n : Numbering). AreAll read_of foreknown is_known faulty' n all links') (sym e_m) (subst (λ (l : List (NewLink Rd W)). AreAll read_of foreknown is_known faulty' m all l) (sym e) (record {
+  pub all_later : (is_known faulty faulty' : Bool) (m m' : Numbering) (first : V) (links links' : List (NewLink Rd W)) → m' ≡ m → links' ≡ links → (faulty ≡ true → faulty' ≡ true)
+      → AreAll read_of foreknown is_known faulty m (may first) (ends first) links → AreAll read_of foreknown is_known faulty' m' (may first) (ends first) links'
+  all_later is_known faulty faulty' m m' first links links' e_m e more are =
+      subst (λ (n : Numbering). AreAll read_of foreknown is_known faulty' n (may first) (ends first) links') (sym e_m)
+      (subst (λ (l : List (NewLink Rd W)). AreAll read_of foreknown is_known faulty' m (may first) (ends first) l) (sym e) (record {
         so_far = are.so_far;
-        no_more = λ known none ends. are.no_more known (not_so faulty faulty' more none) ends;
+        no_more = λ known none by. are.no_more known (not_so faulty faulty' more none) by;
       }))
 
   -- before the first
-  pub none_before : (all : Foretold F) → AreComing {W = W} read_of foreknown all all []
-  none_before all = (
-    record {
-      made = λ k c h. absurd (cc h);
-      roles_are = λ k c h. absurd (cc h);
-    },
-    record {
-      same_coming = λ k. ap all.coming (omega arith);
-      same_roles = λ k. ap all.roles (omega arith);
-    },
-  )
+  pub none_before : (first : V) → AreComing {W = W} read_of foreknown may ends first first []
+  none_before first =
+      let at : (k : ℕ) → k ≡ 0 + k = λ k. omega arith in (
+        record { may_come = λ k c h. absurd (cc h) },
+        record {
+          same_may = λ k role known h. subst (λ n. may first n role known) (at k) h;
+          same_ends = λ k h. subst (λ n. ends first n) (at k) h;
+        },
+      )
 
   -- of a run that began with none
-  pub made_from_none : {A : Type 0} (is_known : Bool) (rest : Foretold F) (before after : TableState Rd W A) → before.states ≡ [] → HasMade read_of foreknown is_known rest before after → HasBeenMade read_of foreknown is_known rest after
+  pub made_from_none : {A : Type 0} (is_known : Bool) (rest : V) (before after : TableState Rd W A) → before.states ≡ [] → HasMade read_of foreknown is_known may ends rest before after
+      → HasBeenMade read_of foreknown is_known (may rest) (ends rest) after
   made_from_none {A = A} is_known rest before after none made = record {
-    now = made.each rest (subst (λ (s : List (LinkState Rd W A)). AreComing read_of foreknown rest rest (all_came s)) (sym none) (none_before rest));
+    now = made.each rest (subst (λ (s : List (LinkState Rd W A)). AreComing read_of foreknown may ends rest rest (all_came s)) (sym none) (none_before rest));
   }
 
 -- as many links came as there are states

@@ -1,5 +1,5 @@
 -- How a run begins, whose links are still to come.
-use Rattle.std.proofs.Common.{◌≡◌, ◌≤◌, ◌+◌, ℕ, Bool, true, false, None, Option, refl, sym, ◌∙◌, subst, arith}
+use Rattle.std.proofs.Common.{◌≡◌, ◌≤◌, ◌+◌, ℕ, Bool, true, false, Option, refl, sym, ◌∙◌, subst, arith}
 use Rattle.std.specs.Prelude.{IfSome}
 use Rattle.gn_rules.specs.Limits.{most_links}
 use Rattle.gn_actors.specs.Who.{number_of}
@@ -8,7 +8,6 @@ use Rattle.gn_actors.specs.declared.who.Numbering.TheVariants.{Known, Open}
 use Rattle.gn_actors.specs.declared.who.Who.TheVariants.{Worker}
 use Rattle.gn_start.specs.Crews.{IsFaultOfCrew}
 use Rattle.gn_start.specs.Faults.{IsFaultOf}
-use Rattle.gn_start.specs.Incoming.{Foretold}
 use Rattle.gn_start.specs.Numbers.{links_of, workers_of}
 use Rattle.gn_start.specs.Table.{EndsBy}
 use Rattle.gn_start.specs.declared.fault.RunFault.{RunFault}
@@ -27,7 +26,7 @@ pub crew_fault : (m m' : Numbering) (came : ℕ) (fault : Option RunFault) → m
 crew_fault m m' came fault same is = subst (λ (n : Numbering). IfSome fault (λ f. IsFaultOf (links_of n came) (workers_of n) f)) (sym same) (is.named (links_of m came) (workers_of m) (crew_in_run m came))
 
 -- a run that is known to have all its links has no more than it has actors for
-pub ends_by : {F : Type 0} (m : Numbering) (is_known : Bool) (all : Foretold F) → ((links workers : ℕ) → m ≡ Known links workers → (links ≤ most_links) × (all.roles links ≡ None)) → ((workers : ℕ) → m ≡ Open workers → is_known ≡ false)
-    → is_known ≡ true → EndsBy m all
-ends_by (Known n v) is_known all known unknown is = (known n v refl).1
-ends_by (Open v) is_known all known unknown is = let not : true ≡ false = sym is ∙ unknown v refl in absurd (cc not)
+pub ends_by : (m : Numbering) (is_known : Bool) (ends : ℕ → Type 0) → ((links workers : ℕ) → m ≡ Known links workers → (links ≤ most_links) × ends links) → ((workers : ℕ) → m ≡ Open workers → is_known ≡ false)
+    → is_known ≡ true → EndsBy m ends
+ends_by (Known n v) is_known ends known unknown is = (known n v refl).1
+ends_by (Open v) is_known ends known unknown is = let not : true ≡ false = sym is ∙ unknown v refl in absurd (cc not)

@@ -1,5 +1,6 @@
 -- What is promised: contracts of public functions rest on it.
 pub mod Faults
+pub mod House
 pub mod Incoming
 pub mod Numbers
 pub mod Over

@@ -42,13 +42,12 @@ abbrev pub AllEnded : {Rd W A O : Type 0} → ℕ → ℕ → LinkViews Rd W O �
 AllEnded {Rd} {W} {A} turns batch views steps links =
     (k : ℕ) (d : LinkAccount Rd W A) → k < length links → IsLinkEnded turns batch views steps (slice_index_or links k d)
 
--- the links of a run are these, which came as they were to come; where it had no fault, no more come, if it is known which do
-pub record HaveCome {Rd W K B A O F : Type 0} (views : LinkViews Rd W O) (foreknown : O → F) (is_known : Bool) (roles : ℕ → Option Role)
-    (coming : ℕ → Option F) (over : Over Rd W K B A) : Type 0 where
-  pub roles_are : over.is_lost ≡ false → (k : ℕ) (link : LinkAccount Rd W A) → slice_get over.links.items k ≡ Some (Whole link) → roles k ≡ Some link.role
-  pub were_to_come : over.is_lost ≡ false → (k : ℕ) (link : LinkAccount Rd W A) → slice_get over.links.items k ≡ Some (Whole link)
-      → coming k ≡ Some (foreknown (views.reader_of link.reader))
-  pub no_more : over.fault ≡ None → is_known ≡ true → roles (length over.links.items) ≡ None
+-- the links of a run are these, which came as they might; where it had no fault, they are all, if it is known when all have come
+pub record HaveCome {Rd W K B A O F : Type 0} (views : LinkViews Rd W O) (foreknown : O → F) (is_known : Bool)
+    (may : ℕ → Role → F → Type 0) (ends : ℕ → Type 0) (over : Over Rd W K B A) : Type 0 where
+  pub may_come : over.is_lost ≡ false → (k : ℕ) (link : LinkAccount Rd W A) → slice_get over.links.items k ≡ Some (Whole link)
+      → may k link.role (foreknown (views.reader_of link.reader))
+  pub no_more : over.fault ≡ None → is_known ≡ true → ends (length over.links.items)
 
 -- actors numbered from this number on
 abbrev pub AreNumberedFrom : {A : Type 0} → ℕ → List (ActorState A) → Type 0

@@ -7,7 +7,8 @@ use Rattle.gn_actors.specs.declared.who.Numbering.{Numbering}
 use Rattle.gn_actors.specs.declared.who.Numbering.TheVariants.{Known, Open}
 use Rattle.gn_report.specs.declared.account.LinkEnd.{LinkEnd}
 use Rattle.gn_report.specs.declared.account.LinkEnd.TheVariants.{Whole, Cut}
-use Rattle.gn_start.specs.Incoming.{Foretold, IsSameFrom}
+use Rattle.gn_shake.specs.declared.role.Role.{Role}
+use Rattle.gn_start.specs.Incoming.{IsSameFrom}
 use Rattle.gn_start.specs.Seats.{Seat}
 use Rattle.gn_start.specs.Numbers.{IsNobodys, IsUpTo, numbers_of, reader_of, workers_of, writer_of}
 use Rattle.gn_start.specs.declared.incoming.NewLink.{NewLink}
@@ -50,7 +51,7 @@ pub record IsLinkTable {Rd W A : Type 0} (kept : NewLink Rd W → LinkEnd Rd W A
   pub slots : length live < 2 ^ 32
   pub long : length r.lists ≡ numbers_of m came
   pub fits : IsUpTo m came
-  pub few : r.out ≤ workers_of m + (came + came)
+  pub few : r.out ≤ workers_of m + (came + came) + 1
   -- a slot that is taken has a link that came, and its state says so: so no two slots have one link
   pub taken : (i : ℕ) (p : Seat Rd W) → slice_index_or live i None ≡ Some p
       → (slice_get states p.link ≡ Some (At i p.came)) × (p ≡ seat_for m p.link p.came)
@@ -89,37 +90,37 @@ with_end [] k end = []
 with_end (s ∷ states) zero end = Ended (came_in s) end ∷ states
 with_end (s ∷ states) (suc k) end = s ∷ with_end states k end
 
--- these links are the first of those that were to come
-pub record AreFirst {Rd W O F : Type 0} (read_of : Rd → O) (foreknown : O → F) (all : Foretold F) (links : List (NewLink Rd W)) : Type 0 where
-  pub made : (k : ℕ) (c : NewLink Rd W) → slice_get links k ≡ Some c → all.coming k ≡ Some (foreknown (read_of c.reader))
-  pub roles_are : (k : ℕ) (c : NewLink Rd W) → slice_get links k ≡ Some c → all.roles k ≡ Some c.role
+-- each of these links came as it might
+pub record AreFirst {Rd W O F : Type 0} (read_of : Rd → O) (foreknown : O → F) (may : ℕ → Role → F → Type 0) (links : List (NewLink Rd W)) : Type 0 where
+  pub may_come : (k : ℕ) (c : NewLink Rd W) → slice_get links k ≡ Some c → may k c.role (foreknown (read_of c.reader))
 
--- these have come of all, and those are still to come
-abbrev pub AreComing : {Rd W O F : Type 0} → (Rd → O) → (O → F) → Foretold F → Foretold F → List (NewLink Rd W) → Type 0
-AreComing read_of foreknown all rest links = AreFirst read_of foreknown all links × IsSameFrom (length links) all rest
+-- these have come since what was still to come was the first, and now the rest is
+abbrev pub AreComing : {V Rd W O F : Type 0} → (Rd → O) → (O → F) → (V → ℕ → Role → F → Type 0) → (V → ℕ → Type 0) → V → V → List (NewLink Rd W) → Type 0
+AreComing read_of foreknown may ends first rest links =
+    AreFirst read_of foreknown (may first) links × IsSameFrom may ends (length links) first rest
 
 -- no link comes beyond those of a run whose links are known beforehand; of an open run nothing is said
-abbrev pub EndsBy : {F : Type 0} → Numbering → Foretold F → Type 0
-EndsBy (Known n v) all = all.roles n ≡ None
-EndsBy (Open v) all = ⊥
+abbrev pub EndsBy : Numbering → (ℕ → Type 0) → Type 0
+EndsBy (Known n v) ends = ends n
+EndsBy (Open v) ends = ⊥
 
--- these have come of all that were to come: where it is known which, and the run has no fault, all of them
-pub record AreAll {Rd W O F : Type 0} (read_of : Rd → O) (foreknown : O → F) (is_known faulty : Bool) (m : Numbering) (all : Foretold F)
-    (links : List (NewLink Rd W)) : Type 0 where
-  pub so_far : AreFirst read_of foreknown all links
-  pub no_more : is_known ≡ true → faulty ≡ false → EndsBy m all → all.roles (length links) ≡ None
+-- these have come as they might: where it is known when all have, and the run has no fault, all of them
+pub record AreAll {Rd W O F : Type 0} (read_of : Rd → O) (foreknown : O → F) (is_known faulty : Bool) (m : Numbering)
+    (may : ℕ → Role → F → Type 0) (ends : ℕ → Type 0) (links : List (NewLink Rd W)) : Type 0 where
+  pub so_far : AreFirst read_of foreknown may links
+  pub no_more : is_known ≡ true → faulty ≡ false → EndsBy m ends → ends (length links)
 
 -- all slots are free
 abbrev pub AreFree : {Rd W : Type 0} → List (Option (Seat Rd W)) → Type 0
 AreFree live = (i : ℕ) → slice_index_or live i None ≡ None
 
 -- what has come by the end of a run of what was still to come when so much had
-pub record HasMade {Rd W A O F : Type 0} (read_of : Rd → O) (foreknown : O → F) (is_known : Bool) (rest : Foretold F)
-    (before after : TableState Rd W A) : Type 0 where
-  pub each : (all : Foretold F) → AreComing read_of foreknown all rest (all_came before.states)
-      → AreAll read_of foreknown is_known after.is_faulty after.numbering all (all_came after.states)
+pub record HasMade {V Rd W A O F : Type 0} (read_of : Rd → O) (foreknown : O → F) (is_known : Bool) (may : V → ℕ → Role → F → Type 0)
+    (ends : V → ℕ → Type 0) (rest : V) (before after : TableState Rd W A) : Type 0 where
+  pub each : (first : V) → AreComing read_of foreknown may ends first rest (all_came before.states)
+      → AreAll read_of foreknown is_known after.is_faulty after.numbering (may first) (ends first) (all_came after.states)
 
 -- the same of a run that began with none
-pub record HasBeenMade {Rd W A O F : Type 0} (read_of : Rd → O) (foreknown : O → F) (is_known : Bool) (all : Foretold F)
-    (after : TableState Rd W A) : Type 0 where
-  pub now : AreAll read_of foreknown is_known after.is_faulty after.numbering all (all_came after.states)
+pub record HasBeenMade {Rd W A O F : Type 0} (read_of : Rd → O) (foreknown : O → F) (is_known : Bool) (may : ℕ → Role → F → Type 0)
+    (ends : ℕ → Type 0) (after : TableState Rd W A) : Type 0 where
+  pub now : AreAll read_of foreknown is_known after.is_faulty after.numbering may ends (all_came after.states)

@@ -1,14 +1,15 @@
 //! Where the links of a run come from.
 
-ghost use Rattle.std.specs.Prelude.{◌≡◌, ◌<◌, ℕ, Bool, Option, IfErr, IfOk, IfSome};
+ghost use Rattle.std.specs.Prelude.{◌≡◌, ◌<◌, ℕ, Bool, false, IfErr, IfOk, IfSome};
 ghost use Rattle.gn_shake.specs.declared.role.Role.{Role};
 ghost use Rattle.gn_start.specs.Faults.{IsArrivingFault};
-ghost use Rattle.gn_start.specs.Incoming.{IsComing, foretold};
+ghost use Rattle.gn_start.specs.Incoming.{IsComing, MayPing};
 
 use crate::fault::RunFault;
 use gn_links::{LinkReader, LinkWriter, Place};
 use gn_room::Waiting;
 use gn_shake::Role;
+use gn_wire::Guid;
 use std::sync::Wait;
 
 /// A link that has come: how it begins, and its two halves.
@@ -26,6 +27,8 @@ pub enum Coming<Rd, W> {
     Link(NewLink<Rd, W>),
     /// It hasn't: it is time to look whether others have ended.
     Nobody,
+    /// It hasn't: the own servent sends its neighbours a Ping of this ID.
+    Ping(Guid),
     /// No more come.
     Over,
 }
@@ -53,11 +56,14 @@ pub trait Incoming: Drop {
     /// What was known of a link before it came.
     ghost foreknown: { Self.Origin → Self.Foreknown };
 
-    /// What is known of the k-th link that is still to come, if anything is.
-    ghost coming: { Self → ℕ → Option Self.Foreknown };
+    /// Whether the k-th link that is still to come may begin so, and be one of which this is known beforehand.
+    ghost may_come: { Self → ℕ → Role → Self.Foreknown → Type 0 };
 
-    /// How that begins, if there is one.
-    ghost roles: { Self → ℕ → Option Role };
+    /// Whether it may be over once k more have come; where it isn't known when all have come, it may always be.
+    ghost may_end: { Self → ℕ → Type 0 };
+
+    /// Whether the own servent sends Pings while links come.
+    ghost originates: { Self → Bool } = { λ _. false };
 
     /// Waits for the next link, which gets this number and this place; without a place, as all are taken, none comes. Who waits for
     /// long waits by what is lent, too, so that those that have ended are joined meanwhile. A run that has failed asks on for its links:
@@ -70,9 +76,9 @@ pub trait Incoming: Drop {
         waiting: &Waiting<'_>,
     ) -> Result<Coming<Self::Reader, Self::Writer>, RunFault>
         ensures coming { IfOk result (λ c. IsComing is_known place c Self.Reader.state Self.Writer.state
-            Self.Reader.made_of Self.Writer.made_of foreknown
-            (foretold (coming self.old) (roles self.old))
-            (foretold (coming self.new) (roles self.new))) }
+            Self.Reader.made_of Self.Writer.made_of foreknown may_come may_end self.old self.new) }
+        ensures own { IfOk result (MayPing (originates self.old)) }
+        ensures same { originates self.new ≡ originates self.old }
         ensures fault { IfErr result (λ fault. (links workers : ℕ) → link < links
             → IsArrivingFault has_peers links workers fault) };
 }

@@ -9,6 +9,7 @@ mod incoming;
 mod limits;
 mod opening;
 mod over;
+mod pinging;
 mod promises;
 mod running;
 mod slots;

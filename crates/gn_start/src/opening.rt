@@ -5,7 +5,6 @@ ghost use Rattle.gn_actors.specs.Who.{number_of};
 ghost use Rattle.gn_actors.specs.declared.who.Who.TheVariants as who;
 ghost use Rattle.gn_start.specs.Crews.{AreWorked};
 ghost use Rattle.gn_start.specs.Faults.{IsArrivingFault, IsFaultOf};
-ghost use Rattle.gn_start.specs.Incoming.{Foretold};
 ghost use Rattle.gn_start.specs.Numbers.{links_of, numbers_of, workers_of};
 ghost use Rattle.gn_start.specs.Over.{HaveCome, IsOver, views_of};
 ghost use Rattle.gn_start.specs.Table.{AreAll, AreFree, EndsBy, all_came};
@@ -84,7 +83,7 @@ impl<
         keeper: K,
     ) -> Self
         requires registry { (length opened.1.lists ≡ numbers_of opened.0 0)
-            × ((n : ℕ) → slice_index_or opened.1.lists n [] ≡ []) × (opened.1.out ≤ workers_of opened.0) }
+            × ((n : ℕ) → slice_index_or opened.1.lists n [] ≡ []) × (opened.1.out ≤ workers_of opened.0 + 1) }
         requires reception { (opened.2.made.intakes ≡ 0) × (opened.2.is_open ≡ true) }
         requires free { AreFree slots }
         requires lost { trouble.is_lost ≡ true → is_some trouble.fault ≡ true }
@@ -118,13 +117,13 @@ impl<
             (links_of self.numbering (length self.states)) (workers_of self.numbering) fault) }
         ensures over { IsOver (views_of V.Reader.state V.Writer.state V.Reader.gives V.Reader.made_of V.Writer.made_of)
             K.keeps B.turns B.batch self.numbering (workers_of self.numbering) result.0 }
-        ensures came { (all : Foretold V.Foreknown) → AreAll V.Reader.made_of V.foreknown V.is_known self.is_faulty
-            self.numbering all (all_came self.states) → (V.is_known ≡ true → EndsBy self.numbering all)
+        ensures came { (first : V) → AreAll V.Reader.made_of V.foreknown V.is_known self.is_faulty
+            self.numbering (V.may_come first) (V.may_end first) (all_came self.states)
+            → (V.is_known ≡ true → EndsBy self.numbering (V.may_end first))
             → HaveCome (views_of V.Reader.state V.Writer.state V.Reader.gives V.Reader.made_of V.Writer.made_of)
-            V.foreknown V.is_known all.roles all.coming result.0 }
+            V.foreknown V.is_known (V.may_come first) (V.may_end first) result.0 }
         ensures fault { IfSome result.0.fault (λ fault. IsArrivingFault V.has_peers
             (links_of self.numbering result.0.came) (workers_of self.numbering) fault) }
-        ensures few { result.0.registry.out + 1 < 2 ^ 32 }
     {
         let LinkTable {
             came,
@@ -143,8 +142,6 @@ impl<
             fault,
         } = worked;
         let Trouble { is_lost, fault } = trouble.with(fault).or_lost(is_lost);
-        // It shows that all numbers are of 32 bits.
-        let _many = registry.many();
         let over = Over {
             came,
             keeper,

@@ -8,7 +8,7 @@ ghost use Rattle.gn_actors.specs.declared.who.Who.TheVariants as who;
 ghost use Rattle.gn_rules.specs.Limits.{IsCrew, most_links};
 ghost use Rattle.gn_start.specs.Crews.{AreWorked, IsFaultOfCrew};
 ghost use Rattle.gn_start.specs.Faults.{IsArrivingFault};
-ghost use Rattle.gn_start.specs.Incoming.{Foretold, foretold};
+ghost use Rattle.gn_start.specs.House.{HasOriginated, IsHouse};
 ghost use Rattle.gn_start.specs.Numbers.{links_of, workers_of};
 ghost use Rattle.gn_start.specs.Over.{HaveCome, IsOver, views_of};
 ghost use Rattle.gn_start.specs.Table.{AreAll, AreComing, AreFree, HasBeenMade, HasMade, all_came};
@@ -21,7 +21,8 @@ use crate::opening::{Opened, first_numbers, slots_for};
 use crate::over::{Over, Stagework};
 use crate::start::Starter;
 use crate::table::LinkTable;
-use gn_actors::Named;
+use gn_actors::{Named, Who};
+use gn_hub::Actor;
 use gn_links::Gate;
 use gn_report::Keeping;
 use gn_rules::RouterCore;
@@ -69,7 +70,8 @@ impl<
     A: Allocator + Copy + Send + Sync + 's,
     R: Threads + Wait + Sync + 's,
 > Starter<'s, E, C, B, G, A, R> {
-    /// Joins the threads of each link that is at its end.
+    /// Joins the threads of each link that is at its end. Where the end of one shows that the history isn't what its actors say, the run
+    /// fails at once.
     fn retire_ended<V: Incoming, K: Keeping<V::Reader, V::Writer, A>>(
         &self,
         table: &mut LinkTable<V, K, B, A>,
@@ -79,32 +81,39 @@ impl<
         ensures same { (table.new.numbering ≡ table.old.numbering) × (table.new.is_open ≡ table.old.is_open) }
         ensures faulty { table.old.is_faulty ≡ true → table.new.is_faulty ≡ true }
     {
+        let was_known = table.is_audited();
         for slot in 0..table.many_slots() {
             if self.floor.signal.have_ended(slot) {
                 table.retire(self.floor, slot);
             }
         }
+        if table.is_audited() && !was_known {
+            self.fail();
+        }
     }
 
-    /// Joins those that have ended, and waits for a link, or until others have. False where no more are to come.
+    /// Joins those that have ended, and waits for a link, or until others have, or a Ping is to be sent. False where no more are to come.
     fn turn<V: Incoming, K: Keeping<V::Reader, V::Writer, A>>(
         &self,
         incoming: &mut V,
         table: &mut LinkTable<V, K, B, A>,
+        house: &mut Actor<B, A>,
     ) -> bool
     where
         V::Reader: Send + 's,
         V::Writer: Send + 's,
         requires open { table.old.is_open ≡ true }
-        ensures goes { (all : Foretold V.Foreknown) → AreComing V.Reader.made_of V.foreknown all
-            (foretold (V.coming incoming.old) (V.roles incoming.old)) (all_came table.old.states)
-            → result ≡ true → AreComing V.Reader.made_of V.foreknown all
-            (foretold (V.coming incoming.new) (V.roles incoming.new)) (all_came table.new.states) }
-        ensures ends { (all : Foretold V.Foreknown) → AreComing V.Reader.made_of V.foreknown all
-            (foretold (V.coming incoming.old) (V.roles incoming.old)) (all_came table.old.states)
+        ensures goes { (first : V) → AreComing V.Reader.made_of V.foreknown V.may_come V.may_end first
+            incoming.old (all_came table.old.states)
+            → result ≡ true → AreComing V.Reader.made_of V.foreknown V.may_come V.may_end first
+            incoming.new (all_came table.new.states) }
+        ensures ends { (first : V) → AreComing V.Reader.made_of V.foreknown V.may_come V.may_end first
+            incoming.old (all_came table.old.states)
             → result ≡ false → AreAll V.Reader.made_of V.foreknown V.is_known table.new.is_faulty table.new.numbering
-            all (all_came table.new.states) }
+            (V.may_come first) (V.may_end first) (all_came table.new.states) }
         ensures same { (table.new.numbering ≡ table.old.numbering) × (table.new.is_open ≡ true) }
+        ensures house { HasOriginated (V.originates incoming.old) house.old house.new }
+        ensures own { V.originates incoming.new ≡ V.originates incoming.old }
     {
         let waiting = self.floor.signal.waiting(self.floor.rt);
         self.retire_ended(table);
@@ -120,6 +129,10 @@ impl<
                 true
             }
             Ok(Coming::Nobody) => true,
+            Ok(Coming::Ping(id)) => {
+                table.note(self.ping(house, id));
+                true
+            }
             Ok(Coming::Over) => false,
             Err(fault) => {
                 table.note(Some(fault));
@@ -134,19 +147,21 @@ impl<
         &self,
         incoming: &mut V,
         table: &mut LinkTable<V, K, B, A>,
+        house: &mut Actor<B, A>,
     )
     where
         V::Reader: Send + 's,
         V::Writer: Send + 's,
         requires open { table.old.is_open ≡ true }
-        ensures made { (all : Foretold V.Foreknown) → AreComing V.Reader.made_of V.foreknown all
-            (foretold (V.coming incoming.old) (V.roles incoming.old)) (all_came table.old.states)
-            → AreAll V.Reader.made_of V.foreknown V.is_known table.new.is_faulty table.new.numbering all
-            (all_came table.new.states) }
+        ensures made { (first : V) → AreComing V.Reader.made_of V.foreknown V.may_come V.may_end first
+            incoming.old (all_came table.old.states)
+            → AreAll V.Reader.made_of V.foreknown V.is_known table.new.is_faulty table.new.numbering
+            (V.may_come first) (V.may_end first) (all_came table.new.states) }
         ensures same { table.new.numbering ≡ table.old.numbering }
+        ensures house { HasOriginated (V.originates incoming.old) house.old house.new }
     {
         for _ in self.floor.rt.forever() {
-            if !self.turn(incoming, table) {
+            if !self.turn(incoming, table, house) {
                 return;
             }
         }
@@ -158,17 +173,19 @@ impl<
         &self,
         incoming: &mut V,
         mut table: LinkTable<V, K, B, A>,
+        house: &mut Actor<B, A>,
     ) -> LinkTable<V, K, B, A>
     where
         V::Reader: Send + 's,
         V::Writer: Send + 's,
         requires open { table.is_open ≡ true }
         ensures free { AreFree result.live }
-        ensures made { HasMade V.Reader.made_of V.foreknown V.is_known
-            (foretold (V.coming incoming.old) (V.roles incoming.old)) table result }
+        ensures made { HasMade V.Reader.made_of V.foreknown V.is_known V.may_come V.may_end
+            incoming.old table result }
         ensures same { result.numbering ≡ table.numbering }
+        ensures house { HasOriginated (V.originates incoming.old) house.old house.new }
     {
-        self.take_links(incoming, &mut table);
+        self.take_links(incoming, &mut table, house);
         self.floor.service.no_more(self.floor.rt);
         table.shut();
         table.retire_all(self.floor);
@@ -179,16 +196,17 @@ impl<
     fn run<V: Incoming, K: Keeping<V::Reader, V::Writer, A>>(
         &self,
         begun: Begun<V, K, B, A>,
-    ) -> (LinkTable<V, K, B, A>, Worked<B, A>)
+    ) -> (LinkTable<V, K, B, A>, Worked<B, A>, Actor<B, A>)
     where
         V::Reader: Send + 's,
         V::Writer: Send + 's,
         ensures free { AreFree result.0.live }
         ensures made { HasBeenMade V.Reader.made_of V.foreknown V.is_known
-            (foretold (V.coming begun.incoming) (V.roles begun.incoming)) result.0 }
+            (V.may_come begun.incoming) (V.may_end begun.incoming) result.0 }
         ensures same { result.0.numbering ≡ begun.numbering }
         ensures worked { AreWorked (number_of begun.numbering (who.Worker 0)) (workers_of begun.numbering) result.1 }
         ensures fault { IsFaultOfCrew begun.numbering result.1.fault }
+        ensures house { IsHouse (V.originates begun.incoming) (number_of begun.numbering who.House) result.2 }
     {
         let alloc = self.floor.alloc;
         let Begun {
@@ -205,20 +223,24 @@ impl<
         } = opened;
         registry.grow(first_numbers(numbering));
         let crew = self.start_workers(&mut registry, numbering, outlets);
+        // It shows that all numbers are of 32 bits.
+        let _many = registry.many();
+        let mut house = registry.send(numbering.number_of(Who::House));
         let (slots, trouble) = slots_for(alloc, slots, crew.is_lost);
         if trouble.is_lost {
             self.fail();
         }
         let table = LinkTable::new((numbering, registry, reception), slots, trouble, keeper);
-        let table = self.run_all(&mut incoming, table);
+        let table = self.run_all(&mut incoming, table, &mut house);
         let worked = crew.join(self.floor.rt, alloc);
         // Where links come from may have threads that watch those that are there.
         drop(incoming);
-        (table, worked)
+        (table, worked, house)
     }
 }
 
-/// Runs the links that come, each with a reader and a writer, and the workers, until all have ended, and joins all threads as they end.
+/// Runs the links that come, each with a reader and a writer, and the workers, until all have ended, and joins all threads as they end. The
+/// house goes out meanwhile: it sends the own servent's Pings.
 pub fn run_links<
     V: Incoming,
     K: Keeping<V::Reader, V::Writer, A>,
@@ -232,7 +254,11 @@ pub fn run_links<
     opened: Opened<B, A>,
     incoming: V,
     keeper: K,
-) -> (Over<V::Reader, V::Writer, K, B, A>, Stagework<B, A>)
+) -> (
+    Over<V::Reader, V::Writer, K, B, A>,
+    Stagework<B, A>,
+    Actor<B, A>,
+)
 where
     V::Reader: Send,
     V::Writer: Send,
@@ -240,25 +266,26 @@ where
     requires reception { (opened.reception.made.intakes ≡ 0) × (opened.reception.is_open ≡ true) }
     requires crew { (vec_len opened.outlets ≡ workers_of opened.numbering) × IsCrew (vec_len opened.outlets) }
     requires known { (links workers : ℕ) → opened.numbering ≡ Known links workers
-        → (links ≤ most_links) × (V.roles incoming links ≡ None) }
+        → (links ≤ most_links) × V.may_end incoming links }
     requires open { (workers : ℕ) → opened.numbering ≡ Open workers → V.is_known ≡ false }
     requires keeper { K.keeps keeper [] }
     ensures over { IsOver (views_of V.Reader.state V.Writer.state V.Reader.gives V.Reader.made_of V.Writer.made_of)
         K.keeps B.turns B.batch opened.numbering (workers_of opened.numbering) result.0 }
     ensures came { HaveCome (views_of V.Reader.state V.Writer.state V.Reader.gives V.Reader.made_of V.Writer.made_of)
-        V.foreknown V.is_known (V.roles incoming) (V.coming incoming) result.0 }
+        V.foreknown V.is_known (V.may_come incoming) (V.may_end incoming) result.0 }
     ensures fault { IfSome result.0.fault (λ fault. IsArrivingFault V.has_peers
         (links_of opened.numbering result.0.came) (workers_of opened.numbering) fault) }
-    ensures few { result.0.registry.out + 1 < 2 ^ 32 }
+    ensures house { IsHouse (V.originates incoming) (number_of opened.numbering who.House) result.2 }
 {
     let begun = Begun {
         incoming,
         opened,
         keeper,
     };
-    let (table, worked) = thread::scope(thread::scope_env(), floor.rt, |scope| {
+    let (table, worked, house) = thread::scope(thread::scope_env(), floor.rt, |scope| {
         let starter = Starter { scope, floor };
         starter.run(begun)
     });
-    table.finish(worked)
+    let (over, stagework) = table.finish(worked);
+    (over, stagework, house)
 }

@@ -126,6 +126,11 @@ impl<
         self.trouble.is_lost || !has_room(self.numbering, self.came, self.registry.many())
     }
 
+    /// Whether what is kept of the run isn't what its actors say.
+    pub(crate) fn is_audited(&self) -> bool {
+        matches!(self.trouble.fault, Some(RunFault::Audit(_)))
+    }
+
     /// The place of the next link, at a slot that is free, if there is one.
     pub(crate) fn next_place(&self) -> Option<Place>
         ensures { IfSome result (λ p. (p.slot < length self.now.live)
@@ -257,7 +262,7 @@ fn next_actors<B: Ledger + Named, A: Allocator>(
     link: u32,
 ) -> (Actor<B, A>, Actor<B, A>)
     requires numbers { (length registry.old.lists ≡ numbers_of numbering link) × HasRoom numbering link }
-    requires few { registry.old.out ≤ workers_of numbering + (link + link) }
+    requires few { registry.old.out ≤ workers_of numbering + (link + link) + 1 }
     requires none { (slice_index_or registry.old.lists (reader_of numbering link) [] ≡ [])
         × (slice_index_or registry.old.lists (writer_of numbering link) [] ≡ []) }
     ensures reader { result.0 ≡ new_actor (reader_of numbering link) }

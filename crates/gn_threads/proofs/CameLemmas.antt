@@ -1,5 +1,5 @@
 -- The links of a run that came in order are those that were to come.
-use Rattle.std.proofs.Common.{◌≡◌, ◌+◌, ◌<◌, ◌≤◌, ◌^◌, ◌∙◌, ◌∷◌, ℕ, Bool, true, false, zero, suc, List, [], length, map, take, Option, Some, None, Result, Ok, Err, vec_len, refl, sym, ap, subst, arith}
+use Rattle.std.proofs.Common.{◌≡◌, ◌+◌, ◌≤◌, ◌∙◌, ◌∷◌, ℕ, Bool, true, false, zero, suc, List, [], length, map, take, Option, Some, None, Result, Ok, Err, vec_len, refl, sym, ap, subst, arith}
 use Rattle.std.specs.List.{slice_get}
 use Rattle.std.specs.Prelude.{IfOk, IfSome}
 use Rattle.std.proofs.lemmas.List.{length-map}
@@ -13,11 +13,9 @@ use Rattle.gn_report.specs.declared.account.Account.{Account}
 use Rattle.gn_report.specs.declared.kept.Kept.{Kept}
 use Rattle.gn_rules.specs.declared.config.Config.{Config}
 use Rattle.gn_rules.specs.Limits.{IsCrew, most_links}
-use Rattle.gn_actors.specs.Registry.{registry_state, with_one_out}
-use Rattle.gn_actors.specs.Who.{most_beside}
+use Rattle.gn_actors.specs.Registry.{registry_state}
 use Rattle.gn_actors.specs.declared.who.Numbering.{Numbering}
 use Rattle.gn_actors.specs.declared.who.Numbering.TheVariants.{Known, Open}
-use Rattle.gn_actors.specs.declared.who.Who.TheVariants.{House}
 use Rattle.gn_start.specs.Numbers.{workers_of}
 use Rattle.gn_start.specs.Over.{AllEnded, HaveCome}
 use Rattle.gn_start.specs.declared.fault.RunFault.{RunFault}
@@ -28,7 +26,7 @@ use Rattle.gn_start.specs.Faults.{IsArrivingFault}
 use Rattle.gn_threads.specs.OpenRuns.{IsOpenAnswer, IsOpenEnded, IsOpenFault}
 use Rattle.gn_threads.specs.declared.open_account.OpenAccount.{OpenAccount}
 use Rattle.std.proofs.lemmas.Simd.{map-map}
-use Rattle.gn_threads.specs.Left.{IsFaultAt, IsOpenedFor}
+use Rattle.gn_threads.specs.Left.{IsFaultAt, IsOpenedFor, ends_in, may_in}
 use Rattle.gn_threads.proofs.HoldsLemmas.{are_arrived, are_made}
 use Rattle.gn_start.specs.declared.over.Over.{Over}
 use Rattle.gn_threads.proofs.ListLemmas.{all_of, first_of}
@@ -50,7 +48,7 @@ to_map f (x ∷ xs) zero y is = let same : x ≡ y = cc in ap (λ z. Some (f z))
 to_map f (x ∷ xs) (suc k) y is = to_map f xs k y is
 
 module _ {Rd W K B A O F : Type 0} (views : LinkViews Rd W O) (foreknown : O → F) (roles : List Role) (coming : List F) (over : Over Rd W K B A)
-    (came : HaveCome views foreknown true (λ k. slice_get roles k) (λ k. slice_get coming k) over) (here : over.is_lost ≡ false) (well : over.fault ≡ None) (accounts : List (LinkAccount Rd W A))
+    (came : HaveCome views foreknown true (may_in roles coming) (ends_in roles) over) (here : over.is_lost ≡ false) (well : over.fault ≡ None) (accounts : List (LinkAccount Rd W A))
     (are : over.links.items ≡ map (λ link. Whole link) accounts) where
   -- the end of a link that has an account
   abbrev ended_whole : LinkAccount Rd W A → LinkEnd Rd W A
@@ -71,7 +69,7 @@ module _ {Rd W K B A O F : Type 0} (views : LinkViews Rd W O) (foreknown : O →
       all_of (map role accounts) roles
       (λ k r there.
       let one = from_map role accounts k r there in
-      came.roles_are here k one.0 (ended_so k one.0 one.1) ∙ ap (λ x. Some x) one.2)
+      (came.may_come here k one.0 (ended_so k one.0 one.1)).0 ∙ ap (λ x. Some x) one.2)
       (ap (λ n. slice_get roles n) (sym many) ∙ came.no_more well refl)
 
   pub many_came : length over.links.items ≡ length roles
@@ -85,12 +83,12 @@ module _ {Rd W K B A O F : Type 0} (views : LinkViews Rd W O) (foreknown : O →
       first_of (map known accounts) coming
       (λ k f there.
       let one = from_map known accounts k f there in
-      came.were_to_come here k one.0 (ended_so k one.0 one.1) ∙ ap (λ x. Some x) one.2)
+      (came.may_come here k one.0 (ended_so k one.0 one.1)).1 ∙ ap (λ x. Some x) one.2)
       ∙ ap (λ n. take n coming) many
 
 -- a run of so many links, which come in these roles, is opened for them
 pub opened_for : {B A : Type 0} (roles : List Role) (n workers : ℕ) (opened : Opened B A) → opened.registry ≡ registry_state [] 0 [] → (opened.reception.made.intakes ≡ 0) × (opened.reception.is_open ≡ true)
-    → vec_len opened.outlets ≡ workers → opened.numbering ≡ Known n workers → n ≡ length roles → IsCrew workers → length roles ≤ most_links → IsOpenedFor true (λ k. slice_get roles k) opened
+    → vec_len opened.outlets ≡ workers → opened.numbering ≡ Known n workers → n ≡ length roles → IsCrew workers → length roles ≤ most_links → IsOpenedFor true (ends_in roles) opened
 opened_for roles n workers opened registry reception working numbering many crew few = record {
   registry = registry;
   reception = reception;
@@ -102,16 +100,8 @@ opened_for roles n workers opened registry reception working numbering many crew
   unknown = λ w is. let no : Known n workers ≡ Open w = sym numbering ∙ is in absurd (cc);
 }
 
--- the house of an opened run has a number
-few_numbers : (m : Numbering) (out : ℕ) → ((links workers : ℕ) → m ≡ Known links workers → links ≤ most_links) → out ≡ workers_of m → IsCrew out → most_beside m House < 2 ^ 32
-few_numbers (Known n v) out known working crew = omega (arith, known n v refl, working, crew.greatest)
-few_numbers (Open v) out known working crew = omega arith
-
-pub house_numbered : {B A : Type 0} (is_known : Bool) (roles : ℕ → Option Role) (opened : Opened B A) → IsOpenedFor is_known roles opened → most_beside opened.numbering House < 2 ^ 32
-house_numbered is_known roles opened ready = few_numbers opened.numbering (vec_len opened.outlets) (λ links workers is. (ready.known links workers is).0) ready.crew.0 ready.crew.1
-
 module _ {Rd W B A O F : Type 0} (turns batch : ℕ) (views : LinkViews Rd W O) (foreknown : O → F) (s : Config) (roles : List Role) (coming : List F) (workers : ℕ) (over : Over Rd W (Kept Rd W A) B A)
-    (came : HaveCome views foreknown true (λ k. slice_get roles k) (λ k. slice_get coming k) over) (fault : Option RunFault) (stopped : fault ≡ None → over.fault ≡ None) (lost : over.fault ≡ None → over.is_lost ≡ false) where
+    (came : HaveCome views foreknown true (may_in roles coming) (ends_in roles) over) (fault : Option RunFault) (stopped : fault ≡ None → over.fault ≡ None) (lost : over.fault ≡ None → over.is_lost ≡ false) where
   -- the headline holds of these roles
   pub holds_came : {E : Type 0} (answer : Result (Account Rd W A) E) → IfOk answer (λ account. (fault ≡ None) × (over.links.items ≡ map (λ link. Whole link) account.links.items))
       → IfOk answer (λ account. Holds batch views.reads views.writes s (map (λ link. link.role) account.links.items) workers (report_of account))
@@ -148,18 +138,18 @@ pub known_fault : {Rd W K B A : Type 0} (has_peers : Bool) (m : Numbering) (over
     → IfSome fault (λ f. IsArrivingFault has_peers links workers f)
 known_fault has_peers m over links workers fault is at = (subst (λ n. IsFaultAt has_peers n over fault) is at).may
 
-module _ {Rd W K B A O F : Type 0} (turns batch : ℕ) (views : LinkViews Rd W O) (foreknown : O → F) (s : Config) (workers : ℕ) (over : Over Rd W K B A) (is_known : Bool) (roles : ℕ → Option Role) (coming : ℕ → Option F)
-    (came : HaveCome views foreknown is_known roles coming over) (fault : Option RunFault) (stopped : fault ≡ None → over.fault ≡ None) (lost : over.fault ≡ None → over.is_lost ≡ false) where
+module _ {Rd W K B A O F : Type 0} (turns batch : ℕ) (views : LinkViews Rd W O) (foreknown : O → F) (s : Config) (workers : ℕ) (over : Over Rd W K B A) (is_known : Bool) (may : ℕ → Role → F → Type 0) (ends : ℕ → Type 0)
+    (came : HaveCome views foreknown is_known may ends over) (fault : Option RunFault) (stopped : fault ≡ None → over.fault ≡ None) (lost : over.fault ≡ None → over.is_lost ≡ false) where
   -- its links are the first of those that were to come
-  pub open_answered : {E : Type 0} (answer : Result (OpenAccount Rd W A) E) → IfOk answer (λ account. (fault ≡ None) × (over.links.items ≡ map (λ link. Whole link) account.links.items))
-      → IfOk answer (λ account. IsOpenEnded views batch s workers account) → IfOk answer (λ account. IsOpenAnswer views foreknown batch s workers roles coming account)
-  open_answered (Ok account) links ended =
+  pub open_answered : {E : Type 0} (originates : Bool) (answer : Result (OpenAccount Rd W A) E) → IfOk answer (λ account. (fault ≡ None) × (over.links.items ≡ map (λ link. Whole link) account.links.items))
+      → IfOk answer (λ account. IsOpenEnded originates views batch s workers account) → IfOk answer (λ account. IsOpenAnswer originates views foreknown batch s workers may account)
+  open_answered originates (Ok account) links ended =
       let whole : LinkAccount Rd W A → LinkEnd Rd W A = λ a. Whole a in
       let here = lost (stopped links.0) in
       let at : (k : ℕ) (link : LinkAccount Rd W A) → slice_get account.links.items k ≡ Some link → slice_get over.links.items k ≡ Some (whole link) = λ k link is.
       ap (λ (es : List (LinkEnd Rd W A)). slice_get es k) links.1 ∙ to_map whole account.links.items k link is in
-      record { ended = ended; roles_are = λ k link is. came.roles_are here k link (at k link is); were_to_come = λ k link is. came.were_to_come here k link (at k link is) }
-  open_answered (Err e) links ended = tt
+      record { ended = ended; may_come = λ k link is. came.may_come here k link (at k link is) }
+  open_answered originates (Err e) links ended = tt
 
   -- who keeps what its links did keeps the accounts of all of them
   pub open_kept : {E : Type 0} (keeps : K → List (Option (LinkEnd Rd W A)) → Type 0) (keeper : K) (answer : Result (OpenAccount Rd W A) E) → keeper ≡ over.keeper
@@ -171,9 +161,3 @@ module _ {Rd W K B A O F : Type 0} (turns batch : ℕ) (views : LinkViews Rd W O
       let all = ap (map some) links.1 ∙ map-map some whole account.links.items in
       subst (λ k. keeps k (map (λ link. Some (Whole link)) account.links.items)) (sym same) (subst (λ ends. keeps over.keeper ends) all (kept (lost (stopped links.0))))
   open_kept keeps keeper (Err e) same kept links = tt
-
--- what is known of the links of a run is known of them with its house out
-pub still_come : {Rd W K B A O F : Type 0} (views : LinkViews Rd W O) (foreknown : O → F) (is_known : Bool) (roles : ℕ → Option Role) (coming : ℕ → Option F) (was now : Over Rd W K B A)
-    → now ≡ record was { registry = with_one_out was.registry } → HaveCome views foreknown is_known roles coming was → HaveCome views foreknown is_known roles coming now
-still_come views foreknown is_known roles coming was now is came =
-    subst (λ o. HaveCome views foreknown is_known roles coming o) (sym is) (record { roles_are = came.roles_are; were_to_come = came.were_to_come; no_more = came.no_more })

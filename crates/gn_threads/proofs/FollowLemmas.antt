@@ -1,5 +1,5 @@
 -- What follows of a run of which the headline holds.
-use Rattle.std.proofs.Common.{◌≡◌, ◌≤◌, ◌<◌, ◌+◌, ℕ, Bool, true, zero, suc, List, [], length, map, get_or, reverse, take, Option, Some, None, refl, sym, ap, ◌∙◌, subst, arith}
+use Rattle.std.proofs.Common.{◌≡◌, ◌≤◌, ◌<◌, ◌+◌, ℕ, Bool, true, false, zero, suc, List, [], length, map, get_or, reverse, take, Option, Some, None, refl, sym, ap, ◌∙◌, subst, arith}
 use Rattle.std.specs.List.{sum_by}
 use Rattle.std.proofs.Math.Seq.{take-length}
 use Rattle.std.proofs.lemmas.Bool.{eqb-true}
@@ -29,7 +29,7 @@ use Rattle.gn_threads.proofs.EndLemmas.{link_read, link_written}
 
 -- what the headline says of the actors
 pub confirmed_of : {Rd W A : Type 0} (batch : ℕ) (reads : Rd → ReadHalf) (writes : W → WrittenHalf) (s : Config) (roles : List Role) (workers : ℕ) (report : Report Rd W A)
-    → Holds batch reads writes s roles workers report → Confirmed (is_settled report.history.items) roles report
+    → Holds batch reads writes s roles workers report → Confirmed false (is_settled report.history.items) roles report
 confirmed_of batch reads writes s roles workers report holds = record {
   own = holds.own.0;
   only = holds.own.1;
@@ -39,7 +39,7 @@ confirmed_of batch reads writes s roles workers report holds = record {
   writer = λ k role link below.
       let at = holds.links k role link below in
       record { events = at.writer; end = (link_written reads writes (most_reads s.numbers.steps) batch roles report k (get_or roles k role) (get_or report.links.items k link) at).1 };
-  routes = holds.routes.0;
+  others = holds.routes.0;
 }
 
 -- the first a actors have as many receipts as they made steps
@@ -55,7 +55,7 @@ counted_below {Rd} {W} {A} report own (suc a) low =
     omega (arith, next, more, counted_below report own a (omega (arith, low)), ap (λ (receipts : List (Receipt A)). length receipts) (own a (omega (arith, low))))
 
 -- all receipts are as many as the steps
-adds_up : {Rd W A : Type 0} (settled : ℕ → Bool) (roles : List Role) (report : Report Rd W A) → Confirmed settled roles report
+adds_up : {Rd W A : Type 0} (settled : ℕ → Bool) (roles : List Role) (report : Report Rd W A) → Confirmed false settled roles report
     → sum_by (λ receipts. length receipts) (receipts_of report) ≡ length report.history.items
 adds_up {Rd} {W} {A} settled roles report all =
     let receipts = receipts_of report in
@@ -70,7 +70,7 @@ routes_each_once {A} s steps legal settled =
     settled_routes_all A s steps legal (subst (λ (x : List (Step A)). length (flying (reverse x)) ≡ 0) (take-length steps) none)
 
 -- a link's two bodies have receipts of all that the history says of its connection
-link_agrees : {Rd W A : Type 0} (s : Config) (settled : ℕ → Bool) (roles : List Role) (report : Report Rd W A) → IsLegal s (reverse report.history.items) → Confirmed settled roles report
+link_agrees : {Rd W A : Type 0} (s : Config) (settled : ℕ → Bool) (roles : List Role) (report : Report Rd W A) → IsLegal s (reverse report.history.items) → Confirmed false settled roles report
     → (k c : ℕ) (link : LinkReport Rd W A) → k < length report.links.items → (get_or report.links.items k link).conn ≡ Some c
     → LinkAgrees report.history.items k (number_in report (Writer k)) c
 link_agrees {Rd} {W} {A} s settled roles report legal all k c link below is =

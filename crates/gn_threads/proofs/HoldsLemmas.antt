@@ -1,5 +1,5 @@
 -- From what is known of each link that has ended and what is compared of a report to the headline.
-use Rattle.std.proofs.Common.{◌≡◌, ◌<◌, ◌++◌, ◌∙◌, ℕ, true, List, length, map, get_or, Result, Ok, Err, sym, ap, subst, arith}
+use Rattle.std.proofs.Common.{◌≡◌, ◌<◌, ◌++◌, ◌∙◌, ℕ, Bool, true, List, length, map, get_or, Result, Ok, Err, sym, ap, subst, arith}
 use Rattle.std.specs.List.{list_all}
 use Rattle.std.specs.Prelude.{IfOk}
 use Rattle.std.proofs.lemmas.List.{append-nil, get_or-map, length-map}
@@ -42,7 +42,7 @@ module _ {Rd W A O : Type 0} (turns batch : ℕ) (views : LinkViews Rd W O) (acc
   ended_at k some within = all k some (omega (arith, within, length-map account.links.items (link_of account.links.alloc)))
 
   -- what holds of a link, by that and by what is confirmed of it
-  pub links_hold : (roles : List Role) → map (λ link. link.role) account.links.items ≡ roles → Confirmed (is_settled account.history.items) roles (report_of account)
+  pub links_hold : {originates : Bool} (roles : List Role) → map (λ link. link.role) account.links.items ≡ roles → Confirmed originates (is_settled account.history.items) roles (report_of account)
       → (k : ℕ) (role : Role) (link : LinkReport Rd W A) → k < length (report_of account).links.items
       → LinkHolds views.reads views.writes turns batch roles (report_of account) k (get_or roles k role) (get_or (report_of account).links.items k link)
   links_hold roles are sure k role link within =

@@ -9,18 +9,10 @@ use Rattle.gn_rules.specs.declared.receipt.Receipt.{Receipt}
 use Rattle.gn_rules.specs.History.{ticket_of}
 use Rattle.gn_hub.specs.ActorState.{ActorState, with_receipt}
 use Rattle.gn_bodies.specs.Events.{events_of, link_events}
-use Rattle.gn_report.specs.Accounts.{is_routing}
+use Rattle.gn_report.specs.Accounts.{are_houses, is_houses}
 
 one_out : {X : Type 0} (p : X → Bool) (x : X) → p x ≡ false → filter p (x ∷ []) ≡ []
 one_out p x e = rw e refl
-
-all_step : {X : Type 0} (b : Bool) (x : X) (rest : List X) (all : Bool) → cond (not b) (x ∷ rest) rest ≡ [] → (rest ≡ [] → all ≡ true) → (b && all) ≡ true
-all_step true x rest all none then = then none
-all_step false x rest all none then = absurd (cc)
-
-all_but : {X : Type 0} (p : X → Bool) (xs : List X) → filter (λ x. not (p x)) xs ≡ [] → list_all p xs ≡ true
-all_but p [] none = refl
-all_but p (x ∷ xs) none = all_step (p x) x (filter (λ y. not (p y)) xs) (list_all p xs) none (all_but p xs)
 
 -- with one receipt more an actor has one event more
 pub one_event_more : {A : Type 0} (me us : ActorState A) (r : Receipt A) → us ≡ with_receipt me r → events_of us ≡ events_of me ++ r.event ∷ []
@@ -34,7 +26,27 @@ no_event_more {A} me us r routes is =
     let none : filter is_link (r.event ∷ []) ≡ [] = one_out is_link r.event (ap not routes) in
     ap (filter is_link) (one_event_more me us r is) ∙ filter-append is_link all (r.event ∷ []) ∙ ap (λ es. filter is_link all ++ es) none ∙ append-nil (filter is_link all)
 
--- who has no event but routes has receipts of routes alone
-pub routes_alone : {A : Type 0} (me : ActorState A) → link_events me ≡ [] → is_routing me.receipts ≡ true
-routes_alone {A} me none =
-    sym (list_all-map (λ (e : Event A). is_some (ticket_of e)) (λ (r : Receipt A). r.event) me.receipts) ∙ all_but (λ (e : Event A). is_some (ticket_of e)) (map (λ (r : Receipt A). r.event) me.receipts) none
+-- what is asked of each event is asked of those but the routes, where the routes pass
+but_routes : {X : Type 0} (p q : X → Bool) → ((x : X) → q x ≡ true → p x ≡ true) → (xs : List X) → list_all p xs ≡ list_all p (filter (λ x. not (q x)) xs)
+but_routes p q passes [] = refl
+but_routes p q passes (x ∷ xs) =
+    let rest = but_routes p q passes xs in
+    elim (q x) as (λ b. q x ≡ b → (p x && list_all p xs) ≡ list_all p (cond (not b) (x ∷ filter (λ y. not (q y)) xs) (filter (λ y. not (q y)) xs))) [
+      | true ↦ λ is. rw (passes x is) rest
+      | false ↦ λ is. ap (λ b. p x && b) rest
+    ] refl
+
+-- a route is the house's
+route_own : {A : Type 0} (originates : Bool) (event : Event A) → is_some (ticket_of event) ≡ true → is_houses originates event ≡ true
+route_own false event routes = routes
+route_own true event routes = rw routes refl
+
+-- receipts are of the house's events as far as those but the routes are
+houses_by : {A : Type 0} (originates : Bool) (me : ActorState A) → are_houses originates me.receipts ≡ list_all (is_houses originates) (link_events me)
+houses_by {A} originates me =
+    sym (list_all-map (is_houses originates) (λ (r : Receipt A). r.event) me.receipts)
+    ∙ but_routes (is_houses originates) (λ (e : Event A). is_some (ticket_of e)) (route_own originates) (map (λ (r : Receipt A). r.event) me.receipts)
+
+-- who has made none but routes since has made the house's events alone, where it had
+pub houses_still : {A : Type 0} (originates : Bool) (me us : ActorState A) → link_events us ≡ link_events me → are_houses originates me.receipts ≡ true → are_houses originates us.receipts ≡ true
+houses_still originates me us alone own = houses_by originates us ∙ (ap (list_all (is_houses originates)) alone ∙ (sym (houses_by originates me) ∙ own))

@@ -336,10 +336,7 @@ module _ {Rd W B A O : Type 0} (views : LinkViews Rd W O) (turns batch n v : ℕ
         each = all_ended views HasKept turns batch (Known n v) n v (known_apart n v) over left.ended house left.house_is here_known links all steps begun;
         counted = subst (λ (ls : List (LinkAccount Rd W A)). AreCounted over.looks (map (λ link. Some (Whole link)) ls)) (sym (same_kept links are)) (left.ended.whole well).1.2;
         own = all_of_home views turns batch n v over house left here_known links all steps workers own many working last whole;
-        routes = (
-          routed_home views HasKept turns batch (Known n v) n v (known_apart n v) over left.ended house left.house_is here_known workers working,
-          subst (λ (rs : List (Receipt A)). is_routing rs ≡ true) (sym last) left.routed,
-        );
+        routes = routed_home views HasKept turns batch (Known n v) n v (known_apart n v) over left.ended house left.house_is here_known workers working;
       }
 
 -- what is left of a run whose actors are numbered as those of so many known links

@@ -1,5 +1,5 @@
 -- A run whose links came one after another, in the numbers of one whose links are all known.
-use Rattle.std.proofs.Common.{◌≡◌, ◌<◌, ◌≤◌, ◌+◌, ◌==◌, ◌∷◌, ◌∙◌, ℕ, true, false, nat_lt, List, [], length, map, get_or, reverse, take, Option, Some, None, vec_len, refl, sym, ap, subst, arith, inl, inr}
+use Rattle.std.proofs.Common.{◌≡◌, ◌<◌, ◌≤◌, ◌+◌, ◌==◌, ◌∷◌, ◌∙◌, ℕ, Bool, true, false, nat_lt, List, [], length, map, get_or, reverse, take, Option, Some, None, vec_len, refl, sym, ap, subst, arith, inl, inr}
 use mathlib.Core.List.{IsPrefix}
 use Rattle.std.specs.List.{list_all}
 use Rattle.std.proofs.Math.Seq.{take-length}
@@ -19,9 +19,8 @@ use Rattle.gn_actors.specs.declared.who.Numbering.TheVariants.{Known, Open}
 use Rattle.gn_actors.specs.declared.who.Who.TheVariants.{House, Reader, Worker, Writer}
 use Rattle.gn_renumber.specs.Moved.{AreAlike, MovedIsAlike, MovedIsLegal}
 use Rattle.gn_renumber.specs.Renumbered.{RenumberedIsOnly, RenumberedIsOwn, known_number, renumbered}
-use Rattle.gn_report.specs.Accounts.{is_routing, unkept_list}
+use Rattle.gn_report.specs.Accounts.{are_houses, unkept_list}
 use Rattle.gn_report.specs.Ended.{EndedIsSeen, IsIdleAfter, IsLinkEnded, LinkViews}
-use Rattle.gn_report.specs.Seen.{SeenIsConfirmed}
 use Rattle.gn_report.specs.Looks.{AreCounted}
 use Rattle.gn_report.specs.declared.account.LinkAccount.{LinkAccount}
 use Rattle.gn_report.specs.declared.account.LinkEnd.{LinkEnd}
@@ -111,9 +110,9 @@ module _ {Rd W K B A O : Type 0} (views : LinkViews Rd W O) (keeps : K → List 
 
     -- all that is gathered of it, in the numbers of known links
     pub open_gathered : (workers : List (Unkept (Receipt A))) (own : Unkept (Receipt A)) (worked : length workers ≡ v) → map unkept_list workers ≡ map receipts_in over.workers.items → own.items ≡ house.receipts
-        → is_routing house.receipts ≡ true → AreCounted over.looks (map (λ link. Some (Whole link)) accounts)
+        → AreCounted over.looks (map (λ link. Some (Whole link)) accounts)
         → IsGathered views turns batch (renumbered (length accounts) v steps) accounts workers own over.looks
-    open_gathered workers own worked working last routed counted =
+    open_gathered workers own worked working last counted =
         let n = length accounts in
         let moved = renumbered n v steps in
         record {
@@ -135,10 +134,7 @@ module _ {Rd W K B A O : Type 0} (views : LinkViews Rd W O) (keeps : K → List 
               last ∙ (house_mine views keeps turns batch (Open v) n v apart over ended house house_is here steps whole ∙ (sym (own_law n v steps House open_only tt) ∙ ap (mine moved) same)))
               (let total : number_of (Known n v) House + 1 ≡ n + n + length workers + 1 = omega (arith, worked) in
               subst (λ i. list_all (λ (step : Step A). nat_lt step.actor i) moved ≡ true) total (only_law n v steps open_only));
-          routes = (
-            routed_home views keeps turns batch (Open v) n v apart over ended house house_is here workers working,
-            subst (λ (rs : List (Receipt A)). is_routing rs ≡ true) (sym last) routed,
-          );
+          routes = routed_home views keeps turns batch (Open v) n v apart over ended house house_is here workers working;
         }
 
 module _ {Rd W K B A O : Type 0} (views : LinkViews Rd W O) (keeps : K → List (Option (LinkEnd Rd W A)) → Type 0) (turns batch v : ℕ) (over : Over Rd W K B A) (ended : IsOver views keeps turns batch (Open v) v over)
@@ -167,10 +163,10 @@ module _ {Rd W K B A O : Type 0} (views : LinkViews Rd W O) (keeps : K → List 
     open_counted = subst (λ (ls : List (LinkAccount Rd W A)). AreCounted over.looks (map (λ link. Some (Whole link)) ls)) (sym same_accounts) (ended.whole well).1.2
 
   -- all is gathered of it once its actors are home
-  pub all_open : RenumberedIsOwn A → RenumberedIsOnly A → MovedIsAlike A → (steps : List (Step A)) (all : OpenGathered Rd W A) → is_routing house.receipts ≡ true → all.links.items ≡ accounts_of over.links.items
+  pub all_open : RenumberedIsOwn A → RenumberedIsOnly A → MovedIsAlike A → (steps : List (Step A)) (all : OpenGathered Rd W A) → all.links.items ≡ accounts_of over.links.items
       → map unkept_list all.workers.items ≡ map receipts_in over.workers.items → all.house.items ≡ house.receipts → IsPrefix over.registry.seen steps
       → AreWhole steps (with_all_home over.registry.lists (house ∷ over.workers.items)) → IsOpenGathered views turns batch steps all over.looks
-  all_open own_law only_law alike_law steps all routed are working last begun whole =
+  all_open own_law only_law alike_law steps all are working last begun whole =
       let here = (ended.whole well).0 in
       let links = all.links.items in
       let as_many : length all.workers.items ≡ v =
@@ -181,7 +177,7 @@ module _ {Rd W K B A O : Type 0} (views : LinkViews Rd W O) (keeps : K → List 
         only = subst (λ w. list_all (λ (step : Step A). nat_lt step.actor (1 + w + (length links + length links))) steps ≡ true) (sym as_many)
             (open_only views keeps turns batch v over ended house house_is here links every own_law only_law steps alike begun whole);
         gathered = subst (λ w. IsGathered views turns batch (renumbered (length links) w steps) links all.workers.items all.house over.looks) (sym as_many)
-            (open_gathered views keeps turns batch v over ended house house_is here links every own_law only_law steps alike begun whole all.workers.items all.house as_many working last routed
+            (open_gathered views keeps turns batch v over ended house house_is here links every own_law only_law steps alike begun whole all.workers.items all.house as_many working last
             (open_counted links are));
       }
 
@@ -196,12 +192,12 @@ none_flying {A} steps others alike none =
     ap (λ (ts : List ℕ). length ts == 0) same ∙ none
 
 -- what holds of the account of such a run, by what was gathered of it
-pub open_ended : {Rd W A O : Type 0} → SeenIsConfirmed Rd W A → EndedIsSeen Rd W A O → MovedIsLegal A → MovedIsAlike A → (batch : ℕ) (views : LinkViews Rd W O) (s settings : Config) (account : OpenAccount Rd W A) (looks : Looks)
+pub open_ended : {Rd W A O : Type 0} → EndedIsSeen Rd W A O → MovedIsLegal A → MovedIsAlike A → (batch : ℕ) (views : LinkViews Rd W O) (s settings : Config) (account : OpenAccount Rd W A) (looks : Looks)
     → list_all (λ step. nat_lt step.actor (1 + vec_len account.workers + (length account.links.items + length account.links.items))) account.history.items ≡ true
     → IsGathered views (most_reads s.numbers.steps) batch (known_steps account) account.links.items account.workers.items account.house looks
     → IsCalm s settings account.history.items looks → IsLegal settings (reverse account.history.items) → account.stats ≡ stats_of (reverse account.history.items)
-    → IsOpenEnded views batch s (vec_len account.workers) account
-open_ended {Rd} {W} {A} confirms sees legal_law alike_law batch views s settings account looks only gathered calm legal stats =
+    → (originates : Bool) → are_houses originates account.house.items ≡ true → IsOpenEnded originates views batch s (vec_len account.workers) account
+open_ended {Rd} {W} {A} sees legal_law alike_law batch views s settings account looks only gathered calm legal stats originates houses =
     let steps = account.history.items in
     let known = known_account account in
     let number = known_number (length account.links.items) (length account.workers.items) in
@@ -210,6 +206,6 @@ open_ended {Rd} {W} {A} confirms sees legal_law alike_law batch views s settings
     record {
       legal = subst (λ call. IsLegal call (reverse steps)) calm.same legal;
       only = only;
-      holds = account_holds batch views s settings known looks gathered still confirms sees (legal_law settings number steps legal) (stats ∙ sym alike.stats);
+      holds = account_holds batch views s settings known looks gathered still sees (legal_law settings number steps legal) (stats ∙ sym alike.stats) originates houses;
       arrived = are_arrived (most_reads s.numbers.steps) batch views known gathered.each;
     }

@@ -1,7 +1,7 @@
 -- The headline: what an answered run says of its history, of its actors, of each link and of each admitted ticket.
 --
 -- `turns` reads of a link may give bytes, and a writer takes at most `batch` packets at once.
-use Rattle.std.specs.Prelude.{◌≡◌, ◌<◌, ◌≤◌, ◌+◌, ℕ, true, nat_lt, if◌then◌else◌, List, [], length, map, reverse, slice_index_or, Some, None}
+use Rattle.std.specs.Prelude.{◌≡◌, ◌<◌, ◌≤◌, ◌+◌, ℕ, Bool, true, false, nat_lt, if◌then◌else◌, List, [], length, map, reverse, slice_index_or, Some, None}
 use Rattle.std.specs.List.{count_by, filter_map, list_all, slice_get, sum_by}
 use Rattle.gn_rules.specs.declared.config.Config.{Config}
 use Rattle.gn_rules.specs.Answer.{IsLegal}
@@ -18,6 +18,7 @@ use Rattle.gn_laws.specs.Runs.{RoutesAll}
 use Rattle.gn_report.specs.declared.report.LinkReport.{LinkReport}
 use Rattle.gn_report.specs.declared.report.Report.{Report}
 use Rattle.gn_actors.specs.declared.who.Who.TheVariants.{House, Worker, Writer}
+use Rattle.gn_report.specs.Accounts.{are_houses}
 use Rattle.gn_report.specs.Actors.{AreOwn, number_in, receipts_of}
 use Rattle.gn_report.specs.BodyEnds.{is_connect, is_settled, may_close_first}
 use Rattle.gn_report.specs.Flaw.{AreRoutes, TookAll}
@@ -88,6 +89,25 @@ pub record Holds {Rd W A : Type 0} (batch : ℕ) (reads : Rd → ReadHalf) (writ
       × (is_settled report.history.items (length report.history.items) ≡ true)
   -- the report's statistics are those of the history
   pub stats : report.stats ≡ stats_of (reverse report.history.items)
+
+-- the same of a run whose own servent sends descriptors: its house originates them, and all else is as in `Holds`
+pub record HoldsOriginating {Rd W A : Type 0} (batch : ℕ) (reads : Rd → ReadHalf) (writes : W → WrittenHalf) (s : Config) (roles : List Role)
+    (workers : ℕ) (report : Report Rd W A) : Type 0 where
+  pub legal : IsLegal s (reverse report.history.items)
+  pub each : (length report.links.items ≡ length roles) × (length report.workers.items ≡ workers)
+  pub own : AreOwn report × (list_all (λ step. nat_lt step.actor (number_in report House + 1)) report.history.items ≡ true)
+  pub links : (k : ℕ) (role : Role) (link : LinkReport Rd W A) → k < length report.links.items
+      → LinkHolds reads writes (most_reads s.numbers.steps) batch roles report k (slice_index_or roles k role) (slice_index_or report.links.items k link)
+  -- the workers made no event but Route, and the house none but Route and Originate; at the end nothing is in flight
+  pub routes : ((a : ℕ) → number_in report (Worker 0) ≤ a → a < number_in report House → AreRoutes (slice_index_or (receipts_of report) a []))
+      × (are_houses true report.house.items ≡ true) × (is_settled report.history.items (length report.history.items) ≡ true)
+  pub stats : report.stats ≡ stats_of (reverse report.history.items)
+
+-- the headline of a run whose own servent sends descriptors, or not
+abbrev pub HoldsAs :
+    {Rd W A : Type 0} → Bool → ℕ → (Rd → ReadHalf) → (W → WrittenHalf) → Config → List Role → ℕ → Report Rd W A → Type 0
+HoldsAs false batch reads writes s roles workers report = Holds batch reads writes s roles workers report
+HoldsAs true batch reads writes s roles workers report = HoldsOriginating batch reads writes s roles workers report
 
 -- what follows of a run of which the headline holds
 pub record Follows {Rd W A : Type 0} (report : Report Rd W A) : Type 0 where

@@ -1,6 +1,6 @@
 -- A run from where it is opened to what is left of it.
 use Rattle.std.specs.Prelude.{◌≡◌, ◌≤◌, ◌==◌, ℕ, Bool, true, false, List, [], length, map, reverse, IfSome, Option, None, Some, vec_len}
-use Rattle.std.specs.List.{list_all}
+use Rattle.std.specs.List.{list_all, slice_get}
 use Rattle.gn_rules.specs.declared.config.Config.{Config}
 use Rattle.gn_rules.specs.declared.receipt.Receipt.{Receipt}
 use Rattle.gn_rules.specs.declared.receipt.Step.{Step}
@@ -29,13 +29,21 @@ use Rattle.gn_start.specs.declared.fault.RunFault.{RunFault}
 use Rattle.gn_start.specs.declared.over.Over.{Over}
 use Rattle.gn_start.specs.declared.opening.Opened.{Opened}
 
--- a run is opened for links that come in these roles: nobody is out, no intake is made, there are 1 to 64 workers, and no more links come
--- than have numbers, or it isn't known which do
-pub record IsOpenedFor {B A : Type 0} (is_known : Bool) (roles : ℕ → Option Role) (opened : Opened B A) : Type 0 where
+-- of links in these roles, of which this is known beforehand, link k may come so
+abbrev pub may_in : {F : Type 0} → List Role → List F → ℕ → Role → F → Type 0
+may_in roles coming k role known = (slice_get roles k ≡ Some role) × (slice_get coming k ≡ Some known)
+
+-- they are over once so many have come
+abbrev pub ends_in : List Role → ℕ → Type 0
+ends_in roles k = slice_get roles k ≡ None
+
+-- a run is opened for links that may be over so: nobody is out, no intake is made, there are 1 to 64 workers, and no more links come
+-- than have numbers, or it isn't known when all have come
+pub record IsOpenedFor {B A : Type 0} (is_known : Bool) (ends : ℕ → Type 0) (opened : Opened B A) : Type 0 where
   pub registry : opened.registry ≡ registry_state [] 0 []
   pub reception : (opened.reception.made.intakes ≡ 0) × (opened.reception.is_open ≡ true)
   pub crew : (vec_len opened.outlets ≡ workers_of opened.numbering) × IsCrew (vec_len opened.outlets)
-  pub known : (links workers : ℕ) → opened.numbering ≡ Known links workers → (links ≤ most_links) × (roles links ≡ None)
+  pub known : (links workers : ℕ) → opened.numbering ≡ Known links workers → (links ≤ most_links) × ends links
   pub unknown : (workers : ℕ) → opened.numbering ≡ Open workers → is_known ≡ false
 
 -- a run that begins: what it is opened with, and where its links come from
@@ -67,10 +75,10 @@ pub record IsOverWith {Rd W B A O : Type 0} (views : LinkViews Rd W O) (turns ba
   pub routed : is_routing house.receipts ≡ true
 
 -- what is known of a run without a fault that has these steps, of which these are the links' accounts, the receipts of workers and house,
--- and what was counted as links ended
+-- and what was counted as links ended; what the house did is known beside it
 pub record IsGathered {Rd W A O : Type 0} (views : LinkViews Rd W O) (turns batch : ℕ) (steps : List (Step A))
     (links : List (LinkAccount Rd W A)) (workers : List (Unkept (Receipt A))) (house : Unkept (Receipt A)) (looks : Looks) : Type 0 where
   pub each : AllEnded turns batch views steps links
   pub counted : AreCounted looks (map (λ link. Some (Whole link)) links)
   pub own : AreWhole steps (all_receipts links workers house)
-  pub routes : (list_all is_routing (map unkept_list workers) ≡ true) × (is_routing house.items ≡ true)
+  pub routes : list_all is_routing (map unkept_list workers) ≡ true

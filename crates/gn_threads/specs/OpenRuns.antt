@@ -1,5 +1,5 @@
 -- What a run answers whose links come one after another.
-use Rattle.std.specs.Prelude.{◌≡◌, ◌<◌, ◌+◌, ◌^◌, ℕ, Bool, true, nat_lt, List, length, map, reverse, IfSome, Option, Some, Result, Ok, Err}
+use Rattle.std.specs.Prelude.{◌≡◌, ◌<◌, ◌+◌, ◌^◌, ℕ, Bool, true, nat_lt, List, length, map, reverse, IfSome, Some, Result, Ok, Err}
 use Rattle.std.specs.List.{list_all, slice_get}
 use Rattle.std.proofs.Math.Path.{subst, sym}
 use Rattle.std.proofs.lemmas.List.{length-map}
@@ -17,7 +17,7 @@ use Rattle.gn_renumber.specs.Renumbered.{known_number, renumbered}
 use Rattle.gn_start.specs.Faults.{IsArrivingFault}
 use Rattle.gn_start.specs.declared.fault.RunFault.{RunFault}
 use Rattle.gn_threads.specs.Answers.{AreArrived}
-use Rattle.gn_threads.specs.Headline.{Holds}
+use Rattle.gn_threads.specs.Headline.{HoldsAs}
 use Rattle.gn_report.specs.declared.looks.Looks.{Looks}
 use Rattle.gn_threads.specs.Left.{IsGathered}
 use Rattle.gn_threads.specs.declared.halted.Halted.{Halted}
@@ -48,24 +48,23 @@ known_account {Rd} {W} {A} account = record {
 abbrev pub known_report : {Rd W A : Type 0} → OpenAccount Rd W A → Report Rd W A
 known_report account = report_of (known_account account)
 
--- what holds of the account of an open run of this configuration and of so many workers
-pub record IsOpenEnded {Rd W A O : Type 0} (views : LinkViews Rd W O) (batch : ℕ) (s : Config) (workers : ℕ) (account : OpenAccount Rd W A) : Type 0 where
+-- what holds of the account of an open run of this configuration and of so many workers, whose own servent sends descriptors or not
+pub record IsOpenEnded {Rd W A O : Type 0} (originates : Bool) (views : LinkViews Rd W O) (batch : ℕ) (s : Config) (workers : ℕ) (account : OpenAccount Rd W A) : Type 0 where
   -- its history is legal, and no step is of anybody but its actors
   pub legal : IsLegal s (reverse account.history.items)
   pub only : list_all (λ step. nat_lt step.actor (1 + workers + (length account.links.items + length account.links.items))) account.history.items ≡ true
   -- the headline holds of its report in the numbers of known links, which are these
-  pub holds : Holds batch views.reads views.writes s (map (λ link. link.role) account.links.items) workers (known_report account)
+  pub holds : HoldsAs originates batch views.reads views.writes s (map (λ link. link.role) account.links.items) workers (known_report account)
   -- each reader read what the link that it was made of gives, and both halves of a link were made of one
   pub arrived : AreArrived views.reads views.gives views.reader_of views.writer_of (known_report account)
 
--- what such a run answers whose links were to come in these roles, and of which this was known before they came
-pub record IsOpenAnswer {Rd W A O F : Type 0} (views : LinkViews Rd W O) (foreknown : O → F) (batch : ℕ) (s : Config) (workers : ℕ)
-    (roles : ℕ → Option Role) (coming : ℕ → Option F) (account : OpenAccount Rd W A) : Type 0 where
-  pub ended : IsOpenEnded views batch s workers account
-  -- the links are the first of those that were to come
-  pub roles_are : (k : ℕ) (link : LinkAccount Rd W A) → slice_get account.links.items k ≡ Some link → roles k ≡ Some link.role
-  pub were_to_come : (k : ℕ) (link : LinkAccount Rd W A) → slice_get account.links.items k ≡ Some link
-      → coming k ≡ Some (foreknown (views.reader_of link.reader))
+-- what such a run answers whose links might come so: link k in this role, where this was known of it before it came
+pub record IsOpenAnswer {Rd W A O F : Type 0} (originates : Bool) (views : LinkViews Rd W O) (foreknown : O → F) (batch : ℕ) (s : Config) (workers : ℕ)
+    (may : ℕ → Role → F → Type 0) (account : OpenAccount Rd W A) : Type 0 where
+  pub ended : IsOpenEnded originates views batch s workers account
+  -- each link came as it might
+  pub may_come : (k : ℕ) (link : LinkAccount Rd W A) → slice_get account.links.items k ≡ Some link
+      → may k link.role (foreknown (views.reader_of link.reader))
 
 -- a fault of a run over some number of links
 abbrev pub IsOpenFault : Bool → ℕ → RunFault → Type 0

@@ -1,11 +1,12 @@
 //! A run whose links come one after another.
 
-ghost use Rattle.std.specs.Prelude.{◌≡◌, ◌<◌, ◌≤◌, ◌^◌, [], None, length, take, true, vec_len, IfErr, IfOk, IfSome};
+ghost use Rattle.std.specs.Prelude.{◌≡◌, ◌<◌, ◌≤◌, ◌^◌, [], None, length, take, vec_len, IfErr, IfOk, IfSome};
 ghost use Rattle.gn_rules.specs.Limits.{IsCrew, most_links, most_reads};
 ghost use Rattle.gn_actors.specs.Who.{number_of};
 ghost use Rattle.gn_actors.specs.declared.who.Who.TheVariants.{House};
-ghost use Rattle.gn_report.specs.Accounts.{is_routing, report_of};
+ghost use Rattle.gn_report.specs.Accounts.{report_of};
 ghost use Rattle.gn_start.specs.Faults.{IsArrivingFault};
+ghost use Rattle.gn_start.specs.House.{IsHouse};
 ghost use Rattle.gn_start.specs.Numbers.{workers_of};
 ghost use Rattle.gn_start.specs.Over.{HaveCome, IsOver, views_of};
 ghost use Rattle.gn_threads.specs.Answers.{AreArrived, IsKeptAnswer, IsRunAnswer, halted_views, stopped_views};
@@ -272,9 +273,8 @@ where
     ensures over { IsOver (views_of V.Reader.state V.Writer.state V.Reader.gives V.Reader.made_of V.Writer.made_of)
         K.keeps B.turns B.batch begun.opened.numbering (workers_of begun.opened.numbering) result.0.over }
     ensures came { HaveCome (views_of V.Reader.state V.Writer.state V.Reader.gives V.Reader.made_of V.Writer.made_of)
-        V.foreknown V.is_known (V.roles begun.incoming) (V.coming begun.incoming) result.0.over }
-    ensures house { (result.0.house.number ≡ number_of begun.opened.numbering House)
-        × (is_routing result.0.house.receipts ≡ true) }
+        V.foreknown V.is_known (V.may_come begun.incoming) (V.may_end begun.incoming) result.0.over }
+    ensures house { IsHouse (V.originates begun.incoming) (number_of begun.opened.numbering House) result.0.house }
     ensures fault { IsFaultAt V.has_peers begun.opened.numbering result.0.over result.0.fault }
     ensures follows { W.follows course result.1 }
 {

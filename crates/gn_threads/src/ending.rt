@@ -1,15 +1,15 @@
 //! A run from its first link until the house is done.
 
-ghost use Rattle.std.specs.Prelude.{◌≡◌, [], None, true, IfSome};
+ghost use Rattle.std.specs.Prelude.{◌≡◌, []};
 ghost use Rattle.gn_actors.specs.Who.{number_of};
 ghost use Rattle.gn_actors.specs.declared.who.Who.TheVariants as who;
-ghost use Rattle.gn_report.specs.Accounts.{is_routing};
+ghost use Rattle.gn_start.specs.House.{IsHouse};
 ghost use Rattle.gn_start.specs.Numbers.{workers_of};
 ghost use Rattle.gn_start.specs.Over.{HaveCome, IsOver, views_of};
 ghost use Rattle.gn_threads.specs.Left.{IsFaultAt, IsOpenedFor};
 
 use crate::settling::{Left, wind_up};
-use gn_actors::{Named, Who};
+use gn_actors::Named;
 use gn_links::Gate;
 use gn_report::Keeping;
 use gn_rules::RouterCore;
@@ -44,7 +44,7 @@ impl<V: Incoming, K: Keeping<V::Reader, V::Writer, A>, B: Site + Ledger + Named,
 
     ghost view = { λ b. record { opened = b.opened; incoming = b.incoming } };
 
-    ghost invariant = { λ b. IsOpenedFor V.is_known (V.roles b.incoming) b.opened × K.keeps b.keeper [] };
+    ghost invariant = { λ b. IsOpenedFor V.is_known (V.may_end b.incoming) b.opened × K.keeps b.keeper [] };
 }
 
 impl<
@@ -55,7 +55,7 @@ impl<
 > Begun<V, K, B, A> {
     /// Of these links, with who has kept nothing.
     pub(crate) fn new(opened: Opened<B, A>, incoming: V, keeper: K) -> Self
-        requires opened { IsOpenedFor V.is_known (V.roles incoming) opened }
+        requires opened { IsOpenedFor V.is_known (V.may_end incoming) opened }
         requires keeper { K.keeps keeper [] }
         ensures { (result.opened ≡ opened) × (result.incoming ≡ incoming) }
     {
@@ -83,9 +83,8 @@ where
     ensures over { IsOver (views_of V.Reader.state V.Writer.state V.Reader.gives V.Reader.made_of V.Writer.made_of)
         K.keeps B.turns B.batch begun.opened.numbering (workers_of begun.opened.numbering) result.over }
     ensures came { HaveCome (views_of V.Reader.state V.Writer.state V.Reader.gives V.Reader.made_of V.Writer.made_of)
-        V.foreknown V.is_known (V.roles begun.incoming) (V.coming begun.incoming) result.over }
-    ensures house { (result.house.number ≡ number_of begun.opened.numbering who.House)
-        × (is_routing result.house.receipts ≡ true) }
+        V.foreknown V.is_known (V.may_come begun.incoming) (V.may_end begun.incoming) result.over }
+    ensures house { IsHouse (V.originates begun.incoming) (number_of begun.opened.numbering who.House) result.house }
     ensures fault { IsFaultAt V.has_peers begun.opened.numbering result.over result.fault }
 {
     let Begun {
@@ -93,14 +92,6 @@ where
         incoming,
         keeper,
     } = begun;
-    let number = opened.numbering.number_of(Who::House);
-    let (over, stagework) = run_links(floor, opened, incoming, keeper);
-    wind_up(
-        floor.rt,
-        floor.alloc,
-        floor.service,
-        over,
-        stagework,
-        number,
-    )
+    let (over, stagework, house) = run_links(floor, opened, incoming, keeper);
+    wind_up(floor.rt, floor.alloc, floor.service, over, stagework, house)
 }

@@ -71,10 +71,9 @@ where
     requires empty { C.steps routing.core ≡ [] }
     ensures answer { IsKeptAnswer asked.now.config.now asked.now.workers (IsOpenFault V.has_peers asked.now.workers)
         (λ _. ⊤) (λ _. ⊤) known_report halted_views result.0 }
-    ensures account { IfOk result.0 (IsOpenAnswer
+    ensures account { IfOk result.0 (IsOpenAnswer (V.originates entering.entry.incoming)
         (views_of V.Reader.state V.Writer.state V.Reader.gives V.Reader.made_of V.Writer.made_of) V.foreknown
-        asked.now.batch asked.now.config.now asked.now.workers (V.roles entering.entry.incoming)
-        (V.coming entering.entry.incoming)) }
+        asked.now.batch asked.now.config.now asked.now.workers (V.may_come entering.entry.incoming)) }
     ensures keeper { IfOk result.0 (λ account.
         K.keeps result.1 (map (λ link. Some (Whole link)) account.links.items)) }
     ensures rest { IsLeft (W.follows routing.course) W.leaves result.2 (AreOpenStepsOf result.0) }
@@ -151,10 +150,9 @@ where
     requires empty { C.steps routing.core ≡ [] }
     ensures answer { IsKeptAnswer asked.now.config.now asked.now.workers (IsOpenFault V.has_peers asked.now.workers)
         (λ _. ⊤) (λ _. ⊤) known_report halted_views result.0 }
-    ensures account { IfOk result.0 (IsOpenAnswer
+    ensures account { IfOk result.0 (IsOpenAnswer (V.originates entering.entry.incoming)
         (views_of V.Reader.state V.Writer.state V.Reader.gives V.Reader.made_of V.Writer.made_of) V.foreknown
-        B.batch asked.now.config.now asked.now.workers (V.roles entering.entry.incoming)
-        (V.coming entering.entry.incoming)) }
+        B.batch asked.now.config.now asked.now.workers (V.may_come entering.entry.incoming)) }
     ensures keeper { IfOk result.0 (λ account.
         K.keeps result.1 (map (λ link. Some (Whole link)) account.links.items)) }
     ensures rest { IsLeft (W.follows routing.course) W.leaves result.2 (AreOpenStepsOf result.0) }

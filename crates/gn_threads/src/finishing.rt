@@ -3,7 +3,7 @@
 ghost use Rattle.std.specs.Prelude.{◌≡◌, ◌+◌, ◌<◌, ◌≤◌, Bool, false, None, ℕ, length, map, reverse, true, vec_len, IfErr, IfOk, IfSome};
 ghost use Rattle.gn_rules.specs.Answer.{IsLegal};
 ghost use Rattle.gn_rules.specs.Limits.{most_links, most_reads, most_workers};
-ghost use Rattle.gn_report.specs.Accounts.{report_of};
+ghost use Rattle.gn_report.specs.Accounts.{is_routing, report_of};
 ghost use Rattle.gn_report.specs.declared.account.LinkEnd.TheVariants.{Whole};
 ghost use Rattle.gn_start.specs.Faults.{IsArrivingFault, IsFaultOf};
 ghost use Rattle.gn_start.specs.Over.{AllEnded, views_of};
@@ -18,8 +18,7 @@ use crate::settling::Left;
 use gn_actors::Named;
 use gn_hub::{Actor, Hub};
 use gn_report::{
-    Account, Kept, LinkAccount, LinkTally, Looks, Unkept, ended_is_seen, seen_is_confirmed,
-    unkept_steps,
+    Account, Kept, LinkAccount, LinkTally, Looks, Unkept, ended_is_seen, unkept_steps,
 };
 use gn_rules::{Config, Receipt, RouterCore, Step, is_same_config};
 use gn_start::{Incoming, Limited, Over, RunFault};
@@ -87,6 +86,7 @@ fn gather<V: Incoming, L: Ledger + Limited + Named, C: RouterCore<A>, A: Allocat
     ensures gathered { IfOk result (λ all. IsGathered
         (views_of V.Reader.state V.Writer.state V.Reader.gives V.Reader.made_of V.Writer.made_of)
         L.turns L.batch hub.new.steps all.links.items all.workers.items all.house all.looks) }
+    ensures house { IfOk result (λ all. is_routing all.house.items ≡ true) }
     ensures links { IfOk result (λ all. over.links.items ≡ map (λ link. Whole link) all.links.items) }
     ensures workers { IfOk result (λ all. vec_len all.workers ≡ vec_len over.workers) }
 {
@@ -132,6 +132,7 @@ fn account_of<V: Incoming, L: Limited, C: RouterCore<A>, A: Allocator + Copy>(
         (views_of V.Reader.state V.Writer.state V.Reader.gives V.Reader.made_of V.Writer.made_of)
         (most_reads config.now.numbers.steps) L.batch (C.steps core.now) all.links.items all.workers.items all.house
         all.looks }
+    requires house { is_routing all.house.items ≡ true }
     requires calm { IsCalm config.now (C.settings core.now) (C.steps core.now) all.looks }
     requires few { (vec_len all.links ≤ most_links) × (vec_len all.workers ≤ most_workers) }
     ensures holds { Holds L.batch V.Reader.state V.Writer.state config.now
@@ -140,7 +141,6 @@ fn account_of<V: Incoming, L: Limited, C: RouterCore<A>, A: Allocator + Copy>(
     ensures steps { result.history.items ≡ C.steps core.now }
 {
     core.is_legal();
-    seen_is_confirmed::<V::Reader, V::Writer, A>();
     ended_is_seen::<V::Reader, V::Writer, A, V::Origin>();
     let Gathered {
         links,

@@ -19,7 +19,7 @@ pub(crate) struct InOrder<'r, V> {
 
 impl<'r, V: Arrivals> Incoming for InOrder<'r, V> {
     ghost use Rattle.std.specs.Prelude.{true};
-    ghost use Rattle.std.specs.List.{slice_get};
+    ghost use Rattle.gn_threads.specs.Left.{ends_in, may_in};
 
     type Origin = V::Origin;
 
@@ -35,9 +35,9 @@ impl<'r, V: Arrivals> Incoming for InOrder<'r, V> {
 
     ghost foreknown = { V.foreknown };
 
-    ghost coming = { λ order k. slice_get (V.coming order.arrivals) k };
+    ghost may_come = { λ order k role known. may_in order.roles.now (V.coming order.arrivals) k role known };
 
-    ghost roles = { λ order k. slice_get order.roles.now k };
+    ghost may_end = { λ order k. ends_in order.roles.now k };
 
     fn next<R: Wait>(
         &mut self,

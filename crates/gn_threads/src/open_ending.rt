@@ -5,7 +5,7 @@ ghost use Rattle.gn_rules.specs.Answer.{IsLegal};
 ghost use Rattle.gn_rules.specs.Limits.{most_reads};
 ghost use Rattle.gn_actors.specs.Registry.{AreWhole};
 ghost use Rattle.gn_actors.specs.declared.who.Numbering.TheVariants.{Open};
-ghost use Rattle.gn_report.specs.Accounts.{is_routing, unkept_list};
+ghost use Rattle.gn_report.specs.Accounts.{are_houses, unkept_list};
 ghost use Rattle.gn_report.specs.declared.account.LinkEnd.TheVariants.{Whole};
 ghost use Rattle.gn_start.specs.Faults.{IsFaultOf};
 ghost use Rattle.gn_start.specs.Over.{IsOver, views_of};
@@ -25,8 +25,7 @@ use gn_actors::{Named, Registry};
 use gn_hub::{Actor, Hub};
 use gn_renumber::{moved_is_alike, moved_is_legal, renumbered_is_only, renumbered_is_own};
 use gn_report::{
-    Keeping, LinkAccount, LinkEnd, Looks, Unkept, ended_is_seen, seen_is_confirmed, unkept_steps,
-    unkept_trail,
+    Keeping, LinkAccount, LinkEnd, Looks, Unkept, ended_is_seen, unkept_steps, unkept_trail,
 };
 use gn_rules::{Config, Receipt, RouterCore};
 use gn_start::{Incoming, Limited, Over, RunFault};
@@ -86,14 +85,13 @@ fn make_account<V: Incoming, L: Limited, C: RouterCore<A>, A: Allocator + Copy>(
         (most_reads config.now.numbers.steps) L.batch (C.steps core.now) all looks.now }
     requires calm { IsCalm config.now (C.settings core.now) (C.steps core.now) looks.now }
     requires numbered { length all.links.items + length all.links.items + length all.workers.items + 1 < 2 ^ 32 }
-    ensures ended { IsOpenEnded
+    ensures ended { (originates : Bool) → are_houses originates all.house.items ≡ true → IsOpenEnded originates
         (views_of V.Reader.state V.Writer.state V.Reader.gives V.Reader.made_of V.Writer.made_of)
         L.batch config.now (vec_len all.workers) result }
     ensures links { result.links ≡ all.links }
     ensures steps { result.history.items ≡ C.steps core.now }
 {
     core.is_legal();
-    seen_is_confirmed::<V::Reader, V::Writer, A>();
     ended_is_seen::<V::Reader, V::Writer, A, V::Origin>();
     moved_is_legal::<A>();
     moved_is_alike::<A>();
@@ -124,13 +122,14 @@ where
     requires over { IsOver (views_of V.Reader.state V.Writer.state V.Reader.gives V.Reader.made_of V.Writer.made_of)
         K.keeps L.turns L.batch (Open (vec_len over.workers)) (vec_len over.workers) over }
     requires well { over.fault ≡ None }
-    requires house { (house.number ≡ 0) × (is_routing house.receipts ≡ true) }
+    requires house { house.number ≡ 0 }
     requires turns { L.turns ≡ most_reads config.now.numbers.steps }
     ensures fault { IfErr result.0 (λ fault. (links workers : ℕ)
         → house.number < links + links + workers + 1 → IsFaultOf links workers fault) }
     ensures same { hub.new ≡ hub.old }
     ensures keeper { result.1 ≡ over.keeper }
-    ensures ended { IfOk result.0 (λ account. IsOpenEnded
+    ensures ended { IfOk result.0 (λ account. (originates : Bool) → are_houses originates house.receipts ≡ true
+        → IsOpenEnded originates
         (views_of V.Reader.state V.Writer.state V.Reader.gives V.Reader.made_of V.Writer.made_of)
         L.batch config.now (vec_len over.workers) account) }
     ensures links { IfOk result.0 (λ account. over.links.items ≡ map (λ link. Whole link) account.links.items) }
@@ -178,7 +177,7 @@ where
     requires over { IsOver (views_of V.Reader.state V.Writer.state V.Reader.gives V.Reader.made_of V.Writer.made_of)
         K.keeps L.turns L.batch (Open workers) workers left.over }
     requires stopped { left.fault ≡ None → left.over.fault ≡ None }
-    requires house { (left.house.number ≡ 0) × (is_routing left.house.receipts ≡ true) }
+    requires house { left.house.number ≡ 0 }
     requires turns { L.turns ≡ most_reads config.now.numbers.steps }
     ensures same { hub.new ≡ hub.old }
     ensures fault { IfErr result.0 (λ halted. (has_peers : Bool)
@@ -187,7 +186,8 @@ where
         IsLegal config.now (reverse history.items))) }
     ensures full { IfErr result.0 (λ halted. halted.fault ≡ HistoryFull → IfSome halted.history (λ history.
         length history.items ≡ config.now.numbers.steps)) }
-    ensures ended { IfOk result.0 (λ account. IsOpenEnded
+    ensures ended { IfOk result.0 (λ account. (originates : Bool)
+        → are_houses originates left.house.receipts ≡ true → IsOpenEnded originates
         (views_of V.Reader.state V.Writer.state V.Reader.gives V.Reader.made_of V.Writer.made_of)
         L.batch config.now workers account) }
     ensures links { IfOk result.0 (λ account. (left.fault ≡ None)

@@ -1,10 +1,9 @@
 //! What is left of a run once its threads are joined: its stage is drained, and the house routes the rest.
 
-ghost use Rattle.std.specs.Prelude.{◌≡◌, ◌+◌, ◌<◌, ◌^◌, ℕ, Bool, None, true, IfSome};
-ghost use Rattle.gn_actors.specs.Registry.{IsOut, with_one_out};
+ghost use Rattle.std.specs.Prelude.{◌≡◌, ◌+◌, ◌<◌, ℕ, Bool, None, IfSome};
 ghost use Rattle.gn_bodies.specs.Events.{link_events};
-ghost use Rattle.gn_report.specs.Accounts.{is_routing};
 ghost use Rattle.gn_start.specs.Faults.{IsArrivingFault};
+ghost use Rattle.gn_start.specs.House.{IsHouse};
 
 use crate::house::route_left;
 use gn_actors::Named;
@@ -53,7 +52,7 @@ fn settle<B: Site + Ledger + Named, C: RouterCore<A> + Drop, A: Allocator + Copy
     }
 }
 
-/// What is left of a run whose threads left this, with the house, which has this number.
+/// What is left of a run whose threads left this, with the house, as it is by then.
 pub(crate) fn wind_up<
     B: Site + Ledger + Named,
     C: RouterCore<A> + Drop,
@@ -68,19 +67,17 @@ pub(crate) fn wind_up<
     service: &Service<C, B, A>,
     over: Over<Rd, W, K, B, A>,
     stagework: Stagework<B, A>,
-    number: u32,
+    house: Actor<B, A>,
 ) -> Left<Rd, W, K, B, A>
-    requires out { IsOut over.registry number }
-    requires room { over.registry.out + 1 < 2 ^ 32 }
-    ensures over { result.over ≡ record over { registry = with_one_out over.registry } }
-    ensures house { (result.house.number ≡ number) × (is_routing result.house.receipts ≡ true) }
+    ensures over { result.over ≡ over }
+    ensures house { (originates : Bool) (number : ℕ) → IsHouse originates number house
+        → IsHouse originates number result.house }
     ensures stopped { result.fault ≡ None → over.fault ≡ None }
     ensures fault { IfSome result.fault (λ fault. (has_peers : Bool) (links workers : ℕ)
         → IfSome over.fault (λ fault. IsArrivingFault has_peers links workers fault)
-        → number < links + links + workers + 1 → IsArrivingFault has_peers links workers fault) }
+        → house.number < links + links + workers + 1 → IsArrivingFault has_peers links workers fault) }
 {
-    let mut over = over;
-    let mut house = over.registry.send(number);
+    let mut house = house;
     let fault = settle(rt, alloc, service, &mut house, stagework, over.fault);
     Left { over, house, fault }
 }

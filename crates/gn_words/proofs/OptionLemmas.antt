@@ -6,7 +6,9 @@ use Rattle.std.specs.Option.{option_map_or}
 use Rattle.std.specs.Str.{bytes_eq}
 use Rattle.clap.specs.Words.{Row, Text, first_of}
 use Rattle.gn_numbers.specs.Numbers.{number_of, ◌>>=◌}
-use Rattle.gn_words.specs.Options.{IsReadAs, accept_of, number_asked, number_between}
+use Rattle.gn_words.specs.Options.{IsReadAs, accept_of, number_asked, number_between, retry_for, retry_of}
+use Rattle.gn_words.specs.declared.request.Retry.{Retry}
+use Rattle.gn_words.specs.declared.request.Retry.TheVariants.{Always}
 use Rattle.gn_words.specs.declared.unread.Unread.{Unread}
 use Rattle.gn_words.specs.declared.unread.Unread.TheVariants.{Mistake, NoMemory}
 
@@ -46,6 +48,25 @@ pub unread_too : (rows : List Row) (unread : Unread) → is_any rows ≡ false �
     → IsReadAs {T = Option ℕ} (λ accept. accept) (accept_of rows) (Err unread)
 unread_too rows (Mistake text) not_any none = many_asked rows None not_any none
 unread_too rows NoMemory not_any none = tt
+
+-- whether a peer is called for as long as the router runs
+abbrev pub is_always : List Row → Bool
+is_always rows = option_map_or (λ text. bytes_eq text (codes "always")) (first_of (codes "retry") rows) false
+
+pub always_asked : (rows : List Row) → is_always rows ≡ true → retry_of rows ≡ Some Always
+always_asked rows is =
+    ap (λ (b : Bool). if b then Some Always else option_map retry_for (number_asked (codes "retry") 0 86400 rows)) is
+
+-- otherwise for as long as the number says
+pub seconds_asked : (rows : List Row) (asked : Option ℕ) → is_always rows ≡ false → number_asked (codes "retry") 0 86400 rows ≡ asked → retry_of rows ≡ option_map retry_for asked
+seconds_asked rows asked not_always is =
+    ap (λ (b : Bool). if b then Some Always else option_map retry_for (number_asked (codes "retry") 0 86400 rows)) not_always ∙ ap (option_map retry_for) is
+
+-- where that can't be read, it isn't known
+pub unread_retry : (rows : List Row) (unread : Unread) → is_always rows ≡ false → IsReadAs {T = ℕ} (λ n. n) (number_asked (codes "retry") 0 86400 rows) (Err unread)
+    → IsReadAs {T = Retry} (λ retry. retry) (retry_of rows) (Err unread)
+unread_retry rows (Mistake text) not_always none = seconds_asked rows None not_always none
+unread_retry rows NoMemory not_always none = tt
 
 -- where the callers are limited that are asked for, they are few
 pub accept_within : (accept : Option ℕ) (rows : List Row) → accept_of rows ≡ Some accept → unwrap_or accept 0 ≤ 128

@@ -5,6 +5,8 @@ use Rattle.gn_rules.specs.declared.limits.Numbers.{Numbers}
 use Rattle.gn_text.specs.Addresses.{ip_text}
 use Rattle.gn_words.specs.ServeOptions.{AskedServe}
 use Rattle.gn_words.specs.declared.request.Peer.{Peer}
+use Rattle.gn_words.specs.declared.request.Retry.{Retry}
+use Rattle.gn_words.specs.declared.request.Retry.TheVariants.{Never, For, Always}
 use Rattle.gn_words.specs.declared.request.Servent.{Servent}
 use Rattle.gn_words.specs.declared.request.Servent.TheVariants.{Given, Random}
 use Rattle.hex.specs.Hex.{encode_lower}
@@ -65,10 +67,17 @@ shared_lines serving = numbers_lines ((codes "files", serving.files) ∷ (codes 
 abbrev pub seconds_of : Option ℕ → ℕ
 seconds_of limit = unwrap_or limit 0
 
--- when a peer is given up, and how much is done at once
+-- for how long a peer is called again
+abbrev pub retry_text : Retry → Text
+retry_text Never = decimal 0
+retry_text (For seconds) = decimal seconds
+retry_text Always = codes "always"
+
+-- when a peer is given up, how one is found that has gone, and how much is done at once
 abbrev pub patience_lines : AskedServe → Text
-patience_lines serving = numbers_lines
-    ((codes "idle", seconds_of serving.idle) ∷ (codes "retry", seconds_of serving.retry) ∷ (codes "batch", serving.batch) ∷ [])
+patience_lines serving =
+    numbers_lines ((codes "idle", seconds_of serving.idle) ∷ []) ++ option_line (codes "retry") (retry_text serving.retry)
+    ++ numbers_lines ((codes "ping", seconds_of serving.ping) ∷ (codes "batch", serving.batch) ∷ [])
 
 -- the numbers of the rules
 abbrev pub rules_lines : Numbers → Text

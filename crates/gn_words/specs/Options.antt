@@ -1,5 +1,5 @@
 -- What the values of options say.
-use Rattle.std.specs.Prelude.{◌≡◌, ◌∷◌, ◌++◌, ◌==◌, ◌&&◌, ℕ, Bool, false, List, [], Option, Some, None, Result, Ok, Err, codes, length, nat_le, option_map, slice_index, unwrap_or, if◌then◌else◌}
+use Rattle.std.specs.Prelude.{◌≡◌, ◌∷◌, ◌++◌, ◌==◌, ◌&&◌, ℕ, Bool, false, List, [], Option, Some, None, Result, Ok, Err, codes, is_some, length, nat_le, option_map, slice_index, unwrap_or, if◌then◌else◌}
 use Rattle.std.specs.List.{slice_split}
 use Rattle.std.specs.Option.{option_map_or}
 use Rattle.std.specs.Str.{bytes_eq}
@@ -12,6 +12,8 @@ use Rattle.gn_numbers.specs.Numbers.{number_below, number_of, ◌>>=◌}
 use Rattle.gn_words.specs.ServeOptions.{AskedServe}
 use Rattle.gn_words.specs.declared.serve.Times.{Times}
 use Rattle.gn_words.specs.declared.request.Peer.{Peer}
+use Rattle.gn_words.specs.declared.request.Retry.{Retry}
+use Rattle.gn_words.specs.declared.request.Retry.TheVariants.{Never, For, Always}
 use Rattle.gn_words.specs.declared.request.Servent.{Servent}
 use Rattle.gn_words.specs.declared.request.Servent.TheVariants.{Given, Random}
 use Rattle.gn_words.specs.declared.unread.Unread.{Unread}
@@ -115,20 +117,44 @@ accept_of rows =
     if option_map_or (λ text. bytes_eq text (codes "any")) (first_of (codes "accept") rows) false then Some None
     else option_map Some (number_asked (codes "accept") 0 128 rows)
 
+-- the seconds between two Pings of the own servent, where it is asked for any, as it is only where any number of callers is taken
+abbrev pub ping_of : Option ℕ → List Row → Option (Option ℕ)
+ping_of accept rows = do
+  seconds ← number_asked (codes "ping") 0 86400 rows
+  if seconds == 0 then Some None else if is_some accept then None else Some (Some seconds)
+
 -- the limit that a number of seconds says: none, where there are none
 abbrev pub limit_of : ℕ → Option ℕ
 limit_of seconds = if seconds == 0 then None else Some seconds
+
+-- for how long so many seconds say that a peer is called again
+abbrev pub retry_for : ℕ → Retry
+retry_for seconds = if seconds == 0 then Never else For seconds
+
+-- for how long a peer is called again that doesn't listen, for 0 to 86,400 seconds or always
+abbrev pub retry_of : List Row → Option Retry
+retry_of rows =
+    if option_map_or (λ text. bytes_eq text (codes "always")) (first_of (codes "retry") rows) false then Some Always
+    else option_map retry_for (number_asked (codes "retry") 0 86400 rows)
+
+-- the same, where a serve of so many callers, or of any number, takes it: always is taken with any number alone
+abbrev pub retry_with : Option ℕ → Retry → Option Retry
+retry_with (Some accept) Always = None
+retry_with (Some accept) Never = Some Never
+retry_with (Some accept) (For seconds) = Some (For seconds)
+retry_with None retry = Some retry
 
 -- the seconds of a serve's limits, where each is within its own: for a silent peer, a peer that doesn't listen, the run, its end
 abbrev pub times_of : List Row → Option Times
 times_of rows = do
   idle ← number_asked (codes "idle") 0 86400 rows
-  retry ← number_asked (codes "retry") 0 86400 rows
+  retry ← retry_of rows
   seconds ← number_asked (codes "for") 0 86400 rows
   grace ← number_asked (codes "grace") 0 3600 rows
-  Some (record { idle = limit_of idle; retry = limit_of retry; seconds = limit_of seconds; grace = grace })
+  Some (record { idle = limit_of idle; retry = retry; seconds = limit_of seconds; grace = grace })
 
--- what the options of a serve ask for, where each is within its limits
+-- what the options of a serve ask for, where each is within its limits, and peers are called for as long as it runs by one of any
+-- number of callers alone
 abbrev pub serving_of : List Row → Option AskedServe
 serving_of rows = do
   port ← number_asked (codes "port") 1 65535 rows
@@ -138,9 +164,11 @@ serving_of rows = do
   files ← word_of (codes "files") rows
   kilobytes ← word_of (codes "kilobytes") rows
   peers ← peers_of rows
+  ping ← ping_of accept rows
   batch ← batch_of rows
   numbers ← numbers_of rows
   times ← times_of rows
+  retry ← retry_with accept times.retry
   Some (record {
     port = port;
     accept = accept;
@@ -150,7 +178,8 @@ serving_of rows = do
     kilobytes = kilobytes;
     peers = peers;
     idle = times.idle;
-    retry = times.retry;
+    retry = retry;
+    ping = ping;
     batch = batch;
     numbers = numbers;
     seconds = times.seconds;

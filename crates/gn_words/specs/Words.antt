@@ -12,6 +12,7 @@ use Rattle.gn_words.specs.Options.{is_set, peer_of, peers_in, servent_in, servin
 use Rattle.gn_words.specs.ServeOptions.{AskedServe}
 use Rattle.gn_words.specs.declared.request.Request.{Request}
 use Rattle.gn_words.specs.declared.request.Request.TheVariants.{Replay, History, Audit, Explain, Unfinished, Show, Load, Watched, Serve, Config}
+use Rattle.gn_words.specs.declared.request.Retry.TheVariants.{Never, For, Always}
 use Rattle.gn_words.specs.declared.request.Servent.TheVariants.{Given, Random}
 use Rattle.gn_show.specs.declared.form.Form.TheVariants.{Json, Plain, Rows}
 use Rattle.gn_show.specs.declared.form.View.{View}
@@ -59,7 +60,8 @@ abbrev pub load_app : App
 load_app = with_rules (new_app (codes "load")) (workers_rule ∷ flag_rule (codes "progress") ∷ [])
 
 -- the subcommand `serve` before it is said what is printed: what has to be given and who the router is; whom it calls, when it
--- gives a peer up, and how many packets it writes to one at once; the numbers of its rules; what stops it, and how long it then has
+-- gives one up, how it finds one that has gone, and how many packets it writes to one at once; the numbers of its rules; what stops it,
+-- and how long it then has
 abbrev pub quiet_app : App
 quiet_app = with_rules (new_app (codes "serve"))
     (value_rule (codes "port")
@@ -71,6 +73,7 @@ quiet_app = with_rules (new_app (codes "serve"))
     ∷ repeated_rule (codes "peer")
     ∷ default_rule (codes "idle") (codes "0")
     ∷ default_rule (codes "retry") (codes "0")
+    ∷ default_rule (codes "ping") (codes "0")
     ∷ default_rule (codes "batch") (codes "64")
     ∷ default_rule (codes "neighbours") (codes "64")
     ∷ default_rule (codes "remembered") (codes "4096")
@@ -221,7 +224,8 @@ usual_serve =
       kilobytes = 0;
       peers = [];
       idle = None;
-      retry = None;
+      retry = Never;
+      ping = None;
       batch = 64;
       numbers = record {
         neighbours = 64;
@@ -257,7 +261,8 @@ full_serve =
       peers =
           record { ip = 127 ∷ 0 ∷ 0 ∷ 1 ∷ []; port = 6347 } ∷ record { ip = 127 ∷ 255 ∷ 0 ∷ 13 ∷ []; port = 1 } ∷ [];
       idle = Some 86400;
-      retry = Some 7;
+      retry = For 7;
+      ping = Some 30;
       batch = 1024;
       numbers = record {
         neighbours = 2;
@@ -314,6 +319,17 @@ pub record PlainWordsAreRead : Type 0 where
   pub full : (program : Text) → request_of (written_words program full_serve) ≡ Some (Serve full_serve)
   pub any : (program : Text) → request_of (serve_words program (codes "6346") (codes "any") (codes "64") [])
       ≡ Some (Serve (record usual_serve { accept = None }))
+  -- peers are called for as long as a serve of any number of callers runs; by one of so many that is a mistake
+  pub always : (program : Text)
+      → request_of (serve_words program (codes "6346") (codes "any") (codes "64") (codes "--retry" ∷ codes "always" ∷ []))
+      ≡ Some (Serve (record usual_serve { accept = None; retry = Always }))
+  pub not_always : (program : Text)
+      → kinds_of (serve_words program (codes "6346") (codes "1") (codes "1") (codes "--retry" ∷ codes "always" ∷ []))
+      ≡ ValueValidation ∷ []
+  -- its own servent sends Pings where any number of callers is taken alone
+  pub no_pings : (program : Text)
+      → kinds_of (serve_words program (codes "6346") (codes "1") (codes "1") (codes "--ping" ∷ codes "1" ∷ []))
+      ≡ ValueValidation ∷ []
   pub no_port : (program : Text)
       → kinds_of (serve_words program (codes "0") (codes "1") (codes "1") []) ≡ ValueValidation ∷ []
   pub accepts : (program : Text)

@@ -1,11 +1,11 @@
-//! How many callers a serve takes.
+//! How many callers a serve takes, and how it finds those that have gone.
 
 ghost use Rattle.std.specs.Prelude.{◌≡◌, IfOk, codes, decimal, false};
 ghost use Rattle.std.specs.Option.{option_map_or};
 ghost use Rattle.std.specs.Str.{bytes_eq};
 ghost use Rattle.clap.specs.Words.{found_of, rows_of};
 ghost use Rattle.gn_words.specs.ConfigTexts.{callers_text};
-ghost use Rattle.gn_words.specs.Options.{IsReadAs, accept_of};
+ghost use Rattle.gn_words.specs.Options.{IsReadAs, accept_of, ping_of};
 
 use crate::numbers::{NumberOption, asked};
 use crate::unread::Unread;
@@ -19,6 +19,14 @@ const ACCEPT: NumberOption = NumberOption {
     least: 0,
     most: 128,
     mistake: "--accept takes a number of 0 to 128, or any",
+};
+
+/// What `--ping` takes: at most a day.
+const PING: NumberOption = NumberOption {
+    name: "ping",
+    least: 0,
+    most: 86_400,
+    mistake: "--ping takes a number of seconds, 0 to 86400",
 };
 
 /// Whether a text says that any number of callers is taken.
@@ -42,6 +50,21 @@ pub(crate) fn accept_of(options: &ArgMatches<'_>) -> Result<Option<u32>, Unread>
         Ok(accept) => Ok(Some(accept)),
         Err(unread) => Err(unread),
     }
+}
+
+/// The seconds between two Pings of the own servent that `--ping` asks for; `None`: it sends none. A mistake, where not any number of callers
+/// is taken.
+pub(crate) fn ping_of(options: &ArgMatches<'_>, accept: Option<u32>) -> Result<Option<u32>, Unread>
+    ensures { IsReadAs (λ ping. ping) (ping_of accept (rows_of (found_of options.now))) result }
+{
+    let seconds = asked(options, &PING)?;
+    if seconds == 0 {
+        return Ok(None);
+    }
+    if accept.is_some() {
+        return Err(Unread::Mistake("--ping is taken only with --accept any"));
+    }
+    Ok(Some(seconds))
 }
 
 /// What says how many callers are taken.

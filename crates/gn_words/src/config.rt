@@ -5,6 +5,7 @@ ghost use Rattle.gn_words.specs.ConfigTexts.{config_text, end_lines, flag_line, 
 
 use crate::callers::callers_said;
 use crate::request::{Peer, ServeOptions, Servent};
+use crate::retrying::retry_said;
 use gn_text::{push_hex, push_ip, push_number};
 use std::alloc::{AllocError, Global};
 
@@ -155,18 +156,16 @@ fn push_shared(alloc: Global, out: &mut Vec<u8>, serving: &ServeOptions) -> Resu
     )
 }
 
-/// Appends when a peer is given up, and how much is done at once. An `Err` is out of memory.
+/// Appends when a peer is given up, how one is found that has gone, and how much is done at once. An `Err` is out of memory.
 fn push_patience(alloc: Global, out: &mut Vec<u8>, serving: &ServeOptions) -> Result<(), AllocError>
     ensures { OnOk result (out.new.items ≡ out.old.items ++ patience_lines serving.now) }
 {
+    push_numbers(alloc, out, &[("idle", seconds_of(serving.idle))])?;
+    push_option(out, "retry", &retry_said(alloc, serving.retry)?)?;
     push_numbers(
         alloc,
         out,
-        &[
-            ("idle", seconds_of(serving.idle)),
-            ("retry", seconds_of(serving.retry)),
-            ("batch", serving.batch),
-        ],
+        &[("ping", seconds_of(serving.ping)), ("batch", serving.batch)],
     )
 }
 

@@ -10,6 +10,7 @@ mod numbers;
 mod peers;
 mod replay;
 mod request;
+mod retrying;
 mod rows;
 mod serve;
 mod show;
@@ -17,5 +18,5 @@ mod unread;
 mod words;
 
 pub use config::config_text;
-pub use request::{Peer, Request, ServeOptions, Servent};
+pub use request::{Peer, Request, Retry, ServeOptions, Servent};
 pub use words::{plain_words_are_read, read_words};

@@ -38,6 +38,17 @@ pub struct Peer {
     pub port: u16,
 }
 
+/// For how long a peer that can't be called is called again.
+#[derive(Clone, Copy, Debug, PartialEq, Eq)]
+pub enum Retry {
+    /// It is called once.
+    Never,
+    /// For so many seconds.
+    For(u32),
+    /// For as long as the router runs, and again once it has gone.
+    Always,
+}
+
 /// Who a router is.
 #[derive(Clone, Copy, Debug, PartialEq, Eq)]
 pub enum Servent {
@@ -66,8 +77,10 @@ pub struct ServeOptions {
     pub peers: Vec<Peer>,
     /// The seconds after which a silent peer is given up; `None`: it never is.
     pub idle: Option<u32>,
-    /// The seconds for which a peer that doesn't listen is called again; `None`: it is called once.
-    pub retry: Option<u32>,
+    /// For how long a peer that doesn't listen is called again.
+    pub retry: Retry,
+    /// The seconds between two Pings of the own servent to its neighbours; `None`: it sends none.
+    pub ping: Option<u32>,
     /// How many packets are written to a neighbour at once at most.
     pub batch: u32,
     /// The numbers of the router's rules.
@@ -109,6 +122,7 @@ impl Model for ServeOptions {
       peers = s.peers.items;
       idle = s.idle;
       retry = s.retry;
+      ping = s.ping;
       batch = s.batch;
       numbers = s.numbers;
       seconds = s.seconds;

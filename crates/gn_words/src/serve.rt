@@ -7,10 +7,11 @@ ghost use Rattle.gn_rules.specs.Limits.{AreWithin, most};
 ghost use Rattle.gn_words.specs.Options.{IsReadAs, limit_of, number_asked, numbers_of, servent_in, servent_of, serving_of, times_of};
 ghost use Rattle.gn_words.specs.Words.{quiet_app, serve_app, serve_of};
 
-use crate::callers::accept_of;
+use crate::callers::{accept_of, ping_of};
 use crate::numbers::{NumberOption, WORKERS, WORKERS_ROW, asked};
 use crate::peers::peers_of;
-use crate::request::{Request, ServeOptions, Servent};
+use crate::request::{Request, Retry, ServeOptions, Servent};
+use crate::retrying::{retry_of, retry_with};
 use crate::rows::{OptionRow, Takes, with_options};
 use crate::unread::Unread;
 use crate::words::{is_set, leaf};
@@ -25,10 +26,11 @@ const ABOUT: &str = "Routes for peers on this machine over TCP, and prints the h
 /// How it is called.
 const USAGE: &str =
     "gn serve --port P --accept A --workers V [--servent HEX32] [--files N] [--kilobytes N]
-                [--peer IP:PORT].. [--idle SECONDS] [--retry SECONDS] [--batch N] [--neighbours N]
-                [--remembered N] [--servents N] [--stage N] [--queue N] [--life L] [--crowd Q]
-                [--steps N] [--for SECONDS] [--grace SECONDS] [--stop-early] [--until-eof]
-                [--keep-history] [--times] [--links] [--report] [--progress] [--print-config]";
+                [--peer IP:PORT].. [--idle SECONDS] [--retry SECONDS] [--ping SECONDS] [--batch N]
+                [--neighbours N] [--remembered N] [--servents N] [--stage N] [--queue N] [--life L]
+                [--crowd Q] [--steps N] [--for SECONDS] [--grace SECONDS] [--stop-early]
+                [--until-eof] [--keep-history] [--times] [--links] [--report] [--progress]
+                [--print-config]";
 
 /// What it does, how it ends, and what it prints, with an example.
 const TEXTS: &str = "\
@@ -41,9 +43,11 @@ router waits. A write that fails ends the run at its next step.
 
 A link ends as its peer closes it. Two routers that call each other and nobody else each wait for
 the other's end: `--idle 2` ends a link of which nothing was heard for 2 seconds. A router waits for
-its A callers without a limit. One whose run has failed, as by a full history, lets its peers go,
-and calls and waits for nobody else. A neighbour that has closed its socket keeps its place until
-something is written to it: `--idle` doesn't free it. It frees that of one which is silent.
+its A callers without a limit. With `--accept any` it takes callers until it is stopped. It then has
+places for 16 links more than `--neighbours` says, 256 at most; while all are taken, whoever calls
+waits. A router whose run has failed, as by a full history, lets its peers go, and calls and waits
+for nobody else. A neighbour that has closed its socket keeps its place until something is written
+to it, twice: `--ping` does that. `--idle` frees the place of one that is silent.
 
 Ctrl-C and a kill end the program at once. `gn audit --unfinished` reads what was written by then.
 Three ways stop it well, with its whole history: `--for`, in so many seconds; `--until-eof`, as
@@ -81,8 +85,9 @@ const OPTIONS: [OptionRow; 6] = [
         letter: None,
         takes: Takes::Value("A"),
         help: "\
-How many callers are taken in all, 0 to 128, whatever becomes of them; or any:
-as many as come for as long as it runs, as --neighbours says at once",
+How many callers are taken in all, 0 to 128, whatever becomes of them;
+or any: as many as come until it is stopped, of which as many are
+connected at once as --neighbours says",
     },
     WORKERS_ROW,
     OptionRow {
@@ -90,25 +95,29 @@ as many as come for as long as it runs, as --neighbours says at once",
         letter: None,
         takes: Takes::Unshown("HEX32", OWN_SERVENT),
         help: "\
-The router's own servent ID, 32 hex digits, or `random` for one that is drawn
-at its start; by default 47 sixteen times",
+The router's own servent ID, 32 hex digits, or `random` for one that is
+drawn at its start; by default 47 sixteen times",
     },
     OptionRow {
         name: "files",
         letter: None,
         takes: Takes::Usual("N", "0"),
-        help: "How many files its own Pongs say that it shares, 0 to 4294967295",
+        help: "\
+How many files its own Pongs say that it shares,
+0 to 4294967295",
     },
     OptionRow {
         name: "kilobytes",
         letter: None,
         takes: Takes::Usual("N", "0"),
-        help: "How many kilobytes its own Pongs say that it shares, 0 to 4294967295",
+        help: "\
+How many kilobytes its own Pongs say that it shares,
+0 to 4294967295",
     },
 ];
 
 /// Whom it calls, when it gives a peer up, and how it writes to one.
-const NEIGHBOURS: [OptionRow; 4] = [
+const NEIGHBOURS: [OptionRow; 5] = [
     OptionRow {
         name: "peer",
         letter: None,
@@ -129,7 +138,18 @@ A peer that is silent, or takes nothing, for so many seconds is given up,
         takes: Takes::Usual("SECONDS", "0"),
         help: "\
 A peer that doesn't listen yet is called again for so many seconds, while
-the others are served, 0 to 86400; 0: it is called once",
+the others are served, 0 to 86400; 0: it is called once; or always, with
+--accept any: for as long as the router runs, also once it has gone, which
+--ping finds",
+    },
+    OptionRow {
+        name: "ping",
+        letter: None,
+        takes: Takes::Usual("SECONDS", "0"),
+        help: "\
+The router sends its neighbours a Ping with TTL 1 every so many seconds,
+0 to 86400; 0: never. One that has gone is found as a write fails, at the
+second Ping, and its place is free. Only with --accept any",
     },
     OptionRow {
         name: "batch",
@@ -269,7 +289,7 @@ of its neighbour",
         takes: Takes::Nothing,
         help: "\
 Writes on standard error what became of each link, and the counters, once
-the run has ended",
+the run has ended; with --accept any, of each link as it ends",
     },
     OptionRow {
         name: "progress",
@@ -341,14 +361,6 @@ const IDLE: NumberOption = NumberOption {
     least: 0,
     most: 86_400,
     mistake: "--idle takes a number of seconds, 0 to 86400",
-};
-
-/// What `--retry` takes: at most a day.
-const RETRY: NumberOption = NumberOption {
-    name: "retry",
-    least: 0,
-    most: 86_400,
-    mistake: "--retry takes a number of seconds, 0 to 86400",
 };
 
 /// What `--batch` takes.
@@ -515,7 +527,7 @@ fn numbers_of(options: &ArgMatches<'_>) -> Result<Numbers, Unread>
 #[derive(Clone, Copy, Debug)]
 struct Times {
     idle: Option<u32>,
-    retry: Option<u32>,
+    retry: Retry,
     seconds: Option<u32>,
     grace: u32,
 }
@@ -532,12 +544,12 @@ fn times_of(options: &ArgMatches<'_>) -> Result<Times, Unread>
     ensures { IsReadAs (λ t. t) (times_of (rows_of (found_of options.now))) result }
 {
     let idle = asked(options, &IDLE)?;
-    let retry = asked(options, &RETRY)?;
+    let retry = retry_of(options)?;
     let seconds = asked(options, &SECONDS)?;
     let grace = asked(options, &GRACE)?;
     Ok(Times {
         idle: limit_of(idle),
-        retry: limit_of(retry),
+        retry,
         seconds: limit_of(seconds),
         grace,
     })
@@ -554,9 +566,11 @@ fn serving_of(alloc: Global, options: &ArgMatches<'_>) -> Result<ServeOptions, U
     let files = asked(options, &FILES)?;
     let kilobytes = asked(options, &KILOBYTES)?;
     let peers = peers_of(alloc, options)?;
+    let ping = ping_of(options, accept)?;
     let batch = asked(options, &BATCH)?;
     let numbers = numbers_of(options)?;
     let times = times_of(options)?;
+    let retry = retry_with(accept, times.retry)?;
     Ok(ServeOptions {
         port,
         accept,
@@ -566,7 +580,8 @@ fn serving_of(alloc: Global, options: &ArgMatches<'_>) -> Result<ServeOptions, U
         kilobytes,
         peers,
         idle: times.idle,
-        retry: times.retry,
+        retry,
+        ping,
         batch,
         numbers,
         seconds: times.seconds,

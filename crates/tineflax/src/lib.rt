@@ -129,7 +129,8 @@ pub mod run {
     pub use gn_receipts::receipts_by_actor;
     pub use gn_report::{Account, LinkAccount, LinkReport, LinkTally, Report, Unkept};
     pub use gn_service::{
-        Any, Host, Parting, Ran, Serve, Serving, Stop, serve_any, serve_by, serve_kept, serve_on,
+        Any, Host, Parting, Pings, Ran, Serve, Serving, Stop, serve_any, serve_by, serve_kept,
+        serve_on,
     };
     pub use gn_threads::{
         Arrivals, Asked, Coming, Course, Halted, InMemory, OpenAccount, Routing, RunFault, Stopped,

@@ -144,7 +144,7 @@ fn two(first: &mut TcpStream, second: &mut TcpStream) -> bool {
 const TURNS: u8 = 100;
 
 /// Whether so many bytes come next, at most 64.
-fn takes(peer: &mut TcpStream, count: usize) -> bool {
+pub(crate) fn takes(peer: &mut TcpStream, count: usize) -> bool {
     let mut taken = [0u8; 64];
     peer.read_exact(&mut taken[..count.min(64)]).is_ok()
 }

@@ -10,7 +10,3 @@ returns-then-serve-eq0 g c =
 pub returns-in_default : goal.returns-in_default
 returns-in_default g c =
     unbegun c.args.serve.now.batch c.args.serve.now.config.now c.args.serve.now.peers.now c.args.serve.now.accept c.args.serve.now.workers (g.W.Sink.state c.args.sink.now) c.unbegun-in_default.result NoMemory c.unbegun-in_default.ensures (search rules) (search rules)
-
-pub returns-in_default-new : goal.returns-in_default-new
-returns-in_default-new g c =
-    unbegun c.args.serve.now.batch c.args.serve.now.config.now c.args.serve.now.peers.now c.args.serve.now.accept c.args.serve.now.workers (g.W.Sink.state c.args.sink.now) c.unbegun-in_default-new.result NoMemory c.unbegun-in_default-new.ensures (search rules) (search rules)

@@ -1,5 +1,4 @@
-use Rattle.std.proofs.Common.{◌∙◌, Err, Ok, ap, rules, subst, sym}
-use Rattle.rtrb.specs.Ring.{received}
+use Rattle.std.proofs.Common.{◌∙◌, Err, Ok, is_some, rules, subst, sym}
 use Rattle.gn_scribe.specs.Written.{HasFinished}
 use Rattle.gn_service.proofs.KeptLemmas.{held_err, held_ok}
 use Rattle.gn_threads.proofs.CourseLemmas.{err_of, ok_of}
@@ -11,7 +10,7 @@ use Rattle.gn_load.proofs.journalled_any.serve_any_named.Goals as goal
 
 pub returns-in_default : goal.returns-in_default
 returns-in_default g c =
-    unbegun c.args.serve.now.batch c.args.serve.now.config.now c.args.serve.now.peers.now c.args.serve.now.workers (g.W.Sink.state c.args.sink.now) c.unbegun.result NoMemory c.unbegun.ensures (search rules) (search rules)
+    unbegun c.args.serve.now.accept.again (is_some c.args.serve.now.accept.pings) c.args.serve.now.batch c.args.serve.now.config.now c.args.serve.now.peers.now c.args.serve.now.workers (g.W.Sink.state c.args.sink.now) c.unbegun.result NoMemory c.unbegun.ensures (search rules) (search rules)
 
 pub returns-in-Err : goal.returns-in-Err
 returns-in-Err g c =
@@ -19,14 +18,13 @@ returns-in-Err g c =
     let rest = c.serve_any-answer.ensures.rest in
     let old = g.W.Sink.state c.args.sink.now in
     let mid = g.W.Sink.state c.serve_any-answer.result.1.sink.now in
-    let has = journalled_from s.config.now c.new.result rest.ran.scribe old (g.W.Sink.state rest.ran.sink.now) mid rest.steps rest.ran.written c.serve_any-answer.result.1.waiting
-    (c.new.ensures.block ∙ c.requires.heading) (ap received c.new.ensures.steps ∙ c.requires.ring.2) rest.became.1 rest.left.0.1 in
+    let has = journalled_from s.config.now c.in-Ok.scribe rest.ran.scribe old (g.W.Sink.state rest.ran.sink.now) mid rest.steps rest.ran.written c.serve_any-answer.result.1.waiting c.in-Ok.ensures.scribe rest.became.1 rest.left.0.1 in
     let answer = c.serve_any-answer.result.0 in
     let named = sym (rest.left.0.0 ∙ rest.became.0) in
     let halted = c.in-Err.halted in
     let new = g.W.Sink.state c.finish_halted.new.sink in
-    subst (λ (k : g.row.W.Denot). IsJournalledAny s.batch s.config.now s.peers.now s.workers old (g.W.Sink.state k) (Err c.finish_halted.result)) (sym (c.sink-in-Err-1.given.1 named))
-    (stopped_as s.batch s.config.now s.peers.now s.workers rest.steps old mid new halted c.finish_halted.result
+    subst (λ (k : g.row.W.Denot). IsJournalledAny s.accept.again (is_some s.accept.pings) s.batch s.config.now s.peers.now s.workers old (g.W.Sink.state k) (Err c.finish_halted.result)) (sym (c.sink-in-Err-1.given.1 named))
+    (stopped_as s.accept.again (is_some s.accept.pings) s.batch s.config.now s.peers.now s.workers rest.steps old mid new halted c.finish_halted.result
     (record {
       crew = c.requires.few;
       bad_workers = err_of answer halted _ c.in-Err.is c.serve_any-answer.ensures.served.answered.run.bad_workers;
@@ -43,15 +41,14 @@ returns-in-Ok-finish_history g c =
     let rest = c.serve_any-answer.ensures.rest in
     let old = g.W.Sink.state c.args.sink.now in
     let mid = g.W.Sink.state c.serve_any-answer.result.1.sink.now in
-    let has = journalled_from s.config.now c.new.result rest.ran.scribe old (g.W.Sink.state rest.ran.sink.now) mid rest.steps rest.ran.written c.serve_any-answer.result.1.waiting
-    (c.new.ensures.block ∙ c.requires.heading) (ap received c.new.ensures.steps ∙ c.requires.ring.2) rest.became.1 rest.left.0.1 in
+    let has = journalled_from s.config.now c.in-Ok.scribe rest.ran.scribe old (g.W.Sink.state rest.ran.sink.now) mid rest.steps rest.ran.written c.serve_any-answer.result.1.waiting c.in-Ok.ensures.scribe rest.became.1 rest.left.0.1 in
     let answer = c.serve_any-answer.result.0 in
     let named = sym (rest.left.0.0 ∙ rest.became.0) in
     let account = c.in-Ok-answer.account in
     let ran = c.in-Ok-answer.ran in
     let new = g.W.Sink.state c.finish_history.new.sink in
-    subst (λ (k : g.row.W.Denot). IsJournalledAny s.batch s.config.now s.peers.now s.workers old (g.W.Sink.state k) (Ok (account, ran))) (sym (c.sink-1.given.1 named))
-    (all_written s.batch s.config.now s.peers.now s.workers rest.steps old mid new account ran c.requires.few
+    subst (λ (k : g.row.W.Denot). IsJournalledAny s.accept.again (is_some s.accept.pings) s.batch s.config.now s.peers.now s.workers old (g.W.Sink.state k) (Ok (account, ran))) (sym (c.sink-1.given.1 named))
+    (all_written s.accept.again (is_some s.accept.pings) s.batch s.config.now s.peers.now s.workers rest.steps old mid new account ran c.requires.few
     (ok_of answer (account, ran) _ c.in-Ok-answer.is c.serve_any-answer.ensures.ran)
     (ok_of answer (account, ran) _ c.in-Ok-answer.is c.serve_any-answer.ensures.served.account)
     (held_ok answer (account, ran) _ _ c.in-Ok-answer.is rest.held)
@@ -64,15 +61,14 @@ returns-in-Err-finish_history g c =
     let rest = c.serve_any-answer.ensures.rest in
     let old = g.W.Sink.state c.args.sink.now in
     let mid = g.W.Sink.state c.serve_any-answer.result.1.sink.now in
-    let has = journalled_from s.config.now c.new.result rest.ran.scribe old (g.W.Sink.state rest.ran.sink.now) mid rest.steps rest.ran.written c.serve_any-answer.result.1.waiting
-    (c.new.ensures.block ∙ c.requires.heading) (ap received c.new.ensures.steps ∙ c.requires.ring.2) rest.became.1 rest.left.0.1 in
+    let has = journalled_from s.config.now c.in-Ok.scribe rest.ran.scribe old (g.W.Sink.state rest.ran.sink.now) mid rest.steps rest.ran.written c.serve_any-answer.result.1.waiting c.in-Ok.ensures.scribe rest.became.1 rest.left.0.1 in
     let answer = c.serve_any-answer.result.0 in
     let named = sym (rest.left.0.0 ∙ rest.became.0) in
     let account = c.in-Ok-answer.account in
     let ran = c.in-Ok-answer.ran in
     let new = g.W.Sink.state c.finish_history.new.sink in
-    subst (λ (k : g.row.W.Denot). IsJournalledAny s.batch s.config.now s.peers.now s.workers old (g.W.Sink.state k) (Err c.unwritten.result)) (sym (c.sink-1.given.1 named))
-    (unwritten s.batch s.config.now s.peers.now s.workers rest.steps old mid new account ran c.requires.few
+    subst (λ (k : g.row.W.Denot). IsJournalledAny s.accept.again (is_some s.accept.pings) s.batch s.config.now s.peers.now s.workers old (g.W.Sink.state k) (Err c.unwritten.result)) (sym (c.sink-1.given.1 named))
+    (unwritten s.accept.again (is_some s.accept.pings) s.batch s.config.now s.peers.now s.workers rest.steps old mid new account ran c.requires.few
     (ok_of answer (account, ran) _ c.in-Ok-answer.is c.serve_any-answer.ensures.ran)
     (ok_of answer (account, ran) _ c.in-Ok-answer.is c.serve_any-answer.ensures.served.account)
     (held_ok answer (account, ran) _ _ c.in-Ok-answer.is rest.held)

@@ -1,5 +1,4 @@
-use Rattle.std.proofs.Common.{◌∙◌, Err, Ok, ap, length, subst, sym}
-use Rattle.rtrb.specs.Ring.{received}
+use Rattle.std.proofs.Common.{◌∙◌, Err, Ok, length, subst, sym}
 use Rattle.gn_report.specs.Accounts.{report_of}
 use Rattle.gn_threads.proofs.CourseLemmas.{err_of, ok_of}
 use Rattle.gn_load.specs.JournalledLoads.{IsJournalledLoad, of_print}
@@ -8,8 +7,8 @@ use Rattle.gn_load.proofs.JournalledLoadLemmas.{StoppedLoad, all_loaded, cut_loa
 use Rattle.gn_load.proofs.LoadLemmas.{halves_made, none_split}
 use Rattle.gn_load.proofs.journalled_load.load_named.Goals as goal
 
-pub returns-in_err-router : goal.returns-in_err-router
-returns-in_err-router g c =
+pub returns-in_err-core : goal.returns-in_err-core
+returns-in_err-core g c =
     unbegun_load c.args.load.asked.batch c.args.load.asked.config.now c.args.load.links.items c.args.load.asked.workers (g.W.Sink.state c.args.sink.now) c.from_residual.result c.from_residual.ensures.1
 
 pub returns-in-Err : goal.returns-in-Err
@@ -17,8 +16,7 @@ returns-in-Err g c =
     let rest = c.run_by-answer.ensures.rest in
     let old = g.W.Sink.state c.args.sink.now in
     let mid = g.W.Sink.state c.run_by-answer.result.1.sink.now in
-    let has = journalled_from c.args.load.asked.config.now c.new.result rest.ran.scribe old (g.W.Sink.state rest.ran.sink.now) mid rest.steps rest.ran.written c.run_by-answer.result.1.waiting
-    (c.new.ensures.block ∙ c.requires.heading) (ap received c.new.ensures.steps ∙ c.requires.ring.2) rest.became.1 rest.left.0.1 in
+    let has = journalled_from c.args.load.asked.config.now c.in_ok-core.scribe rest.ran.scribe old (g.W.Sink.state rest.ran.sink.now) mid rest.steps rest.ran.written c.run_by-answer.result.1.waiting c.in_ok-core.ensures.scribe rest.became.1 rest.left.0.1 in
     let answer = c.run_by-answer.result.0 in
     let halted = c.in-Err.halted in
     let new = g.W.Sink.state c.write_stopped.new.sink in
@@ -40,8 +38,7 @@ returns-in_ok-finished-in-Ok g c =
     let rest = c.run_by-answer.ensures.rest in
     let old = g.W.Sink.state c.args.sink.now in
     let mid = g.W.Sink.state c.run_by-answer.result.1.sink.now in
-    let has = journalled_from c.args.load.asked.config.now c.new.result rest.ran.scribe old (g.W.Sink.state rest.ran.sink.now) mid rest.steps rest.ran.written c.run_by-answer.result.1.waiting
-    (c.new.ensures.block ∙ c.requires.heading) (ap received c.new.ensures.steps ∙ c.requires.ring.2) rest.became.1 rest.left.0.1 in
+    let has = journalled_from c.args.load.asked.config.now c.in_ok-core.scribe rest.ran.scribe old (g.W.Sink.state rest.ran.sink.now) mid rest.steps rest.ran.written c.run_by-answer.result.1.waiting c.in_ok-core.ensures.scribe rest.became.1 rest.left.0.1 in
     let answer = c.run_by-answer.result.0 in
     let account = c.in-Ok.account in
     let new = g.W.Sink.state c.finish_history-finished.new.sink in
@@ -59,8 +56,7 @@ returns-in_err-finished-in-Ok g c =
     let rest = c.run_by-answer.ensures.rest in
     let old = g.W.Sink.state c.args.sink.now in
     let mid = g.W.Sink.state c.run_by-answer.result.1.sink.now in
-    let has = journalled_from c.args.load.asked.config.now c.new.result rest.ran.scribe old (g.W.Sink.state rest.ran.sink.now) mid rest.steps rest.ran.written c.run_by-answer.result.1.waiting
-    (c.new.ensures.block ∙ c.requires.heading) (ap received c.new.ensures.steps ∙ c.requires.ring.2) rest.became.1 rest.left.0.1 in
+    let has = journalled_from c.args.load.asked.config.now c.in_ok-core.scribe rest.ran.scribe old (g.W.Sink.state rest.ran.sink.now) mid rest.steps rest.ran.written c.run_by-answer.result.1.waiting c.in_ok-core.ensures.scribe rest.became.1 rest.left.0.1 in
     let answer = c.run_by-answer.result.0 in
     let account = c.in-Ok.account in
     let new = g.W.Sink.state c.finish_history-finished.new.sink in

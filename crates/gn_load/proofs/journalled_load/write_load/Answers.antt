@@ -6,10 +6,6 @@ pub returns-then-workers-eq0 : goal.returns-then-workers-eq0
 returns-then-workers-eq0 g c =
     no_crew c.args.load.asked.batch c.args.load.asked.config.now c.args.load.links.items c.args.load.asked.workers (g.W.Sink.state c.args.sink.now) (search rules) (search rules)
 
-pub returns-in_err-heading : goal.returns-in_err-heading
-returns-in_err-heading g c =
+pub returns-in_err-fresh : goal.returns-in_err-fresh
+returns-in_err-fresh g c =
     unbegun_load c.args.load.asked.batch c.args.load.asked.config.now c.args.load.links.items c.args.load.asked.workers (g.W.Sink.state c.args.sink.now) c.from_residual.result c.from_residual.ensures.1
-
-pub returns-in_err-producer : goal.returns-in_err-producer
-returns-in_err-producer g c =
-    unbegun_load c.args.load.asked.batch c.args.load.asked.config.now c.args.load.links.items c.args.load.asked.workers (g.W.Sink.state c.args.sink.now) c.from_residual-in_err-producer.result c.from_residual-in_err-producer.ensures.1

@@ -1,6 +1,5 @@
-use Rattle.std.proofs.Common.{◌≡◌, ◌∙◌, ℕ, Option, ap, refl, length, subst, sym, Ok, Err, Global}
+use Rattle.std.proofs.Common.{◌≡◌, ◌∙◌, ℕ, Bool, Option, ap, is_some, refl, length, subst, sym, Ok, Err, Global}
 use Rattle.gn_load.specs.Any.{IsJournalledTaken}
-use Rattle.gn_load.specs.declared.taken.Taken.{Taken}
 use Rattle.gn_program.specs.Peers.{AreAt}
 use Rattle.gn_rules.specs.Limits.{IsCrew}
 use Rattle.gn_start.specs.declared.fault.RunFault.TheVariants.{Listen, NoMemory}
@@ -38,9 +37,11 @@ returns g c =
     let config = c.settings-config.result in
     let called = c.deref-2.result.now in
     let old = g.W.Sink.state c.args.writer.now in
-    let told = subst (λ (accept : Option ℕ). IsJournalledTaken {A = Global} {Q = Taken Global} c.args.serving.now.batch config called accept c.args.serving.now.workers old ran.0 (Err c.in-Err.field-0)) c.taking.ensures
-    (subst (λ (s : AskedServe). IsJournalledTaken {A = Global} {Q = Taken Global} s.batch config called c.taking.result.accept s.workers old ran.0 (Err c.in-Err.field-0)) c.serving.view_is
-    (subst (λ (n : ℕ). IsJournalledTaken {A = Global} {Q = Taken Global} n config called c.taking.result.accept inside.workers old ran.0 (Err c.in-Err.field-0)) c.batch_of.ensures ran.2)) in
+    let told = subst (λ (again : Bool). IsJournalledTaken {A = Global} again (is_some c.args.serving.now.ping) c.args.serving.now.batch config called c.args.serving.now.accept c.args.serving.now.workers old ran.0 (Err c.in-Err.field-0)) c.taking.ensures.again
+    (subst (λ (pings : Bool). IsJournalledTaken {A = Global} c.taking.result.again pings c.args.serving.now.batch config called c.args.serving.now.accept c.args.serving.now.workers old ran.0 (Err c.in-Err.field-0)) c.taking.ensures.pings
+    (subst (λ (accept : Option ℕ). IsJournalledTaken {A = Global} c.taking.result.again (is_some c.taking.result.pings) c.args.serving.now.batch config called accept c.args.serving.now.workers old ran.0 (Err c.in-Err.field-0)) c.taking.ensures.accept
+    (subst (λ (s : AskedServe). IsJournalledTaken {A = Global} c.taking.result.again (is_some c.taking.result.pings) s.batch config called c.taking.result.accept s.workers old ran.0 (Err c.in-Err.field-0)) c.serving.view_is
+    (subst (λ (n : ℕ). IsJournalledTaken {A = Global} c.taking.result.again (is_some c.taking.result.pings) n config called c.taking.result.accept inside.workers old ran.0 (Err c.in-Err.field-0)) c.batch_of.ensures ran.2)))) in
     let many : length called ≡ length inside.peers.items =
     ap (λ xs. length xs) c.deref-2.ensures.value ∙ c.in_ok-peers.ensures.many ∙ ap (λ xs. length xs) c.deref.ensures.value in
     let at : AreAt inside.peers.items called =
@@ -60,9 +61,11 @@ returns-in-Ok-answer g c =
     let config = c.settings-config.result in
     let called = c.deref-2.result.now in
     let old = g.W.Sink.state c.args.writer.now in
-    let told = subst (λ (accept : Option ℕ). IsJournalledTaken {A = Global} c.args.serving.now.batch config called accept c.args.serving.now.workers old ran.0 (Ok (c.in-Ok-answer.taken, c.in-Ok-answer.ran))) c.taking.ensures
-    (subst (λ (s : AskedServe). IsJournalledTaken {A = Global} s.batch config called c.taking.result.accept s.workers old ran.0 (Ok (c.in-Ok-answer.taken, c.in-Ok-answer.ran))) c.serving.view_is
-    (subst (λ (n : ℕ). IsJournalledTaken {A = Global} n config called c.taking.result.accept inside.workers old ran.0 (Ok (c.in-Ok-answer.taken, c.in-Ok-answer.ran))) c.batch_of.ensures ran.2)) in
+    let told = subst (λ (again : Bool). IsJournalledTaken {A = Global} again (is_some c.args.serving.now.ping) c.args.serving.now.batch config called c.args.serving.now.accept c.args.serving.now.workers old ran.0 (Ok (c.in-Ok-answer.taken, c.in-Ok-answer.ran))) c.taking.ensures.again
+    (subst (λ (pings : Bool). IsJournalledTaken {A = Global} c.taking.result.again pings c.args.serving.now.batch config called c.args.serving.now.accept c.args.serving.now.workers old ran.0 (Ok (c.in-Ok-answer.taken, c.in-Ok-answer.ran))) c.taking.ensures.pings
+    (subst (λ (accept : Option ℕ). IsJournalledTaken {A = Global} c.taking.result.again (is_some c.taking.result.pings) c.args.serving.now.batch config called accept c.args.serving.now.workers old ran.0 (Ok (c.in-Ok-answer.taken, c.in-Ok-answer.ran))) c.taking.ensures.accept
+    (subst (λ (s : AskedServe). IsJournalledTaken {A = Global} c.taking.result.again (is_some c.taking.result.pings) s.batch config called c.taking.result.accept s.workers old ran.0 (Ok (c.in-Ok-answer.taken, c.in-Ok-answer.ran))) c.serving.view_is
+    (subst (λ (n : ℕ). IsJournalledTaken {A = Global} c.taking.result.again (is_some c.taking.result.pings) n config called c.taking.result.accept inside.workers old ran.0 (Ok (c.in-Ok-answer.taken, c.in-Ok-answer.ran))) c.batch_of.ensures ran.2)))) in
     let many : length called ≡ length inside.peers.items =
     ap (λ xs. length xs) c.deref-2.ensures.value ∙ c.in_ok-peers.ensures.many ∙ ap (λ xs. length xs) c.deref.ensures.value in
     let at : AreAt inside.peers.items called =

@@ -1,6 +1,5 @@
 use Rattle.std.proofs.Common.{◌≡◌, ◌∙◌, Ok, Err, subst}
 use Rattle.std.specs.Prelude.{IfSome}
-use Rattle.gn_sockets.specs.TcpHalves.{TcpReading, TcpWriting}
 use Rattle.gn_threads.specs.Answers.{halted_views}
 use Rattle.gn_threads.proofs.CourseLemmas.{err_of, ok_of}
 use Rattle.gn_service.specs.Serves.{IsServed, served_account}

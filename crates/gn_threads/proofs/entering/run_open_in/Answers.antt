@@ -1,5 +1,6 @@
-use Rattle.std.proofs.Common.{◌≡◌, subst, sym}
-use Rattle.std.proofs.lemmas.Result.{IfErr-weaker}
+use Rattle.std.proofs.Common.{◌≡◌, subst, sym, true}
+use Rattle.std.proofs.lemmas.Result.{IfErr-weaker, IfOk-weaker}
+use Rattle.gn_report.specs.Accounts.{are_houses}
 use Rattle.gn_actors.specs.declared.who.Numbering.TheVariants.{Open}
 use Rattle.gn_start.specs.Over.{HaveCome, views_of}
 use Rattle.gn_threads.proofs.AnsweredLemmas.{ok_always}
@@ -27,9 +28,11 @@ returns-clause-account g c =
     let given = c.run_bodies-left.ensures in
     let views = views_of g.V.Reader.LinkReader.state g.V.Writer.LinkWriter.state g.V.Reader.LinkReader.gives g.V.Reader.LinkReader.made_of g.V.Writer.LinkWriter.made_of in
     let incoming = c.args.entering.incoming in
-    let came = subst (λ those. HaveCome views g.V.Incoming.foreknown g.V.Incoming.is_known (g.V.Incoming.roles those) (g.V.Incoming.coming those) left.over) c.new-begun.ensures.1 given.came in
-    open_answered g.B.Limited.turns g.B.Limited.batch views g.V.Incoming.foreknown c.args.asked.now.config.now c.args.asked.now.workers left.over g.V.Incoming.is_known (g.V.Incoming.roles incoming) (g.V.Incoming.coming incoming) came left.fault given.fault.stopped
-    (λ well. (given.over.whole well).0) c.conclude_open-answer.result.0 c.conclude_open-answer.ensures.links c.conclude_open-answer.ensures.ended
+    let came = subst (λ those. HaveCome views g.V.Incoming.foreknown g.V.Incoming.is_known (g.V.Incoming.may_come those) (g.V.Incoming.may_end those) left.over) c.new-begun.ensures.1 given.came in
+    let own = subst (λ those. are_houses (g.V.Incoming.originates those) left.house.receipts ≡ true) c.new-begun.ensures.1 given.house.own in
+    open_answered g.B.Limited.turns g.B.Limited.batch views g.V.Incoming.foreknown c.args.asked.now.config.now c.args.asked.now.workers left.over g.V.Incoming.is_known (g.V.Incoming.may_come incoming) (g.V.Incoming.may_end incoming) came left.fault given.fault.stopped
+    (λ well. (given.over.whole well).0) (g.V.Incoming.originates incoming) c.conclude_open-answer.result.0 c.conclude_open-answer.ensures.links
+    (IfOk-weaker c.conclude_open-answer.result.0 _ _ (λ account ended. ended (g.V.Incoming.originates incoming) own) c.conclude_open-answer.ensures.ended)
 
 pub returns-clause-keeper : goal.returns-clause-keeper
 returns-clause-keeper g c =
@@ -37,6 +40,6 @@ returns-clause-keeper g c =
     let given = c.run_bodies-left.ensures in
     let views = views_of g.V.Reader.LinkReader.state g.V.Writer.LinkWriter.state g.V.Reader.LinkReader.gives g.V.Reader.LinkReader.made_of g.V.Writer.LinkWriter.made_of in
     let incoming = c.args.entering.incoming in
-    let came = subst (λ those. HaveCome views g.V.Incoming.foreknown g.V.Incoming.is_known (g.V.Incoming.roles those) (g.V.Incoming.coming those) left.over) c.new-begun.ensures.1 given.came in
-    open_kept g.B.Limited.turns g.B.Limited.batch views g.V.Incoming.foreknown c.args.asked.now.config.now c.args.asked.now.workers left.over g.V.Incoming.is_known (g.V.Incoming.roles incoming) (g.V.Incoming.coming incoming) came left.fault given.fault.stopped
+    let came = subst (λ those. HaveCome views g.V.Incoming.foreknown g.V.Incoming.is_known (g.V.Incoming.may_come those) (g.V.Incoming.may_end those) left.over) c.new-begun.ensures.1 given.came in
+    open_kept g.B.Limited.turns g.B.Limited.batch views g.V.Incoming.foreknown c.args.asked.now.config.now c.args.asked.now.workers left.over g.V.Incoming.is_known (g.V.Incoming.may_come incoming) (g.V.Incoming.may_end incoming) came left.fault given.fault.stopped
     (λ well. (given.over.whole well).0) g.K.Keeping.keeps c.conclude_open-answer.result.1 c.conclude_open-answer.result.0 c.conclude_open-answer.ensures.keeper given.over.kept c.conclude_open-answer.ensures.links

@@ -1,4 +1,4 @@
-use Rattle.std.proofs.Common.{◌∙◌, ap, reverse, subst, sym}
+use Rattle.std.proofs.Common.{◌∙◌, ap, false, reverse, subst, sym}
 use Rattle.gn_rules.specs.Answer.{IsLegal}
 use Rattle.gn_rules.specs.Statistics.{stats_of}
 use Rattle.gn_rules.specs.Limits.{most_reads}
@@ -17,4 +17,4 @@ returns-clause-holds g c =
     account_holds g.L.Limited.batch views call settings (record { history = c.unkept_steps.result; links = all.links; workers = all.workers; house = all.house; stats = c.stats.result; numbered = _ }) all.looks
     (subst (λ steps. IsGathered views (most_reads call.numbers.steps) g.L.Limited.batch steps all.links.items all.workers.items all.house all.looks) same c.requires.gathered)
     (subst (λ steps. IsCalm call settings steps all.looks) same c.requires.calm)
-    c.seen_is_confirmed.ensures c.ended_is_seen.ensures (subst (λ steps. IsLegal settings (reverse steps)) same c.is_legal.ensures) (c.stats.ensures ∙ ap (λ steps. stats_of (reverse steps)) same)
+    c.ended_is_seen.ensures (subst (λ steps. IsLegal settings (reverse steps)) same c.is_legal.ensures) (c.stats.ensures ∙ ap (λ steps. stats_of (reverse steps)) same) false c.requires.house

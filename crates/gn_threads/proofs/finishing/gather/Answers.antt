@@ -1,7 +1,8 @@
-use Rattle.std.proofs.Common.{ap, arith, length, refl, subst}
+use Rattle.std.proofs.Common.{◌≡◌, List, ap, arith, length, refl, subst, sym, true}
 use Rattle.std.proofs.lemmas.List.{length-map}
 use Rattle.gn_actors.specs.Registry.{AreWhole}
-use Rattle.gn_report.specs.Accounts.{unkept_list}
+use Rattle.gn_report.specs.Accounts.{is_routing, unkept_list}
+use Rattle.gn_rules.specs.declared.receipt.Receipt.{Receipt}
 use Rattle.gn_threads.specs.Homecoming.{receipts_in}
 use Rattle.gn_threads.proofs.LeftLemmas.{all_gathered, known_out, links_kept}
 use Rattle.gn_threads.proofs.finishing.gather.Goals as goal
@@ -22,3 +23,6 @@ pub returns-clause-workers : goal.returns-clause-workers
 returns-clause-workers g c =
     let home = c.in_ok-workers in
     omega (arith, ap length home.ensures.workers, length-map home.field-0.workers.items unkept_list, length-map c.args.over.workers.items receipts_in, home.field-0.workers.ok, c.args.over.workers.ok)
+
+pub returns-clause-house : goal.returns-clause-house
+returns-clause-house g c = subst (λ (rs : List (Receipt g.row.A.Denot)). is_routing rs ≡ true) (sym c.in_ok-workers.ensures.house) c.requires.left.routed

@@ -10,7 +10,7 @@ use Rattle.gn_threads.proofs.OpenLemmas.{open_ended}
 use Rattle.gn_threads.proofs.open_ending.make_account.Goals as goal
 
 pub returns-clause-ended : goal.returns-clause-ended
-returns-clause-ended g c =
+returns-clause-ended g c = λ originates own.
     let all = c.args.all in
     let call = c.args.config.now in
     let settings = g.C.RouterCore.settings c.args.core.now in
@@ -19,10 +19,10 @@ returns-clause-ended g c =
     let views = views_of g.V.Reader.LinkReader.state g.V.Writer.LinkWriter.state g.V.Reader.LinkReader.gives g.V.Reader.LinkReader.made_of g.V.Writer.LinkWriter.made_of in
     let same = sym c.unkept_steps.ensures in
     let given = c.requires.gathered in
-    open_ended c.seen_is_confirmed.ensures c.ended_is_seen.ensures c.moved_is_legal.ensures c.moved_is_alike.ensures g.L.Limited.batch views call settings
+    open_ended c.ended_is_seen.ensures c.moved_is_legal.ensures c.moved_is_alike.ensures g.L.Limited.batch views call settings
     (record { history = c.unkept_steps.result; links = all.links; workers = all.workers; house = all.house; stats = c.stats.result; numbered = _ }) looks
     (subst (λ steps. list_all (λ step. nat_lt step.actor (1 + vec_len all.workers + (length links + length links))) steps ≡ true) same
     (subst (λ n. list_all (λ step. nat_lt step.actor (1 + n + (length links + length links))) (g.C.RouterCore.steps c.args.core.now) ≡ true) (sym all.workers.ok.0) given.only))
     (subst (λ steps. IsGathered views (most_reads call.numbers.steps) g.L.Limited.batch (renumbered (length links) (length all.workers.items) steps) links all.workers.items all.house looks) same given.gathered)
     (subst (λ steps. IsCalm call settings steps looks) same c.requires.calm)
-    (subst (λ steps. IsLegal settings (reverse steps)) same c.is_legal.ensures) (c.stats.ensures ∙ ap (λ steps. stats_of (reverse steps)) same)
+    (subst (λ steps. IsLegal settings (reverse steps)) same c.is_legal.ensures) (c.stats.ensures ∙ ap (λ steps. stats_of (reverse steps)) same) originates own

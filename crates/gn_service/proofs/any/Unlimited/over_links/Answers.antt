@@ -1,4 +1,5 @@
 use denote.Param.Send.{sendable}
+use Rattle.std.proofs.Common.{is_some}
 use Rattle.std.proofs.Crossing.{crosses}
 use Rattle.std.proofs.CrossingOver as over
 use Rattle.std.proofs.lemmas.Result.{IfOk-weaker}
@@ -8,11 +9,14 @@ use Rattle.gn_service.proofs.any.Unlimited.over_links.Goals as goal
 pub run_open-answer-requires-send-V-Reader : goal.run_open-answer-requires-send-V-Reader
 run_open-answer-requires-send-V-Reader g c κs within = search (sendable, over.crosses, crosses) depth 60 fits 100000
 
+pub run_open-answer-requires-send-V-Writer : goal.run_open-answer-requires-send-V-Writer
+run_open-answer-requires-send-V-Writer g c κs within = search (sendable, over.crosses, crosses) depth 60 fits 100000
+
 pub returns-clause-served : goal.returns-clause-served
 returns-clause-served g c =
     let s = c.args.self.serve.now in
     record {
       answered = c.run_open-answer.ensures.answer;
-      account = IfOk-weaker c.run_open-answer.result.0 _ _ (λ account answered. from_first s.batch s.config.now s.peers.now s.workers account answered)
+      account = IfOk-weaker c.run_open-answer.result.0 _ _ (λ account answered. from_first s.accept.again (is_some s.accept.pings) s.batch s.config.now s.peers.now s.workers account answered)
           c.run_open-answer.ensures.account;
     }

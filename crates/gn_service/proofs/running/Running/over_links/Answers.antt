@@ -1,5 +1,8 @@
+use denote.Param.Send.{sendable}
 use Rattle.std.proofs.Common.{◌+◌, ◌∙◌, true, ap, arith, length, subst, rules}
 use Rattle.std.specs.Prelude.{IfErr, IfOk, IfSome}
+use Rattle.std.proofs.Crossing.{crosses}
+use Rattle.std.proofs.CrossingOver as over
 use Rattle.std.proofs.lemmas.Result.{IfOk-weaker}
 use Rattle.gn_rules.specs.Limits.{IsCrew}
 use Rattle.gn_report.specs.Accounts.{report_of}
@@ -10,6 +13,9 @@ use Rattle.gn_threads.specs.Headline.{AreMadeOf, Holds}
 use Rattle.gn_service.proofs.RoleLemmas.{all_of, socket_of_one}
 use Rattle.gn_service.proofs.TallyLemmas.{many_roles}
 use Rattle.gn_service.proofs.running.Running.over_links.Goals as goal
+
+pub run_arriving_by-requires-send-V-Reader : goal.run_arriving_by-requires-send-V-Reader
+run_arriving_by-requires-send-V-Reader g c κs within = search (sendable, over.crosses, crosses) depth 60 fits 100000
 
 pub returns-clause-served : goal.returns-clause-served
 returns-clause-served g c =

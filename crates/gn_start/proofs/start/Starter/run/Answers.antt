@@ -3,7 +3,6 @@ use Rattle.gn_actors.specs.Who.{number_of}
 use Rattle.gn_actors.specs.declared.who.Who.TheVariants.{Worker}
 use Rattle.gn_start.specs.Begun.{BegunState}
 use Rattle.gn_start.specs.Crews.{IsFaultOfCrew}
-use Rattle.gn_start.specs.Incoming.{foretold}
 use Rattle.gn_start.specs.Table.{HasBeenMade}
 use Rattle.gn_start.proofs.LoopLemmas.{made_from_none}
 use Rattle.gn_start.proofs.OpeningLemmas.{crew_within}
@@ -15,8 +14,8 @@ returns-clause-made g c =
     let read_of = g.V.Reader.LinkReader.made_of in
     let foreknown = g.V.Incoming.foreknown in
     let is_known = g.V.Incoming.is_known in
-    let made = made_from_none read_of foreknown is_known (foretold (g.V.Incoming.coming b.incoming) (g.V.Incoming.roles b.incoming)) c.new-table.result c.run_all-table.result c.new-table.ensures.1 c.run_all-table.ensures.made in
-    subst (λ (w : BegunState g.row.V.Denot). HasBeenMade read_of foreknown is_known (foretold (g.V.Incoming.coming w.incoming) (g.V.Incoming.roles w.incoming)) c.run_all-table.result) c.begun.view_is made
+    let made = made_from_none read_of foreknown g.V.Incoming.may_come g.V.Incoming.may_end is_known b.incoming c.new-table.result c.run_all-table.result c.new-table.ensures.1 c.run_all-table.ensures.made in
+    subst (λ (w : BegunState g.row.V.Denot). HasBeenMade read_of foreknown is_known (g.V.Incoming.may_come w.incoming) (g.V.Incoming.may_end w.incoming) c.run_all-table.result) c.begun.view_is made
 
 pub returns-clause-fault : goal.returns-clause-fault
 returns-clause-fault g c =

@@ -1,0 +1,82 @@
+//! For how long a serve calls a peer again.
+
+ghost use Rattle.std.specs.Prelude.{◌≡◌, IfOk, codes, decimal, false};
+ghost use Rattle.std.specs.Option.{option_map_or};
+ghost use Rattle.std.specs.Str.{bytes_eq};
+ghost use Rattle.clap.specs.Words.{found_of, rows_of};
+ghost use Rattle.gn_words.specs.ConfigTexts.{retry_text};
+ghost use Rattle.gn_words.specs.Options.{IsReadAs, retry_for, retry_of, retry_with};
+
+use crate::numbers::{NumberOption, asked};
+use crate::request::Retry;
+use crate::unread::Unread;
+use clap::ArgMatches;
+use gn_text::push_number;
+use std::alloc::{AllocError, Global};
+
+/// What `--retry` takes beside `always`: at most a day.
+const RETRY: NumberOption = NumberOption {
+    name: "retry",
+    least: 0,
+    most: 86_400,
+    mistake: "--retry takes a number of seconds, 0 to 86400, or always",
+};
+
+/// Whether a text says that a peer is called for as long as the router runs.
+fn is_always(text: Option<&str>) -> bool
+    ensures { result ≡ option_map_or (λ s. bytes_eq s.now (codes "always")) text.entry false }
+{
+    match text {
+        Some("always") => true,
+        _ => false,
+    }
+}
+
+/// A peer is called again for so many seconds; once, where there are none.
+fn retry_for(seconds: u32) -> Retry
+    ensures { result ≡ retry_for seconds }
+{
+    if seconds == 0 {
+        Retry::Never
+    } else {
+        Retry::For(seconds)
+    }
+}
+
+/// For how long `--retry` asks that a peer is called again.
+pub(crate) fn retry_of(options: &ArgMatches<'_>) -> Result<Retry, Unread>
+    ensures { IsReadAs (λ retry. retry) (retry_of (rows_of (found_of options.now))) result }
+{
+    if is_always(options.get_str("retry")) {
+        return Ok(Retry::Always);
+    }
+    match asked(options, &RETRY) {
+        Ok(seconds) => Ok(retry_for(seconds)),
+        Err(unread) => Err(unread),
+    }
+}
+
+/// The same, by a serve of so many callers, or any number: only that calls its peers for as long as it runs.
+pub(crate) fn retry_with(accept: Option<u32>, retry: Retry) -> Result<Retry, Unread>
+    ensures { IsReadAs (λ retry. retry) (retry_with accept retry) result }
+{
+    match (accept, retry) {
+        (Some(_), Retry::Always) => Err(Unread::Mistake(
+            "--retry always is taken only with --accept any",
+        )),
+        _ => Ok(retry),
+    }
+}
+
+/// What says for how long a peer is called again.
+pub(crate) fn retry_said(alloc: Global, retry: Retry) -> Result<Vec<u8>, AllocError>
+    ensures { IfOk result (λ v. v.items ≡ retry_text retry) }
+{
+    let mut value = Vec::new(alloc);
+    match retry {
+        Retry::Never => push_number(&mut value, 0)?,
+        Retry::For(seconds) => push_number(&mut value, seconds)?,
+        Retry::Always => value.extend_from_slice(b"always")?,
+    }
+    Ok(value)
+}
