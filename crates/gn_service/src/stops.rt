@@ -219,7 +219,10 @@ impl<'a, A: Allocator> Stops<'a, A> {
 
     /// The run is stopped: nobody is accepted, and its links are shut once the grace is over, or now, where it has failed.
     fn stop_links<R: Wait>(&self, rt: &R, now: Option<Duration>) {
-        self.stop.set();
+        // it wakes who waits, which is this thread
+        if !self.is_stopped() {
+            self.stop.set();
+        }
         let until = if self.has_failed() {
             Duration::ZERO
         } else {
