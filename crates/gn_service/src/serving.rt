@@ -16,7 +16,8 @@ use std::time::Duration;
 pub struct Serving<'s> {
     /// A read or a write that waits longer fails; `None`: it waits without a limit.
     pub idle: Option<Duration>,
-    /// A peer that can't be called is called again until so much time has passed; `None`: it is called once.
+    /// A peer that can't be called is called again until so much time has passed; `None`: it is called once. Where `Any` says that peers
+    /// are called again it means nothing.
     pub retry: Option<Duration>,
     /// How long a neighbour that was let go is still listened to, and how long a run that is stopped goes on; `None`: 5 seconds.
     pub grace: Option<Duration>,
