@@ -118,7 +118,11 @@ where
         let doorstep = &doorstep;
         let reminder = &reminder;
         let entrance = Entrance::new(rt, rt.alloc(), self.serve.listener, stops);
-        let accepter = Accepter { entrance, doorstep };
+        let accepter = Accepter {
+            entrance,
+            doorstep,
+            callers_a_minute: self.serve.accept.callers_a_minute,
+        };
         let accepter = &accepter;
         let ((), answer) = thread::join(
             rt,
