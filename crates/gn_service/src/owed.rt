@@ -22,7 +22,8 @@ pub(crate) struct Owed {
     most: u64,
     /// How many descriptors may be under way to their routes at a time.
     crew: u32,
-    /// How many packets of one link its queue may hold, or were just taken from there, or come from the routes that are under way.
+    /// How many packets may wait for one link: those that its queue holds, a batch that was just taken from there, and one of each route
+    /// that is under way.
     queue: u64,
     /// How many links may be connected at a time.
     links: u64,
@@ -63,14 +64,15 @@ fn steps_of(step: Made) -> u64
 }
 
 impl Owed {
-    /// Of a run of these limits, which has made no steps, and of whose links so many may be connected at a time; `None`, where this stops no
-    /// run before its last steps.
+    /// Of a run of these limits, which has made no steps, and of whose links so many may be connected at a time; `None`, where this
+    /// stops no run before its last steps.
     pub(crate) fn of<G, M>(serve: &Serve<'_, '_, G, M>, stop: &Stop, links: u32) -> Option<Self> {
         if !stop.is_early() {
             return None;
         }
         let (numbers, batch) = (&serve.config.numbers, serve.batch.most());
-        let crew = serve.workers.saturating_mul(batch);
+        // those that are under way are in flight
+        let crew = serve.workers.saturating_mul(batch).min(numbers.stage);
         let queue = u64::from(numbers.out)
             .saturating_add(u64::from(batch))
             .saturating_add(u64::from(crew));

@@ -77,8 +77,8 @@ pub struct Any<'a, T> {
     /// Whether each peer is called for as long as the run goes on: again, where it isn't there or goes.
     pub again: bool,
     pub pings: Option<Pings>,
-    /// How many callers of one IP address are let in within a minute, which begins with the first of them: who calls above that is let go
-    /// at once, as no link of the run. `None`: as many as come.
+    /// How many callers from one IP address are let in within a minute, which begins with the first of them: further ones are
+    /// disconnected at once, and are no links of the run. `None`: as many as come; of `Some(0)` nobody is let in.
     pub callers_a_minute: Option<u32>,
 }
 
