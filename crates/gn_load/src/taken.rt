@@ -14,7 +14,8 @@ use gn_service::{
 use std::alloc::{Allocator, Global};
 
 /// How many call a run over TCP: so many in all; `None`: any number, one after another. In that run this one learns of each link as it
-/// ends, peers may be called again, the own servent sends these Pings, and so many callers of one address are let in within a minute.
+/// ends, peers may be called again, the own servent sends these Pings, and so many callers from one address are let in within a minute, as
+/// `Any` says.
 #[derive(Drop)]
 pub struct Taking<'a, T> {
     pub accept: Option<u32>,

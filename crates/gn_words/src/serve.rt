@@ -57,8 +57,8 @@ examples/gn.service is a unit for a service manager, with a standard input that 
 
 A run that would make more than its most steps ends there, with the fault `history full`: one
 neighbour alone makes a million in a second. With `--stop-early` the router stops before, and is
-done; what it still has to read of a piece and to write takes the last tenth of the steps. An audit
-and `gn show` have no limit.
+done: the last tenth of the steps is for what it still has to read and to write, and more of them
+where neighbours flood it. An audit and `gn show` have no limit.
 
 Example: two routers of which the second calls the first, in whichever order they start. Both end
 after 5 seconds.
@@ -157,8 +157,8 @@ fails, at the second Ping, and its place is free. Only with
         letter: None,
         takes: Takes::Usual("N", "0"),
         help: "\
-How many callers of one IP address are let in within a minute,
-0 to 60000; 0: as many as come. Who calls above that is let go at
+How many callers from one IP address are let in within a minute,
+0 to 60000; 0: as many as come. Further ones are disconnected at
 once. Only with --accept any",
     },
     OptionRow {
