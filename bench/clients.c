@@ -188,6 +188,11 @@ static void servent_of(int who, unsigned char *servent) {
     servent[0] = who;
 }
 
+// Who answers a Query: another than its sender, each as often.
+static int answerer(const unsigned char *query, uint32_t its) {
+    return (query[SENDER_AT] + 1 + (count > 1 ? its % (count - 1) : 0)) % count;
+}
+
 // How long a client had no answer.
 static void hear_answer(int who, uint64_t time) {
     uint64_t since = time - clients[who].answered_at;
@@ -245,7 +250,7 @@ static void take(int who, const unsigned char *descriptor, uint32_t length, uint
     if (descriptor[MARK_AT] != MARK) return;
     if (kind == PING || kind == QUERY) look(who, descriptor);
     memcpy(&its, descriptor + NUMBER_AT, sizeof its);
-    if (kind == QUERY && its % count == (uint32_t)who) answer(who, descriptor);
+    if (kind == QUERY && answerer(descriptor, its) == who) answer(who, descriptor);
     if (kind == PUSH) pushed++;
     if (kind == PONG && descriptor[USE_AT] == FLOOD) pongs++;
     if (kind == HIT && ++hits % PUSH_EVERY == 0 && length >= SERVENT) push(who, descriptor, length);
