@@ -24,7 +24,7 @@
 enum { MOST = 256, PORTS = 256, HEADER = 23, IN = 1 << 17, OUT = 1 << 16, SLOTS = 1 << 16, TIMES = 1 << 20 };
 enum { NUMBER_AT = 8, SENDER_AT = 12, USE_AT = 13, MARK_AT = 14, CALL_AT = 15, KIND_AT = 16, TTL_AT = 17, LENGTH_AT = 19 };
 enum { PING = 0, PONG = 1, PUSH = 0x40, QUERY = 0x80, HIT = 0x81, MARK = 0xbb, FLOOD = 1, ASKED = 2 };
-enum { SERVENT = 16, HIT_LENGTH = 41, PUSH_LENGTH = 26, PUSH_EVERY = 8, INPUT = MOST };
+enum { SERVENT = 16, HIT_LENGTH = 41, PUSH_LENGTH = 26, PUSH_EVERY = 8, INPUT = MOST, SAID = 100 };
 
 static const uint64_t SECOND = 1000000000ull, AGAIN = 100000000ull, BETWEEN = 500000000ull, SILENCE = 10000000000ull, MILLI = 1000000ull;
 static const char REQUEST[] = "GNUTELLA CONNECT/0.4\n\n", CONSENT[] = "GNUTELLA OK\n\n", WORDS[] = "\0\0soak";
@@ -212,7 +212,7 @@ static void look(int who, const unsigned char *descriptor) {
     got++;
     if (slot->at && slot->number == its) {
         int is_known = number - its < remembered && it->got - slot->at < remembered;
-        if (is_known) {
+        if (is_known && twice < SAID) {
             fprintf(stderr, "client %d had %u of client %d, kind %02x, twice: %u were sent since, and %ld came\n", who, its,
                     descriptor[SENDER_AT], descriptor[KIND_AT], number - its, it->got - slot->at);
         }
