@@ -1,5 +1,5 @@
 # Builds, checks and measures Tineflax with the Rattle toolchain's command `rt`, which has to be on the path.
-.PHONY: help demo check build install uninstall examples test bench bench_serve performance statement definitions pictures clean
+.PHONY: help demo check build install uninstall examples test bench bench_serve soak performance statement definitions pictures clean
 
 # Where `make install` puts the program: PREFIX/bin/gn.
 PREFIX ?= /usr/local
@@ -16,6 +16,7 @@ help:
 	@echo 'make test      the merge gate: every proof from nothing, the must-fail edits, the tests, the programs'
 	@echo 'make bench     proves and runs the benchmarks, those of the program gn among them'
 	@echo 'make bench_serve  what the proved program does over sockets, beside a relay in C; wants a C compiler'
+	@echo 'make soak      leaves a mesh of the proved program under load for an hour, and asks whether all stays right; wants a C compiler'
 	@echo 'make performance  measures, and writes the tables of docs/PERFORMANCE.md anew'
 	@echo 'make statement  writes docs/STATEMENT.md and docs/LAWS.md; with FOR=replay it prints what that function states, FOR=laws the laws of paths'
 	@echo 'make definitions  prints each definition that contracts cite, beside its words'
@@ -76,6 +77,10 @@ bench: build
 # How many packets a second the program gn passes on through sockets, and how soon it answers, beside a relay of one thread.
 bench_serve: build
 	scripts/bench_serve crates/gn/out/gn
+
+# A mesh of ten routers under load for an hour, some killed and started again. The last line is 'N passed, M failed'.
+soak: build
+	scripts/soak --gn crates/gn/out/gn
 
 # The tables of docs/PERFORMANCE.md, of this machine.
 performance: build

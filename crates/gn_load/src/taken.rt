@@ -14,13 +14,15 @@ use gn_service::{
 use std::alloc::{Allocator, Global};
 
 /// How many call a run over TCP: so many in all; `None`: any number, one after another. In that run this one learns of each link as it
-/// ends, peers may be called again, and the own servent sends these Pings.
+/// ends, peers may be called again, the own servent sends these Pings, and so many callers from one address are let in within a minute, as
+/// `Any` says.
 #[derive(Drop)]
 pub struct Taking<'a, T> {
     pub accept: Option<u32>,
     pub leaving: &'a T,
     pub again: bool,
     pub pings: Option<Pings>,
+    pub callers_a_minute: Option<u32>,
 }
 
 /// The account of such a run: with all of its links, or without those that have ended.
@@ -51,12 +53,14 @@ pub fn serve_taken<'s, R: Host, G: Watch + Sync, T: Parting<Global> + Sync, W: S
                 leaving,
                 again,
                 pings,
+                callers_a_minute,
                 ..
             } = &serve.accept;
             let any = Any {
                 leaving: *leaving,
                 again: *again,
                 pings: *pings,
+                callers_a_minute: *callers_a_minute,
             };
             serve_any_taken(rt, alloc, &serve.with(any), sink)
         }

@@ -268,8 +268,8 @@ fn pings<R: Clock>(rt: &R, serving: &ServeOptions, id: Guid) -> Option<Pings>
     }
 }
 
-/// How many call the router, who learns of each link as it ends where any number does, whether its peers are called again then, and the
-/// own servent's Pings.
+/// How many call the router, who learns of each link as it ends where any number does, whether its peers are called again then, the own
+/// servent's Pings, and how many of one address are let in within a minute.
 fn taking<'a, R: Clock, T>(
     rt: &R,
     serving: &ServeOptions,
@@ -279,12 +279,14 @@ fn taking<'a, R: Clock, T>(
     ensures accept { result.accept ≡ serving.now.accept }
     ensures again { result.again ≡ calls_again serving.now }
     ensures pings { is_some result.pings ≡ is_some serving.now.ping }
+    ensures rate { result.callers_a_minute ≡ serving.now.callers_a_minute }
 {
     Taking {
         accept: serving.accept,
         leaving,
         again: calls_again(serving),
         pings: pings(rt, serving, id),
+        callers_a_minute: serving.callers_a_minute,
     }
 }
 

@@ -122,6 +122,7 @@ fn written<
             // without peers it means nothing
             again: true,
             pings: None,
+            callers_a_minute: None,
         },
         workers: 2,
         limits: Serving {

@@ -116,6 +116,7 @@ fn written<
             leaving: counter,
             again: false,
             pings: Some(pings),
+            callers_a_minute: None,
         },
         workers: 2,
         limits: Serving {

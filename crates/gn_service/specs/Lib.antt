@@ -8,3 +8,4 @@ pub mod Tallies
 -- Words of the proofs.
 pub mod Newcomers
 pub mod Owing
+pub mod Rates

@@ -2,6 +2,7 @@
 
 use crate::doorstep::{Doorstep, Guest};
 use crate::entrance::Entrance;
+use crate::rate::Rate;
 use crate::registering::stopper_of;
 use std::alloc::{Allocator, Global};
 use std::net::{Net, TcpListener, TcpStream};
@@ -13,6 +14,8 @@ use std::time::Clock;
 pub(crate) struct Accepter<'a, N, A: Allocator = Global> {
     pub entrance: Entrance<'a, N, A>,
     pub doorstep: &'a Doorstep<'a>,
+    /// How many of one address are let in within a minute; `None`: as many as come.
+    pub callers_a_minute: Option<u32>,
 }
 
 impl<'a, N: Wait + Net<Listener = TcpListener, Stream = TcpStream> + Clock, A: Allocator> Accepter<
@@ -20,15 +23,19 @@ impl<'a, N: Wait + Net<Listener = TcpListener, Stream = TcpStream> + Clock, A: A
     N,
     A,
 > {
-    /// Waits for a caller, and puts it on the doorstep once it has all handles that it needs. Where the run is stopped meanwhile it is
-    /// let go.
-    fn accept(&self) {
+    /// Waits for a caller, and puts it on the doorstep once it has all handles that it needs. Where the run is stopped meanwhile, or too
+    /// many of its address have come, it is let go.
+    fn accept(&self, rate: &mut Rate) {
         let (net, stops) = (self.entrance.net, self.entrance.stops);
         let Ok(mut found) = self.entrance.accept() else {
             self.doorstep.fail(net);
             return;
         };
         if found.is_missing() {
+            return;
+        }
+        if !rate.lets_in(net, found.peer().ip()) {
+            self.doorstep.want();
             return;
         }
         if let Some(stopper) = stopper_of(net, stops, &mut found) {
@@ -39,12 +46,13 @@ impl<'a, N: Wait + Net<Listener = TcpListener, Stream = TcpStream> + Clock, A: A
     /// Accepts callers until the run is stopped, or over, or nobody can be accepted any more.
     pub(crate) fn run(&self) {
         let (net, stops) = (self.entrance.net, self.entrance.stops);
+        let mut rate = Rate::new(self.entrance.cells, self.callers_a_minute);
         for _ in net.forever() {
             if stops.is_stopped() || stops.is_over() || self.doorstep.has_failed() {
                 return;
             }
             if self.doorstep.wait(net) {
-                self.accept();
+                self.accept(&mut rate);
             }
         }
     }

@@ -13,6 +13,7 @@ use crate::entrance::Entrance;
 use crate::failing::{call_fault, cut_at, failed_too};
 use crate::host::Host;
 use crate::newcomers::Newcomers;
+use crate::owed::Owed;
 use crate::parting::{Parting, Told};
 use crate::pings::{Pinging, Reminder};
 use crate::ran::Ran;
@@ -81,7 +82,16 @@ where
             None => &own,
         };
         let (listener, again) = (self.serve.listener, self.serve.accept.again);
-        let stops = Stops::new(self.rt, self.alloc, stop, serving.grace(), listener, again);
+        let owed = Owed::of(self.serve, stop, self.serve.config.numbers.neighbours);
+        let stops = Stops::new(
+            self.rt,
+            self.alloc,
+            stop,
+            serving.grace(),
+            listener,
+            again,
+            owed,
+        );
         self.beside(&stops)
     }
 
@@ -108,7 +118,11 @@ where
         let doorstep = &doorstep;
         let reminder = &reminder;
         let entrance = Entrance::new(rt, rt.alloc(), self.serve.listener, stops);
-        let accepter = Accepter { entrance, doorstep };
+        let accepter = Accepter {
+            entrance,
+            doorstep,
+            callers_a_minute: self.serve.accept.callers_a_minute,
+        };
         let accepter = &accepter;
         let ((), answer) = thread::join(
             rt,
@@ -172,7 +186,7 @@ where
             routing,
         } = self;
         let (watch, numbers) = (serve.watch, &serve.config.numbers);
-        let gate = Counted::new(rt, watch, stops, numbers, numbers.neighbours);
+        let gate = Counted::new(rt, watch, stops);
         let incoming = Newcomers {
             entrance: Entrance::new(rt, rt.alloc(), serve.listener, stops),
             doorstep,

@@ -8,7 +8,7 @@ use std::time::{Clock, Duration, Instant};
 /// The most seconds that are waited before a peer is called.
 const LONGEST: u64 = 60;
 
-/// After so many seconds a connection has stood, and its peer is waited for no longer than at first.
+/// A connection that lasted for so many seconds has stood: once it has ended, only a second is waited before its peer is called.
 const STOOD: u64 = 60;
 
 /// A peer that is called.

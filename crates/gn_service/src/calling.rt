@@ -66,22 +66,37 @@ impl<
         Ok(TcpLink::missing(Role::Calling, Some(self.peer)))
     }
 
+    /// Calls the peer; where the system has no handle for it, again until that has one. None, where it couldn't be called or the run is
+    /// stopped meanwhile.
+    fn call_once(&self) -> Option<TcpLink<'static>> {
+        for _ in 0..u64::MAX {
+            if self.stops.is_stopped() {
+                return None;
+            }
+            match TcpLink::try_call(self.net, self.peer, Duration::from_secs(CALL)) {
+                Ok(found) => return Some(found),
+                Err(unmet) if unmet.wants_handle => pause(self.net),
+                Err(_) => return None,
+            }
+        }
+        None
+    }
+
     /// Calls the peer for as long as the run goes on, until it listens: each time after a wait, which grows.
     fn call_on(&self) -> TcpLink<'static> {
         let callees = &self.stops.callees;
         for _ in 0..u64::MAX {
             callees.wait(self.net, self.link, self.stops.stop.flag());
+            if let Some(found) = self.call_once() {
+                callees.come(self.net, self.link);
+                return found;
+            }
             if self.stops.is_stopped() {
                 break;
             }
-            match TcpLink::try_call(self.net, self.peer, Duration::from_secs(CALL)) {
-                Ok(found) => {
-                    callees.come(self.net, self.link);
-                    return found;
-                }
-                Err(unmet) if unmet.wants_handle => pause(self.net),
-                Err(_) => callees.slow_down(self.net, self.link),
-            }
+            callees.slow_down(self.net, self.link);
+            // where the clock can't be read the wait takes no time
+            pause(self.net);
         }
         TcpLink::missing(Role::Calling, Some(self.peer))
     }
@@ -211,7 +226,7 @@ impl<
         }
     }
 
-    /// Says that a Ping is due, where one is, as it was to be by then. When the next one is to be.
+    /// Reminds the run where the time has come at which a Ping is due. When the next one is due, since the run began.
     fn remind(&self, due: Option<Duration>) -> Option<Duration> {
         let reminder = self.reminder?;
         let every = reminder.every()?;
@@ -225,7 +240,7 @@ impl<
         Some(now.saturating_add(every))
     }
 
-    /// How long it is until then.
+    /// How long it is until this time, since the run began.
     fn until(&self, due: Option<Duration>) -> Option<Duration> {
         let now = self.stops.now(self.net)?;
         Some(due?.saturating_sub(now))

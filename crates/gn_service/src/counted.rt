@@ -1,9 +1,7 @@
 //! The gate of a run over TCP, which stops the run where it has to end.
 
-use crate::owed::{Nearness, Owed};
 use crate::stops::Stops;
 use gn_links::{Gate, Half, Made, Place};
-use gn_rules::Numbers;
 use std::alloc::{Allocator, Global};
 use std::sync::Wait;
 use std::time::Clock;
@@ -15,53 +13,20 @@ pub(crate) struct Counted<'a, G, R, A: Allocator = Global> {
     rt: &'a R,
     watch: &'a G,
     stops: &'a Stops<'a, A>,
-    /// `None`: no number of steps stops the run.
-    owed: Option<Owed>,
 }
 
 impl<'a, G, R, A: Allocator> Counted<'a, G, R, A> {
-    /// The gate of a run with this configuration and so many links, which has made no steps.
-    pub(crate) fn new(
-        rt: &'a R,
-        watch: &'a G,
-        stops: &'a Stops<'a, A>,
-        numbers: &Numbers,
-        links: u32,
-    ) -> Self {
-        let connected = links.min(numbers.neighbours);
-        let owed = if stops.stop.is_early() {
-            Some(Owed::new(numbers.steps, numbers.out, connected))
-        } else {
-            None
-        };
-        let gate = Counted {
-            rt,
-            watch,
-            stops,
-            owed,
-        };
-        if let Some(owed) = &gate.owed {
-            gate.look(owed);
-        }
-        gate
+    /// The gate of a run that has made no steps.
+    pub(crate) fn new(rt: &'a R, watch: &'a G, stops: &'a Stops<'a, A>) -> Self {
+        stops.look();
+        Counted { rt, watch, stops }
     }
 
     /// The own servent sends its neighbours a Ping next.
     pub(crate) fn pings(&self) {
-        if let Some(owed) = &self.owed {
+        if let Some(owed) = &self.stops.owed {
             owed.originated();
-            self.look(owed);
-        }
-    }
-
-    /// Slows the run down where it is near to its last step, and stops it where that might be next.
-    fn look(&self, owed: &Owed) {
-        let brake = self.stops.stop.brake();
-        match owed.nearness(brake.in_hand()) {
-            Nearness::Far => {}
-            Nearness::Near => brake.set(),
-            Nearness::Due if self.stops.is_stopped() => {}
-            Nearness::Due => self.stops.stop.set(),
+            self.stops.look();
         }
     }
 }
@@ -69,20 +34,20 @@ impl<'a, G, R, A: Allocator> Counted<'a, G, R, A> {
 impl<'a, G: Gate, R: Wait + Clock, A: Allocator> Gate for Counted<'a, G, R, A> {
     fn enter<W: Wait>(&self, rt: &W, worker: u32, ticket: u32) {
         self.watch.enter(rt, worker, ticket);
-        if let Some(owed) = &self.owed {
+        if let Some(owed) = &self.stops.owed {
             owed.routed();
-            self.look(owed);
+            self.stops.look();
         }
     }
 
     fn made(&self, place: Place, step: Made) {
         self.watch.made(place, step);
-        if let Some(owed) = &self.owed {
+        if let Some(owed) = &self.stops.owed {
             owed.made(step);
             if let Made::Admitted(_) | Made::Busy = step {
                 self.stops.stop.brake().offered(place.slot);
             }
-            self.look(owed);
+            self.stops.look();
         }
     }
 

@@ -82,6 +82,11 @@ impl<'a> Doorstep<'a> {
         guest
     }
 
+    /// Who came isn't let in, so that somebody is wanted still.
+    pub(crate) fn want(&self) {
+        self.is_wanted.store(true, Ordering::SeqCst);
+    }
+
     /// Whether nobody can be accepted any more.
     pub(crate) fn has_failed(&self) -> bool {
         self.has_failed.load(Ordering::SeqCst)

@@ -21,7 +21,8 @@ use std::time::Clock;
 #[derive(Drop)]
 pub(crate) struct Entrance<'a, N, A: Allocator = Global> {
     pub net: &'a N,
-    /// Where the cells come from that the halves of a called link share with who calls its peer.
+    /// Where the cells come from that the halves of a called link share with who calls its peer, and the table of the addresses that
+    /// called last.
     pub cells: Global,
     pub listener: &'a TcpListener,
     pub stops: &'a Stops<'a, A>,

@@ -19,6 +19,7 @@ mod parting;
 mod peers;
 mod pings;
 mod ran;
+mod rate;
 mod registering;
 mod running;
 mod serve;

@@ -96,8 +96,8 @@ impl<A: Allocator> LiveLinks<A> {
     }
 
     /// A half of a link has ended. Its handle is given up where both have; else it is shut at this time, where this is its
-    /// writer. False where the link never came.
-    pub(crate) fn end(&mut self, link: u32, half: Half, due: Duration) -> bool {
+    /// writer. Whether both have; `None`: the link never came.
+    pub(crate) fn end(&mut self, link: u32, half: Half, due: Duration) -> Option<bool> {
         for slot in &mut self.links {
             let has_ended = match slot {
                 Some(live) if live.link == link => {
@@ -109,9 +109,9 @@ impl<A: Allocator> LiveLinks<A> {
             if has_ended {
                 *slot = None;
             }
-            return true;
+            return Some(has_ended);
         }
-        false
+        None
     }
 
     /// All links are shut at this time, or at an earlier one that was said before.

@@ -9,7 +9,7 @@ use std::sync::atomic::{AtomicBool, Ordering};
 use std::time::Duration;
 
 /// The Pings that the own servent of a run sends its neighbours: how long after one the next one is due, and the ID of the first. In the last
-/// four bytes of the others' IDs their number is added bit by bit.
+/// four bytes of the others' IDs their number is added bit by bit. Where the time is zero none is sent.
 #[derive(Clone, Copy, Debug)]
 pub struct Pings {
     pub every: Duration,
@@ -30,8 +30,8 @@ impl<'a> Reminder<'a> {
         Reminder {
             signal,
             every: match pings {
-                Some(pings) => Some(pings.every),
-                None => None,
+                Some(pings) if !pings.every.is_zero() => Some(pings.every),
+                _ => None,
             },
             is_due: AtomicBool::new(false),
         }

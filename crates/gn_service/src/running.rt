@@ -11,6 +11,7 @@ use crate::counted::Counted;
 use crate::entrance::Entrance;
 use crate::failing::{call_fault, failed_at, failed_too};
 use crate::host::Host;
+use crate::owed::Owed;
 use crate::peers::{Peers, roles_of};
 use crate::pings::Reminder;
 use crate::serving::{Serve, Serving};
@@ -51,6 +52,12 @@ impl<
 where
     W::Followed: Send + Drop,
 {
+    /// How many links it has.
+    fn links(&self) -> u32 {
+        let calls = self.serve.peers.len() as u32;
+        calls.saturating_add(self.serve.accept)
+    }
+
     /// Runs the router, and calls the peers beside it.
     pub(crate) fn watched(
         self,
@@ -71,7 +78,8 @@ where
             None => &own,
         };
         let listener = self.serve.listener;
-        let stops = Stops::new(rt, self.alloc, stop, serving.grace(), listener, false);
+        let owed = Owed::of(self.serve, stop, self.links());
+        let stops = Stops::new(rt, self.alloc, stop, serving.grace(), listener, false, owed);
         let stops = &stops;
         let ((), answer) = thread::join(
             rt,
@@ -130,7 +138,7 @@ where
         let roles = &all[..links];
         let numbers = &serve.config.numbers;
         begin(watch, numbers, serve.accept, stops);
-        let gate = Counted::new(rt, watch, stops, numbers, links as u32);
+        let gate = Counted::new(rt, watch, stops);
         let arrivals = Peers {
             entrance: Entrance {
                 net: rt,

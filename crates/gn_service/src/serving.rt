@@ -16,7 +16,8 @@ use std::time::Duration;
 pub struct Serving<'s> {
     /// A read or a write that waits longer fails; `None`: it waits without a limit.
     pub idle: Option<Duration>,
-    /// A peer that can't be called is called again until so much time has passed; `None`: it is called once.
+    /// A peer that can't be called is called again until so much time has passed; `None`: it is called once. Where `Any` says that peers
+    /// are called again it means nothing.
     pub retry: Option<Duration>,
     /// How long a neighbour that was let go is still listened to, and how long a run that is stopped goes on; `None`: 5 seconds.
     pub grace: Option<Duration>,
@@ -76,6 +77,9 @@ pub struct Any<'a, T> {
     /// Whether each peer is called for as long as the run goes on: again, where it isn't there or goes.
     pub again: bool,
     pub pings: Option<Pings>,
+    /// How many callers from one IP address are let in within a minute, which begins with the first of them: further ones are
+    /// disconnected at once, and are no links of the run. `None`: as many as come; of `Some(0)` nobody is let in.
+    pub callers_a_minute: Option<u32>,
 }
 
 /// The seconds of grace that a run gives that is told nothing else.

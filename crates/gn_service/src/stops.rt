@@ -3,6 +3,7 @@
 use crate::asked::Asked;
 use crate::callees::Callees;
 use crate::live::LiveLinks;
+use crate::owed::{Nearness, Owed};
 use crate::stop::{Stop, earlier};
 use gn_links::Half;
 use gn_tcp::{ListenerStopper, TcpStopper};
@@ -23,6 +24,8 @@ pub(crate) struct Stops<'a, A: Allocator = Global> {
     /// `None`, where the system gave no handle for it.
     listener: Option<ListenerStopper>,
     links: Mutex<LiveLinks<A>>,
+    /// `None`: no number of steps stops the run.
+    pub owed: Option<Owed>,
     pub callees: Callees<A>,
     /// The calls that nobody has begun yet.
     calls: Mutex<Vec<Asked, A>>,
@@ -45,7 +48,7 @@ fn later(now: Option<Duration>, tick: Option<Duration>) -> Option<Duration> {
 }
 
 impl<'a, A: Allocator> Stops<'a, A> {
-    /// Of a run that begins, and calls its peers again or not: no link has come yet.
+    /// Of a run that begins, which owes this, and calls its peers again or not: no link has come yet.
     pub(crate) fn new<R: Clock>(
         rt: &R,
         alloc: A,
@@ -53,6 +56,7 @@ impl<'a, A: Allocator> Stops<'a, A> {
         grace: Duration,
         listener: &TcpListener,
         again: bool,
+        owed: Option<Owed>,
     ) -> Self
     where
         A: Copy,
@@ -63,6 +67,7 @@ impl<'a, A: Allocator> Stops<'a, A> {
             begun: Instant::now(rt).ok(),
             listener: ListenerStopper::of(listener).ok(),
             links: Mutex::new(LiveLinks::new(alloc)),
+            owed,
             callees: Callees::new(alloc, again),
             calls: Mutex::new(Vec::new(alloc)),
             asked: AtomicU64::new(0),
@@ -159,7 +164,21 @@ impl<'a, A: Allocator> Stops<'a, A> {
         }
     }
 
-    /// A link has come.
+    /// Slows the run down where it is near to its last step, and stops it where that might be next.
+    pub(crate) fn look(&self) {
+        let Some(owed) = &self.owed else {
+            return;
+        };
+        let brake = self.stop.brake();
+        match owed.nearness(brake.in_hand()) {
+            Nearness::Far => {}
+            Nearness::Near => brake.set(),
+            Nearness::Due if self.is_stopped() => {}
+            Nearness::Due => self.stop.set(),
+        }
+    }
+
+    /// A link has come, whose threads make no step before.
     pub(crate) fn add<R: Wait>(
         &self,
         rt: &R,
@@ -167,6 +186,10 @@ impl<'a, A: Allocator> Stops<'a, A> {
         stopper: TcpStopper,
     ) -> Result<(), AllocError> {
         self.links.lock(rt).add(link, stopper)?;
+        if let Some(owed) = &self.owed {
+            owed.came();
+            self.look();
+        }
         self.stop.wake();
         Ok(())
     }
@@ -174,9 +197,12 @@ impl<'a, A: Allocator> Stops<'a, A> {
     /// A half of a link has ended. False where the link never came.
     pub(crate) fn ended<R: Wait + Clock>(&self, rt: &R, link: u32, half: Half) -> bool {
         let due = self.grace_end(self.now(rt));
-        let has_come = self.links.lock(rt).end(link, half, due);
+        let ended = self.links.lock(rt).end(link, half, due);
+        if let (Some(true), Some(owed)) = (ended, &self.owed) {
+            owed.went();
+        }
         self.stop.wake();
-        has_come
+        ended.is_some()
     }
 
     /// The run has failed: its links are shut at once.
@@ -193,7 +219,10 @@ impl<'a, A: Allocator> Stops<'a, A> {
 
     /// The run is stopped: nobody is accepted, and its links are shut once the grace is over, or now, where it has failed.
     fn stop_links<R: Wait>(&self, rt: &R, now: Option<Duration>) {
-        self.stop.set();
+        // it wakes who waits, which is this thread
+        if !self.is_stopped() {
+            self.stop.set();
+        }
         let until = if self.has_failed() {
             Duration::ZERO
         } else {

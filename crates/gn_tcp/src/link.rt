@@ -199,6 +199,11 @@ impl<'s> TcpLink<'s> {
         self.other.is_some()
     }
 
+    /// The peer's address. Of one that called and never came it is 0.0.0.0:0.
+    pub fn peer(&self) -> SocketAddr {
+        self.peer
+    }
+
     /// Whether its peer never comes.
     pub fn is_missing(&self) -> bool {
         matches!(self.socket, Socket::Missing)

@@ -63,6 +63,7 @@ plain_words = record {
   always = λ program. refl;
   not_always = λ program. refl;
   no_pings = λ program. refl;
+  no_rate = λ program. refl;
   no_port = λ program. refl;
   accepts = λ program. refl;
   workers = λ program. refl;

@@ -73,11 +73,15 @@ retry_text Never = decimal 0
 retry_text (For seconds) = decimal seconds
 retry_text Always = codes "always"
 
--- when a peer is given up, how one is found that has gone, and how much is done at once
+-- when a peer is given up, how one is found that has gone, how often one may call, and how much is done at once
 abbrev pub patience_lines : AskedServe → Text
 patience_lines serving =
     numbers_lines ((codes "idle", seconds_of serving.idle) ∷ []) ++ option_line (codes "retry") (retry_text serving.retry)
-    ++ numbers_lines ((codes "ping", seconds_of serving.ping) ∷ (codes "batch", serving.batch) ∷ [])
+    ++ numbers_lines
+    ((codes "ping", seconds_of serving.ping)
+    ∷ (codes "callers-a-minute", unwrap_or serving.callers_a_minute 0)
+    ∷ (codes "batch", serving.batch)
+    ∷ [])
 
 -- the numbers of the rules
 abbrev pub rules_lines : Numbers → Text

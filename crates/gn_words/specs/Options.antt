@@ -123,6 +123,12 @@ ping_of accept rows = do
   seconds ← number_asked (codes "ping") 0 86400 rows
   if seconds == 0 then Some None else if is_some accept then None else Some (Some seconds)
 
+-- how many callers of one address are let in within a minute, where that is asked for, as it is only where any number of callers is taken
+abbrev pub callers_a_minute_of : Option ℕ → List Row → Option (Option ℕ)
+callers_a_minute_of accept rows = do
+  callers ← number_asked (codes "callers-a-minute") 0 60000 rows
+  if callers == 0 then Some None else if is_some accept then None else Some (Some callers)
+
 -- the limit that a number of seconds says: none, where there are none
 abbrev pub limit_of : ℕ → Option ℕ
 limit_of seconds = if seconds == 0 then None else Some seconds
@@ -165,6 +171,7 @@ serving_of rows = do
   kilobytes ← word_of (codes "kilobytes") rows
   peers ← peers_of rows
   ping ← ping_of accept rows
+  callers_a_minute ← callers_a_minute_of accept rows
   batch ← batch_of rows
   numbers ← numbers_of rows
   times ← times_of rows
@@ -180,6 +187,7 @@ serving_of rows = do
     idle = times.idle;
     retry = retry;
     ping = ping;
+    callers_a_minute = callers_a_minute;
     batch = batch;
     numbers = numbers;
     seconds = times.seconds;

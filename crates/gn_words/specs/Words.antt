@@ -60,8 +60,8 @@ abbrev pub load_app : App
 load_app = with_rules (new_app (codes "load")) (workers_rule ∷ flag_rule (codes "progress") ∷ [])
 
 -- the subcommand `serve` before it is said what is printed: what has to be given and who the router is; whom it calls, when it
--- gives one up, how it finds one that has gone, and how many packets it writes to one at once; the numbers of its rules; what stops it,
--- and how long it then has
+-- gives one up, how it finds one that has gone, how often one may call, and how many packets it writes to one at once; the numbers of its
+-- rules; what stops it, and how long it then has
 abbrev pub quiet_app : App
 quiet_app = with_rules (new_app (codes "serve"))
     (value_rule (codes "port")
@@ -74,6 +74,7 @@ quiet_app = with_rules (new_app (codes "serve"))
     ∷ default_rule (codes "idle") (codes "0")
     ∷ default_rule (codes "retry") (codes "0")
     ∷ default_rule (codes "ping") (codes "0")
+    ∷ default_rule (codes "callers-a-minute") (codes "0")
     ∷ default_rule (codes "batch") (codes "64")
     ∷ default_rule (codes "neighbours") (codes "64")
     ∷ default_rule (codes "remembered") (codes "4096")
@@ -226,6 +227,7 @@ usual_serve =
       idle = None;
       retry = Never;
       ping = None;
+      callers_a_minute = None;
       batch = 64;
       numbers = record {
         neighbours = 64;
@@ -263,6 +265,7 @@ full_serve =
       idle = Some 86400;
       retry = For 7;
       ping = Some 30;
+      callers_a_minute = Some 600;
       batch = 1024;
       numbers = record {
         neighbours = 2;
@@ -329,6 +332,10 @@ pub record PlainWordsAreRead : Type 0 where
   -- its own servent sends Pings where any number of callers is taken alone
   pub no_pings : (program : Text)
       → kinds_of (serve_words program (codes "6346") (codes "1") (codes "1") (codes "--ping" ∷ codes "1" ∷ []))
+      ≡ ValueValidation ∷ []
+  -- a serve of so many callers limits none of one address
+  pub no_rate : (program : Text)
+      → kinds_of (serve_words program (codes "6346") (codes "1") (codes "1") (codes "--callers-a-minute" ∷ codes "1" ∷ []))
       ≡ ValueValidation ∷ []
   pub no_port : (program : Text)
       → kinds_of (serve_words program (codes "0") (codes "1") (codes "1") []) ≡ ValueValidation ∷ []

@@ -5,7 +5,7 @@ ghost use Rattle.std.specs.Option.{option_map_or};
 ghost use Rattle.std.specs.Str.{bytes_eq};
 ghost use Rattle.clap.specs.Words.{found_of, rows_of};
 ghost use Rattle.gn_words.specs.ConfigTexts.{callers_text};
-ghost use Rattle.gn_words.specs.Options.{IsReadAs, accept_of, ping_of};
+ghost use Rattle.gn_words.specs.Options.{IsReadAs, accept_of, callers_a_minute_of, ping_of};
 
 use crate::numbers::{NumberOption, asked};
 use crate::unread::Unread;
@@ -27,6 +27,14 @@ const PING: NumberOption = NumberOption {
     least: 0,
     most: 86_400,
     mistake: "--ping takes a number of seconds, 0 to 86400",
+};
+
+/// What `--callers-a-minute` takes: at most a thousand a second.
+const CALLERS_A_MINUTE: NumberOption = NumberOption {
+    name: "callers-a-minute",
+    least: 0,
+    most: 60_000,
+    mistake: "--callers-a-minute takes a number of 0 to 60000",
 };
 
 /// Whether a text says that any number of callers is taken.
@@ -65,6 +73,24 @@ pub(crate) fn ping_of(options: &ArgMatches<'_>, accept: Option<u32>) -> Result<O
         return Err(Unread::Mistake("--ping is taken only with --accept any"));
     }
     Ok(Some(seconds))
+}
+
+/// How many callers of one address `--callers-a-minute` lets in within a minute; `None`: as many as come. A mistake, where not any number
+/// of callers is taken.
+pub(crate) fn callers_a_minute_of(
+    options: &ArgMatches<'_>,
+    accept: Option<u32>,
+) -> Result<Option<u32>, Unread>
+    ensures { IsReadAs (λ callers. callers) (callers_a_minute_of accept (rows_of (found_of options.now))) result }
+{
+    let callers = asked(options, &CALLERS_A_MINUTE)?;
+    if callers == 0 {
+        return Ok(None);
+    }
+    if accept.is_some() {
+        return Err(Unread::Mistake("--callers-a-minute is taken only with --accept any"));
+    }
+    Ok(Some(callers))
 }
 
 /// What says how many callers are taken.

@@ -156,7 +156,8 @@ fn push_shared(alloc: Global, out: &mut Vec<u8>, serving: &ServeOptions) -> Resu
     )
 }
 
-/// Appends when a peer is given up, how one is found that has gone, and how much is done at once. An `Err` is out of memory.
+/// Appends when a peer is given up, how one is found that has gone, how often one may call, and how much is done at once.
+/// An `Err` is out of memory.
 fn push_patience(alloc: Global, out: &mut Vec<u8>, serving: &ServeOptions) -> Result<(), AllocError>
     ensures { OnOk result (out.new.items ≡ out.old.items ++ patience_lines serving.now) }
 {
@@ -165,7 +166,11 @@ fn push_patience(alloc: Global, out: &mut Vec<u8>, serving: &ServeOptions) -> Re
     push_numbers(
         alloc,
         out,
-        &[("ping", seconds_of(serving.ping)), ("batch", serving.batch)],
+        &[
+            ("ping", seconds_of(serving.ping)),
+            ("callers-a-minute", serving.callers_a_minute.unwrap_or(0)),
+            ("batch", serving.batch),
+        ],
     )
 }
 

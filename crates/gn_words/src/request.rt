@@ -81,6 +81,8 @@ pub struct ServeOptions {
     pub retry: Retry,
     /// The seconds between two Pings of the own servent to its neighbours; `None`: it sends none.
     pub ping: Option<u32>,
+    /// How many callers of one address are let in within a minute; `None`: as many as come.
+    pub callers_a_minute: Option<u32>,
     /// How many packets are written to a neighbour at once at most.
     pub batch: u32,
     /// The numbers of the router's rules.
@@ -123,6 +125,7 @@ impl Model for ServeOptions {
       idle = s.idle;
       retry = s.retry;
       ping = s.ping;
+      callers_a_minute = s.callers_a_minute;
       batch = s.batch;
       numbers = s.numbers;
       seconds = s.seconds;

@@ -7,7 +7,7 @@ ghost use Rattle.gn_rules.specs.Limits.{AreWithin, most};
 ghost use Rattle.gn_words.specs.Options.{IsReadAs, limit_of, number_asked, numbers_of, servent_in, servent_of, serving_of, times_of};
 ghost use Rattle.gn_words.specs.Words.{quiet_app, serve_app, serve_of};
 
-use crate::callers::{accept_of, ping_of};
+use crate::callers::{accept_of, callers_a_minute_of, ping_of};
 use crate::numbers::{NumberOption, WORKERS, WORKERS_ROW, asked};
 use crate::peers::peers_of;
 use crate::request::{Request, Retry, ServeOptions, Servent};
@@ -26,11 +26,11 @@ const ABOUT: &str = "Routes for peers on this machine over TCP, and prints the h
 /// How it is called.
 const USAGE: &str =
     "gn serve --port P --accept A --workers V [--servent HEX32] [--files N] [--kilobytes N]
-                [--peer IP:PORT].. [--idle SECONDS] [--retry SECONDS] [--ping SECONDS] [--batch N]
-                [--neighbours N] [--remembered N] [--servents N] [--stage N] [--queue N] [--life L]
-                [--crowd Q] [--steps N] [--for SECONDS] [--grace SECONDS] [--stop-early]
-                [--until-eof] [--keep-history] [--times] [--links] [--report] [--progress]
-                [--print-config]";
+                [--peer IP:PORT].. [--idle SECONDS] [--retry SECONDS] [--ping SECONDS]
+                [--callers-a-minute N] [--batch N] [--neighbours N] [--remembered N] [--servents N]
+                [--stage N] [--queue N] [--life L] [--crowd Q] [--steps N] [--for SECONDS]
+                [--grace SECONDS] [--stop-early] [--until-eof] [--keep-history] [--times] [--links]
+                [--report] [--progress] [--print-config]";
 
 /// What it does, how it ends, and what it prints, with an example.
 const TEXTS: &str = "\
@@ -57,8 +57,8 @@ examples/gn.service is a unit for a service manager, with a standard input that 
 
 A run that would make more than its most steps ends there, with the fault `history full`: one
 neighbour alone makes a million in a second. With `--stop-early` the router stops before, and is
-done; what it still has to read of a piece and to write takes the last tenth of the steps. An audit
-and `gn show` have no limit.
+done: the last tenth of the steps is for what it still has to read and to write, and more of them
+where neighbours flood it. An audit and `gn show` have no limit.
 
 Example: two routers of which the second calls the first, in whichever order they start. Both end
 after 5 seconds.
@@ -116,8 +116,8 @@ How many kilobytes its own Pongs say that it shares,
     },
 ];
 
-/// Whom it calls, when it gives a peer up, and how it writes to one.
-const NEIGHBOURS: [OptionRow; 5] = [
+/// Whom it calls, when it gives a peer up, how often one may call, and how it writes to one.
+const NEIGHBOURS: [OptionRow; 6] = [
     OptionRow {
         name: "peer",
         letter: None,
@@ -129,37 +129,47 @@ const NEIGHBOURS: [OptionRow; 5] = [
         letter: None,
         takes: Takes::Usual("SECONDS", "0"),
         help: "\
-A peer that is silent, or takes nothing, for so many seconds is given up,
-0 to 86400; 0: never",
+A peer that is silent, or takes nothing, for so many seconds is given
+up, 0 to 86400; 0: never",
     },
     OptionRow {
         name: "retry",
         letter: None,
         takes: Takes::Usual("SECONDS", "0"),
         help: "\
-A peer that doesn't listen yet is called again for so many seconds, while
-the others are served, 0 to 86400; 0: it is called once; or always, with
---accept any: for as long as the router runs, also once it has gone, which
---ping finds",
+A peer that doesn't listen yet is called again for so many seconds,
+while the others are served, 0 to 86400; 0: it is called once; or
+always, with --accept any: for as long as the router runs, also once
+it has gone, which --ping finds",
     },
     OptionRow {
         name: "ping",
         letter: None,
         takes: Takes::Usual("SECONDS", "0"),
         help: "\
-The router sends its neighbours a Ping with TTL 1 every so many seconds,
-0 to 86400; 0: never. One that has gone is found as a write fails, at the
-second Ping, and its place is free. Only with --accept any",
+The router sends its neighbours a Ping with TTL 1 every so many
+seconds, 0 to 86400; 0: never. One that has gone is found as a write
+fails, at the second Ping, and its place is free. Only with
+--accept any",
+    },
+    OptionRow {
+        name: "callers-a-minute",
+        letter: None,
+        takes: Takes::Usual("N", "0"),
+        help: "\
+How many callers from one IP address are let in within a minute,
+0 to 60000; 0: as many as come. Further ones are disconnected at
+once. Only with --accept any",
     },
     OptionRow {
         name: "batch",
         letter: None,
         takes: Takes::Usual("N", "64"),
         help: "\
-How many packets are written to a neighbour at once at most, 1 to 1024;
-as many descriptors are admitted, and routed by a worker, at once.
-A larger batch is faster. Where a write fails, up to so many packets that
-were taken for that neighbour are lost",
+How many packets are written to a neighbour at once at most, 1 to
+1024; as many descriptors are admitted, and routed by a worker, at
+once. A larger batch is faster. Where a write fails, up to so many
+packets that were taken for that neighbour are lost",
     },
 ];
 
@@ -567,6 +577,7 @@ fn serving_of(alloc: Global, options: &ArgMatches<'_>) -> Result<ServeOptions, U
     let kilobytes = asked(options, &KILOBYTES)?;
     let peers = peers_of(alloc, options)?;
     let ping = ping_of(options, accept)?;
+    let callers_a_minute = callers_a_minute_of(options, accept)?;
     let batch = asked(options, &BATCH)?;
     let numbers = numbers_of(options)?;
     let times = times_of(options)?;
@@ -582,6 +593,7 @@ fn serving_of(alloc: Global, options: &ArgMatches<'_>) -> Result<ServeOptions, U
         idle: times.idle,
         retry,
         ping,
+        callers_a_minute,
         batch,
         numbers,
         seconds: times.seconds,

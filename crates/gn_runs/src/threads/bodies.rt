@@ -130,6 +130,8 @@ pub(crate) struct Setting<'a> {
     connected: u32,
     /// Whether it has no worker.
     is_alone: bool,
+    /// How many reads of its link may give bytes.
+    turns: u32,
     /// How many packets its writer takes at once at most.
     batch: u32,
     /// The memory of the bodies, and which of their growths it refuses; nothing else that the run does is refused any.
@@ -142,6 +144,7 @@ const USUAL: Setting<'static> = Setting {
     forged: None,
     connected: 0,
     is_alone: false,
+    turns: 1_000_000,
     batch: 1,
     refused: None,
 };
@@ -268,6 +271,7 @@ fn in_turn<A, C, B: Site + Ledger + Named, Rd: LinkReader, W: LinkWriter, R: Wai
     intake: Intake<B, A>,
     outlet: Option<Outlet<B, A>>,
     role: Role,
+    turns: u32,
     batch: Batch,
     reader: Rd,
     writer: W,
@@ -291,7 +295,7 @@ where
     begin_refusals(refused);
     let reads = ReaderTask {
         role,
-        turns: 1_000_000,
+        turns,
         batch,
         reader,
         intake,
@@ -449,6 +453,7 @@ where
         intake,
         outlet,
         role,
+        setting.turns,
         Batch::of(setting.batch).unwrap_or(Batch::one()),
         reader,
         writer,

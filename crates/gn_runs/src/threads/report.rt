@@ -1,8 +1,10 @@
 //! The report of the worked run, and what `flaw` names where a part of it is changed.
 
-ghost use Rattle.std.specs.Prelude.{◌≡◌, length, IfOk};
+ghost use Rattle.std.specs.Prelude.{◌≡◌, ◌+◌, length, IfOk};
+ghost use Rattle.gn_actors.specs.Tallies.{last_place, no_tally, tally_of};
 
 use crate::threads::runs::table_run;
+use gn_actors::Tally;
 use gn_bodies::{ReaderEnd, WriterEnd};
 use gn_fixtures::{PING, ping};
 use gn_links::{MemoryLink, NoGate};
@@ -10,6 +12,7 @@ use gn_report::*;
 use gn_rules::{Event, Receipt, Reply, Stats, Step};
 use gn_run_fixtures::a_report;
 use gn_shake::Role;
+use gn_trail::Trail;
 use std::alloc::Global;
 use std::sync::Wait;
 use std::test::Fail;
@@ -276,5 +279,50 @@ fn the_house_is_named_for_a_ticket(rt: HostRuntime) -> Result<(), Fail> {
     let steps = unrouted(rt.alloc())?;
     let flaw = flaw_of(rt.alloc(), steps, ReaderEnd::ReadFailed, WriterEnd::Closed)?;
     assert_eq!(rt; flaw, Some(3));
+    Ok(())
+}
+
+/// What is known of who made one step alone, a Close at this index.
+fn closed_at(index: u32) -> Unkept<Receipt>
+    ensures place { last_place result.items ≡ index + 1 }
+    ensures tally { tally_of result.items ≡ no_tally }
+{
+    let receipt: Receipt = Receipt {
+        index,
+        event: Event::Close(1),
+        reply: Reply::Closed(0),
+    };
+    let closed = Trail::new().and(&receipt);
+    drop(receipt);
+    unkept_trail(&closed)
+}
+
+/// Whether a look finds a run of one plain link right, whose reader came to its end and whose writer drained the connection, where each made
+/// one step alone, at these indices.
+fn is_in_order(read: u32, wrote: u32) -> bool {
+    let link: LinkAccount<(), ()> = LinkAccount {
+        role: Role::Plain,
+        conn: Some(1),
+        reader_end: ReaderEnd::Bytes,
+        reader_receipts: closed_at(read),
+        reader: (),
+        writer_end: WriterEnd::Drained,
+        writer_receipts: closed_at(wrote),
+        writer: (),
+        read: Tally::new(),
+        written: Tally::new(),
+        last_read: u64::from(read) + 1,
+        last_written: u64::from(wrote) + 1,
+        written_on: Some(1),
+        idle: None,
+    };
+    let mut looks = Looks::none::<(), (), Global>();
+    looks.count(&link);
+    looks.are_right()
+}
+
+#[test]
+fn a_drain_comes_last(rt: HostRuntime) -> Result<(), Fail> {
+    assert!(rt; is_in_order(1, 2) && !is_in_order(2, 1));
     Ok(())
 }

@@ -3,6 +3,7 @@
 ghost use Rattle.std.specs.Prelude.{◌≡◌, ◌+◌};
 
 use crate::threads::hub::{Caller, callers_of, service_of};
+use crate::threads::slots::open_of;
 use gn_actors::{Named, Unopened};
 use gn_fixtures::{ping, usual};
 use gn_hub::{Batch, Outgoing, Role, Service};
@@ -296,5 +297,71 @@ fn a_waiting_writer_wakes(rt: HostRuntime) -> Result<(), Fail> {
     for _ in 0..20 {
         assert_eq!(rt; wake_plain(&rt, rt.alloc())?, Some(8));
     }
+    Ok(())
+}
+
+/// Connects by the call that may make several steps: how many receipts it gives.
+fn connect_at_once<A: Allocator + Copy, C: Historian<A> + Drop, L: Ledger + Named, R: Wait>(
+    rt: &R,
+    alloc: A,
+    service: &Service<C, L, A>,
+    caller: &mut Caller<L, A>,
+) -> Option<usize> {
+    let Ok(events) = vec![in alloc; Event::Connect] else {
+        return None;
+    };
+    let Caller { me, receipts } = caller;
+    let _ = service.call_all(rt, me, events.as_slice(), receipts);
+    drop(events);
+    Some(receipts.len())
+}
+
+/// Routes the first Ping by the call that may make several steps: where the actor knows its last step to stand.
+fn route_at_once<A: Allocator + Copy, C: Historian<A> + Drop, L: Ledger + Named, R: Wait>(
+    rt: &R,
+    alloc: A,
+    service: &Service<C, L, A>,
+    caller: &mut Caller<L, A>,
+) -> Option<u64> {
+    let checked = Checked::new(ping(0, 7, 0).ok()?);
+    let Ok(jobs) = vec![in alloc; (0, checked)] else {
+        return None;
+    };
+    let _ = service.route_all(rt, &mut caller.me, jobs.as_slice());
+    drop(jobs);
+    Some(caller.me.last())
+}
+
+/// What the first actor of a run finds that connects, and admits and routes a Ping.
+fn at_once<A: Allocator + Copy, C: Historian<A> + Drop, L: Ledger + Named, R: Wait>(
+    rt: &R,
+    alloc: A,
+    unopened: Unopened<A>,
+) -> Result<(Option<usize>, Option<u64>), Fail>
+    requires name { (unopened.blank.name ≡ L.name) × (unopened.steps.name ≡ L.growing) }
+    requires parts { (unopened.blank.parts ≡ L.parts) × (unopened.blank.parts ≡ 1) }
+{
+    let (service, me) = open_of::<A, C, L>(alloc, unopened)?;
+    let mut caller = Caller {
+        me,
+        receipts: Vec::new(alloc),
+    };
+    let given = connect_at_once(rt, alloc, &service, &mut caller);
+    let _ = admit(rt, &service, &mut caller, 0);
+    Ok((given, route_at_once(rt, alloc, &service, &mut caller)))
+}
+
+/// That run at the plain router.
+fn at_once_plain<A: Allocator + Copy, R: Wait>(
+    rt: &R,
+    alloc: A,
+) -> Result<(Option<usize>, Option<u64>), Fail> {
+    at_once::<A, PlainRouter<A>, Brand, R>(rt, alloc, Unopened::new(1))
+}
+
+/// The first step of a run gives its receipt, too, and who made the third knows where that stands.
+#[test]
+fn steps_at_once(rt: HostRuntime) -> Result<(), Fail> {
+    assert_eq!(rt; at_once_plain(&rt, rt.alloc())?, (Some(1), Some(3)));
     Ok(())
 }

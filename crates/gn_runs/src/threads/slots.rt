@@ -17,7 +17,7 @@ use std::sync::ledger::Ledger;
 use std::test::Fail;
 
 /// The service of a run of two slots, and an actor whose number is none of theirs.
-fn open_of<A: Allocator + Copy, C: Historian<A> + Drop, L: Ledger + Named>(
+pub(super) fn open_of<A: Allocator + Copy, C: Historian<A> + Drop, L: Ledger + Named>(
     alloc: A,
     unopened: Unopened<A>,
 ) -> Result<(Service<C, L, A>, Actor<L, A>), Fail>

@@ -1,6 +1,6 @@
-//! Writers that take one packet at a time, and two.
+//! Writers that take one packet at a time, and two; and a reader that admits two descriptors at once.
 
-use super::{Setting, USUAL, run_link};
+use super::{Setting, Told, USUAL, run_link};
 use gn_bodies::{ReaderEnd, WriterEnd};
 use gn_fixtures::OWN_PONG;
 use gn_links::MemoryLink;
@@ -43,5 +43,42 @@ fn writes<R: Wait>(
 fn a_batch_is_one_write(rt: HostRuntime) -> Result<(), Fail> {
     assert!(rt; writes(&rt, rt.alloc(), 1, WriterEnd::WriteFailed, OWN_PONG)?);
     assert!(rt; writes(&rt, rt.alloc(), 2, WriterEnd::Drained, PONGS)?);
+    Ok(())
+}
+
+/// What a gate is told of a link of these Pings that is read once.
+const READ_ONCE: Told = [
+    "connected",
+    "admitted",
+    "admitted",
+    "closed",
+    "passed",
+    "passed",
+    "",
+    "",
+];
+
+/// Whether a reader that may make one read admits both Pings and closes, and they are routed all the same.
+fn reads_once<R: Wait>(rt: &R, alloc: Global) -> Result<bool, Fail> {
+    let once = Setting {
+        turns: 1,
+        batch: 2,
+        ..USUAL
+    };
+    let link = MemoryLink::new(Role::Plain, PINGS.to_vec(alloc)?, 4096);
+    match run_link(rt, alloc, once, link) {
+        Some(ran) => {
+            let is_so = ran.ends == (Ok(ReaderEnd::Turns), Ok(()), Ok(WriterEnd::Closed))
+                && ran.told == READ_ONCE;
+            drop(ran);
+            Ok(is_so)
+        }
+        None => Ok(false),
+    }
+}
+
+#[test]
+fn one_read_of_two_pings(rt: HostRuntime) -> Result<(), Fail> {
+    assert!(rt; reads_once(&rt, rt.alloc())?);
     Ok(())
 }
