@@ -11,9 +11,9 @@ use Rattle.gn_io.specs.Counts.{Rises}
 use Rattle.gn_io.specs.Parts.{AppendsPart, LeavesToWrite}
 use Rattle.gn_io.specs.Streams.{NoWriteFailed, SinkState}
 use Rattle.gn_io.proofs.StreamLemmas.{appends_after, leaves_all}
-use Rattle.gn_scribe.specs.Printed.{IsPrintFault}
-use Rattle.gn_scribe.specs.declared.printed.PrintFault.{PrintFault}
-use Rattle.gn_scribe.specs.declared.printed.PrintFault.TheVariants.{NoMemory, Write}
+use Rattle.gn_printed.specs.Printed.{IsPrintFault}
+use Rattle.gn_printed.specs.declared.printed.PrintFault.{PrintFault}
+use Rattle.gn_printed.specs.declared.printed.PrintFault.TheVariants.{NoMemory, Write}
 
 -- more was added to what waits, and of both all was written but what waits then
 pub more_left : (first mid last : Option (List ℕ)) (waited waiting text all : List ℕ) → LeavesToWrite first mid waited all → LeavesToWrite mid last waiting (waited ++ text)

@@ -1,9 +1,9 @@
 use Rattle.std.proofs.Common.{List, ℕ, refl, subst}
 use Rattle.std.specs.Io.KnownBytes.{Appends}
 use Rattle.gn_io.specs.Parts.{AppendsPart}
-use Rattle.gn_scribe.specs.declared.printed.PrintFault.TheVariants.{NoMemory, Write}
-use Rattle.gn_scribe.proofs.PrintLemmas.{cause_handed, none_written, on_err}
-use Rattle.gn_scribe.proofs.printed.write_end.Goals as goal
+use Rattle.gn_printed.specs.declared.printed.PrintFault.TheVariants.{NoMemory, Write}
+use Rattle.gn_printed.proofs.PrintLemmas.{cause_handed, none_written, on_err}
+use Rattle.gn_printed.proofs.ending.write_end.Goals as goal
 
 pub returns-in_err-add-clause-err : goal.returns-in_err-add-clause-err
 returns-in_err-add-clause-err g c = on_err c.from_residual.result (none_written (g.W.Sink.state c.args.sink.now).written _)
