@@ -13,7 +13,7 @@ use gn_actors::Named;
 use gn_hub::{Actor, Batch, FoundClosed, Idle, Outgoing, Progress, Service};
 use gn_links::{Gate, Half, Made, Place};
 use gn_payload::Checked;
-use gn_rules::{ConnId, Event, Receipt, Refusal, RouterCore, Ticket};
+use gn_rules::{ConnId, Event, Receipt, Refusal, Reply, RouterCore, Ticket};
 use gn_stage::Job;
 use gn_wire::Descriptor;
 use std::alloc::{Allocator, Global};
@@ -78,7 +78,7 @@ impl<'s, G: Gate, B: Ledger + Named, C: RouterCore<A> + Drop, R: Wait, A: Alloca
         };
         let Some(ticket) = receipt.reply.admitted() else {
             drop(event);
-            self.tell(Made::Busy);
+            self.tell(refused_by(&receipt.reply));
             return Ok(None);
         };
         self.tell(Made::Admitted(ticket));
@@ -231,7 +231,7 @@ impl<'s, G: Gate, B: Ledger + Named, C: RouterCore<A> + Drop, R, A: Allocator + 
         for receipt in receipts {
             match receipt.reply.admitted() {
                 Some(ticket) => self.tell(Made::Admitted(ticket)),
-                None => self.tell(Made::Busy),
+                None => self.tell(refused_by(&receipt.reply)),
             }
         }
     }
@@ -277,6 +277,14 @@ fn job_of<A: Allocator>(ticket: Ticket, event: Event<A>) -> Option<Job<A>>
     match event {
         Event::Admit(_c, descriptor) => Some(Job { ticket, descriptor }),
         _other => None,
+    }
+}
+
+/// What an admission made that was refused with this reply.
+fn refused_by<A: Allocator>(reply: &Reply<A>) -> Made {
+    match reply {
+        Reply::Crowded => Made::Crowded,
+        _ => Made::Busy,
     }
 }
 

@@ -39,11 +39,12 @@ impl Screen for Expecting<'_> {
 }
 
 /// A serve of as many steps as there may be: a link comes, and brings 1,005 descriptors, most of them after a second, and 7 that
-/// are refused. Then nothing is done for three seconds.
+/// are refused. Then nothing is done for three seconds, and it is disconnected.
 const SERVE: &str = "\
 link 0 127.0.0.1:5000 came at 12:34:56
 routed 0 of 65 admitted, 1 links, 0 busy, 4,294,967,230 steps left at 12:34:57
 routed 0 of 1,005 admitted, 1 links, 7 busy, 4,294,966,283 steps left at 12:34:58
+link 0 127.0.0.1:5000 disconnected: flooded for 3 s at 12:35:00
 link 0 reader ended at 12:35:00
 routed 0 of 1,006 admitted, 1 links, 7 busy, 4,294,966,282 steps left at 12:35:00
 ";
@@ -71,11 +72,13 @@ fn serve<W: Watch, R: Wait>(rt: &R, watch: &W, now: &Cell<u64>) {
     watch.open(u32::MAX);
     watch.came(rt, 0, SocketAddr::from((Ipv4Addr::LOCALHOST, 5_000)));
     admit(watch, now);
-    for _ in 0..7 {
-        watch.made(Place::of(0), Made::Busy);
+    watch.made(Place::of(0), Made::Busy);
+    for _ in 0..6 {
+        watch.made(Place::of(0), Made::Crowded);
     }
     rest(watch, now);
     now.set(4);
+    watch.flooded(0, SocketAddr::from((Ipv4Addr::LOCALHOST, 5_000)), 3);
     watch.ended(Place::of(0), Half::Reader);
     watch.made(Place::of(0), Made::Admitted(1_005));
     watch.end();

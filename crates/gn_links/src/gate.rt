@@ -12,8 +12,10 @@ pub enum Made {
     TooMany,
     /// A descriptor of the link was admitted, with this ticket.
     Admitted(u32),
-    /// A descriptor of the link was refused at a threshold.
+    /// A descriptor of the link was refused at the threshold of all connections.
     Busy,
+    /// A descriptor of the link was refused at the threshold of its own connection.
+    Crowded,
     /// A descriptor of the link was routed by the link's reader.
     Routed,
     /// A packet was taken to be written to the link.

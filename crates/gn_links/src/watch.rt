@@ -20,6 +20,10 @@ pub trait Watch: Gate {
     /// The peer at this address can't be called, over this link: what the system said. The run ends for that.
     fn not_called(&self, _link: u32, _peer: SocketAddr, _why: ErrorKind) {}
 
+    /// The peer at this address is let go, over this link: in each of the last seconds, so many, descriptors of it were refused at the
+    /// threshold of its own connection.
+    fn flooded(&self, _link: u32, _peer: SocketAddr, _seconds: u32) {}
+
     /// A serve goes on, whether or not anything is done. After how long it says so again, at the latest; `None`: it needn't.
     fn tick(&self) -> Option<Duration> {
         None

@@ -13,9 +13,10 @@ use Rattle.gn_text.specs.declared.title.Text.TheVariants.{History}
 use Rattle.gn_capture.specs.Histories.{history_text}
 use Rattle.gn_io.specs.Parts.{AppendsPart}
 use Rattle.gn_io.specs.Streams.{SinkState}
-use Rattle.gn_scribe.specs.declared.ending.Waiting.{Waiting}
-use Rattle.gn_scribe.specs.declared.printed.PrintFault.{PrintFault}
-use Rattle.gn_scribe.specs.Written.{HasFinished, HasJournalled}
+use Rattle.gn_printed.specs.declared.ending.Waiting.{Waiting}
+use Rattle.gn_printed.specs.declared.printed.PrintFault.{PrintFault}
+use Rattle.gn_printed.specs.Finished.{HasFinished}
+use Rattle.gn_scribe.specs.Written.{HasJournalled}
 use Rattle.gn_service.specs.Any.{IsAnyAccount, ran_of_any}
 use Rattle.gn_service.specs.Ran.{Remembered}
 use Rattle.gn_sockets.specs.TcpHalves.{TcpReading, TcpWriting}

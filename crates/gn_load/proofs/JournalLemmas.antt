@@ -14,13 +14,14 @@ use Rattle.gn_text.specs.declared.title.Text.TheVariants.{History}
 use Rattle.gn_capture.specs.Histories.{history_text, steps_text}
 use Rattle.gn_io.specs.Parts.{AppendsPart}
 use Rattle.gn_io.specs.Streams.{NoWriteFailed, SinkState}
-use Rattle.gn_scribe.specs.declared.ending.Waiting.{Waiting}
-use Rattle.gn_scribe.specs.declared.printed.PrintFault.{PrintFault}
-use Rattle.gn_scribe.specs.Printed.{IsPrintFault}
-use Rattle.gn_scribe.specs.Written.{HasEnded, HasFinished, HasFollowed, HasJournalled}
+use Rattle.gn_printed.specs.declared.ending.Waiting.{Waiting}
+use Rattle.gn_printed.specs.declared.printed.PrintFault.{PrintFault}
+use Rattle.gn_printed.specs.Printed.{IsPrintFault}
+use Rattle.gn_printed.specs.Finished.{HasFinished}
+use Rattle.gn_scribe.specs.Written.{HasEnded, HasFollowed, HasJournalled}
 use Rattle.gn_scribe.specs.declared.scribe.Scribe.{Scribe}
 use Rattle.gn_scribe.proofs.EndLemmas.{journalled}
-use Rattle.gn_scribe.proofs.PrintLemmas.{all_written, cause_after, more_cut, none_written, part_of}
+use Rattle.gn_printed.proofs.PrintLemmas.{all_written, cause_after, more_cut, none_written, part_of}
 use Rattle.gn_threads.specs.Courses.{AreTallies}
 use Rattle.gn_start.specs.Faults.{IsArrivingFault}
 use Rattle.gn_start.specs.declared.fault.RunFault.{RunFault}
@@ -29,7 +30,7 @@ use Rattle.gn_threads.specs.declared.halted.Halted.{Halted}
 use Rattle.gn_threads.specs.Headline.{AreMadeOf, AreOfOne, Holds}
 use Rattle.gn_report.specs.Accounts.{report_of}
 use Rattle.gn_report.specs.declared.account.Account.{Account}
-use Rattle.gn_scribe.specs.declared.printed.PrintFault.TheVariants.{NoMemory, Write}
+use Rattle.gn_printed.specs.declared.printed.PrintFault.TheVariants.{NoMemory, Write}
 use Rattle.gn_service.proofs.TallyLemmas.{tallied_as, tallies_as}
 use Rattle.gn_service.specs.Links.{origins_of, roles_of}
 use Rattle.gn_service.specs.Ran.{Remembered, ran_of}

@@ -28,11 +28,12 @@ use Rattle.gn_replay.specs.declared.fault.ReplayFault.TheVariants as replay
 use Rattle.gn_report.specs.Accounts.{report_of}
 use Rattle.gn_report.specs.declared.account.Account.{Account}
 use Rattle.gn_report.specs.declared.unkept.Unkept.{Unkept}
-use Rattle.gn_scribe.specs.Printed.{IsPrintFault}
-use Rattle.gn_scribe.specs.Written.{HasFinished, HasJournalled}
-use Rattle.gn_scribe.specs.declared.ending.Waiting.{Waiting}
-use Rattle.gn_scribe.specs.declared.printed.PrintFault.{PrintFault}
-use Rattle.gn_scribe.specs.declared.printed.PrintFault.TheVariants as print
+use Rattle.gn_printed.specs.Printed.{IsPrintFault}
+use Rattle.gn_printed.specs.Finished.{HasFinished}
+use Rattle.gn_scribe.specs.Written.{HasJournalled}
+use Rattle.gn_printed.specs.declared.ending.Waiting.{Waiting}
+use Rattle.gn_printed.specs.declared.printed.PrintFault.{PrintFault}
+use Rattle.gn_printed.specs.declared.printed.PrintFault.TheVariants as print
 use Rattle.gn_threads.specs.Courses.{AreStepsOf}
 use Rattle.gn_start.specs.Faults.{IsFaultOf}
 use Rattle.gn_threads.specs.Headline.{AreMadeOf, Holds, LinksReadOwn}

@@ -1,7 +1,7 @@
 -- The history of a run over TCP.
 use Rattle.std.proofs.Common.{◌≡◌, ◌∙◌, ◌↔◌, ◌+◌, ℕ, Bool, true, List, [], length, reverse, refl, ap, sym, subst, inl, inr, Option, Some, None, OnOk, OnErr, Result, Ok, Err, append-nil}
 use Rattle.gn_io.specs.Parts.{AppendsPart}
-use Rattle.gn_scribe.specs.declared.printed.PrintFault.{PrintFault}
+use Rattle.gn_printed.specs.declared.printed.PrintFault.{PrintFault}
 use Rattle.gn_rules.specs.Answer.{IsLegal}
 use Rattle.gn_rules.specs.Limits.{IsCrew}
 use Rattle.gn_rules.specs.declared.config.Config.{Config}

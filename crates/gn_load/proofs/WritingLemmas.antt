@@ -13,10 +13,10 @@ use Rattle.gn_io.specs.Parts.{LeavesToWrite, block_size}
 use Rattle.gn_io.specs.Streams.{SinkState}
 use Rattle.gn_io.proofs.StreamLemmas.{leaves_all}
 use Rattle.gn_journal.specs.Rings.{RingName, name_of}
-use Rattle.gn_scribe.specs.declared.ending.Waiting.{Waiting}
-use Rattle.gn_scribe.specs.declared.printed.PrintFault.{PrintFault}
+use Rattle.gn_printed.specs.declared.ending.Waiting.{Waiting}
+use Rattle.gn_printed.specs.declared.printed.PrintFault.{PrintFault}
 use Rattle.gn_scribe.specs.declared.scribe.Scribe.{Scribe}
-use Rattle.gn_scribe.specs.Printed.{IsPrintFault}
+use Rattle.gn_printed.specs.Printed.{IsPrintFault}
 use Rattle.gn_scribe.specs.Written.{HasBroken, HasEnded, HasFollowed, HasWritten}
 use Rattle.gn_load.specs.Journalled.{HasStoppedWriting}
 

@@ -15,10 +15,10 @@ use Rattle.gn_io.specs.Parts.{AppendsPart}
 use Rattle.gn_io.specs.Streams.{NoWriteFailed, SinkState}
 use Rattle.gn_report.specs.Accounts.{report_of}
 use Rattle.gn_report.specs.declared.account.Account.{Account}
-use Rattle.gn_scribe.specs.declared.ending.Waiting.{Waiting}
-use Rattle.gn_scribe.specs.declared.printed.PrintFault.{PrintFault}
-use Rattle.gn_scribe.specs.declared.printed.PrintFault.TheVariants as print
-use Rattle.gn_scribe.specs.Written.{HasFinished}
+use Rattle.gn_printed.specs.declared.ending.Waiting.{Waiting}
+use Rattle.gn_printed.specs.declared.printed.PrintFault.{PrintFault}
+use Rattle.gn_printed.specs.declared.printed.PrintFault.TheVariants as print
+use Rattle.gn_printed.specs.Finished.{HasFinished}
 use Rattle.gn_service.specs.Links.{origins_of, roles_of}
 use Rattle.gn_service.specs.Ran.{Remembered, ran_of}
 use Rattle.gn_sockets.specs.TcpHalves.{TcpReading, TcpWriting, half_read, half_written}

@@ -9,8 +9,8 @@ use Rattle.gn_report.specs.declared.unkept.Unkept.{Unkept}
 use Rattle.gn_links.specs.Memory.{Memory}
 use Rattle.gn_io.specs.Streams.{HasWriteFailed, NoWriteFailed, SinkState}
 use Rattle.gn_replay.specs.declared.fault.ReplayFault.TheVariants as replay
-use Rattle.gn_scribe.specs.declared.printed.PrintFault.{PrintFault}
-use Rattle.gn_scribe.specs.declared.printed.PrintFault.TheVariants as print
+use Rattle.gn_printed.specs.declared.printed.PrintFault.{PrintFault}
+use Rattle.gn_printed.specs.declared.printed.PrintFault.TheVariants as print
 use Rattle.gn_text.specs.Settings.{settings_of}
 use Rattle.gn_start.specs.declared.fault.RunFault.{RunFault}
 use Rattle.gn_start.specs.declared.fault.RunFault.TheVariants.{BadWorkers, HistoryFull}

@@ -7,8 +7,8 @@ ghost use Rattle.gn_load.specs.declared.fault.LoadFault.TheVariants.{Run, Text};
 ghost use Rattle.gn_load.specs.JournalledLoads.{of_print};
 
 use gn_io::{InputFault, IoFault};
+use gn_printed::PrintFault;
 use gn_replay::ReplayFault;
-use gn_scribe::PrintFault;
 use gn_service::RunFault;
 use gn_text::CaptureRefusal;
 use std::alloc::AllocError;

@@ -13,8 +13,8 @@ use crate::serve_halted::ServeHalted;
 use crate::writing::{Begun, Writing, write_stopped};
 use gn_io::Sink;
 use gn_journal::{Journal, Naming};
+use gn_printed::{PrintFault, Waiting, finish_history};
 use gn_rules::MOST_WORKERS;
-use gn_scribe::{PrintFault, Waiting, finish_history};
 use gn_service::{
     Account, Halted, Host, Ran, Routing, RunFault, Serve, TcpReader, TcpWriter, Watch, serve_by,
     tallies_of,

@@ -12,8 +12,8 @@ use crate::serve_halted::ServeHalted;
 use crate::writing::{Begun, Writing};
 use gn_io::Sink;
 use gn_journal::{Journal, Naming};
+use gn_printed::{PrintFault, finish_history};
 use gn_rules::MOST_WORKERS;
-use gn_scribe::{PrintFault, finish_history};
 use gn_service::{
     Any, Host, OpenAccount, Parting, Ran, Routing, RunFault, Serve, TcpReader, TcpWriter, Watch,
     serve_any,

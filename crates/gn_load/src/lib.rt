@@ -18,7 +18,7 @@ mod taken;
 mod writing;
 
 pub use fault::LoadFault;
-pub use gn_scribe::PrintFault;
+pub use gn_printed::PrintFault;
 pub use journalled::serve_journalled;
 pub use journalled_any::serve_any_journalled;
 pub use journalled_load::{Loading, load_journalled};

@@ -5,12 +5,13 @@ ghost use Rattle.std.specs.Io.KnownBytes.{Appends};
 ghost use Rattle.gn_capture.specs.Histories.{history_text};
 ghost use Rattle.gn_io.specs.Parts.{AppendsPart};
 ghost use Rattle.gn_io.specs.Streams.{NoWriteFailed};
-ghost use Rattle.gn_scribe.specs.Printed.{IsPrintFault};
+ghost use Rattle.gn_printed.specs.Printed.{IsPrintFault};
 
 use gn_io::Sink;
+use gn_printed::PrintFault;
 use gn_replay::history_heading;
 use gn_rules::{Config, Step};
-use gn_scribe::{PrintFault, print_end};
+use gn_scribe::print_end;
 use std::alloc::Allocator;
 
 /// Writes the text of a history, as `write_history` of gn_capture has it, in blocks of at least 32,768 bytes, the last one

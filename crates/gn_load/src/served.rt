@@ -12,8 +12,8 @@ use crate::printed::print_history;
 use crate::serve_fault::ServeFault;
 use crate::serve_stopped::ServeStopped;
 use gn_io::Sink;
+use gn_printed::PrintFault;
 use gn_rules::{Config, Historian};
-use gn_scribe::PrintFault;
 use gn_service::{
     Host, Ran, Report, RunFault, Serve, Stopped, TcpReader, TcpWriter, Watch, serve_kept,
 };

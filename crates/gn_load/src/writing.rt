@@ -10,10 +10,11 @@ ghost use Rattle.gn_load.specs.Journalled.{HasStoppedWriting};
 
 use gn_io::Sink;
 use gn_journal::{Journal, Naming};
+use gn_printed::{PrintFault, Waiting, finish_history};
 use gn_report::Unkept;
 use gn_room::{Following, Room};
 use gn_rules::{RouterCore, Step};
-use gn_scribe::{PrintFault, Scribe, Waiting, finish_history};
+use gn_scribe::Scribe;
 use gn_table_router::{Configuring, Exchange, TableRouter};
 use gn_tables::Whole;
 use gn_threads::Course;

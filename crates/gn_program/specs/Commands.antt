@@ -1,5 +1,5 @@
 -- What a command does: what replay, audit, show, load or serve answers to its input and output, and the status that stands for it.
-use Rattle.std.specs.Prelude.{◌≡◌, ◌≢◌, ◌⊎◌, ◌≤◌, ◌∷◌, ◌||◌, [], ℕ, Bool, false, true, List, Option, None, Some, is_some, length, IfSome, IsOk, Result, Ok, Err, IfOk, IfErr, OnOk}
+use Rattle.std.specs.Prelude.{◌≡◌, ◌≢◌, ◌⊎◌, ◌≤◌, ◌||◌, ℕ, Bool, false, true, List, Option, None, Some, is_some, length, IfSome, IsOk, Result, Ok, Err, IfOk, IfErr, OnOk}
 use Rattle.std.specs.Io.KnownBytes.{Appends}
 use Rattle.std.specs.declared.alloc.Global.{Global}
 use Rattle.std.specs.declared.net.socket_addr.SocketAddr.{SocketAddr}
@@ -114,13 +114,13 @@ abbrev pub IsIdOf : Servent → Guid → Type 0
 IsIdOf (Given asked) id = id ≡ asked
 IsIdOf Random id = length id.0 ≡ 16
 
--- the own servent of a router that serves, with this ID: it is on the port of 127.0.0.1 that is asked for, and its Pongs say that
--- it shares as much as is asked for
+-- the own servent of a router that serves, with this ID: it is at the address and on the port that are asked for, and its Pongs say
+-- that it shares as much as is asked for
 abbrev pub own_served : AskedServe → Guid → Own
 own_served serving id =
     record {
       servent = id;
-      ip = 127 ∷ 0 ∷ 0 ∷ 1 ∷ [];
+      ip = serving.site.address;
       port = serving.port;
       files = serving.files;
       kbytes = serving.kilobytes;

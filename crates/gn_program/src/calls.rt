@@ -3,6 +3,7 @@
 use crate::told::Told;
 use gn_links::{Gate, Half, Made, Place, Watch};
 use gn_load::ServeFault;
+use gn_metrics::Meters;
 use gn_threads::RunFault;
 use std::alloc::Global;
 use std::array;
@@ -19,18 +20,20 @@ const PEERS: usize = 64;
 pub(crate) const UNSAID: usize = 256;
 
 /// Passes all on to who watches the run, and keeps the address of each peer that came until it is said, where it is to be, and what the
-/// system said of each that can't be called.
+/// system said of each that can't be called. It counts steps and links where that is asked for.
 #[derive(Drop)]
 pub(crate) struct Calls<'w, G> {
     watch: &'w G,
     /// The links whose peers came and weren't said, the earliest first; `None`, where nobody says them.
     came: Option<Mutex<VecDeque<(u32, SocketAddr)>>>,
     whys: [OnceLock<(SocketAddr, ErrorKind)>; PEERS],
+    /// Where steps and links are counted; `None`: nowhere.
+    meters: Option<Meters>,
 }
 
 impl<'w, G> Calls<'w, G> {
-    /// No peer has come, and each may be called. Whether those that come are said is known.
-    pub(crate) fn new(alloc: Global, watch: &'w G, are_said: bool) -> Self {
+    /// No peer has come, and each may be called. Whether those that come are said is known, and where all is counted.
+    pub(crate) fn new(alloc: Global, watch: &'w G, are_said: bool, meters: Option<Meters>) -> Self {
         let came = if are_said {
             Some(Mutex::new(VecDeque::new(alloc)))
         } else {
@@ -40,6 +43,19 @@ impl<'w, G> Calls<'w, G> {
             watch,
             came,
             whys: array::from_fn(|_| OnceLock::new()),
+            meters,
+        }
+    }
+
+    /// Where steps and links are counted, where they are.
+    pub(crate) fn meters(&self) -> Option<&Meters> {
+        self.meters.as_ref()
+    }
+
+    /// Counts a step.
+    fn count(&self) {
+        if let Some(meters) = &self.meters {
+            meters.add_made();
         }
     }
 
@@ -79,10 +95,12 @@ impl<'w, G> Calls<'w, G> {
 impl<'w, G: Gate> Gate for Calls<'w, G> {
     fn enter<W: Wait>(&self, rt: &W, worker: u32, ticket: u32) {
         self.watch.enter(rt, worker, ticket);
+        self.count();
     }
 
     fn made(&self, place: Place, step: Made) {
         self.watch.made(place, step);
+        self.count();
     }
 
     fn ended(&self, place: Place, half: Half) {
@@ -105,6 +123,9 @@ impl<'w, G: Watch> Watch for Calls<'w, G> {
 
     fn came<R: Wait>(&self, rt: &R, link: u32, peer: SocketAddr) {
         self.keep(rt, link, peer);
+        if let Some(meters) = &self.meters {
+            meters.add_link();
+        }
         self.watch.came(rt, link, peer);
     }
 
@@ -113,6 +134,10 @@ impl<'w, G: Watch> Watch for Calls<'w, G> {
             let _ = slot.try_set((peer, why));
         }
         self.watch.not_called(link, peer, why);
+    }
+
+    fn flooded(&self, link: u32, peer: SocketAddr, seconds: u32) {
+        self.watch.flooded(link, peer, seconds);
     }
 
     fn tick(&self) -> Option<Duration> {

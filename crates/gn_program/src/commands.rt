@@ -17,6 +17,7 @@ use crate::detail::{Reading, write_detail};
 use crate::ended::Ended;
 use crate::fault::Fault;
 use crate::head::Head;
+use crate::scraping::meters_of;
 use crate::serves::{batch_of, id_of, serve};
 use crate::text::write_text;
 use crate::told::Told;
@@ -143,7 +144,7 @@ fn load<R: Threads + Wait + Sync, G: Watch + Sync, S: Source, W: Sink + Send, F:
 
 /// Serves under this watch, and says how that ended.
 fn serve_watched<
-    R: Host + Input<Reader = StdinLock<'static>>,
+    R: Host + Input<Reader = StdinLock<'static>> + RandomSource,
     G: Watch + Sync,
     W: Sink + Send,
     F: Sink + Send,
@@ -159,7 +160,7 @@ fn serve_watched<
     requires { IsIdOf serving.now.servent id }
     ensures { ServesTo serving.now result.ran (W.state writer.old) (W.state writer.new) result.status }
 {
-    let calls = Calls::new(alloc, watch, serving.links);
+    let calls = Calls::new(alloc, watch, serving.links, meters_of(rt, serving));
     let mut told = Told::Nothing;
     let mut ran = None;
     let answer = serve(
@@ -170,7 +171,7 @@ fn serve_watched<
     Ended { status, ran }
 }
 
-/// Serves, says how that ended, and how far it is where that is asked for.
+/// Serves, says how that ended, and how far it is where that is asked for, or whom it lets go.
 fn serve_asked<
     R: Host + Input<Reader = StdinLock<'static>> + RandomSource,
     G: Watch + Sync,
@@ -185,7 +186,10 @@ fn serve_asked<
     if serving.progress {
         return serve_watched(rt, alloc, serving, id, watch, writer, faults);
     }
-    let unwatched = Unwatched(watch);
+    let unwatched = Unwatched {
+        watch,
+        tells_floods: serving.report,
+    };
     serve_watched(rt, alloc, serving, id, &unwatched, writer, faults)
 }
 
@@ -254,7 +258,10 @@ fn obey<
             Ended::with(end_show(faults, answer))
         }
         Request::Load(workers) => {
-            let unwatched = Unwatched(watch);
+            let unwatched = Unwatched {
+                watch,
+                tells_floods: false,
+            };
             Ended::with(load(rt, alloc, workers, &unwatched, reader, writer, faults))
         }
         Request::Watched(workers) => {

@@ -11,6 +11,7 @@ mod head;
 mod leavings;
 mod remarks;
 mod reports;
+mod scraping;
 mod serves;
 mod text;
 mod told;

@@ -9,8 +9,9 @@ ghost use Rattle.gn_io.specs.Streams.{SinkState};
 ghost use Rattle.gn_load.specs.Any.{IsJournalledTaken};
 ghost use Rattle.gn_program.specs.Commands.{HasServed, IsBeside, IsIdOf, IsServing, has_comments};
 ghost use Rattle.gn_program.specs.Limits.{IsLimit, IsStopOf, calls_again, may_stop, seconds_of};
-ghost use Rattle.gn_program.specs.Peers.{AreAt};
+ghost use Rattle.gn_program.specs.Peers.{AreAt, IsHere};
 ghost use Rattle.gn_rules.specs.Limits.{most_links};
+ghost use Rattle.gn_words.specs.Options.{calls_far};
 ghost use Rattle.gn_words.specs.declared.request.Servent.TheVariants.{Random};
 
 use crate::calls::Calls;
@@ -18,6 +19,7 @@ use crate::eof::stop_at_eof;
 use crate::leavings::Leavings;
 use crate::remarks::Remarks;
 use crate::reports::{write_account, write_stats, write_stopped};
+use crate::scraping::{listen_both, run_scraped};
 use crate::text::write_text;
 use crate::told::Told;
 use gn_comments::{Commented, Lent, Naming};
@@ -69,14 +71,14 @@ pub(crate) fn id_of<R: RandomSource>(rt: &R, servent: Servent) -> Option<Guid>
     }
 }
 
-/// The configuration of a router that serves: its own servent has this ID, is on this port, and shares what the options say.
+/// The configuration of a router that serves: its own servent has this ID, and is where the options say and shares what they say.
 fn settings(serving: &ServeOptions, id: Guid) -> Config
     requires { IsIdOf serving.now.servent id }
     ensures { IsServing serving.now result }
 {
     let own = Own {
         servent: id,
-        ip: [127, 0, 0, 1],
+        ip: serving.site.address,
         port: serving.port,
         files: serving.files,
         kbytes: serving.kilobytes,
@@ -131,20 +133,25 @@ fn may_stop(serving: &ServeOptions) -> bool
     serving.seconds.is_some() || serving.early || serving.until_eof
 }
 
-/// How long the router goes on and waits for its peers, and whether its history is kept.
+/// How long the router goes on and waits for its peers, and how long one may flood it, whether its history is kept, and whether it calls
+/// other machines.
 fn limits<'s>(serving: &ServeOptions, stop: &'s Stop) -> Serving<'s>
     ensures idle { IsLimit serving.now.idle result.idle }
     ensures retry { IsLimit (seconds_of serving.now.retry) result.retry }
+    ensures flood { IsLimit serving.now.flood result.flood }
     ensures grace { IsSomeAnd result.grace (λ time. as_nanos time ≡ serving.now.grace * 1_000_000_000) }
     ensures stop { result.stop ≡ then_some (may_stop serving.now) stop.entry }
     ensures kept { result.is_kept ≡ serving.now.keeps }
+    ensures far { result.calls_far ≡ calls_far serving.now.site }
 {
     Serving {
         idle: limit(serving.idle),
         retry: limit(seconds_of(serving.retry)),
         grace: Some(Duration::from_secs(serving.grace as u64)),
+        flood: limit(serving.flood),
         stop: may_stop(serving).then_some(stop),
         is_kept: serving.keeps,
+        calls_far: serving.site.calls_far(),
     }
 }
 
@@ -189,13 +196,20 @@ fn bound<N: Net<Listener = TcpListener, Stream = TcpStream>>(
     }
 }
 
-/// Listens on this port of 127.0.0.1. What the system said of it, where that fails, stays in `told`.
-fn listen<N: Net<Listener = TcpListener, Stream = TcpStream>>(
+/// The address at which the router listens.
+pub(crate) fn here(serving: &ServeOptions) -> SocketAddr
+    ensures { IsHere serving.now result }
+{
+    let ip = Ipv4Addr::from(serving.site.bind);
+    SocketAddr::V4(SocketAddrV4::new(ip, serving.port))
+}
+
+/// Listens at this address. What the system said of it, where that fails, stays in `told`.
+pub(crate) fn listen<N: Net<Listener = TcpListener, Stream = TcpStream>>(
     net: &N,
-    port: u16,
+    here: SocketAddr,
     told: &mut Told,
 ) -> Result<TcpListener, LinkFault> {
-    let here = SocketAddr::from((Ipv4Addr::LOCALHOST, port));
     match bound(net, here) {
         Ok(listener) => Ok(listener),
         Err(unmet) => {
@@ -330,7 +344,7 @@ fn run_commented<
 }
 
 /// Runs the router, and writes its history while it runs, with comments where they are asked for.
-fn run<'s, R: Host, G: Watch + Sync, T: Parting<Global> + Sync, W: Sink + Send>(
+pub(crate) fn run<'s, R: Host, G: Watch + Sync, T: Parting<Global> + Sync, W: Sink + Send>(
     rt: &R,
     alloc: Global,
     serve: &Serve<'_, 's, Calls<'_, G>, Taking<'_, T>>,
@@ -353,11 +367,11 @@ fn run<'s, R: Host, G: Watch + Sync, T: Parting<Global> + Sync, W: Sink + Send>(
     serve_taken::<_, _, _, _>(rt, alloc, serve, writer)
 }
 
-/// Listens, says so with the faults, runs the router, writes its history while it runs, and then what became of its links with the faults,
-/// where that is asked for. It is watched as it runs, by `calls`. What the system said of the port stays in `told`, and what is remembered of the
-/// run in `remembered`.
+/// Listens, says so with the faults, runs the router, writes its history while it runs, answers who asks for its counts, and then writes what
+/// became of its links with the faults, where that is asked for. It is watched as it runs, by `calls`. What the system said of a port
+/// stays in `told`, and what is remembered of the run in `remembered`.
 pub(crate) fn serve<
-    R: Host + Input<Reader = StdinLock<'static>>,
+    R: Host + Input<Reader = StdinLock<'static>> + RandomSource,
     G: Watch + Sync,
     W: Sink + Send,
     F: Sink + Send,
@@ -379,7 +393,7 @@ pub(crate) fn serve<
     let config = settings(serving, id);
     let peers = addresses(alloc, &serving.peers)?;
     let stop = stop_of(rt, alloc, serving)?;
-    let Ok(listener) = listen(rt, serving.port, told) else {
+    let Ok((listener, desk)) = listen_both(rt, serving, told) else {
         return Err(ServeFault::Run(RunFault::Listen));
     };
     let _ = write_text(faults, Listening(serving.port));
@@ -394,7 +408,7 @@ pub(crate) fn serve<
         watch: calls,
         batch: batch_of(serving.batch),
     };
-    let answer = run(rt, alloc, &asked, serving, writer);
+    let answer = run_scraped(rt, alloc, &asked, serving, writer, desk.as_ref());
     drop(leavings);
     match answer {
         Ok((taken, ran)) => {

@@ -22,7 +22,7 @@ const DAY: u64 = 86_400;
 /// A run's gate that holds nobody and counts who passes. Who finds that a second has gone by writes the line of that second: on
 /// a terminal over the line before, else below it; and the last one comes again, where something was done since: a second later in
 /// a serve, and at the end.
-/// Of a serve it also writes each link that comes and each end. Each line has the time of day, in UTC.
+/// Of a serve it also writes each link that comes, each end, and each that is disconnected. Each line has the time of day, in UTC.
 #[derive(Drop)]
 pub struct Progress<'r, R, O> {
     rt: &'r R,
@@ -150,6 +150,23 @@ impl<'r, R: Clock + AllocGlobal, O: Screen> Progress<'r, R, O> {
         Ok(text)
     }
 
+    /// The line of a link that is disconnected as it floods.
+    fn flooded_line(
+        &self,
+        link: u32,
+        peer: SocketAddr,
+        seconds: u32,
+    ) -> Result<String, AllocError> {
+        let mut text = self.below()?;
+        write!(
+            text,
+            "link {link} {peer} disconnected: flooded for {seconds} s"
+        )?;
+        self.write_time(&mut text)?;
+        text.push('\n')?;
+        Ok(text)
+    }
+
     /// The line of the link that has offered most once such a part of the steps is made.
     fn loudest_line(&self, part: &str) -> Result<String, AllocError> {
         let mut text = self.below()?;
@@ -250,7 +267,7 @@ impl<'r, R: Clock + AllocGlobal, O: Screen> Gate for Progress<'r, R, O> {
                 self.counts.add_admitted();
                 self.offer(place, most);
             }
-            Made::Busy => {
+            Made::Busy | Made::Crowded => {
                 self.counts.add_busy();
                 self.offer(place, most);
             }
@@ -284,6 +301,10 @@ impl<'r, R: Clock + AllocGlobal, O: Screen> Watch for Progress<'r, R, O> {
     fn came<W: Wait>(&self, _rt: &W, link: u32, peer: SocketAddr) {
         self.counts.add_link();
         self.write_text(self.came_line(link, peer));
+    }
+
+    fn flooded(&self, link: u32, peer: SocketAddr, seconds: u32) {
+        self.write_text(self.flooded_line(link, peer, seconds));
     }
 
     /// What was done since the last line is said a second after that at the latest, also where nothing follows it.

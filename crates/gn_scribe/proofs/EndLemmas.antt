@@ -1,7 +1,6 @@
 -- A scribe that ends.
-use Rattle.std.proofs.Common.{◌≡◌, ◌∙◌, ◌<◌, ℕ, List, [], ◌++◌, codes, length, Result, Ok, Err, OnErr, OnOk, ap, append-nil, append_assoc, refl, subst, sym}
-use Rattle.std.specs.Io.KnownBytes.{Appends}
-use Rattle.std.specs.Prelude.{⊤, IfErr}
+use Rattle.std.proofs.Common.{◌≡◌, ◌∙◌, ◌<◌, ℕ, List, [], ◌++◌, length, Result, Ok, Err, ap, append-nil, append_assoc, refl, subst, sym}
+use Rattle.std.specs.Prelude.{⊤}
 use Rattle.std.specs.Result.{IsErrAnd}
 use Rattle.std.proofs.lemmas.Grind.{flat_map-append}
 use Rattle.rtrb.specs.Ring.{SameConsumer, known_items, received}
@@ -9,13 +8,13 @@ use Rattle.gn_rules.specs.declared.receipt.Step.{Step}
 use Rattle.gn_text.specs.Steps.{step_text}
 use Rattle.gn_capture.specs.Histories.{steps_text}
 use Rattle.gn_io.specs.Parts.{AppendsPart, LeavesToWrite, block_size}
-use Rattle.gn_io.specs.Streams.{NoWriteFailed, SinkState}
-use Rattle.gn_scribe.specs.declared.ending.Waiting.{Waiting}
-use Rattle.gn_scribe.specs.declared.printed.PrintFault.{PrintFault}
+use Rattle.gn_io.specs.Streams.{SinkState}
+use Rattle.gn_printed.specs.declared.ending.Waiting.{Waiting}
+use Rattle.gn_printed.specs.declared.printed.PrintFault.{PrintFault}
 use Rattle.gn_scribe.specs.declared.scribe.Scribe.{Scribe}
-use Rattle.gn_scribe.specs.Printed.{IsPrintFault}
-use Rattle.gn_scribe.specs.Written.{HasBroken, HasEnded, HasFinished, HasFollowed, HasJournalled, HasWritten}
-use Rattle.gn_scribe.proofs.PrintLemmas.{cause_after, more_cut, more_left, part_of}
+use Rattle.gn_printed.specs.Printed.{IsPrintFault}
+use Rattle.gn_scribe.specs.Written.{HasBroken, HasEnded, HasFollowed, HasJournalled, HasWritten}
+use Rattle.gn_printed.proofs.PrintLemmas.{cause_after, more_cut, more_left, part_of}
 use Rattle.gn_scribe.proofs.WrittenLemmas.{begun_same, broken_after, only_looked, written_more}
 
 module _ {A : Type 0} where
@@ -108,10 +107,3 @@ module _ {A : Type 0} where
           (part_of k0.written k1.written (s0.block ++ steps_text h.0.steps) (steps_text e.more) (s0.block ++ steps_text steps) h.0.part (text_of h.0.steps e.more h.0.taken e.all)),
       subst (λ (k : SinkState). IsPrintFault fault k0 k) (sym e.same) (subst (λ f. IsPrintFault f k0 k1) (sym e.reason) h.1),
     )
-
--- what was finished, by the answer and by what waited
-pub finished_by : {A : Type 0} (old new : SinkState) (waits : Result (Waiting A) PrintFault) (waiting : Waiting A) (r : Result ⊤ PrintFault) → waits ≡ Ok waiting
-    → OnOk r (Appends old.written new.written (waiting.block ++ codes "end\n")) → OnErr r (AppendsPart old.written new.written (waiting.block ++ codes "end\n"))
-    → IfErr r (λ fault. IsPrintFault fault old new) → OnOk r (NoWriteFailed old new) → HasFinished old new waits r
-finished_by {A} old new waits waiting (Ok done) is all part cause unfailed = subst (λ (w : Result (Waiting A) PrintFault). HasFinished old new w (Ok done)) (sym is) (all, unfailed)
-finished_by {A} old new waits waiting (Err fault) is all part cause unfailed = subst (λ (w : Result (Waiting A) PrintFault). HasFinished old new w (Err fault)) (sym is) (part, cause)

@@ -1,3 +1,2 @@
-pub mod PrintLemmas
 pub mod WrittenLemmas
 pub mod EndLemmas

@@ -14,7 +14,7 @@ use Rattle.gn_io.proofs.StreamLemmas.{leaves_all}
 use Rattle.gn_scribe.specs.declared.scribe.Scribe.{Scribe}
 use Rattle.std.specs.Prelude.{◌≢◌}
 use Rattle.gn_scribe.specs.Written.{HasBroken, HasWritten}
-use Rattle.gn_scribe.proofs.PrintLemmas.{more_cut, more_left}
+use Rattle.gn_printed.proofs.PrintLemmas.{more_cut, more_left}
 
 module _ {A : Type 0} where
   pub same_then : {P : Type 0} (a b c : Consumer (Step A) A P) → SameConsumer a b → SameConsumer b c → SameConsumer a c

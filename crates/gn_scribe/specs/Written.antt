@@ -1,15 +1,14 @@
 -- What a scribe has written of the steps that it took.
-use Rattle.std.specs.Prelude.{◌≡◌, ◌≢◌, ◌↔◌, ◌<◌, ⊤, ℕ, true, List, [], ◌++◌, codes, length, Result, Ok, Err}
-use Rattle.std.specs.Io.KnownBytes.{Appends}
+use Rattle.std.specs.Prelude.{◌≡◌, ◌≢◌, ◌↔◌, ◌<◌, ⊤, ℕ, true, List, [], ◌++◌, length, Result, Ok, Err}
 use Rattle.rtrb.specs.Ring.{SameConsumer, received}
 use Rattle.gn_rules.specs.declared.receipt.Step.{Step}
 use Rattle.gn_capture.specs.Histories.{steps_text}
 use Rattle.gn_io.specs.Parts.{AppendsPart, LeavesToWrite, block_size}
 use Rattle.gn_io.specs.Streams.{NoWriteFailed, SinkState}
-use Rattle.gn_scribe.specs.declared.ending.Waiting.{Waiting}
-use Rattle.gn_scribe.specs.declared.printed.PrintFault.{PrintFault}
+use Rattle.gn_printed.specs.declared.ending.Waiting.{Waiting}
+use Rattle.gn_printed.specs.declared.printed.PrintFault.{PrintFault}
 use Rattle.gn_scribe.specs.declared.scribe.Scribe.{Scribe}
-use Rattle.gn_scribe.specs.Printed.{IsPrintFault}
+use Rattle.gn_printed.specs.Printed.{IsPrintFault}
 
 -- a scribe knows whether it took a step
 abbrev pub KnowsBegun : {A : Type 0} → Scribe A → Type 0
@@ -78,10 +77,3 @@ HasJournalled heading steps old new (Err fault) = AppendsPart old.written new.wr
 abbrev pub HasFollowed : {A : Type 0} → Scribe A → Scribe A → SinkState → SinkState → Result ⊤ PrintFault → Type 0
 HasFollowed before after old new (Ok x) = HasWritten before after old new
 HasFollowed before after old new (Err fault) = HasBroken before after old new × IsPrintFault fault old new
-
--- what waited of a text and the line `end` were written, or a prefix of that, for a fault; where the text couldn't be written before, nothing was
-abbrev pub HasFinished : {A : Type 0} → SinkState → SinkState → Result (Waiting A) PrintFault → Result ⊤ PrintFault → Type 0
-HasFinished old new (Ok waiting) (Ok x) = Appends old.written new.written (waiting.block ++ codes "end\n") × NoWriteFailed old new
-HasFinished old new (Ok waiting) (Err fault) = AppendsPart old.written new.written (waiting.block ++ codes "end\n") × IsPrintFault fault old new
-HasFinished old new (Err first) (Ok x) = ⊥
-HasFinished old new (Err first) (Err fault) = (new ≡ old) × (fault ≡ first)

@@ -2,22 +2,14 @@
 
 ghost use Rattle.std.specs.Prelude.{◌≡◌, false};
 ghost use Rattle.rtrb.specs.Ring.{IsPair, sent};
-ghost use Rattle.gn_scribe.specs.Written.{HasEnded, HasFinished};
+ghost use Rattle.gn_scribe.specs.Written.{HasEnded};
 
-use crate::printed::{PrintFault, write_end};
 use crate::scribe::Scribe;
-use gn_io::{Block, Sink};
+use gn_io::Sink;
+use gn_printed::{PrintFault, Waiting};
 use gn_rules::Step;
 use rtrb::Producer;
-use std::alloc::{Allocator, Global};
-
-/// What waits to be written of a history.
-#[derive(Drop)]
-pub struct Waiting<A: Allocator = Global> {
-    pub block: Block<A>,
-    /// Whether the history has a step.
-    pub is_begun: bool,
-}
+use std::alloc::Allocator;
 
 impl<A: Allocator + Copy> Scribe<A> {
     /// Writes the lines of the steps that are left of a ring, with its other end, if all could be written so far. What of the text
@@ -53,18 +45,5 @@ impl<A: Allocator + Copy> Scribe<A> {
             block,
             is_begun: false,
         }
-    }
-}
-
-/// Writes what waits of a history, and the line `end`; nothing, where its text couldn't be written before.
-pub fn finish_history<A: Allocator, W: Sink>(
-    waiting: Result<Waiting<A>, PrintFault>,
-    sink: &mut W,
-) -> Result<(), PrintFault>
-    ensures { HasFinished (W.state sink.old) (W.state sink.new) waiting result }
-{
-    match waiting {
-        Ok(Waiting { block, .. }) => write_end(block, sink),
-        Err(first) => Err(first),
     }
 }

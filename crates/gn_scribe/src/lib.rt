@@ -6,6 +6,5 @@ mod ending;
 mod printed;
 mod scribe;
 
-pub use ending::{Waiting, finish_history};
-pub use printed::{PrintFault, print_end, print_step};
+pub use printed::print_end;
 pub use scribe::Scribe;

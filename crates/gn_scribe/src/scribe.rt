@@ -2,10 +2,10 @@
 
 ghost use Rattle.std.specs.Prelude.{◌≡◌, ◌++◌, [], length, IfErr, OnErr, OnOk};
 ghost use Rattle.rtrb.specs.Ring.{known_items, received};
-ghost use Rattle.gn_scribe.specs.Printed.{IsPrintFault};
+ghost use Rattle.gn_printed.specs.Printed.{IsPrintFault};
 
-use crate::printed::{PrintFault, print_step};
 use gn_io::{Block, Sink};
+use gn_printed::{PrintFault, print_step, shut_at_fault};
 use gn_room::Room;
 use gn_rules::Step;
 use rtrb::Consumer;
@@ -178,9 +178,6 @@ impl<A: Allocator + Copy> Scribe<A> {
         ensures cause { IfErr result (λ fault. IsPrintFault fault (W.state sink.old) (W.state sink.new)) }
     {
         let written = self.write_on(rt, room, sink);
-        if written.is_err() {
-            room.shut(rt);
-        }
-        written
+        shut_at_fault(written, rt, room)
     }
 }

@@ -109,7 +109,7 @@ fn peer_of(report: &TcpReport<'_>) -> Option<SocketAddr> {
     Some(report.links.get(0)?.reader.peer())
 }
 
-/// How many steps a run makes whose peer listens late, how long it takes, and whom its first link leads to.
+/// How many steps a run makes whose peer listens late, how long it takes, and whom its first link leads to. It calls other machines, too.
 fn called_late<
     R: Threads
         + Wait
@@ -121,6 +121,7 @@ fn called_late<
 >(rt: &R, alloc: Global) -> Result<(usize, Duration, Option<SocketAddr>), Fail> {
     let serving = Serving {
         retry: Some(Duration::from_secs(20)),
+        calls_far: true,
         ..Serving::UNLIMITED
     };
     let begun = Instant::now(rt)?;

@@ -83,15 +83,7 @@ where
         };
         let (listener, again) = (self.serve.listener, self.serve.accept.again);
         let owed = Owed::of(self.serve, stop, self.serve.config.numbers.neighbours);
-        let stops = Stops::new(
-            self.rt,
-            self.alloc,
-            stop,
-            serving.grace(),
-            listener,
-            again,
-            owed,
-        );
+        let stops = Stops::new(self.rt, self.alloc, stop, serving, listener, again, owed);
         self.beside(&stops)
     }
 

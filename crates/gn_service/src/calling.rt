@@ -1,7 +1,11 @@
 //! How a peer of a run over TCP is called, beside the run's other links.
 
+ghost use Rattle.std.specs.Prelude.{◌≡◌, OnOk, false};
+ghost use Rattle.gn_tcp.specs.Tcp.{IsLoopback};
+
 use crate::accepting::Accepter;
 use crate::asked::Asked;
+use crate::floods::{Flood, SLOTS};
 use crate::pings::Reminder;
 use crate::registering::{pause, registered};
 use crate::serving::Serving;
@@ -18,6 +22,9 @@ use std::time::{Clock, Duration, Instant};
 
 /// Seconds for which a call waits for its answer.
 const CALL: u64 = 1;
+
+/// Seconds between two looks whether a neighbour floods the run.
+const LOOK: u64 = 1;
 
 /// Who calls the peer of this link.
 #[derive(Drop)]
@@ -48,6 +55,18 @@ impl<
         }
     }
 
+    /// Calls the peer, which has to answer within a second. One on another machine is called only where the run calls such ones.
+    fn try_call(&self) -> Result<TcpLink<'static>, Unmet>
+        ensures near { self.now.serving.calls_far ≡ false → OnOk result (IsLoopback self.now.peer) }
+    {
+        let limit = Duration::from_secs(CALL);
+        if self.serving.calls_far {
+            TcpLink::try_call_far(self.net, self.peer, limit)
+        } else {
+            TcpLink::try_call(self.net, self.peer, limit)
+        }
+    }
+
     /// Calls the peer, again until it listens or the time for that is over; where the system has no handle for it, until that has one.
     /// Where the run is stopped the peer never comes.
     fn call(&self) -> Result<TcpLink<'static>, Unmet> {
@@ -56,7 +75,7 @@ impl<
             if self.stops.lets_go() {
                 break;
             }
-            match TcpLink::try_call(self.net, self.peer, Duration::from_secs(CALL)) {
+            match self.try_call() {
                 Ok(found) => return Ok(found),
                 Err(unmet) if unmet.wants_handle => pause(self.net),
                 Err(_) if self.calls_again(begun) || self.stops.lets_go() => pause(self.net),
@@ -73,7 +92,7 @@ impl<
             if self.stops.is_stopped() {
                 return None;
             }
-            match TcpLink::try_call(self.net, self.peer, Duration::from_secs(CALL)) {
+            match self.try_call() {
                 Ok(found) => return Some(found),
                 Err(unmet) if unmet.wants_handle => pause(self.net),
                 Err(_) => return None,
@@ -240,6 +259,31 @@ impl<
         Some(now.saturating_add(every))
     }
 
+    /// Lets this neighbour go, which floods the run.
+    fn let_go(&self, flood: Flood) {
+        if let Some(peer) = self.stops.let_go(self.net, flood.link) {
+            self.watch.flooded(flood.link, peer, flood.seconds);
+        }
+    }
+
+    /// Lets each neighbour go that has flooded the run for as long as it may, where the time of the next look has come. When the next one
+    /// comes, since the run began.
+    fn stem(&self, due: Option<Duration>) -> Option<Duration> {
+        let floods = self.stops.floods.as_ref()?;
+        let now = self.stops.now(self.net)?;
+        if let Some(due) = due {
+            if now < due {
+                return Some(due);
+            }
+            for slot in 0..SLOTS {
+                if let Some(flood) = floods.look(slot) {
+                    self.let_go(flood);
+                }
+            }
+        }
+        Some(now.saturating_add(Duration::from_secs(LOOK)))
+    }
+
     /// How long it is until this time, since the run began.
     fn until(&self, due: Option<Duration>) -> Option<Duration> {
         let now = self.stops.now(self.net)?;
@@ -247,11 +291,11 @@ impl<
     }
 
     /// Starts who accepts callers, and who calls a peer of the run, as that asks for it; stops the run where its time is over, shuts each link whose peer
-    /// has had its grace, says when a Ping is due, and tells who watches that the run goes on. It returns once the run is over.
+    /// has had its grace or floods the run, says when a Ping is due, and tells who watches that the run goes on. It returns once the run is over.
     pub(crate) fn watch(&self) {
         self.start_accepter();
         let mut started = 0;
-        let mut due = None;
+        let (mut due, mut look) = (None, None);
         for _ in self.net.forever() {
             if self.stops.is_over() {
                 return;
@@ -259,7 +303,8 @@ impl<
             started = self.start_new(started);
             self.wake_others();
             due = self.remind(due);
-            let tick = earlier(self.watch.tick(), self.until(due));
+            look = self.stem(look);
+            let tick = earlier(self.watch.tick(), self.until(earlier(due, look)));
             self.stops.turn(self.net, tick);
         }
     }

@@ -7,7 +7,7 @@ use std::sync::Wait;
 use std::time::Clock;
 
 /// Passes all on to who watches the run. It stops the run once that has failed, so that it waits for no caller any more; and
-/// once so many steps are made or owed. It tells the run's links apart that have ended.
+/// once so many steps are made or owed. It tells the run's links apart that have ended, and those that flood it.
 #[derive(Drop)]
 pub(crate) struct Counted<'a, G, R, A: Allocator = Global> {
     rt: &'a R,
@@ -42,9 +42,12 @@ impl<'a, G: Gate, R: Wait + Clock, A: Allocator> Gate for Counted<'a, G, R, A> {
 
     fn made(&self, place: Place, step: Made) {
         self.watch.made(place, step);
+        if let (Made::Crowded, Some(floods)) = (step, &self.stops.floods) {
+            floods.add(place);
+        }
         if let Some(owed) = &self.stops.owed {
             owed.made(step);
-            if let Made::Admitted(_) | Made::Busy = step {
+            if let Made::Admitted(_) | Made::Busy | Made::Crowded = step {
                 self.stops.stop.brake().offered(place.slot);
             }
             self.stops.look();

@@ -74,9 +74,11 @@ impl<'a, N: Wait + Net<Listener = TcpListener, Stream = TcpStream> + Clock, A: A
         }
     }
 
-    /// Whether nobody can be accepted, for this reason, but may be later: the system has no handle, or the caller has gone.
+    /// Whether nobody can be accepted, for this reason, but may be later: all but a listener that is shut, or that doesn't wait. The system
+    /// may have no handle or memory left, the caller may have gone, and accept(2) has the faults of a caller's network, too.
     fn waits_on(unmet: Unmet) -> bool {
-        unmet.wants_handle || unmet.why == ErrorKind::ConnectionAborted
+        let is_unfit = matches!(unmet.why, ErrorKind::InvalidInput | ErrorKind::WouldBlock);
+        unmet.wants_handle || !is_unfit
     }
 
     /// Waits for a caller. Where the run is stopped nobody comes.

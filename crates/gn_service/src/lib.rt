@@ -11,6 +11,7 @@ mod counted;
 mod doorstep;
 mod entrance;
 mod failing;
+mod floods;
 mod host;
 mod live;
 mod newcomers;

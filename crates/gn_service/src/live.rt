@@ -4,12 +4,14 @@ use crate::stop::earlier;
 use gn_links::Half;
 use gn_tcp::TcpStopper;
 use std::alloc::{AllocError, Allocator, Global};
+use std::net::SocketAddr;
 use std::time::Duration;
 
 /// A link that has come and not ended. Times are since the run began.
 #[derive(Drop)]
 struct Live {
     link: u32,
+    peer: SocketAddr,
     stopper: TcpStopper,
     reader_ended: bool,
     writer_ended: bool,
@@ -49,6 +51,15 @@ impl Live {
         self.is_shut = true;
         self.stopper.shut();
     }
+
+    /// The same, where that wasn't done before. Whose link it was then.
+    fn let_go(&mut self) -> Option<SocketAddr> {
+        if self.is_shut {
+            return None;
+        }
+        self.shut();
+        Some(self.peer)
+    }
 }
 
 /// Whether this time has come; where the clock can't be read, it has.
@@ -75,10 +86,16 @@ impl<A: Allocator> LiveLinks<A> {
         }
     }
 
-    /// A link has come. It takes the slot of one that has ended, where there is such a one.
-    pub(crate) fn add(&mut self, link: u32, stopper: TcpStopper) -> Result<(), AllocError> {
+    /// A link to this peer has come. It takes the slot of one that has ended, where there is such a one.
+    pub(crate) fn add(
+        &mut self,
+        link: u32,
+        peer: SocketAddr,
+        stopper: TcpStopper,
+    ) -> Result<(), AllocError> {
         let live = Live {
             link,
+            peer,
             stopper,
             reader_ended: false,
             writer_ended: false,
@@ -110,6 +127,17 @@ impl<A: Allocator> LiveLinks<A> {
                 *slot = None;
             }
             return Some(has_ended);
+        }
+        None
+    }
+
+    /// Shuts this link at once, where it has come and wasn't shut before. Whose it was then.
+    pub(crate) fn let_go(&mut self, link: u32) -> Option<SocketAddr> {
+        for slot in &mut self.links {
+            match slot {
+                Some(live) if live.link == link => return live.let_go(),
+                _ => {}
+            }
         }
         None
     }

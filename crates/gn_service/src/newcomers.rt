@@ -71,7 +71,8 @@ impl<
         ensures fault { IfErr result (λ fault. (links workers : ℕ) → IsArrivingFault true links workers fault) }
     {
         let (found, stopper) = guest.into_parts();
-        match self.entrance.stops.add(self.entrance.net, link, stopper) {
+        let (net, peer) = (self.entrance.net, found.peer());
+        match self.entrance.stops.add(net, link, peer, stopper) {
             Ok(()) => Ok(found),
             Err(_) => Err(self.entrance.failing(RunFault::NoMemory)),
         }

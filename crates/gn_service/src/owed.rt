@@ -132,7 +132,7 @@ impl Owed {
             Made::Taken => {
                 self.waiting.fetch_sub(1, Ordering::SeqCst);
             }
-            Made::Connected | Made::TooMany | Made::Busy | Made::Closed => {}
+            Made::Connected | Made::TooMany | Made::Busy | Made::Crowded | Made::Closed => {}
         }
         self.steps.fetch_add(steps_of(step), Ordering::SeqCst);
     }

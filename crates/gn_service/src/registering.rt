@@ -56,10 +56,11 @@ pub(crate) fn registered<N: Wait + Clock, A: Allocator>(
         return Ok(found);
     }
     let mut found = found;
+    let peer = found.peer();
     let Some(stopper) = stopper_of(net, stops, &mut found) else {
         return Ok(found.without_peer());
     };
-    match stops.add(net, link, stopper) {
+    match stops.add(net, link, peer, stopper) {
         Ok(()) => Ok(found),
         Err(_) => {
             stops.fail();

@@ -79,7 +79,7 @@ where
         };
         let listener = self.serve.listener;
         let owed = Owed::of(self.serve, stop, self.links());
-        let stops = Stops::new(rt, self.alloc, stop, serving.grace(), listener, false, owed);
+        let stops = Stops::new(rt, self.alloc, stop, serving, listener, false, owed);
         let stops = &stops;
         let ((), answer) = thread::join(
             rt,

@@ -21,10 +21,16 @@ pub struct Serving<'s> {
     pub retry: Option<Duration>,
     /// How long a neighbour that was let go is still listened to, and how long a run that is stopped goes on; `None`: 5 seconds.
     pub grace: Option<Duration>,
+    /// A neighbour is let go of which descriptors are refused at the threshold of its connection in each second for so long; `None`: none
+    /// is let go so.
+    pub flood: Option<Duration>,
     /// By what the run is stopped before its peers end it; `None`: by nothing.
     pub stop: Option<&'s Stop>,
     /// Whether what stands of the history of a run that stops at a fault is written.
     pub is_kept: bool,
+    /// Whether peers on other machines are called, too. Else a peer whose address isn't one of this machine, which begins with 127, can't be
+    /// called.
+    pub calls_far: bool,
 }
 
 /// What a run over TCP is asked for, whatever its router: where it is called, by which configuration it routes, the peers that it calls
@@ -86,13 +92,15 @@ pub struct Any<'a, T> {
 const GRACE: u64 = 5;
 
 impl Serving<'static> {
-    /// It waits for everything, and goes on until its peers end it, which have a grace of 5 seconds then.
+    /// It waits for everything, and goes on until its peers end it, which have a grace of 5 seconds then. It calls no other machine.
     pub const UNLIMITED: Serving<'static> = Serving {
         idle: None,
         retry: None,
         grace: None,
+        flood: None,
         stop: None,
         is_kept: false,
+        calls_far: false,
     };
 }
 

@@ -2,13 +2,15 @@
 
 use crate::asked::Asked;
 use crate::callees::Callees;
+use crate::floods::Floods;
 use crate::live::LiveLinks;
 use crate::owed::{Nearness, Owed};
+use crate::serving::Serving;
 use crate::stop::{Stop, earlier};
 use gn_links::Half;
 use gn_tcp::{ListenerStopper, TcpStopper};
 use std::alloc::{AllocError, Allocator, Global};
-use std::net::TcpListener;
+use std::net::{SocketAddr, TcpListener};
 use std::sync::atomic::{AtomicBool, AtomicU64, Ordering};
 use std::sync::{Mutex, Wait};
 use std::time::{Clock, Duration, Instant};
@@ -26,6 +28,8 @@ pub(crate) struct Stops<'a, A: Allocator = Global> {
     links: Mutex<LiveLinks<A>>,
     /// `None`: no number of steps stops the run.
     pub owed: Option<Owed>,
+    /// `None`: no flood has a link shut.
+    pub floods: Option<Floods>,
     pub callees: Callees<A>,
     /// The calls that nobody has begun yet.
     calls: Mutex<Vec<Asked, A>>,
@@ -48,12 +52,12 @@ fn later(now: Option<Duration>, tick: Option<Duration>) -> Option<Duration> {
 }
 
 impl<'a, A: Allocator> Stops<'a, A> {
-    /// Of a run that begins, which owes this, and calls its peers again or not: no link has come yet.
+    /// Of a run that begins, which goes on and waits so, owes this, and calls its peers again or not: no link has come yet.
     pub(crate) fn new<R: Clock>(
         rt: &R,
         alloc: A,
         stop: &'a Stop,
-        grace: Duration,
+        serving: &Serving<'_>,
         listener: &TcpListener,
         again: bool,
         owed: Option<Owed>,
@@ -63,11 +67,12 @@ impl<'a, A: Allocator> Stops<'a, A> {
     {
         Stops {
             stop,
-            grace,
+            grace: serving.grace(),
             begun: Instant::now(rt).ok(),
             listener: ListenerStopper::of(listener).ok(),
             links: Mutex::new(LiveLinks::new(alloc)),
             owed,
+            floods: Floods::new(serving.flood),
             callees: Callees::new(alloc, again),
             calls: Mutex::new(Vec::new(alloc)),
             asked: AtomicU64::new(0),
@@ -178,14 +183,15 @@ impl<'a, A: Allocator> Stops<'a, A> {
         }
     }
 
-    /// A link has come, whose threads make no step before.
+    /// A link to this peer has come, whose threads make no step before.
     pub(crate) fn add<R: Wait>(
         &self,
         rt: &R,
         link: u32,
+        peer: SocketAddr,
         stopper: TcpStopper,
     ) -> Result<(), AllocError> {
-        self.links.lock(rt).add(link, stopper)?;
+        self.links.lock(rt).add(link, peer, stopper)?;
         if let Some(owed) = &self.owed {
             owed.came();
             self.look();
@@ -203,6 +209,11 @@ impl<'a, A: Allocator> Stops<'a, A> {
         }
         self.stop.wake();
         ended.is_some()
+    }
+
+    /// Shuts this link at once, where it has come and wasn't shut before. Whose it was then.
+    pub(crate) fn let_go<R: Wait>(&self, rt: &R, link: u32) -> Option<SocketAddr> {
+        self.links.lock(rt).let_go(link)
     }
 
     /// The run has failed: its links are shut at once.

@@ -1,4 +1,4 @@
-//! Links over TCP, on the loopback address alone.
+//! Links over TCP, on the loopback address alone unless another one is asked for.
 #![tactic(auto)]
 
 mod link;

@@ -158,6 +158,18 @@ impl TcpLink<'static> {
                 wants_handle: false,
             });
         }
+        TcpLink::try_call_far(net, peer, limit)
+    }
+
+    /// As `try_call`, but a peer on another machine is called, too.
+    pub fn try_call_far<N: Net<Listener = TcpListener, Stream = TcpStream>>(
+        net: &N,
+        peer: SocketAddr,
+        limit: Duration,
+    ) -> Result<Self, Unmet>
+        ensures { IfOk result (λ link. (link.role ≡ Calling)
+            × (link.origin ≡ record { link = 0; called = Some peer })) }
+    {
         match net.connect_timeout(peer, limit) {
             Ok(stream) => Ok(TcpLink::calling(stream, peer)),
             Err(error) => Err(Unmet::of(&error)),

@@ -64,6 +64,9 @@ plain_words = record {
   not_always = λ program. refl;
   no_pings = λ program. refl;
   no_rate = λ program. refl;
+  no_flood = λ program. refl;
+  still_no_flood = λ program. refl;
+  no_metrics = λ program. refl;
   no_port = λ program. refl;
   accepts = λ program. refl;
   workers = λ program. refl;
@@ -72,7 +75,11 @@ plain_words = record {
   random = refl;
   near = refl;
   far = refl;
-  long = λ peer. refl;
+  no_far = λ program. refl;
+  still_no_far = λ program. refl;
+  bound = refl;
+  nowhere = λ program. refl;
+  long = λ far peer. refl;
 }
 
 -- a subcommand that could be made stands after those before it
@@ -101,9 +108,9 @@ value_read None f id read e = ap (λ (v : Option Text). option_and_then read v) 
 value_read (Some s) f id read e = ap (λ (v : Option Text). option_and_then read v) (e ∙ first_value-rows f id)
 
 -- the peers, as they are got, are those of the option's row
-pub peers_read : (o : Option (Bor (List (Bor Text)))) (f : Found) → option_map (λ s. map (λ v. v.now) s.now) o ≡ option_map raw_values (matched_of f (codes "peer"))
-    → peers_of (rows_of f) ≡ peers_in (unwrap_or (option_map (λ s. map (λ v. v.now) s.now) o) [])
-peers_read o f e = sym (ap (λ (v : Option (List Text)). peers_in (unwrap_or v [])) (e ∙ raw_values-rows f (codes "peer")))
+pub peers_read : (far : Bool) (o : Option (Bor (List (Bor Text)))) (f : Found) → option_map (λ s. map (λ v. v.now) s.now) o ≡ option_map raw_values (matched_of f (codes "peer"))
+    → peers_of far (rows_of f) ≡ peers_in far (unwrap_or (option_map (λ s. map (λ v. v.now) s.now) o) [])
+peers_read far o f e = sym (ap (λ (v : Option (List Text)). peers_in far (unwrap_or v [])) (e ∙ raw_values-rows f (codes "peer")))
 
 both_left : (a b : Bool) → (a && b) ≡ true → a ≡ true
 both_left true b e = refl

@@ -9,6 +9,7 @@ use Rattle.gn_words.specs.declared.request.Retry.{Retry}
 use Rattle.gn_words.specs.declared.request.Retry.TheVariants.{Never, For, Always}
 use Rattle.gn_words.specs.declared.request.Servent.{Servent}
 use Rattle.gn_words.specs.declared.request.Servent.TheVariants.{Given, Random}
+use Rattle.gn_words.specs.declared.request.Site.{Site}
 use Rattle.hex.specs.Hex.{encode_lower}
 
 -- an option with its value
@@ -59,9 +60,17 @@ given_lines serving =
     numbers_lines ((codes "port", serving.port) ∷ []) ++ option_line (codes "accept") (callers_text serving.accept)
     ++ numbers_lines ((codes "workers", serving.workers) ∷ [])
 
--- what the own Pongs say that the router shares
+-- where the router is
+abbrev pub site_lines : Site → Text
+site_lines site = option_line (codes "bind") (ip_text site.bind) ++ option_line (codes "address") (ip_text site.address)
+
+-- what the own Pongs say that the router shares, and where its counts are asked for
 abbrev pub shared_lines : AskedServe → Text
-shared_lines serving = numbers_lines ((codes "files", serving.files) ∷ (codes "kilobytes", serving.kilobytes) ∷ [])
+shared_lines serving = numbers_lines
+    ((codes "files", serving.files)
+    ∷ (codes "kilobytes", serving.kilobytes)
+    ∷ (codes "metrics", unwrap_or serving.metrics 0)
+    ∷ [])
 
 -- the number that says a limit in seconds: 0 where there is none
 abbrev pub seconds_of : Option ℕ → ℕ
@@ -73,13 +82,15 @@ retry_text Never = decimal 0
 retry_text (For seconds) = decimal seconds
 retry_text Always = codes "always"
 
--- when a peer is given up, how one is found that has gone, how often one may call, and how much is done at once
+-- when a peer is given up, how one is found that has gone, how often one may call, when one is let go that floods the router, and how much
+-- is done at once
 abbrev pub patience_lines : AskedServe → Text
 patience_lines serving =
     numbers_lines ((codes "idle", seconds_of serving.idle) ∷ []) ++ option_line (codes "retry") (retry_text serving.retry)
     ++ numbers_lines
     ((codes "ping", seconds_of serving.ping)
     ∷ (codes "callers-a-minute", unwrap_or serving.callers_a_minute 0)
+    ∷ (codes "flood", seconds_of serving.flood)
     ∷ (codes "batch", serving.batch)
     ∷ [])
 
@@ -115,6 +126,6 @@ set_lines serving = flags_lines
 -- all words of a serve behind `gn serve`, in the order in which help has them
 abbrev pub config_text : AskedServe → Text
 config_text serving =
-    given_lines serving ++ servent_line serving ++ shared_lines serving
+    given_lines serving ++ site_lines serving.site ++ servent_line serving ++ shared_lines serving
     ++ peers_lines serving.peers ++ patience_lines serving ++ rules_lines serving.numbers ++ end_lines serving
     ++ set_lines serving

@@ -1,5 +1,5 @@
 -- What the values of options say.
-use Rattle.std.specs.Prelude.{◌≡◌, ◌∷◌, ◌++◌, ◌==◌, ◌&&◌, ℕ, Bool, false, List, [], Option, Some, None, Result, Ok, Err, codes, is_some, length, nat_le, option_map, slice_index, unwrap_or, if◌then◌else◌}
+use Rattle.std.specs.Prelude.{◌≡◌, ◌∷◌, ◌++◌, ◌==◌, ◌&&◌, ◌||◌, ℕ, Bool, false, List, [], Option, Some, None, Result, Ok, Err, codes, is_some, length, nat_le, not, option_map, slice_index, unwrap_or, if◌then◌else◌}
 use Rattle.std.specs.List.{slice_split}
 use Rattle.std.specs.Option.{option_map_or}
 use Rattle.std.specs.Str.{bytes_eq}
@@ -10,12 +10,14 @@ use Rattle.gn_text.specs.Addresses.{ip_of}
 use Rattle.gn_text.specs.Bytes.{guid_of}
 use Rattle.gn_numbers.specs.Numbers.{number_below, number_of, ◌>>=◌}
 use Rattle.gn_words.specs.ServeOptions.{AskedServe}
+use Rattle.gn_words.specs.declared.serve.Shared.{Shared}
 use Rattle.gn_words.specs.declared.serve.Times.{Times}
 use Rattle.gn_words.specs.declared.request.Peer.{Peer}
 use Rattle.gn_words.specs.declared.request.Retry.{Retry}
 use Rattle.gn_words.specs.declared.request.Retry.TheVariants.{Never, For, Always}
 use Rattle.gn_words.specs.declared.request.Servent.{Servent}
 use Rattle.gn_words.specs.declared.request.Servent.TheVariants.{Given, Random}
+use Rattle.gn_words.specs.declared.request.Site.{Site}
 use Rattle.gn_words.specs.declared.unread.Unread.{Unread}
 use Rattle.gn_words.specs.declared.unread.Unread.TheVariants.{Mistake, NoMemory}
 
@@ -53,37 +55,69 @@ servent_of rows = do
 abbrev pub word_of : Text → List Row → Option ℕ
 word_of option rows = number_asked option 0 4294967295 rows
 
--- the peer at an address, where that is one of this machine, 127 and three bytes more, and the text says its port, 1 to 65,535
-abbrev pub peer_at : Text → List ℕ → Option Peer
-peer_at place ip = do
+-- the address that an option asks for
+abbrev pub ip_asked : Text → List Row → Option (List ℕ)
+ip_asked option rows = do
+  text ← first_of option rows
+  ip_of text
+
+-- whether an address is 0.0.0.0: who listens there does so at all addresses of the machine
+abbrev pub is_all : List ℕ → Bool
+is_all ip = (slice_index ip 0 == 0 && slice_index ip 1 == 0) && (slice_index ip 2 == 0 && slice_index ip 3 == 0)
+
+-- where a router is that listens at this address: its own Pongs say the one that is asked for, or where that is 0.0.0.0 the same, which
+-- then has to be another
+abbrev pub site_at : List ℕ → List ℕ → Option Site
+site_at bind asked =
+    if not (is_all asked) then Some (record { bind = bind; address = asked })
+    else if is_all bind then None else Some (record { bind = bind; address = bind })
+
+-- where the router is that is asked for
+abbrev pub site_of : List Row → Option Site
+site_of rows = do
+  bind ← ip_asked (codes "bind") rows
+  asked ← ip_asked (codes "address") rows
+  site_at bind asked
+
+-- whether an address is one of this machine that no other machine can call: 127 and three bytes more
+abbrev pub is_near : List ℕ → Bool
+is_near ip = slice_index ip 0 == 127
+
+-- whether a router calls peers on other machines, too: one that listens at no such address
+abbrev pub calls_far : Site → Bool
+calls_far site = not (is_near site.bind)
+
+-- the peer at an address, where that is one of this machine, or other machines are called, and the text says its port, 1 to 65,535
+abbrev pub peer_at : Bool → Text → List ℕ → Option Peer
+peer_at far place ip = do
   port ← number_below 65536 place
-  if slice_index ip 0 == 127 && nat_le 1 port then Some (record { ip = ip; port = port }) else None
+  if (far || is_near ip) && nat_le 1 port then Some (record { ip = ip; port = port }) else None
 
 -- the peer that two texts say
-abbrev pub peer_of_parts : List Text → Option Peer
-peer_of_parts (address ∷ place ∷ []) = do
+abbrev pub peer_of_parts : Bool → List Text → Option Peer
+peer_of_parts far (address ∷ place ∷ []) = do
   ip ← ip_of address
-  peer_at place ip
-peer_of_parts parts = None
+  peer_at far place ip
+peer_of_parts far parts = None
 
 -- the peer that a text says, its address and its port with a colon between them
-abbrev pub peer_of : Text → Option Peer
-peer_of text = peer_of_parts (slice_split (λ b. b == 58) text)
+abbrev pub peer_of : Bool → Text → Option Peer
+peer_of far text = peer_of_parts far (slice_split (λ b. b == 58) text)
 
 -- these peers, and after them those that texts say
-abbrev pub peers_after : List Peer → List Text → Option (List Peer)
-peers_after peers [] = Some peers
-peers_after peers (text ∷ texts) = do
-  peer ← peer_of text
-  peers_after (peers ++ peer ∷ []) texts
+abbrev pub peers_after : Bool → List Peer → List Text → Option (List Peer)
+peers_after far peers [] = Some peers
+peers_after far peers (text ∷ texts) = do
+  peer ← peer_of far text
+  peers_after far (peers ++ peer ∷ []) texts
 
 -- the peers that at most 64 texts say
-abbrev pub peers_in : List Text → Option (List Peer)
-peers_in texts = if nat_le (length texts) 64 then peers_after [] texts else None
+abbrev pub peers_in : Bool → List Text → Option (List Peer)
+peers_in far texts = if nat_le (length texts) 64 then peers_after far [] texts else None
 
 -- the peers that are asked for; none, where the option isn't given
-abbrev pub peers_of : List Row → Option (List Peer)
-peers_of rows = peers_in (unwrap_or (all_of (codes "peer") rows) [])
+abbrev pub peers_of : Bool → List Row → Option (List Peer)
+peers_of far rows = peers_in far (unwrap_or (all_of (codes "peer") rows) [])
 
 -- the numbers of a router's rules, where each is within its limits
 abbrev pub numbers_of : List Row → Option Numbers
@@ -129,6 +163,17 @@ callers_a_minute_of accept rows = do
   callers ← number_asked (codes "callers-a-minute") 0 60000 rows
   if callers == 0 then Some None else if is_some accept then None else Some (Some callers)
 
+-- whether no neighbour meets a threshold of its own before that of all: it has none, or one that isn't lower
+abbrev pub is_never_crowded : ℕ → ℕ → Bool
+is_never_crowded crowd stage = crowd == 0 || nat_le stage crowd
+
+-- for how many seconds a neighbour may flood the router, where that is limited: it is only where each neighbour has a threshold, which is
+-- crowd, below that of all, which is stage
+abbrev pub flood_of : ℕ → ℕ → List Row → Option (Option ℕ)
+flood_of crowd stage rows = do
+  seconds ← number_asked (codes "flood") 0 86400 rows
+  if seconds == 0 then Some None else if is_never_crowded crowd stage then None else Some (Some seconds)
+
 -- the limit that a number of seconds says: none, where there are none
 abbrev pub limit_of : ℕ → Option ℕ
 limit_of seconds = if seconds == 0 then None else Some seconds
@@ -151,13 +196,28 @@ retry_with (Some accept) (For seconds) = Some (For seconds)
 retry_with None retry = Some retry
 
 -- the seconds of a serve's limits, where each is within its own: for a silent peer, a peer that doesn't listen, the run, its end
-abbrev pub times_of : List Row → Option Times
-times_of rows = do
+abbrev pub times_of : Option ℕ → List Row → Option Times
+times_of accept rows = do
   idle ← number_asked (codes "idle") 0 86400 rows
-  retry ← retry_of rows
+  said ← retry_of rows
   seconds ← number_asked (codes "for") 0 86400 rows
   grace ← number_asked (codes "grace") 0 3600 rows
+  retry ← retry_with accept said
   Some (record { idle = limit_of idle; retry = retry; seconds = limit_of seconds; grace = grace })
+
+-- the port where the counts of a serve are asked for, 1 to 65535 and not the one that peers call; none, where it is 0
+abbrev pub metrics_of : ℕ → List Row → Option (Option ℕ)
+metrics_of port rows = do
+  asked ← number_asked (codes "metrics") 0 65535 rows
+  if asked == port then None else Some (limit_of asked)
+
+-- what the own Pongs say that the router shares, and where its counts are asked for, where each number is within its limits
+abbrev pub shared_of : ℕ → List Row → Option Shared
+shared_of port rows = do
+  files ← word_of (codes "files") rows
+  kilobytes ← word_of (codes "kilobytes") rows
+  metrics ← metrics_of port rows
+  Some (record { files = files; kilobytes = kilobytes; metrics = metrics })
 
 -- what the options of a serve ask for, where each is within its limits, and peers are called for as long as it runs by one of any
 -- number of callers alone
@@ -166,28 +226,31 @@ serving_of rows = do
   port ← number_asked (codes "port") 1 65535 rows
   accept ← accept_of rows
   workers ← workers_of rows
+  site ← site_of rows
   servent ← servent_of rows
-  files ← word_of (codes "files") rows
-  kilobytes ← word_of (codes "kilobytes") rows
-  peers ← peers_of rows
+  shared ← shared_of port rows
+  peers ← peers_of (calls_far site) rows
   ping ← ping_of accept rows
   callers_a_minute ← callers_a_minute_of accept rows
   batch ← batch_of rows
   numbers ← numbers_of rows
-  times ← times_of rows
-  retry ← retry_with accept times.retry
+  flood ← flood_of numbers.crowd numbers.stage rows
+  times ← times_of accept rows
   Some (record {
     port = port;
     accept = accept;
     workers = workers;
+    site = site;
     servent = servent;
-    files = files;
-    kilobytes = kilobytes;
+    files = shared.files;
+    kilobytes = shared.kilobytes;
+    metrics = shared.metrics;
     peers = peers;
     idle = times.idle;
-    retry = retry;
+    retry = times.retry;
     ping = ping;
     callers_a_minute = callers_a_minute;
+    flood = flood;
     batch = batch;
     numbers = numbers;
     seconds = times.seconds;

@@ -8,7 +8,7 @@ use Rattle.clap.specs.declared.builder.action.ArgAction.TheVariants.{Append, Set
 use Rattle.clap.specs.declared.error.kind.ErrorKind.TheVariants.{DisplayHelp, InvalidSubcommand, ValueValidation}
 use Rattle.gn_words.specs.ConfigTexts.{config_text}
 use Rattle.gn_words.specs.Rows.{with_rules}
-use Rattle.gn_words.specs.Options.{is_set, peer_of, peers_in, servent_in, serving_of, workers_of}
+use Rattle.gn_words.specs.Options.{is_set, peer_of, peers_in, servent_in, serving_of, site_at, workers_of}
 use Rattle.gn_words.specs.ServeOptions.{AskedServe}
 use Rattle.gn_words.specs.declared.request.Request.{Request}
 use Rattle.gn_words.specs.declared.request.Request.TheVariants.{Replay, History, Audit, Explain, Unfinished, Show, Load, Watched, Serve, Config}
@@ -59,30 +59,34 @@ show_app = with_rules (new_app (codes "show")) (flag_rule (codes "csv") ∷ flag
 abbrev pub load_app : App
 load_app = with_rules (new_app (codes "load")) (workers_rule ∷ flag_rule (codes "progress") ∷ [])
 
--- the subcommand `serve` before it is said what is printed: what has to be given and who the router is; whom it calls, when it
--- gives one up, how it finds one that has gone, how often one may call, and how many packets it writes to one at once; the numbers of its
--- rules; what stops it, and how long it then has
+-- the subcommand `serve` before it is said what is printed: what has to be given, where the router is and who, and where it is counted;
+-- whom it calls, when it gives one up, how it finds one that has gone, how often one may call, when it lets one go that floods it, and how
+-- many packets it writes to one at once; the numbers of its rules; what stops it, and how long it then has
 abbrev pub quiet_app : App
 quiet_app = with_rules (new_app (codes "serve"))
     (value_rule (codes "port")
     ∷ value_rule (codes "accept")
     ∷ workers_rule
+    ∷ default_rule (codes "bind") (codes "127.0.0.1")
+    ∷ default_rule (codes "address") (codes "0.0.0.0")
     ∷ default_rule (codes "servent") usual_servent
     ∷ default_rule (codes "files") (codes "0")
     ∷ default_rule (codes "kilobytes") (codes "0")
+    ∷ default_rule (codes "metrics") (codes "0")
     ∷ repeated_rule (codes "peer")
     ∷ default_rule (codes "idle") (codes "0")
     ∷ default_rule (codes "retry") (codes "0")
     ∷ default_rule (codes "ping") (codes "0")
     ∷ default_rule (codes "callers-a-minute") (codes "0")
+    ∷ default_rule (codes "flood") (codes "0")
     ∷ default_rule (codes "batch") (codes "64")
     ∷ default_rule (codes "neighbours") (codes "64")
     ∷ default_rule (codes "remembered") (codes "4096")
     ∷ default_rule (codes "servents") (codes "1024")
     ∷ default_rule (codes "stage") (codes "1024")
     ∷ default_rule (codes "queue") (codes "1024")
-    ∷ default_rule (codes "life") (codes "0")
-    ∷ default_rule (codes "crowd") (codes "0")
+    ∷ default_rule (codes "life") (codes "7")
+    ∷ default_rule (codes "crowd") (codes "256")
     ∷ default_rule (codes "steps") (codes "1000000")
     ∷ default_rule (codes "for") (codes "0")
     ∷ default_rule (codes "grace") (codes "5")
@@ -220,14 +224,17 @@ usual_serve =
       port = 6346;
       accept = Some 128;
       workers = 64;
+      site = record { bind = 127 ∷ 0 ∷ 0 ∷ 1 ∷ []; address = 127 ∷ 0 ∷ 0 ∷ 1 ∷ [] };
       servent = Given (record { 0 = 71 ∷ 71 ∷ 71 ∷ 71 ∷ 71 ∷ 71 ∷ 71 ∷ 71 ∷ 71 ∷ 71 ∷ 71 ∷ 71 ∷ 71 ∷ 71 ∷ 71 ∷ 71 ∷ [] });
       files = 0;
       kilobytes = 0;
+      metrics = None;
       peers = [];
       idle = None;
       retry = Never;
       ping = None;
       callers_a_minute = None;
+      flood = None;
       batch = 64;
       numbers = record {
         neighbours = 64;
@@ -236,8 +243,8 @@ usual_serve =
         stage = 1024;
         out = 1024;
         steps = 1000000;
-        life = 0;
-        crowd = 0;
+        life = 7;
+        crowd = 256;
       };
       seconds = None;
       grace = 5;
@@ -257,15 +264,18 @@ full_serve =
       port = 65535;
       accept = None;
       workers = 1;
+      site = record { bind = 0 ∷ 0 ∷ 0 ∷ 0 ∷ []; address = 192 ∷ 0 ∷ 2 ∷ 7 ∷ [] };
       servent = Random;
       files = 4294967295;
       kilobytes = 70;
+      metrics = Some 9100;
       peers =
-          record { ip = 127 ∷ 0 ∷ 0 ∷ 1 ∷ []; port = 6347 } ∷ record { ip = 127 ∷ 255 ∷ 0 ∷ 13 ∷ []; port = 1 } ∷ [];
+          record { ip = 127 ∷ 0 ∷ 0 ∷ 1 ∷ []; port = 6347 } ∷ record { ip = 192 ∷ 0 ∷ 2 ∷ 13 ∷ []; port = 1 } ∷ [];
       idle = Some 86400;
       retry = For 7;
       ping = Some 30;
       callers_a_minute = Some 600;
+      flood = Some 45;
       batch = 1024;
       numbers = record {
         neighbours = 2;
@@ -337,6 +347,17 @@ pub record PlainWordsAreRead : Type 0 where
   pub no_rate : (program : Text)
       → kinds_of (serve_words program (codes "6346") (codes "1") (codes "1") (codes "--callers-a-minute" ∷ codes "1" ∷ []))
       ≡ ValueValidation ∷ []
+  -- nobody floods a router whose neighbours have no threshold of their own, or one that isn't below that of all
+  pub no_flood : (program : Text)
+      → kinds_of (serve_words program (codes "6346") (codes "1") (codes "1") (codes "--crowd" ∷ codes "0" ∷ codes "--flood" ∷ codes "1" ∷ []))
+      ≡ ValueValidation ∷ []
+  pub still_no_flood : (program : Text)
+      → kinds_of (serve_words program (codes "6346") (codes "1") (codes "1") (codes "--stage" ∷ codes "256" ∷ codes "--flood" ∷ codes "1" ∷ []))
+      ≡ ValueValidation ∷ []
+  -- its counts are asked for at another port than the one that peers call
+  pub no_metrics : (program : Text)
+      → kinds_of (serve_words program (codes "6346") (codes "1") (codes "1") (codes "--metrics" ∷ codes "6346" ∷ []))
+      ≡ ValueValidation ∷ []
   pub no_port : (program : Text)
       → kinds_of (serve_words program (codes "0") (codes "1") (codes "1") []) ≡ ValueValidation ∷ []
   pub accepts : (program : Text)
@@ -349,6 +370,20 @@ pub record PlainWordsAreRead : Type 0 where
   -- a router is random where that word says so, and otherwise who the ID says
   pub random : servent_in (codes "random") ≡ Some Random
   -- a peer of this machine is one that is called; one of another machine is a mistake
-  pub near : peer_of (codes "127.0.0.1:6347") ≡ Some (record { ip = 127 ∷ 0 ∷ 0 ∷ 1 ∷ []; port = 6347 })
-  pub far : peer_of (codes "10.0.0.1:6347") ≡ None
-  pub long : (peer : Text) → peers_in (replicate 65 peer) ≡ None
+  pub near : peer_of false (codes "127.0.0.1:6347") ≡ Some (record { ip = 127 ∷ 0 ∷ 0 ∷ 1 ∷ []; port = 6347 })
+  pub far : peer_of false (codes "10.0.0.1:6347") ≡ None
+  -- so it is of a serve that isn't told where it listens, and of one that listens at another address of this machine that begins with 127
+  pub no_far : (program : Text)
+      → kinds_of (serve_words program (codes "6346") (codes "1") (codes "1") (codes "--peer" ∷ codes "10.0.0.1:6347" ∷ []))
+      ≡ ValueValidation ∷ []
+  pub still_no_far : (program : Text)
+      → kinds_of (serve_words program (codes "6346") (codes "1") (codes "1")
+      (codes "--bind" ∷ codes "127.0.0.2" ∷ codes "--peer" ∷ codes "10.0.0.1:6347" ∷ []))
+      ≡ ValueValidation ∷ []
+  -- its own Pongs say the address at which it listens; where that is 0.0.0.0, another one has to be given
+  pub bound : site_at (10 ∷ 0 ∷ 0 ∷ 7 ∷ []) (0 ∷ 0 ∷ 0 ∷ 0 ∷ [])
+      ≡ Some (record { bind = 10 ∷ 0 ∷ 0 ∷ 7 ∷ []; address = 10 ∷ 0 ∷ 0 ∷ 7 ∷ [] })
+  pub nowhere : (program : Text)
+      → kinds_of (serve_words program (codes "6346") (codes "1") (codes "1") (codes "--bind" ∷ codes "0.0.0.0" ∷ []))
+      ≡ ValueValidation ∷ []
+  pub long : (far : Bool) (peer : Text) → peers_in far (replicate 65 peer) ≡ None

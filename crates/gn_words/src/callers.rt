@@ -1,11 +1,11 @@
-//! How many callers a serve takes, and how it finds those that have gone.
+//! How many callers a serve takes, how it finds those that have gone, and when it lets one go that floods it.
 
 ghost use Rattle.std.specs.Prelude.{◌≡◌, IfOk, codes, decimal, false};
 ghost use Rattle.std.specs.Option.{option_map_or};
 ghost use Rattle.std.specs.Str.{bytes_eq};
 ghost use Rattle.clap.specs.Words.{found_of, rows_of};
 ghost use Rattle.gn_words.specs.ConfigTexts.{callers_text};
-ghost use Rattle.gn_words.specs.Options.{IsReadAs, accept_of, callers_a_minute_of, ping_of};
+ghost use Rattle.gn_words.specs.Options.{IsReadAs, accept_of, callers_a_minute_of, flood_of, is_never_crowded, ping_of};
 
 use crate::numbers::{NumberOption, asked};
 use crate::unread::Unread;
@@ -35,6 +35,14 @@ const CALLERS_A_MINUTE: NumberOption = NumberOption {
     least: 0,
     most: 60_000,
     mistake: "--callers-a-minute takes a number of 0 to 60000",
+};
+
+/// What `--flood` takes: at most a day.
+const FLOOD: NumberOption = NumberOption {
+    name: "flood",
+    least: 0,
+    most: 86_400,
+    mistake: "--flood takes a number of seconds, 0 to 86400",
 };
 
 /// Whether a text says that any number of callers is taken.
@@ -91,6 +99,32 @@ pub(crate) fn callers_a_minute_of(
         return Err(Unread::Mistake("--callers-a-minute is taken only with --accept any"));
     }
     Ok(Some(callers))
+}
+
+/// Whether no neighbour meets a threshold of its own before that of all: `--crowd` is 0, or isn't below `--stage`.
+fn is_never_crowded(crowd: u32, stage: u32) -> bool
+    ensures { result ≡ is_never_crowded crowd stage }
+{
+    crowd == 0 || crowd >= stage
+}
+
+/// For how many seconds `--flood` lets a neighbour flood the router; `None`: for as many as it does. A mistake, where no neighbour meets a
+/// threshold of its own.
+pub(crate) fn flood_of(
+    options: &ArgMatches<'_>,
+    crowd: u32,
+    stage: u32,
+) -> Result<Option<u32>, Unread>
+    ensures { IsReadAs (λ flood. flood) (flood_of crowd stage (rows_of (found_of options.now))) result }
+{
+    let seconds = asked(options, &FLOOD)?;
+    if seconds == 0 {
+        return Ok(None);
+    }
+    if is_never_crowded(crowd, stage) {
+        return Err(Unread::Mistake("--flood takes a --crowd of 1 or more that is below --stage"));
+    }
+    Ok(Some(seconds))
 }
 
 /// What says how many callers are taken.

@@ -1,11 +1,12 @@
 //! The words of a serve, as they are printed.
 
 ghost use Rattle.std.specs.Prelude.{◌≡◌, ◌++◌, IfOk, OnOk, codes, decimal, map};
-ghost use Rattle.gn_words.specs.ConfigTexts.{config_text, end_lines, flag_line, flags_lines, given_lines, numbers_lines, option_line, patience_lines, peer_text, peers_lines, rules_lines, seconds_of, servent_line, servent_text, set_lines, shared_lines};
+ghost use Rattle.gn_words.specs.ConfigTexts.{config_text, end_lines, flag_line, flags_lines, given_lines, numbers_lines, option_line, patience_lines, peer_text, peers_lines, rules_lines, seconds_of, servent_line, servent_text, set_lines, shared_lines, site_lines};
 
 use crate::callers::callers_said;
 use crate::request::{Peer, ServeOptions, Servent};
 use crate::retrying::retry_said;
+use crate::site::address_said;
 use gn_text::{push_hex, push_ip, push_number};
 use std::alloc::{AllocError, Global};
 
@@ -145,19 +146,31 @@ fn push_given(alloc: Global, out: &mut Vec<u8>, serving: &ServeOptions) -> Resul
     push_numbers(alloc, out, &[("workers", serving.workers)])
 }
 
-/// Appends what the own Pongs say that the router shares. An `Err` is out of memory.
+/// Appends where the router is. An `Err` is out of memory.
+fn push_site(alloc: Global, out: &mut Vec<u8>, serving: &ServeOptions) -> Result<(), AllocError>
+    ensures { OnOk result (out.new.items ≡ out.old.items ++ site_lines serving.now.site) }
+{
+    push_option(out, "bind", &address_said(alloc, serving.site.bind)?)?;
+    push_option(out, "address", &address_said(alloc, serving.site.address)?)
+}
+
+/// Appends what the own Pongs say that the router shares, and where its counts are asked for. An `Err` is out of memory.
 fn push_shared(alloc: Global, out: &mut Vec<u8>, serving: &ServeOptions) -> Result<(), AllocError>
     ensures { OnOk result (out.new.items ≡ out.old.items ++ shared_lines serving.now) }
 {
     push_numbers(
         alloc,
         out,
-        &[("files", serving.files), ("kilobytes", serving.kilobytes)],
+        &[
+            ("files", serving.files),
+            ("kilobytes", serving.kilobytes),
+            ("metrics", serving.metrics.unwrap_or(0) as u32),
+        ],
     )
 }
 
-/// Appends when a peer is given up, how one is found that has gone, how often one may call, and how much is done at once.
-/// An `Err` is out of memory.
+/// Appends when a peer is given up, how one is found that has gone, how often one may call, when one is let go that floods the router, and how
+/// much is done at once. An `Err` is out of memory.
 fn push_patience(alloc: Global, out: &mut Vec<u8>, serving: &ServeOptions) -> Result<(), AllocError>
     ensures { OnOk result (out.new.items ≡ out.old.items ++ patience_lines serving.now) }
 {
@@ -169,6 +182,7 @@ fn push_patience(alloc: Global, out: &mut Vec<u8>, serving: &ServeOptions) -> Re
         &[
             ("ping", seconds_of(serving.ping)),
             ("callers-a-minute", serving.callers_a_minute.unwrap_or(0)),
+            ("flood", seconds_of(serving.flood)),
             ("batch", serving.batch),
         ],
     )
@@ -212,6 +226,7 @@ pub fn config_text(alloc: Global, serving: &ServeOptions) -> Result<Vec<u8>, All
 {
     let mut out = Vec::new(alloc);
     push_given(alloc, &mut out, serving)?;
+    push_site(alloc, &mut out, serving)?;
     push_servent(alloc, &mut out, serving)?;
     push_shared(alloc, &mut out, serving)?;
     push_peers(alloc, &mut out, serving)?;

@@ -14,9 +14,10 @@ mod retrying;
 mod rows;
 mod serve;
 mod show;
+mod site;
 mod unread;
 mod words;
 
 pub use config::config_text;
-pub use request::{Peer, Request, Retry, ServeOptions, Servent};
+pub use request::{Peer, Request, Retry, ServeOptions, Servent, Site};
 pub use words::{plain_words_are_read, read_words};

@@ -1,5 +1,8 @@
 //! What a command line asks for.
 
+ghost use Rattle.std.specs.Prelude.{◌≡◌};
+ghost use Rattle.gn_words.specs.Options.{calls_far, is_near};
+
 use gn_rules::Numbers;
 use gn_show::View;
 use gn_wire::Guid;
@@ -30,12 +33,38 @@ pub enum Request {
     Config(ServeOptions),
 }
 
-/// A peer on this machine, which is called.
+/// A peer that is called.
 #[derive(Clone, Copy, Debug, PartialEq, Eq)]
 pub struct Peer {
-    /// The first byte, which is 127, is the first that is written between dots.
+    /// The first byte is the first that is written between dots. It is 127, unless the router calls peers on other machines.
     pub ip: [u8; 4],
     pub port: u16,
+}
+
+/// Where a router is.
+#[derive(Clone, Copy, Debug, PartialEq, Eq)]
+pub struct Site {
+    /// The address at which it listens; 0.0.0.0: all those of its machine.
+    pub bind: [u8; 4],
+    /// The address at which its own Pongs say that it is.
+    pub address: [u8; 4],
+}
+
+impl Site {
+    /// Whether it calls peers on other machines, too: where it listens at an address at which these can call it, which doesn't begin
+    /// with 127.
+    pub fn calls_far(&self) -> bool
+        ensures { result ≡ calls_far self.now }
+    {
+        !is_near(self.bind)
+    }
+}
+
+/// Whether an address is one of this machine that no other machine can call: 127 and three bytes more.
+pub(crate) fn is_near(ip: [u8; 4]) -> bool
+    ensures { result ≡ is_near ip }
+{
+    ip[0] == 127
 }
 
 /// For how long a peer that can't be called is called again.
@@ -67,12 +96,16 @@ pub struct ServeOptions {
     pub accept: Option<u32>,
     /// How many threads route.
     pub workers: u32,
+    /// Where the router is.
+    pub site: Site,
     /// Who the router is.
     pub servent: Servent,
     /// How many files its own Pongs say that it shares.
     pub files: u32,
     /// How many kilobytes its own Pongs say that it shares.
     pub kilobytes: u32,
+    /// The port where its counts are asked for; `None`: nowhere.
+    pub metrics: Option<u16>,
     /// The peers that are called, in this order.
     pub peers: Vec<Peer>,
     /// The seconds after which a silent peer is given up; `None`: it never is.
@@ -83,6 +116,8 @@ pub struct ServeOptions {
     pub ping: Option<u32>,
     /// How many callers of one address are let in within a minute; `None`: as many as come.
     pub callers_a_minute: Option<u32>,
+    /// For how many seconds a neighbour may flood the router before it is let go; `None`: for as many as it does.
+    pub flood: Option<u32>,
     /// How many packets are written to a neighbour at once at most.
     pub batch: u32,
     /// The numbers of the router's rules.
@@ -118,14 +153,17 @@ impl Model for ServeOptions {
       port = s.port;
       accept = s.accept;
       workers = s.workers;
+      site = s.site;
       servent = s.servent;
       files = s.files;
       kilobytes = s.kilobytes;
+      metrics = s.metrics;
       peers = s.peers.items;
       idle = s.idle;
       retry = s.retry;
       ping = s.ping;
       callers_a_minute = s.callers_a_minute;
+      flood = s.flood;
       batch = s.batch;
       numbers = s.numbers;
       seconds = s.seconds;

@@ -1,18 +1,19 @@
 //! The command `serve`: its words and help, and what they ask for.
 
-ghost use Rattle.std.specs.Prelude.{◌≡◌, IfOk, codes, false, option_and_then};
+ghost use Rattle.std.specs.Prelude.{◌≡◌, ◌≤◌, IfOk, codes, false, option_and_then};
 ghost use Rattle.clap.specs.Words.{app_of, found_of, rows_of};
 ghost use Rattle.clap.specs.declared.builder.command.Command.TheViews.{out-Command as fields_of};
 ghost use Rattle.gn_rules.specs.Limits.{AreWithin, most};
-ghost use Rattle.gn_words.specs.Options.{IsReadAs, limit_of, number_asked, numbers_of, servent_in, servent_of, serving_of, times_of};
+ghost use Rattle.gn_words.specs.Options.{IsReadAs, limit_of, metrics_of, number_asked, numbers_of, servent_in, servent_of, serving_of, shared_of, times_of};
 ghost use Rattle.gn_words.specs.Words.{quiet_app, serve_app, serve_of};
 
-use crate::callers::{accept_of, callers_a_minute_of, ping_of};
+use crate::callers::{accept_of, callers_a_minute_of, flood_of, ping_of};
 use crate::numbers::{NumberOption, WORKERS, WORKERS_ROW, asked};
 use crate::peers::peers_of;
 use crate::request::{Request, Retry, ServeOptions, Servent};
 use crate::retrying::{retry_of, retry_with};
 use crate::rows::{OptionRow, Takes, with_options};
+use crate::site::site_of;
 use crate::unread::Unread;
 use crate::words::{is_set, leaf};
 use clap::{ArgMatches, Command};
@@ -21,25 +22,27 @@ use gn_text::guid;
 use std::alloc::{AllocError, Global};
 
 /// What it does.
-const ABOUT: &str = "Routes for peers on this machine over TCP, and prints the history";
+const ABOUT: &str = "Routes for peers over TCP, on this machine by default, and prints the history";
 
 /// How it is called.
 const USAGE: &str =
-    "gn serve --port P --accept A --workers V [--servent HEX32] [--files N] [--kilobytes N]
-                [--peer IP:PORT].. [--idle SECONDS] [--retry SECONDS] [--ping SECONDS]
-                [--callers-a-minute N] [--batch N] [--neighbours N] [--remembered N] [--servents N]
-                [--stage N] [--queue N] [--life L] [--crowd Q] [--steps N] [--for SECONDS]
-                [--grace SECONDS] [--stop-early] [--until-eof] [--keep-history] [--times] [--links]
-                [--report] [--progress] [--print-config]";
+    "gn serve --port P --accept A --workers V [--bind IP] [--address IP] [--servent HEX32]
+                [--files N] [--kilobytes N] [--metrics PORT] [--peer IP:PORT].. [--idle SECONDS]
+                [--retry SECONDS] [--ping SECONDS] [--callers-a-minute N] [--flood SECONDS]
+                [--batch N] [--neighbours N] [--remembered N] [--servents N] [--stage N] [--queue N]
+                [--life L] [--crowd Q] [--steps N] [--for SECONDS] [--grace SECONDS] [--stop-early]
+                [--until-eof] [--keep-history] [--times] [--links] [--report] [--progress]
+                [--print-config]";
 
 /// What it does, how it ends, and what it prints, with an example.
 const TEXTS: &str = "\
 The peers are called, and beside them A others may call: each that does is one of the A, whatever
-becomes of it. Each link is greeted and read by a thread of its own and written by another, and V
-workers route what the readers admitted. `listening PORT` on standard error says that the router can
-be called. Standard output is the history of the router, which `gn audit` reads. It is written while
-the router runs: nothing waits for long where little is done, and where the output is slow the
-router waits. A write that fails ends the run at its next step.
+becomes of it. No other machine can call, or is called, unless `--bind` says so. Each link is
+greeted and read by a thread of its own and written by another, and V workers route what the readers
+admitted. `listening PORT` on standard error says that the router can be called. Standard output is
+the history of the router, which `gn audit` reads. It is written while the router runs: nothing
+waits for long where little is done, and where the output is slow the router waits. A write that
+fails ends the run at its next step.
 
 A link ends as its peer closes it. Two routers that call each other and nobody else each wait for
 the other's end: `--idle 2` ends a link of which nothing was heard for 2 seconds. A router waits for
@@ -72,13 +75,13 @@ after 5 seconds.
 /// The own servent of a router, where none is given.
 const OWN_SERVENT: &str = "47474747474747474747474747474747";
 
-/// What has to be given, and who the router is.
-const OPTIONS: [OptionRow; 6] = [
+/// What has to be given, where the router is and who, and where it is counted.
+const OPTIONS: [OptionRow; 9] = [
     OptionRow {
         name: "port",
         letter: None,
         takes: Takes::Value("P"),
-        help: "The port of 127.0.0.1 that peers call, 1 to 65535",
+        help: "The port that peers call, 1 to 65535",
     },
     OptionRow {
         name: "accept",
@@ -90,6 +93,23 @@ or any: as many as come until it is stopped, of which as many are
 connected at once as --neighbours says",
     },
     WORKERS_ROW,
+    OptionRow {
+        name: "bind",
+        letter: None,
+        takes: Takes::Usual("IP", "127.0.0.1"),
+        help: "\
+The IPv4 address of this machine that it listens on; 0.0.0.0: all.
+Unless it begins with 127, other machines can call, --peer may name
+them, and whoever calls is let in",
+    },
+    OptionRow {
+        name: "address",
+        letter: None,
+        takes: Takes::Usual("IP", "0.0.0.0"),
+        help: "\
+The IPv4 address in its own Pongs, at which neighbours can call it;
+0.0.0.0: that of --bind, which then mustn't be 0.0.0.0",
+    },
     OptionRow {
         name: "servent",
         letter: None,
@@ -114,15 +134,25 @@ How many files its own Pongs say that it shares,
 How many kilobytes its own Pongs say that it shares,
 0 to 4294967295",
     },
+    OptionRow {
+        name: "metrics",
+        letter: None,
+        takes: Takes::Usual("PORT", "0"),
+        help: "\
+The port of 127.0.0.1 where Prometheus can scrape its counters, at
+/metrics, 1 to 65535, not that of --port; 0: none",
+    },
 ];
 
-/// Whom it calls, when it gives a peer up, how often one may call, and how it writes to one.
-const NEIGHBOURS: [OptionRow; 6] = [
+/// Whom it calls, when it gives a peer up, how often one may call, when it lets one go that floods it, and how it writes to one.
+const NEIGHBOURS: [OptionRow; 7] = [
     OptionRow {
         name: "peer",
         letter: None,
         takes: Takes::Values("IP:PORT"),
-        help: "A peer on this machine that is called, as 127.0.0.1:6347; at most 64",
+        help: "\
+A peer that is called, as 127.0.0.1:6347; at most 64. It has to be on
+this machine, unless --bind opens the router to others",
     },
     OptionRow {
         name: "idle",
@@ -160,6 +190,15 @@ fails, at the second Ping, and its place is free. Only with
 How many callers from one IP address are let in within a minute,
 0 to 60000; 0: as many as come. Further ones are disconnected at
 once. Only with --accept any",
+    },
+    OptionRow {
+        name: "flood",
+        letter: None,
+        takes: Takes::Usual("SECONDS", "0"),
+        help: "\
+A peer of which --crowd refused descriptors in each of so many
+seconds is disconnected, 0 to 86400; 0: never. Only with a
+--crowd of 1 or more that is below --stage",
     },
     OptionRow {
         name: "batch",
@@ -208,7 +247,7 @@ const RULES: [OptionRow; 8] = [
     OptionRow {
         name: "life",
         letter: None,
-        takes: Takes::Usual("L", "0"),
+        takes: Takes::Usual("L", "7"),
         help: "\
 What TTL and Hops of a descriptor that is passed on are together at most,
 0 to 255; 0: no limit",
@@ -216,7 +255,7 @@ What TTL and Hops of a descriptor that is passed on are together at most,
     OptionRow {
         name: "crowd",
         letter: None,
-        takes: Takes::Usual("Q", "0"),
+        takes: Takes::Usual("Q", "256"),
         help: "\
 How many descriptors of one peer may be in flight at once, 0 to 4096;
 0: as many as of all",
@@ -365,6 +404,14 @@ const KILOBYTES: NumberOption = NumberOption {
     mistake: "--kilobytes takes a number of 0 to 4294967295",
 };
 
+/// What `--metrics` takes.
+const METRICS: NumberOption = NumberOption {
+    name: "metrics",
+    least: 0,
+    most: 65_535,
+    mistake: "--metrics takes a number of 0 to 65535",
+};
+
 /// What `--idle` takes: at most a day.
 const IDLE: NumberOption = NumberOption {
     name: "idle",
@@ -471,6 +518,26 @@ fn port_of(options: &ArgMatches<'_>) -> Result<u16, Unread>
     }
 }
 
+/// The port that so high a number says: none, where it is 0.
+fn metered_at(port: u32) -> Option<u16>
+    requires { port ≤ 65535 }
+    ensures { result ≡ limit_of port }
+{
+    if port == 0 { None } else { Some(port as u16) }
+}
+
+/// The port where the counts are asked for that `--metrics` asks for, where there is such a one. A mistake, where that is the one that peers
+/// call.
+fn metrics_of(options: &ArgMatches<'_>, port: u16) -> Result<Option<u16>, Unread>
+    ensures { IsReadAs (λ m. m) (metrics_of port (rows_of (found_of options.now))) result }
+{
+    let asked = asked(options, &METRICS)?;
+    if asked == port as u32 {
+        return Err(Unread::Mistake("--metrics takes another port than --port"));
+    }
+    Ok(metered_at(asked))
+}
+
 /// The limit on a descriptor's life that `--life` asks for, where a byte holds it.
 fn life_of(options: &ArgMatches<'_>) -> Result<u8, Unread>
     ensures { IsReadAs (λ n. n) (number_asked (codes "life") 0 most.life (rows_of (found_of options.now))) result }
@@ -533,6 +600,28 @@ fn numbers_of(options: &ArgMatches<'_>) -> Result<Numbers, Unread>
     })
 }
 
+/// What the own Pongs say that the router shares, and the port where its counts are asked for.
+#[derive(Clone, Copy, Debug)]
+struct Shared {
+    files: u32,
+    kilobytes: u32,
+    metrics: Option<u16>,
+}
+
+/// What the router shares, and where its counts are asked for, where each number is within its limits.
+fn shared_of(options: &ArgMatches<'_>, port: u16) -> Result<Shared, Unread>
+    ensures { IsReadAs (λ s. s) (shared_of port (rows_of (found_of options.now))) result }
+{
+    let files = asked(options, &FILES)?;
+    let kilobytes = asked(options, &KILOBYTES)?;
+    let metrics = metrics_of(options, port)?;
+    Ok(Shared {
+        files,
+        kilobytes,
+        metrics,
+    })
+}
+
 /// How long a serve waits and goes on, in seconds.
 #[derive(Clone, Copy, Debug)]
 struct Times {
@@ -549,14 +638,15 @@ fn limit_of(seconds: u32) -> Option<u32>
     if seconds == 0 { None } else { Some(seconds) }
 }
 
-/// How long a serve waits and goes on, where each time is within its limits.
-fn times_of(options: &ArgMatches<'_>) -> Result<Times, Unread>
-    ensures { IsReadAs (λ t. t) (times_of (rows_of (found_of options.now))) result }
+/// How long a serve of so many callers, or of any number, waits and goes on, where each time is within its limits.
+fn times_of(options: &ArgMatches<'_>, accept: Option<u32>) -> Result<Times, Unread>
+    ensures { IsReadAs (λ t. t) (times_of accept (rows_of (found_of options.now))) result }
 {
     let idle = asked(options, &IDLE)?;
-    let retry = retry_of(options)?;
+    let said = retry_of(options)?;
     let seconds = asked(options, &SECONDS)?;
     let grace = asked(options, &GRACE)?;
+    let retry = retry_with(accept, said)?;
     Ok(Times {
         idle: limit_of(idle),
         retry,
@@ -572,28 +662,31 @@ fn serving_of(alloc: Global, options: &ArgMatches<'_>) -> Result<ServeOptions, U
     let port = port_of(options)?;
     let accept = accept_of(options)?;
     let workers = asked(options, &WORKERS)?;
+    let site = site_of(alloc, options)?;
     let servent = servent_of(options)?;
-    let files = asked(options, &FILES)?;
-    let kilobytes = asked(options, &KILOBYTES)?;
-    let peers = peers_of(alloc, options)?;
+    let shared = shared_of(options, port)?;
+    let peers = peers_of(alloc, site.calls_far(), options)?;
     let ping = ping_of(options, accept)?;
     let callers_a_minute = callers_a_minute_of(options, accept)?;
     let batch = asked(options, &BATCH)?;
     let numbers = numbers_of(options)?;
-    let times = times_of(options)?;
-    let retry = retry_with(accept, times.retry)?;
+    let flood = flood_of(options, numbers.crowd, numbers.stage)?;
+    let times = times_of(options, accept)?;
     Ok(ServeOptions {
         port,
         accept,
         workers,
+        site,
         servent,
-        files,
-        kilobytes,
+        files: shared.files,
+        kilobytes: shared.kilobytes,
+        metrics: shared.metrics,
         peers,
         idle: times.idle,
-        retry,
+        retry: times.retry,
         ping,
         callers_a_minute,
+        flood,
         batch,
         numbers,
         seconds: times.seconds,

@@ -6,5 +6,5 @@ pub use Rattle.gn_load.specs.Journalled
 pub use Rattle.gn_load.specs.JournalledLoads
 pub use Rattle.gn_load.specs.Links
 pub use Rattle.gn_load.specs.Loads
-pub use Rattle.gn_scribe.specs.Printed
+pub use Rattle.gn_printed.specs.Printed
 pub use Rattle.gn_load.specs.Served

@@ -1,5 +1,5 @@
 use Rattle.std.proofs.Common.{◌∙◌, Err, Ok, rules, subst, sym}
-use Rattle.gn_scribe.specs.Written.{HasFinished}
+use Rattle.gn_printed.specs.Finished.{HasFinished}
 use Rattle.gn_service.proofs.KeptLemmas.{held_err, held_ok}
 use Rattle.gn_threads.proofs.CourseLemmas.{err_of, ok_of}
 use Rattle.gn_start.specs.declared.fault.RunFault.TheVariants.{NoMemory}

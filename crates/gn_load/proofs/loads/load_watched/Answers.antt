@@ -8,9 +8,9 @@ use Rattle.gn_io.specs.Streams.{HasWriteFailed, SinkState}
 use Rattle.gn_replay.specs.Faults.{of_input}
 use Rattle.gn_load.specs.declared.fault.LoadFault.TheVariants.{Text}
 use Rattle.gn_load.specs.Loads.{AppendsLoad, AppendsLoadPart, load_of}
-use Rattle.gn_scribe.specs.Printed.{IsPrintFault}
-use Rattle.gn_scribe.specs.declared.printed.PrintFault.{PrintFault}
-use Rattle.gn_scribe.specs.declared.printed.PrintFault.TheVariants.{Write}
+use Rattle.gn_printed.specs.Printed.{IsPrintFault}
+use Rattle.gn_printed.specs.declared.printed.PrintFault.{PrintFault}
+use Rattle.gn_printed.specs.declared.printed.PrintFault.TheVariants.{Write}
 use Rattle.gn_load.proofs.LoadLemmas.{is_read, of_known, on_err, stopped_unloaded, stopped_unread, unloaded, unread}
 use Rattle.gn_load.proofs.loads.load_watched.Goals as goal
 

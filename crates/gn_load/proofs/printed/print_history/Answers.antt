@@ -2,7 +2,7 @@ use Rattle.std.proofs.Common.{◌++◌, List, OnErr, OnOk, codes, subst}
 use Rattle.std.specs.Io.KnownBytes.{Appends}
 use Rattle.gn_capture.specs.Histories.{steps_text}
 use Rattle.gn_io.specs.Parts.{AppendsPart}
-use Rattle.gn_scribe.proofs.PrintLemmas.{none_written, on_err}
+use Rattle.gn_printed.proofs.PrintLemmas.{none_written, on_err}
 use Rattle.gn_load.proofs.printed.print_history.Goals as goal
 
 pub returns-in_err-block-clause-err : goal.returns-in_err-block-clause-err

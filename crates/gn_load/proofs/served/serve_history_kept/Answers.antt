@@ -1,7 +1,7 @@
 use Rattle.std.proofs.Common.{inr, subst, None}
 use Rattle.std.specs.Io.KnownBytes.{Appends}
 use Rattle.gn_capture.specs.Histories.{history_text}
-use Rattle.gn_scribe.specs.Printed.{IsPrintFault}
+use Rattle.gn_printed.specs.Printed.{IsPrintFault}
 use Rattle.gn_load.specs.Served.{AppendsServedPart}
 use Rattle.gn_load.proofs.ServedLemmas.{is_full, kept_written, memory_is_other, run_is, write_is_other, written, written_part}
 use Rattle.gn_load.proofs.served.serve_history_kept.Goals as goal

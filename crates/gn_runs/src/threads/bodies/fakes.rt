@@ -24,6 +24,7 @@ fn word_of(step: Made) -> &'static str {
         Made::TooMany => "too many",
         Made::Admitted(_) => "admitted",
         Made::Busy => "busy",
+        Made::Crowded => "crowded",
         Made::Routed => "routed",
         Made::Taken => "taken",
         Made::Closed => "closed",

@@ -1,7 +1,7 @@
 use Rattle.std.proofs.Common.{◌++◌, codes, refl}
 use Rattle.std.proofs.lemmas.Result.{IfErr-weaker, on_err_weaker, on_ok_weaker}
 use Rattle.gn_capture.specs.Histories.{steps_text}
-use Rattle.gn_scribe.proofs.PrintLemmas.{all_cut, all_written, cause_after, on_err, part_of, parts_are}
+use Rattle.gn_printed.proofs.PrintLemmas.{all_cut, all_written, cause_after, on_err, part_of, parts_are}
 use Rattle.gn_scribe.proofs.printed.print_end.Goals as goal
 
 pub returns-in_err-printed-clause-err : goal.returns-in_err-printed-clause-err

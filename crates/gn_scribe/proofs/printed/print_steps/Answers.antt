@@ -1,6 +1,6 @@
 use Rattle.std.proofs.Common.{◌∙◌}
 use Rattle.gn_text.specs.Steps.{step_text}
-use Rattle.gn_scribe.proofs.PrintLemmas.{cause_handed, next_cut, next_left, on_err}
+use Rattle.gn_printed.proofs.PrintLemmas.{cause_handed, next_cut, next_left, on_err}
 use Rattle.gn_scribe.proofs.printed.print_steps.Goals as goal
 
 pub returns-in_err-print_step-clause-err : goal.returns-in_err-print_step-clause-err

@@ -10,9 +10,9 @@ pub returns-in-Some-clause-read : goal.returns-in-Some-clause-read
 returns-in-Some-clause-read c =
     let P : Option (List Peer) → Type 0 = λ o. IsReadAs (λ v. v.items) o c.peers_in.result in
     let all : Option (Bor (List (Bor Text))) → List Text = λ o. unwrap_or (option_map (λ s. map (λ v. v.now) s.now) o) [] in
-    subst P (sym (peers_read c.get_raw.result (found_of c.args.options.now) c.get_raw.ensures ∙ ap (λ o. peers_in (all o)) c.in-Some.is)) c.peers_in.ensures.read
+    subst P (sym (peers_read c.args.far c.get_raw.result (found_of c.args.options.now) c.get_raw.ensures ∙ ap (λ o. peers_in c.args.far (all o)) c.in-Some.is)) c.peers_in.ensures.read
 
 pub returns-in-None-clause-read : goal.returns-in-None-clause-read
 returns-in-None-clause-read c =
     let all : Option (Bor (List (Bor Text))) → List Text = λ o. unwrap_or (option_map (λ s. map (λ v. v.now) s.now) o) [] in
-    peers_read c.get_raw.result (found_of c.args.options.now) c.get_raw.ensures ∙ ap (λ o. peers_in (all o)) c.in-None.is ∙ ap (λ (v : List Peer). Some v) (sym c.new.ensures.items)
+    peers_read c.args.far c.get_raw.result (found_of c.args.options.now) c.get_raw.ensures ∙ ap (λ o. peers_in c.args.far (all o)) c.in-None.is ∙ ap (λ (v : List Peer). Some v) (sym c.new.ensures.items)

@@ -1,4 +1,4 @@
-use Rattle.gn_scribe.proofs.PrintLemmas.{cause_handed, on_err}
+use Rattle.gn_printed.proofs.PrintLemmas.{cause_handed, on_err}
 use Rattle.gn_scribe.proofs.WrittenLemmas.{broken_after, written_more}
 use Rattle.gn_scribe.proofs.scribe.Scribe.turn.Goals as goal
 

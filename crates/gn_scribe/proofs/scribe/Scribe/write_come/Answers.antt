@@ -1,5 +1,5 @@
 use Rattle.std.proofs.Common.{refl}
-use Rattle.gn_scribe.proofs.PrintLemmas.{on_err}
+use Rattle.gn_printed.proofs.PrintLemmas.{on_err}
 use Rattle.gn_scribe.proofs.WrittenLemmas.{broken_after, only_looked, written_more}
 use Rattle.gn_scribe.proofs.scribe.Scribe.write_come.Goals as goal
 

@@ -1,5 +1,5 @@
 use Rattle.std.proofs.Common.{◌<◌, true, arith, refl, subst}
-use Rattle.gn_scribe.proofs.PrintLemmas.{cause_handed, on_err}
+use Rattle.gn_printed.proofs.PrintLemmas.{cause_handed, on_err}
 use Rattle.gn_scribe.proofs.WrittenLemmas.{broken_after, line_cut, none_ahead, one_ahead, one_taken, stays_ahead, writing_next, writing_none}
 use Rattle.gn_scribe.proofs.scribe.Scribe.write_known.Goals as goal
 

@@ -1,4 +1,4 @@
-use Rattle.gn_scribe.proofs.PrintLemmas.{cause_handed, on_err}
+use Rattle.gn_printed.proofs.PrintLemmas.{cause_handed, on_err}
 use Rattle.gn_scribe.proofs.WrittenLemmas.{broken_after, written_more, written_none}
 use Rattle.gn_scribe.proofs.scribe.Scribe.write_on.Goals as goal
 

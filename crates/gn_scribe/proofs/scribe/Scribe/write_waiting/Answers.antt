@@ -1,5 +1,5 @@
 use Rattle.std.proofs.Common.{refl}
-use Rattle.gn_scribe.proofs.PrintLemmas.{on_err}
+use Rattle.gn_printed.proofs.PrintLemmas.{on_err}
 use Rattle.gn_scribe.proofs.WrittenLemmas.{waiting_broken, waiting_written}
 use Rattle.gn_scribe.proofs.scribe.Scribe.write_waiting.Goals as goal
 

@@ -1,0 +1,3 @@
+-- What is promised: contracts of public functions rest on it.
+pub mod Finished
+pub mod Printed
